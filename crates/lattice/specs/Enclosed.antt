@@ -1,0 +1,30 @@
+-- The cells that an outline encloses (document 01, "Enclosed").
+use Prim.Native.Nat.{ℕ, suc, _+_}
+use mathlib.Core.Bool.{Bool, true, false, _&&_}
+use mathlib.Core.List.{List, [], _∷_}
+use lib.Dec.{leb, eqb}
+use Rattle.lattice.specs.Chart.{Point, step}
+
+unfoldable pub count : Bool → ℕ
+count true = 1
+count false = 0
+
+-- The letter a, leaving p, runs up (down) along the height of row r
+unfoldable pub upAlong : Point → ℕ → ℕ → Bool
+upAlong p a r = eqb a 1 && eqb (p .row) r
+
+unfoldable pub downAlong : Point → ℕ → ℕ → Bool
+downAlong p a r = eqb a 3 && eqb (p .row) (suc r)
+
+-- "among the letters that run along the height of row r at corner columns up to c": how many are ups, and how many downs
+unfoldable pub ups : Point → List ℕ → ℕ → ℕ → ℕ
+ups p [] c r = 0
+ups p (a ∷ w) c r = count (upAlong p a r && leb (p .col) c) + ups (step p a) w c r
+
+unfoldable pub downs : Point → List ℕ → ℕ → ℕ → ℕ
+downs p [] c r = 0
+downs p (a ∷ w) c r = count (downAlong p a r && leb (p .col) c) + downs (step p a) w c r
+
+-- "Cell (c, r) is enclosed if .. ups minus downs is 1."
+unfoldable pub encloses : Point → List ℕ → ℕ → ℕ → Bool
+encloses s w c r = eqb (ups s w c r) (downs s w c r + 1)

@@ -1,0 +1,60 @@
+// The outline: its border cut in four, the test, and the loose query.
+
+// Why an input is turned back: refusals 1 to 11 of document 01, each with the fields that it names.
+pub enum Refusal {
+    // 1. Fewer than 4 or more than 2,048 letters.
+    Count,
+    // 2. The start corner is off the chart.
+    Start,
+    // 3. A letter above 3.
+    Letter {
+        place: u16,
+    },
+    // 4. A letter reaches a corner off the chart.
+    Leaves {
+        place: u16,
+    },
+    // 5. The walk ends away from its start.
+    Unclosed,
+    // 6. A letter other than the last reaches a corner already met.
+    Touches {
+        place: u16,
+    },
+    // 7. The outline runs anticlockwise.
+    Anticlockwise,
+    // 8. A letter that is none of its piece's two.
+    BackStep {
+        piece: u16,
+        place: u16,
+    },
+    // 9. A factor that is no Christoffel word, and the lowest missing cell.
+    Dent {
+        piece: u16,
+        place: u16,
+        length: u16,
+        col: u16,
+        row: u16,
+    },
+    // 10, of a test. The lent list is shorter than two numbers an edge.
+    Room {
+        edges: u16,
+    },
+    // 10, of a loose query. The list is odd or too long.
+    List,
+    // 11. A cell number above 254.
+    Cell,
+}
+
+// What a test answers.
+pub enum Verdict {
+    // The count of edges, and the anchor.
+    Taken { edges: u16, col: u16, row: u16 },
+    Refused(Refusal),
+}
+
+// What a loose query answers.
+pub enum Position {
+    Inside,
+    Outside,
+    Refused(Refusal),
+}

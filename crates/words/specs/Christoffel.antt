@@ -1,0 +1,35 @@
+-- Christoffel words by remainders (document 01, "Christoffel"; source 000, section 3.2).
+use Prim.Native.Nat.{ℕ, zero, suc, _+_, _-_, _*_, _%_, _<_, _≤_}
+use mathlib.Core.Path.{_≡_}
+use mathlib.Core.Logic.{_↔_}
+use mathlib.Core.Bool.{Bool, true, false, not, _&&_, Bool·beq}
+use mathlib.Core.List.{List, [], _∷_}
+use lib.ListN.{length, getD}
+use lib.Dec.{ltb, eqb}
+use Rattle.words.specs.Below.{every}
+use Rattle.words.specs.Word.{Word, laters}
+
+-- "k and n sharing no divisor above 1"
+unfoldable pub Coprime : ℕ → ℕ → Type 0
+Coprime k n = (d a b : ℕ) → d * a ≡ k → d * b ≡ n → d ≤ 1
+
+-- "for each i from 1 to n its letter i is the earlier exactly when i·k mod n exceeds (i−1)·k mod n"
+unfoldable pub Remainders : Word → ℕ → ℕ → Type 0
+Remainders w k n = (i : ℕ) → 1 ≤ i → i ≤ n → (getD w (i - 1) false ≡ false) ↔ ((i - 1) * k % n < i * k % n)
+
+-- "Either single letter is one. A longer word of n letters, k of them the later letter, .. is one if .."
+pub data Christoffel : Word → Type 0 where
+  single : (a : Bool) → Christoffel (a ∷ [])
+  longer : {w : Word} → 1 < length w → Coprime (laters w) (length w) → Remainders w (laters w) (length w) → Christoffel w
+
+-- The same, computed (proofs/Christoffel.antt: `christoffel-iff`)
+unfoldable pub coprime : ℕ → ℕ → Bool
+coprime k n = every (λ i. not (eqb (k % (i + 2)) 0 && eqb (n % (i + 2)) 0)) (n - 1)
+
+unfoldable pub remainders : Word → ℕ → ℕ → Bool
+remainders w k n = every (λ i. Bool·beq (not (getD w i false)) (ltb (i * k % n) (suc i * k % n))) n
+
+unfoldable pub christoffel : Word → Bool
+christoffel [] = false
+christoffel (a ∷ []) = true
+christoffel (a ∷ b ∷ w) = let v = a ∷ b ∷ w in coprime (laters v) (length v) && remainders v (laters v) (length v)

@@ -1,0 +1,5 @@
+-- Words over two ordered letters, in the order of document 01: letters and order, Lyndon words and factors, Christoffel words.
+pub mod Below
+pub mod Word
+pub mod Lyndon
+pub mod Christoffel

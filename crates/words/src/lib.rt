@@ -1,0 +1,1 @@
+// Words over two ordered letters: Lyndon words, their factorisation, and Christoffel words.
