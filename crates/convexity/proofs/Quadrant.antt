@@ -9,9 +9,9 @@ use Rattle.words.specs.Word.{Word, earliers, laters}
 use Rattle.lattice.specs.Limits.{side}
 use Rattle.lattice.specs.Chart.{Point, cornerAt}
 use Rattle.lattice.proofs.WalkLaws.{Walked}
-use Rattle.outline.specs.Frame.{Frame, frameOf, along}
-use Rattle.outline.specs.Cut.{before, cornerPlace, cut, clockwise}
-use Rattle.outline.specs.Pieces.{piece, word, strayPiece}
+use Rattle.convexity.specs.Frame.{Frame, frameOf, along}
+use Rattle.convexity.specs.Cut.{before, cornerPlace, cut, clockwise}
+use Rattle.convexity.specs.Pieces.{piece, word, strayPiece}
 
 -- The letters of a word in a frame
 unfoldable pub spell : Frame → Word → List ℕ

@@ -9,8 +9,8 @@ use Rattle.lattice.specs.Limits.{longest}
 use Rattle.lattice.specs.Chart.{Point, samePoint}
 use Rattle.lattice.specs.Refusals.{badStart}
 use Rattle.lattice.specs.Enclosed.{encloses}
-use Rattle.outline.specs.Cut.{west, turn}
-use Rattle.outline.specs.Pieces.{edgeCount}
+use Rattle.convexity.specs.Cut.{west, turn}
+use Rattle.convexity.specs.Pieces.{edgeCount}
 use Rattle.outline.specs.Test.{testOf}
 use Rattle.outline.specs.Loose.{badCell}
 use Rattle.outline.specs.declared.Refusal.{Refusal}

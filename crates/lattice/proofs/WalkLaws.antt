@@ -1,18 +1,17 @@
 -- What refusals 1 to 6 leave: no place below a bound is found, so each test fails at every place; and a turn of the letters visits the same corners.
 use Prim.Native.Nat.{ℕ, zero, suc, _+_, _-_, _≤_, _<_}
-use mathlib.Core.Path.{_≡_, refl, sym, ap, _∙_, subst}
-use mathlib.Core.Bool.{Bool, true, false, not, _&&_, _||_}
+use mathlib.Core.Path.{_≡_, refl, sym, ap, _∙_}
+use mathlib.Core.Bool.{Bool, true, false, not, _||_}
 use mathlib.Core.Logic.{_⊎_, inl, inr}
 use mathlib.Core.List.{List, [], _∷_, _++_}
-use native.Mathlib.Nat.{le-dest}
 use native.Mathlib.Decide.{decLt}
 use native.Mathlib.Omega.{arith}
 use lib.ListN.{length, take, drop, getD, length-append, length-drop, take-append-drop, List·getD-append}
 use lib.Seq.{take-suc, take-length, take-add, take-take, take-append-le, take-append-add, length-take-le, getD-append-add, getD-take, getD-drop}
-use lib.Dec.{ltb, leb, eqb}
-use borrow.Author.Tests.{ltb-true, ltb-false, leb-true, leb-false, eqb-true, eqb-false, not-false, le-ltb, eq-eqb, ne-eqb}
+use lib.Dec.{ltb, eqb}
+use borrow.Author.Tests.{ltb-false, leb-false, eqb-true, not-false, le-ltb, eq-eqb}
 use Rattle.words.specs.Below.{first, some}
-use Rattle.words.proofs.BelowLaws.{and-left, and-right, first-le, first-before, first-none}
+use Rattle.words.proofs.BelowLaws.{and-left, and-right, first-before, first-none}
 use Rattle.lattice.specs.Limits.{side}
 use Rattle.lattice.specs.Chart.{Point, samePoint, step, leaves, walk, cornerAt}
 use Rattle.lattice.specs.Refusals.{badCount, badStart, letterPlace, leavingPlace, unclosed, meets, touchingPlace, Simple}
@@ -41,6 +40,26 @@ not-same-point p q h = go (samePoint p q) refl
     go : (b : Bool) → samePoint p q ≡ b → samePoint p q ≡ false
     go true e = absurd (h (same-point p q e))
     go false e = e
+
+abbrev pub point : ℕ → ℕ → Point
+point x y = record { col = x; row = y }
+
+-- The steps where they stay on the chart
+pub step-right : (x y : ℕ) → step (point x y) 0 ≡ point (suc x) y
+unfolding step
+step-right x y = point-eq (point (x + 1) y) (point (suc x) y) (omega arith) refl
+
+pub step-up : (x y : ℕ) → step (point x y) 1 ≡ point x (suc y)
+unfolding step
+step-up x y = point-eq (point x (y + 1)) (point x (suc y)) refl (omega arith)
+
+pub step-left : (x y : ℕ) → step (point (suc x) y) 2 ≡ point x y
+unfolding step
+step-left x y = point-eq (point (suc x - 1) y) (point x y) (omega arith) refl
+
+pub step-down : (x y : ℕ) → step (point x (suc y)) 3 ≡ point x y
+unfolding step
+step-down x y = point-eq (point x (suc y - 1)) (point x y) refl (omega arith)
 
 pub walk-append : (p : Point) (u v : List ℕ) → walk p (u ++ v) ≡ walk (walk p u) v
 unfolding walk

@@ -1,7 +1,4 @@
--- Document 01 from the cut to the calls without a holder: frames, cut and pieces, factors, dents and edges, the paper's numbers, the test, the loose query.
-pub mod Frame
-pub mod Cut
-pub mod Pieces
+-- The calls without a holder: the numbers and fields of a reply on paper, the test, the loose query, the specimens.
 pub mod Fields
 pub mod Test
 pub mod Loose

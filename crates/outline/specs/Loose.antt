@@ -1,12 +1,13 @@
--- The loose query: side values and extremes (document 01, "Calls").
-use Prim.Native.Nat.{ℕ, zero, suc, _%_}
-use mathlib.Core.Bool.{Bool, true, false, cond, _&&_, _||_}
-use mathlib.Core.List.{List, [], _∷_}
+-- The loose query: refusals 10 and 11, then the rule of the edges (document 01, "Calls").
+use Prim.Native.Nat.{ℕ, _%_}
+use mathlib.Core.Bool.{Bool, cond, _||_}
+use mathlib.Core.List.{List}
 use lib.ListN.{length}
 use lib.Dec.{leb, ltb, eqb}
-use lib.IntN.{ℤ, pos, negsuc, _+ℤ_, _-ℤ_, _*ℤ_}
+use lib.IntN.{ℤ}
 use Rattle.lattice.specs.Limits.{side}
 use Rattle.lattice.specs.Chart.{Point}
+use Rattle.convexity.specs.Inside.{insideEdges}
 use Rattle.outline.specs.declared.Refusal.{Refusal}
 use Rattle.outline.specs.declared.Refusal.the-variants.{List as BadList, Cell}
 use Rattle.outline.specs.declared.Position.{Position}
@@ -15,61 +16,6 @@ use Rattle.outline.specs.declared.Position.the-variants.{Inside, Outside
 -- The longest list of a loose query: two numbers for each of 1,016 edges
 abbrev pub longestList : ℕ
 longestList = 2032
-
-unfoldable pub notNegative : ℤ → Bool
-notNegative (pos n) = true
-notNegative (negsuc n) = false
-
--- a ≤ b
-unfoldable pub leℤ : ℤ → ℤ → Bool
-leℤ a b = notNegative (b -ℤ a)
-
-unfoldable pub minℤ : ℤ → ℤ → ℤ
-minℤ a b = cond (leℤ a b) a b
-
-unfoldable pub maxℤ : ℤ → ℤ → ℤ
-maxℤ a b = cond (leℤ a b) b a
-
--- "dy·(c−x) − dx·(r−y)": the side value of a cell for an edge (dx, dy) that leaves (x, y)
-unfoldable pub sideValue : ℤ → ℤ → ℤ → ℤ → ℤ → ℤ → ℤ
-sideValue dx dy x y c r = dy *ℤ (c -ℤ x) -ℤ dx *ℤ (r -ℤ y)
-
--- "at least 0 for every edge": no side value of the walk from (x, y) is below 0
-unfoldable pub noneOutside : List ℤ → ℤ → ℤ → ℤ → ℤ → Bool
-noneOutside [] x y c r = true
-noneOutside (dx ∷ []) x y c r = true
-noneOutside (dx ∷ dy ∷ es) x y c r = notNegative (sideValue dx dy x y c r) && noneOutside es (x +ℤ dx) (y +ℤ dy) c r
-
--- The column steps, and the row steps, of a list of edges
-unfoldable pub colSteps : List ℤ → List ℤ
-colSteps [] = []
-colSteps (dx ∷ []) = []
-colSteps (dx ∷ dy ∷ es) = dx ∷ colSteps es
-
-unfoldable pub rowSteps : List ℤ → List ℤ
-rowSteps [] = []
-rowSteps (dx ∷ []) = []
-rowSteps (dx ∷ dy ∷ es) = dy ∷ rowSteps es
-
--- "the lowest and highest columns and rows met by the walk, anchor and last edge's end included": the lowest and the highest
--- number that steps from x meet
-unfoldable pub lowestMet : List ℤ → ℤ → ℤ
-lowestMet [] x = x
-lowestMet (d ∷ ds) x = minℤ x (lowestMet ds (x +ℤ d))
-
-unfoldable pub highestMet : List ℤ → ℤ → ℤ
-highestMet [] x = x
-highestMet (d ∷ ds) x = maxℤ x (highestMet ds (x +ℤ d))
-
-unfoldable pub within : List ℤ → ℤ → ℤ → Bool
-within ds x c = leℤ (lowestMet ds x) c && leℤ c (highestMet ds x)
-
--- The rule of a loose query: anchor a, edges es, cell (c, r)
-unfoldable pub insideEdges : Point → List ℤ → Point → Bool
-insideEdges a es x =
-    within (colSteps es) (pos (a .col)) (pos (x .col)) &&
-    within (rowSteps es) (pos (a .row)) (pos (x .row)) &&
-    noneOutside es (pos (a .col)) (pos (a .row)) (pos (x .col)) (pos (x .row))
 
 -- 10: "an odd list or one above 2,032 numbers"
 unfoldable pub badList : List ℤ → Bool

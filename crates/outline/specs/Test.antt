@@ -9,8 +9,8 @@ use lib.IntN.{ℤ}
 use Rattle.lattice.specs.Chart.{Point, cornerAt}
 use Rattle.lattice.specs.Refusals.{badCount, badStart, letterPlace, leavingPlace, unclosed, touchingPlace}
 use Rattle.lattice.specs.Search.{missingCell}
-use Rattle.outline.specs.Cut.{cornerPlace, westPlace, west, turn, clockwise, cut}
-use Rattle.outline.specs.Pieces.{strayAt, strayPiece, factors, dentAt, dentLength, dentPiece, sent, edges, edgeCount}
+use Rattle.convexity.specs.Cut.{cornerPlace, westPlace, west, turn, clockwise, cut}
+use Rattle.convexity.specs.Pieces.{strayAt, strayPiece, factors, dentAt, dentLength, dentPiece, sent, edges, edgeCount}
 use Rattle.outline.specs.declared.Refusal.{Refusal}
 use Rattle.outline.specs.declared.Refusal.the-variants.{Count, Start, Letter, Leaves, Unclosed, Touches, Anticlockwise, BackStep, Dent, Room}
 use Rattle.outline.specs.declared.Verdict.{Verdict}

@@ -9,3 +9,4 @@ pub mod Christoffel
 pub mod Coprime
 pub mod Slope
 pub mod Dent
+pub mod Criterion

@@ -5,7 +5,7 @@ use mathlib.Core.List.{List, [], _∷_, _++_}
 use lib.ListN.{length, getD, take, drop}
 use lib.Dec.{leb, ltb, eqb}
 use Rattle.lattice.specs.Chart.{Point, cornerAt}
-use Rattle.outline.specs.Frame.{Frame, frameOf, along}
+use Rattle.convexity.specs.Frame.{Frame, frameOf, along}
 
 -- p comes before q as the first corner of a piece: it lies less far along the earlier letter, or as far and less far along the later
 unfoldable pub before : Frame → Point → Point → Bool

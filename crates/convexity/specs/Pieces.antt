@@ -10,8 +10,8 @@ use Rattle.words.specs.Word.{Word, wordOf, earliers, laters}
 use Rattle.words.specs.Lyndon.{Factor, factorsOf}
 use Rattle.words.specs.Christoffel.{christoffel}
 use Rattle.lattice.specs.Chart.{Point}
-use Rattle.outline.specs.Frame.{Frame, frameOf}
-use Rattle.outline.specs.Cut.{cut}
+use Rattle.convexity.specs.Frame.{Frame, frameOf}
+use Rattle.convexity.specs.Cut.{cut}
 
 -- The letters from W on, as often round as four pieces can reach
 unfoldable pub rounds : List ℕ → List ℕ

@@ -1,0 +1,60 @@
+-- The rule by which edges answer for a cell: side values and extremes (document 01, "Loose query").
+use mathlib.Core.Bool.{Bool, true, false, cond, _&&_}
+use mathlib.Core.List.{List, [], _∷_}
+use lib.IntN.{ℤ, pos, negsuc, _+ℤ_, _-ℤ_, _*ℤ_}
+use Rattle.lattice.specs.Chart.{Point}
+
+unfoldable pub notNegative : ℤ → Bool
+notNegative (pos n) = true
+notNegative (negsuc n) = false
+
+-- a ≤ b
+unfoldable pub leℤ : ℤ → ℤ → Bool
+leℤ a b = notNegative (b -ℤ a)
+
+unfoldable pub minℤ : ℤ → ℤ → ℤ
+minℤ a b = cond (leℤ a b) a b
+
+unfoldable pub maxℤ : ℤ → ℤ → ℤ
+maxℤ a b = cond (leℤ a b) b a
+
+-- "dy·(c−x) − dx·(r−y)": the side value of a cell for an edge (dx, dy) that leaves (x, y)
+unfoldable pub sideValue : ℤ → ℤ → ℤ → ℤ → ℤ → ℤ → ℤ
+sideValue dx dy x y c r = dy *ℤ (c -ℤ x) -ℤ dx *ℤ (r -ℤ y)
+
+-- "at least 0 for every edge": no side value of the walk from (x, y) is below 0
+unfoldable pub noneOutside : List ℤ → ℤ → ℤ → ℤ → ℤ → Bool
+noneOutside [] x y c r = true
+noneOutside (dx ∷ []) x y c r = true
+noneOutside (dx ∷ dy ∷ es) x y c r = notNegative (sideValue dx dy x y c r) && noneOutside es (x +ℤ dx) (y +ℤ dy) c r
+
+-- The column steps, and the row steps, of a list of edges
+unfoldable pub colSteps : List ℤ → List ℤ
+colSteps [] = []
+colSteps (dx ∷ []) = []
+colSteps (dx ∷ dy ∷ es) = dx ∷ colSteps es
+
+unfoldable pub rowSteps : List ℤ → List ℤ
+rowSteps [] = []
+rowSteps (dx ∷ []) = []
+rowSteps (dx ∷ dy ∷ es) = dy ∷ rowSteps es
+
+-- "the lowest and highest columns and rows met by the walk, anchor and last edge's end included": the lowest and the highest
+-- number that steps from x meet
+unfoldable pub lowestMet : List ℤ → ℤ → ℤ
+lowestMet [] x = x
+lowestMet (d ∷ ds) x = minℤ x (lowestMet ds (x +ℤ d))
+
+unfoldable pub highestMet : List ℤ → ℤ → ℤ
+highestMet [] x = x
+highestMet (d ∷ ds) x = maxℤ x (highestMet ds (x +ℤ d))
+
+unfoldable pub within : List ℤ → ℤ → ℤ → Bool
+within ds x c = leℤ (lowestMet ds x) c && leℤ c (highestMet ds x)
+
+-- The rule of a loose query: anchor a, edges es, cell (c, r)
+unfoldable pub insideEdges : Point → List ℤ → Point → Bool
+insideEdges a es x =
+    within (colSteps es) (pos (a .col)) (pos (x .col)) &&
+    within (rowSteps es) (pos (a .row)) (pos (x .row)) &&
+    noneOutside es (pos (a .col)) (pos (a .row)) (pos (x .col)) (pos (x .row))

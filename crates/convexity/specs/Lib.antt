@@ -1,0 +1,5 @@
+-- From the border to the edges, in the order of document 01: frames, the cut, pieces, factors, dents and edges, the rule of the edges.
+pub mod Frame
+pub mod Cut
+pub mod Pieces
+pub mod Inside
