@@ -1,2 +1,8 @@
+-- One piece in its frame; the four pieces; lines and the search for the lowest missing cell.
 pub mod Frame
 pub mod Quadrant
+pub mod Line
+pub mod Rows
+pub mod Side
+pub mod Mirror
+pub mod Climb

@@ -7,7 +7,8 @@ use mathlib.Core.List.{List, [], _∷_, _++_}
 use lib.ListN.{length, take}
 use Rattle.words.specs.Word.{Word, earliers, laters}
 use Rattle.lattice.specs.Limits.{side}
-use Rattle.lattice.specs.Chart.{Point, cornerAt}
+use Rattle.lattice.specs.declared.Point.{Point}
+use Rattle.lattice.specs.Chart.{cornerAt}
 use Rattle.lattice.proofs.WalkLaws.{Walked}
 use Rattle.convexity.specs.Frame.{Frame, frameOf, along}
 use Rattle.convexity.specs.Cut.{before, cornerPlace, cut, clockwise}

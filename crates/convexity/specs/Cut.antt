@@ -4,7 +4,8 @@ use mathlib.Core.Bool.{Bool, true, false, cond, _&&_, _||_}
 use mathlib.Core.List.{List, [], _∷_, _++_}
 use lib.ListN.{length, getD, take, drop}
 use lib.Dec.{leb, ltb, eqb}
-use Rattle.lattice.specs.Chart.{Point, cornerAt}
+use Rattle.lattice.specs.declared.Point.{Point}
+use Rattle.lattice.specs.Chart.{cornerAt}
 use Rattle.convexity.specs.Frame.{Frame, frameOf, along}
 
 -- p comes before q as the first corner of a piece: it lies less far along the earlier letter, or as far and less far along the later

@@ -2,7 +2,7 @@
 use Prim.Native.Nat.{ℕ, zero, suc, _-_}
 use lib.IntN.{ℤ, pos, negsuc}
 use Rattle.lattice.specs.Limits.{side}
-use Rattle.lattice.specs.Chart.{Point}
+use Rattle.lattice.specs.declared.Point.{Point}
 
 -- A piece's two letters, the earlier and the later, each with its step in columns and in rows
 pub record Frame : Type 0 where

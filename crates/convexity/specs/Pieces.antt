@@ -9,7 +9,7 @@ use Rattle.words.specs.Below.{first}
 use Rattle.words.specs.Word.{Word, wordOf, earliers, laters}
 use Rattle.words.specs.Lyndon.{Factor, factorsOf}
 use Rattle.words.specs.Christoffel.{christoffel}
-use Rattle.lattice.specs.Chart.{Point}
+use Rattle.lattice.specs.declared.Point.{Point}
 use Rattle.convexity.specs.Frame.{Frame, frameOf}
 use Rattle.convexity.specs.Cut.{cut}
 

@@ -6,7 +6,8 @@ use mathlib.Core.List.{List, [], _∷_, _++_}
 use lib.ListN.{length}
 use lib.Dec.{leb, ltb, eqb}
 use Rattle.lattice.specs.Limits.{longest}
-use Rattle.lattice.specs.Chart.{Point, samePoint}
+use Rattle.lattice.specs.declared.Point.{Point}
+use Rattle.lattice.specs.Chart.{samePoint}
 use Rattle.lattice.specs.Refusals.{badStart}
 use Rattle.lattice.specs.Enclosed.{encloses}
 use Rattle.convexity.specs.Cut.{west, turn}

@@ -13,7 +13,8 @@ use borrow.Author.Tests.{ltb-false, leb-false, eqb-true, not-false, le-ltb, eq-e
 use Rattle.words.specs.Below.{first, some}
 use Rattle.words.proofs.BelowLaws.{and-left, and-right, first-before, first-none}
 use Rattle.lattice.specs.Limits.{side}
-use Rattle.lattice.specs.Chart.{Point, samePoint, step, leaves, walk, cornerAt}
+use Rattle.lattice.specs.declared.Point.{Point}
+use Rattle.lattice.specs.Chart.{samePoint, step, leaves, walk, cornerAt}
 use Rattle.lattice.specs.Refusals.{badCount, badStart, letterPlace, leavingPlace, unclosed, meets, touchingPlace, Simple}
 
 -- Points are equal by their two numbers

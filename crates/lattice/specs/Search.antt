@@ -6,7 +6,8 @@ use mathlib.Core.List.{List, [], _∷_}
 use lib.Dec.{leb, ltb}
 use Rattle.words.specs.Below.{first}
 use Rattle.lattice.specs.Limits.{side}
-use Rattle.lattice.specs.Chart.{Point, step}
+use Rattle.lattice.specs.declared.Point.{Point}
+use Rattle.lattice.specs.Chart.{step}
 use Rattle.lattice.specs.Enclosed.{upAlong, downAlong}
 
 -- The corner column of the last up (down) along row r, or d where there is none

@@ -6,7 +6,7 @@ use lib.ListN.{length}
 use lib.Dec.{leb, ltb, eqb}
 use lib.IntN.{ℤ}
 use Rattle.lattice.specs.Limits.{side}
-use Rattle.lattice.specs.Chart.{Point}
+use Rattle.lattice.specs.declared.Point.{Point}
 use Rattle.convexity.specs.Inside.{insideEdges}
 use Rattle.outline.specs.declared.Refusal.{Refusal}
 use Rattle.outline.specs.declared.Refusal.the-variants.{List as BadList, Cell}

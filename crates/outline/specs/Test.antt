@@ -6,7 +6,8 @@ use mathlib.Core.List.{List, [], _∷_, _++_}
 use lib.ListN.{length, drop}
 use lib.Dec.{ltb}
 use lib.IntN.{ℤ}
-use Rattle.lattice.specs.Chart.{Point, cornerAt}
+use Rattle.lattice.specs.declared.Point.{Point}
+use Rattle.lattice.specs.Chart.{cornerAt}
 use Rattle.lattice.specs.Refusals.{badCount, badStart, letterPlace, leavingPlace, unclosed, touchingPlace}
 use Rattle.lattice.specs.Search.{missingCell}
 use Rattle.convexity.specs.Cut.{cornerPlace, westPlace, west, turn, clockwise, cut}
