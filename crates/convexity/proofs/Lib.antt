@@ -1,6 +1,8 @@
 -- One piece in its frame; the four pieces; lines and the search for the lowest missing cell.
 pub mod Frame
 pub mod Quadrant
+pub mod Extreme
+pub mod Shape
 pub mod Line
 pub mod Rows
 pub mod Side

@@ -1,0 +1,282 @@
+-- The first corner of a frame's order: no step from it or to it goes back, so the walk comes to it along one of the frame's letters and leaves it along the other.
+use Prim.Native.Nat.{ℕ, zero, suc, _+_, _-_, _≤_, _<_}
+use native.Mathlib.Decide.{decLt}
+use native.Mathlib.Omega.{arith}
+use mathlib.Core.Path.{_≡_, refl, sym, ap, _∙_}
+use mathlib.Core.Logic.{_⊎_, inl, inr, _≢_}
+use mathlib.Core.Bool.{Bool, true, false, cond, _&&_, _||_}
+use mathlib.Core.List.{List}
+use lib.ListN.{length, getD}
+use lib.Dec.{ltb, eqb}
+use borrow.Author.Tests.{ltb-true, leb-false, eqb-true, eqb-false, lt-ltb, le-ltb, eq-eqb}
+use Rattle.words.proofs.BelowLaws.{below-suc, and-left, and-right}
+use Rattle.lattice.specs.Limits.{side}
+use Rattle.lattice.specs.declared.Point.{Point}
+use Rattle.lattice.specs.Chart.{step, leaves, cornerAt}
+use Rattle.lattice.specs.Refusals.{Simple}
+use Rattle.lattice.proofs.WalkLaws.{Walked, walked, rotated, turned, length-rotation, point-eq, corner-zero, corner-suc, corner-all, corner-injective}
+use Rattle.convexity.specs.Frame.{Frame, frameOf, along}
+use Rattle.convexity.specs.Cut.{before, least, cornerPlace, westPlace, west, turn}
+use Rattle.convexity.proofs.Quadrant.{Turn}
+
+-- ---- the least number below a bound
+
+pub least-lt : (lt : ℕ → ℕ → Bool) (n : ℕ) → 0 < n → least lt n < n
+unfolding least
+least-lt lt zero h = absurd (omega arith)
+least-lt lt (suc zero) h = go (lt 0 0)
+  where
+    go : (b : Bool) → cond b 0 0 < 1
+    go true = omega arith
+    go false = omega arith
+least-lt lt (suc (suc n)) h = go (lt (suc n) (least lt (suc n))) (least-lt lt (suc n) (omega arith))
+  where
+    go : (b : Bool) → least lt (suc n) < suc n → cond b (suc n) (least lt (suc n)) < suc (suc n)
+    go true l = omega arith
+    go false l = omega arith
+
+-- No number below n comes before the least one
+pub least-first : (lt : ℕ → ℕ → Bool) → ((i : ℕ) → lt i i ≡ false) → ((i j k : ℕ) → lt i j ≡ true → lt j k ≡ true → lt i k ≡ true)
+    → (n i : ℕ) → i < n → lt i (least lt n) ≡ false
+unfolding least
+least-first lt irrefl trans zero i h = absurd (omega arith)
+least-first lt irrefl trans (suc n) i h = go (lt n (least lt n)) refl (least-first lt irrefl trans n)
+  where
+    m : ℕ
+    m = least lt n
+
+    at : (b : Bool) → lt n m ≡ true → lt i m ≡ false → lt i n ≡ b → lt i n ≡ false
+    at true e f g = let z : _≡_ {A = ℕ} 0 1 = cc (trans i n m g e) in absurd (omega arith)
+    at false e f g = g
+
+    go : (b : Bool) → lt n m ≡ b → ((j : ℕ) → j < n → lt j m ≡ false) → lt i (cond b n m) ≡ false
+    go true e rest = elim (below-suc i n h) [ inl p ↦ rw p (irrefl n) | inr l ↦ at (lt i n) e (rest i l) refl ]
+    go false e rest = elim (below-suc i n h) [ inl p ↦ rw p e | inr l ↦ rest i l ]
+
+-- ---- the order of a frame
+
+pub before-less : (f : Frame) (p q : Point) → along (f .earlier) p < along (f .earlier) q → before f p q ≡ true
+unfolding before
+before-less f p q h = cc (lt-ltb (along (f .earlier) p) (along (f .earlier) q) h)
+
+pub before-level : (f : Frame) (p q : Point) → along (f .earlier) p ≡ along (f .earlier) q → along (f .later) p < along (f .later) q → before f p q ≡ true
+unfolding before
+before-level f p q e h =
+    let a : ltb (along (f .earlier) p) (along (f .earlier) q) ≡ false = le-ltb (along (f .earlier) p) (along (f .earlier) q) (omega arith) in
+    let b : eqb (along (f .earlier) p) (along (f .earlier) q) ≡ true = eq-eqb (along (f .earlier) p) (along (f .earlier) q) e in
+    let c : ltb (along (f .later) p) (along (f .later) q) ≡ true = lt-ltb (along (f .later) p) (along (f .later) q) h in
+    cc
+
+pub before-cases : (f : Frame) (p q : Point) → before f p q ≡ true
+    → (along (f .earlier) p < along (f .earlier) q) ⊎ ((along (f .earlier) p ≡ along (f .earlier) q) × (along (f .later) p < along (f .later) q))
+unfolding before
+before-cases f p q h = go (ltb (along (f .earlier) p) (along (f .earlier) q)) refl h
+  where
+    level : Bool
+    level = eqb (along (f .earlier) p) (along (f .earlier) q)
+
+    nearer : Bool
+    nearer = ltb (along (f .later) p) (along (f .later) q)
+
+    go : (b : Bool) → ltb (along (f .earlier) p) (along (f .earlier) q) ≡ b → (b || (level && nearer)) ≡ true
+        → (along (f .earlier) p < along (f .earlier) q) ⊎ ((along (f .earlier) p ≡ along (f .earlier) q) × (along (f .later) p < along (f .later) q))
+    go true e k = inl (ltb-true (along (f .earlier) p) (along (f .earlier) q) e)
+    go false e k =
+        inr (eqb-true (along (f .earlier) p) (along (f .earlier) q) (and-left level nearer k), ltb-true (along (f .later) p) (along (f .later) q) (and-right level nearer k))
+
+pub before-irrefl : (f : Frame) (p : Point) → before f p p ≡ false
+before-irrefl f p = go (before f p p) refl
+  where
+    go : (b : Bool) → before f p p ≡ b → b ≡ false
+    go true e = elim (before-cases f p p e) [ inl h ↦ absurd (omega arith) | inr h ↦ absurd (omega arith) ]
+    go false e = refl
+
+pub before-trans : (f : Frame) (p q r : Point) → before f p q ≡ true → before f q r ≡ true → before f p r ≡ true
+before-trans f p q r h k =
+    elim (before-cases f p q h) [
+      | inl a ↦ elim (before-cases f q r k) [ inl b ↦ before-less f p r (omega arith) | inr b ↦ before-less f p r (omega arith) ]
+      | inr a ↦
+          elim (before-cases f q r k) [
+            | inl b ↦ before-less f p r (omega arith)
+            | inr b ↦ before-level f p r (omega arith) (omega arith)
+          ]
+    ]
+
+-- ---- the first corner of a piece
+
+-- The corner at place i comes first in frame k
+pub record FirstAt (s : Point) (w : List ℕ) (k i : ℕ) : Type 0 where
+  pub below : i < length w
+  pub none : (j : ℕ) → j < length w → before (frameOf k) (cornerAt s w j) (cornerAt s w i) ≡ false
+
+pub cornerPlace-lt : (s : Point) (w : List ℕ) (k : ℕ) → 0 < length w → cornerPlace s w k < length w
+unfolding cornerPlace
+cornerPlace-lt s w k h = least-lt (λ i j. before (frameOf k) (cornerAt s w i) (cornerAt s w j)) (length w) h
+
+pub cornerPlace-first : (s : Point) (w : List ℕ) (k i : ℕ) → i < length w
+    → before (frameOf k) (cornerAt s w i) (cornerAt s w (cornerPlace s w k)) ≡ false
+unfolding cornerPlace
+cornerPlace-first s w k i h =
+    least-first (λ i j. before (frameOf k) (cornerAt s w i) (cornerAt s w j)) (λ i. before-irrefl (frameOf k) (cornerAt s w i))
+    (λ i j m. before-trans (frameOf k) (cornerAt s w i) (cornerAt s w j) (cornerAt s w m)) (length w) i h
+
+pub first-at-cornerPlace : (s : Point) (w : List ℕ) (k : ℕ) → 0 < length w → FirstAt s w k (cornerPlace s w k)
+first-at-cornerPlace s w k h = record { below = cornerPlace-lt s w k h; none = cornerPlace-first s w k }
+
+-- The letters from W on are a turn
+pub turn-of : (s : Point) (w : List ℕ) → Simple s w → Turn (west s w) (turn s w)
+unfolding west turn westPlace
+turn-of s w t =
+    let d : Walked s w = walked s w t in
+    let k : ℕ = cornerPlace s w 0 in
+    let h : k ≤ length w = omega (arith, cornerPlace-lt s w 0 (omega arith)) in
+    record {
+      walked = rotated s w k h d;
+      west = λ i l.
+          let (j, m) = turned s w k h (d .closed) i (omega (arith, length-rotation s w k h)) in rw (m .corner) (cornerPlace-first s w 0 j (m .below));
+    }
+
+-- ---- steps in a frame
+
+-- The letter of the way back
+unfoldable pub opposite : ℕ → ℕ
+opposite zero = 2
+opposite (suc zero) = 3
+opposite (suc (suc zero)) = 0
+opposite (suc (suc (suc a))) = 1
+
+pub record OnChart (p : Point) : Type 0 where
+  pub col : p .col ≤ 255
+  pub row : p .row ≤ 255
+
+pub on-chart : (s : Point) (w : List ℕ) → Walked s w → (i : ℕ) → i ≤ length w → OnChart (cornerAt s w i)
+on-chart s w d i h = record { col = d .col-le i h; row = d .row-le i h }
+
+-- The letter a leads from p to q, one on or one back along one of the frame's letters, and not along the other
+pub data Moved (f : Frame) (a : ℕ) (p q : Point) : Type 0 where
+  earlier-on : a ≡ f .earlier → along (f .earlier) q ≡ along (f .earlier) p + 1 → along (f .later) q ≡ along (f .later) p → Moved f a p q
+  later-on : a ≡ f .later → along (f .earlier) q ≡ along (f .earlier) p → along (f .later) q ≡ along (f .later) p + 1 → Moved f a p q
+  earlier-back : a ≡ opposite (f .earlier) → along (f .earlier) q + 1 ≡ along (f .earlier) p → along (f .later) q ≡ along (f .later) p → Moved f a p q
+  later-back : a ≡ opposite (f .later) → along (f .earlier) q ≡ along (f .earlier) p → along (f .later) q + 1 ≡ along (f .later) p → Moved f a p q
+
+zero-no : (n : ℕ) → eqb n 0 ≡ false → 0 < n
+zero-no n e = omega (arith, eqb-false n 0 e)
+
+moved : (k a : ℕ) (p : Point) → a < 4 → leaves p a ≡ false → OnChart p → Moved (frameOf k) a p (step p a)
+unfolding frameOf along opposite leaves step
+moved zero zero p h e c = earlier-on refl refl refl
+moved zero (suc zero) p h e c = later-on refl refl refl
+moved zero (suc (suc zero)) p h e c = earlier-back refl (omega (arith, zero-no (p .col) e)) refl
+moved zero (suc (suc (suc zero))) p h e c = later-back refl refl (omega (arith, zero-no (p .row) e))
+moved zero (suc (suc (suc (suc a)))) p h e c = absurd (omega arith)
+moved (suc zero) zero p h e c = later-on refl refl refl
+moved (suc zero) (suc zero) p h e c = earlier-back refl (omega (arith, leb-false side (p .row) e)) refl
+moved (suc zero) (suc (suc zero)) p h e c = later-back refl refl (omega (arith, zero-no (p .col) e))
+moved (suc zero) (suc (suc (suc zero))) p h e c = earlier-on refl (omega (arith, zero-no (p .row) e)) refl
+moved (suc zero) (suc (suc (suc (suc a)))) p h e c = absurd (omega arith)
+moved (suc (suc zero)) zero p h e c = earlier-back refl (omega (arith, leb-false side (p .col) e)) refl
+moved (suc (suc zero)) (suc zero) p h e c = later-back refl refl (omega (arith, leb-false side (p .row) e))
+moved (suc (suc zero)) (suc (suc zero)) p h e c = earlier-on refl (omega (arith, zero-no (p .col) e)) refl
+moved (suc (suc zero)) (suc (suc (suc zero))) p h e c = later-on refl refl (omega (arith, zero-no (p .row) e))
+moved (suc (suc zero)) (suc (suc (suc (suc a)))) p h e c = absurd (omega arith)
+moved (suc (suc (suc k))) zero p h e c = later-back refl refl (omega (arith, leb-false side (p .col) e))
+moved (suc (suc (suc k))) (suc zero) p h e c = earlier-on refl refl refl
+moved (suc (suc (suc k))) (suc (suc zero)) p h e c = later-on refl refl (omega (arith, zero-no (p .col) e))
+moved (suc (suc (suc k))) (suc (suc (suc zero))) p h e c = earlier-back refl (omega (arith, zero-no (p .row) e)) refl
+moved (suc (suc (suc k))) (suc (suc (suc (suc a)))) p h e c = absurd (omega arith)
+
+-- Corners of the chart that lie as far along both letters of a frame are equal
+along-injective : (k : ℕ) (p q : Point) → OnChart p → OnChart q → along (frameOf k .earlier) p ≡ along (frameOf k .earlier) q
+    → along (frameOf k .later) p ≡ along (frameOf k .later) q → p ≡ q
+unfolding frameOf along
+along-injective zero p q c d e l = point-eq p q e l
+along-injective (suc zero) p q c d e l = point-eq p q l (omega arith)
+along-injective (suc (suc zero)) p q c d e l = point-eq p q (omega arith) (omega arith)
+along-injective (suc (suc (suc k))) p q c d e l = point-eq p q (omega arith) e
+
+pub not-before-earlier : (f : Frame) (p q : Point) → before f p q ≡ false → along (f .earlier) q ≤ along (f .earlier) p
+not-before-earlier f p q h =
+    elim (decLt (along (f .earlier) p) (along (f .earlier) q)) [
+      | yes l ↦ let z : _≡_ {A = ℕ} 0 1 = cc (before-less f p q l) in absurd (omega arith)
+      | no l ↦ omega arith
+    ]
+
+pub not-before-later : (f : Frame) (p q : Point) → before f p q ≡ false → along (f .earlier) p ≡ along (f .earlier) q → along (f .later) q ≤ along (f .later) p
+not-before-later f p q h e =
+    elim (decLt (along (f .later) p) (along (f .later) q)) [
+      | yes l ↦ let z : _≡_ {A = ℕ} 0 1 = cc (before-level f p q e l) in absurd (omega arith)
+      | no l ↦ omega arith
+    ]
+
+-- How a walk may turn at the first corner of a frame: by the letter on which it comes, and the one on which it leaves
+pub data Bend (f : Frame) (a b : ℕ) : Type 0 where
+  by-later : a ≡ opposite (f .earlier) → b ≡ f .later → Bend f a b
+  by-earlier : a ≡ opposite (f .later) → b ≡ f .earlier → Bend f a b
+
+bend-of : (f : Frame) (a b : ℕ) (p c q : Point) → before f p c ≡ false → before f q c ≡ false
+    → (along (f .earlier) p ≡ along (f .earlier) q → along (f .later) p ≡ along (f .later) q → ⊥) → Moved f b c q → Moved f a p c → Bend f a b
+bend-of f a b p c q hp hq far (earlier-on x y z) (earlier-on x′ y′ z′) = absurd (omega (arith, not-before-earlier f p c hp))
+bend-of f a b p c q hp hq far (earlier-on x y z) (later-on x′ y′ z′) = absurd (omega (arith, not-before-later f p c hp (omega arith)))
+bend-of f a b p c q hp hq far (earlier-on x y z) (earlier-back x′ y′ z′) = absurd (far (omega arith) (omega arith))
+bend-of f a b p c q hp hq far (earlier-on x y z) (later-back x′ y′ z′) = by-earlier x′ x
+bend-of f a b p c q hp hq far (later-on x y z) (earlier-on x′ y′ z′) = absurd (omega (arith, not-before-earlier f p c hp))
+bend-of f a b p c q hp hq far (later-on x y z) (later-on x′ y′ z′) = absurd (omega (arith, not-before-later f p c hp (omega arith)))
+bend-of f a b p c q hp hq far (later-on x y z) (earlier-back x′ y′ z′) = by-later x′ x
+bend-of f a b p c q hp hq far (later-on x y z) (later-back x′ y′ z′) = absurd (far (omega arith) (omega arith))
+bend-of f a b p c q hp hq far (earlier-back x y z) m = absurd (omega (arith, not-before-earlier f q c hq))
+bend-of f a b p c q hp hq far (later-back x y z) m = absurd (omega (arith, not-before-later f q c hq (omega arith)))
+
+-- The place before place i of n, past the beginning to the end
+unfoldable pub previous : ℕ → ℕ → ℕ
+previous n zero = n - 1
+previous n (suc i) = i
+
+module _ (s : Point) (w : List ℕ) (d : Walked s w) where
+  pub corner-round : cornerAt s w (length w) ≡ cornerAt s w 0
+  corner-round = corner-all s w ∙ d .closed ∙ sym (corner-zero s w)
+
+  pub moves : (k i : ℕ) → i < length w → Moved (frameOf k) (getD w i 0) (cornerAt s w i) (cornerAt s w (suc i))
+  moves k i h = rw (corner-suc s w i h) (moved k (getD w i 0) (cornerAt s w i) (d .letter i h) (d .stays i h) (on-chart s w d i (omega arith)))
+
+  previous-lt : (i : ℕ) → i < length w → previous (length w) i < length w
+  unfolding previous
+  previous-lt zero h = omega arith
+  previous-lt (suc i) h = omega arith
+
+  corner-previous : (i : ℕ) → cornerAt s w (suc (previous (length w) i)) ≡ cornerAt s w i
+  unfolding previous
+  corner-previous zero = ap (cornerAt s w) (omega (arith, d .long)) ∙ corner-round
+  corner-previous (suc i) = refl
+
+  record Next (i j : ℕ) : Type 0 where
+    below : j < length w
+    corner : cornerAt s w (suc i) ≡ cornerAt s w j
+    apart : previous (length w) i ≢ j
+
+  next : (i : ℕ) → i < length w → (j : ℕ) × Next i j
+  unfolding previous
+  next i h =
+      elim (decLt (suc i) (length w)) [
+        | yes l ↦ (suc i, record { below = l; corner = refl; apart = apart i l })
+        | no l ↦ (0, record { below = omega arith; corner = ap (cornerAt s w) (omega arith) ∙ corner-round; apart = back i h (omega arith) })
+      ]
+    where
+      apart : (i : ℕ) → suc i < length w → previous (length w) i ≢ suc i
+      apart zero l = omega (arith, d .long)
+      apart (suc i) l = omega arith
+
+      back : (i : ℕ) → i < length w → suc i ≡ length w → previous (length w) i ≢ 0
+      back zero h e = omega (arith, d .long)
+      back (suc i) h e = omega (arith, d .long)
+
+  -- At the first corner of a frame
+  pub bend : (k i : ℕ) → FirstAt s w k i → Bend (frameOf k) (getD w (previous (length w) i) 0) (getD w i 0)
+  bend k i t =
+      let h : i < length w = t .below in
+      let j : ℕ = previous (length w) i in
+      let l : j < length w = previous-lt i h in
+      let (m, r) = next i h in
+      let far : cornerAt s w j ≡ cornerAt s w m → ⊥ = λ e. r .apart (corner-injective s w d j m l (r .below) e) in
+      bend-of (frameOf k) (getD w j 0) (getD w i 0) (cornerAt s w j) (cornerAt s w i) (cornerAt s w m) (t .none j l) (t .none m (r .below))
+      (λ x y. far (along-injective k (cornerAt s w j) (cornerAt s w m) (on-chart s w d j (omega arith)) (on-chart s w d m (omega (arith, r .below))) x y))
+      (rw (r .corner) at (moves k i h)) (rw corner-previous at (moves k j l))
