@@ -3,6 +3,9 @@ pub mod Frame
 pub mod Quadrant
 pub mod Extreme
 pub mod Shape
+pub mod Crossings
+pub mod UnderLaws
+pub mod RowEnds
 pub mod Line
 pub mod Rows
 pub mod Side
