@@ -242,7 +242,7 @@ left-copies (suc k) w some h =
 
 -- ---- from under the path to the right side of every edge
 
-sides-mono : (fs : List Factor) (vp vq p q p′ q′ : ℕ) → p ≤ p′ → q′ ≤ q → Sides fs vp vq p q → Sides fs vp vq p′ q′
+pub sides-mono : (fs : List Factor) (vp vq p q p′ q′ : ℕ) → p ≤ p′ → q′ ≤ q → Sides fs vp vq p q → Sides fs vp vq p′ q′
 unfolding Sides
 sides-mono [] vp vq p q p′ q′ h k s = tt
 sides-mono (f ∷ fs) vp vq p q p′ q′ h k s =

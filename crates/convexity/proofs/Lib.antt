@@ -6,6 +6,10 @@ pub mod Shape
 pub mod Crossings
 pub mod UnderLaws
 pub mod RowEnds
+pub mod Bounds
+pub mod SidesFrom
+pub mod Signed
+pub mod Inside
 pub mod Line
 pub mod Rows
 pub mod Side

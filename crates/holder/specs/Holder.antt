@@ -49,7 +49,7 @@ noWork =
       count = 0;
       anchor = record { col = 0; row = 0 };
       numbers = replicate 2032 (pos 0);
-      edges = 0
+      edges = 0;
     }
 
 unfoldable pub freshHolder : Holder
@@ -69,7 +69,7 @@ beginOf h s =
     (cond (badStart s) (record { reply = WasRefused Start; holder = h })
     (record {
       reply = Done;
-      holder = record { draft = record { begun = true; start = s; letters = h .draft .letters; count = 0 }; work = h .work }
+      holder = record { draft = record { begun = true; start = s; letters = h .draft .letters; count = 0 }; work = h .work };
     }))
 
 unfoldable pub addOf : Holder → ℕ → Answered
@@ -80,10 +80,10 @@ addOf h a =
     (record {
       reply = Done;
       holder =
-        record {
-          draft = record { begun = true; start = h .draft .start; letters = set (h .draft .letters) (h .draft .count) a; count = h .draft .count + 1 };
-          work = h .work
-        }
+          record {
+            draft = record { begun = true; start = h .draft .start; letters = set (h .draft .letters) (h .draft .count) a; count = h .draft .count + 1 };
+            work = h .work;
+          };
     })))
     (record { reply = NoDraft; holder = h })
 
@@ -112,19 +112,19 @@ closedBy h (Taken n c r) =
     record {
       reply = cond (sameOutline (h .draft) (h .work)) (Same n c r) (WasTaken n c r);
       holder =
-        record {
-          draft = ended (h .draft);
-          work =
-            record {
-              taken = true;
-              start = h .draft .start;
-              letters = h .draft .letters;
-              count = min (h .draft .count) longest;
-              anchor = record { col = c; row = r };
-              numbers = edgesAfter (h .draft .start) (draftLetters (h .draft)) lentList;
-              edges = n
-            }
-        }
+          record {
+            draft = ended (h .draft);
+            work =
+                record {
+                  taken = true;
+                  start = h .draft .start;
+                  letters = h .draft .letters;
+                  count = min (h .draft .count) longest;
+                  anchor = record { col = c; row = r };
+                  numbers = edgesAfter (h .draft .start) (draftLetters (h .draft)) lentList;
+                  edges = n;
+                };
+          };
     }
 
 unfoldable pub closeOf : Holder → Answered

@@ -1,1 +1,144 @@
 // Words over two ordered letters: Lyndon words, their factorisation, and Christoffel words.
+ghost use Prim.Native.Nat.{_+_, _%_, _<_, _≤_};
+ghost use mathlib.Core.Path.{_≡_};
+ghost use mathlib.Core.Bool.{_&&_};
+ghost use lib.ListN.{length, drop};
+ghost use Rattle.words.specs.Word.{wordOf, laters};
+ghost use Rattle.words.specs.Lyndon.{factorsOf};
+ghost use Rattle.words.specs.Christoffel.{coprime, remainders, christoffel};
+ghost use Rattle.words.specs.Search.{rankOf, firstOf, judged};
+
+// The first factor of a word: the letters of one copy, and how often it is repeated.
+pub struct Found {
+    pub length: usize,
+    pub times: usize,
+}
+
+// 1 for the later letter, 0 for any other.
+fn rank(letter: u8, later: u8) -> u8
+    ensures { λ r. ⌜ r ≡ rankOf letter later ⌝ }
+{
+    if letter == later { 1 } else { 0 }
+}
+
+// The first factor of what follows `from`, in one pass (source 000, Algorithm 1); 0 and 0 where nothing follows.
+pub fn first_factor(w: &[u8], from: usize, later: u8) -> Found
+    ensures { λ r. ⌜ r ≡ firstOf (factorsOf (wordOf later (drop from (now (w .entry))))) ⌝ }
+{
+    if w.len() <= from {
+        return Found {
+            length: 0,
+            times: 0,
+        };
+    }
+    let mut i = from;
+    let mut j = from + 1;
+    while j < w.len() {
+        let a = rank(w[i], later);
+        let b = rank(w[j], later);
+        if b < a {
+            break;
+        }
+        // A larger letter makes one Lyndon word of all that was read.
+        if a < b {
+            i = from;
+        } else {
+            i += 1;
+        }
+        j += 1;
+    }
+    let length = j - i;
+    Found {
+        length,
+        times: (j - from) / length,
+    }
+}
+
+// How many letters of `w` are the later one.
+pub fn count_later(w: &[u8], later: u8) -> usize
+    ensures { λ r. ⌜ r ≡ laters (wordOf later (now (w .entry))) ⌝ }
+{
+    let mut count: usize = 0;
+    let mut i = 0;
+    while i < w.len() {
+        if w[i] == later {
+            count += 1;
+        }
+        i += 1;
+    }
+    count
+}
+
+// (rem + k) mod n, by sums within n.
+fn next_remainder(rem: usize, k: usize, n: usize) -> usize
+    requires { ⌜ (rem < n) × (k ≤ n) ⌝ }
+    ensures { λ r. ⌜ r ≡ (rem + k) % n ⌝ }
+{
+    let left = n - k;
+    if rem < left { rem + k } else { rem - left }
+}
+
+// Whether the letters follow the remainders of i·k by the length (source 000, Algorithm 2, over all letters).
+fn follows_remainders(w: &[u8], k: usize, later: u8) -> bool
+    requires { ⌜ (0 < length (now w)) × (k ≤ length (now w)) ⌝ }
+    ensures { λ r. ⌜ r ≡ (coprime k (length (now (w .entry))) && remainders (wordOf later (now (w .entry))) k (length (now (w .entry)))) ⌝ }
+{
+    let mut rem: usize = 0;
+    let mut i = 0;
+    while i < w.len() {
+        // k and the length share a divisor exactly if a remainder before the last is 0.
+        if rem == 0 && 0 < i {
+            return false;
+        }
+        let next = next_remainder(rem, k, w.len());
+        // The letter is to be the earlier one exactly where the remainder grows.
+        if (w[i] == later) == (rem < next) {
+            return false;
+        }
+        rem = next;
+        i += 1;
+    }
+    true
+}
+
+// Whether `w` is a Christoffel word: either single letter is one, the empty word is none.
+pub fn is_christoffel(w: &[u8], later: u8) -> bool
+    ensures { λ r. ⌜ r ≡ christoffel (wordOf later (now (w .entry))) ⌝ }
+{
+    if w.len() < 2 {
+        return w.len() == 1;
+    }
+    let k = count_later(w, later);
+    follows_remainders(w, k, later)
+}
+
+// A factor, with the count of later letters in one copy, and whether it is a Christoffel word.
+pub struct Judged {
+    pub length: usize,
+    pub times: usize,
+    pub laters: usize,
+    pub christoffel: bool,
+}
+
+// One step of a walk over all factors: the first one of what follows `at`. The next begins times · length further on.
+pub fn factor_at(w: &[u8], at: usize, later: u8) -> Judged
+    ensures { λ r. ⌜ r ≡ judged (factorsOf (wordOf later (drop at (now (w .entry))))) ⌝ }
+{
+    if w.len() <= at {
+        return Judged {
+            length: 0,
+            times: 0,
+            laters: 0,
+            christoffel: false,
+        };
+    }
+    let found = first_factor(w, at, later);
+    let end = at + found.length;
+    let copy = &w[at..end];
+    Judged {
+        length: found.length,
+        times: found.times,
+        laters: count_later(copy, later),
+        christoffel: is_christoffel(copy, later),
+    }
+}

@@ -1,4 +1,4 @@
--- Numbers below a bound; the order, Lyndon words and their one factoring; counts of letters and Christoffel words.
+-- Numbers below a bound; the order, Lyndon words and their one factoring; counts of letters, Christoffel words and the dent criterion; the searches.
 pub mod BelowLaws
 pub mod Order
 pub mod Lyndon
@@ -10,3 +10,7 @@ pub mod Coprime
 pub mod Slope
 pub mod Dent
 pub mod Criterion
+pub mod WordOf
+pub mod FirstFactor
+pub mod RemainderWalk
+pub mod WalkLaws

@@ -1,0 +1,79 @@
+-- At most 1,016 edges: along each of the four directions the ring leaves at most 254 letters to two neighbouring words, and a factor has at
+-- least one letter.
+use Prim.Native.Nat.{ℕ, zero, suc, _+_, _*_, _≤_, _<_, zero-le}
+use native.Mathlib.Nat.{mul-pos}
+use native.Mathlib.Omega.{arith}
+use mathlib.Core.Path.{_≡_, refl, subst}
+use mathlib.Core.List.{List, [], _∷_, _++_}
+use lib.ListN.{length, length-append}
+use lib.IntN.{ℤ}
+use lib.Dec.{lit<}
+use Rattle.words.specs.Word.{Word, earliers, laters}
+use Rattle.words.specs.Lyndon.{Factor, Falling, none, last, then, Proper, written, copies, factorsOf}
+use Rattle.words.proofs.Counts.{earliers-laters, length-copies}
+use Rattle.words.proofs.Factors.{factors-exist}
+use Rattle.lattice.specs.declared.Point.{Point}
+use Rattle.convexity.specs.Frame.{Frame, frameOf}
+use Rattle.convexity.specs.Pieces.{word, factors, edgesOf, edges, edgeCount}
+use Rattle.convexity.proofs.Quadrant.{Clear, Shape, startE, startL}
+use Rattle.convexity.proofs.Shape.{shape}
+
+-- A proper factor writes at least one letter
+proper-length : (f : Factor) → Proper f → 0 < length (copies (f .times) (f .word))
+proper-length f p = rw length-copies (mul-pos (p .repeated) (p .lyndon .some))
+
+-- No more factors than letters
+falling-count : (fs : List Factor) → Falling fs → length fs ≤ length (written fs)
+unfolding written
+falling-count [] none = zero-le
+falling-count (f ∷ []) (last p) = simp length-append (omega (arith, proper-length f p))
+falling-count (f ∷ g ∷ fs) (then p l r) = simp length-append (omega (arith, proper-length f p, falling-count (g ∷ fs) r, length-append (copies (g .times) (g .word)) (written fs)))
+
+pub factors-count : (w : Word) → length (factorsOf w) ≤ length w
+factors-count w =
+    let e = factors-exist w in
+    subst (λ (v : Word). length (factorsOf w) ≤ length v) (e .whole) (falling-count (factorsOf w) (e .falling))
+
+-- No more edges in a piece than letters in its word
+piece-count : (s : Point) (t : List ℕ) (k : ℕ) → length (factors s t k) ≤ earliers (word s t k) + laters (word s t k)
+unfolding factors
+piece-count s t k = rw earliers-laters (factors-count (word s t k))
+
+-- Two neighbouring words share the chart's 255 corner lines in the direction of the first one's earlier letter
+module _ (s : Point) (t : List ℕ) (h : Shape s t) where
+  pub neighbours-0 : earliers (word s t 0) + laters (word s t 1) ≤ 254
+  neighbours-0 = omega (arith, h .next-later 0 (lit< tt), h .next-earlier 1 (lit< tt))
+
+  pub neighbours-1 : earliers (word s t 1) + laters (word s t 2) ≤ 254
+  neighbours-1 = omega (arith, h .next-later 1 (lit< tt), h .next-earlier 2 (lit< tt))
+
+  pub neighbours-2 : earliers (word s t 2) + laters (word s t 3) ≤ 254
+  neighbours-2 = omega (arith, h .next-later 2 (lit< tt), h .last-earlier)
+
+  pub neighbours-3 : earliers (word s t 3) + laters (word s t 0) ≤ 254
+  neighbours-3 = omega (arith, h .last-later, h .next-earlier 0 (lit< tt))
+
+pub edges-bounded : (s : Point) (t : List ℕ) → Clear s t → edgeCount s t ≤ 1016
+unfolding edgeCount
+edges-bounded s t c =
+    let h = shape s t c in
+    omega
+    (arith,
+    neighbours-0 s t h,
+    neighbours-1 s t h,
+    neighbours-2 s t h,
+    neighbours-3 s t h,
+    piece-count s t 0,
+    piece-count s t 1,
+    piece-count s t 2,
+    piece-count s t 3)
+
+-- Two numbers an edge
+edges-of-length : (f : Frame) (fs : List Factor) → length (edgesOf f fs) ≡ 2 * length fs
+unfolding edgesOf
+edges-of-length f [] = refl
+edges-of-length f (g ∷ fs) = omega (arith, edges-of-length f fs)
+
+pub edges-length : (s : Point) (t : List ℕ) → length (edges s t) ≡ 2 * edgeCount s t
+unfolding edges edgeCount
+edges-length s t = simp (length-append, edges-of-length) (omega arith)

@@ -1,0 +1,374 @@
+-- The edges answer for a cell piece by piece: the walk of the edges passes through the first cells of the four pieces, which hold its extremes, and each
+-- piece's side values are read in its own frame.
+use Prim.Native.Nat.{ℕ, zero, suc, _+_, _≤_, _<_}
+use native.Mathlib.Nat.{le-refl}
+use native.Mathlib.Decide.{decLe}
+use native.Mathlib.Omega.{arith}
+use mathlib.Core.Path.{_≡_, refl, sym, ap, _∙_}
+use mathlib.Core.Logic.{_↔_, Iff·trans, Iff·and, _⊎_, inl, inr, ⊎-elim, ⊎-map}
+use mathlib.Core.Bool.{Bool, true, false, cond, and-eq-true-iff}
+use mathlib.Core.List.{List, [], _∷_, _++_}
+use lib.IntN.{ℤ, pos, _+ℤ_, +ℤ-assoc, +ℤ-idr}
+use Rattle.words.specs.Word.{earliers, laters}
+use Rattle.words.specs.Lyndon.{Factor, copies, written}
+use Rattle.words.proofs.Factors.{factors-exist}
+use Rattle.words.proofs.Counts.{earliers-append, laters-append, earliers-copies, laters-copies}
+use Rattle.lattice.specs.declared.Point.{Point}
+use Rattle.lattice.specs.Chart.{walk, cornerAt}
+use Rattle.convexity.specs.Frame.{Frame, frameOf, along}
+use Rattle.convexity.specs.Cut.{cut}
+use Rattle.convexity.specs.Pieces.{word, factors, edgesOf, edges}
+use Rattle.convexity.specs.Inside.{leℤ, minℤ, maxℤ, noneOutside, colSteps, rowSteps, lowestMet, highestMet, within, insideEdges}
+use Rattle.convexity.proofs.Frame.{Sides, run, rise}
+use Rattle.convexity.proofs.Quadrant.{Shape, startOf, startE, startL, cellAlong, cellE, cellL}
+use Rattle.convexity.proofs.Signed.{up, down, is-self, is-add, is-unique, le-iff, Counted, Lies, Placed, placed-cell, stepCols, stepRows, step-lies, lies-step, reached, lies-end, lies-sides, none-outside-append, cols-append, rows-append, reached-append}
+
+-- ---- the vertices of a walk
+
+-- Some vertex of the walk of es from (x, y) has P
+unfoldable pub Meets : (ℤ → ℤ → Type 0) → List ℤ → ℤ → ℤ → Type 0
+Meets P [] x y = P x y
+Meets P (dx ∷ []) x y = P x y
+Meets P (dx ∷ dy ∷ es) x y = P x y ⊎ Meets P es (x +ℤ dx) (y +ℤ dy)
+
+le-true : (a b : ℤ) → (leℤ a b ≡ true) ↔ (up a + down b ≤ up b + down a)
+le-true a b = le-iff (is-self a) (is-self b)
+
+le-false : (a b : ℤ) → leℤ a b ≡ false → up b + down a ≤ up a + down b
+le-false a b e =
+    elim (decLe (up a + down b) (up b + down a)) [
+      | yes h ↦ absurd (let f = le-true a b .1 h in let z : _≡_ {A = ℕ} 0 1 = cc in omega arith)
+      | no h ↦ omega arith
+    ]
+
+min-iff : (a b c : ℤ) → (leℤ (minℤ a b) c ≡ true) ↔ ((leℤ a c ≡ true) ⊎ (leℤ b c ≡ true))
+unfolding minℤ
+min-iff a b c = go (leℤ a b) refl
+  where
+    go : (t : Bool) → leℤ a b ≡ t → (leℤ (cond t a b) c ≡ true) ↔ ((leℤ a c ≡ true) ⊎ (leℤ b c ≡ true))
+    go true e = (inl, ⊎-elim (λ h. h) λ h. le-true a c .1 (omega (arith, le-true a b .0 e, le-true b c .0 h)))
+    go false e = (inr, ⊎-elim (λ h. le-true b c .1 (omega (arith, le-false a b e, le-true a c .0 h))) λ h. h)
+
+max-iff : (a b c : ℤ) → (leℤ c (maxℤ a b) ≡ true) ↔ ((leℤ c a ≡ true) ⊎ (leℤ c b ≡ true))
+unfolding maxℤ
+max-iff a b c = go (leℤ a b) refl
+  where
+    go : (t : Bool) → leℤ a b ≡ t → (leℤ c (cond t b a) ≡ true) ↔ ((leℤ c a ≡ true) ⊎ (leℤ c b ≡ true))
+    go true e = (inr, ⊎-elim (λ h. le-true c b .1 (omega (arith, le-true a b .0 e, le-true c a .0 h))) λ h. h)
+    go false e = (inl, ⊎-elim (λ h. h) λ h. le-true c a .1 (omega (arith, le-false a b e, le-true c b .0 h)))
+
+either : {A B C D : Type 0} → A ↔ (B ⊎ C) → C ↔ D → A ↔ (B ⊎ D)
+either f g = ((λ a. ⊎-map (λ b. b) (g .0) (f .0 a)), λ d. f .1 (⊎-map (λ b. b) (g .1) d))
+
+or-assoc : {A B C D : Type 0} → B ↔ (C ⊎ D) → (A ⊎ B) ↔ ((A ⊎ C) ⊎ D)
+or-assoc f = (
+  ⊎-elim (λ a. inl (inl a)) (λ b. ⊎-map inr (λ d. d) (f .0 b)),
+  ⊎-elim (⊎-map (λ a. a) λ c. f .1 (inl c)) λ d. inr (f .1 (inr d)),
+)
+
+-- The lowest and the highest number met are at most, at least a number where some vertex is
+lowest-col-iff : (es : List ℤ) (x y c : ℤ) → (leℤ (lowestMet (colSteps es) x) c ≡ true) ↔ Meets (λ v w. leℤ v c ≡ true) es x y
+unfolding lowestMet colSteps Meets
+lowest-col-iff [] x y c = ((λ h. h), λ h. h)
+lowest-col-iff (dx ∷ []) x y c = ((λ h. h), λ h. h)
+lowest-col-iff (dx ∷ dy ∷ es) x y c = either (min-iff x (lowestMet (colSteps es) (x +ℤ dx)) c) (lowest-col-iff es (x +ℤ dx) (y +ℤ dy) c)
+
+highest-col-iff : (es : List ℤ) (x y c : ℤ) → (leℤ c (highestMet (colSteps es) x) ≡ true) ↔ Meets (λ v w. leℤ c v ≡ true) es x y
+unfolding highestMet colSteps Meets
+highest-col-iff [] x y c = ((λ h. h), λ h. h)
+highest-col-iff (dx ∷ []) x y c = ((λ h. h), λ h. h)
+highest-col-iff (dx ∷ dy ∷ es) x y c = either (max-iff x (highestMet (colSteps es) (x +ℤ dx)) c) (highest-col-iff es (x +ℤ dx) (y +ℤ dy) c)
+
+lowest-row-iff : (es : List ℤ) (x y r : ℤ) → (leℤ (lowestMet (rowSteps es) y) r ≡ true) ↔ Meets (λ v w. leℤ w r ≡ true) es x y
+unfolding lowestMet rowSteps Meets
+lowest-row-iff [] x y r = ((λ h. h), λ h. h)
+lowest-row-iff (dx ∷ []) x y r = ((λ h. h), λ h. h)
+lowest-row-iff (dx ∷ dy ∷ es) x y r = either (min-iff y (lowestMet (rowSteps es) (y +ℤ dy)) r) (lowest-row-iff es (x +ℤ dx) (y +ℤ dy) r)
+
+highest-row-iff : (es : List ℤ) (x y r : ℤ) → (leℤ r (highestMet (rowSteps es) y) ≡ true) ↔ Meets (λ v w. leℤ r w ≡ true) es x y
+unfolding highestMet rowSteps Meets
+highest-row-iff [] x y r = ((λ h. h), λ h. h)
+highest-row-iff (dx ∷ []) x y r = ((λ h. h), λ h. h)
+highest-row-iff (dx ∷ dy ∷ es) x y r = either (max-iff y (highestMet (rowSteps es) (y +ℤ dy)) r) (highest-row-iff es (x +ℤ dx) (y +ℤ dy) r)
+
+meets-here : (P : ℤ → ℤ → Type 0) (es : List ℤ) (x y : ℤ) → P x y → Meets P es x y
+unfolding Meets
+meets-here P [] x y h = h
+meets-here P (dx ∷ []) x y h = h
+meets-here P (dx ∷ dy ∷ es) x y h = inl h
+
+-- A vertex of a piece's edges and those after them is one of the piece's, or one of those after it
+meets-append :
+    (P : ℤ → ℤ → Type 0) (f : Frame) (fs : List Factor) (es : List ℤ) (x y : ℤ)
+    → Meets P (edgesOf f fs ++ es) x y ↔ (Meets P (edgesOf f fs) x y ⊎ Meets P es (reached (colSteps (edgesOf f fs)) x) (reached (rowSteps (edgesOf f fs)) y))
+unfolding Meets edgesOf colSteps rowSteps reached
+meets-append P f [] es x y = (inr, ⊎-elim (meets-here P es x y) λ h. h)
+meets-append P f (g ∷ gs) es x y = or-assoc (meets-append P f gs es (x +ℤ stepCols f (run g) (rise g)) (y +ℤ stepRows f (run g) (rise g)))
+
+-- A vertex on the way along a piece, from vp along the earlier letter and vq along the later, e and l letters far
+pub record Passed (k o vp vq e l : ℕ) (v w : ℤ) : Type 0 where
+  pub p : ℕ
+  pub q : ℕ
+  pub lies : Lies k o p q v w
+  pub p-from : vp ≤ p
+  pub p-upto : p ≤ vp + e
+  pub q-from : vq ≤ q
+  pub q-upto : q ≤ vq + l
+
+passed-start : {k o vp vq : ℕ} {x y : ℤ} (e l : ℕ) → Lies k o vp vq x y → Passed k o vp vq e l x y
+passed-start {vp = vp} {vq = vq} e l h = record { p = vp; q = vq; lies = h; p-from = le-refl vp; p-upto = omega arith; q-from = le-refl vq; q-upto = omega arith }
+
+-- What follows from P at every vertex on the way along a piece follows where its edges meet one
+meets-passed :
+    (P : ℤ → ℤ → Type 0) (N : Type 0) (k : ℕ) (fs : List Factor) {o vp vq : ℕ} {x y : ℤ} → Lies k o vp vq x y
+    → ((v w : ℤ) → Passed k o vp vq (earliers (written fs)) (laters (written fs)) v w → P v w → N) → Meets P (edgesOf (frameOf k) fs) x y → N
+unfolding Meets edgesOf written
+meets-passed P N k [] {x = x} {y = y} h f m = f x y (passed-start _ _ h) m
+meets-passed P N k (g ∷ gs) {o = o} {vp = vp} {vq = vq} {x = x} {y = y} h f m =
+    ⊎-elim (f x y (passed-start _ _ h)) (meets-passed P N k gs (lies-step k h (step-lies k (run g) (rise g))) λ v w i. f v w (further i)) m
+  where
+    further :
+        {v w : ℤ} → Passed k o (vp + run g) (vq + rise g) (earliers (written gs)) (laters (written gs)) v w
+        → Passed k o vp vq (earliers (copies (g .times) (g .word) ++ written gs)) (laters (copies (g .times) (g .word) ++ written gs)) v w
+    further i =
+        let across = earliers-append (copies (g .times) (g .word)) (written gs) in
+        let upward = laters-append (copies (g .times) (g .word)) (written gs) in
+        let e = earliers-copies (g .times) (g .word) in
+        let l = laters-copies (g .times) (g .word) in
+        record { p = i .p; q = i .q; lies = i .lies; p-from = omega arith; p-upto = omega arith; q-from = omega arith; q-upto = omega arith }
+
+-- ---- the ring of the four pieces
+
+below-four : (P : ℕ → Type 0) → P 0 → P 1 → P 2 → P 3 → (k : ℕ) → k < 4 → P k
+below-four P a b c d zero h = a
+below-four P a b c d (suc zero) h = b
+below-four P a b c d (suc (suc zero)) h = c
+below-four P a b c d (suc (suc (suc zero))) h = d
+below-four P a b c d (suc (suc (suc (suc k)))) h = absurd (omega arith)
+
+module _ (s : Point) (t : List ℕ) where
+  -- The first cell of piece k on the walk of the edges
+  unfoldable pub firstCol : ℕ → ℤ
+  firstCol zero = pos (s .col)
+  firstCol (suc k) = reached (colSteps (edgesOf (frameOf k) (factors s t k))) (firstCol k)
+
+  unfoldable pub firstRow : ℕ → ℤ
+  firstRow zero = pos (s .row)
+  firstRow (suc k) = reached (rowSteps (edgesOf (frameOf k) (factors s t k))) (firstRow k)
+
+  -- The ring's equations, one by one
+  record Ring : Type 0 where
+    later-1 : startL s t 1 ≡ startE s t 0 + earliers (word s t 0)
+    later-2 : startL s t 2 ≡ startE s t 1 + earliers (word s t 1)
+    later-3 : startL s t 3 ≡ startE s t 2 + earliers (word s t 2)
+    later-0 : startL s t 0 ≡ startE s t 3 + earliers (word s t 3)
+    earlier-1 : startE s t 1 + startL s t 0 + 1 + laters (word s t 0) ≡ 255
+    earlier-2 : startE s t 2 + startL s t 1 + 1 + laters (word s t 1) ≡ 255
+    earlier-3 : startE s t 3 + startL s t 2 + 1 + laters (word s t 2) ≡ 255
+    earlier-0 : startE s t 0 + startL s t 3 + 1 + laters (word s t 3) ≡ 255
+
+  ring : Shape s t → Ring
+  ring h =
+      record {
+        later-1 = h .next-later 0 (omega arith);
+        later-2 = h .next-later 1 (omega arith);
+        later-3 = h .next-later 2 (omega arith);
+        later-0 = h .last-later;
+        earlier-1 = h .next-earlier 0 (omega arith);
+        earlier-2 = h .next-earlier 1 (omega arith);
+        earlier-3 = h .next-earlier 2 (omega arith);
+        earlier-0 = h .last-earlier;
+      }
+
+  whole-piece : (k : ℕ) → written (factors s t k) ≡ word s t k
+  unfolding factors
+  whole-piece k = factors-exist (word s t k) .whole
+
+  first-placed-0 : Placed 0 (startE s t 0) (startL s t 0) (firstCol 0) (firstRow 0)
+  unfolding firstCol firstRow startE startL startOf along frameOf cut cornerAt walk Counted
+  first-placed-0 = record { counted = omega arith }
+
+  -- The next piece starts where the edges of this one end
+  turn :
+      Ring → (k : ℕ) → k < 3 → {x y : ℤ} → Placed k (startE s t k + earliers (word s t k)) (startL s t k + laters (word s t k)) x y
+      → Placed (suc k) (startE s t (suc k)) (startL s t (suc k)) x y
+  unfolding Counted
+  turn g zero l h = record { counted = omega arith }
+  turn g (suc zero) l h = record { counted = omega arith }
+  turn g (suc (suc zero)) l h = record { counted = omega arith }
+  turn g (suc (suc (suc k))) l h = absurd (omega arith)
+
+  turn-last : Ring → {x y : ℤ} → Placed 3 (startE s t 3 + earliers (word s t 3)) (startL s t 3 + laters (word s t 3)) x y → Placed 0 (startE s t 0) (startL s t 0) x y
+  unfolding Counted
+  turn-last g h = record { counted = omega arith }
+
+  first-placed : Ring → (k : ℕ) → k < 4 → Placed k (startE s t k) (startL s t k) (firstCol k) (firstRow k)
+  unfolding firstCol firstRow
+  first-placed g zero l = first-placed-0
+  first-placed g (suc k) l = turn g k (omega arith) (rw whole-piece at (lies-end k (factors s t k) (first-placed g k (omega arith))))
+
+  -- The last piece ends at the first cell of the first
+  last-placed : Ring → Placed 0 (startE s t 0) (startL s t 0) (firstCol 4) (firstRow 4)
+  unfolding firstCol firstRow
+  last-placed g = turn-last g (rw whole-piece at (lies-end 3 (factors s t 3) (first-placed g 3 (omega arith))))
+
+  -- The box of the four first cells
+  record Box (v w : ℤ) : Type 0 where
+    west : startE s t 0 + down v ≤ up v
+    north : startE s t 1 + up w ≤ 254 + down w
+    east : startE s t 2 + up v ≤ 254 + down v
+    south : startE s t 3 + down w ≤ up w
+
+  boxed : Ring → (k : ℕ) → k < 4 → {v w : ℤ} → Passed k 254 (startE s t k) (startL s t k) (earliers (word s t k)) (laters (word s t k)) v w → Box v w
+  unfolding Counted
+  boxed g zero l i = omega arith
+  boxed g (suc zero) l i = omega arith
+  boxed g (suc (suc zero)) l i = omega arith
+  boxed g (suc (suc (suc zero))) l i = omega arith
+  boxed g (suc (suc (suc (suc k)))) l i = absurd (omega arith)
+
+  -- Some vertex of piece k has P
+  abbrev MeetsPiece : (ℤ → ℤ → Type 0) → ℕ → Type 0
+  MeetsPiece P k = Meets P (edgesOf (frameOf k) (factors s t k)) (firstCol k) (firstRow k)
+
+  abbrev MeetsSome : (ℤ → ℤ → Type 0) → Type 0
+  MeetsSome P = MeetsPiece P 0 ⊎ (MeetsPiece P 1 ⊎ (MeetsPiece P 2 ⊎ MeetsPiece P 3))
+
+  meets-edges : (P : ℤ → ℤ → Type 0) → Meets P (edges s t) (pos (s .col)) (pos (s .row)) ↔ MeetsSome P
+  unfolding edges firstCol firstRow
+  meets-edges P = either (meets-append P _ _ _ _ _) (either (meets-append P _ _ _ _ _) (meets-append P _ _ _ _ _))
+
+  -- What follows from P in the box, and gives P at the first cell of piece k, holds where the walk of the edges meets P
+  extreme :
+      Ring → (P : ℤ → ℤ → Type 0) (N : Type 0) → ((v w : ℤ) → Box v w → P v w → N) → (k : ℕ) → k < 4 → (N → P (firstCol k) (firstRow k))
+      → Meets P (edges s t) (pos (s .col)) (pos (s .row)) ↔ N
+  extreme g P N f k l b = (
+    λ m. ⊎-elim (passes 0 (omega arith)) (⊎-elim (passes 1 (omega arith)) (⊎-elim (passes 2 (omega arith)) (passes 3 (omega arith)))) (meets-edges P .0 m),
+    λ n. meets-edges P .1 (among k l (meets-here P _ _ _ (b n))),
+  )
+    where
+      passes : (j : ℕ) → j < 4 → MeetsPiece P j → N
+      passes j h = meets-passed P N j (factors s t j) (first-placed g j h) λ v w i. f v w (boxed g j h (rw whole-piece at i))
+
+      among : (j : ℕ) → j < 4 → MeetsPiece P j → MeetsSome P
+      among = below-four (λ j. MeetsPiece P j → MeetsSome P) inl (λ m. inr (inl m)) (λ m. inr (inr (inl m))) (λ m. inr (inr (inr m)))
+
+  -- No side value of piece k is below 0, in its frame
+  abbrev RightSide : Point → ℕ → Type 0
+  RightSide x k = Sides (factors s t k) (startE s t k) (startL s t k) (cellE k x) (cellL k x)
+
+  module _ (g : Ring) (x : Point) (x-col : x .col < 255) (x-row : x .row < 255) where
+    -- The walk's lowest column is that of the first cell of piece 0, its highest row that of piece 1, and so on
+    lowest-col : (leℤ (lowestMet (colSteps (edges s t)) (pos (s .col))) (pos (x .col)) ≡ true) ↔ (startE s t 0 ≤ cellE 0 x)
+    unfolding Counted cellE cellAlong frameOf
+    lowest-col =
+        let h = first-placed g 0 (omega arith) in
+        let c : ℤ = pos (x .col) in
+        Iff·trans (lowest-col-iff (edges s t) (pos (s .col)) (pos (s .row)) c)
+        (extreme g (λ v w. leℤ v c ≡ true) (startE s t 0 ≤ cellE 0 x) (λ v w b m. omega (arith, le-true v c .0 m)) 0 (omega arith)
+        λ n. le-true (firstCol 0) c .1 (omega arith))
+
+    highest-row : (leℤ (pos (x .row)) (highestMet (rowSteps (edges s t)) (pos (s .row))) ≡ true) ↔ (startE s t 1 ≤ cellE 1 x)
+    unfolding Counted cellE cellAlong frameOf
+    highest-row =
+        let h = first-placed g 1 (omega arith) in
+        let r : ℤ = pos (x .row) in
+        Iff·trans (highest-row-iff (edges s t) (pos (s .col)) (pos (s .row)) r)
+        (extreme g (λ v w. leℤ r w ≡ true) (startE s t 1 ≤ cellE 1 x) (λ v w b m. omega (arith, le-true r w .0 m)) 1 (omega arith)
+        λ n. le-true r (firstRow 1) .1 (omega arith))
+
+    highest-col : (leℤ (pos (x .col)) (highestMet (colSteps (edges s t)) (pos (s .col))) ≡ true) ↔ (startE s t 2 ≤ cellE 2 x)
+    unfolding Counted cellE cellAlong frameOf
+    highest-col =
+        let h = first-placed g 2 (omega arith) in
+        let c : ℤ = pos (x .col) in
+        Iff·trans (highest-col-iff (edges s t) (pos (s .col)) (pos (s .row)) c)
+        (extreme g (λ v w. leℤ c v ≡ true) (startE s t 2 ≤ cellE 2 x) (λ v w b m. omega (arith, le-true c v .0 m)) 2 (omega arith)
+        λ n. le-true c (firstCol 2) .1 (omega arith))
+
+    lowest-row : (leℤ (lowestMet (rowSteps (edges s t)) (pos (s .row))) (pos (x .row)) ≡ true) ↔ (startE s t 3 ≤ cellE 3 x)
+    unfolding Counted cellE cellAlong frameOf
+    lowest-row =
+        let h = first-placed g 3 (omega arith) in
+        let r : ℤ = pos (x .row) in
+        Iff·trans (lowest-row-iff (edges s t) (pos (s .col)) (pos (s .row)) r)
+        (extreme g (λ v w. leℤ w r ≡ true) (startE s t 3 ≤ cellE 3 x) (λ v w b m. omega (arith, le-true w r .0 m)) 3 (omega arith)
+        λ n. le-true (firstRow 3) r .1 (omega arith))
+
+    none-outside-iff :
+        (noneOutside (edges s t) (pos (s .col)) (pos (s .row)) (pos (x .col)) (pos (x .row)) ≡ true)
+        ↔ (RightSide x 0 × (RightSide x 1 × (RightSide x 2 × RightSide x 3)))
+    unfolding edges firstCol firstRow
+    none-outside-iff = split 0 _ (omega arith) (split 1 _ (omega arith) (split 2 _ (omega arith) (sides 3 (omega arith))))
+      where
+        sides : (k : ℕ) → k < 4 → (noneOutside (edgesOf (frameOf k) (factors s t k)) (firstCol k) (firstRow k) (pos (x .col)) (pos (x .row)) ≡ true) ↔ RightSide x k
+        sides k l = lies-sides k (factors s t k) (first-placed g k l) (placed-cell k x x-col x-row)
+
+        split :
+            (k : ℕ) (es : List ℤ) → k < 4 → {A : Type 0} → (noneOutside es (firstCol (suc k)) (firstRow (suc k)) (pos (x .col)) (pos (x .row)) ≡ true) ↔ A
+            → (noneOutside (edgesOf (frameOf k) (factors s t k) ++ es) (firstCol k) (firstRow k) (pos (x .col)) (pos (x .row)) ≡ true) ↔ (RightSide x k × A)
+        split k es l i = rw (none-outside-append (frameOf k) es) (Iff·trans (and-eq-true-iff _ _) (Iff·and (sides k l) i))
+
+-- Columns, then rows, then side values: two facts of each piece
+gather : (A B : ℕ → Type 0) → (((A 0 × A 2) × (A 3 × A 1)) × (B 0 × (B 1 × (B 2 × B 3)))) ↔ ((k : ℕ) → k < 4 → A k × B k)
+gather A B = (
+  λ h. below-four (λ k. A k × B k) (h .0 .0 .0, h .1 .0) (h .0 .1 .1, h .1 .1 .0) (h .0 .0 .1, h .1 .1 .1 .0) (h .0 .1 .0, h .1 .1 .1 .1),
+  λ h.
+      let w = h 0 (omega arith) in
+      let n = h 1 (omega arith) in
+      let e = h 2 (omega arith) in
+      let o = h 3 (omega arith) in
+      (((w .0, e .0), (o .0, n .0)), (w .1, (n .1, (e .1, o .1)))),
+)
+
+-- The rule of a loose query, read in the four frames
+pub inside-iff :
+    (s : Point) (t : List ℕ) → Shape s t → (x : Point) → x .col < 255 → x .row < 255
+    → (insideEdges s (edges s t) x ≡ true)
+    ↔ ((k : ℕ) → k < 4 → (startE s t k ≤ cellE k x) × Sides (factors s t k) (startE s t k) (startL s t k) (cellE k x) (cellL k x))
+unfolding insideEdges within
+inside-iff s t h x c r =
+    let g = ring s t h in
+    let cols = Iff·trans (and-eq-true-iff _ _) (Iff·and (lowest-col s t g x c r) (highest-col s t g x c r)) in
+    let rows = Iff·trans (and-eq-true-iff _ _) (Iff·and (lowest-row s t g x c r) (highest-row s t g x c r)) in
+    Iff·trans (and-eq-true-iff _ _) (Iff·trans (Iff·and (Iff·trans (and-eq-true-iff _ _) (Iff·and cols rows)) (none-outside-iff s t g x c r))
+    (gather (λ k. startE s t k ≤ cellE k x) (RightSide s t x)))
+
+-- ---- the edges close
+
+-- The sum of a list
+unfoldable pub total : List ℤ → ℤ
+total [] = pos 0
+total (d ∷ ds) = d +ℤ total ds
+
+pub reached-total : (ds : List ℤ) (x : ℤ) → reached ds x ≡ x +ℤ total ds
+unfolding reached total
+reached-total [] x = sym (+ℤ-idr x)
+reached-total (d ∷ ds) x = reached-total ds (x +ℤ d) ∙ +ℤ-assoc x d (total ds)
+
+total-nil : (ds : List ℤ) (x : ℤ) → reached ds x ≡ x → total ds ≡ pos 0
+total-nil ds x e =
+    let sum = is-add (is-self x) (is-self (total ds)) in
+    is-unique (is-self (total ds)) (is-self (pos 0)) (omega (arith, sum .eq, ap up (sym (reached-total ds x) ∙ e), ap down (sym (reached-total ds x) ∙ e)))
+
+module _ (s : Point) (t : List ℕ) where
+  cols-reached : reached (colSteps (edges s t)) (pos (s .col)) ≡ firstCol s t 4
+  unfolding edges firstCol
+  cols-reached = simp (cols-append, reached-append)
+
+  rows-reached : reached (rowSteps (edges s t)) (pos (s .row)) ≡ firstRow s t 4
+  unfolding edges firstRow
+  rows-reached = simp (rows-append, reached-append)
+
+  -- The walk of the edges ends at the anchor
+  pub edges-return :
+      Shape s t → (reached (colSteps (edges s t)) (pos (s .col)) ≡ pos (s .col)) × (reached (rowSteps (edges s t)) (pos (s .row)) ≡ pos (s .row))
+  unfolding Counted firstCol firstRow
+  edges-return h =
+      let start = first-placed-0 s t .counted in
+      let stop = last-placed s t (ring s t h) .counted in
+      (cols-reached ∙ is-unique (stop .0) (start .0) refl, rows-reached ∙ is-unique (stop .1) (start .1) refl)
+
+  -- The edges sum to nil
+  pub edges-close : Shape s t → (total (colSteps (edges s t)) ≡ pos 0) × (total (rowSteps (edges s t)) ≡ pos 0)
+  edges-close h = (total-nil _ _ (edges-return h .0), total-nil _ _ (edges-return h .1))

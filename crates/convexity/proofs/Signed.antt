@@ -1,0 +1,235 @@
+-- A side value is one and the same difference of naturals in all four frames: an integer is read as a difference, and only the table of the frames' places differs.
+use Prim.Native.Nat.{ℕ, zero, suc, _+_, _-_, _*_, _≤_, _<_}
+use native.Mathlib.Nat.{add-zero}
+use native.Mathlib.Omega.{arith}
+use mathlib.Core.Path.{_≡_, refl, sym, ap, _∙_}
+use mathlib.Core.Logic.{_↔_, Iff·trans, Iff·and}
+use mathlib.Core.Bool.{Bool, true, false, cond, _&&_, and-eq-true-iff, and-assoc}
+use mathlib.Core.List.{List, [], _∷_, _++_}
+use lib.Dec.{ltb}
+use lib.IntN.{ℤ, pos, negsuc, negℤ, subℕ, _+ℤ_, _-ℤ_, _*ℤ_}
+use borrow.Author.Tests.{ltb-true, ltb-false}
+use Rattle.words.specs.Word.{Word, earliers, laters}
+use Rattle.words.specs.Lyndon.{Factor, copies, written}
+use Rattle.words.proofs.Counts.{earliers-append, laters-append, earliers-copies, laters-copies}
+use Rattle.lattice.specs.declared.Point.{Point}
+use Rattle.convexity.specs.Frame.{Frame, frameOf}
+use Rattle.convexity.specs.Pieces.{edgesOf}
+use Rattle.convexity.specs.Inside.{notNegative, leℤ, sideValue, noneOutside, colSteps, rowSteps}
+use Rattle.convexity.proofs.Frame.{Sides, run, rise}
+use Rattle.convexity.proofs.Quadrant.{cellAlong, cellE, cellL}
+
+-- ---- integers as differences
+
+-- An integer is its part above 0 less its part below 0
+abbrev pub up : ℤ → ℕ
+up (pos n) = n
+up (negsuc n) = 0
+
+abbrev pub down : ℤ → ℕ
+down (pos n) = 0
+down (negsuc n) = suc n
+
+-- z is a - b
+pub record Is (z : ℤ) (a b : ℕ) : Type 0 where
+  pub eq : up z + b ≡ a + down z
+
+pub is-self : (z : ℤ) → Is z (up z) (down z)
+is-self z = record { eq = refl }
+
+pub is-unique : {x y : ℤ} {a b c d : ℕ} → Is x a b → Is y c d → a + d ≡ c + b → x ≡ y
+is-unique {x = pos m} {y = pos n} h k e = ap pos (omega arith)
+is-unique {x = pos m} {y = negsuc n} h k e = absurd (omega arith)
+is-unique {x = negsuc m} {y = pos n} h k e = absurd (omega arith)
+is-unique {x = negsuc m} {y = negsuc n} h k e = ap negsuc (omega arith)
+
+is-sub : (a b : ℕ) → Is (subℕ a b) a b
+is-sub a b = go (ltb a b) refl
+  where
+    go : (t : Bool) → ltb a b ≡ t → Is (cond t (negsuc (b - suc a)) (pos (a - b))) a b
+    go true e = record { eq = omega (arith, ltb-true a b e) }
+    go false e = record { eq = omega (arith, ltb-false a b e) }
+
+pub is-neg : {x : ℤ} {a b : ℕ} → Is x a b → Is (negℤ x) b a
+is-neg {x = pos zero} h = record { eq = omega arith }
+is-neg {x = pos (suc m)} h = record { eq = omega arith }
+is-neg {x = negsuc m} h = record { eq = omega arith }
+
+pub is-add : {x y : ℤ} {a b c d : ℕ} → Is x a b → Is y c d → Is (x +ℤ y) (a + c) (b + d)
+is-add {x = pos m} {y = pos n} h k = record { eq = omega arith }
+is-add {x = pos m} {y = negsuc n} h k = record { eq = omega (arith, is-sub m (suc n) .eq) }
+is-add {x = negsuc m} {y = pos n} h k = record { eq = omega (arith, is-sub n (suc m) .eq) }
+is-add {x = negsuc m} {y = negsuc n} h k = record { eq = omega arith }
+
+pub is-minus : {x y : ℤ} {a b c d : ℕ} → Is x a b → Is y c d → Is (x -ℤ y) (a + d) (b + c)
+is-minus h k = is-add h (is-neg k)
+
+-- The product of the parts
+is-mul-self : (x y : ℤ) → Is (x *ℤ y) (up x * up y + down x * down y) (up x * down y + down x * up y)
+is-mul-self (pos m) (pos n) = record { eq = omega arith }
+is-mul-self (pos m) (negsuc n) = record { eq = omega (arith, is-neg (is-self (pos (m * suc n))) .eq) }
+is-mul-self (negsuc m) (pos n) = record { eq = omega (arith, is-neg (is-self (pos (suc m * n))) .eq) }
+is-mul-self (negsuc m) (negsuc n) = record { eq = omega arith }
+
+mul-differences : (u d u′ d′ a b c e : ℕ) → u + b ≡ a + d → u′ + e ≡ c + d′ → u * u′ + d * d′ + (a * e + b * c) ≡ a * c + b * e + (u * d′ + d * u′)
+mul-differences u d u′ d′ a b c e h k =
+    omega (arith, ap (λ (n : ℕ). n * u′) h, ap (λ (n : ℕ). n * d′) h, ap (λ (n : ℕ). a * n) k, ap (λ (n : ℕ). b * n) k)
+
+pub is-mul : {x y : ℤ} {a b c d : ℕ} → Is x a b → Is y c d → Is (x *ℤ y) (a * c + b * d) (a * d + b * c)
+is-mul {x} {y} {a} {b} {c} {d} h k =
+    let e = mul-differences (up x) (down x) (up y) (down y) a b c d (h .eq) (k .eq) in
+    record { eq = omega (arith, is-mul-self x y .eq) }
+
+pub not-negative-iff : {z : ℤ} {a b : ℕ} → Is z a b → (notNegative z ≡ true) ↔ (b ≤ a)
+unfolding notNegative
+not-negative-iff {z = pos n} h = ((λ e. omega arith), λ l. refl)
+not-negative-iff {z = negsuc n} h = ((λ e. absurd (let w : _≡_ {A = ℕ} 0 1 = cc in omega arith)), λ l. absurd (omega arith))
+
+pub le-iff : {x y : ℤ} {a b c d : ℕ} → Is x a b → Is y c d → (leℤ x y ≡ true) ↔ (a + d ≤ c + b)
+unfolding leℤ
+le-iff h k = Iff·trans (not-negative-iff (is-minus k h)) ((λ l. omega arith), λ l. omega arith)
+
+-- The same for two integers at once
+is-add-both :
+    {x y u v : ℤ} {a a′ b b′ c c′ d d′ : ℕ} → Is x a a′ × Is y b b′ → Is u c c′ × Is v d d′ → Is (x +ℤ u) (a + c) (a′ + c′) × Is (y +ℤ v) (b + d) (b′ + d′)
+is-add-both h k = (is-add (h .0) (k .0), is-add (h .1) (k .1))
+
+-- The side value of a cell (c, r) for an edge (dx, dy) that leaves (x, y)
+side-not-negative :
+    {dx dy x y c r : ℤ} {a a′ b b′ m m′ n n′ p p′ q q′ : ℕ} → Is dx a a′ × Is dy b b′ → Is x m m′ × Is y n n′ → Is c p p′ × Is r q q′
+    → (notNegative (sideValue dx dy x y c r) ≡ true)
+    ↔ (b * (p′ + m) + b′ * (p + m′) + (a * (q + n′) + a′ * (q′ + n)) ≤ b * (p + m′) + b′ * (p′ + m) + (a * (q′ + n) + a′ * (q + n′)))
+unfolding sideValue
+side-not-negative d v g = not-negative-iff (is-minus (is-mul (d .1) (is-minus (g .0) (v .0))) (is-mul (d .0) (is-minus (g .1) (v .1))))
+
+-- ---- the four frames
+
+-- In frame k, (x, y) is p along the earlier letter and q along the later; a letter that counts down counts from o
+unfoldable pub Counted : ℕ → ℕ → ℕ → ℕ → ℤ → ℤ → Type 0
+Counted zero o p q x y = Is x p 0 × Is y q 0
+Counted (suc zero) o p q x y = Is x q 0 × Is y o p
+Counted (suc (suc zero)) o p q x y = Is x o p × Is y o q
+Counted (suc (suc (suc k))) o p q x y = Is x o q × Is y p 0
+
+pub record Lies (k o p q : ℕ) (x y : ℤ) : Type 0 where
+  pub counted : Counted k o p q x y
+
+-- A cell, on the chart or off it, counts from the last column and row; a step counts from 0
+abbrev pub Placed : ℕ → ℕ → ℕ → ℤ → ℤ → Type 0
+Placed k p q x y = Lies k 254 p q x y
+
+pub placed-cell : (k : ℕ) (x : Point) → x .col < 255 → x .row < 255 → Placed k (cellE k x) (cellL k x) (pos (x .col)) (pos (x .row))
+unfolding Counted cellE cellL cellAlong frameOf
+placed-cell zero x h l = record { counted = omega arith }
+placed-cell (suc zero) x h l = record { counted = omega arith }
+placed-cell (suc (suc zero)) x h l = record { counted = omega arith }
+placed-cell (suc (suc (suc k))) x h l = record { counted = omega arith }
+
+-- The step of e earlier letters and l later ones
+abbrev pub stepCols : Frame → ℕ → ℕ → ℤ
+stepCols f e l = pos e *ℤ f .earlier-cols +ℤ pos l *ℤ f .later-cols
+
+abbrev pub stepRows : Frame → ℕ → ℕ → ℤ
+stepRows f e l = pos e *ℤ f .earlier-rows +ℤ pos l *ℤ f .later-rows
+
+step-is : (u v : ℤ) (e l : ℕ) → Is (pos e *ℤ u +ℤ pos l *ℤ v) (e * up u + l * up v) (e * down u + l * down v)
+step-is u v e l = record { eq = omega (arith, is-add (is-mul (is-self (pos e)) (is-self u)) (is-mul (is-self (pos l)) (is-self v)) .eq) }
+
+pub step-lies : (k e l : ℕ) → Lies k 0 e l (stepCols (frameOf k) e l) (stepRows (frameOf k) e l)
+unfolding Counted frameOf
+step-lies k e l =
+    go k (step-is (frameOf k .earlier-cols) (frameOf k .later-cols) e l) (step-is (frameOf k .earlier-rows) (frameOf k .later-rows) e l)
+  where
+    go :
+        (k : ℕ) {x y : ℤ}
+        → Is x (e * up (frameOf k .earlier-cols) + l * up (frameOf k .later-cols)) (e * down (frameOf k .earlier-cols) + l * down (frameOf k .later-cols))
+        → Is y (e * up (frameOf k .earlier-rows) + l * up (frameOf k .later-rows)) (e * down (frameOf k .earlier-rows) + l * down (frameOf k .later-rows))
+        → Lies k 0 e l x y
+    go zero c r = record { counted = omega arith }
+    go (suc zero) c r = record { counted = omega arith }
+    go (suc (suc zero)) c r = record { counted = omega arith }
+    go (suc (suc (suc k))) c r = record { counted = omega arith }
+
+pub lies-step : (k : ℕ) {o p q e l : ℕ} {x y dx dy : ℤ} → Lies k o p q x y → Lies k 0 e l dx dy → Lies k o (p + e) (q + l) (x +ℤ dx) (y +ℤ dy)
+unfolding Counted
+lies-step zero h d = record { counted = omega (arith, is-add-both (h .counted) (d .counted)) }
+lies-step (suc zero) h d = record { counted = omega (arith, is-add-both (h .counted) (d .counted)) }
+lies-step (suc (suc zero)) h d = record { counted = omega (arith, is-add-both (h .counted) (d .counted)) }
+lies-step (suc (suc (suc k))) h d = record { counted = omega (arith, is-add-both (h .counted) (d .counted)) }
+
+-- The side value is the same difference in every frame
+pub side-iff :
+    (k : ℕ) {o vp vq e l p q : ℕ} {x y dx dy c r : ℤ} → Lies k o vp vq x y → Lies k 0 e l dx dy → Lies k o p q c r
+    → (notNegative (sideValue dx dy x y c r) ≡ true) ↔ (e * q + l * vp ≤ l * p + e * vq)
+unfolding Counted
+side-iff zero h d g = Iff·trans (side-not-negative (d .counted) (h .counted) (g .counted)) (omega arith)
+side-iff (suc zero) h d g = Iff·trans (side-not-negative (d .counted) (h .counted) (g .counted)) (omega arith)
+side-iff (suc (suc zero)) h d g = Iff·trans (side-not-negative (d .counted) (h .counted) (g .counted)) (omega arith)
+side-iff (suc (suc (suc k))) h d g = Iff·trans (side-not-negative (d .counted) (h .counted) (g .counted)) (omega arith)
+
+-- ---- the edges of one piece
+
+-- The number that steps from x lead to
+unfoldable pub reached : List ℤ → ℤ → ℤ
+reached [] x = x
+reached (d ∷ ds) x = reached ds (x +ℤ d)
+
+-- The edges of a piece lead as far along its two letters as its word has letters
+pub lies-end :
+    (k : ℕ) (fs : List Factor) {o vp vq : ℕ} {x y : ℤ} → Lies k o vp vq x y
+    → Lies k o (vp + earliers (written fs)) (vq + laters (written fs)) (reached (colSteps (edgesOf (frameOf k) fs)) x) (reached (rowSteps (edgesOf (frameOf k) fs)) y)
+unfolding reached colSteps rowSteps edgesOf written earliers laters
+lies-end k [] {vp = vp} {vq = vq} h = rw (add-zero vp, add-zero vq) h
+lies-end k (f ∷ fs) {vp = vp} {vq = vq} h =
+    let w : Word = copies (f .times) (f .word) in
+    let e : earliers w ≡ run f = earliers-copies (f .times) (f .word) in
+    let l : laters w ≡ rise f = laters-copies (f .times) (f .word) in
+    let across : vp + earliers (w ++ written fs) ≡ vp + run f + earliers (written fs) = omega (arith, earliers-append w (written fs)) in
+    let upward : vq + laters (w ++ written fs) ≡ vq + rise f + laters (written fs) = omega (arith, laters-append w (written fs)) in
+    rw (across, upward) (lies-end k fs (lies-step k h (step-lies k (run f) (rise f))))
+
+pub lies-sides :
+    (k : ℕ) (fs : List Factor) {o vp vq p q : ℕ} {x y c r : ℤ} → Lies k o vp vq x y → Lies k o p q c r
+    → (noneOutside (edgesOf (frameOf k) fs) x y c r ≡ true) ↔ Sides fs vp vq p q
+unfolding noneOutside edgesOf Sides
+lies-sides k [] h g = ((λ e. tt), λ s. refl)
+lies-sides k (f ∷ fs) h g =
+    let d = step-lies k (run f) (rise f) in
+    Iff·trans (and-eq-true-iff _ _) (Iff·and (side-iff k h d g) (lies-sides k fs (lies-step k h d) g))
+
+-- For cells of the chart
+pub frame-sides :
+    (k : ℕ) (fs : List Factor) (v x : Point) → v .col < 255 → v .row < 255 → x .col < 255 → x .row < 255
+    → (noneOutside (edgesOf (frameOf k) fs) (pos (v .col)) (pos (v .row)) (pos (x .col)) (pos (x .row)) ≡ true)
+    ↔ Sides fs (cellE k v) (cellL k v) (cellE k x) (cellL k x)
+frame-sides k fs v x vc vr xc xr = lies-sides k fs (placed-cell k v vc vr) (placed-cell k x xc xr)
+
+-- ---- the edges of a piece and those after it: what follows begins where the piece ends
+
+module _ (f : Frame) (es : List ℤ) where
+  pub none-outside-append :
+      (fs : List Factor) (x y c r : ℤ)
+      → noneOutside (edgesOf f fs ++ es) x y c r
+      ≡ (noneOutside (edgesOf f fs) x y c r && noneOutside es (reached (colSteps (edgesOf f fs)) x) (reached (rowSteps (edgesOf f fs)) y) c r)
+  unfolding noneOutside edgesOf reached colSteps rowSteps
+  none-outside-append [] x y c r = refl
+  none-outside-append (g ∷ gs) x y c r =
+      let dx : ℤ = stepCols f (run g) (rise g) in
+      let dy : ℤ = stepRows f (run g) (rise g) in
+      ap (λ (b : Bool). notNegative (sideValue dx dy x y c r) && b) (none-outside-append gs (x +ℤ dx) (y +ℤ dy) c r)
+      ∙ sym (and-assoc (notNegative (sideValue dx dy x y c r)) (noneOutside (edgesOf f gs) (x +ℤ dx) (y +ℤ dy) c r) _)
+
+  pub cols-append : (fs : List Factor) → colSteps (edgesOf f fs ++ es) ≡ colSteps (edgesOf f fs) ++ colSteps es
+  unfolding edgesOf colSteps
+  cols-append [] = refl
+  cols-append (g ∷ gs) = rw (cols-append gs)
+
+  pub rows-append : (fs : List Factor) → rowSteps (edgesOf f fs ++ es) ≡ rowSteps (edgesOf f fs) ++ rowSteps es
+  unfolding edgesOf rowSteps
+  rows-append [] = refl
+  rows-append (g ∷ gs) = rw (rows-append gs)
+
+pub reached-append : (ds es : List ℤ) (x : ℤ) → reached (ds ++ es) x ≡ reached es (reached ds x)
+unfolding reached
+reached-append [] es x = refl
+reached-append (d ∷ ds) es x = reached-append ds es (x +ℤ d)

@@ -1,0 +1,66 @@
+// Factors and judges a table of words over 0 and 1, and writes a line for each.
+use libc::STDOUT_FILENO;
+ghost use Prim.Native.Nat.{_<_, _≤_};
+ghost use lib.ListN.{length};
+
+// The letters of one copy, the repeats where there are several, and the mark.
+fn write_factor(copy: &[u8], times: usize, christoffel: bool) {
+    if times == 1 {
+        io::write_all(STDOUT_FILENO, b" ");
+        io::write_all(STDOUT_FILENO, copy);
+    } else {
+        io::write_all(STDOUT_FILENO, b" (");
+        io::write_all(STDOUT_FILENO, copy);
+        io::write_all(STDOUT_FILENO, b")^");
+        io::print_decimal(STDOUT_FILENO, times as u64);
+    }
+    if christoffel {
+        io::write_all(STDOUT_FILENO, b"+");
+    } else {
+        io::write_all(STDOUT_FILENO, b"-");
+    }
+}
+
+// Writes the factor that begins at `at`, and answers where the next one begins.
+fn write_next(word: &[u8], at: usize) -> usize
+    requires { ⌜ at < length (now word) ⌝ }
+    ensures { λ r. ⌜ (at < r) × (r ≤ length (now (word .entry))) ⌝ }
+{
+    let factor = words::factor_at(word, at, b'1');
+    let end = at + factor.length;
+    write_factor(&word[at..end], factor.times, factor.christoffel);
+    at + factor.times * factor.length
+}
+
+// All factors of a word, in order.
+fn write_factors(word: &[u8]) {
+    let mut at = 0;
+    while at < word.len() {
+        at = write_next(word, at);
+    }
+}
+
+// A word and its factors, on a line of its own.
+fn write_word(word: &[u8]) {
+    io::write_all(STDOUT_FILENO, word);
+    io::write_all(STDOUT_FILENO, b":");
+    write_factors(word);
+    io::write_all(STDOUT_FILENO, b"\n");
+}
+
+fn main() {
+    io::write_all(
+        STDOUT_FILENO,
+        b"word: its factors, + a Christoffel word, - none\n",
+    );
+    write_word(b"1011010100010");
+    write_word(b"101101001");
+    write_word(b"01011011");
+    write_word(b"001101");
+    write_word(b"0011");
+    write_word(b"0");
+    write_word(b"1");
+    write_word(b"");
+    write_word(b"0101");
+    write_word(b"111000");
+}

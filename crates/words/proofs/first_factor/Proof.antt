@@ -1,0 +1,94 @@
+-- The loop keeps the shape of what was read; each way out of it settles the first factor.
+use Prim.Native.Nat.{_-_}
+use native.Mathlib.Omega.{arith}
+use borrow.Author.Needs.{needs}
+use mathlib.Core.Logic.{⊎-elim}
+use lib.ListN.{length}
+use Rattle.words.proofs.FirstFactor.{Search, search-none, search-start, search-larger, search-same, search-smaller, search-end}
+use Rattle.words.proofs.first_factor.Statement.{statement}
+use Rattle.words.proofs.first_factor.Tie as tie
+
+abbrev Inv-loop : tie.InvT-loop
+Inv-loop w from later i₀ j₀ i j = Search w from later i j
+
+abbrev μ-loop : tie.MeasureT-loop
+μ-loop w from later i₀ j₀ i j = length w - j
+
+returns : tie.Need-returns Inv-loop μ-loop
+returns c = search-none _ _ _ (c .if1 .taken)
+
+add-j : tie.Need-add-j Inv-loop μ-loop
+add-j c = search needs
+
+loop-holds : tie.Need-loop-holds Inv-loop μ-loop
+loop-holds c = search-start _ _ _ (c .if1 .left)
+
+shared-slice-read-rank : tie.Need-shared-slice-read-rank Inv-loop μ-loop
+shared-slice-read-rank c = search needs
+
+rank-requires : tie.Need-rank-requires Inv-loop μ-loop
+rank-requires c κs = search needs
+
+shared-slice-read-rank-2 : tie.Need-shared-slice-read-rank-2 Inv-loop μ-loop
+shared-slice-read-rank-2 c = search needs
+
+rank-requires-2 : tie.Need-rank-requires-2 Inv-loop μ-loop
+rank-requires-2 c κs = search needs
+
+add-i : tie.Need-add-i Inv-loop μ-loop
+add-i c = search needs
+
+add-j-2 : tie.Need-add-j-2 Inv-loop μ-loop
+add-j-2 c = search needs
+
+loop-less : tie.Need-loop-less Inv-loop μ-loop
+loop-less c = search needs
+
+loop-again : tie.Need-loop-again Inv-loop μ-loop
+loop-again c =
+    let turn = c .before .before .before .before .before .before in
+    let s = turn .before .loop .inv in
+    let h = turn .loop-test .taken in
+    ⊎-elim
+    (λ w. rw (w .1) (search-larger s h (omega (arith, w .0 .taken))))
+    (λ w. rw (w .1) (search-same s h (omega (arith, w .0 .left)) (omega (arith, w .0 .left))))
+    (c .if3 .came)
+
+sub-length : tie.Need-sub-length Inv-loop μ-loop
+sub-length c = search needs
+
+sub-t9 : tie.Need-sub-t9 Inv-loop μ-loop
+sub-t9 c = search needs
+
+div-t16 : tie.Need-div-t16 Inv-loop μ-loop
+div-t16 c = search needs
+
+returns-2 : tie.Need-returns-2 Inv-loop μ-loop
+returns-2 c =
+    let s = c .before .loop .inv in
+    ⊎-elim
+    (λ w. search-end s (w .left))
+    (λ w. search-smaller s (w .0 .taken) (omega (arith, w .2 .ensures, w .4 .ensures, w .5 .taken)))
+    (c .loop-test .came)
+
+pub first-factor-spec : {M : Type 1} → statement M
+first-factor-spec =
+    tie.close
+    (tie.spec
+    Inv-loop
+    μ-loop
+    returns
+    add-j
+    loop-holds
+    shared-slice-read-rank
+    rank-requires
+    shared-slice-read-rank-2
+    rank-requires-2
+    add-i
+    add-j-2
+    loop-less
+    loop-again
+    sub-length
+    sub-t9
+    div-t16
+    returns-2)

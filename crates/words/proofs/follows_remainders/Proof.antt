@@ -1,0 +1,70 @@
+-- The loop keeps the remainder of the letters passed; a letter that does not fit, or an early 0, settles the answer.
+use Prim.Native.Nat.{_≤_, _-_}
+use native.Mathlib.Omega.{arith}
+use borrow.Author.Needs.{needs}
+use mathlib.Core.Logic.{⊎-elim}
+use borrow.Author.Tests.{ltb-true, ltb-false}
+use lib.ListN.{length}
+use Rattle.words.proofs.RemainderWalk.{Walked, walked-start, walked-next, walked-misfit, walked-zero, walked-end}
+use Rattle.words.proofs.follows_remainders.Statement.{statement}
+use Rattle.words.proofs.follows_remainders.Tie as tie
+
+abbrev Inv-loop : tie.InvT-loop
+Inv-loop w k later rem₀ i₀ rem i = (i ≤ length w) × Walked w later k i rem
+
+abbrev μ-loop : tie.MeasureT-loop
+μ-loop w k later rem₀ i₀ rem i = length w - i
+
+loop-holds : tie.Need-loop-holds Inv-loop μ-loop
+loop-holds c = (search needs, walked-start _ _ _ (search needs))
+
+returns : tie.Need-returns Inv-loop μ-loop
+returns c =
+    let turn = c .before .before in
+    walked-zero (turn .before .loop .inv .1) (turn .loop-test .taken) (ltb-true _ _ (c .if2 .taken)) (c .before .if1 .taken)
+
+next-remainder-requires : tie.Need-next-remainder-requires Inv-loop μ-loop
+next-remainder-requires c κs = search needs
+
+shared-slice-read-if3 : tie.Need-shared-slice-read-if3 Inv-loop μ-loop
+shared-slice-read-if3 c = search needs
+
+returns-2 : tie.Need-returns-2 Inv-loop μ-loop
+returns-2 c =
+    let turn = c .before .before .before .before in
+    walked-misfit (turn .before .loop .inv .1) _ (turn .loop-test .taken) (c .before .before .next-remainder .ensures) (c .if3 .taken)
+
+add-i : tie.Need-add-i Inv-loop μ-loop
+add-i c = search needs
+
+loop-less : tie.Need-loop-less Inv-loop μ-loop
+loop-less c = search needs
+
+loop-again : tie.Need-loop-again Inv-loop μ-loop
+loop-again c =
+    let turn = c .before .before .before .before in
+    let gave = c .before .before .next-remainder .ensures in (
+      search needs,
+      walked-next (turn .before .loop .inv .1) (search needs) gave
+          (λ p z. ⊎-elim (λ w. omega (arith, ltb-false 0 (turn .before .loop .i) (w .1 .left))) (λ w. w .left z) (c .before .before .before .if1 .came))
+          (c .if3 .left),
+    )
+
+returns-3 : tie.Need-returns-3 Inv-loop μ-loop
+returns-3 c = walked-end (c .before .loop .inv .1) (search needs) (search needs)
+
+pub follows-remainders-spec : {M : Type 1} → statement M
+follows-remainders-spec =
+    tie.close
+    (tie.spec
+    Inv-loop
+    μ-loop
+    loop-holds
+    returns
+    next-remainder-requires
+    shared-slice-read-if3
+    returns-2
+    add-i
+    loop-less
+    loop-again
+    returns-3)
