@@ -57,16 +57,17 @@ pub edges-bounded : (s : Point) (t : List ℕ) → Clear s t → edgeCount s t �
 unfolding edgeCount
 edges-bounded s t c =
     let h = shape s t c in
-    omega
-    (arith,
-    neighbours-0 s t h,
-    neighbours-1 s t h,
-    neighbours-2 s t h,
-    neighbours-3 s t h,
-    piece-count s t 0,
-    piece-count s t 1,
-    piece-count s t 2,
-    piece-count s t 3)
+    omega (
+      arith,
+      neighbours-0 s t h,
+      neighbours-1 s t h,
+      neighbours-2 s t h,
+      neighbours-3 s t h,
+      piece-count s t 0,
+      piece-count s t 1,
+      piece-count s t 2,
+      piece-count s t 3,
+    )
 
 -- Two numbers an edge
 edges-of-length : (f : Frame) (fs : List Factor) → length (edgesOf f fs) ≡ 2 * length fs

@@ -7,9 +7,13 @@ pub mod Crossings
 pub mod UnderLaws
 pub mod RowEnds
 pub mod Bounds
+pub mod Smooth
 pub mod SidesFrom
 pub mod Signed
 pub mod Inside
+pub mod PathCells
+pub mod DentMissing
+pub mod Theorem
 pub mod Line
 pub mod Rows
 pub mod Side
