@@ -14,6 +14,7 @@ pub mod Inside
 pub mod PathCells
 pub mod DentMissing
 pub mod Theorem
+pub mod Sent
 pub mod Line
 pub mod Rows
 pub mod Side

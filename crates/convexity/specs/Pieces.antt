@@ -1,5 +1,6 @@
 -- The four pieces, their back-steps, factors, dents and edges (document 01, "From border to edges"). Pieces are counted from 0 here.
-use Prim.Native.Nat.{ℕ, zero, suc, _+_, _-_, _*_, _%_}
+use Prim.Native.Nat.{ℕ, zero, suc, _+_, _-_, _*_, _%_, _<_}
+use mathlib.Core.Path.{_≡_}
 use mathlib.Core.Bool.{Bool, true, false, not, _||_}
 use mathlib.Core.List.{List, [], _∷_, _++_}
 use lib.ListN.{length, getD, take, drop}
@@ -11,7 +12,9 @@ use Rattle.words.specs.Lyndon.{Factor, factorsOf}
 use Rattle.words.specs.Christoffel.{christoffel}
 use Rattle.lattice.specs.declared.Point.{Point}
 use Rattle.convexity.specs.Frame.{Frame, frameOf}
-use Rattle.convexity.specs.Cut.{cut}
+use Rattle.lattice.specs.Refusals.{Simple}
+use Rattle.lattice.specs.Enclosed.{encloses}
+use Rattle.convexity.specs.Cut.{cut, west, turn, clockwise}
 
 -- The letters from W on, as often round as four pieces can reach
 unfoldable pub rounds : List ℕ → List ℕ
@@ -72,3 +75,15 @@ edges s t =
 
 unfoldable pub edgeCount : Point → List ℕ → ℕ
 edgeCount s t = length (factors s t 0) + (length (factors s t 1) + (length (factors s t 2) + length (factors s t 3)))
+
+-- "the anchor, the lowest enclosed cell of the leftmost column". It is the cell at W (proofs/Sent.antt: `west-anchor`)
+pub record IsAnchor (s : Point) (w : List ℕ) (a : Point) : Type 0 where
+  pub enclosed : encloses s w (a .col) (a .row) ≡ true
+  pub leftmost : (c r : ℕ) → c < a .col → encloses s w c r ≡ false
+  pub lowest : (r : ℕ) → r < a .row → encloses s w (a .col) r ≡ false
+
+-- "An outline reaches the dent test if none of 1 to 8 applies to it."
+pub record Reaches (s : Point) (w : List ℕ) : Type 0 where
+  pub simple : Simple s w
+  pub clockwise : clockwise (turn s w) ≡ true
+  pub straight : ltb (strayPiece (west s w) (turn s w)) 4 ≡ false
