@@ -15,7 +15,8 @@ use Rattle.words.proofs.Factors.{factors-exist}
 use Rattle.lattice.specs.declared.Point.{Point}
 use Rattle.convexity.specs.Frame.{Frame, frameOf}
 use Rattle.convexity.specs.Pieces.{word, factors, edgesOf, edges, edgeCount}
-use Rattle.convexity.proofs.Quadrant.{Clear, Shape, startE, startL}
+use Rattle.convexity.specs.Quadrant.{startE, startL}
+use Rattle.convexity.proofs.Quadrant.{Clear, Shape}
 use Rattle.convexity.proofs.Shape.{shape}
 
 -- A proper factor writes at least one letter

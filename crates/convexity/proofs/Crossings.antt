@@ -12,7 +12,7 @@ use Rattle.lattice.specs.Chart.{step, walk}
 use Rattle.lattice.specs.Enclosed.{count, upAlong, downAlong, ups, downs}
 use Rattle.lattice.specs.Search.{upColumn, downColumn}
 use Rattle.convexity.specs.Frame.{Frame, frameOf}
-use Rattle.convexity.proofs.Quadrant.{spell}
+use Rattle.convexity.specs.Quadrant.{spell}
 
 -- ---- the two counts, and the two columns, said once
 

@@ -24,7 +24,8 @@ use Rattle.lattice.specs.Hull
 use Rattle.lattice.specs.Hull.{InHull, Missing}
 use Rattle.convexity.specs.Pieces.{word, factors, dentLength, dentPiece}
 use Rattle.convexity.proofs.Frame.{Dented, InTriangle, dent-in-piece, above-not-under}
-use Rattle.convexity.proofs.Quadrant.{startE, startL, cellE, cellL, UnderFrom, Clear, Shape}
+use Rattle.convexity.specs.Quadrant.{startE, startL, cellE, cellL, UnderFrom}
+use Rattle.convexity.proofs.Quadrant.{Clear, Shape}
 use Rattle.convexity.proofs.PathCells.{cellOf, cellE-cellOf, cellL-cellOf, col-cellOf, row-cellOf, pathCell, across-le, up-le, path-across-le, path-up-le, path-enclosed}
 
 -- ---- a piece with a dent

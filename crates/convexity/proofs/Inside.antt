@@ -20,7 +20,8 @@ use Rattle.convexity.specs.Cut.{cut}
 use Rattle.convexity.specs.Pieces.{word, factors, edgesOf, edges}
 use Rattle.convexity.specs.Inside.{leℤ, minℤ, maxℤ, noneOutside, colSteps, rowSteps, lowestMet, highestMet, within, insideEdges}
 use Rattle.convexity.proofs.Frame.{Sides, run, rise}
-use Rattle.convexity.proofs.Quadrant.{Shape, startOf, startE, startL, cellAlong, cellE, cellL}
+use Rattle.convexity.specs.Quadrant.{startOf, startE, startL, cellAlong, cellE, cellL}
+use Rattle.convexity.proofs.Quadrant.{Shape}
 use Rattle.convexity.proofs.Signed.{up, down, is-self, is-add, is-unique, le-iff, Counted, Lies, Placed, placed-cell, stepCols, stepRows, step-lies, lies-step, reached, lies-end, lies-sides, none-outside-append, cols-append, rows-append, reached-append}
 
 -- ---- the vertices of a walk

@@ -1,4 +1,4 @@
--- One piece in its frame; the four pieces; lines and the search for the lowest missing cell.
+-- One piece in its frame; the four pieces; lines and the search for the lowest missing cell; the edges' directions.
 pub mod Frame
 pub mod Quadrant
 pub mod Extreme
@@ -20,3 +20,4 @@ pub mod Rows
 pub mod Side
 pub mod Mirror
 pub mod Climb
+pub mod Directions

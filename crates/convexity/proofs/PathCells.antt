@@ -24,7 +24,8 @@ use Rattle.lattice.proofs.RightHand.{leftOf, rightOf, cornerOf, turn, Lowest, c
 use Rattle.convexity.specs.Frame.{Frame, frameOf, along}
 use Rattle.convexity.specs.Cut.{before, cut, clockwise}
 use Rattle.convexity.specs.Pieces.{rounds, piece, word}
-use Rattle.convexity.proofs.Quadrant.{spell, cellAlong, startOf, startE, startL, cellE, cellL, Turn, Clear, Shape}
+use Rattle.convexity.specs.Quadrant.{spell, cellAlong, startOf, startE, startL, cellE, cellL}
+use Rattle.convexity.proofs.Quadrant.{Turn, Clear, Shape}
 
 -- ---- cells in a frame
 

@@ -1,56 +1,18 @@
--- What the statements about the four pieces share: a piece's letters spelled from its word, where it starts in its own frame, and a cell
--- in that frame. In frame k a point has two natural numbers: how far it lies along the earlier letter, and how far along the later.
-use Prim.Native.Nat.{ℕ, zero, suc, _+_, _-_, _≤_, _<_}
+-- What the proofs about the four pieces pass on to one another: a turn past refusals 1 to 6, one past 7 and 8, and its shape.
+use Prim.Native.Nat.{ℕ, suc, _+_, _<_}
 use mathlib.Core.Path.{_≡_}
 use mathlib.Core.Bool.{Bool, true, false}
 use mathlib.Core.List.{List, [], _∷_, _++_}
-use lib.ListN.{length, take}
+use lib.ListN.{length}
 use Rattle.words.specs.Word.{Word, earliers, laters}
 use Rattle.lattice.specs.Limits.{side}
 use Rattle.lattice.specs.declared.Point.{Point}
 use Rattle.lattice.specs.Chart.{cornerAt}
 use Rattle.lattice.proofs.WalkLaws.{Walked}
-use Rattle.convexity.specs.Frame.{Frame, frameOf, along}
+use Rattle.convexity.specs.Frame.{frameOf}
 use Rattle.convexity.specs.Cut.{before, cornerPlace, cut, clockwise}
 use Rattle.convexity.specs.Pieces.{piece, word, strayPiece}
-
--- The letters of a word in a frame
-unfoldable pub spell : Frame → Word → List ℕ
-spell f [] = []
-spell f (false ∷ w) = f .earlier ∷ spell f w
-spell f (true ∷ w) = f .later ∷ spell f w
-
--- How far along a letter's direction a cell lies, counted from the chart's border. The first cell of a piece lies as far along both of its
--- letters as the corner at which the piece starts
-unfoldable pub cellAlong : ℕ → Point → ℕ
-cellAlong zero x = x .col
-cellAlong (suc zero) x = x .row
-cellAlong (suc (suc zero)) x = side - 1 - x .col
-cellAlong (suc (suc (suc a))) x = side - 1 - x .row
-
--- The corner at which piece k starts, and how far it lies along the piece's earlier letter and along its later one
-unfoldable pub startOf : Point → List ℕ → ℕ → Point
-startOf s t k = cornerAt s t (cut s t k)
-
-unfoldable pub startE : Point → List ℕ → ℕ → ℕ
-startE s t k = along (frameOf k .earlier) (startOf s t k)
-
-unfoldable pub startL : Point → List ℕ → ℕ → ℕ
-startL s t k = along (frameOf k .later) (startOf s t k)
-
--- A cell in frame k
-unfoldable pub cellE : ℕ → Point → ℕ
-cellE k x = cellAlong (frameOf k .earlier) x
-
-unfoldable pub cellL : ℕ → Point → ℕ
-cellL k x = cellAlong (frameOf k .later) x
-
--- (P, Q) is under the path of a word that starts at (vp, vq): some prefix ends at or left of it, at or above it
-pub record UnderFrom (w : Word) (vp vq P Q : ℕ) : Type 0 where
-  pub upto : ℕ
-  pub within : upto ≤ length w
-  pub left : vp + earliers (take upto w) ≤ P
-  pub high : Q ≤ vq + laters (take upto w)
+use Rattle.convexity.specs.Quadrant.{spell, startE, startL}
 
 -- A walk t from s that passes refusals 1 to 6 and begins at W, the first corner of piece 1
 pub record Turn (s : Point) (t : List ℕ) : Type 0 where

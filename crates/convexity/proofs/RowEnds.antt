@@ -22,7 +22,8 @@ use Rattle.convexity.specs.Frame.{frameOf, along}
 use Rattle.convexity.specs.Cut.{cut}
 use Rattle.convexity.specs.Pieces.{piece, word}
 use Rattle.convexity.proofs.Frame.{EarlierAt, LaterAt, earlier-at, later-at}
-use Rattle.convexity.proofs.Quadrant.{spell, cellAlong, startOf, startE, startL, cellE, cellL, UnderFrom, Shape}
+use Rattle.convexity.specs.Quadrant.{spell, cellAlong, startOf, startE, startL, cellE, cellL, UnderFrom}
+use Rattle.convexity.proofs.Quadrant.{Shape}
 use Rattle.convexity.proofs.Crossings.{Each, Rising, Falling, Misses, Crosses, misses-misses, misses-crosses, crosses-misses, misses-up-falling, misses-up-above, misses-up-below, misses-down-rising, misses-down-below, misses-down-above, spell-each, walk-frame0, walk-frame1, walk-frame2, walk-frame3, crosses-frame0, crosses-frame1, crosses-frame2, crosses-frame3, ups-tally, downs-tally, upColumn-last, downColumn-last}
 use Rattle.convexity.proofs.UnderLaws.{under-from-start, under-from-end, under-from-left, under-from-row, under-from-column}
 

@@ -24,7 +24,8 @@ use Rattle.lattice.proofs.WalkLaws.{Walked, corner-zero}
 use Rattle.convexity.specs.Frame.{Frame, frameOf, along}
 use Rattle.convexity.specs.Cut.{cornerPlace, clockwise, ahead, cutCorner, cut}
 use Rattle.convexity.specs.Pieces.{rounds, piece, stray, strayAt, strayPiece, word}
-use Rattle.convexity.proofs.Quadrant.{spell, startOf, startE, startL, Clear, Shape}
+use Rattle.convexity.specs.Quadrant.{spell, startOf, startE, startL}
+use Rattle.convexity.proofs.Quadrant.{Clear, Shape}
 use Rattle.convexity.proofs.Extreme.{FirstAt, first-at-cornerPlace, opposite, OnChart, on-chart, Moved, earlier-on, later-on, earlier-back, later-back, Bend, by-later, by-earlier, previous, corner-round, moves, bend}
 
 -- A test of the first piece with a back-step finds none

@@ -9,7 +9,7 @@ use mathlib.Core.List.{List, [], _∷_}
 use Rattle.words.specs.Word.{earliers, laters}
 use Rattle.words.specs.Lyndon.{Factor, written}
 use Rattle.convexity.proofs.Frame.{Under, Sides, EdgesFall, run, rise, sides-mono, under-iff-sides}
-use Rattle.convexity.proofs.Quadrant.{UnderFrom}
+use Rattle.convexity.specs.Quadrant.{UnderFrom}
 
 -- A point lower down, or further along, stays on the right side of every edge
 pub sides-lower : (fs : List Factor) (vp vq p q q′ : ℕ) → q′ ≤ q → Sides fs vp vq p q → Sides fs vp vq p q′

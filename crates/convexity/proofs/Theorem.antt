@@ -25,7 +25,8 @@ use Rattle.convexity.specs.Cut.{cut, cornerPlace}
 use Rattle.convexity.specs.Pieces.{word, factors, dentPiece, edges}
 use Rattle.convexity.specs.Inside.{insideEdges}
 use Rattle.convexity.proofs.Frame.{Sides}
-use Rattle.convexity.proofs.Quadrant.{Clear, Shape, startE, startL, cellE, cellL, cellAlong, startOf, UnderFrom}
+use Rattle.convexity.specs.Quadrant.{startE, startL, cellE, cellL, cellAlong, startOf, UnderFrom}
+use Rattle.convexity.proofs.Quadrant.{Clear, Shape}
 use Rattle.convexity.proofs.Shape.{shape}
 use Rattle.convexity.proofs.UnderLaws.{under-from-left, under-from-high}
 use Rattle.convexity.proofs.RowEnds.{enclosed-iff, enclosed-on-chart, enclosed-row, row-ends, row-within, bottom-lt-top, bottom, top, start-col}

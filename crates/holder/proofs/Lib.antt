@@ -1,1 +1,4 @@
 pub mod Lists
+pub mod Stands
+pub mod ListTheorem
+pub mod PlainBook

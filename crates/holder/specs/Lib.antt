@@ -3,3 +3,4 @@ pub mod Calls
 pub mod Replies
 pub mod Book
 pub mod Holder
+pub mod Run

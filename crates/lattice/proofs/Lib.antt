@@ -4,3 +4,4 @@ pub mod Jumps
 pub mod RightHand
 pub mod WalkCode
 pub mod CheckLaws
+pub mod HullLaws

@@ -1,5 +1,6 @@
--- The calls without a holder: the numbers and fields of a reply on paper, the test, the loose query, the specimens.
+-- The calls without a holder: the numbers and fields of a reply on paper, the test, the dented outlines, the loose query, the specimens.
 pub mod Fields
 pub mod Test
+pub mod Dents
 pub mod Loose
 pub mod Specimens
