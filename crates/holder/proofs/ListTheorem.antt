@@ -126,7 +126,7 @@ says-outside false = (λ e. refl, λ e. refl)
 
 -- A close's number is the test's
 closed-number : (b : Book) (o : Outline) (v : Verdict) → replyFields (closedWith b o v .reply) .number ≡ verdictFields v .number
-unfolding closedWith replyFields verdictFields accepted
+unfolding closedWith replyFields
 closed-number b o (Refused f) = refl
 closed-number b o (Taken n c r) = go (equalsWork o (b .work))
   where
@@ -135,7 +135,7 @@ closed-number b o (Taken n c r) = go (equalsWork o (b .work))
     go false = refl
 
 dent-number : (s : Point) (w : List ℕ) → replyFields (WasRefused (dentOf s w)) .number ≡ 9
-unfolding replyFields refusalFields dentOf dent
+unfolding replyFields dentOf dent
 dent-number s w = refl
 
 -- ---- the list theorem
@@ -266,7 +266,7 @@ module _ (bounded : (s : Point) (w : List ℕ) → Clear (west s w) (turn s w) �
   -- And the cell that it names is the one that the search finds
   pub close-names-lowest : (cs : List Call) (o : Outline) → bookAfter fresh cs .draft ≡ some o → (k p l c r : ℕ) →
       replyAfter cs close ≡ WasRefused (Dent k p l c r) → DentFacts (o .start) (o .letters) k p l c r
-  unfolding replyFields refusalFields
+  unfolding replyFields
   close-names-lowest cs o e k p l c r i =
       let d : Dented (o .start) (o .letters) = close-number-nine cs o e .0 (rw i) in
       let same : replyAfter cs close ≡ WasRefused (dentOf (o .start) (o .letters)) = close-refused-nine cs o e .1 d in

@@ -13,7 +13,8 @@ use lib.Dec.{leb, lit≤}
 use borrow.Author.Tests.{lt-leb, le-leb, le-ltb}
 use Rattle.lattice.specs.Limits.{longest}
 use Rattle.lattice.specs.declared.Point.{Point}
-use Rattle.outline.specs.Fields.{Fields, numbered, placed, said, accepted, no-word, inside, outside, taken, same}
+use Rattle.outline.specs.declared.Fields.{Fields}
+use Rattle.outline.specs.Fields.{numbered, placed, said, accepted, no-word, inside, outside, taken, same}
 use Rattle.outline.proofs.Computes.{computes}
 use Rattle.holder.specs.Calls.{Call, begin, add, drop, clear, close, query}
 use Rattle.holder.specs.Replies.{replyFields}

@@ -1,5 +1,6 @@
 -- What document 01 gives of a holder's reply: the number, the word and the fields, for every case of `Reply`.
-use Rattle.outline.specs.Fields.{Fields, numbered, said, accepted, refusalFields, no-word, inside, outside, taken, same}
+use Rattle.outline.specs.declared.Fields.{Fields}
+use Rattle.outline.specs.Fields.{numbered, said, accepted, refusalFields, no-word, inside, outside, taken, same}
 use Rattle.holder.specs.declared.Reply.{Reply}
 use Rattle.holder.specs.declared.Reply.the-variants.{Done, Inside, Outside, Taken, Same, Refused, NothingAtWork, NoDraft, DraftOpen, DraftFull}
 

@@ -4,4 +4,6 @@ pub mod Jumps
 pub mod RightHand
 pub mod WalkCode
 pub mod CheckLaws
+pub mod SearchLaws
+pub mod RowLaws
 pub mod HullLaws

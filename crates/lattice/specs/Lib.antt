@@ -5,3 +5,4 @@ pub mod Refusals
 pub mod Enclosed
 pub mod Hull
 pub mod Search
+pub mod Rows

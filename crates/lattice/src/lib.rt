@@ -1,5 +1,6 @@
 // The chart, walks along its corners, and the cells that a closed walk encloses.
 pub mod checks;
+pub mod search;
 pub mod walk;
 
 // A corner of the chart, or the cell whose lower left corner it is.

@@ -9,7 +9,8 @@ use lib.ListN.{length, drop}
 use lib.Dec.{eqb}
 use lib.IntN.{ℤ, pos, negsuc}
 use borrow.Author.Tests.{eqb-true}
-use Rattle.outline.specs.Fields.{Fields, verdictFields, positionFields}
+use Rattle.outline.specs.declared.Fields.{Fields}
+use Rattle.outline.specs.Fields.{verdictFields, positionFields}
 use Rattle.outline.specs.Test.{testOf, edgesAfter}
 use Rattle.outline.specs.Loose.{looseOf}
 use Rattle.outline.specs.Specimens.{Specimen, specimens, right, lent, sameFields, sameℤs, sameℤ, Query, queries, answered}

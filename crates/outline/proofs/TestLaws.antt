@@ -37,7 +37,7 @@ pastEight v = eqb (verdictFields v .number) 0 || ltb 8 (verdictFields v .number)
 
 -- A name that opens the numbers
 numbers : Bool
-unfolding pastEight verdictFields refusalFields numbered placed accepted
+unfolding pastEight
 numbers = true
 
 -- One of 1 to 8 is the answer, whatever the room

@@ -1,5 +1,6 @@
--- What document 01 gives of a reply: the number, the word and the fields, for every answer of a test and of a loose query.
+-- What document 01 gives of a reply: the number, the word and the fields, for every answer of a test and of a loose query. "Fields unnamed here are 0."
 use Prim.Native.Nat.{ℕ}
+use Rattle.outline.specs.declared.Fields.{Fields}
 use Rattle.outline.specs.declared.Refusal.{Refusal}
 use Rattle.outline.specs.declared.Refusal.the-variants.{Count, Start, Letter, Leaves, Unclosed, Touches, Anticlockwise, BackStep, Dent, Room, List as BadList, Cell}
 use Rattle.outline.specs.declared.Verdict.{Verdict}
@@ -23,31 +24,21 @@ taken = 3
 abbrev pub same : ℕ
 same = 4
 
--- A reply on paper. "Fields unnamed here are 0."
-pub record Fields : Type 0 where
-  pub number : ℕ
-  pub word : ℕ
-  pub place : ℕ
-  pub piece : ℕ
-  pub length : ℕ
-  pub col : ℕ
-  pub row : ℕ
-
 -- A number alone; a number with a place
-unfoldable pub numbered : ℕ → Fields
+abbrev pub numbered : ℕ → Fields
 numbered n = record { number = n; word = no-word; place = 0; piece = 0; length = 0; col = 0; row = 0 }
 
-unfoldable pub placed : ℕ → ℕ → Fields
+abbrev pub placed : ℕ → ℕ → Fields
 placed n p = record { number = n; word = no-word; place = p; piece = 0; length = 0; col = 0; row = 0 }
 
 -- A word alone; an outline taken, with a word: "number 0, place the count of edges, piece and length 0, cell the anchor"
-unfoldable pub said : ℕ → Fields
+abbrev pub said : ℕ → Fields
 said v = record { number = 0; word = v; place = 0; piece = 0; length = 0; col = 0; row = 0 }
 
-unfoldable pub accepted : ℕ → ℕ → ℕ → ℕ → Fields
+abbrev pub accepted : ℕ → ℕ → ℕ → ℕ → Fields
 accepted v edges c r = record { number = 0; word = v; place = edges; piece = 0; length = 0; col = c; row = r }
 
-unfoldable pub refusalFields : Refusal → Fields
+abbrev pub refusalFields : Refusal → Fields
 refusalFields Count = numbered 1
 refusalFields Start = numbered 2
 refusalFields (Letter p) = placed 3 p
@@ -61,11 +52,11 @@ refusalFields (Room e) = placed 10 e
 refusalFields BadList = numbered 10
 refusalFields Cell = numbered 11
 
-unfoldable pub verdictFields : Verdict → Fields
+abbrev pub verdictFields : Verdict → Fields
 verdictFields (Taken e c r) = accepted no-word e c r
 verdictFields (Refused f) = refusalFields f
 
-unfoldable pub positionFields : Position → Fields
+abbrev pub positionFields : Position → Fields
 positionFields Inside = said inside
 positionFields Outside = said outside
 positionFields (Rejected f) = refusalFields f

@@ -6,7 +6,8 @@ use lib.ListN.{length, drop, replicate}
 use lib.Dec.{eqb}
 use lib.IntN.{ℤ, pos, negsuc}
 use Rattle.lattice.specs.declared.Point.{Point}
-use Rattle.outline.specs.Fields.{Fields, verdictFields, positionFields, numbered, placed, said, accepted, no-word, inside, outside}
+use Rattle.outline.specs.declared.Fields.{Fields}
+use Rattle.outline.specs.Fields.{verdictFields, positionFields, numbered, placed, said, accepted, no-word, inside, outside}
 use Rattle.outline.specs.Test.{testOf, edgesAfter}
 use Rattle.outline.specs.Loose.{looseOf}
 

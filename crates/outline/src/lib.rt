@@ -1,4 +1,10 @@
 // The outline: its border cut in four, the test, and the loose query.
+pub mod cut;
+pub mod edge;
+pub mod frame;
+pub mod loose;
+pub mod paper;
+mod signed;
 
 // Why an input is turned back: refusals 1 to 11 of document 01, each with the fields that it names.
 pub enum Refusal {
@@ -57,4 +63,15 @@ pub enum Position {
     Inside,
     Outside,
     Refused(Refusal),
+}
+
+// A reply on paper: the number, the word (0 none, 1 inside, 2 outside, 3 taken, 4 same) and the fields.
+pub struct Fields {
+    pub number: u16,
+    pub word: u16,
+    pub place: u16,
+    pub piece: u16,
+    pub length: u16,
+    pub col: u16,
+    pub row: u16,
 }

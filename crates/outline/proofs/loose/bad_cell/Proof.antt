@@ -1,0 +1,17 @@
+-- `outline::loose::bad_cell` meets its contract: the two tests of the definition, in its order.
+-- Assumes nothing.
+use borrow.Author.Tests.{le-leb, lt-leb}
+use Rattle.outline.specs.Loose.{badCell}
+use Rattle.outline.proofs.loose.bad_cell.Statement.{statement}
+use Rattle.outline.proofs.loose.bad_cell.Tie as tie
+
+returns : tie.Need-returns
+unfolding badCell
+returns c = simp (le-leb _ _ (c .if1 .taken))
+
+returns-2 : tie.Need-returns-2
+unfolding badCell
+returns-2 c = simp (lt-leb _ _ (c .before .if1 .left))
+
+pub bad-cell-spec : {M : Type 1} → statement M
+bad-cell-spec = tie.close (tie.spec returns returns-2)

@@ -1,0 +1,1 @@
+// A list of calls as bytes, run from a fresh holder.
