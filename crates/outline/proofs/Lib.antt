@@ -10,3 +10,8 @@ pub mod Integers
 pub mod FrameSizes
 pub mod Spans
 pub mod LooseCases
+pub mod TraceLaws
+pub mod DentLaws
+pub mod EarlyLaws
+pub mod PieceLaws
+pub mod TurnLaws

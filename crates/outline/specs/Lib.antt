@@ -7,4 +7,6 @@ pub mod Loose
 pub mod Specimens
 pub mod Cutting
 pub mod Edge
+pub mod Tracing
+pub mod Testing
 pub mod Span

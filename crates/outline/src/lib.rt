@@ -5,6 +5,8 @@ pub mod frame;
 pub mod loose;
 pub mod paper;
 mod signed;
+pub mod test;
+mod trace;
 
 // Why an input is turned back: refusals 1 to 11 of document 01, each with the fields that it names.
 pub enum Refusal {

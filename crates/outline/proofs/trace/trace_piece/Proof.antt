@@ -1,0 +1,60 @@
+-- `outline::trace::trace_piece` meets its contract: the part from one place further on is the piece without its first letter; a piece without a letter has no edge.
+-- Assumes nothing.
+use native.Mathlib.Omega.{arith}
+use mathlib.Core.Logic.{⊎-elim}
+use lib.ListN.{length}
+use borrow.Author.Needs.{needs}
+use borrow.Author.Tests.{leb-true, leb-false}
+use Rattle.outline.proofs.DentLaws.{piece-part, piece-none}
+use Rattle.outline.proofs.trace.trace_piece.Statement.{statement}
+use Rattle.outline.proofs.trace.trace_piece.Tie as tie
+
+add-first : tie.Need-add-first
+add-first c = search needs
+
+sub-if3 : tie.Need-sub-if3
+sub-if3 c = search needs
+
+sub-trace : tie.Need-sub-trace
+sub-trace c = search needs
+
+part-trace-start : tie.Need-part-trace-start
+part-trace-start c = search needs
+
+part-trace-end : tie.Need-part-trace-end
+part-trace-end c = search needs
+
+trace-requires : tie.Need-trace-requires
+trace-requires c κs = search needs
+
+same-length : tie.Need-same-length
+same-length c = search needs
+
+returns : tie.Need-returns
+returns c =
+    let tested = c .before .before .before .before .before in
+    piece-part (tested .before .if1 .taken) (leb-true _ _ (tested .if2 .taken)) (c .before .trace .ensures)
+
+returns-2 : tie.Need-returns-2
+returns-2 c = piece-none (λ l h. c .if3 .left)
+
+returns-3 : tie.Need-returns-3
+returns-3 c =
+    let a = c .before .before .args in
+    piece-none
+    (λ l h. absurd (⊎-elim (λ w. omega (arith, leb-false (a .to) (length (a .buffer .now)) (w .1 .left))) (λ w. omega (arith, w .left)) (c .if1 .came)))
+
+pub trace-piece-spec : {M : Type 1} → statement M
+trace-piece-spec =
+    tie.close
+    (tie.spec
+    add-first
+    sub-if3
+    sub-trace
+    part-trace-start
+    part-trace-end
+    trace-requires
+    same-length
+    returns
+    returns-2
+    returns-3)
