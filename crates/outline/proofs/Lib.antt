@@ -2,6 +2,7 @@
 pub mod Computes
 pub mod Specimens
 pub mod TestLaws
+pub mod Readings
 pub mod Buffer
 pub mod CutCode
 pub mod CutLaws
