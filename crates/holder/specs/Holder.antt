@@ -38,24 +38,27 @@ workEdges w = take (min (2 * w .edges) longestList) (w .numbers)
 
 -- Nothing drafted; nothing at work
 unfoldable pub noDraft : Draft
-noDraft = record { begun = false; start = record { col = 0; row = 0 }; letters = replicate 2048 0; count = 0 }
+noDraft = record { begun = false; start = record { col = 0; row = 0 }; letters = replicate longest 0; count = 0 }
 
 unfoldable pub noWork : Work
 noWork =
     record {
       taken = false;
       start = record { col = 0; row = 0 };
-      letters = replicate 2048 0;
+      letters = replicate longest 0;
       count = 0;
       anchor = record { col = 0; row = 0 };
-      numbers = replicate 2032 (pos 0);
+      numbers = replicate longestList (pos 0);
       edges = 0;
     }
 
 unfoldable pub freshHolder : Holder
 freshHolder = record { draft = noDraft; work = noWork }
 
--- The draft ended, its letters left as they are; the work removed
+-- The draft opened at a start, without letters, and ended, its letters left as they are; the work removed
+abbrev pub begunAt : Draft → Point → Draft
+begunAt d s = record { begun = true; start = s; letters = d .letters; count = 0 }
+
 unfoldable pub ended : Draft → Draft
 ended d = record { begun = false; start = d .start; letters = d .letters; count = 0 }
 
@@ -67,10 +70,7 @@ unfoldable pub beginOf : Holder → Point → Answered
 beginOf h s =
     cond (h .draft .begun) (record { reply = DraftOpen; holder = h })
     (cond (badStart s) (record { reply = WasRefused Start; holder = h })
-    (record {
-      reply = Done;
-      holder = record { draft = record { begun = true; start = s; letters = h .draft .letters; count = 0 }; work = h .work };
-    }))
+    (record { reply = Done; holder = record { draft = begunAt (h .draft) s; work = h .work } }))
 
 unfoldable pub addOf : Holder → ℕ → Answered
 addOf h a =
@@ -101,10 +101,23 @@ sameOutline d w = w .taken && (samePoint (d .start) (w .start) && sameLetters (d
 
 -- The edge list that the test of a close is lent
 unfoldable pub lentList : List ℤ
-lentList = replicate 2032 (pos 0)
+lentList = replicate longestList (pos 0)
 
 unfoldable pub tested : Draft → Verdict
 tested d = testOf (d .start) (draftLetters d) (length lentList)
+
+-- The work that a taken draft becomes, with its anchor, its edges and their count
+abbrev pub workOf : Draft → Point → List ℤ → ℕ → Work
+workOf d a es n =
+    record {
+      taken = true;
+      start = d .start;
+      letters = d .letters;
+      count = min (d .count) longest;
+      anchor = a;
+      numbers = es;
+      edges = n;
+    }
 
 unfoldable pub closedBy : Holder → Verdict → Answered
 closedBy h (Refused f) = record { reply = WasRefused f; holder = record { draft = ended (h .draft); work = h .work } }
@@ -114,16 +127,7 @@ closedBy h (Taken n c r) =
       holder =
           record {
             draft = ended (h .draft);
-            work =
-                record {
-                  taken = true;
-                  start = h .draft .start;
-                  letters = h .draft .letters;
-                  count = min (h .draft .count) longest;
-                  anchor = record { col = c; row = r };
-                  numbers = edgesAfter (h .draft .start) (draftLetters (h .draft)) lentList;
-                  edges = n;
-                };
+            work = workOf (h .draft) (record { col = c; row = r }) (edgesAfter (h .draft .start) (draftLetters (h .draft)) lentList) n;
           };
     }
 

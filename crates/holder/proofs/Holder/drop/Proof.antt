@@ -1,0 +1,20 @@
+-- `Holder::drop` meets its contract: a return for each case of the definition. Assumes nothing.
+use borrow.Author.Needs.{needs}
+use borrow.Author.Tests.{not-true, not-false}
+use Rattle.holder.specs.Holder.{ended, dropOf}
+use Rattle.holder.proofs.Holder.drop.Statement.{statement}
+use Rattle.holder.proofs.Holder.drop.Tie as tie
+
+returns : tie.Need-returns
+unfolding dropOf
+returns c = rw (not-true (c .before .before .args .self .draft .begun) (c .if1 .taken))
+
+end-requires : tie.Need-end-requires
+end-requires c κs = search needs
+
+returns-2 : tie.Need-returns-2
+unfolding dropOf ended
+returns-2 c = rw (not-false (c .before .before .before .before .args .self .draft .begun) (c .before .before .if1 .left), c .before .end .ensures)
+
+pub drop-spec : {M : Type 1} → statement M
+drop-spec = tie.close (tie.spec returns end-requires returns-2)
