@@ -16,3 +16,4 @@ pub mod DentLaws
 pub mod EarlyLaws
 pub mod PieceLaws
 pub mod TurnLaws
+pub mod ReplyLaws

@@ -1,5 +1,9 @@
 -- What document 01 gives of a reply: the number, the word and the fields, for every answer of a test and of a loose query. "Fields unnamed here are 0."
 use Prim.Native.Nat.{ℕ}
+use mathlib.Core.Bool.{cond}
+use mathlib.Core.List.{List, [], _∷_, _++_}
+use lib.ListN.{length, drop}
+use lib.Dec.{leb}
 use Rattle.outline.specs.declared.Fields.{Fields}
 use Rattle.outline.specs.declared.Refusal.{Refusal}
 use Rattle.outline.specs.declared.Refusal.the-variants.{Count, Start, Letter, Leaves, Unclosed, Touches, Anticlockwise, BackStep, Dent, Room, List as BadList, Cell}
@@ -60,3 +64,11 @@ abbrev pub positionFields : Position → Fields
 positionFields Inside = said inside
 positionFields Outside = said outside
 positionFields (Rejected f) = refusalFields f
+
+-- A reply as seven numbers
+unfoldable pub numbersOf : Fields → List ℕ
+numbersOf f = f .number ∷ f .word ∷ f .place ∷ f .piece ∷ f .length ∷ f .col ∷ f .row ∷ []
+
+-- A lent list after a reply: the seven numbers stand first and the rest is unaltered; where there is no room for seven, all of it is
+unfoldable pub replyAfter : Fields → List ℕ → List ℕ
+replyAfter f lent = cond (leb 7 (length lent)) (numbersOf f ++ drop 7 lent) lent

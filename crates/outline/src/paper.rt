@@ -4,7 +4,12 @@ use crate::Position;
 use crate::Refusal;
 use crate::Verdict;
 ghost use mathlib.Core.Path.{_≡_};
-ghost use Rattle.outline.specs.Fields.{numbered as numberedOf, placed as placedOf, said as saidOf, accepted as acceptedOf, refusalFields, verdictFields, positionFields};
+ghost use lib.ListN.{length};
+ghost use lib.Dec.{leb};
+ghost use Rattle.outline.specs.Fields.{numbered as numberedOf, placed as placedOf, said as saidOf, accepted as acceptedOf, refusalFields, verdictFields, positionFields, replyAfter};
+
+// How many numbers a reply is.
+pub const NUMBERS: usize = 7;
 
 // A number alone.
 pub fn numbered(number: u16) -> Fields
@@ -108,4 +113,22 @@ pub fn of_position(p: Position) -> Fields
         Position::Outside => said(2),
         Position::Refused(f) => of_refusal(f),
     }
+}
+
+// Writes a reply's seven numbers to the front of a lent list, and says whether it has room for them.
+pub fn write(f: Fields, list: &mut [u16]) -> bool
+    ensures room { λ r. ⌜ r ≡ leb 7 (length (now (list .entry))) ⌝ }
+    ensures list { λ r. ⌜ now (list .exit) ≡ replyAfter f (now (list .entry)) ⌝ }
+{
+    if list.len() < NUMBERS {
+        return false;
+    }
+    list[0] = f.number;
+    list[1] = f.word;
+    list[2] = f.place;
+    list[3] = f.piece;
+    list[4] = f.length;
+    list[5] = f.col;
+    list[6] = f.row;
+    true
 }

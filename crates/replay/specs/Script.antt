@@ -4,7 +4,7 @@ use mathlib.Core.Option.{Option, none, some}
 use mathlib.Core.List.{List, [], _∷_, _++_}
 use lib.ListN.{length, take, drop}
 use Rattle.lattice.specs.declared.Point.{Point}
-use Rattle.outline.specs.declared.Fields.{Fields}
+use Rattle.outline.specs.Fields.{numbersOf}
 use Rattle.holder.specs.Calls.{Call, begin, add, close, query}
 use Rattle.holder.specs.Calls
 use Rattle.holder.specs.Replies.{replyFields}
@@ -33,10 +33,6 @@ callsIn (n ∷ a ∷ []) = []
 callsIn (n ∷ a ∷ b ∷ []) = []
 callsIn (n ∷ a ∷ b ∷ c ∷ []) = []
 callsIn (n ∷ a ∷ b ∷ c ∷ d ∷ w) = elim (callOf n a b c d) [ none ↦ [] | some x ↦ x ∷ callsIn w ]
-
--- A reply as seven numbers
-unfoldable pub numbersOf : Fields → List ℕ
-numbersOf f = f .number ∷ f .word ∷ f .place ∷ f .piece ∷ f .length ∷ f .col ∷ f .row ∷ []
 
 unfoldable pub written : List Reply → List ℕ
 written [] = []

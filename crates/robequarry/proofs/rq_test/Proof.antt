@@ -1,0 +1,64 @@
+-- A short reply list is left, and the edges with it; else the test answers, its fields are written, and the edges are as the test leaves them.
+use Prim.Native.Nat.{_≤_, _<_}
+use native.Mathlib.Omega.{arith}
+use mathlib.Core.Path.{sym, ap, _∙_}
+use lib.ListN.{length}
+use borrow.Author.Needs.{needs}
+use borrow.Author.Tests.{le-leb, lt-leb}
+use Rattle.outline.specs.declared.Fields.{Fields}
+use Rattle.outline.specs.Fields.{verdictFields, replyAfter}
+use Rattle.outline.proofs.ReplyLaws.{replyAfter-short}
+use Rattle.robequarry.specs.Face.{testReply, testEdges}
+use Rattle.robequarry.proofs.rq_test.Statement.{statement}
+use Rattle.robequarry.proofs.rq_test.Tie as tie
+
+returns : tie.Need-returns
+unfolding testReply testEdges
+returns c =
+    let reply = c .before .before .before .args .reply .now in
+    let short : length reply < 7 = omega (arith, c .if1 .taken) in
+    (sym (lt-leb 7 _ short), (sym (replyAfter-short _ reply short), rw (lt-leb 7 _ short)))
+
+test-requires : tie.Need-test-requires
+test-requires c κs = search needs
+
+of-verdict-requires : tie.Need-of-verdict-requires
+of-verdict-requires c κs = search needs
+
+write-requires : tie.Need-write-requires
+write-requires c κs = search needs
+
+same-length : tie.Need-same-length
+same-length c = search needs
+
+same-length-2 : tie.Need-same-length-2
+same-length-2 c = search needs
+
+returns-2 : tie.Need-returns-2
+unfolding testReply testEdges
+returns-2 c =
+    let written = c .before .before in
+    let named = written .before .before in
+    let tested = named .before .before in
+    let else1 = tested .before .before in
+    let reply = else1 .before .before .before .args .reply .now in
+    let room : 7 ≤ length reply = omega (arith, else1 .if1 .left) in
+    let fields = named .of-verdict .ensures ∙ ap verdictFields (tested .test .ensures .0) in (
+      written .write .ensures .0,
+      (
+        written .write .ensures .1 ∙ ap (λ (f : Fields). replyAfter f reply) fields,
+        rw (le-leb 7 _ room) (tested .test .ensures .1),
+      ),
+    )
+
+pub rq-test-spec : {M : Type 1} → statement M
+rq-test-spec =
+    tie.close
+    (tie.spec
+    returns
+    test-requires
+    of-verdict-requires
+    write-requires
+    same-length
+    same-length-2
+    returns-2)

@@ -1,0 +1,51 @@
+// The calls for C and Rust. A slice is passed as a pointer and a length. A reply is seven numbers at the front of a lent list, in the order
+// number, word (0 none, 1 inside, 2 outside, 3 taken, 4 same), place, piece, length, column, row; a list of fewer than seven is turned back.
+use lattice::Point;
+use outline::loose;
+use outline::paper;
+use outline::test;
+ghost use mathlib.Core.Path.{_≡_};
+ghost use lib.ListN.{length};
+ghost use lib.Dec.{leb};
+ghost use Rattle.robequarry.specs.Face.{testReply, testEdges, looseReply};
+
+// Tests an outline: the start corner and the letters. The edges stand first in the list lent for them, where the outline is taken.
+#[no_mangle]
+pub extern "C" fn rq_test(
+    col: u16,
+    row: u16,
+    letters: &[u8],
+    edges: &mut [i16],
+    reply: &mut [u16],
+) -> bool
+    ensures room { λ r. ⌜ r ≡ leb 7 (length (now (reply .entry))) ⌝ }
+    ensures reply { λ r. ⌜ now (reply .exit) ≡ testReply col row (now (letters .entry)) (now (edges .entry)) (now (reply .entry)) ⌝ }
+    ensures edges { λ r. ⌜ now (edges .exit) ≡ testEdges col row (now (letters .entry)) (now (edges .entry)) (now (reply .entry)) ⌝ }
+{
+    if reply.len() < paper::NUMBERS {
+        return false;
+    }
+    let verdict = test::test(Point { col, row }, letters, edges);
+    paper::write(paper::of_verdict(verdict), reply)
+}
+
+// Asks whether a cell lies inside the edges that leave an anchor.
+#[no_mangle]
+pub extern "C" fn rq_loose_query(
+    anchor_col: u16,
+    anchor_row: u16,
+    edges: &[i16],
+    col: u16,
+    row: u16,
+    reply: &mut [u16],
+) -> bool
+    ensures room { λ r. ⌜ r ≡ leb 7 (length (now (reply .entry))) ⌝ }
+    ensures reply { λ r. ⌜ now (reply .exit) ≡ looseReply «anchor_col» «anchor_row» (now (edges .entry)) col row (now (reply .entry)) ⌝ }
+{
+    let anchor = Point {
+        col: anchor_col,
+        row: anchor_row,
+    };
+    let position = loose::loose_query(anchor, edges, Point { col, row });
+    paper::write(paper::of_position(position), reply)
+}
