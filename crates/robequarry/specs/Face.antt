@@ -1,4 +1,4 @@
--- The calls for C and Rust: each writes its reply as seven numbers to a lent list, and a list without room for them is turned back before anything else.
+-- The calls for C and Rust: each writes its reply as seven numbers to a lent list. A list without room for them is left as it was, and the edges with it.
 use Prim.Native.Nat.{ℕ}
 use mathlib.Core.Bool.{cond}
 use mathlib.Core.List.{List}

@@ -1,0 +1,229 @@
+//! The proved library, and its algorithm in plain Rust, against document 01 as written.
+//!
+//!     differential               the whole run
+//!     differential SEED          the same from another seed
+//!     differential replay LINE   one input again, by the line that a failure printed; without LINE, by standard input
+
+use std::env;
+use std::io::{read_to_string, stdin};
+use std::process::exit;
+use std::time::Instant;
+
+use robequarry_checks::case::Case;
+use robequarry_checks::draw::{rotated, Shape};
+use robequarry_checks::engine::{Engine, Library, Plain, Reference};
+use robequarry_checks::garbage;
+use robequarry_checks::random::Random;
+use robequarry_checks::reference::cells::Enclosed;
+use robequarry_checks::scripts;
+use robequarry_checks::tally::Tally;
+use robequarry_checks::walks;
+use robequarry_checks::{Outline, Point};
+
+const SEED: u64 = 1;
+const SPOILT: usize = 120_000;
+const LOOSE: usize = 120_000;
+const SCRIPTS: usize = 24_000;
+
+const ENGINES: [&dyn Engine; 2] = [&Library, &Plain];
+
+fn main() {
+    let arguments: Vec<String> = env::args().skip(1).collect();
+    match arguments.as_slice() {
+        [] => run(SEED),
+        [first] if first == "replay" => replay(&read_to_string(stdin()).expect("standard input is a line")),
+        [first, line @ ..] if first == "replay" => replay(&line.join(" ")),
+        [seed] if seed.parse::<u64>().is_ok() => run(seed.parse().expect("just tried")),
+        _ => {
+            eprintln!("differential [SEED] | differential replay [LINE]");
+            exit(2);
+        }
+    }
+}
+
+/// One input again, with what each engine answers.
+fn replay(line: &str) {
+    let case: Case = line.parse().unwrap_or_else(|error| {
+        eprintln!("{error}");
+        exit(2);
+    });
+    let expected = case.run(&Reference);
+    println!("document 01: {expected}");
+    let mut agree = true;
+    for engine in ENGINES {
+        let outcome = case.run(engine);
+        println!("{}: {outcome}", engine.name());
+        agree &= outcome == expected;
+    }
+    println!("{}", if agree { "all agree" } else { "they differ" });
+    exit(i32::from(!agree));
+}
+
+fn run(seed: u64) {
+    println!("differential: seed {seed}");
+    let began = Instant::now();
+    let mut run = Run { tally: Tally::default(), compared: 0 };
+    run.section("every outline in a 3 by 3 block", every_outline_of_3_by_3);
+    run.section("every outline in a 4 by 4 block", every_outline_of_4_by_4);
+    let seed = 1000 * seed;
+    for (i, shape) in Shape::ALL.into_iter().enumerate() {
+        let name = format!("{} {}", drawings_of(shape), shape.name());
+        run.random_section(&name, seed + i as u64, |run, random| drawings(run, shape, random));
+    }
+    run.random_section(&format!("{SPOILT} spoilt lists of letters"), seed + 100, spoilt);
+    run.random_section(&format!("{LOOSE} loose queries"), seed + 200, loose_queries);
+    run.random_section(&format!("{SCRIPTS} scripts of calls"), seed + 300, random_scripts);
+
+    let complaints = run.tally.report();
+    complaints.iter().for_each(|complaint| println!("{complaint}"));
+    println!("differential: {} inputs, {:.1} s", run.compared, began.elapsed().as_secs_f64());
+    if !complaints.is_empty() {
+        exit(1);
+    }
+    println!("differential: all agree");
+}
+
+struct Run {
+    tally: Tally,
+    compared: u64,
+}
+
+impl Run {
+    /// Runs a part, and says how many inputs it compared and how long it took.
+    fn section(&mut self, name: &str, part: impl FnOnce(&mut Run)) {
+        let (began, before) = (Instant::now(), self.compared);
+        part(self);
+        println!("{:>9} inputs {:>6.1} s  {name}", self.compared - before, began.elapsed().as_secs_f64());
+    }
+
+    /// Runs a part that draws its inputs at random.
+    fn random_section(&mut self, name: &str, seed: u64, part: impl FnOnce(&mut Run, &mut Random)) {
+        self.section(&format!("{name}, seed {seed}"), |run| part(run, &mut Random::new(seed)));
+    }
+
+    /// Holds every engine to the reference: what it returns, and each lent list as a whole. Gives the reply's first number.
+    fn compare(&mut self, case: &Case) -> Option<u16> {
+        let expected = case.run(&Reference);
+        for engine in ENGINES {
+            let outcome = case.run(engine);
+            if outcome != expected {
+                println!("document 01: {expected}");
+                println!("{}: {outcome}", engine.name());
+                println!("again: cargo run --release --bin differential -- replay {case}");
+                exit(1);
+            }
+        }
+        self.tally.count(case, &expected);
+        self.compared += 1;
+        (expected.returned > 0).then(|| expected.replies[0])
+    }
+
+    /// A test with room for every edge.
+    fn compare_test(&mut self, outline: Outline) -> u16 {
+        self.compare(&Case::Test { outline, lent: 2032, room: 7 }).expect("there is room for the reply")
+    }
+}
+
+/// In the middle of the chart, and in two of its corners.
+fn every_outline_of_3_by_3(run: &mut Run) {
+    for at in [Point::new(0, 0), Point::new(120, 77), Point::new(252, 252)] {
+        for outline in walks::outlines(3, at) {
+            run.compare_test(outline);
+        }
+    }
+}
+
+fn every_outline_of_4_by_4(run: &mut Run) {
+    let mut counts = [0; 16];
+    for outline in walks::outlines(4, Point::new(0, 0)) {
+        counts[usize::from(run.compare_test(outline))] += 1;
+    }
+    let expected = [30_712, 0, 0, 0, 0, 0, 0, 163_272, 125_680, 6_880, 0, 0, 0, 0, 0, 0];
+    if counts != expected {
+        println!("4 by 4: counts of numbers {counts:?}, not {expected:?}");
+        exit(1);
+    }
+}
+
+/// How many drawings of a shape there are: fewer of those that take long.
+fn drawings_of(shape: Shape) -> usize {
+    match shape {
+        Shape::Comb => 600,
+        Shape::ManySided => 6_000,
+        _ => 30_000,
+    }
+}
+
+/// Drawings of one shape: each from one corner of its border, one in twelve from every corner.
+fn drawings(run: &mut Run, shape: Shape, random: &mut Random) {
+    for _ in 0..drawings_of(shape) {
+        let outline = shape.draw(random);
+        let (lent, room) = (garbage::lent(random), garbage::room(random));
+        let number = run.compare(&Case::Test { outline: outline.clone(), lent, room });
+        if number.is_some() {
+            dented_exactly_if_a_cell_is_missing(&outline, number);
+        }
+        if number == Some(0) {
+            cells_against_edges(run, &outline, random);
+        }
+        if outline.letters.len() <= 400 && random.once_in(12) {
+            for place in 0..outline.letters.len() {
+                run.compare_test(rotated(&outline, place));
+            }
+        }
+    }
+}
+
+/// What document 01 says of every outline that reaches back-steps and dents.
+fn dented_exactly_if_a_cell_is_missing(outline: &Outline, number: Option<u16>) {
+    let missing = || Enclosed::of(outline.start, &outline.letters).missing();
+    let holds = match number {
+        Some(0 | 10) => missing().is_none(),
+        Some(8 | 9) => missing().is_some(),
+        _ => true,
+    };
+    if !holds {
+        println!("the reference contradicts document 01: {number:?} {outline:?}");
+        exit(1);
+    }
+}
+
+/// Loose queries with the edges of a taken outline: inside means enclosed.
+fn cells_against_edges(run: &mut Run, outline: &Outline, random: &mut Random) {
+    let tested = robequarry_checks::reference::calls::test(outline.start, &outline.letters);
+    let edges: Vec<i16> = tested.edges.iter().flat_map(|&(cols, rows)| [cols as i16, rows as i16]).collect();
+    let anchor = Point::new(tested.reply.col, tested.reply.row);
+    let enclosed = Enclosed::of(outline.start, &outline.letters);
+    for _ in 0..4 {
+        let reach = [3, 20, 255][random.below(3)];
+        let mut near = |x: u16| (usize::from(x) + random.below(2 * reach)).saturating_sub(reach).min(254) as u16;
+        let cell = Point::new(near(anchor.col), near(anchor.row));
+        run.compare(&Case::Loose { anchor, edges: edges.clone(), cell, room: 7 });
+        let inside = robequarry_checks::reference::calls::loose_query(anchor, &edges, cell).word == 1;
+        if inside != enclosed.has((i32::from(cell.col), i32::from(cell.row))) {
+            println!("the reference contradicts document 01: {cell:?} {outline:?}");
+            exit(1);
+        }
+    }
+}
+
+fn spoilt(run: &mut Run, random: &mut Random) {
+    for _ in 0..SPOILT {
+        let case = garbage::spoilt_test(random);
+        run.compare(&case);
+    }
+}
+
+fn loose_queries(run: &mut Run, random: &mut Random) {
+    for i in 0..LOOSE {
+        let case = if i % 4 == 0 { garbage::loose(random) } else { garbage::round_walk(random) };
+        run.compare(&case);
+    }
+}
+
+fn random_scripts(run: &mut Run, random: &mut Random) {
+    for _ in 0..SCRIPTS {
+        let case = scripts::script(random);
+        run.compare(&case);
+    }
+}

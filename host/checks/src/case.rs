@@ -1,0 +1,170 @@
+//! One input for an engine, and the line by which it can be replayed.
+
+use std::fmt::{self, Write as _};
+use std::str::FromStr;
+
+use crate::engine::Engine;
+use crate::{Outline, Point};
+
+/// An input. `lent` and `room` are the lengths of the list for edges and of the list for replies.
+#[derive(Clone, Debug, PartialEq)]
+pub enum Case {
+    Test { outline: Outline, lent: usize, room: usize },
+    Loose { anchor: Point, edges: Vec<i16>, cell: Point, room: usize },
+    Script { bytes: Vec<u8>, room: usize },
+}
+
+/// What an engine returned (a truth as 0 or 1), and every lent list as it left it.
+#[derive(Clone, Debug, PartialEq)]
+pub struct Outcome {
+    pub returned: usize,
+    pub edges: Vec<i16>,
+    pub replies: Vec<u16>,
+}
+
+/// What stands in a lent list before a call: anything but what the call would write.
+fn filler(i: usize) -> u16 {
+    (i as u16).wrapping_mul(0x9e37) ^ 0x5a5a
+}
+
+impl Case {
+    pub fn run(&self, engine: &dyn Engine) -> Outcome {
+        let (lent, room) = match *self {
+            Case::Test { lent, room, .. } => (lent, room),
+            Case::Loose { room, .. } | Case::Script { room, .. } => (0, room),
+        };
+        let mut edges: Vec<i16> = (0..lent).map(|i| filler(i) as i16).collect();
+        let mut replies: Vec<u16> = (0..room).map(filler).collect();
+        let returned = match self {
+            Case::Test { outline, .. } => {
+                usize::from(engine.test(outline.start, &outline.letters, &mut edges, &mut replies))
+            }
+            Case::Loose { anchor, edges, cell, .. } => usize::from(engine.loose_query(*anchor, edges, *cell, &mut replies)),
+            Case::Script { bytes, .. } => engine.replay(bytes, &mut replies),
+        };
+        Outcome { returned, edges, replies }
+    }
+}
+
+/// In short: what was written, and what was altered behind it.
+impl fmt::Display for Outcome {
+    fn fmt(&self, f: &mut fmt::Formatter<'_>) -> fmt::Result {
+        let written = 7 * self.returned;
+        let (replies, rest) = self.replies.split_at(written.min(self.replies.len()));
+        write!(f, "returned {}, replies", self.returned)?;
+        for reply in replies.chunks(7) {
+            write!(f, " {reply:?}")?;
+        }
+        let edges = self.edges.iter().enumerate().rposition(|(i, &edge)| edge != filler(i) as i16);
+        write!(f, ", edges {:?}", &self.edges[..edges.map_or(0, |last| last + 1)])?;
+        let altered = (written..).zip(rest).filter(|&(i, &number)| number != filler(i)).count();
+        write!(f, ", {altered} numbers altered behind the replies")
+    }
+}
+
+/// Bytes as hexadecimal digits, or as one digit each if all are letters; `-` if there are none.
+fn bytes_as_text(bytes: &[u8]) -> String {
+    if bytes.is_empty() {
+        return "-".to_string();
+    }
+    if bytes.iter().all(|&byte| byte < 4) {
+        return bytes.iter().map(|&byte| char::from(b'0' + byte)).collect();
+    }
+    let mut text = "x".to_string();
+    for byte in bytes {
+        let _ = write!(text, "{byte:02x}");
+    }
+    text
+}
+
+fn bytes_from_text(text: &str) -> Result<Vec<u8>, String> {
+    if text == "-" {
+        return Ok(Vec::new());
+    }
+    let Some(digits) = text.strip_prefix('x') else {
+        return text.chars().map(|c| c.to_digit(4).map(|d| d as u8).ok_or(format!("no letter: {c}"))).collect();
+    };
+    let pairs = digits.as_bytes().chunks(2);
+    pairs.map(|pair| u8::from_str_radix(&String::from_utf8_lossy(pair), 16).map_err(|e| e.to_string())).collect()
+}
+
+fn numbers_as_text(numbers: &[i16]) -> String {
+    if numbers.is_empty() {
+        return "-".to_string();
+    }
+    numbers.iter().map(i16::to_string).collect::<Vec<_>>().join(",")
+}
+
+fn numbers_from_text(text: &str) -> Result<Vec<i16>, String> {
+    if text == "-" {
+        return Ok(Vec::new());
+    }
+    text.split(',').map(number).collect()
+}
+
+fn number<T: FromStr>(text: &str) -> Result<T, String> {
+    text.parse().map_err(|_| format!("no number here: {text}"))
+}
+
+impl fmt::Display for Case {
+    fn fmt(&self, f: &mut fmt::Formatter<'_>) -> fmt::Result {
+        match self {
+            Case::Test { outline: Outline { start, letters }, lent, room } => {
+                write!(f, "test {} {} {} {lent} {room}", start.col, start.row, bytes_as_text(letters))
+            }
+            Case::Loose { anchor, edges, cell, room } => {
+                let edges = numbers_as_text(edges);
+                write!(f, "loose {} {} {edges} {} {} {room}", anchor.col, anchor.row, cell.col, cell.row)
+            }
+            Case::Script { bytes, room } => write!(f, "script {} {room}", bytes_as_text(bytes)),
+        }
+    }
+}
+
+impl FromStr for Case {
+    type Err = String;
+
+    fn from_str(line: &str) -> Result<Self, String> {
+        let words: Vec<&str> = line.split_whitespace().collect();
+        match words[..] {
+            ["test", col, row, letters, lent, room] => Ok(Case::Test {
+                outline: Outline { start: Point::new(number(col)?, number(row)?), letters: bytes_from_text(letters)? },
+                lent: number(lent)?,
+                room: number(room)?,
+            }),
+            ["loose", anchor_col, anchor_row, edges, col, row, room] => Ok(Case::Loose {
+                anchor: Point::new(number(anchor_col)?, number(anchor_row)?),
+                edges: numbers_from_text(edges)?,
+                cell: Point::new(number(col)?, number(row)?),
+                room: number(room)?,
+            }),
+            ["script", bytes, room] => Ok(Case::Script { bytes: bytes_from_text(bytes)?, room: number(room)? }),
+            _ => {
+                Err("a line is `test COL ROW LETTERS LENT ROOM`, `loose COL ROW EDGES COL ROW ROOM` or `script BYTES ROOM`"
+                    .to_string())
+            }
+        }
+    }
+}
+
+#[cfg(test)]
+mod tests {
+    use super::*;
+
+    #[test]
+    fn a_line_gives_its_case_again() {
+        let lines = [
+            "test 0 1 1033 8 7",
+            "test 256 0 x07070707 0 6",
+            "test 0 0 - 2032 9",
+            "loose 0 0 2,0,-2,0 254 0 7",
+            "loose 3 4 - 3 4 7",
+            "script x0000000000040000000006 14",
+            "script - 0",
+        ];
+        for line in lines {
+            assert_eq!(line.parse::<Case>().map(|case| case.to_string()), Ok(line.to_string()));
+        }
+        assert!("test 0 0 1032".parse::<Case>().is_err());
+    }
+}

@@ -1,0 +1,86 @@
+//! One face for whatever answers the calls: the library's own, on plain lists of numbers.
+
+use crate::{plain, reference, Fields, Point};
+
+pub trait Engine {
+    fn name(&self) -> &'static str;
+
+    fn test(&self, start: Point, letters: &[u8], edges: &mut [i16], reply: &mut [u16]) -> bool;
+
+    fn loose_query(&self, anchor: Point, edges: &[i16], cell: Point, reply: &mut [u16]) -> bool;
+
+    fn replay(&self, script: &[u8], replies: &mut [u16]) -> usize;
+}
+
+/// The proved library.
+pub struct Library;
+
+/// Document 01 as written.
+pub struct Reference;
+
+/// The library's algorithm in plain Rust.
+pub struct Plain;
+
+impl Engine for Library {
+    fn name(&self) -> &'static str {
+        "library"
+    }
+
+    fn test(&self, start: Point, letters: &[u8], edges: &mut [i16], reply: &mut [u16]) -> bool {
+        robequarry::raw::test(start.col, start.row, letters, edges, reply)
+    }
+
+    fn loose_query(&self, anchor: Point, edges: &[i16], cell: Point, reply: &mut [u16]) -> bool {
+        robequarry::raw::loose_query(anchor.col, anchor.row, edges, cell.col, cell.row, reply)
+    }
+
+    fn replay(&self, script: &[u8], replies: &mut [u16]) -> usize {
+        robequarry::raw::replay(script, replies)
+    }
+}
+
+impl Engine for Reference {
+    fn name(&self) -> &'static str {
+        "reference"
+    }
+
+    fn test(&self, start: Point, letters: &[u8], edges: &mut [i16], reply: &mut [u16]) -> bool {
+        answer(reply, || reference::calls::test_into(start, letters, edges))
+    }
+
+    fn loose_query(&self, anchor: Point, edges: &[i16], cell: Point, reply: &mut [u16]) -> bool {
+        answer(reply, || reference::calls::loose_query(anchor, edges, cell))
+    }
+
+    fn replay(&self, script: &[u8], replies: &mut [u16]) -> usize {
+        reference::book::replay(script, replies)
+    }
+}
+
+impl Engine for Plain {
+    fn name(&self) -> &'static str {
+        "plain"
+    }
+
+    fn test(&self, start: Point, letters: &[u8], edges: &mut [i16], reply: &mut [u16]) -> bool {
+        answer(reply, || plain::test(start, letters, edges))
+    }
+
+    fn loose_query(&self, anchor: Point, edges: &[i16], cell: Point, reply: &mut [u16]) -> bool {
+        answer(reply, || plain::loose_query(anchor, edges, cell))
+    }
+
+    fn replay(&self, script: &[u8], replies: &mut [u16]) -> usize {
+        plain::replay(script, replies)
+    }
+}
+
+/// Writes an answer where the reply list has room for it; else nothing is done.
+#[inline]
+fn answer(reply: &mut [u16], call: impl FnOnce() -> Fields) -> bool {
+    let Some(room) = reply.first_chunk_mut::<7>() else {
+        return false;
+    };
+    *room = call().numbers();
+    true
+}

@@ -1,0 +1,102 @@
+//! The border read once round from W, and its four pieces.
+
+use super::chart::{step, LONGEST};
+use crate::Point;
+
+/// The two letters of a piece.
+#[derive(Clone, Copy)]
+pub struct Pair {
+    pub earlier: u8,
+    pub later: u8,
+}
+
+pub const PAIRS: [Pair; 4] = [
+    Pair { earlier: 0, later: 1 },
+    Pair { earlier: 3, later: 0 },
+    Pair { earlier: 2, later: 3 },
+    Pair { earlier: 1, later: 2 },
+];
+
+/// The columns and rows of a letter's step.
+pub const COLS: [i16; 4] = [1, 0, -1, 0];
+pub const ROWS: [i16; 4] = [0, 1, 0, -1];
+
+/// The letters of an outline past refusal 6, from W on.
+pub struct Turn {
+    letters: [u8; LONGEST],
+    count: usize,
+    /// The corner W.
+    pub west: Point,
+    /// The place of the letter that leaves W.
+    west_place: usize,
+}
+
+impl Turn {
+    pub fn new(start: Point, letters: &[u8]) -> Self {
+        let (west, west_place) = west(start, letters);
+        let mut turn = Turn { letters: [0; LONGEST], count: letters.len(), west, west_place };
+        let (before, after) = letters.split_at(west_place);
+        turn.letters[..after.len()].copy_from_slice(after);
+        turn.letters[after.len()..letters.len()].copy_from_slice(before);
+        turn
+    }
+
+    pub fn letters(&self) -> &[u8] {
+        &self.letters[..self.count]
+    }
+
+    pub fn is_clockwise(&self) -> bool {
+        self.letters[0] == 1
+    }
+
+    /// A place in the list as sent.
+    pub fn sent(&self, place: usize) -> usize {
+        let sent = self.west_place + place;
+        if sent < self.count {
+            sent
+        } else {
+            sent - self.count
+        }
+    }
+
+    /// The five cut places, W counted at both ends. The outline is clockwise, so they rise.
+    pub fn cut_places(&self) -> [usize; 5] {
+        let mut at = (u32::from(self.west.col), u32::from(self.west.row));
+        let (mut north, mut east, mut south) = ((0, 0), (0, 0), (0, 0));
+        for (place, &letter) in self.letters().iter().enumerate() {
+            let (col, row) = at;
+            keep_largest(&mut north, row << 8 | (255 - col), place);
+            keep_largest(&mut east, col << 8 | row, place);
+            keep_largest(&mut south, (255 - row) << 8 | col, place);
+            at = step(at, letter);
+        }
+        [0, north.1, east.1, south.1, self.count]
+    }
+}
+
+/// W, and the place of the letter that leaves it.
+fn west(start: Point, letters: &[u8]) -> (Point, usize) {
+    let mut at = (u32::from(start.col), u32::from(start.row));
+    let mut least = (u32::MAX, 0);
+    for (place, &letter) in letters.iter().enumerate() {
+        let key = at.0 << 8 | at.1;
+        if key < least.0 {
+            least = (key, place);
+        }
+        at = step(at, letter);
+    }
+    (Point::new((least.0 >> 8) as u16, (least.0 & 255) as u16), least.1)
+}
+
+/// Keeps the larger of two keys, with its place.
+#[inline]
+fn keep_largest(kept: &mut (u32, usize), key: u32, place: usize) {
+    if key > kept.0 {
+        *kept = (key, place);
+    }
+}
+
+/// The index of a piece's first letter that is none of its two.
+pub fn first_stray(piece: &[u8], pair: Pair) -> Option<usize> {
+    piece.iter().position(|&letter| letter != pair.earlier && letter != pair.later)
+}

@@ -1,0 +1,16 @@
+//! The library's algorithm in plain Rust: linear checks with one flag a corner, the border read once round from W, Duval's
+//! search for the first factor, Christoffel words by running remainders, and a climb up the sides of the hull for the missing
+//! cell. No heap.
+
+mod border;
+mod chart;
+mod climb;
+mod holder;
+mod loose;
+mod test;
+mod words;
+
+pub use chart::refusal as walk_refusal;
+pub use holder::replay;
+pub use loose::loose_query;
+pub use test::test;

@@ -1,0 +1,95 @@
+//! The test.
+
+use super::border::{first_stray, Pair, Turn, COLS, PAIRS, ROWS};
+use super::chart;
+use super::climb::missing_cell;
+use super::words::{count_later, first_factor, is_christoffel};
+use crate::{Fields, Point};
+
+/// Room for the edges of any taken outline.
+pub const LONGEST_LIST: usize = 2032;
+
+/// Edges, two numbers each.
+pub struct Edges {
+    pub numbers: [i16; LONGEST_LIST],
+    pub count: usize,
+}
+
+/// A factor that is no Christoffel word: its place in its piece, and the length of one copy.
+struct Dent {
+    at: usize,
+    length: usize,
+}
+
+/// The test with a lent list for edges.
+pub fn test(start: Point, letters: &[u8], lent: &mut [i16]) -> Fields {
+    let mut edges = Edges { numbers: [0; LONGEST_LIST], count: 0 };
+    let anchor = match find_edges(start, letters, &mut edges) {
+        Ok(anchor) => anchor,
+        Err(refusal) => return refusal,
+    };
+    let numbers = &edges.numbers[..2 * edges.count];
+    if lent.len() < numbers.len() {
+        return Fields::placed(10, edges.count);
+    }
+    lent[..numbers.len()].copy_from_slice(numbers);
+    Fields::taken(edges.count, anchor)
+}
+
+/// The edges of an outline, from the anchor that it gives, or the first of refusals 1 to 9.
+pub fn find_edges(start: Point, letters: &[u8], edges: &mut Edges) -> Result<Point, Fields> {
+    if let Some(refusal) = chart::refusal(start, letters) {
+        return Err(refusal);
+    }
+    let turn = Turn::new(start, letters);
+    if !turn.is_clockwise() {
+        return Err(Fields::numbered(7));
+    }
+    let cut = turn.cut_places();
+    for (k, &pair) in PAIRS.iter().enumerate() {
+        if let Some(i) = first_stray(&turn.letters()[cut[k]..cut[k + 1]], pair) {
+            return Err(Fields { piece: k as u16 + 1, ..Fields::placed(8, turn.sent(cut[k] + i)) });
+        }
+    }
+    for (k, &pair) in PAIRS.iter().enumerate() {
+        let word = cut[k] + 1;
+        if let Err(dent) = factor(&turn.letters()[word..cut[k + 1]], pair, edges) {
+            let missing = missing_cell(turn.west, turn.letters());
+            return Err(Fields {
+                piece: k as u16 + 1,
+                length: dent.length as u16,
+                col: missing.col,
+                row: missing.row,
+                ..Fields::placed(9, turn.sent(word + dent.at))
+            });
+        }
+    }
+    Ok(turn.west)
+}
+
+/// Adds an edge for each factor of a piece, up to the first that is no Christoffel word.
+fn factor(word: &[u8], pair: Pair, edges: &mut Edges) -> Result<(), Dent> {
+    let mut at = 0;
+    while at < word.len() {
+        let found = first_factor(&word[at..], pair.later);
+        let copy = &word[at..at + found.length];
+        let laters = count_later(copy, pair.later);
+        if !is_christoffel(copy, laters, pair.later) {
+            return Err(Dent { at, length: found.length });
+        }
+        let l = (laters * found.times) as i16;
+        let e = ((found.length - laters) * found.times) as i16;
+        let (earlier, later) = (usize::from(pair.earlier), usize::from(pair.later));
+        edges.push(e * COLS[earlier] + l * COLS[later], e * ROWS[earlier] + l * ROWS[later]);
+        at += found.length * found.times;
+    }
+    Ok(())
+}
+
+impl Edges {
+    fn push(&mut self, cols: i16, rows: i16) {
+        self.numbers[2 * self.count] = cols;
+        self.numbers[2 * self.count + 1] = rows;
+        self.count += 1;
+    }
+}

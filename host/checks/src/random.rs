@@ -1,0 +1,50 @@
+//! Random numbers from a seed (splitmix64): the same seed gives the same run.
+
+pub struct Random {
+    state: u64,
+}
+
+impl Random {
+    pub fn new(seed: u64) -> Self {
+        Random { state: seed }
+    }
+
+    /// Any number of 64 bits.
+    pub fn any(&mut self) -> u64 {
+        self.state = self.state.wrapping_add(0x9e37_79b9_7f4a_7c15);
+        let mut z = self.state;
+        z = (z ^ (z >> 30)).wrapping_mul(0xbf58_476d_1ce4_e5b9);
+        z = (z ^ (z >> 27)).wrapping_mul(0x94d0_49bb_1331_11eb);
+        z ^ (z >> 31)
+    }
+
+    /// A number below `end`, which is above 0.
+    pub fn below(&mut self, end: usize) -> usize {
+        ((u128::from(self.any()) * end as u128) >> 64) as usize
+    }
+
+    /// A number from `low` to `high`, both included.
+    pub fn from_to(&mut self, low: usize, high: usize) -> usize {
+        low + self.below(high - low + 1)
+    }
+
+    /// True once in `times`.
+    pub fn once_in(&mut self, times: usize) -> bool {
+        self.below(times) == 0
+    }
+
+    /// A number from 0 up to, not including, 1.
+    pub fn fraction(&mut self) -> f64 {
+        (self.any() >> 11) as f64 / (1u64 << 53) as f64
+    }
+
+    /// A number of 16 bits: most often near the limits of the chart, sometimes any.
+    pub fn odd_number(&mut self) -> u16 {
+        match self.below(4) {
+            0 => self.below(8) as u16,
+            1 => self.from_to(250, 260) as u16,
+            2 => [511, 512, 32_767, 32_768, 65_280, 65_535][self.below(6)],
+            _ => self.any() as u16,
+        }
+    }
+}

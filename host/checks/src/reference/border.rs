@@ -1,0 +1,96 @@
+//! "From border to edges": cut, two letters, factors, dents, edges.
+
+use super::walk::{corners, step, Corner};
+use super::words::{factors, is_christoffel};
+use crate::Point;
+
+/// "The pieces differ only in their ordered letters: 0 before 1; 3 before 0; 2 before 3; 1 before 2."
+const LETTERS: [[u8; 2]; 4] = [[0, 1], [3, 0], [2, 3], [1, 2]];
+
+/// One of the four pieces: its two letters, and the letters of the list from one cut place on to the next.
+pub struct Piece<'a> {
+    /// 1 to 4.
+    pub number: u16,
+    earlier: u8,
+    later: u8,
+    letters: &'a [u8],
+    from: usize,
+    count: usize,
+}
+
+/// The places whose letters leave W, N, E and S. The walk passes refusals 1 to 6.
+fn cut_places(start: Point, letters: &[u8]) -> [usize; 4] {
+    let mut met = corners(start, letters);
+    met.pop();
+    let place = |key: fn(&Corner) -> (i32, i32)| (0..met.len()).min_by_key(|&i| key(&met[i])).expect("a walk has a corner");
+    [
+        // W is the lowest corner on the outline's leftmost column,
+        place(|&(col, row)| (col, row)),
+        // N the leftmost corner on its top row,
+        place(|&(col, row)| (-row, col)),
+        // E the highest corner on its rightmost column,
+        place(|&(col, row)| (-col, -row)),
+        // S the rightmost corner on its bottom row.
+        place(|&(col, row)| (row, -col)),
+    ]
+}
+
+/// "The outline is clockwise if the letter leaving W is 1."
+pub fn is_clockwise(start: Point, letters: &[u8]) -> bool {
+    letters[cut_places(start, letters)[0]] == 1
+}
+
+/// "Walking on from W, past the list's end to its beginning where needed, the pieces are W to N, N to E, E to S, S to W."
+pub fn pieces(start: Point, letters: &[u8]) -> [Piece<'_>; 4] {
+    let cut = cut_places(start, letters);
+    std::array::from_fn(|k| {
+        let (from, to) = (cut[k], cut[(k + 1) % 4]);
+        let count = if from <= to { to - from } else { to + letters.len() - from };
+        let [earlier, later] = LETTERS[k];
+        Piece { number: k as u16 + 1, earlier, later, letters, from, count }
+    })
+}
+
+/// A factor that is no Christoffel word: the place and the length of its first copy.
+pub struct Dent {
+    pub place: usize,
+    pub length: usize,
+}
+
+impl Piece<'_> {
+    /// The place, in the list as sent, of the piece's letter i.
+    fn place(&self, i: usize) -> usize {
+        (self.from + i) % self.letters.len()
+    }
+
+    /// "Any other letter in a piece is a back-step." The place of the first.
+    pub fn back_step(&self) -> Option<usize> {
+        let strays = |place: &usize| ![self.earlier, self.later].contains(&self.letters[*place]);
+        (0..self.count).map(|i| self.place(i)).find(strays)
+    }
+
+    /// "The first letter of each piece is dropped; what remains .. may be empty."
+    fn word(&self) -> Vec<bool> {
+        (1..self.count).map(|i| self.letters[self.place(i)] == self.later).collect()
+    }
+
+    /// "An outline is dented if a factor is not one."
+    pub fn dent(&self) -> Option<Dent> {
+        let word = self.word();
+        let dented = factors(&word).into_iter().find(|factor| !is_christoffel(factor.copy));
+        dented.map(|factor| Dent { place: self.place(1 + factor.at), length: factor.copy.len() })
+    }
+
+    /// "Each factor times its repeats is one edge, columns then rows."
+    pub fn edges(&self) -> Vec<(i32, i32)> {
+        let (earlier, later) = (step(self.earlier), step(self.later));
+        let word = self.word();
+        let edge = |factor: super::words::Factor| {
+            let laters = factor.copy.iter().filter(|&&later| later).count() * factor.times;
+            let earliers = factor.copy.len() * factor.times - laters;
+            let (e, l) = (earliers as i32, laters as i32);
+            (e * earlier.0 + l * later.0, e * earlier.1 + l * later.1)
+        };
+        factors(&word).into_iter().map(edge).collect()
+    }
+}

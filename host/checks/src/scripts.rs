@@ -1,0 +1,198 @@
+//! Random scripts of calls for the holder.
+
+use crate::case::Case;
+use crate::draw::rotated;
+use crate::garbage::{any_outline, cell};
+use crate::random::Random;
+use crate::{Outline, Point};
+
+/// A script that is being written.
+struct Script<'a> {
+    random: &'a mut Random,
+    bytes: Vec<u8>,
+    /// The outlines that this script draws, so that some come again.
+    drawn: Vec<Outline>,
+}
+
+/// A script of some phrases; its end may be cut, and the room for its replies may be short.
+pub fn script(random: &mut Random) -> Case {
+    let mut script = Script { random, bytes: Vec::new(), drawn: Vec::new() };
+    for _ in 0..script.random.below(10) {
+        script.phrase();
+    }
+    let Script { mut bytes, random, .. } = script;
+    if random.once_in(4) {
+        bytes.truncate(random.from_to(bytes.len() - bytes.len().min(9), bytes.len()));
+    }
+    let calls = bytes.len() / 5;
+    let room = match random.below(5) {
+        0 => random.below(7 * calls + 8),
+        1 => 7 * calls,
+        _ => 7 * calls + random.below(30),
+    };
+    Case::Script { bytes, room }
+}
+
+impl Script<'_> {
+    fn phrase(&mut self) {
+        match self.random.below(100) {
+            0..=29 => self.draw_and_close(),
+            30..=44 => self.queries(),
+            45..=54 => self.draw_badly(),
+            55..=62 => self.clear(),
+            63..=70 => self.drop_draft(),
+            71..=78 => self.close(),
+            79..=84 => self.begin_anywhere(),
+            85..=93 => self.adds(),
+            94 => self.overfill(),
+            95 => self.unknown(),
+            _ => self.any_bytes(),
+        }
+    }
+
+    /// One call. Bytes that the call does not read are anything.
+    fn call(&mut self, call: u8, numbers: Option<Point>) {
+        let any = Point::new(self.random.any() as u16, self.random.any() as u16);
+        let Point { col, row } = numbers.unwrap_or(any);
+        self.bytes.push(call);
+        self.bytes.extend(col.to_le_bytes());
+        self.bytes.extend(row.to_le_bytes());
+    }
+
+    fn begin(&mut self, start: Point) {
+        self.call(0, Some(start));
+    }
+
+    fn add(&mut self, letter: u8) {
+        let any = self.random.any() as u16;
+        self.call(1, Some(Point::new(any << 8 | u16::from(letter), any)));
+    }
+
+    fn drop_draft(&mut self) {
+        self.call(2, None);
+    }
+
+    fn clear(&mut self) {
+        self.call(3, None);
+    }
+
+    fn close(&mut self) {
+        self.call(4, None);
+    }
+
+    fn query(&mut self, cell: Point) {
+        self.call(5, Some(cell));
+    }
+
+    /// A new outline, one of those drawn before, or such a one from another corner.
+    fn outline(&mut self) -> Outline {
+        if !self.drawn.is_empty() && self.random.once_in(2) {
+            let again = self.drawn[self.random.below(self.drawn.len())].clone();
+            return if self.random.once_in(4) { rotated(&again, self.random.below(again.letters.len())) } else { again };
+        }
+        let outline = any_outline(self.random);
+        self.drawn.push(outline.clone());
+        outline
+    }
+
+    /// Begins a draft and adds its letters. A query or a clear may come between.
+    fn draw(&mut self, outline: &Outline) {
+        self.begin(outline.start);
+        for &letter in &outline.letters {
+            self.add(letter);
+            if self.random.once_in(60) {
+                self.queries();
+            }
+            if self.random.once_in(400) {
+                self.clear();
+            }
+        }
+    }
+
+    fn draw_and_close(&mut self) {
+        let outline = self.outline();
+        self.draw(&outline);
+        self.close();
+        if self.random.once_in(2) {
+            self.queries_near(&outline);
+        }
+    }
+
+    /// A draft with a letter too many, too few or changed, closed or dropped.
+    fn draw_badly(&mut self) {
+        let mut outline = self.outline();
+        let place = self.random.below(outline.letters.len());
+        match self.random.below(4) {
+            0 => outline.letters.truncate(place),
+            1 => outline.letters[place] = self.random.below(6) as u8,
+            2 => outline.letters.insert(place, self.random.below(5) as u8),
+            _ => outline.letters.reverse(),
+        }
+        self.draw(&outline);
+        if self.random.once_in(3) {
+            self.drop_draft();
+        } else {
+            self.close();
+        }
+    }
+
+    fn queries(&mut self) {
+        for _ in 0..self.random.from_to(1, 4) {
+            let cell = cell(self.random);
+            self.query(cell);
+        }
+    }
+
+    /// Cells at an outline's border, where the answers differ.
+    fn queries_near(&mut self, outline: &Outline) {
+        let mut at = (i32::from(outline.start.col), i32::from(outline.start.row));
+        for &letter in &outline.letters {
+            let (cols, rows) = crate::reference::walk::step(letter);
+            at = (at.0 + cols, at.1 + rows);
+            if self.random.once_in(6) {
+                let near = |x: i32, by: usize| (x - by as i32) as u16;
+                let cell = Point::new(near(at.0, self.random.below(2)), near(at.1, self.random.below(2)));
+                self.query(cell);
+            }
+        }
+    }
+
+    /// A start that may be off the chart, and a few letters.
+    fn begin_anywhere(&mut self) {
+        let start = Point::new(self.random.odd_number(), self.random.odd_number());
+        self.begin(start);
+        self.adds();
+    }
+
+    fn adds(&mut self) {
+        for _ in 0..self.random.below(6) {
+            let letter = if self.random.once_in(8) { self.random.any() as u8 } else { self.random.below(4) as u8 };
+            self.add(letter);
+        }
+    }
+
+    /// More letters than a draft holds.
+    fn overfill(&mut self) {
+        self.drop_draft();
+        let start = Point::new(self.random.below(255) as u16, self.random.below(255) as u16);
+        self.begin(start);
+        let count = self.random.from_to(2040, 2052);
+        for i in 0..count {
+            self.add([1, 0, 3, 2][i % 4]);
+        }
+        self.add(9);
+        self.close();
+    }
+
+    fn unknown(&mut self) {
+        let call = [6, 7, 128, 255][self.random.below(4)];
+        self.call(call, None);
+    }
+
+    fn any_bytes(&mut self) {
+        for _ in 0..self.random.below(30) {
+            let byte = if self.random.once_in(3) { self.random.any() as u8 } else { self.random.below(6) as u8 };
+            self.bytes.push(byte);
+        }
+    }
+}

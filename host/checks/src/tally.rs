@@ -1,0 +1,92 @@
+//! Counts of what the inputs reached.
+
+use crate::case::{Case, Outcome};
+
+/// How often each number and each word was replied.
+#[derive(Clone, Default)]
+pub struct Replies {
+    pub numbers: [u64; 16],
+    pub words: [u64; 5],
+}
+
+impl Replies {
+    fn count(&mut self, reply: &[u16]) {
+        self.numbers[usize::from(reply[0])] += 1;
+        self.words[usize::from(reply[1])] += 1;
+    }
+}
+
+#[derive(Clone, Default)]
+pub struct Tally {
+    pub tests: Replies,
+    pub loose_queries: Replies,
+    pub calls: Replies,
+    /// Inputs whose reply list had no room.
+    pub no_room: u64,
+    /// The most letters, and the most edges, of a taken test.
+    pub longest_taken: usize,
+    pub most_edges: u16,
+}
+
+impl Tally {
+    /// Counts what the reference replied.
+    pub fn count(&mut self, case: &Case, outcome: &Outcome) {
+        let replies = match case {
+            Case::Test { .. } => &mut self.tests,
+            Case::Loose { .. } => &mut self.loose_queries,
+            Case::Script { .. } => &mut self.calls,
+        };
+        for reply in outcome.replies.chunks_exact(7).take(outcome.returned) {
+            replies.count(reply);
+        }
+        match case {
+            _ if outcome.returned == 0 => self.no_room += 1,
+            Case::Test { outline, .. } if outcome.replies[0] == 0 => {
+                self.longest_taken = self.longest_taken.max(outline.letters.len());
+                self.most_edges = self.most_edges.max(outcome.replies[2]);
+            }
+            _ => {}
+        }
+    }
+
+    /// The table of numbers and words, and a complaint for each that some input reaches and none of these did.
+    pub fn report(&self) -> Vec<String> {
+        // What no input reaches: a test knows no state, a loose query no outline, and a holder has room for every edge.
+        let reached: [(&str, &Replies, &[usize], &[usize]); 3] = [
+            ("tests", &self.tests, &[0, 1, 2, 3, 4, 5, 6, 7, 8, 9, 10], &[0]),
+            ("loose queries", &self.loose_queries, &[0, 10, 11], &[0, 1, 2]),
+            ("calls of scripts", &self.calls, &[0, 1, 2, 3, 4, 5, 6, 7, 8, 9, 11, 12, 13, 14, 15], &[0, 1, 2, 3, 4]),
+        ];
+        println!("{:>16} {:>14} {:>14} {:>16}", "number", "tests", "loose queries", "calls of scripts");
+        for number in 0..16 {
+            let counts = reached.map(|(_, replies, numbers, _)| cell(replies.numbers[number], numbers.contains(&number)));
+            println!("{number:>16} {:>14} {:>14} {:>16}", counts[0], counts[1], counts[2]);
+        }
+        for (word, name) in ["no word", "inside", "outside", "taken", "same"].iter().enumerate() {
+            let counts = reached.map(|(_, replies, _, words)| cell(replies.words[word], words.contains(&word)));
+            println!("{name:>16} {:>14} {:>14} {:>16}", counts[0], counts[1], counts[2]);
+        }
+        println!("{} inputs had no room for a reply", self.no_room);
+        println!("taken outlines had up to {} letters and up to {} edges", self.longest_taken, self.most_edges);
+        let mut complaints = Vec::new();
+        for (name, replies, numbers, words) in reached {
+            complaints.extend(missed(name, "number", &replies.numbers, numbers));
+            complaints.extend(missed(name, "word", &replies.words, words));
+        }
+        complaints
+    }
+}
+
+fn cell(count: u64, reachable: bool) -> String {
+    if reachable || count > 0 {
+        count.to_string()
+    } else {
+        "-".to_string()
+    }
+}
+
+/// A complaint for each count that is 0 and should not be, or the other way round.
+fn missed(name: &str, what: &str, counts: &[u64], reachable: &[usize]) -> Vec<String> {
+    let wrong = |&i: &usize| (counts[i] > 0) != reachable.contains(&i);
+    (0..counts.len()).filter(wrong).map(|i| format!("{name}: {what} {i} was replied {} times", counts[i])).collect()
+}

@@ -1,0 +1,43 @@
+//! Digital convexity on a chart of 255 by 255 cells, answered by a proved library.
+//!
+//! An [`Outline`] is the border of a block of cells: a start corner and a list of letters, 0 right, 1 up, 2 left, 3 down.
+//! Its [test](Outline::test) says whether the block is convex. If so it gives the [`Edges`] of the block's hull, against which
+//! a cell is then tested; if not it says what turned the outline back, as a [`Refusal`].
+//!
+//! ```
+//! use robequarry::{Cell, Corner, Outline, Refusal};
+//!
+//! let plus = Outline::new(Corner::new(0, 1), vec![1, 0, 1, 0, 3, 0, 3, 2, 3, 2, 1, 2]);
+//! let edges = plus.test()?;
+//! assert_eq!(edges.anchor(), Cell::new(0, 1));
+//! assert!(edges.steps().eq([(1, 1), (1, -1), (-1, -1), (-1, 1)]));
+//! assert!(edges.contains(Cell::new(1, 1))?);
+//! assert!(!edges.contains(Cell::new(0, 0))?);
+//!
+//! let dented = Outline::new(Corner::new(0, 0), vec![1, 1, 1, 0, 3, 3, 0, 0, 3, 2, 2, 2]);
+//! let Err(Refusal::Dent { missing, .. }) = dented.test() else { panic!("this block has a dent") };
+//! assert_eq!(missing, Cell::new(1, 1));
+//! # Ok::<(), Refusal>(())
+//! ```
+//!
+//! A [`Holder`] keeps a draft, letter by letter, and the outline at work. [`raw`] has the library's three functions as they
+//! are, on plain lists of numbers.
+//!
+//! The answers are proved; this crate, which turns lists of numbers into types, is not.
+
+mod chart;
+mod holder;
+mod outline;
+pub mod raw;
+mod refusal;
+
+pub use chart::{Cell, Corner};
+pub use holder::{Answer, Call, Holder, Reply};
+pub use outline::{Edges, Outline, Taken, Verdict};
+pub use refusal::Refusal;
+
+/// An outline has at most this many letters.
+pub const LONGEST: usize = 2048;
+
+/// A loose query's list has at most this many numbers, which is room for any taken outline's edges.
+pub const LONGEST_LIST: usize = 2032;

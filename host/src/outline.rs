@@ -1,0 +1,95 @@
+use crate::raw::{self, Fields};
+use crate::{Cell, Corner, Refusal, LONGEST_LIST};
+
+/// An outline: a start corner and letters, 0 right, 1 up, 2 left, 3 down. Any bytes make one; [`Outline::test`] judges it.
+#[derive(Clone, Debug, PartialEq, Eq, Hash)]
+pub struct Outline {
+    pub start: Corner,
+    pub letters: Vec<u8>,
+}
+
+/// What a test answers: the edges of the hull, or why the outline was turned back.
+pub type Verdict = Result<Edges, Refusal>;
+
+/// A taken outline, where the caller lent the list for its edges.
+#[derive(Clone, Copy, Debug, PartialEq, Eq, Hash)]
+pub struct Taken {
+    /// How many edges stand in the lent list, two numbers each.
+    pub edges: usize,
+    /// The lowest enclosed cell of the leftmost column, from which the edges lead.
+    pub anchor: Cell,
+}
+
+impl Taken {
+    pub(crate) fn of(fields: Fields) -> Self {
+        Taken { edges: usize::from(fields.place), anchor: Cell::new(fields.col, fields.row) }
+    }
+}
+
+impl Outline {
+    pub fn new(start: Corner, letters: impl Into<Vec<u8>>) -> Self {
+        Outline { start, letters: letters.into() }
+    }
+
+    /// Tests the outline, with room for every edge.
+    pub fn test(&self) -> Verdict {
+        let mut list = [0; LONGEST_LIST];
+        let taken = self.test_into(&mut list)?;
+        Ok(Edges::new(taken.anchor, &list[..2 * taken.edges]))
+    }
+
+    /// Tests the outline and writes its edges into a lent list, columns then rows. What stands behind them is unaltered, as is
+    /// the whole list if the outline is turned back.
+    pub fn test_into(&self, list: &mut [i16]) -> Result<Taken, Refusal> {
+        let mut reply = [0; raw::REPLY];
+        raw::test(self.start.col, self.start.row, &self.letters, list, &mut reply);
+        let fields = Fields::from(reply);
+        match Refusal::of(fields) {
+            Some(refusal) => Err(refusal),
+            None => Ok(Taken::of(fields)),
+        }
+    }
+}
+
+/// The edges of a hull, clockwise from its anchor.
+///
+/// [`Outline::test`] gives those of a taken outline. [`Edges::new`] takes any list: a query then answers by the rule of the
+/// half planes alone, and says nothing of a hull unless the list came from a test.
+#[derive(Clone, Debug, PartialEq, Eq, Hash)]
+pub struct Edges {
+    anchor: Cell,
+    numbers: Vec<i16>,
+}
+
+impl Edges {
+    /// Edges from a list of numbers, columns then rows for each edge.
+    pub fn new(anchor: Cell, numbers: impl Into<Vec<i16>>) -> Self {
+        Edges { anchor, numbers: numbers.into() }
+    }
+
+    /// The cell from which the first edge leads, and to which the last one of a taken outline returns.
+    pub fn anchor(&self) -> Cell {
+        self.anchor
+    }
+
+    /// The edges as one list of numbers, columns then rows for each edge.
+    pub fn numbers(&self) -> &[i16] {
+        &self.numbers
+    }
+
+    /// The edges one by one, each as columns and rows.
+    pub fn steps(&self) -> impl ExactSizeIterator<Item = (i16, i16)> + '_ {
+        self.numbers.chunks_exact(2).map(|edge| (edge[0], edge[1]))
+    }
+
+    /// Whether the cell is inside: the loose query. For edges of a taken outline these are the cells that it encloses.
+    pub fn contains(&self, cell: Cell) -> Result<bool, Refusal> {
+        let mut reply = [0; raw::REPLY];
+        raw::loose_query(self.anchor.col, self.anchor.row, &self.numbers, cell.col, cell.row, &mut reply);
+        let fields = Fields::from(reply);
+        match Refusal::of_loose_query(fields) {
+            Some(refusal) => Err(refusal),
+            None => Ok(fields.word == raw::INSIDE),
+        }
+    }
+}

@@ -1,0 +1,100 @@
+//! The safe interface's own part: lists as types, the holder's kept calls, the refusals' words.
+
+use robequarry::{raw, Answer, Call, Cell, Corner, Edges, Holder, Refusal, Taken};
+
+const BAR: [u8; 8] = [1, 0, 0, 0, 3, 2, 2, 2];
+const CELL: [u8; 4] = [1, 0, 3, 2];
+
+fn draw(holder: &mut Holder, start: (u16, u16), letters: &[u8]) -> robequarry::Reply {
+    holder.begin(Corner::new(start.0, start.1))?;
+    for &letter in letters {
+        holder.add(letter)?;
+    }
+    holder.close()
+}
+
+#[test]
+fn reply_list_without_room() {
+    let mut edges = [9; 4];
+    for room in 0..raw::REPLY {
+        let mut reply = vec![5; room];
+        assert!(!raw::test(0, 0, &BAR, &mut edges, &mut reply));
+        assert!(!raw::loose_query(0, 0, &edges, 0, 0, &mut reply));
+        assert_eq!(raw::replay(&[3, 0, 0, 0, 0], &mut reply), 0);
+        assert_eq!((edges, reply), ([9; 4], vec![5; room]));
+    }
+    let mut reply = [5; 9];
+    assert!(raw::test(0, 0, &BAR, &mut edges, &mut reply));
+    assert_eq!((edges, reply), ([2, 0, -2, 0], [0, 0, 2, 0, 0, 0, 0, 5, 5]));
+}
+
+#[test]
+fn loose_queries() {
+    let anchor = Cell::new(3, 4);
+    assert_eq!(Edges::new(anchor, []).contains(anchor), Ok(true));
+    assert_eq!(Edges::new(anchor, []).contains(Cell::new(3, 5)), Ok(false));
+    assert_eq!(Edges::new(anchor, [1, 0, 2]).contains(anchor), Err(Refusal::List));
+    assert_eq!(Edges::new(anchor, [0; 2034]).contains(Cell::new(255, 0)), Err(Refusal::List));
+    assert_eq!(Edges::new(anchor, [0; 2032]).contains(Cell::new(255, 0)), Err(Refusal::Cell));
+    assert_eq!(Edges::new(Cell::new(0, 255), []).contains(anchor), Err(Refusal::Cell));
+}
+
+#[test]
+fn holder_keeps_draft_and_work() {
+    let mut holder = Holder::new();
+    let bar = Taken { edges: 2, anchor: Cell::new(5, 5) };
+    assert_eq!(holder.query(Cell::new(5, 5)), Err(Refusal::NothingAtWork));
+    assert_eq!(holder.add(1), Err(Refusal::NoDraft));
+    assert_eq!(draw(&mut holder, (5, 5), &BAR), Ok(Answer::Taken(bar)));
+    assert_eq!(draw(&mut holder, (5, 5), &BAR), Ok(Answer::Same(bar)));
+    assert_eq!(holder.query(Cell::new(7, 5)), Ok(true));
+    assert_eq!(holder.query(Cell::new(8, 5)), Ok(false));
+    assert_eq!(holder.query(Cell::new(255, 5)), Err(Refusal::Cell));
+
+    // A draft in the making, and one that is refused, leave what is at work.
+    holder.begin(Corner::new(0, 0)).unwrap();
+    assert_eq!(holder.begin(Corner::new(0, 0)), Err(Refusal::DraftOpen));
+    holder.add(1).unwrap();
+    assert_eq!(holder.add(4), Err(Refusal::Letter { place: 1 }));
+    assert_eq!(holder.query(Cell::new(7, 5)), Ok(true));
+    assert_eq!(holder.close(), Err(Refusal::Count));
+    assert_eq!(holder.close(), Err(Refusal::NoDraft));
+    assert_eq!(holder.query(Cell::new(7, 5)), Ok(true));
+
+    // A clear keeps the draft, and what was at work is then no longer the same.
+    holder.begin(Corner::new(5, 5)).unwrap();
+    holder.clear();
+    assert_eq!(holder.query(Cell::new(7, 5)), Err(Refusal::NothingAtWork));
+    holder.run(&BAR.map(Call::Add));
+    assert_eq!(holder.close(), Ok(Answer::Taken(bar)));
+
+    // Another outline takes its place.
+    let cell = Taken { edges: 0, anchor: Cell::new(9, 9) };
+    assert_eq!(draw(&mut holder, (9, 9), &CELL), Ok(Answer::Taken(cell)));
+    assert_eq!(holder.query(Cell::new(7, 5)), Ok(false));
+    assert_eq!(holder.drop_draft(), Err(Refusal::NoDraft));
+    holder.begin(Corner::new(0, 0)).unwrap();
+    holder.drop_draft().unwrap();
+    assert_eq!(holder.begin(Corner::new(0, 256)), Err(Refusal::Start));
+}
+
+#[test]
+fn full_draft() {
+    let mut holder = Holder::new();
+    holder.begin(Corner::new(0, 0)).unwrap();
+    let replies = holder.run(&[Call::Add(1); 2048]);
+    assert!(replies.iter().all(|reply| *reply == Ok(Answer::Done)));
+    assert_eq!(holder.add(1), Err(Refusal::DraftFull));
+    assert_eq!(holder.add(9), Err(Refusal::DraftFull));
+    assert_eq!(holder.close(), Err(Refusal::Leaves { place: 255 }));
+}
+
+#[test]
+fn refusals_in_the_papers_words() {
+    let dent = Refusal::Dent { piece: 2, place: 4, length: 4, missing: Cell::new(1, 1) };
+    assert_eq!(dent.to_string(), "a dent: piece 2, place 4, length 4, missing cell (1, 1)");
+    assert_eq!(Refusal::Count.to_string(), "fewer than 4 or more than 2,048 letters");
+    assert_eq!(Refusal::List.number(), 10);
+    let error: Box<dyn std::error::Error> = Box::new(Refusal::NoDraft);
+    assert_eq!(error.to_string(), "add, close or drop without a draft");
+}

@@ -1,0 +1,36 @@
+/* Three specimens of document 01 through the C interface. The status is the number of the line that failed, or 0. */
+#include "robequarry.h"
+
+#define EXPECT(fact) \
+    do { \
+        if (!(fact)) return __LINE__; \
+    } while (0)
+
+int main(void) {
+    /* H3: a plus, taken with four edges. */
+    const uint8_t plus[] = {1, 0, 1, 0, 3, 0, 3, 2, 3, 2, 1, 2};
+    int16_t edges[RQ_NUMBERS];
+    uint16_t reply[RQ_REPLY];
+    EXPECT(rq_test(0, 1, plus, sizeof plus, edges, RQ_NUMBERS, reply, RQ_REPLY));
+    EXPECT(reply[0] == 0 && reply[1] == RQ_NO_WORD && reply[2] == 4 && reply[5] == 0 && reply[6] == 1);
+    EXPECT(edges[0] == 1 && edges[1] == 1 && edges[6] == -1 && edges[7] == 1);
+
+    /* Its middle is inside, the chart's corner is not. */
+    EXPECT(rq_loose_query(0, 1, edges, 8, 1, 1, reply, RQ_REPLY) && reply[1] == RQ_INSIDE);
+    EXPECT(rq_loose_query(0, 1, edges, 8, 0, 0, reply, RQ_REPLY) && reply[1] == RQ_OUTSIDE);
+    EXPECT(!rq_loose_query(0, 1, edges, 8, 0, 0, reply, RQ_REPLY - 1));
+
+    /* H6: a dent, with the missing cell (1, 1). */
+    const uint8_t dented[] = {1, 1, 1, 0, 3, 3, 0, 0, 3, 2, 2, 2};
+    EXPECT(rq_test(0, 0, dented, sizeof dented, edges, RQ_NUMBERS, reply, RQ_REPLY));
+    EXPECT(reply[0] == 9 && reply[2] == 4 && reply[3] == 2 && reply[4] == 4 && reply[5] == 1 && reply[6] == 1);
+
+    /* H1 through the holder: begin, four adds, close, query; the last call is cut. */
+    const uint8_t script[] = {
+        0, 0, 0, 0, 0, 1, 1, 0, 0, 0, 1, 0, 0, 0, 0, 1, 3, 0, 0, 0, 1, 2, 0, 0, 0, 4, 0, 0, 0, 0, 5, 0, 0, 0, 0, 5, 1,
+    };
+    uint16_t replies[8 * RQ_REPLY];
+    EXPECT(rq_replay(script, sizeof script, replies, 8 * RQ_REPLY) == 7);
+    EXPECT(replies[5 * RQ_REPLY + 1] == RQ_TAKEN && replies[6 * RQ_REPLY + 1] == RQ_INSIDE);
+    return 0;
+}

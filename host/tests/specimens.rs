@@ -1,0 +1,70 @@
+//! Document 01's specimen outlines, through the safe interface.
+
+use robequarry::{Cell, Corner, Outline, Refusal};
+
+/// An outline from a start and its letters as digits.
+fn outline(start: (u16, u16), letters: &str) -> Outline {
+    let letters: Vec<u8> = letters.bytes().map(|digit| digit - b'0').collect();
+    Outline::new(Corner::new(start.0, start.1), letters)
+}
+
+fn taken(start: (u16, u16), letters: &str, anchor: (u16, u16), steps: &[(i16, i16)]) {
+    let edges = outline(start, letters).test().unwrap();
+    assert_eq!(edges.anchor(), Cell::new(anchor.0, anchor.1), "{letters}");
+    assert!(edges.steps().eq(steps.iter().copied()), "{letters}: {edges:?}");
+}
+
+fn refused(start: (u16, u16), letters: &str, refusal: Refusal, number: u16) {
+    assert_eq!(outline(start, letters).test(), Err(refusal), "{letters}");
+    assert_eq!(refusal.number(), number);
+}
+
+#[test]
+fn taken_specimens() {
+    let round = [(1, 1), (1, -1), (-1, -1), (-1, 1)];
+    taken((0, 0), "1032", (0, 0), &[]);
+    taken((0, 0), "10003222", (0, 0), &[(2, 0), (-2, 0)]);
+    taken((0, 1), "101030323212", (0, 1), &round);
+    taken((1, 1), "210103032321", (0, 1), &round);
+    taken((0, 0), "11030322", (0, 0), &[(0, 1), (1, -1), (-1, 0)]);
+}
+
+#[test]
+fn refused_specimens() {
+    let dent = Refusal::Dent { piece: 2, place: 4, length: 4, missing: Cell::new(1, 1) };
+    refused((0, 0), "111033003222", dent, 9);
+    refused((0, 0), "110301033222", Refusal::BackStep { piece: 2, place: 5 }, 8);
+    refused((0, 0), "1023", Refusal::Touches { place: 2 }, 6);
+    refused((0, 0), "0123", Refusal::Anticlockwise, 7);
+    refused((0, 0), "103", Refusal::Count, 1);
+    refused((255, 0), "1032", Refusal::Leaves { place: 1 }, 4);
+    refused((0, 1), "1033", Refusal::Unclosed, 5);
+    refused((256, 0), "7777", Refusal::Start, 2);
+    refused((255, 0), "1037", Refusal::Letter { place: 3 }, 3);
+    refused((0, 0), &"1".repeat(2048), Refusal::Leaves { place: 255 }, 4);
+    refused((0, 0), &"1".repeat(2049), Refusal::Count, 1);
+}
+
+#[test]
+fn short_cuts_are_not_taken() {
+    // 001101 is Lyndon and a palindrome between its end letters, yet no Christoffel word.
+    let dent = Refusal::Dent { piece: 1, place: 1, length: 6, missing: Cell::new(1, 1) };
+    refused((0, 0), "1001101033332222", dent, 9);
+    // The half planes of H2 reach across the chart; its lowest and highest rows do not.
+    let bar = outline((0, 0), "10003222").test().unwrap();
+    assert_eq!(bar.contains(Cell::new(2, 0)), Ok(true));
+    assert_eq!(bar.contains(Cell::new(3, 0)), Ok(false));
+    assert_eq!(bar.contains(Cell::new(254, 0)), Ok(false));
+}
+
+#[test]
+fn lent_list() {
+    let bar = outline((0, 0), "10003222");
+    let mut list = [7; 6];
+    let taken = bar.test_into(&mut list).unwrap();
+    assert_eq!((taken.edges, list), (2, [2, 0, -2, 0, 7, 7]));
+
+    let mut short = [7; 3];
+    assert_eq!(bar.test_into(&mut short), Err(Refusal::Room { edges: 2 }));
+    assert_eq!(short, [7; 3]);
+}
