@@ -12,6 +12,7 @@ ghost use mathlib.Core.Bool.{cond};
 
 mod drafts;
 mod letters;
+pub mod paper;
 mod works;
 
 // An outline in the making: its start, and the letters so far.

@@ -12,7 +12,7 @@ use Rattle.holder.specs.Book.{replies}
 use Rattle.holder.specs.declared.Reply.{Reply}
 
 -- A number of 16 bits, low byte first
-unfoldable pub wide : ℕ → ℕ → ℕ
+abbrev pub wide : ℕ → ℕ → ℕ
 wide low high = low + 256 * high
 
 -- The call of five bytes: 0 begin, 1 add, 2 drop, 3 clear, 4 close, 5 query; then a start, a letter or a cell. A number above 5 is no call

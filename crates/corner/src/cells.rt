@@ -1,0 +1,41 @@
+// The cells of the 4 by 4 corner: cell k stands in column k % 4 and row k / 4.
+use crate::sets;
+
+// There are this many.
+pub const CELLS: u16 = 16;
+
+// No cell.
+pub const NONE: u16 = 16;
+
+pub fn col(k: u16) -> u16 {
+    k % 4
+}
+
+pub fn row(k: u16) -> u16 {
+    k / 4
+}
+
+// The lowest cell of a set, and in its row the leftmost: cells are numbered so.
+pub fn lowest(set: u32) -> u16 {
+    let mut k = 0;
+    while k < CELLS {
+        if sets::has(set, k) {
+            return k;
+        }
+        k += 1;
+    }
+    NONE
+}
+
+// The leftmost cell of a set, and in its column the lowest.
+pub fn leftmost(set: u32) -> u16 {
+    let mut t = 0;
+    while t < CELLS {
+        let k = 4 * (t % 4) + t / 4;
+        if sets::has(set, k) {
+            return k;
+        }
+        t += 1;
+    }
+    NONE
+}

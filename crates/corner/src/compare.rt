@@ -1,0 +1,173 @@
+// One outline through the engine's test and loose queries, against what was counted.
+use crate::cells;
+use crate::cells::NONE;
+use crate::plain;
+use crate::plain::Counted;
+use crate::sets;
+use crate::walks;
+use crate::walks::CORNERS;
+use lattice::Point;
+use outline::Fields;
+use outline::loose;
+use outline::paper;
+use outline::test;
+ghost use Rattle.io.specs.Counts.{Counts};
+
+// Two numbers an edge, for an edge from each of the 16 cells.
+const ROOM: usize = 32;
+
+// The steps from one column or row to another.
+const STEPS: [i16; 7] = [-3, -2, -1, 0, 1, 2, 3];
+
+fn step_agrees(step: i16, from: u16, to: u16) -> bool {
+    if 3 < from {
+        return false;
+    }
+    if 3 < to {
+        return false;
+    }
+    STEPS[(3 + to - from) as usize] == step
+}
+
+// The edge at index k of the list leads from p to q.
+fn edge_agrees(list: &[i16], k: usize, p: u16, q: u16) -> bool {
+    if k < list.len() / 2 {
+        let dx = list[2 * k];
+        let dy = list[2 * k + 1];
+        return step_agrees(dx, cells::col(p), cells::col(q))
+            && step_agrees(dy, cells::row(p), cells::row(q));
+    }
+    false
+}
+
+// The edges lead round the hull, from the anchor to the anchor, vertex by vertex.
+fn edges_agree(list: &[i16], count: usize, set: u32, anchor: u16) -> bool {
+    let mut p = anchor;
+    let mut k = 0;
+    while k < ROOM {
+        let q = plain::next_vertex(set, p);
+        if q == NONE || (0 < k && p == anchor) {
+            return k == count;
+        }
+        if !edge_agrees(list, k, p, q) {
+            return false;
+        }
+        p = q;
+        k += 1;
+    }
+    false
+}
+
+// The numbers 0 to 6, and the chart's last one.
+fn spread(x: u16) -> u16 {
+    if x < 7 { x } else { 254 }
+}
+
+fn in_set(set: u32, col: u16, row: u16) -> bool {
+    if 3 < col {
+        return false;
+    }
+    if 3 < row {
+        return false;
+    }
+    sets::has(set, 4 * row + col)
+}
+
+// A loose query says of a cell in the corner, or beyond it, whether it is in the set.
+fn query_agrees(anchor: Point, edges: &[i16], set: u32, t: u16) -> bool {
+    let col = spread(t % 8);
+    let row = spread(t / 8);
+    let fields = paper::of_position(loose::loose_query(anchor, edges, Point { col, row }));
+    if fields.number != 0 {
+        return false;
+    }
+    if in_set(set, col, row) {
+        fields.word == 1
+    } else {
+        fields.word == 2
+    }
+}
+
+fn queries_agree(anchor: Point, edges: &[i16], set: u32) -> bool {
+    let mut t = 0;
+    while t < 64 {
+        if !query_agrees(anchor, edges, set, t) {
+            return false;
+        }
+        t += 1;
+    }
+    true
+}
+
+// The answer's cell is cell k.
+fn cell_agrees(fields: Fields, k: u16) -> bool {
+    fields.col == cells::col(k) && fields.row == cells::row(k)
+}
+
+// A taken outline: its anchor, its edges, and loose queries of them.
+fn taken_agrees(fields: Fields, list: &[i16], counted: Counted) -> bool {
+    let count = fields.place as usize;
+    let set = counted.cells;
+    let anchor = counted.cell;
+    if list.len() / 2 < count {
+        return false;
+    }
+    if !cell_agrees(fields, anchor) || !edges_agree(list, count, set, anchor) {
+        return false;
+    }
+    let at = Point {
+        col: fields.col,
+        row: fields.row,
+    };
+    queries_agree(at, &list[0..2 * count], set)
+}
+
+fn agrees(fields: Fields, list: &[i16], counted: Counted) -> bool {
+    let number = counted.number;
+    if fields.number != number {
+        return false;
+    }
+    match number {
+        0 => taken_agrees(fields, list, counted),
+        9 => cell_agrees(fields, counted.cell),
+        _ => true,
+    }
+}
+
+// The letters of a closed walk of n corners, from the corner at `first` on. Answers how many there are.
+fn spell(corners: &[u16; CORNERS], n: usize, first: usize, letters: &mut [u8]) -> usize
+    ensures { λ r. ⌜ Counts r (now (letters .exit)) ⌝ }
+{
+    let mut i = 0;
+    while i < n && i < letters.len() {
+        let place = std::num::wrapping_add_usize(first, i);
+        let from = walks::corner_at(corners, n, place);
+        let to = walks::corner_at(corners, n, std::num::wrapping_add_usize(place, 1));
+        letters[i] = walks::letter(from, to);
+        i += 1;
+    }
+    i
+}
+
+// What the engine answers for an outline, and whether it agrees.
+pub struct Answer {
+    pub number: u16,
+    pub agrees: bool,
+}
+
+// The outline of a closed walk from the corner at `first` on.
+pub fn run(corners: &[u16; CORNERS], n: usize, first: usize, counted: Counted) -> Answer {
+    let mut letters = [0u8; CORNERS];
+    let count = spell(corners, n, first, &mut letters);
+    let corner = walks::corner_at(corners, n, first);
+    let start = Point {
+        col: corner % 5,
+        row: corner / 5,
+    };
+    let mut list = [0i16; ROOM];
+    let fields = paper::of_verdict(test::test(start, &letters[..count], &mut list));
+    Answer {
+        number: fields.number,
+        agrees: agrees(fields, &list, counted),
+    }
+}

@@ -1,0 +1,116 @@
+// Every closed simple walk on the 5 by 5 corners of the block. Corner k stands in column k % 5 and row k / 5.
+// A walk is found from its lowest row's leftmost corner, once in each direction.
+use crate::sets;
+
+// The block has this many corners, and no simple walk has more.
+pub const CORNERS: usize = 25;
+
+// A walk so far: its corners up to the one at `depth`, how many letters were tried from each, and the set of those met.
+pub struct Search {
+    pub corners: [u16; CORNERS],
+    pub tried: [u16; CORNERS],
+    pub depth: usize,
+    pub met: u32,
+    pub closed: bool,
+    pub done: bool,
+}
+
+// The corner at a place of a closed walk of n corners, past its end once more from its beginning.
+pub fn corner_at(corners: &[u16; CORNERS], n: usize, place: usize) -> u16 {
+    let i = if place < n { place } else { place - n };
+    if i < CORNERS { corners[i] } else { 0 }
+}
+
+// The letter that leads from a corner to the next.
+pub fn letter(from: u16, to: u16) -> u8 {
+    if from < to {
+        if to - from == 1 { 0 } else { 1 }
+    } else {
+        if from - to == 1 { 2 } else { 3 }
+    }
+}
+
+// No corner: off the block.
+pub const OFF: u16 = 25;
+
+// The corner that a letter reaches.
+fn neighbour(at: u16, letter: u16) -> u16 {
+    if OFF <= at {
+        return OFF;
+    }
+    match letter {
+        0 => { if at % 5 < 4 { at + 1 } else { OFF } }
+        1 => { if at < 20 { at + 5 } else { OFF } }
+        2 => { if 0 < at % 5 { at - 1 } else { OFF } }
+        _ => { if 5 <= at { at - 5 } else { OFF } }
+    }
+}
+
+pub fn begin(start: u16) -> Search {
+    Search {
+        corners: [start; CORNERS],
+        tried: [0; CORNERS],
+        depth: 0,
+        met: sets::with(0, start),
+        closed: false,
+        done: false,
+    }
+}
+
+// All letters from the last corner were tried: one corner back.
+fn back(s: Search) -> Search {
+    let mut t = s;
+    let depth = s.depth;
+    if 0 < depth && depth < CORNERS {
+        t.met = s.met ^ sets::with(0, s.corners[depth]);
+        t.depth = depth - 1;
+    } else {
+        t.done = true;
+    }
+    t
+}
+
+// One corner on.
+fn ahead(s: Search, next: u16) -> Search {
+    let mut t = s;
+    let depth = s.depth;
+    if depth < CORNERS - 1 {
+        t.corners[depth + 1] = next;
+        t.tried[depth + 1] = 0;
+        t.depth = depth + 1;
+        t.met = sets::with(s.met, next);
+    }
+    t
+}
+
+// A letter from the last corner: it closes the walk, leads on, or leads nowhere.
+fn follow(s: Search, at: u16, letter: u16) -> Search {
+    let next = neighbour(at, letter);
+    let start = s.corners[0];
+    if next == start && 3 <= s.depth {
+        let mut t = s;
+        t.closed = true;
+        return t;
+    }
+    if start < next && next < OFF && !sets::has(s.met, next) {
+        return ahead(s, next);
+    }
+    s
+}
+
+// One step of the search.
+pub fn step(s: Search) -> Search {
+    let mut t = s;
+    t.closed = false;
+    let depth = t.depth;
+    if CORNERS <= depth {
+        t.done = true;
+        return t;
+    }
+    let letter = t.tried[depth];
+    if 3 < letter {
+        return back(t);
+    }
+    t.tried[depth] = letter + 1;
+    follow(t, t.corners[depth], letter)
+}

@@ -1,0 +1,194 @@
+// Runs every specimen of document 01 through the test, asks loose queries of two of them, and writes a line for each.
+use lattice::LONGEST;
+use lattice::Point;
+use libc::STDOUT_FILENO;
+use outline::Fields;
+use outline::loose;
+use outline::paper;
+use outline::test;
+ghost use Rattle.io.specs.Counts.{Counts};
+
+// A number without its sign.
+fn size(x: i16) -> u64 {
+    if x < 0 {
+        (0 - (x as i64)) as u64
+    } else {
+        x as u64
+    }
+}
+
+fn write_signed(x: i16) {
+    if x < 0 {
+        io::write_all(STDOUT_FILENO, b"-");
+    }
+    io::print_decimal(STDOUT_FILENO, size(x));
+}
+
+fn write_number(n: u16) {
+    io::write_all(STDOUT_FILENO, b" ");
+    io::print_decimal(STDOUT_FILENO, n as u64);
+}
+
+fn write_cell(cell: Point) {
+    io::write_all(STDOUT_FILENO, b" (");
+    io::print_decimal(STDOUT_FILENO, cell.col as u64);
+    io::write_all(STDOUT_FILENO, b", ");
+    io::print_decimal(STDOUT_FILENO, cell.row as u64);
+    io::write_all(STDOUT_FILENO, b")");
+}
+
+// The edge at index k, where the list has one.
+fn write_edge(list: &[i16], k: usize) {
+    if k < list.len() / 2 {
+        io::write_all(STDOUT_FILENO, b" (");
+        write_signed(list[2 * k]);
+        io::write_all(STDOUT_FILENO, b", ");
+        write_signed(list[2 * k + 1]);
+        io::write_all(STDOUT_FILENO, b")");
+    }
+}
+
+// The first edges of a list.
+fn write_edges(list: &[i16], count: usize) {
+    let mut k = 0;
+    while k < count {
+        write_edge(list, k);
+        k += 1;
+    }
+}
+
+// A test's answer: number, place, piece, length and cell.
+fn write_fields(fields: Fields) {
+    write_number(fields.number);
+    write_number(fields.place);
+    write_number(fields.piece);
+    write_number(fields.length);
+    write_cell(Point {
+        col: fields.col,
+        row: fields.row,
+    });
+}
+
+// Tests an outline, and writes its line.
+fn write_test(name: &[u8], start: Point, letters: &[u8]) {
+    let mut edges = [0i16; loose::LONGEST_LIST];
+    let fields = paper::of_verdict(test::test(start, letters, &mut edges));
+    io::write_all(STDOUT_FILENO, name);
+    io::write_all(STDOUT_FILENO, b":");
+    write_fields(fields);
+    if fields.number == 0 {
+        io::write_all(STDOUT_FILENO, b" edges");
+        write_edges(&edges, fields.place as usize);
+    }
+    io::write_all(STDOUT_FILENO, b"\n");
+}
+
+// Reads digits as letters, and answers how many there are.
+fn read_letters(digits: &[u8], letters: &mut [u8]) -> usize
+    ensures { λ r. ⌜ Counts r (now (letters .exit)) ⌝ }
+{
+    let mut i = 0;
+    while i < digits.len() && i < letters.len() {
+        letters[i] = digits[i] % 16;
+        i += 1;
+    }
+    i
+}
+
+// A specimen whose letters are written as digits, at most 16 of them.
+fn write_specimen(name: &[u8], col: u16, row: u16, digits: &[u8]) {
+    let mut letters = [0u8; 16];
+    let n = read_letters(digits, &mut letters);
+    write_test(name, Point { col, row }, &letters[..n]);
+}
+
+// The longest list of letters that is no refusal 1, and one letter more.
+fn write_longest() {
+    let start = Point { col: 0, row: 0 };
+    write_test(b"2,048 letters 1", start, &[1u8; LONGEST]);
+    write_test(b"2,049 letters 1", start, &[1u8; LONGEST + 1]);
+}
+
+// The word of a loose query's answer, or the number of its refusal.
+fn write_word(fields: Fields) {
+    let word = fields.word;
+    match word {
+        1 => {
+            io::write_all(STDOUT_FILENO, b" inside");
+        }
+        2 => {
+            io::write_all(STDOUT_FILENO, b" outside");
+        }
+        _ => write_number(fields.number),
+    }
+}
+
+// Asks whether a list of edges holds a cell, and writes its line.
+fn write_query(name: &[u8], anchor: Point, edges: &[i16], cell: Point) {
+    let fields = paper::of_position(loose::loose_query(anchor, edges, cell));
+    io::write_all(STDOUT_FILENO, name);
+    io::write_all(STDOUT_FILENO, b", cell");
+    write_cell(cell);
+    io::write_all(STDOUT_FILENO, b":");
+    write_word(fields);
+    io::write_all(STDOUT_FILENO, b"\n");
+}
+
+fn ask_h2(col: u16, row: u16) {
+    let edges = [2i16, 0, -2, 0];
+    let anchor = Point { col: 0, row: 0 };
+    write_query(b"H2", anchor, &edges, Point { col, row });
+}
+
+fn ask_h3(col: u16, row: u16) {
+    let edges = [1i16, 1, 1, -1, -1, -1, -1, 1];
+    let anchor = Point { col: 0, row: 1 };
+    write_query(b"H3", anchor, &edges, Point { col, row });
+}
+
+fn write_tests() {
+    write_specimen(b"H1", 0, 0, b"1032");
+    write_specimen(b"H2", 0, 0, b"10003222");
+    write_specimen(b"H3", 0, 1, b"101030323212");
+    write_specimen(b"H4", 1, 1, b"210103032321");
+    write_specimen(b"H5", 0, 0, b"11030322");
+    write_specimen(b"H6", 0, 0, b"111033003222");
+    write_specimen(b"H7", 0, 0, b"110301033222");
+    write_specimen(b"H8", 0, 0, b"1023");
+    write_specimen(b"H9", 0, 0, b"0123");
+    write_specimen(b"H10", 0, 0, b"103");
+    write_specimen(b"H11", 255, 0, b"1032");
+    write_specimen(b"H12", 0, 1, b"1033");
+    write_specimen(b"start (256, 0), 7777", 256, 0, b"7777");
+    write_longest();
+}
+
+// H2 and H3: cells inside, cells outside, and H2 far across the chart.
+fn write_queries() {
+    ask_h2(0, 0);
+    ask_h2(1, 0);
+    ask_h2(2, 0);
+    ask_h2(3, 0);
+    ask_h2(254, 0);
+    ask_h2(1, 1);
+    ask_h2(255, 0);
+    ask_h3(0, 1);
+    ask_h3(1, 0);
+    ask_h3(1, 1);
+    ask_h3(1, 2);
+    ask_h3(2, 1);
+    ask_h3(0, 0);
+    ask_h3(2, 0);
+    ask_h3(0, 2);
+    ask_h3(2, 2);
+    ask_h3(3, 1);
+}
+
+fn main() {
+    io::write_all(
+        STDOUT_FILENO,
+        b"name: number place piece length cell, and the edges of a taken outline\n",
+    );
+    write_tests();
+    write_queries();
+}
