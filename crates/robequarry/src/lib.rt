@@ -7,6 +7,7 @@ use outline::test;
 ghost use mathlib.Core.Path.{_≡_};
 ghost use lib.ListN.{length};
 ghost use lib.Dec.{leb};
+ghost use Rattle.replay.specs.Script.{callsRead, repliesAfter};
 ghost use Rattle.robequarry.specs.Face.{testReply, testEdges, looseReply};
 
 // Tests an outline: the start corner and the letters. The edges stand first in the list lent for them, where the outline is taken.
@@ -48,4 +49,13 @@ pub extern "C" fn rq_loose_query(
     };
     let position = loose::loose_query(anchor, edges, Point { col, row });
     paper::write(paper::of_position(position), reply)
+}
+
+// Runs a script of calls, five bytes each, from a fresh holder, writes a reply of seven numbers for each, and says how many.
+#[no_mangle]
+pub extern "C" fn rq_replay(script: &[u8], replies: &mut [u16]) -> usize
+    ensures count { λ r. ⌜ r ≡ length (callsRead (now (script .entry)) (length (now (replies .entry)))) ⌝ }
+    ensures replies { λ r. ⌜ now (replies .exit) ≡ repliesAfter (now (script .entry)) (now (replies .entry)) ⌝ }
+{
+    replay::replay(script, replies)
 }
