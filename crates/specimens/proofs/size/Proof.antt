@@ -1,5 +1,4 @@
 -- A number of 16 bits is negated in 64, and is not negative then.
-use Prim.Native.Nat.{suc}
 use native.Mathlib.Omega.{arith}
 use mathlib.Core.Path.{_≡_, subst}
 use mathlib.Core.Bool.{true, false}
