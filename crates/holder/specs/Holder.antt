@@ -66,6 +66,10 @@ unfoldable pub removed : Work → Work
 removed w =
     record { taken = false; start = w .start; letters = w .letters; count = 0; anchor = w .anchor; numbers = w .numbers; edges = 0 }
 
+-- The holder with its draft ended: what is at work remains
+abbrev pub draftEnded : Holder → Holder
+draftEnded h = record { draft = ended (h .draft); work = h .work }
+
 unfoldable pub beginOf : Holder → Point → Answered
 beginOf h s =
     cond (h .draft .begun) (record { reply = DraftOpen; holder = h })
@@ -89,7 +93,7 @@ addOf h a =
 
 unfoldable pub dropOf : Holder → Answered
 dropOf h =
-    cond (h .draft .begun) (record { reply = Done; holder = record { draft = ended (h .draft); work = h .work } })
+    cond (h .draft .begun) (record { reply = Done; holder = draftEnded h })
     (record { reply = NoDraft; holder = h })
 
 unfoldable pub clearOf : Holder → Answered
@@ -120,7 +124,7 @@ workOf d a es n =
     }
 
 unfoldable pub closedBy : Holder → Verdict → Answered
-closedBy h (Refused f) = record { reply = WasRefused f; holder = record { draft = ended (h .draft); work = h .work } }
+closedBy h (Refused f) = record { reply = WasRefused f; holder = draftEnded h }
 closedBy h (Taken n c r) =
     record {
       reply = cond (sameOutline (h .draft) (h .work)) (Same n c r) (WasTaken n c r);

@@ -7,7 +7,7 @@ use outline::Verdict;
 use outline::loose;
 use outline::loose::LONGEST_LIST;
 ghost use mathlib.Core.Path.{_≡_};
-ghost use Rattle.holder.specs.Holder.{freshHolder, beginOf, addOf, dropOf, clearOf, closeOf, queryOf};
+ghost use Rattle.holder.specs.Holder.{freshHolder, draftEnded, beginOf, addOf, dropOf, clearOf, closeOf, queryOf};
 ghost use mathlib.Core.Bool.{cond};
 
 mod drafts;
@@ -87,6 +87,15 @@ fn taken_reply(same: bool, edges: u16, col: u16, row: u16) -> Reply
 }
 
 impl Holder {
+    // What is at work remains.
+    fn end_draft(mut self) -> Self
+        ensures { λ r. ⌜ r ≡ draftEnded self ⌝ }
+    {
+        let draft = self.draft.end();
+        self.draft = draft;
+        self
+    }
+
     pub fn begin(self, start: Point) -> Answered
         ensures { λ r. ⌜ r ≡ beginOf self start ⌝ }
     {
@@ -154,11 +163,9 @@ impl Holder {
                 holder: self,
             };
         }
-        let draft = self.draft.end();
-        let work = self.work;
         Answered {
             reply: Reply::Done,
-            holder: Holder { draft, work },
+            holder: self.end_draft(),
         }
     }
 
@@ -184,9 +191,7 @@ impl Holder {
         }
         let mut numbers: [i16; LONGEST_LIST] = [0; LONGEST_LIST];
         let verdict = self.draft.test(&mut numbers);
-        let ended = self.draft.end();
-        let mut next = self;
-        next.draft = ended;
+        let mut next = self.end_draft();
         match verdict {
             Verdict::Refused(why) => Answered {
                 reply: Reply::Refused(why),

@@ -13,8 +13,8 @@ returns c = close-none _ (not-true (c .before .before .args .self .draft .begun)
 test-requires : tie.Need-test-requires
 test-requires c κs = search needs
 
-end-requires : tie.Need-end-requires
-end-requires c κs = search needs
+end-draft-requires : tie.Need-end-draft-requires
+end-draft-requires c κs = search needs
 
 enum-known-verdict : tie.Need-enum-known-verdict
 enum-known-verdict c = search needs
@@ -36,7 +36,7 @@ returns-2 c =
     let at = c .before .before .before .before in
     let h = at .before .before .before .before .args .self in
     close-refused h _ _ (not-false (h .draft .begun) (at .before .before .if1 .left)) (sym (at .test .ensures .0) ∙ c .before .verdict .given .1)
-    (c .before .before .before .end .ensures)
+    (c .before .before .before .end-draft .ensures)
 
 returns-3 : tie.Need-returns-3
 unfolding lentList
@@ -44,7 +44,7 @@ returns-3 c =
     let at = c .before .before .before .before .before .before .before in
     let h = at .before .before .before .before .args .self in
     close-taken h _ _ _ _ _ _ _ _ (not-false (h .draft .begun) (at .before .before .if1 .left)) (sym (at .test .ensures .0) ∙ c .before .before .before .before .verdict2 .given .1)
-    (c .before .before .before .before .before .before .end .ensures) (at .test .ensures .1) (c .before .replace .ensures) (c .before .before .same-as .ensures) (c .taken-reply .ensures)
+    (c .before .before .before .before .before .before .end-draft .ensures) (at .test .ensures .1) (c .before .replace .ensures) (c .before .before .same-as .ensures) (c .taken-reply .ensures)
 
 pub close-spec : {M : Type 1} → statement M
 close-spec =
@@ -52,7 +52,7 @@ close-spec =
     (tie.spec
     returns
     test-requires
-    end-requires
+    end-draft-requires
     enum-known-verdict
     enum-known-verdict-2
     same-as-requires

@@ -9,12 +9,12 @@ returns : tie.Need-returns
 unfolding dropOf
 returns c = rw (not-true (c .before .before .args .self .draft .begun) (c .if1 .taken))
 
-end-requires : tie.Need-end-requires
-end-requires c κs = search needs
+end-draft-requires : tie.Need-end-draft-requires
+end-draft-requires c κs = search needs
 
 returns-2 : tie.Need-returns-2
 unfolding dropOf ended
-returns-2 c = rw (not-false (c .before .before .before .before .args .self .draft .begun) (c .before .before .if1 .left), c .before .end .ensures)
+returns-2 c = rw (not-false (c .before .before .before .args .self .draft .begun) (c .before .if1 .left), c .end-draft .ensures)
 
 pub drop-spec : {M : Type 1} → statement M
-drop-spec = tie.close (tie.spec returns end-requires returns-2)
+drop-spec = tie.close (tie.spec returns end-draft-requires returns-2)
