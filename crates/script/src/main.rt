@@ -1,0 +1,168 @@
+// Replays a script of calls on a holder, and writes each reply as a line of seven numbers.
+mod build;
+mod lines;
+
+use build::Script;
+use libc::STDOUT_FILENO;
+use replay::replay;
+
+const ROOM: usize = 28672;
+
+// What the state turns back, before anything is taken.
+fn without_draft(s: Script) -> Script {
+    s.query(0, 0)
+        .query(255, 255)
+        .add(1)
+        .add(7)
+        .close()
+        .drop()
+        .clear()
+}
+
+// What begin and add turn back, and what drop leaves.
+fn drafts(s: Script) -> Script {
+    let s = s.begin(256, 0).begin(0, 256).begin(65535, 258).add(0);
+    let s = s.begin(0, 0)
+        .begin(0, 0)
+        .begin(300, 0)
+        .add(4)
+        .add(1)
+        .add(255);
+    let s = s.drop().drop().add(0);
+    s.begin(255, 255).drop().begin(3, 4).close()
+}
+
+// Drafts that a close turns back: 1, 4, 5, 6, 7, 8 and 9.
+fn refused(s: Script) -> Script {
+    let s = s.outline(0, 0, b"103");
+    let s = s.outline(255, 0, b"1032").outline(0, 0, b"2031");
+    let s = s.outline(0, 1, b"1033").outline(0, 0, b"1031");
+    let s = s.outline(0, 0, b"1023").outline(0, 0, b"10321032");
+    let s = s.outline(0, 0, b"0123");
+    let s = s.outline(0, 0, b"110301033222")
+        .outline(3, 2, b"332123211000");
+    let s = s.outline(0, 0, b"111033003222");
+    s.query(0, 0)
+}
+
+// Outlines taken, the same again, and cells asked.
+fn taken(s: Script) -> Script {
+    let s = s.outline(0, 0, b"1032").query(0, 0).query(1, 0).query(0, 1);
+    let s = s.query(255, 0).query(0, 255).query(254, 254);
+    let s = s.outline(0, 0, b"1032").query(0, 0);
+    let s = s.outline(0, 0, b"0321")
+        .outline(1, 0, b"1032")
+        .query(0, 0)
+        .query(1, 0);
+    let s = s.outline(0, 0, b"10003222")
+        .query(2, 0)
+        .query(3, 0)
+        .query(254, 0)
+        .query(1, 1);
+    let s = s.outline(0, 1, b"101030323212")
+        .query(1, 0)
+        .query(0, 0)
+        .query(1, 1)
+        .query(2, 2);
+    let s = s.outline(1, 1, b"210103032321")
+        .outline(1, 1, b"210103032321")
+        .query(0, 1);
+    s.outline(0, 0, b"11030322")
+        .query(0, 1)
+        .query(1, 0)
+        .query(1, 1)
+}
+
+// What is at work stays over a refused close, over a draft, and until a clear; a clear keeps the draft.
+fn kept(s: Script) -> Script {
+    let s = s.outline(0, 0, b"111033003222").query(0, 1).query(2, 0);
+    let s = s.begin(10, 20)
+        .add(1)
+        .query(0, 1)
+        .add(0)
+        .add(9)
+        .query(0, 1)
+        .clear()
+        .query(0, 1);
+    let s = s.query(255, 0)
+        .add(3)
+        .add(2)
+        .close()
+        .query(10, 20)
+        .query(0, 1);
+    let s = s.begin(10, 20)
+        .letters(b"1032")
+        .clear()
+        .close()
+        .begin(10, 20)
+        .letters(b"1032")
+        .close();
+    s.begin(0, 0).letters(b"12").drop().query(10, 20).close()
+}
+
+// A dent in each piece: its factor reads 001101 in the piece's two letters, a palindrome between the ends and no Christoffel word.
+fn dents(s: Script) -> Script {
+    let s = s.outline(0, 0, b"1001101033332222");
+    let s = s.outline(0, 4, b"0330030322221111");
+    let s = s.outline(4, 4, b"3223323211110000");
+    let s = s.outline(4, 0, b"2112212100003333");
+    s.query(10, 20).outline(5, 5, b"110100332322").query(5, 6)
+}
+
+// The whole chart, and a draft that is full.
+fn long(s: Script) -> Script {
+    let s = s.begin(0, 0)
+        .times(255, 1)
+        .times(255, 0)
+        .times(255, 3)
+        .times(255, 2)
+        .close();
+    let s = s.query(0, 0).query(254, 254).query(255, 254).query(100, 7);
+    let s = s.begin(0, 0)
+        .times(2048, 1)
+        .add(1)
+        .add(9)
+        .query(254, 0)
+        .close()
+        .add(1);
+    s.clear().query(254, 0)
+}
+
+fn script() -> Script {
+    let s = without_draft(Script::new());
+    let s = drafts(s);
+    let s = refused(s);
+    let s = taken(s);
+    let s = kept(s);
+    let s = dents(s);
+    long(s)
+}
+
+// Replays a script and writes the replies.
+fn run(script: &[u8], replies: &mut [u16]) {
+    let count = replay(script, replies);
+    lines::write_replies(replies, count);
+    io::write_all(STDOUT_FILENO, b"calls: ");
+    io::print_decimal(STDOUT_FILENO, count as u64);
+    io::write_all(STDOUT_FILENO, b"\n");
+}
+
+fn main() {
+    io::write_all(STDOUT_FILENO, b"number word place piece length col row\n");
+    let s = script();
+    let mut replies = [0u16; ROOM];
+    run(&s.bytes, &mut replies);
+    // A number that is no call, a call that is cut, and no room for a third reply.
+    let mut few = [9u16; 20];
+    run(
+        b"\x03\x00\x00\x00\x00\x06\x00\x00\x00\x00\x03\x00\x00\x00\x00",
+        &mut few,
+    );
+    run(b"\x03\x00\x00\x00\x00\x03\x00\x00\x00", &mut few);
+    run(
+        b"\x05\x00\x00\x00\x00\x04\x00\x00\x00\x00\x03\x00\x00\x00\x00",
+        &mut few,
+    );
+    lines::write_numbers(&few);
+    io::write_all(STDOUT_FILENO, b"\n");
+}
