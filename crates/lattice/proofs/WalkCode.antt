@@ -1,29 +1,71 @@
 -- What the code of a walk meets at each letter: a letter that leaves the chart is not taken, and any other changes a number that is within its bounds.
-use Prim.Native.Nat.{ℕ, zero, suc, _<_}
+use Prim.Native.Nat.{ℕ, zero, suc, _+_, _-_, _<_, _≤_}
 use mathlib.Core.Path.{_≡_, refl}
-use mathlib.Core.Bool.{true, false}
+use mathlib.Core.Bool.{Bool, true, false, cond, _&&_, _||_, or-false, and-eq-true-iff}
+use lib.Dec.{eqb, leb, ltb}
+use native.Mathlib.Nat.{add-zero, sub-zero}
 use native.Mathlib.Omega.{arith}
-use borrow.Author.Tests.{leb-false, eqb-false}
+use borrow.Author.Tests.{ltb-true, leb-false, lt-leb, eqb-true, eqb-false, ne-eqb}
 use Rattle.lattice.specs.Limits.{side}
 use Rattle.lattice.specs.declared.Point.{Point}
 use Rattle.lattice.specs.Chart.{step, leaves, stepped}
 
--- A letter above 3 leaves nothing and goes nowhere
-pub leaves-high : (p : Point) (a : ℕ) → 3 < a → leaves p a ≡ false
-unfolding leaves
-leaves-high p zero h = absurd (omega arith)
-leaves-high p (suc zero) h = absurd (omega arith)
-leaves-high p (suc (suc zero)) h = absurd (omega arith)
-leaves-high p (suc (suc (suc zero))) h = absurd (omega arith)
-leaves-high p (suc (suc (suc (suc a)))) h = refl
+-- A letter above 3 is none of the four
+high : (a k : ℕ) → k ≤ 3 → eqb (suc (suc (suc (suc a)))) k ≡ false
+high a k h = ne-eqb (suc (suc (suc (suc a)))) k (λ e. omega arith)
 
-pub step-high : (p : Point) (a : ℕ) → 3 < a → step p a ≡ p
+-- Of the four tests that a letter leaves the chart, those of other letters are false
+pub leaves-tests : (p : Point) (a : ℕ) →
+    ((eqb a 0 && leb side (p .col) || eqb a 1 && leb side (p .row)) || eqb a 2 && eqb (p .col) 0) || eqb a 3 && eqb (p .row) 0 ≡ leaves p a
+unfolding leaves
+leaves-tests p zero = simp or-false
+leaves-tests p (suc zero) = simp or-false
+leaves-tests p (suc (suc zero)) = simp or-false
+leaves-tests p (suc (suc (suc zero))) = refl
+leaves-tests p (suc (suc (suc (suc a)))) = rw (high a 0 (omega arith), high a 1 (omega arith), high a 2 (omega arith), high a 3 (omega arith))
+
+-- Away from the border no letter leaves the chart
+pub inside-stays : (p : Point) (a : ℕ) → ((ltb 0 (p .col) && ltb (p .col) side) && ltb 0 (p .row)) && ltb (p .row) side ≡ true → leaves p a ≡ false
+unfolding leaves
+inside-stays p a e =
+    let rows = and-eq-true-iff _ (ltb (p .row) side) .0 e in
+    let low = and-eq-true-iff _ (ltb 0 (p .row)) .0 (rows .0) in
+    let cols = and-eq-true-iff (ltb 0 (p .col)) (ltb (p .col) side) .0 (low .0) in
+    go a (ltb-true _ _ (cols .0)) (ltb-true _ _ (cols .1)) (ltb-true _ _ (low .1)) (ltb-true _ _ (rows .1))
+  where
+    go : (a : ℕ) → 0 < p .col → p .col < 255 → 0 < p .row → p .row < 255 → leaves p a ≡ false
+    go zero l r d u = lt-leb side (p .col) r
+    go (suc zero) l r d u = lt-leb side (p .row) u
+    go (suc (suc zero)) l r d u = ne-eqb (p .col) 0 (λ e. omega arith)
+    go (suc (suc (suc zero))) l r d u = ne-eqb (p .row) 0 (λ e. omega arith)
+    go (suc (suc (suc (suc a)))) l r d u = refl
+
+-- What a letter adds to a number and takes from it
+pub step-tests : (p : Point) (a : ℕ) →
+    record { col = p .col + cond (eqb a 0) 1 0 - cond (eqb a 2) 1 0; row = p .row + cond (eqb a 1) 1 0 - cond (eqb a 3) 1 0 } ≡ step p a
 unfolding step
-step-high p zero h = absurd (omega arith)
-step-high p (suc zero) h = absurd (omega arith)
-step-high p (suc (suc zero)) h = absurd (omega arith)
-step-high p (suc (suc (suc zero))) h = absurd (omega arith)
-step-high p (suc (suc (suc (suc a)))) h = refl
+step-tests p zero = simp (add-zero, sub-zero)
+step-tests p (suc zero) = simp (add-zero, sub-zero)
+step-tests p (suc (suc zero)) = simp (add-zero, sub-zero)
+step-tests p (suc (suc (suc zero))) = simp (add-zero, sub-zero)
+step-tests p (suc (suc (suc (suc a)))) =
+    rw (high a 0 (omega arith), high a 1 (omega arith), high a 2 (omega arith), high a 3 (omega arith)) (simp (add-zero, sub-zero))
+
+-- One more at a letter that leaves room for it, or nothing more, fits
+pub one-more : {x : ℕ} (a k : ℕ) → x < 65536 → (a ≡ k → x < 255) → x + cond (eqb a k) 1 0 < 65536
+one-more {x = x} a k h room = go (eqb a k) refl
+  where
+    go : (b : Bool) → eqb a k ≡ b → x + cond b 1 0 < 65536
+    go true e = omega (arith, room (eqb-true a k e))
+    go false e = omega arith
+
+-- One less at a letter that leaves room for it, or nothing less, is not negative
+pub one-less : {x y : ℕ} (a k : ℕ) → x ≤ y → (a ≡ k → x ≡ 0 → ⊥) → cond (eqb a k) 1 0 ≤ y
+one-less {x = x} {y = y} a k h room = go (eqb a k) refl
+  where
+    go : (b : Bool) → eqb a k ≡ b → cond b 1 0 ≤ y
+    go true e = omega (arith, room (eqb-true a k e))
+    go false e = omega arith
 
 -- A letter that leaves the chart is not taken, any other is
 pub stepped-leaving : (p : Point) (a : ℕ) → leaves p a ≡ true → stepped p a ≡ p

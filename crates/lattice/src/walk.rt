@@ -1,20 +1,30 @@
-// One step of a walk.
+// One step of a walk. Neither function branches on the letter, which a processor cannot foresee.
 use crate::Point;
 use crate::SIDE;
 ghost use mathlib.Core.Path.{_≡_};
+ghost use mathlib.Core.Bool.{cond};
+ghost use lib.Dec.{eqb};
 ghost use Rattle.lattice.specs.Chart.{stepped, leaves as leavesChart};
 
 // The letter, leaving a corner of the chart, reaches a corner off it.
 pub fn leaves(p: Point, letter: u8) -> bool
     ensures { λ r. ⌜ r ≡ leavesChart p letter ⌝ }
 {
-    match letter {
-        0 => SIDE <= p.col,
-        1 => SIDE <= p.row,
-        2 => p.col == 0,
-        3 => p.row == 0,
-        _ => false,
+    // Away from the border no letter does.
+    if (0 < p.col) & (p.col < SIDE) & (0 < p.row) & (p.row < SIDE) {
+        return false;
     }
+    ((letter == 0) & (SIDE <= p.col))
+        | ((letter == 1) & (SIDE <= p.row))
+        | ((letter == 2) & (p.col == 0))
+        | ((letter == 3) & (p.row == 0))
+}
+
+// 1 where the letter is the one asked for, else 0.
+fn one_at(letter: u8, asked: u8) -> u16
+    ensures { λ r. ⌜ r ≡ cond (eqb letter asked) 1 0 ⌝ }
+{
+    if letter == asked { 1 } else { 0 }
 }
 
 // The corner that the letter reaches, or the same corner where that is off the chart.
@@ -24,23 +34,8 @@ pub fn step(p: Point, letter: u8) -> Point
     if leaves(p, letter) {
         return p;
     }
-    match letter {
-        0 => Point {
-            col: p.col + 1,
-            row: p.row,
-        },
-        1 => Point {
-            col: p.col,
-            row: p.row + 1,
-        },
-        2 => Point {
-            col: p.col - 1,
-            row: p.row,
-        },
-        3 => Point {
-            col: p.col,
-            row: p.row - 1,
-        },
-        _ => p,
+    Point {
+        col: p.col + one_at(letter, 0) - one_at(letter, 2),
+        row: p.row + one_at(letter, 1) - one_at(letter, 3),
     }
 }

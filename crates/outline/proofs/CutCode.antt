@@ -2,15 +2,16 @@
 use Prim.Native.Nat.{ℕ, zero, suc, _+_, _-_, _*_, _≤_, _<_}
 use native.Mathlib.Nat.{suc-mul}
 use native.Mathlib.Numerals.{add-one}
+use native.Mathlib.Decide.{decLt}
 use native.Mathlib.Omega.{arith}
 use mathlib.Core.Path.{_≡_, refl, sym, ap, _∙_}
-use mathlib.Core.Bool.{Bool, true, false, cond, _||_}
+use mathlib.Core.Bool.{Bool, true, false, cond, _&&_, _||_}
 use mathlib.Core.Logic.{inl, inr}
 use mathlib.Core.List.{List}
 use lib.ListN.{length, getD, set, replicate, length-set, getD-replicate}
 use lib.Seq.{getD-set-same, getD-set-other}
 use lib.Dec.{ltb, eqb}
-use borrow.Author.Tests.{ltb-false, lt-ltb, le-ltb, eq-eqb, ne-eqb}
+use borrow.Author.Tests.{ltb-true, ltb-false, lt-ltb, le-ltb, eqb-true, eqb-false}
 use Rattle.words.proofs.BelowLaws.{below-suc, first-before}
 use Rattle.lattice.specs.Limits.{side}
 use Rattle.lattice.specs.declared.Point.{Point}
@@ -32,29 +33,29 @@ along-high (suc zero) p h = absurd (omega arith)
 along-high (suc (suc zero)) p h = absurd (omega arith)
 along-high (suc (suc (suc a))) p h = refl
 
-or-false : (a : Bool) → (a || false) ≡ a
-or-false true = refl
-or-false false = refl
+-- How far along a pair's letters a corner lies, as one number
+abbrev pub rankOf : Pair → Point → ℕ
+rankOf r p = along (r .earlier) p * 65536 + along (r .later) p
 
--- The order of two corners in a frame, from how far along its letters they lie: a and b along the earlier, d and e along the later
-module _ (p q : Point) {f : Frame} {r : Pair} {a b : ℕ} where
-  pub before-level : {d e : ℕ} → PairOf f r → a ≡ along (r .earlier) p → b ≡ along (r .earlier) q → d ≡ along (r .later) p → e ≡ along (r .later) q
-      → a ≡ b → ltb d e ≡ before f p q
-  unfolding before
-  before-level {d} {e} h ha hb hd he ab =
-      let x = h .earlier in
-      let y = h .later in
-      let l : ltb a b ≡ false = le-ltb a b (omega arith) in
-      let g : eqb a b ≡ true = eq-eqb a b ab in
-      cc
+-- Two numbers as the digits of one are in the order of the first, and among equals in that of the second
+digits-order : (a b d e : ℕ) → d < 65536 → e < 65536 → ltb (a * 65536 + d) (b * 65536 + e) ≡ (ltb a b || (eqb a b && ltb d e))
+digits-order a b d e hd he =
+    elim (decLt a b) [
+      | yes l ↦ rw (lt-ltb a b l) (lt-ltb (a * 65536 + d) (b * 65536 + e) (omega arith))
+      | no n ↦ rw (le-ltb a b (omega arith)) (level (eqb a b) refl (ltb d e) refl n)
+    ]
+  where
+    level : (x : Bool) → eqb a b ≡ x → (y : Bool) → ltb d e ≡ y → (a < b → ⊥) → ltb (a * 65536 + d) (b * 65536 + e) ≡ (x && y)
+    level true g true h n = lt-ltb (a * 65536 + d) (b * 65536 + e) (omega (arith, eqb-true a b g, ltb-true d e h))
+    level true g false h n = le-ltb (a * 65536 + d) (b * 65536 + e) (omega (arith, eqb-true a b g, ltb-false d e h))
+    level false g y h n = le-ltb (a * 65536 + d) (b * 65536 + e) (omega (arith, eqb-false a b g))
 
-  pub before-apart : PairOf f r → a ≡ along (r .earlier) p → b ≡ along (r .earlier) q → (a ≡ b → ⊥) → ltb a b ≡ before f p q
-  unfolding before
-  before-apart h ha hb ab =
-      let x = h .earlier in
-      let g : eqb a b ≡ false = ne-eqb a b ab in
-      let o = or-false (ltb a b) in
-      cc
+-- The order of two corners in a frame is that of their ranks
+pub before-ranks : (p q : Point) {f : Frame} {r : Pair} → PairOf f r → along (r .later) p < 65536 → along (r .later) q < 65536
+    → ltb (rankOf r p) (rankOf r q) ≡ before f p q
+unfolding before
+before-ranks p q {r = r} h hp hq =
+    digits-order (along (r .earlier) p) (along (r .earlier) q) (along (r .later) p) (along (r .later) q) hp hq ∙ rw (h .earlier, h .later)
 
 -- No letter of a walk that stays on the chart leaves it
 pub stays-at : (s : Point) (w : List ℕ) → Stays s w → (i : ℕ) → i < length w → leaves (cornerAt s w i) (getD w i 0) ≡ false
@@ -133,6 +134,29 @@ unfolding cornerPlace
 scanned-end {s} {w} {k} {i = i} h l =
     let e : i ≡ length w = omega (arith, h .passed) in
     record { within = omega (arith, h .within); place = λ t. h .best t ∙ ap (least (placesBefore s w k)) e }
+
+-- The same, where the first corner so far is kept by its rank in a pair r
+pub record Ranking (s : Point) (w : List ℕ) (k : ℕ) (r : Pair) (place least : ℕ) (p : Point) (i : ℕ) : Type 0 where
+  pub corner : Point
+  pub scanned : Scanned s w k place corner p i
+  pub rank : least ≡ rankOf r corner
+  pub small : along (r .later) corner < 65536
+
+pub ranking-start : (s : Point) (w : List ℕ) (k : ℕ) {r : Pair} {n : ℕ} → (n ≡ rankOf r s) × (along (r .later) s < 65536) → Ranking s w k r 0 n s 0
+ranking-start s w k h = record { corner = s; scanned = scanned-start s w k; rank = h .0; small = h .1 }
+
+module _ {s : Point} {w : List ℕ} {k place n m : ℕ} {r : Pair} {p q : Point} {i : ℕ} (f : PairOf (frameOf k) r) (h : Ranking s w k r place n p i)
+    (l : i < length w) (step : q ≡ stepped p (getD w i 0)) (here : (m ≡ rankOf r p) × (along (r .later) p < 65536)) where
+  order : ltb m n ≡ before (frameOf k) p (h .corner)
+  order = rw (here .0, h .rank) (before-ranks p (h .corner) f (here .1) (h .small))
+
+  pub ranking-first : m < n → Ranking s w k r i m q (i + 1)
+  ranking-first lt =
+      record { corner = p; scanned = scanned-first (h .scanned) l step (sym (lt-ltb m n lt) ∙ order); rank = here .0; small = here .1 }
+
+  pub ranking-later : n ≤ m → Ranking s w k r place n q (i + 1)
+  ranking-later le =
+      record { corner = h .corner; scanned = scanned-later (h .scanned) l step (sym (le-ltb m n le) ∙ order); rank = h .rank; small = h .small }
 
 -- The corner at which piece k ends
 module _ (s : Point) (t : List ℕ) (k : ℕ) where

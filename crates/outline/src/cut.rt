@@ -4,7 +4,7 @@ use lattice::LONGEST;
 use lattice::Point;
 use lattice::SIDE;
 use lattice::walk;
-ghost use Prim.Native.Nat.{_-_, _≤_};
+ghost use Prim.Native.Nat.{_+_, _*_, _-_, _<_, _≤_};
 ghost use mathlib.Core.Path.{_≡_};
 ghost use lib.ListN.{length, getD};
 ghost use Rattle.words.specs.Below.{first};
@@ -37,31 +37,35 @@ pub fn along(letter: u8, p: Point) -> u16
     }
 }
 
+// How far along two letters' directions a corner lies, as one number: the first letter decides, and among equals the second.
+fn rank(earlier: u8, later: u8, p: Point) -> u32
+    ensures { λ r. ⌜ (r ≡ alongOf earlier p * 65536 + alongOf later p) × (alongOf later p < 65536) ⌝ }
+{
+    (along(earlier, p) as u32) * 65536 + (along(later, p) as u32)
+}
+
 // p comes before q as the first corner of piece k.
 pub fn before(k: usize, p: Point, q: Point) -> bool
     ensures { λ r. ⌜ r ≡ beforeOf (frameOf k) p q ⌝ }
 {
     let f = frame::pair_at(k);
-    let a = along(f.earlier, p);
-    let b = along(f.earlier, q);
-    if a == b {
-        return along(f.later, p) < along(f.later, q);
-    }
-    a < b
+    rank(f.earlier, f.later, p) < rank(f.earlier, f.later, q)
 }
 
 // The place whose letter leaves the first corner of piece k, in one walk from s.
 pub fn corner_place(s: Point, w: &[u8], k: usize) -> usize
     ensures { λ r. ⌜ CornerFound s (now (w .entry)) k r ⌝ }
 {
+    let f = frame::pair_at(k);
     let mut place = 0;
-    let mut corner = s;
+    let mut least = rank(f.earlier, f.later, s);
     let mut p = s;
     let mut i = 0;
     while i < w.len() {
-        if before(k, p, corner) {
+        let here = rank(f.earlier, f.later, p);
+        if here < least {
             place = i;
-            corner = p;
+            least = here;
         }
         p = walk::step(p, w[i]);
         i += 1;

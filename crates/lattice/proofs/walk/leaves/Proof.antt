@@ -1,30 +1,15 @@
--- `lattice::walk::leaves` meets its contract: each arm of the match is a clause of the definition.
+-- `lattice::walk::leaves` meets its contract: away from the border no letter leaves the chart, and else one of the four tests is the definition's clause for the letter, and the other three are false.
 -- Assumes nothing.
-use native.Mathlib.Omega.{arith}
 use mathlib.Core.Path.{sym}
-use Rattle.lattice.specs.Chart.{leaves}
-use Rattle.lattice.proofs.WalkCode.{leaves-high}
+use Rattle.lattice.proofs.WalkCode.{inside-stays, leaves-tests}
 use Rattle.lattice.proofs.walk.leaves.Statement.{statement}
 use Rattle.lattice.proofs.walk.leaves.Tie as tie
 
 returns : tie.Need-returns
-unfolding leaves
-returns c = rw (c .before .match .keys1)
+returns c = sym (inside-stays _ _ (c .if1 .taken))
 
 returns-2 : tie.Need-returns-2
-unfolding leaves
-returns-2 c = rw (c .before .match .keys2)
-
-returns-3 : tie.Need-returns-3
-unfolding leaves
-returns-3 c = rw (c .before .match .keys3)
-
-returns-4 : tie.Need-returns-4
-unfolding leaves
-returns-4 c = rw (c .before .match .keys4)
-
-returns-5 : tie.Need-returns-5
-returns-5 c = sym (leaves-high _ _ (omega (arith, c .match .rest .1, c .match .rest .0 .1, c .match .rest .0 .0 .1, c .match .rest .0 .0 .0 .1)))
+returns-2 c = leaves-tests _ _
 
 pub leaves-spec : {M : Type 1} → statement M
-leaves-spec = tie.close (tie.spec returns returns-2 returns-3 returns-4 returns-5)
+leaves-spec = tie.close (tie.spec returns returns-2)

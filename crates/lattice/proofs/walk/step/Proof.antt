@@ -1,12 +1,12 @@
--- `lattice::walk::step` meets its contract: where `leaves` is true the corner stays, and else each arm of the match is a clause of `step`,
--- whose sum or difference stays within 0 to 255.
+-- `lattice::walk::step` meets its contract: where `leaves` is true the corner stays, and else each number changes by what the letter adds and takes away,
+-- which is one step within 0 to 255 or nothing.
 -- Assumes nothing.
 use mathlib.Core.Path.{_≡_, sym, _∙_}
 use mathlib.Core.Bool.{false}
 use borrow.Author.Needs.{needs}
 use native.Mathlib.Omega.{arith}
-use Rattle.lattice.specs.Chart.{step, leaves}
-use Rattle.lattice.proofs.WalkCode.{stepped-leaving, stepped-staying, step-high, stays-right, stays-up, stays-left, stays-down}
+use Rattle.lattice.specs.Chart.{leaves}
+use Rattle.lattice.proofs.WalkCode.{stepped-leaving, stepped-staying, step-tests, stays-right, stays-up, stays-left, stays-down, one-more, one-less}
 use Rattle.lattice.proofs.walk.step.Statement.{statement}
 use Rattle.lattice.proofs.walk.step.Tie as tie
 
@@ -20,38 +20,40 @@ leaves-requires c κs = search needs
 returns : tie.Need-returns
 returns c = sym (stepped-leaving _ _ (sym (c .before .leaves .ensures) ∙ c .if1 .taken))
 
-add-t5 : tie.Need-add-t5
-add-t5 c = omega (arith, stays-right _ _ (stays (c .before .before)) (c .before .match .keys1))
+one-at-requires : tie.Need-one-at-requires
+one-at-requires c κs = search needs
 
-add-t6 : tie.Need-add-t6
-add-t6 c = omega (arith, stays-up _ _ (stays (c .before .before)) (c .before .match .keys2))
+add-t5 : tie.Need-add-t5
+add-t5 c = rw (c .before .one-at .ensures) (record { fits = one-more _ 0 (c .struct-known .given .0 .fits) (stays-right _ _ (stays (c .before .before))) })
+
+one-at-requires-2 : tie.Need-one-at-requires-2
+one-at-requires-2 c κs = search needs
 
 sub-t7 : tie.Need-sub-t7
-sub-t7 c = omega (arith, stays-left _ _ (stays (c .before .before)) (c .before .match .keys3))
+sub-t7 c = rw (c .one-at2 .ensures) (one-less _ 2 (omega arith) (stays-left _ _ (stays (c .before .before .before))))
 
-sub-t8 : tie.Need-sub-t8
-sub-t8 c = omega (arith, stays-down _ _ (stays (c .before .before)) (c .before .match .keys4))
+one-at-requires-3 : tie.Need-one-at-requires-3
+one-at-requires-3 c κs = search needs
+
+add-t9 : tie.Need-add-t9
+add-t9 c = rw (c .before .one-at3 .ensures) (record { fits = one-more _ 1 (c .struct-known2 .given .1 .0 .fits) (stays-up _ _ (stays (c .before .before .before .before .before))) })
+
+one-at-requires-4 : tie.Need-one-at-requires-4
+one-at-requires-4 c κs = search needs
+
+sub-t11 : tie.Need-sub-t11
+sub-t11 c = rw (c .one-at4 .ensures) (one-less _ 3 (omega arith) (stays-down _ _ (stays (c .before .before .before .before .before .before))))
 
 returns-2 : tie.Need-returns-2
-unfolding step
-returns-2 c = rw (stepped-staying _ _ (stays (c .before .before)), c .before .match .keys1)
-
-returns-3 : tie.Need-returns-3
-unfolding step
-returns-3 c = rw (stepped-staying _ _ (stays (c .before .before)), c .before .match .keys2)
-
-returns-4 : tie.Need-returns-4
-unfolding step
-returns-4 c = rw (stepped-staying _ _ (stays (c .before .before)), c .before .match .keys3)
-
-returns-5 : tie.Need-returns-5
-unfolding step
-returns-5 c = rw (stepped-staying _ _ (stays (c .before .before)), c .before .match .keys4)
-
-returns-6 : tie.Need-returns-6
-returns-6 c =
-    sym (stepped-staying _ _ (stays (c .before))
-    ∙ step-high _ _ (omega (arith, c .match .rest .1, c .match .rest .0 .1, c .match .rest .0 .0 .1, c .match .rest .0 .0 .0 .1)))
+returns-2 c =
+    rw (
+      c .one-at4 .ensures,
+      c .before .before .one-at3 .ensures,
+      c .before .before .before .one-at2 .ensures,
+      c .before .before .before .before .before .one-at .ensures,
+      stepped-staying _ _ (stays (c .before .before .before .before .before .before)),
+      step-tests,
+    )
 
 pub step-spec : {M : Type 1} → statement M
 step-spec =
@@ -59,12 +61,12 @@ step-spec =
     (tie.spec
     leaves-requires
     returns
+    one-at-requires
     add-t5
-    add-t6
+    one-at-requires-2
     sub-t7
-    sub-t8
-    returns-2
-    returns-3
-    returns-4
-    returns-5
-    returns-6)
+    one-at-requires-3
+    add-t9
+    one-at-requires-4
+    sub-t11
+    returns-2)

@@ -1,45 +1,24 @@
--- `outline::cut::before` meets its contract: as far along the earlier letter the later one decides, and else the earlier one.
+-- `outline::cut::before` meets its contract: the order of two corners in a frame is that of their ranks.
 -- Assumes nothing.
 use borrow.Author.Needs.{needs}
-use Rattle.outline.proofs.CutCode.{before-level, before-apart}
+use Rattle.outline.proofs.CutCode.{before-ranks}
 use Rattle.outline.proofs.cut.before.Statement.{statement}
 use Rattle.outline.proofs.cut.before.Tie as tie
 
 pair-at-requires : tie.Need-pair-at-requires
 pair-at-requires c κs = search needs
 
-along-requires : tie.Need-along-requires
-along-requires c κs = search needs
+rank-requires : tie.Need-rank-requires
+rank-requires c κs = search needs
 
-along-requires-2 : tie.Need-along-requires-2
-along-requires-2 c κs = search needs
-
-along-requires-3 : tie.Need-along-requires-3
-along-requires-3 c κs = search needs
-
-along-requires-4 : tie.Need-along-requires-4
-along-requires-4 c κs = search needs
+rank-requires-2 : tie.Need-rank-requires-2
+rank-requires-2 c κs = search needs
 
 returns : tie.Need-returns
 returns c =
-    let both = c .before .before .before in
-    let f = both .before .before .pair-at .ensures in
-    before-level _ _ f (both .before .along .ensures) (both .along2 .ensures) (c .before .along3 .ensures) (c .along4 .ensures) (c .before .before .if1 .taken)
-
-returns-2 : tie.Need-returns-2
-returns-2 c =
-    let both = c .before in
-    let f = both .before .before .pair-at .ensures in
-    before-apart _ _ f (both .before .along .ensures) (both .along2 .ensures) (c .if1 .left)
+    let a = c .before .rank .ensures in
+    let b = c .rank2 .ensures in
+    rw (a .0, b .0) (before-ranks _ _ (c .before .before .pair-at .ensures) (a .1) (b .1))
 
 pub before-spec : {M : Type 1} → statement M
-before-spec =
-    tie.close
-    (tie.spec
-    pair-at-requires
-    along-requires
-    along-requires-2
-    along-requires-3
-    along-requires-4
-    returns
-    returns-2)
+before-spec = tie.close (tie.spec pair-at-requires rank-requires rank-requires-2 returns)
