@@ -1,5 +1,5 @@
 -- The lowest missing cell as it is computed, from the ends of the rows alone. That it is the cell of specs/Hull.antt is a theorem of the
--- crate convexity (`search-lowest`).
+-- crate convexity (`named-lowest`).
 use Prim.Native.Nat.{ℕ, zero, suc, _+_, _-_, _*_, _/_}
 use mathlib.Core.Bool.{Bool, cond}
 use mathlib.Core.List.{List, [], _∷_}
