@@ -21,3 +21,4 @@ pub mod Side
 pub mod Mirror
 pub mod Climb
 pub mod Directions
+pub mod Specimens
