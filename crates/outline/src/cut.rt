@@ -9,11 +9,10 @@ ghost use mathlib.Core.Path.{_≡_};
 ghost use lib.ListN.{length, getD};
 ghost use Rattle.words.specs.Below.{first};
 ghost use Rattle.lattice.specs.Limits.{side};
-ghost use Rattle.lattice.specs.Chart.{cornerAt};
 ghost use Rattle.convexity.specs.Frame.{frameOf, along as alongOf};
-ghost use Rattle.convexity.specs.Cut.{before as beforeOf, ahead as aheadOf};
+ghost use Rattle.convexity.specs.Cut.{ahead as aheadOf};
 ghost use Rattle.convexity.specs.Pieces.{stray};
-ghost use Rattle.outline.specs.Cutting.{Stays, CornerFound, Turned, Rounded, CutsOf, StrayFound, SentTo};
+ghost use Rattle.outline.specs.Cutting.{CornerFound, Turned, Rounded, CutsOf, StrayFound, SentTo};
 
 // A buffer that holds the letters as often round as four pieces can reach.
 pub const ROUNDS: usize = 8192;
@@ -44,14 +43,6 @@ fn rank(earlier: u8, later: u8, p: Point) -> u32
     (along(earlier, p) as u32) * 65536 + (along(later, p) as u32)
 }
 
-// p comes before q as the first corner of piece k.
-pub fn before(k: usize, p: Point, q: Point) -> bool
-    ensures { λ r. ⌜ r ≡ beforeOf (frameOf k) p q ⌝ }
-{
-    let f = frame::pair_at(k);
-    rank(f.earlier, f.later, p) < rank(f.earlier, f.later, q)
-}
-
 // The place whose letter leaves the first corner of piece k, in one walk from s.
 pub fn corner_place(s: Point, w: &[u8], k: usize) -> usize
     ensures { λ r. ⌜ CornerFound s (now (w .entry)) k r ⌝ }
@@ -71,19 +62,6 @@ pub fn corner_place(s: Point, w: &[u8], k: usize) -> usize
         i += 1;
     }
     place
-}
-
-// The corner from which the letter at place i leaves; past the last letter, the one at which the walk ends.
-pub fn corner_at(s: Point, w: &[u8], i: usize) -> Point
-    ensures { λ r. ⌜ (Stays s (now (w .entry)) → i ≤ length (now (w .entry)) → r ≡ cornerAt s (now (w .entry)) i) ⌝ }
-{
-    let mut p = s;
-    let mut j = 0;
-    while j < i && j < w.len() {
-        p = walk::step(p, w[j]);
-        j += 1;
-    }
-    p
 }
 
 // Copies the letters from a place on, past the list's end to its beginning.
