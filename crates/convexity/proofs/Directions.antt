@@ -129,11 +129,11 @@ record Past (n e l : ℕ) (dx dy : ℤ) : Type 0 where
   after : After n e l frame across up
   points : Points frame across up dx dy
 
-cols-next : (dx dy : ℤ) (es : List ℤ) (i : ℕ) → edgeCols (dx ∷ dy ∷ es) (suc i) ≡ edgeCols es i
+pub cols-next : (dx dy : ℤ) (es : List ℤ) (i : ℕ) → edgeCols (dx ∷ dy ∷ es) (suc i) ≡ edgeCols es i
 unfolding edgeCols
 cols-next dx dy es i = let d : 2 * suc i ≡ suc (suc (2 * i)) = omega arith in rw d
 
-rows-next : (dx dy : ℤ) (es : List ℤ) (i : ℕ) → edgeRows (dx ∷ dy ∷ es) (suc i) ≡ edgeRows es i
+pub rows-next : (dx dy : ℤ) (es : List ℤ) (i : ℕ) → edgeRows (dx ∷ dy ∷ es) (suc i) ≡ edgeRows es i
 unfolding edgeRows
 rows-next dx dy es i = let d : 2 * suc i + 1 ≡ suc (suc (2 * i + 1)) = omega arith in rw d
 
@@ -166,7 +166,7 @@ turning-from h (next (same-frame m s) p r) = absurd (omega arith)
 -- ---- the edges of one piece
 
 -- Where the word has a last letter, it is the later one
-abbrev EndsLater : Word → Type 0
+abbrev pub EndsLater : Word → Type 0
 EndsLater w = (x : Word) (b : Bool) → w ≡ x ++ (b ∷ []) → b ≡ true
 
 ends-later-some : (w : Word) → 0 < length w → EndsLater w → 0 < laters w
@@ -177,7 +177,7 @@ ends-later-some w h ends =
     omega (arith, laters-next-later i w (omega arith) (ends (take i w) (getD w i false) whole), laters-take-le (suc i) w)
 
 -- The last factor has a later letter, for the word ends with one; any other factor has one, for it is steeper than the next
-first-rises : (f : Factor) (fs : List Factor) → EdgesFall (f ∷ fs) → EndsLater (written (f ∷ fs)) → 0 < rise f
+pub first-rises : (f : Factor) (fs : List Factor) → EdgesFall (f ∷ fs) → EndsLater (written (f ∷ fs)) → 0 < rise f
 unfolding EdgesFall Falls written
 first-rises f [] (edge, falls, rest) ends =
     let w : Word = copies (f .times) (f .word) in
@@ -192,7 +192,7 @@ edge-falls :
     → rise g * run f < rise f * run g
 edge-falls f g h k falls = omega (arith, mul-lt-mul-of-pos-left falls (mul-pos h k))
 
-ends-later-rest : (f : Factor) (fs : List Factor) → EndsLater (written (f ∷ fs)) → EndsLater (written fs)
+pub ends-later-rest : (f : Factor) (fs : List Factor) → EndsLater (written (f ∷ fs)) → EndsLater (written fs)
 unfolding written
 ends-later-rest f fs ends x b e =
     let w : Word = copies (f .times) (f .word) in

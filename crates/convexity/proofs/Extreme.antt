@@ -17,6 +17,7 @@ use Rattle.lattice.specs.Refusals.{Simple}
 use Rattle.lattice.proofs.WalkLaws.{Walked, walked, rotated, turned, length-rotation, point-eq, corner-zero, corner-suc, corner-all, corner-injective}
 use Rattle.convexity.specs.Frame.{Frame, frameOf, along}
 use Rattle.convexity.specs.Cut.{before, least, cornerPlace, westPlace, west, turn}
+unfoldable pub use Rattle.convexity.specs.Reading.{opposite}
 use Rattle.convexity.proofs.Quadrant.{Turn}
 
 -- ---- the least number below a bound
@@ -137,13 +138,6 @@ turn-of s w t =
     }
 
 -- ---- steps in a frame
-
--- The letter of the way back
-unfoldable pub opposite : ℕ → ℕ
-opposite zero = 2
-opposite (suc zero) = 3
-opposite (suc (suc zero)) = 0
-opposite (suc (suc (suc a))) = 1
 
 pub record OnChart (p : Point) : Type 0 where
   pub col : p .col ≤ 255

@@ -1,4 +1,4 @@
--- One piece in its frame; the four pieces; lines and the search for the lowest missing cell; the edges' directions.
+-- One piece in its frame; the four pieces; lines and the search for the lowest missing cell; back-steps; the reading and the same block; the edges' directions; the letters from the edges.
 pub mod Frame
 pub mod Quadrant
 pub mod Extreme
@@ -20,5 +20,13 @@ pub mod Rows
 pub mod Side
 pub mod Mirror
 pub mod Climb
+pub mod OneRun
+pub mod BackSteps
+pub mod Reading
+pub mod SameBlock
 pub mod Directions
+pub mod FromEdges
+pub mod Border
+pub mod Writing
 pub mod Specimens
+pub mod BorderSpecimens

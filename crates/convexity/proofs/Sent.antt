@@ -58,7 +58,7 @@ module _ (s : Point) (w : List ℕ) where
         },
   )
 
-  missing-turn : Simple s w → (x : Point) → Missing (west s w) (turn s w) x ↔ Missing s w x
+  pub missing-turn : Simple s w → (x : Point) → Missing (west s w) (turn s w) x ↔ Missing s w x
   missing-turn h x = (
     λ m. record { hull = hull-turn h x .0 (m .hull); open-cell = sym (encloses-turn h _ _) ∙ m .open-cell },
     λ m. record { hull = hull-turn h x .1 (m .hull); open-cell = encloses-turn h _ _ ∙ m .open-cell },

@@ -95,11 +95,11 @@ junction f g a b h t o (by-earlier p q) =
 
 -- ---- the letters of the pieces
 
-ahead-on : (n a b : ℕ) → a ≤ b → ahead n a b ≡ b - a
+pub ahead-on : (n a b : ℕ) → a ≤ b → ahead n a b ≡ b - a
 unfolding ahead
 ahead-on n a b h = rw (le-leb a b h)
 
-ahead-round : (n a b : ℕ) → b < a → ahead n a b ≡ b + n - a
+pub ahead-round : (n a b : ℕ) → b < a → ahead n a b ≡ b + n - a
 unfolding ahead
 ahead-round n a b h = rw (lt-leb a b h)
 
@@ -107,7 +107,7 @@ length-rounds : (t : List ℕ) → length (rounds t) ≡ length t + (length t + 
 unfolding rounds
 length-rounds t = simp length-append
 
-rounds-before : (t : List ℕ) (i : ℕ) → i < length t → getD (rounds t) i 0 ≡ getD t i 0
+pub rounds-before : (t : List ℕ) (i : ℕ) → i < length t → getD (rounds t) i 0 ≡ getD t i 0
 unfolding rounds
 rounds-before t i h = List·getD-append t (t ++ (t ++ t)) 0 i h
 
@@ -194,7 +194,7 @@ along-opposite (suc zero) p h = omega arith
 along-opposite (suc (suc zero)) p h = omega arith
 along-opposite (suc (suc (suc a))) p h = omega arith
 
-previous-pos : (n i : ℕ) → 0 < i → previous n i ≡ i - 1
+pub previous-pos : (n i : ℕ) → 0 < i → previous n i ≡ i - 1
 unfolding previous
 previous-pos n zero h = absurd (omega arith)
 previous-pos n (suc i) h = omega arith

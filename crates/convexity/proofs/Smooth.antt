@@ -19,7 +19,7 @@ use Rattle.convexity.specs.Pieces.{word, factors, dentLength, dentPiece}
 use Rattle.convexity.proofs.Frame.{Hugs, Edge, Falls, EdgesFall}
 
 -- Without a dent the first factor is a Christoffel word, and there is no dent in the others
-dent-first : (f : Factor) (fs : List Factor) → Proper f → dentLength (f ∷ fs) ≡ 0 → Christoffel (f .word) × (dentLength fs ≡ 0)
+pub dent-first : (f : Factor) (fs : List Factor) → Proper f → dentLength (f ∷ fs) ≡ 0 → Christoffel (f .word) × (dentLength fs ≡ 0)
 unfolding dentLength
 dent-first f fs p e = go (christoffel (f .word)) refl e
   where

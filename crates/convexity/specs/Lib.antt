@@ -1,7 +1,10 @@
--- From the border to the edges, in the order of document 01: frames, the cut, pieces, factors, dents and edges, the rule of the edges, their directions.
+-- From the border to the edges: frames, the cut, the reading, pieces, factors, dents and edges, the rule of the edges, their directions; and back from the edges.
 pub mod Frame
 pub mod Cut
+pub mod Reading
 pub mod Pieces
 pub mod Inside
 pub mod Directions
 pub mod Quadrant
+pub mod FromEdges
+pub mod Border

@@ -1,4 +1,4 @@
--- Numbers below a bound; the order, Lyndon words and their one factoring; counts of letters, Christoffel words and the dent criterion; the searches.
+-- Numbers below a bound; the order, Lyndon words and their one factoring; counts of letters, Christoffel words, the dent criterion and words from counts; the searches.
 pub mod BelowLaws
 pub mod Order
 pub mod Lyndon
@@ -10,6 +10,7 @@ pub mod Coprime
 pub mod Slope
 pub mod Dent
 pub mod Criterion
+pub mod Counted
 pub mod WordOf
 pub mod FirstFactor
 pub mod RemainderWalk

@@ -1,6 +1,7 @@
--- Words over two ordered letters, in the order of document 01: letters and order, Lyndon words and factors, Christoffel words; then what the searches answer.
+-- Words over two ordered letters, in the order of document 01: letters and order, Lyndon words and factors, Christoffel words, also from their counts; then what the searches answer.
 pub mod Below
 pub mod Word
 pub mod Lyndon
 pub mod Christoffel
+pub mod Counted
 pub mod Search

@@ -1,0 +1,45 @@
+-- Letters written back from lists of edges, computed: one cell, document 01's H2 and H4, edges of many repeats, and the two cells of document 02 that
+-- meet at a corner, whose letters meet that corner twice.
+use mathlib.Core.Path.{_≡_, refl}
+use mathlib.Core.Bool.{Bool, true, false}
+use mathlib.Core.List.{[], _∷_}
+use lib.IntN.{pos, negsuc}
+use Rattle.words.specs.Lyndon
+use Rattle.words.specs.Counted
+use Rattle.convexity.specs.Frame
+use Rattle.convexity.specs.Quadrant
+use Rattle.convexity.specs.FromEdges
+
+-- A name that opens the definitions, for the rows that follow
+opened : Bool
+unfolding Lyndon.copies Counted.listed Counted.countedLetter Counted.christoffelWord Counted.dividesBoth Counted.commonUpTo Counted.common Counted.edgeWord Counted.edgesWord Frame.frameOf Quadrant.spell FromEdges.quadrantOf FromEdges.runIn FromEdges.riseIn FromEdges.sizesIn FromEdges.pieceFrom FromEdges.lettersFrom
+opened = true
+
+-- No edge: one cell
+one-cell : FromEdges.lettersFrom [] ≡ 1 ∷ 0 ∷ 3 ∷ 2 ∷ []
+unfolding opened
+one-cell = refl
+
+H2 : FromEdges.lettersFrom (pos 2 ∷ pos 0 ∷ negsuc 1 ∷ pos 0 ∷ []) ≡ 1 ∷ 0 ∷ 0 ∷ 0 ∷ 3 ∷ 2 ∷ 2 ∷ 2 ∷ []
+unfolding opened
+H2 = refl
+
+-- From W, where Specimens has the letters from another corner
+H4 : FromEdges.lettersFrom (pos 1 ∷ pos 1 ∷ pos 1 ∷ negsuc 0 ∷ negsuc 0 ∷ negsuc 0 ∷ negsuc 0 ∷ pos 1 ∷ [])
+    ≡ 1 ∷ 0 ∷ 1 ∷ 0 ∷ 3 ∷ 0 ∷ 3 ∷ 2 ∷ 3 ∷ 2 ∷ 1 ∷ 2 ∷ []
+unfolding opened
+H4 = refl
+
+-- (4, 2) is 001 twice
+repeated : Counted.edgeWord 4 2 ≡ false ∷ false ∷ true ∷ false ∷ false ∷ true ∷ []
+unfolding opened
+repeated = refl
+
+-- 5 earlier letters and 3 later ones
+five-three : Counted.christoffelWord 5 3 ≡ false ∷ false ∷ true ∷ false ∷ false ∷ true ∷ false ∷ true ∷ []
+unfolding opened
+five-three = refl
+
+corner-meeting : FromEdges.lettersFrom (pos 1 ∷ pos 1 ∷ negsuc 0 ∷ negsuc 0 ∷ []) ≡ 1 ∷ 0 ∷ 1 ∷ 0 ∷ 3 ∷ 2 ∷ 3 ∷ 2 ∷ []
+unfolding opened
+corner-meeting = refl

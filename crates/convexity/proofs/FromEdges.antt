@@ -1,0 +1,281 @@
+-- An outline's edges write back its letters. Without a dent each factor with its repeats is the word of its run and its rise, so a piece is fixed by the
+-- runs and rises of its edges; and an edge lies in its own piece's quadrant alone, so the flat list says which edges are whose.
+use Prim.Native.Nat.{ℕ, zero, suc, _+_, _<_}
+use native.Mathlib.Omega.{arith}
+use mathlib.Core.Path.{_≡_, refl, sym, ap, _∙_}
+use mathlib.Core.Bool.{true, false}
+use mathlib.Core.List.{List, [], _∷_, _++_, append-nil}
+use lib.ListN.{length, length-append}
+use lib.Dec.{ltb, lit<}
+use lib.IntN.{ℤ, pos, negsuc, negℤ}
+use borrow.Author.Tests.{ltb-false, eq-eqb, ne-eqb}
+use Rattle.words.specs.Word.{Word}
+use Rattle.words.specs.Lyndon.{Factor, Falling, written}
+use Rattle.words.specs.Counted.{edgeWord, edgesWord, sizes}
+use Rattle.words.proofs.BelowLaws.{first-none-at}
+use Rattle.words.proofs.Factors.{factors-exist, falling-head, falling-tail}
+use Rattle.words.proofs.Counted.{factor-edge, edge-length}
+use Rattle.lattice.specs.declared.Point.{Point}
+use Rattle.convexity.specs.Frame.{Frame, frameOf}
+use Rattle.convexity.specs.Cut.{west, turn}
+use Rattle.convexity.specs.Pieces.{Reaches, piece, word, factors, dentLength, dentPiece, edgesOf, edges}
+use Rattle.convexity.specs.Quadrant.{spell}
+use Rattle.convexity.specs.FromEdges.{quadrantOf, runIn, riseIn, sizesIn, pieceFrom, lettersFrom, stepCount}
+use Rattle.convexity.proofs.Frame.{run, rise, EdgesFall}
+use Rattle.convexity.proofs.Quadrant.{Clear}
+use Rattle.convexity.proofs.Shape.{shape}
+use Rattle.convexity.proofs.Smooth.{dent-first, smooth-edges}
+use Rattle.convexity.proofs.Signed.{Is, is-self, is-neg, is-unique, Counted, stepCols, stepRows, step-lies}
+use Rattle.convexity.proofs.Directions.{EndsLater, first-rises, ends-later-rest}
+use Rattle.convexity.proofs.Sent.{clear-of}
+
+-- ---- a piece from the runs and rises of its edges
+
+-- Without a dent a word is written by the runs and rises of its factors
+pub written-sizes : (fs : List Factor) → Falling fs → dentLength fs ≡ 0 → written fs ≡ edgesWord (sizes fs)
+unfolding written edgesWord sizes
+written-sizes [] h e = refl
+written-sizes (f ∷ fs) h e =
+    let p = falling-head h in
+    let d = dent-first f fs p e in
+    rw (factor-edge f p (d .0), written-sizes fs (falling-tail h) (d .1))
+
+pub word-sizes : (s : Point) (t : List ℕ) → dentPiece s t ≡ 4 → (k : ℕ) → k < 4 → word s t k ≡ edgesWord (sizes (factors s t k))
+unfolding dentPiece factors
+word-sizes s t e k l =
+    let f = factors-exist (word s t k) in
+    let none-here = ltb-false 0 (dentLength (factors s t k)) (first-none-at (λ k. ltb 0 (dentLength (factors s t k))) 4 e k l) in
+    sym (f .whole) ∙ written-sizes (factors s t k) (f .falling) (omega arith)
+
+-- ---- an edge lies in the quadrant of its own piece
+
+-- e earlier letters and l later ones of frame k, as columns and as rows
+abbrev signedCols : ℕ → ℕ → ℕ → ℤ
+signedCols zero e l = pos e
+signedCols (suc zero) e l = pos l
+signedCols (suc (suc zero)) e l = negℤ (pos e)
+signedCols (suc (suc (suc k))) e l = negℤ (pos l)
+
+abbrev signedRows : ℕ → ℕ → ℕ → ℤ
+signedRows zero e l = pos l
+signedRows (suc zero) e l = negℤ (pos e)
+signedRows (suc (suc zero)) e l = negℤ (pos l)
+signedRows (suc (suc (suc k))) e l = pos e
+
+is-pos : {z : ℤ} {a : ℕ} → Is z a 0 → z ≡ pos a
+is-pos {a} h = is-unique h (is-self (pos a)) (omega arith)
+
+is-minus-pos : {z : ℤ} {a : ℕ} → Is z 0 a → z ≡ negℤ (pos a)
+is-minus-pos {a} h = is-unique h (is-neg (is-self (pos a))) (omega arith)
+
+signed : (k e l : ℕ) {dx dy : ℤ} → Counted k 0 e l dx dy → (dx ≡ signedCols k e l) × (dy ≡ signedRows k e l)
+unfolding Counted
+signed zero e l h = (is-pos (h .0), is-pos (h .1))
+signed (suc zero) e l h = (is-pos (h .0), is-minus-pos (h .1))
+signed (suc (suc zero)) e l h = (is-minus-pos (h .0), is-minus-pos (h .1))
+signed (suc (suc (suc k))) e l h = (is-minus-pos (h .0), is-pos (h .1))
+
+-- (dx, dy) lies in quadrant k, with its run and its rise
+pub record Sits (k e l : ℕ) (dx dy : ℤ) : Type 0 where
+  pub quadrant : quadrantOf dx dy ≡ k
+  pub across : runIn k dx dy ≡ e
+  pub upward : riseIn k dx dy ≡ l
+
+signed-sits : (k e l : ℕ) → k < 4 → 0 < l → Sits k e l (signedCols k e l) (signedRows k e l)
+unfolding quadrantOf runIn riseIn
+signed-sits k e zero h p = absurd (omega arith)
+signed-sits zero zero (suc l) h p = record { quadrant = refl; across = refl; upward = refl }
+signed-sits zero (suc e) (suc l) h p = record { quadrant = refl; across = refl; upward = refl }
+signed-sits (suc zero) zero (suc l) h p = record { quadrant = refl; across = refl; upward = refl }
+signed-sits (suc zero) (suc e) (suc l) h p = record { quadrant = refl; across = refl; upward = refl }
+signed-sits (suc (suc zero)) zero (suc l) h p = record { quadrant = refl; across = refl; upward = refl }
+signed-sits (suc (suc zero)) (suc e) (suc l) h p = record { quadrant = refl; across = refl; upward = refl }
+signed-sits (suc (suc (suc zero))) zero (suc l) h p = record { quadrant = refl; across = refl; upward = refl }
+signed-sits (suc (suc (suc zero))) (suc e) (suc l) h p = record { quadrant = refl; across = refl; upward = refl }
+signed-sits (suc (suc (suc (suc k)))) e (suc l) h p = absurd (omega arith)
+
+-- An edge of piece k that rises lies in quadrant k, and so in no other
+pub step-sits : (k e l : ℕ) → k < 4 → 0 < l → Sits k e l (stepCols (frameOf k) e l) (stepRows (frameOf k) e l)
+step-sits k e l h p = let d = signed k e l (step-lies k e l .counted) in rw (d .0, d .1) (signed-sits k e l h p)
+
+-- Conversely a direction of quadrant k is the step of its run and its rise in frame k, and it rises
+quadrant-signed : (dx dy : ℤ) → quadrantOf dx dy < 4 → let k = quadrantOf dx dy in
+    (0 < riseIn k dx dy) × (signedCols k (runIn k dx dy) (riseIn k dx dy) ≡ dx) × (signedRows k (runIn k dx dy) (riseIn k dx dy) ≡ dy)
+unfolding quadrantOf runIn riseIn
+quadrant-signed (pos zero) (pos zero) h = absurd (omega arith)
+quadrant-signed (pos zero) (pos (suc b)) h = (omega arith, refl, refl)
+quadrant-signed (pos (suc a)) (pos zero) h = (omega arith, refl, refl)
+quadrant-signed (pos (suc a)) (pos (suc b)) h = (omega arith, refl, refl)
+quadrant-signed (pos zero) (negsuc b) h = (omega arith, refl, refl)
+quadrant-signed (pos (suc a)) (negsuc b) h = (omega arith, refl, refl)
+quadrant-signed (negsuc a) (pos zero) h = (omega arith, refl, refl)
+quadrant-signed (negsuc a) (pos (suc b)) h = (omega arith, refl, refl)
+quadrant-signed (negsuc a) (negsuc b) h = (omega arith, refl, refl)
+
+pub record Step (k : ℕ) (dx dy : ℤ) : Type 0 where
+  pub rises : 0 < riseIn k dx dy
+  pub cols : stepCols (frameOf k) (runIn k dx dy) (riseIn k dx dy) ≡ dx
+  pub rows : stepRows (frameOf k) (runIn k dx dy) (riseIn k dx dy) ≡ dy
+
+pub quadrant-step : (dx dy : ℤ) → quadrantOf dx dy < 4 → Step (quadrantOf dx dy) dx dy
+quadrant-step dx dy h =
+    let k = quadrantOf dx dy in
+    let q = quadrant-signed dx dy h in
+    let d = signed k (runIn k dx dy) (riseIn k dx dy) (step-lies k (runIn k dx dy) (riseIn k dx dy) .counted) in
+    record { rises = q .0; cols = d .0 ∙ q .1; rows = d .1 ∙ q .2 }
+
+-- Only (0, 0) has no quadrant
+pub quadrant-nil : (dx dy : ℤ) → quadrantOf dx dy ≡ 4 → (dx ≡ pos 0) × (dy ≡ pos 0)
+unfolding quadrantOf
+quadrant-nil (pos zero) (pos zero) h = (refl, refl)
+quadrant-nil (pos zero) (pos (suc b)) h = absurd (omega arith)
+quadrant-nil (pos (suc a)) (pos zero) h = absurd (omega arith)
+quadrant-nil (pos (suc a)) (pos (suc b)) h = absurd (omega arith)
+quadrant-nil (pos zero) (negsuc b) h = absurd (omega arith)
+quadrant-nil (pos (suc a)) (negsuc b) h = absurd (omega arith)
+quadrant-nil (negsuc a) (pos b) h = absurd (omega arith)
+quadrant-nil (negsuc a) (negsuc b) h = absurd (omega arith)
+
+-- ---- the four lists of edges from the flat one
+
+-- Every factor of the list has a later letter
+unfoldable AllRise : List Factor → Type 0
+AllRise [] = Unit
+AllRise (f ∷ fs) = (0 < rise f) × AllRise fs
+
+all-rise : (fs : List Factor) → EdgesFall fs → EndsLater (written fs) → AllRise fs
+unfolding AllRise EdgesFall
+all-rise [] h ends = tt
+all-rise (f ∷ fs) h ends = (first-rises f fs h ends, all-rise fs (h .2) (ends-later-rest f fs ends))
+
+module _ (k : ℕ) (small : k < 4) (es : List ℤ) where
+  own-sizes : (fs : List Factor) → AllRise fs → sizesIn k (edgesOf (frameOf k) fs ++ es) ≡ sizes fs ++ sizesIn k es
+  unfolding AllRise edgesOf sizesIn sizes
+  own-sizes [] h = refl
+  own-sizes (f ∷ fs) h =
+      let s = step-sits k (run f) (rise f) small (h .0) in
+      rw (eq-eqb _ k (s .quadrant), s .across, s .upward, own-sizes fs (h .1))
+
+  other-sizes : (j : ℕ) → (k ≡ j → ⊥) → (fs : List Factor) → AllRise fs → sizesIn j (edgesOf (frameOf k) fs ++ es) ≡ sizesIn j es
+  unfolding AllRise edgesOf sizesIn
+  other-sizes j apart [] h = refl
+  other-sizes j apart (f ∷ fs) h =
+      let s = step-sits k (run f) (rise f) small (h .0) in
+      rw (ne-eqb _ j (λ e. apart (sym (s .quadrant) ∙ e))) (other-sizes j apart fs (h .1))
+
+-- ---- the four pieces
+
+module _ (s : Point) (t : List ℕ) (clear : Clear s t) (smooth : dentPiece s t ≡ 4) where
+  abbrev flat : ℕ → List ℤ
+  flat k = edgesOf (frameOf k) (factors s t k)
+
+  rises : (k : ℕ) → k < 4 → AllRise (factors s t k)
+  unfolding factors
+  rises k h = all-rise (factors s t k) (smooth-edges s t smooth k h) (rw (factors-exist (word s t k) .whole) (shape s t clear .ends k h))
+
+  keep : (k : ℕ) → k < 4 → (es : List ℤ) → sizesIn k (flat k ++ es) ≡ sizes (factors s t k) ++ sizesIn k es
+  keep k h es = own-sizes k h es (factors s t k) (rises k h)
+
+  skip : (j k : ℕ) → k < 4 → (k ≡ j → ⊥) → (es : List ℤ) → sizesIn j (flat k ++ es) ≡ sizesIn j es
+  skip j k h apart es = other-sizes k h es j apart (factors s t k) (rises k h)
+
+  flat-edges : edges s t ≡ flat 0 ++ (flat 1 ++ (flat 2 ++ (flat 3 ++ [])))
+  unfolding edges
+  flat-edges = rw append-nil
+
+  -- The flat list determines the runs and rises of each piece's edges
+  pub edges-sizes : (k : ℕ) → k < 4 → sizesIn k (edges s t) ≡ sizes (factors s t k)
+  unfolding sizesIn
+  edges-sizes zero h =
+      rw (flat-edges, keep 0 (lit< tt), skip 0 1 (lit< tt) (λ e. omega arith), skip 0 2 (lit< tt) (λ e. omega arith), skip 0 3 (lit< tt) (λ e. omega arith))
+      (append-nil _)
+  edges-sizes (suc zero) h =
+      rw (flat-edges, skip 1 0 (lit< tt) (λ e. omega arith), keep 1 (lit< tt), skip 1 2 (lit< tt) (λ e. omega arith), skip 1 3 (lit< tt) (λ e. omega arith))
+      (append-nil _)
+  edges-sizes (suc (suc zero)) h =
+      rw (flat-edges, skip 2 0 (lit< tt) (λ e. omega arith), skip 2 1 (lit< tt) (λ e. omega arith), keep 2 (lit< tt), skip 2 3 (lit< tt) (λ e. omega arith))
+      (append-nil _)
+  edges-sizes (suc (suc (suc zero))) h =
+      rw (flat-edges, skip 3 0 (lit< tt) (λ e. omega arith), skip 3 1 (lit< tt) (λ e. omega arith), skip 3 2 (lit< tt) (λ e. omega arith), keep 3 (lit< tt))
+      (append-nil _)
+  edges-sizes (suc (suc (suc (suc k)))) h = absurd (omega arith)
+
+  -- So it writes back each piece, and the letters from W on
+  pub piece-from-edges : (k : ℕ) → k < 4 → piece s t k ≡ pieceFrom k (edges s t)
+  unfolding pieceFrom
+  piece-from-edges k h =
+      shape s t clear .spelled k h ∙ ap (λ (w : Word). spell (frameOf k) (true ∷ w)) (word-sizes s t smooth k h ∙ ap edgesWord (sym (edges-sizes k h)))
+
+  pub turn-from-edges : t ≡ lettersFrom (edges s t)
+  unfolding lettersFrom
+  turn-from-edges =
+      shape s t clear .whole
+      ∙ rw (piece-from-edges 0 (lit< tt), piece-from-edges 1 (lit< tt), piece-from-edges 2 (lit< tt), piece-from-edges 3 (lit< tt))
+
+-- Two turns with the same edges are the same letters
+pub turn-unique :
+    {s s′ : Point} {t t′ : List ℕ} → Clear s t → Clear s′ t′ → dentPiece s t ≡ 4 → dentPiece s′ t′ ≡ 4 → edges s t ≡ edges s′ t′ → t ≡ t′
+turn-unique {s} {s′} {t} {t′} h h′ e e′ same = turn-from-edges s t h e ∙ ap lettersFrom same ∙ sym (turn-from-edges s′ t′ h′ e′)
+
+-- ---- outlines as sent
+
+module _ (s : Point) (w : List ℕ) (h : Reaches s w) (smooth : dentPiece (west s w) (turn s w) ≡ 4) where
+  pub sent-from-edges : turn s w ≡ lettersFrom (edges (west s w) (turn s w))
+  sent-from-edges = turn-from-edges (west s w) (turn s w) (clear-of s w h) smooth
+
+-- ---- how many letters a list writes
+
+length-spell : (f : Frame) (w : Word) → length (spell f w) ≡ length w
+unfolding spell
+length-spell f [] = refl
+length-spell f (false ∷ w) = ap suc (length-spell f w)
+length-spell f (true ∷ w) = ap suc (length-spell f w)
+
+-- The letters of quadrant k, its first left out
+abbrev count : ℕ → List ℤ → ℕ
+count k es = length (edgesWord (sizesIn k es))
+
+abbrev Counts : List ℤ → Type 0
+Counts es = count 0 es + count 1 es + count 2 es + count 3 es ≡ stepCount es
+
+-- One edge more
+longer : (a b : ℕ) (l : List (ℕ × ℕ)) → 0 < a + b → length (edgesWord ((a, b) ∷ l)) ≡ a + b + length (edgesWord l)
+unfolding edgesWord
+longer a b l h = omega (arith, length-append (edgeWord a b) (edgesWord l), edge-length a b h)
+
+counts-next : (dx dy : ℤ) (es : List ℤ) → Counts es → Counts (dx ∷ dy ∷ es)
+unfolding sizesIn quadrantOf runIn riseIn stepCount
+counts-next (pos zero) (pos zero) es h = omega arith
+counts-next (pos zero) (pos (suc b)) es h = omega (arith, longer 0 (suc b) (sizesIn 0 es) (omega arith))
+counts-next (pos (suc a)) (pos zero) es h = omega (arith, longer 0 (suc a) (sizesIn 1 es) (omega arith))
+counts-next (pos (suc a)) (pos (suc b)) es h = omega (arith, longer (suc a) (suc b) (sizesIn 0 es) (omega arith))
+counts-next (pos zero) (negsuc b) es h = omega (arith, longer 0 (suc b) (sizesIn 2 es) (omega arith))
+counts-next (pos (suc a)) (negsuc b) es h = omega (arith, longer (suc b) (suc a) (sizesIn 1 es) (omega arith))
+counts-next (negsuc a) (pos b) es h = omega (arith, longer b (suc a) (sizesIn 3 es) (omega arith))
+counts-next (negsuc a) (negsuc b) es h = omega (arith, longer (suc a) (suc b) (sizesIn 2 es) (omega arith))
+
+counts : (es : List ℤ) → Counts es
+unfolding sizesIn stepCount edgesWord
+counts [] = refl
+counts (dx ∷ []) = refl
+counts (dx ∷ dy ∷ es) = counts-next dx dy es (counts es)
+
+length-piece : (k : ℕ) (es : List ℤ) → length (pieceFrom k es) ≡ suc (count k es)
+unfolding pieceFrom
+length-piece k es = length-spell (frameOf k) (true ∷ edgesWord (sizesIn k es))
+
+-- Any list writes four letters and one for each column and row of its edges
+pub length-letters : (es : List ℤ) → length (lettersFrom es) ≡ 4 + stepCount es
+unfolding lettersFrom
+length-letters es =
+    omega (
+      arith,
+      counts es,
+      length-append (pieceFrom 0 es) (pieceFrom 1 es ++ (pieceFrom 2 es ++ pieceFrom 3 es)),
+      length-append (pieceFrom 1 es) (pieceFrom 2 es ++ pieceFrom 3 es),
+      length-append (pieceFrom 2 es) (pieceFrom 3 es),
+      length-piece 0 es,
+      length-piece 1 es,
+      length-piece 2 es,
+      length-piece 3 es,
+    )
