@@ -9,43 +9,30 @@ use mathlib.Core.Path.{_≡_, sym, ap, _∙_, subst}
 use mathlib.Core.Logic.{_↔_, _⊎_, inl, inr, ⊎-elim, _≢_}
 use mathlib.Core.Bool.{true, false, true≢false, _||_}
 use mathlib.Core.List.{List}
-use lib.ListN.{length, getD, drop, length-take}
-use lib.Seq.{getD-take, getD-drop}
+use lib.ListN.{length, getD}
 use lib.Dec.{ltb, eqb}
-use borrow.Author.Tests.{ltb-true, eqb-true, eqb-false, not-true, le-ltb}
-use Rattle.words.proofs.BelowLaws.{first-le, first-found}
-use Rattle.lattice.specs.Limits.{side}
-use Rattle.lattice.specs.declared.Point.{Point}
+use borrow.Author.Tests.{ltb-true, eqb-false, not-true, le-ltb}
+use Rattle.base.proofs.BelowLaws.{first-le, first-found}
+use Rattle.chart.specs.declared.Point.{Point}
 use Rattle.lattice.specs.Chart.{step, cornerAt}
 use Rattle.lattice.specs.Enclosed.{encloses}
 use Rattle.lattice.specs.Hull.{InHull, Missing}
 use Rattle.lattice.specs.Refusals.{Simple}
 use Rattle.lattice.proofs.WalkLaws.{Walked, corner-suc, or-left, or-right}
-use Rattle.lattice.proofs.RightHand.{arriving-up}
 use Rattle.convexity.specs.Frame.{Frame, frameOf, along}
-use Rattle.convexity.specs.Cut.{cornerPlace, west, turn, clockwise, cutCorner, cut}
-use Rattle.convexity.specs.Pieces.{rounds, piece, stray, strayAt, strayPiece, factors, dentLength, dentPiece, Reaches}
+use Rattle.convexity.specs.Cut.{west, turn, clockwise, cutCorner, cut}
+use Rattle.convexity.specs.Pieces.{piece, stray, strayAt, strayPiece, factors, dentLength, dentPiece, Reaches}
 use Rattle.convexity.proofs.Quadrant.{Turn}
-use Rattle.convexity.proofs.Extreme.{FirstAt, first-at-cornerPlace, not-before-earlier, opposite, Moved, earlier-on, later-on, earlier-back, later-back, Bend, by-later, by-earlier, previous, corner-round, moves, bend, turn-of}
-use Rattle.convexity.proofs.Shape.{straight-of, ahead-on, ahead-round, rounds-before, previous-pos}
-use Rattle.convexity.proofs.PathCells.{turn-lowest}
+use Rattle.convexity.proofs.Extreme.{not-before-earlier, Moved, earlier-on, later-on, earlier-back, later-back, Bend, by-later, by-earlier, on-chart, corner-round, moves, bend, turn-of}
+use Rattle.convexity.proofs.Shape.{straight-of}
+use Rattle.convexity.proofs.Cuts.{previous-pos, cut-zero, corner-west, cut-on, cut-round, cuts-fit, piece-length, piece-at, corner-first, corner-after}
+use Rattle.convexity.specs.Reading.{opposite}
+use Rattle.convexity.proofs.Ring.{next, next-lt, Apart, apart, turns, along-next}
+use Rattle.convexity.proofs.Levels.{LetterAt, leaves-upwards}
 use Rattle.convexity.proofs.Sent.{missing-turn, dented-iff-missing}
-use Rattle.convexity.proofs.OneRun.{SomeMissing, LetterAt, up-down, right-left, twice}
+use Rattle.convexity.proofs.OneRun.{SomeMissing, twice, back-gap}
 
 -- ---- a frame's later letter, on and back
-
--- The letter back along the later one is none of the other three
-record BackApart (f : Frame) : Type 0 where
-  earlier : opposite (f .later) ≢ f .earlier
-  later : opposite (f .later) ≢ f .later
-  back : opposite (f .later) ≢ opposite (f .earlier)
-
-back-apart : (k : ℕ) → BackApart (frameOf k)
-unfolding frameOf opposite
-back-apart zero = omega arith
-back-apart (suc zero) = omega arith
-back-apart (suc (suc zero)) = omega arith
-back-apart (suc (suc (suc k))) = omega arith
 
 -- A letter that leads past the line m is the later letter, and leaves that line
 passes : (f : Frame) (a m : ℕ) (p q : Point) → Moved f a p q → along (f .later) p ≤ m → m < along (f .later) q
@@ -55,16 +42,18 @@ passes f a m p q (later-on x y z) h k = (x, omega arith)
 passes f a m p q (earlier-back x y z) h k = absurd (omega arith)
 passes f a m p q (later-back x y z) h k = absurd (omega arith)
 
-falls-by : (f : Frame) (a : ℕ) (p q : Point) → BackApart f → Moved f a p q → a ≡ opposite (f .later) → along (f .later) q + 1 ≡ along (f .later) p
+-- The letter back along the later one lowers the line by one, along the same earlier letter
+falls-by : (f : Frame) (a : ℕ) (p q : Point) → Apart f → Moved f a p q → a ≡ opposite (f .later)
+    → (along (f .later) q + 1 ≡ along (f .later) p) × (along (f .earlier) q ≡ along (f .earlier) p)
 falls-by f a p q d (earlier-on x y z) e = absurd (omega arith)
 falls-by f a p q d (later-on x y z) e = absurd (omega arith)
 falls-by f a p q d (earlier-back x y z) e = absurd (omega arith)
-falls-by f a p q d (later-back x y z) e = z
+falls-by f a p q d (later-back x y z) e = (z, y)
 
 -- A letter that is none of its frame's goes back along one of them
-stray-not : (f : Frame) (a : ℕ) → stray f a ≡ true → (a ≢ f .earlier) × (a ≢ f .later)
+back-step-not : (f : Frame) (a : ℕ) → stray f a ≡ true → (a ≢ f .earlier) × (a ≢ f .later)
 unfolding stray
-stray-not f a e =
+back-step-not f a e =
     let n = not-true (eqb a (f .earlier) || eqb a (f .later)) e in (
       eqb-false a (f .earlier) (or-left (eqb a (f .earlier)) (eqb a (f .later)) n),
       eqb-false a (f .later) (or-right (eqb a (f .earlier)) (eqb a (f .later)) n),
@@ -77,18 +66,12 @@ other-letter (suc zero) a h x y = elim (ℕ-discrete a 1) [ yes z ↦ inl z | no
 other-letter (suc (suc zero)) a h x y = elim (ℕ-discrete a 0) [ yes z ↦ inl z | no z ↦ inr (omega arith) ]
 other-letter (suc (suc (suc k))) a h x y = elim (ℕ-discrete a 3) [ yes z ↦ inl z | no z ↦ inr (omega arith) ]
 
-stray-back : (k a : ℕ) → a < 4 → stray (frameOf k) a ≡ true → (a ≡ opposite (frameOf k .earlier)) ⊎ (a ≡ opposite (frameOf k .later))
-stray-back k a h e = let n = stray-not (frameOf k) a e in other-letter k a h (n .0) (n .1)
+back-step-goes : (k a : ℕ) → a < 4 → stray (frameOf k) a ≡ true → (a ≡ opposite (frameOf k .earlier)) ⊎ (a ≡ opposite (frameOf k .later))
+back-step-goes k a h e = let n = back-step-not (frameOf k) a e in other-letter k a h (n .0) (n .1)
 
 module _ (s : Point) (t : List ℕ) (h : Turn s t) (up : getD t 0 0 ≡ 1) where
   abbrev corner : ℕ → Point
   corner i = cornerAt s t i
-
-  abbrev row : ℕ → ℕ
-  row i = cornerAt s t i .row
-
-  abbrev col : ℕ → ℕ
-  col i = cornerAt s t i .col
 
   abbrev size : ℕ
   size = length t
@@ -141,40 +124,27 @@ module _ (s : Point) (t : List ℕ) (h : Turn s t) (up : getD t 0 0 ≡ 1) where
       twice s t h up k (c .place) (c′ .place) (letter-at k m i j (omega (arith, c′ .from, c′ .to)) c) (letter-at k m i′ j′ n c′)
       (omega (arith, c .to, c′ .from)) (c .line ∙ sym (c′ .line))
 
-  falls : (k m : ℕ) → m < size → getD t m 0 ≡ opposite (frameOf k .later) → far k (suc m) + 1 ≡ far k m
-  falls k m l e = falls-by (frameOf k) (getD t m 0) (corner m) (corner (suc m)) (back-apart k) (moves s t d k m l) e
+  falls : (k m : ℕ) → m < size → getD t m 0 ≡ opposite (frameOf k .later)
+      → (far k (suc m) + 1 ≡ far k m) × (along (frameOf k .earlier) (corner (suc m)) ≡ along (frameOf k .earlier) (corner m))
+  falls k m l e = falls-by (frameOf k) (getD t m 0) (corner m) (corner (suc m)) (apart k) (moves s t d k m l) e
 
   -- A letter back between a lowest corner and a highest one
   back-between : (k i j m : ℕ) → i ≤ m → m < j → j ≤ size → getD t m 0 ≡ opposite (frameOf k .later)
       → ((q : ℕ) → q ≤ size → far k i ≤ far k q) → ((q : ℕ) → q ≤ size → far k q ≤ far k j) → SomeMissing s t
   back-between k i j m a b l e low high =
-      let f = falls k m (omega arith) e in
+      let (f, _) = falls k m (omega arith) e in
       crossed-twice k (far k (suc m)) i m (suc m) j (omega arith) l
       (cross k (far k (suc m)) i m a (omega arith) (low (suc m) (omega arith)) (omega arith))
       (cross k (far k (suc m)) (suc m) j b l (omega arith) (omega (arith, high m (omega arith))))
 
-  -- ---- the four corners
+  -- ---- the corners of the pieces
 
-  abbrev north : ℕ
-  north = cornerPlace s t 1
+  -- The place of W, N, E and S
+  abbrev place : ℕ → ℕ
+  place k = cutCorner s t k
 
-  abbrev east : ℕ
-  east = cornerPlace s t 2
-
-  abbrev south : ℕ
-  south = cornerPlace s t 3
-
-  first-at : (k : ℕ) → FirstAt s t k (cornerPlace s t k)
-  first-at k = first-at-cornerPlace s t k (omega (arith, d .long))
-
-  north-lt : north < size
-  north-lt = first-at 1 .below
-
-  east-lt : east < size
-  east-lt = first-at 2 .below
-
-  south-lt : south < size
-  south-lt = first-at 3 .below
+  place-lt : (k : ℕ) → k < 4 → place k < size
+  place-lt k l = corner-first s t h k l .below
 
   -- What holds of the corner at every place holds at the end, which is W again
   everywhere : (P : Point → Type 0) → ((i : ℕ) → i < size → P (corner i)) → (i : ℕ) → i ≤ size → P (corner i)
@@ -184,219 +154,172 @@ module _ (s : Point) (t : List ℕ) (h : Turn s t) (up : getD t 0 0 ≡ 1) where
         | no m ↦ subst P (sym (corner-round s t d) ∙ ap corner (omega arith)) (f 0 (omega (arith, d .long)))
       ]
 
-  col-least : (i : ℕ) → i ≤ size → col 0 ≤ col i
-  col-least = everywhere (λ p. col 0 ≤ p .col) (turn-lowest s t h .least-col)
+  -- The corner of piece k lies least far along the earlier letter of its frame, which is the later one of the next; and so most far along the later one
+  -- of the frame before
+  first-earlier : (k : ℕ) → k < 4 → (i : ℕ) → i ≤ size → along (frameOf k .earlier) (corner (place k)) ≤ along (frameOf k .earlier) (corner i)
+  first-earlier k l =
+      everywhere (λ p. along (frameOf k .earlier) (corner (place k)) ≤ along (frameOf k .earlier) p) λ i m.
+      not-before-earlier (frameOf k) (corner i) (corner (place k)) (corner-first s t h k l .none i m)
 
-  col-most : (i : ℕ) → i ≤ size → col i ≤ col east
-  unfolding frameOf along
-  col-most =
-      everywhere (λ p. p .col ≤ col east) λ i l.
-      omega (arith, not-before-earlier (frameOf 2) (corner i) (corner east) (first-at 2 .none i l), d .col-le i (omega arith), d .col-le east (omega (arith, east-lt)))
+  least : (k : ℕ) → k < 4 → (i : ℕ) → i ≤ size → far (next k) (place k) ≤ far (next k) i
+  least k l i m = rw (turns k .later) (first-earlier k l i m)
 
-  row-most : (i : ℕ) → i ≤ size → row i ≤ row north
-  unfolding frameOf along
-  row-most =
-      everywhere (λ p. p .row ≤ row north) λ i l.
-      omega (arith, not-before-earlier (frameOf 1) (corner i) (corner north) (first-at 1 .none i l), d .row-le i (omega arith), d .row-le north (omega (arith, north-lt)))
+  most : (k : ℕ) → k < 4 → (i : ℕ) → i ≤ size → far k i ≤ far k (place (next k))
+  most k l i m =
+      let n = next-lt k in
+      omega (
+        arith,
+        first-earlier (next k) n i m,
+        along-next k (corner i) (on-chart s t d i m),
+        along-next k (corner (place (next k))) (on-chart s t d (place (next k)) (omega (arith, place-lt (next k) n))),
+      )
 
-  row-least : (i : ℕ) → i ≤ size → row south ≤ row i
-  unfolding frameOf along
-  row-least =
-      everywhere (λ p. row south ≤ p .row) λ i l.
-      not-before-earlier (frameOf 3) (corner i) (corner south) (first-at 3 .none i l)
+  far-round : (k : ℕ) → far k size ≡ far k 0
+  far-round k = ap (along (frameOf k .later)) (corner-round s t d)
 
-  stepped : (a i : ℕ) → At a i → corner (suc i) ≡ step (corner i) a
-  stepped a i e = corner-suc s t i (e .0) ∙ ap (step (corner i)) (e .1)
+  to-end : far 3 (place 0) ≤ far 3 size
+  to-end = omega (arith, far-round 3, ap (far 3) (corner-west s t))
 
-  row-one : row 1 ≡ row 0 + 1
-  unfolding step
-  row-one = ap (λ (p : Point). p .row) (stepped 1 0 (omega (arith, d .long), up))
-
-  row-round : row size ≡ row 0
-  row-round = ap (λ (p : Point). p .row) (corner-round s t d)
-
-  col-round : col size ≡ col 0
-  col-round = ap (λ (p : Point). p .col) (corner-round s t d)
-
-  north-after : 0 < north
-  north-after =
-      elim (decLt 0 north) [ yes l ↦ l | no l ↦ absurd (omega (arith, row-one, row-most 1 (omega (arith, d .long)), ap row (n l))) ]
-    where
-      n : (0 < north → ⊥) → north ≡ 0
-      n l = omega arith
-
-  -- W is reached by a left, and so is not S
-  coming-west : getD t (size - 1) 0 ≡ 2
-  coming-west =
-      let l : suc (size - 1) ≡ size = omega (arith, d .long) in
-      arriving-up s t d 0 (turn-lowest s t h) (size - 1) (omega arith) (ap corner l ∙ corner-round s t d) up
-
-  south-after : 0 < south
-  unfolding frameOf opposite previous
-  south-after = elim (decLt 0 south) [ yes l ↦ l | no l ↦ absurd (go (bend s t d 3 0 (subst (FirstAt s t 3) (omega arith) (first-at 3)))) ]
-    where
-      go : Bend (frameOf 3) (getD t (size - 1) 0) (getD t 0 0) → ⊥
-      go (by-later p q) = omega arith
-      go (by-earlier p q) = omega (arith, coming-west)
+  rises-first : far 0 1 ≡ far 0 0 + 1
+  unfolding frameOf along step
+  rises-first = ap (λ (p : Point). p .row) (corner-suc s t 0 (omega (arith, d .long)) ∙ ap (step (corner 0)) up)
 
   -- ---- where each letter may stand
 
-  no-left : (m : ℕ) → m < east → getD t m 0 ≡ 2 → SomeMissing s t
-  unfolding frameOf along opposite
-  no-left m l e = back-between 1 0 east m (omega arith) l (omega (arith, east-lt)) e col-least col-most
-
-  no-right : (m : ℕ) → east ≤ m → m < size → getD t m 0 ≡ 0 → SomeMissing s t
-  unfolding frameOf along opposite
-  no-right m a b e =
-      back-between 3 east size m a b (omega arith) e (λ q l. omega (arith, col-most q l)) (λ q l. omega (arith, col-least q l, col-round))
-
-  no-up : (m : ℕ) → north ≤ m → m < south → getD t m 0 ≡ 1 → SomeMissing s t
-  unfolding frameOf along opposite
-  no-up m a b e =
-      back-between 2 north south m a b (omega (arith, south-lt)) e (λ q l. omega (arith, row-most q l)) (λ q l. omega (arith, row-least q l))
+  -- The later letter of a frame leads from the corner of the piece before it to that of the piece after it, so between them there is no letter back
+  no-back : (k : ℕ) → k < 4 → (j : ℕ) → j ≤ size → far (next k) (place (next (next k))) ≤ far (next k) j → (m : ℕ) → place k ≤ m → m < j
+      → getD t m 0 ≡ opposite (frameOf (next k) .later) → SomeMissing s t
+  no-back k l j n g m a b e =
+      back-between (next k) (place k) j m a b n e (least k l) (λ q o. omega (arith, most (next k) (next-lt k) q o))
 
   -- Ups go from S to N past W, so a down there is met by two ups on one side of W, or by one on each
-  no-down-first : north < south → (m : ℕ) → m < north → getD t m 0 ≡ 3 → SomeMissing s t
-  unfolding frameOf along opposite
+  no-down-first : place 1 < place 3 → (m : ℕ) → m < place 1 → getD t m 0 ≡ opposite (frameOf 0 .later) → SomeMissing s t
   no-down-first o m l e =
-      let r : ℕ = row (suc m) in
-      let n = north-lt in
-      let z = south-lt in
-      let f : r + 1 ≡ row m = falls 0 m (omega arith) e in
-      let after : Crossed 0 r (suc m) north = cross 0 r (suc m) north l (omega arith) (omega arith) (omega (arith, row-most m (omega arith))) in
-      elim (decLt r (row size)) [
+      let r : ℕ = far 0 (suc m) in
+      let n = place-lt 1 (omega arith) in
+      let z = place-lt 3 (omega arith) in
+      let (f, _) = falls 0 m (omega arith) e in
+      let after : Crossed 0 r (suc m) (place 1) = cross 0 r (suc m) (place 1) l (omega arith) (omega arith) (omega (arith, most 0 (omega arith) m (omega arith))) in
+      elim (decLt r (far 0 size)) [
         | yes q ↦
-            crossed-twice 0 r (suc m) north south size (omega arith) (omega arith) after
-            (cross 0 r south size (omega arith) (omega arith) (row-least (suc m) (omega arith)) q)
+            crossed-twice 0 r (suc m) (place 1) (place 3) size (omega arith) (omega arith) after
+            (cross 0 r (place 3) size (omega arith) (omega arith) (least 3 (omega arith) (suc m) (omega arith)) q)
         | no q ↦
-            crossed-twice 0 r 0 m (suc m) north (omega arith) (omega arith)
-            (cross 0 r 0 m (omega arith) (omega arith) (omega (arith, row-round)) (omega arith)) after
+            crossed-twice 0 r 0 m (suc m) (place 1) (omega arith) (omega arith)
+            (cross 0 r 0 m (omega arith) (omega arith) (omega (arith, far-round 0)) (omega arith)) after
       ]
 
-  no-down-last : north < south → (m : ℕ) → south ≤ m → m < size → getD t m 0 ≡ 3 → SomeMissing s t
-  unfolding frameOf along opposite
+  no-down-last : place 1 < place 3 → (m : ℕ) → place 3 ≤ m → m < size → getD t m 0 ≡ opposite (frameOf 0 .later) → SomeMissing s t
   no-down-last o m a b e =
-      let r : ℕ = row (suc m) in
-      let f : r + 1 ≡ row m = falls 0 m b e in
-      let ahead : Crossed 0 r south m = cross 0 r south m a (omega arith) (row-least (suc m) b) (omega arith) in
-      elim (decLt r (row size)) [
-        | yes q ↦ crossed-twice 0 r south m (suc m) size (omega arith) (omega arith) ahead (cross 0 r (suc m) size b (omega arith) (omega arith) q)
+      let r : ℕ = far 0 (suc m) in
+      let (f, _) = falls 0 m b e in
+      let ahead : Crossed 0 r (place 3) m = cross 0 r (place 3) m a (omega arith) (least 3 (omega arith) (suc m) b) (omega arith) in
+      elim (decLt r (far 0 size)) [
+        | yes q ↦ crossed-twice 0 r (place 3) m (suc m) size (omega arith) (omega arith) ahead (cross 0 r (suc m) size b (omega arith) (omega arith) q)
         | no q ↦
-            crossed-twice 0 r 0 north south m (omega arith) (omega arith)
-            (cross 0 r 0 north (omega arith) (omega arith) (omega (arith, row-round)) (omega (arith, row-most m (omega arith)))) ahead
+            crossed-twice 0 r 0 (place 1) (place 3) m (omega arith) (omega arith)
+            (cross 0 r 0 (place 1) (omega arith) (omega arith) (omega (arith, far-round 0)) (omega (arith, most 0 (omega arith) m (omega arith)))) ahead
       ]
 
   -- ---- N comes before S, and E between them
 
   -- Else the row of W, which the first letter leaves, would be left by another up between S and N
-  south-first : south ≤ north → SomeMissing s t
-  unfolding frameOf along
+  south-first : place 3 ≤ place 1 → SomeMissing s t
+  unfolding frameOf
   south-first l =
       let m : 0 < size = omega (arith, d .long) in
-      let n = north-lt in
-      let c = cross 0 (row 0) south north l (omega arith) (row-least 0 (omega arith)) (omega (arith, row-one, row-most 1 m)) in
-      twice s t h up 0 0 (c .place) (m, up) (letter-at 0 (row 0) south north (omega arith) c) (omega (arith, c .from, south-after)) (sym (c .line))
+      let n = place-lt 1 (omega arith) in
+      let c =
+      cross 0 (far 0 0) (place 3) (place 1) l (omega arith) (least 3 (omega arith) 0 (omega arith)) (omega (arith, rises-first, most 0 (omega arith) 1 m)) in
+      twice s t h up 0 0 (c .place) (m, up) (letter-at 0 (far 0 0) (place 3) (place 1) (omega arith) c)
+      (omega (arith, c .from, corner-after s t h up 3 (omega arith) (omega arith))) (sym (c .line))
+
+  -- The corner of a piece that is reached by a letter back, while the letter on leads past its line elsewhere: that letter cannot be on the outer side
+  reached-back : (k : ℕ) → k < 4 → 0 < place k → (i j : ℕ) → i ≤ j → j ≤ size → far k i ≤ far k (place k) → far k (place (next k)) ≤ far k j
+      → getD t (place k - 1) 0 ≡ opposite (frameOf k .later) → SomeMissing s t
+  reached-back k l z i j a b low high e =
+      let q : ℕ = place k - 1 in
+      let n : suc q ≡ place k = omega arith in
+      let m : q < size = omega (arith, place-lt k l) in
+      let (f, g) = rw n at (falls k q m e) in
+      let c = cross k (far k (place k)) i j a b low (omega (arith, most k l q (omega arith))) in
+      back-gap s t h up k (c .place) q (letter-at k (far k (place k)) i j b c) (m, e) (omega (arith, c .line))
+      (omega (arith, first-earlier k l (c .place) (omega (arith, c .to))))
 
   -- Else N would be reached by a left along the top row, with no right above it
-  east-first : east ≤ north → SomeMissing s t
-  unfolding frameOf along opposite step
-  east-first l = go (rw (previous-pos size north north-after) at (bend s t d 1 north (first-at 1)))
+  east-first : place 2 ≤ place 1 → SomeMissing s t
+  unfolding frameOf opposite
+  east-first l =
+      let z = corner-after s t h up 1 (omega arith) (omega arith) in
+      go (rw (previous-pos size (place 1) z) at (bend s t d 1 (place 1) (corner-first s t h 1 (omega arith))))
     where
-      top : getD t (north - 1) 0 ≡ 2 → SomeMissing s t
-      top e =
-          let q : ℕ = north - 1 in
-          let n : suc q ≡ north = omega (arith, north-after) in
-          let b : q < size = omega (arith, north-lt) in
-          let w : corner north ≡ step (corner q) 2 = ap corner (sym n) ∙ stepped 2 q (b, e) in
-          let r : row north ≡ row q = ap (λ (p : Point). p .row) w in
-          let f : col north + 1 ≡ col q = rw n at (falls 1 q b e) in
-          let c =
-          cross 1 (col north) 0 east (omega arith) (omega (arith, east-lt)) (col-least north (omega (arith, north-lt)))
-          (omega (arith, col-most q (omega arith))) in
-          let i : c .place < size = omega (arith, c .to, east-lt) in
-          right-left s t h up (c .place) q (i, c .letter) (b, e) (omega (arith, c .line)) (omega (arith, row-most (c .place) (omega arith)))
-
-      go : Bend (frameOf 1) (getD t (north - 1) 0) (getD t north 0) → SomeMissing s t
-      go (by-later p q) = no-right north l north-lt q
-      go (by-earlier p q) = top p
+      go : Bend (frameOf 1) (getD t (place 1 - 1) 0) (getD t (place 1) 0) → SomeMissing s t
+      go (by-later p q) = no-back 2 (omega arith) size (omega arith) to-end (place 1) l (place-lt 1 (omega arith)) q
+      go (by-earlier p q) =
+          let w = corner-west s t in
+          let n = place-lt 1 (omega arith) in
+          let o = place-lt 2 (omega arith) in
+          reached-back 1 (omega arith) (corner-after s t h up 1 (omega arith) (omega arith)) 0 (place 2) (omega arith) (omega arith)
+          (omega (arith, ap (far 1) w, least 0 (omega arith) (place 1) (omega arith))) (omega arith) p
 
   -- Else E would be reached by an up along the last column, with no down to its right
-  east-last : north < south → south ≤ east → SomeMissing s t
-  unfolding frameOf along opposite step
-  east-last o l = go (rw (previous-pos size east (omega (arith, south-after))) at (bend s t d 2 east (first-at 2)))
+  east-last : place 1 < place 3 → place 3 ≤ place 2 → SomeMissing s t
+  unfolding frameOf opposite
+  east-last o l =
+      let z = corner-after s t h up 2 (omega arith) (omega arith) in
+      go (rw (previous-pos size (place 2) z) at (bend s t d 2 (place 2) (corner-first s t h 2 (omega arith))))
     where
-      last : getD t (east - 1) 0 ≡ 1 → SomeMissing s t
-      last e =
-          let q : ℕ = east - 1 in
-          let n : suc q ≡ east = omega (arith, south-after) in
-          let b : q < size = omega (arith, east-lt) in
-          let w : corner east ≡ step (corner q) 1 = ap corner (sym n) ∙ stepped 1 q (b, e) in
-          let r : row east ≡ row q + 1 = ap (λ (p : Point). p .row) w in
-          let f : col east ≡ col q = ap (λ (p : Point). p .col) w in
-          let y : row east ≤ 255 = d .row-le east (omega (arith, east-lt)) in
-          let c =
-          cross 2 (side - row east) north south (omega arith) (omega (arith, south-lt)) (omega (arith, row-most east (omega (arith, east-lt))))
-          (omega (arith, row-least q (omega arith))) in
-          let i : c .place < size = omega (arith, c .to, south-lt) in
-          up-down s t h up q (c .place) (b, e) (i, c .letter) (omega (arith, c .line, d .row-le (c .place) (omega arith)))
-          (omega (arith, col-most (c .place) (omega arith)))
-
-      go : Bend (frameOf 2) (getD t (east - 1) 0) (getD t east 0) → SomeMissing s t
-      go (by-later p q) = no-down-last o east l east-lt q
-      go (by-earlier p q) = last p
+      go : Bend (frameOf 2) (getD t (place 2 - 1) 0) (getD t (place 2) 0) → SomeMissing s t
+      go (by-later p q) = no-down-last o (place 2) l (place-lt 2 (omega arith)) q
+      go (by-earlier p q) =
+          let n = place-lt 2 (omega arith) in
+          let m = place-lt 3 (omega arith) in
+          reached-back 2 (omega arith) (corner-after s t h up 2 (omega arith) (omega arith)) (place 1) (place 3) (omega arith) (omega arith)
+          (least 1 (omega arith) (place 2) (omega arith)) (omega arith) p
 
   -- ---- the cut places
 
-  module _ (a : north < east) (b : east < south) where
-    cut-one : cut s t 1 ≡ north
-    unfolding cut cutCorner
-    cut-one = omega (arith, ahead-on size 0 north (omega arith))
+  module _ (a : place 1 < place 2) (b : place 2 < place 3) where
+    rise : (k : ℕ) → k < 3 → place k < place (suc k)
+    rise zero l = omega (arith, corner-west s t, corner-after s t h up 1 (omega arith) (omega arith))
+    rise (suc zero) l = a
+    rise (suc (suc zero)) l = b
+    rise (suc (suc (suc k))) l = absurd (omega arith)
 
-    cut-two : cut s t 2 ≡ east
-    unfolding cut cutCorner
-    cut-two = omega (arith, cut-one, ahead-on size north east (omega arith))
+    cuts : (k : ℕ) → k < 4 → cut s t k ≡ place k
+    cuts zero l = omega (arith, cut-zero s t, corner-west s t)
+    cuts (suc k) l = cut-on s t k (cuts k (omega arith)) (omega (arith, rise k (omega arith)))
 
-    cut-three : cut s t 3 ≡ south
-    unfolding cut cutCorner
-    cut-three = omega (arith, cut-two, ahead-on size east south (omega arith))
+    round : cut s t 4 ≡ size
+    round = cut-round s t cuts rise (place-lt 3 (omega arith))
 
-    cut-four : cut s t 4 ≡ size
-    unfolding cut cutCorner
-    cut-four = omega (arith, cut-three, south-lt, ahead-round size south 0 (omega arith))
+    fits : (k : ℕ) → k < 4 → cut s t (suc k) ≤ size
+    fits = cuts-fit s t cuts rise (place-lt 3 (omega arith))
 
     -- In each piece, the two letters that are not its own
     own-letters : (k : ℕ) → k < 4 → (i : ℕ) → cut s t k ≤ i → i < cut s t (suc k)
         → (getD t i 0 ≡ opposite (frameOf k .earlier)) ⊎ (getD t i 0 ≡ opposite (frameOf k .later)) → SomeMissing s t
-    unfolding frameOf opposite
+    unfolding frameOf
     own-letters zero l i x y e =
-        ⊎-elim (no-left i (omega (arith, cut-one))) (no-down-first (omega arith) i (omega (arith, cut-one))) e
+        ⊎-elim (no-back 0 (omega arith) (place 2) (omega (arith, place-lt 2 (omega arith))) (omega arith) i (omega (arith, corner-west s t)) (omega (arith, cuts 1 (omega arith))))
+        (no-down-first (omega arith) i (omega (arith, cuts 1 (omega arith)))) e
     own-letters (suc zero) l i x y e =
-        ⊎-elim (no-up i (omega (arith, cut-one)) (omega (arith, cut-two))) (no-left i (omega (arith, cut-two))) e
+        ⊎-elim (no-back 1 (omega arith) (place 3) (omega (arith, place-lt 3 (omega arith))) (omega arith) i (omega (arith, cuts 1 (omega arith))) (omega (arith, cuts 2 (omega arith))))
+        (no-back 0 (omega arith) (place 2) (omega (arith, place-lt 2 (omega arith))) (omega arith) i (omega (arith, corner-west s t)) (omega (arith, cuts 2 (omega arith)))) e
     own-letters (suc (suc zero)) l i x y e =
-        ⊎-elim (no-right i (omega (arith, cut-two)) (omega (arith, cut-three, south-lt)))
-        (no-up i (omega (arith, cut-two)) (omega (arith, cut-three))) e
+        ⊎-elim (no-back 2 (omega arith) size (omega arith) to-end i (omega (arith, cuts 2 (omega arith))) (omega (arith, cuts 3 (omega arith), place-lt 3 (omega arith))))
+        (no-back 1 (omega arith) (place 3) (omega (arith, place-lt 3 (omega arith))) (omega arith) i (omega (arith, cuts 2 (omega arith))) (omega (arith, cuts 3 (omega arith)))) e
     own-letters (suc (suc (suc zero))) l i x y e =
-        ⊎-elim (no-down-last (omega arith) i (omega (arith, cut-three)) (omega (arith, cut-four)))
-        (no-right i (omega (arith, cut-three)) (omega (arith, cut-four))) e
+        ⊎-elim (no-down-last (omega arith) i (omega (arith, cuts 3 (omega arith))) (omega (arith, round)))
+        (no-back 2 (omega arith) size (omega arith) to-end i (omega (arith, cuts 3 (omega arith))) (omega (arith, round))) e
     own-letters (suc (suc (suc (suc k)))) l i x y e = absurd (omega arith)
 
-    cut-le : (k : ℕ) → k < 4 → cut s t (suc k) ≤ size
-    cut-le zero l = omega (arith, cut-one, north-lt)
-    cut-le (suc zero) l = omega (arith, cut-two, east-lt)
-    cut-le (suc (suc zero)) l = omega (arith, cut-three, south-lt)
-    cut-le (suc (suc (suc zero))) l = omega (arith, cut-four)
-    cut-le (suc (suc (suc (suc k)))) l = absurd (omega arith)
-
-    stray-missing : (k : ℕ) → k < 4 → (i : ℕ) → i < length (piece s t k) → stray (frameOf k) (getD (piece s t k) i 0) ≡ true → SomeMissing s t
-    unfolding piece
-    stray-missing k l i m e =
-        let n : ℕ = cut s t (suc k) - cut s t k in
-        let w : i < n = omega (arith, rw length-take at m) in
+    back-step-here : (k : ℕ) → k < 4 → (i : ℕ) → i < length (piece s t k) → stray (frameOf k) (getD (piece s t k) i 0) ≡ true → SomeMissing s t
+    back-step-here k l i m e =
+        let n : i < cut s t (suc k) - cut s t k = omega (arith, piece-length s t fits k l) in
         let j : ℕ = cut s t k + i in
-        let b : j < size = omega (arith, cut-le k l) in
-        let same : getD (piece s t k) i 0 ≡ getD t j 0 =
-        getD-take n (drop (cut s t k) (rounds t)) i 0 w ∙ getD-drop (cut s t k) (rounds t) i 0 ∙ rounds-before t j b in
-        own-letters k l j (omega arith) (omega arith) (stray-back k (getD t j 0) (d .letter j b) (rw same at e))
+        let b : j < size = omega (arith, fits k l) in
+        own-letters k l j (omega arith) (omega arith) (back-step-goes k (getD t j 0) (d .letter j b) (rw (piece-at s t fits k l i n) at e))
 
     found : strayPiece s t < 4 → SomeMissing s t
     unfolding strayPiece strayAt
@@ -404,16 +327,16 @@ module _ (s : Point) (t : List ℕ) (h : Turn s t) (up : getD t 0 0 ≡ 1) where
         let k : ℕ = strayPiece s t in
         let m : strayAt s t k < length (piece s t k) =
         ltb-true (strayAt s t k) (length (piece s t k)) (first-found (λ k. ltb (strayAt s t k) (length (piece s t k))) 4 l) in
-        stray-missing k l (strayAt s t k) m (first-found (λ i. stray (frameOf k) (getD (piece s t k) i 0)) (length (piece s t k)) m)
+        back-step-here k l (strayAt s t k) m (first-found (λ i. stray (frameOf k) (getD (piece s t k) i 0)) (length (piece s t k)) m)
 
   -- A turn that leaves W upwards and has a back-step has a missing cell
   pub back-step-missing : strayPiece s t < 4 → SomeMissing s t
   back-step-missing l =
-      elim (decLt north east) [
+      elim (decLt (place 1) (place 2)) [
         | yes a ↦
-            elim (decLt east south) [
+            elim (decLt (place 2) (place 3)) [
               | yes b ↦ found a b l
-              | no b ↦ elim (decLt north south) [ yes c ↦ east-last c (omega arith) | no c ↦ south-first (omega arith) ]
+              | no b ↦ elim (decLt (place 1) (place 3)) [ yes c ↦ east-last c (omega arith) | no c ↦ south-first (omega arith) ]
             ]
         | no a ↦ east-first (omega arith)
       ]
@@ -423,9 +346,8 @@ module _ (s : Point) (t : List ℕ) (h : Turn s t) (up : getD t 0 0 ≡ 1) where
 module _ (s : Point) (w : List ℕ) (h : Simple s w) (c : clockwise (turn s w) ≡ true) where
   -- Every outline that refusal 8 turns back has a missing cell
   pub back-step-missing-sent : strayPiece (west s w) (turn s w) < 4 → (x : Point) × Missing s w x
-  unfolding clockwise
   back-step-missing-sent l =
-      let (x, m) = back-step-missing (west s w) (turn s w) (turn-of s w h) (eqb-true (getD (turn s w) 0 0) 1 c) l in
+      let (x, m) = back-step-missing (west s w) (turn s w) (turn-of s w h) (leaves-upwards (turn s w) c) l in
       (x, missing-turn s w h x .0 m)
 
   -- An outline with no missing cell has no back-step

@@ -2,49 +2,29 @@
 -- from W on are written back by the edges, and they are an outline of their own, whose W is its start.
 use Prim.Native.Nat.{ℕ, _≤_, _<_}
 use native.Mathlib.Omega.{arith}
-use native.Mathlib.Decide.{decLt}
 use mathlib.Core.Path.{_≡_, sym, ap, _∙_, subst}
 use mathlib.Core.Logic.{_↔_}
-use mathlib.Core.Bool.{true, false, false≢true}
+use mathlib.Core.Bool.{true, false}
 use mathlib.Core.List.{List, _++_, append-nil}
 use lib.ListN.{length, take, drop}
 use lib.Dec.{ltb}
 use lib.IntN.{ℤ}
-use Rattle.lattice.specs.declared.Point.{Point}
+use Rattle.chart.specs.declared.Point.{Point}
 use Rattle.lattice.specs.Chart.{cornerAt}
 use Rattle.lattice.specs.Refusals.{Simple}
 use Rattle.lattice.specs.Enclosed.{encloses}
-use Rattle.lattice.proofs.WalkLaws.{Walked, walked, point-eq, corner-zero, corner-injective, rotated-simple}
-use Rattle.convexity.specs.Frame.{frameOf, along}
-use Rattle.convexity.specs.Cut.{before, cornerPlace, westPlace, west, turn, clockwise}
+use Rattle.lattice.proofs.WalkLaws.{Walked, walked, corner-zero, corner-injective, rotated-simple}
+use Rattle.convexity.specs.Cut.{cornerPlace, westPlace, west, turn, clockwise}
 use Rattle.convexity.specs.Pieces.{IsAnchor, strayPiece, dentPiece, edges}
 use Rattle.convexity.specs.FromEdges.{lettersFrom}
 use Rattle.convexity.specs.Border.{HasEdges}
 use Rattle.convexity.proofs.Quadrant.{Turn}
-use Rattle.convexity.proofs.Extreme.{before-less, before-level, cornerPlace-lt, cornerPlace-first, turn-of}
+use Rattle.convexity.proofs.Extreme.{cornerPlace-lt, cornerPlace-first, turn-of}
+use Rattle.convexity.proofs.Reading.{first-unique}
 use Rattle.convexity.proofs.Sent.{encloses-turn, west-anchor}
 use Rattle.convexity.proofs.FromEdges.{sent-from-edges}
 
 -- ---- a turn's W is its start
-
--- Of two corners neither of which comes before the other there is one only
-level : (p q : Point) → before (frameOf 0) p q ≡ false → before (frameOf 0) q p ≡ false → p ≡ q
-unfolding frameOf along
-level p q h k = point-eq p q cols rows
-  where
-    cols : p .col ≡ q .col
-    cols =
-        elim (decLt (p .col) (q .col)) [
-          | yes l ↦ absurd (false≢true (sym h ∙ before-less (frameOf 0) p q l))
-          | no l ↦ elim (decLt (q .col) (p .col)) [ yes m ↦ absurd (false≢true (sym k ∙ before-less (frameOf 0) q p m)) | no m ↦ omega arith ]
-        ]
-
-    rows : p .row ≡ q .row
-    rows =
-        elim (decLt (p .row) (q .row)) [
-          | yes l ↦ absurd (false≢true (sym h ∙ before-level (frameOf 0) p q cols l))
-          | no l ↦ elim (decLt (q .row) (p .row)) [ yes m ↦ absurd (false≢true (sym k ∙ before-level (frameOf 0) q p (sym cols) m)) | no m ↦ omega arith ]
-        ]
 
 module _ (s : Point) (t : List ℕ) (h : Turn s t) where
   west-start : westPlace s t ≡ 0
@@ -53,7 +33,7 @@ module _ (s : Point) (t : List ℕ) (h : Turn s t) where
       let some : 0 < length t = omega (arith, h .walked .long) in
       let m : cornerPlace s t 0 < length t = cornerPlace-lt s t 0 some in
       corner-injective s t (h .walked) (cornerPlace s t 0) 0 m some
-      (level (cornerAt s t (cornerPlace s t 0)) (cornerAt s t 0) (rw (corner-zero s t) (h .west (cornerPlace s t 0) m)) (cornerPlace-first s t 0 0 some))
+      (first-unique (cornerAt s t (cornerPlace s t 0)) (cornerAt s t 0) (rw (corner-zero s t) (h .west (cornerPlace s t 0) m)) (cornerPlace-first s t 0 0 some))
 
   pub west-self : west s t ≡ s
   unfolding west
@@ -83,7 +63,7 @@ simple-turn s w h =
 -- ---- the letters written back are the outline
 
 module _ {s : Point} {w : List ℕ} {a : Point} {es : List ℤ} (h : HasEdges s w a es) where
-  -- "whoever starts from a taken outline gets its own clockwise letters, begun at W"
+  -- A taken outline's letters from W on are those that its edges write
   pub border-letters : turn s w ≡ lettersFrom es
   border-letters = sent-from-edges s w (h .reaches) (h .smooth) ∙ ap lettersFrom (h .edged)
 
@@ -91,7 +71,7 @@ module _ {s : Point} {w : List ℕ} {a : Point} {es : List ℤ} (h : HasEdges s 
   pub border-anchor : IsAnchor s w a
   border-anchor = subst (IsAnchor s w) (h .anchor) (west-anchor s w (h .reaches))
 
-  -- "that border gives the anchor and edges again"
+  -- And those letters, walked from the anchor, have this anchor and these edges
   pub border-has : HasEdges a (lettersFrom es) a es
   border-has =
       let r = h .reaches in

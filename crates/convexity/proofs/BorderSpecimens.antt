@@ -1,4 +1,4 @@
--- Letters written back from lists of edges, computed: one cell, document 01's H2 and H4, edges of many repeats, and the two cells of document 02 that
+-- Letters written back from lists of edges, computed: one cell, the specimens H2 and H4, edges of many repeats, and two cells that
 -- meet at a corner, whose letters meet that corner twice.
 use mathlib.Core.Path.{_≡_, refl}
 use mathlib.Core.Bool.{Bool, true, false}

@@ -1,22 +1,21 @@
 -- At most 1,016 edges: along each of the four directions the ring leaves at most 254 letters to two neighbouring words, and a factor has at
 -- least one letter.
-use Prim.Native.Nat.{ℕ, zero, suc, _+_, _*_, _≤_, _<_, zero-le}
+use Prim.Native.Nat.{ℕ, _+_, _*_, _≤_, _<_, zero-le}
 use native.Mathlib.Nat.{mul-pos}
 use native.Mathlib.Omega.{arith}
 use mathlib.Core.Path.{_≡_, refl, subst}
-use mathlib.Core.List.{List, [], _∷_, _++_}
+use mathlib.Core.List.{List, [], _∷_}
 use lib.ListN.{length, length-append}
-use lib.IntN.{ℤ}
 use lib.Dec.{lit<}
 use Rattle.words.specs.Word.{Word, earliers, laters}
 use Rattle.words.specs.Lyndon.{Factor, Falling, none, last, then, Proper, written, copies, factorsOf}
 use Rattle.words.proofs.Counts.{earliers-laters, length-copies}
 use Rattle.words.proofs.Factors.{factors-exist}
-use Rattle.lattice.specs.declared.Point.{Point}
-use Rattle.convexity.specs.Frame.{Frame, frameOf}
+use Rattle.chart.specs.declared.Point.{Point}
+use Rattle.convexity.specs.Frame.{Frame}
 use Rattle.convexity.specs.Pieces.{word, factors, edgesOf, edges, edgeCount}
-use Rattle.convexity.specs.Quadrant.{startE, startL}
-use Rattle.convexity.proofs.Quadrant.{Clear, Shape}
+use Rattle.convexity.proofs.Ring.{next, next-lt}
+use Rattle.convexity.proofs.Quadrant.{NoBackStep, Shape}
 use Rattle.convexity.proofs.Shape.{shape}
 
 -- A proper factor writes at least one letter
@@ -41,29 +40,19 @@ unfolding factors
 piece-count s t k = rw earliers-laters (factors-count (word s t k))
 
 -- Two neighbouring words share the chart's 255 corner lines in the direction of the first one's earlier letter
-module _ (s : Point) (t : List ℕ) (h : Shape s t) where
-  pub neighbours-0 : earliers (word s t 0) + laters (word s t 1) ≤ 254
-  neighbours-0 = omega (arith, h .next-later 0 (lit< tt), h .next-earlier 1 (lit< tt))
+pub neighbours : (s : Point) (t : List ℕ) → Shape s t → (k : ℕ) → k < 4 → earliers (word s t k) + laters (word s t (next k)) ≤ 254
+neighbours s t h k l = omega (arith, h .next-later k l, h .next-earlier (next k) (next-lt k))
 
-  pub neighbours-1 : earliers (word s t 1) + laters (word s t 2) ≤ 254
-  neighbours-1 = omega (arith, h .next-later 1 (lit< tt), h .next-earlier 2 (lit< tt))
-
-  pub neighbours-2 : earliers (word s t 2) + laters (word s t 3) ≤ 254
-  neighbours-2 = omega (arith, h .next-later 2 (lit< tt), h .last-earlier)
-
-  pub neighbours-3 : earliers (word s t 3) + laters (word s t 0) ≤ 254
-  neighbours-3 = omega (arith, h .last-later, h .next-earlier 0 (lit< tt))
-
-pub edges-bounded : (s : Point) (t : List ℕ) → Clear s t → edgeCount s t ≤ 1016
+pub edges-bounded : (s : Point) (t : List ℕ) → NoBackStep s t → edgeCount s t ≤ 1016
 unfolding edgeCount
 edges-bounded s t c =
-    let h = shape s t c in
+    let share = neighbours s t (shape s t c) in
     omega (
       arith,
-      neighbours-0 s t h,
-      neighbours-1 s t h,
-      neighbours-2 s t h,
-      neighbours-3 s t h,
+      share 0 (lit< tt),
+      share 1 (lit< tt),
+      share 2 (lit< tt),
+      share 3 (lit< tt),
       piece-count s t 0,
       piece-count s t 1,
       piece-count s t 2,

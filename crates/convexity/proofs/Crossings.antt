@@ -1,357 +1,197 @@
--- A walk whose letters never turn back crosses a row at the one letter that takes it past that row, so the counts of the row are read off that letter.
-use Prim.Native.Nat.{ℕ, zero, suc, _+_, _-_, _≤_, _<_}
+-- Each line across the block is left at one place by the letter that leads across it. That letter is in two neighbouring pieces alone, the earlier letter of
+-- the first and the later letter of the second: the first piece leads up to the line where the second starts, and the second leads on from there. The cells
+-- of the line on the right hand of that place are those under the paths of both pieces.
+use Prim.Native.Nat.{ℕ, suc, _+_, _-_, _≤_, _<_}
+use native.Mathlib.Nat.{lt-of-not-le}
+use native.Mathlib.Decide.{decLe, decLt}
 use native.Mathlib.Omega.{arith}
-use mathlib.Core.Path.{_≡_, refl}
-use mathlib.Core.Bool.{Bool, true, false, cond, _&&_}
-use mathlib.Core.List.{List, [], _∷_, _++_}
-use lib.Dec.{leb, eqb}
-use borrow.Author.Tests.{eq-eqb, ne-eqb}
+use mathlib.Core.Path.{_≡_, refl, sym, ap, _∙_}
+use mathlib.Core.Logic.{_↔_}
+use mathlib.Core.Bool.{Bool, true, false}
+use mathlib.Core.List.{List, _∷_, _++_}
+use lib.ListN.{length, take, getD, length-append}
+use lib.Seq.{getD-append-seam}
 use Rattle.words.specs.Word.{Word, earliers, laters}
-use Rattle.lattice.specs.declared.Point.{Point}
-use Rattle.lattice.specs.Chart.{step, walk}
-use Rattle.lattice.specs.Enclosed.{count, upAlong, downAlong, ups, downs}
-use Rattle.lattice.specs.Search.{upColumn, downColumn}
-use Rattle.convexity.specs.Frame.{Frame, frameOf}
-use Rattle.convexity.specs.Quadrant.{spell}
+use Rattle.words.proofs.Counts.{laters-append, earliers-take-le, laters-take-le, earliers-take-mono, laters-take-mono, earliers-next-earlier, laters-next-later}
+use Rattle.chart.specs.declared.Point.{Point}
+use Rattle.lattice.specs.Chart.{cornerAt}
+use Rattle.convexity.specs.Frame.{frameOf, along}
+use Rattle.convexity.specs.Cut.{cut}
+use Rattle.convexity.specs.Pieces.{word}
+use Rattle.convexity.specs.Quadrant.{startE, startL, cellE, cellL, UnderFrom}
+use Rattle.convexity.proofs.Frame.{EarlierAt, LaterAt, earlier-at, later-at, take-split}
+use Rattle.convexity.proofs.Ring.{next, next-lt, turns, earlier-injective, later-injective, along-next, cell-turned, cell-next}
+use Rattle.convexity.proofs.Quadrant.{NoBackStep, Shape}
+use Rattle.convexity.proofs.Levels.{LetterAt}
+use Rattle.convexity.proofs.Shape.{shape, letterOf, CornerIn, place-lt, letter-in-piece, corner-in-piece, in-piece}
+use Rattle.convexity.proofs.UnderLaws.{under-from-start, under-from-end, under-from-row, under-from-column}
 
--- ---- the two counts, and the two columns, said once
+-- A count that never falls passes a number once
+rises-once : (f : ℕ → ℕ) → ((i j : ℕ) → i ≤ j → f i ≤ f j) → (i j : ℕ) → f i < f (suc i) → f j < f (suc j) → f i ≡ f j → i ≡ j
+rises-once f mono i j a b e =
+    elim (decLt i j) [
+      | yes l ↦ absurd (omega (arith, mono (suc i) j l))
+      | no l ↦ elim (decLt j i) [ yes m ↦ absurd (omega (arith, mono (suc j) i m)) | no m ↦ omega arith ]
+    ]
 
--- A test of a letter that leaves a corner: does it run along row r
-abbrev pub Along : Type 0
-Along = Point → ℕ → ℕ → Bool
+module _ (s : Point) (t : List ℕ) where
+  -- The cell x is under the path of piece k
+  abbrev pub UnderPiece : ℕ → Point → Type 0
+  UnderPiece k x = UnderFrom (word s t k) (startE s t k) (startL s t k) (cellE k x) (cellL k x)
 
--- How many letters run along row r at corner columns up to c
-pub tally : Along → Point → List ℕ → ℕ → ℕ → ℕ
-tally al p [] c r = 0
-tally al p (a ∷ w) c r = count (al p a r && leb (p .col) c) + tally al (step p a) w c r
+  -- On which line across, and how far along it, the corner at place i lies, in the frame after frame k
+  abbrev pub line : ℕ → ℕ → ℕ
+  line k i = along (frameOf (next k) .later) (cornerAt s t i)
 
--- The corner column of the last letter along row r, or d where there is none
-pub lastColumn : Along → Point → List ℕ → ℕ → ℕ → ℕ
-lastColumn al p [] r d = d
-lastColumn al p (a ∷ w) r d = lastColumn al (step p a) w r (cond (al p a r) (p .col) d)
+  abbrev pub depth : ℕ → ℕ → ℕ
+  depth k i = along (frameOf (next k) .earlier) (cornerAt s t i)
 
-pub ups-tally : (p : Point) (w : List ℕ) (c r : ℕ) → ups p w c r ≡ tally upAlong p w c r
-unfolding ups tally
-ups-tally p [] c r = refl
-ups-tally p (a ∷ w) c r = rw (ups-tally (step p a) w c r)
+  -- The letter across stands at place i: in piece k, or in the next
+  data Stands (k i : ℕ) : Type 0 where
+    lower : (m : ℕ) → m < length (true ∷ word s t k) → cut s t k + m ≡ i → getD (true ∷ word s t k) m false ≡ false → Stands k i
+    upper : (m : ℕ) → m < length (true ∷ word s t (next k)) → cut s t (next k) + m ≡ i → getD (true ∷ word s t (next k)) m false ≡ true → Stands k i
 
-pub downs-tally : (p : Point) (w : List ℕ) (c r : ℕ) → downs p w c r ≡ tally downAlong p w c r
-unfolding downs tally
-downs-tally p [] c r = refl
-downs-tally p (a ∷ w) c r = rw (downs-tally (step p a) w c r)
+  -- The one place at which the letter across leaves line m
+  pub record Crossing (k m : ℕ) : Type 0 where
+    pub place : ℕ
+    pub letter : LetterAt t (frameOf (next k) .later) place
+    pub here : line k place ≡ m
+    pub only : (i : ℕ) → LetterAt t (frameOf (next k) .later) i → line k i ≡ m → i ≡ place
+    pub under : (x : Point) → x .col < 255 → x .row < 255 → cellL (next k) x ≡ m → (depth k place ≤ cellE (next k) x) ↔ (UnderPiece k x × UnderPiece (next k) x)
 
-pub upColumn-last : (p : Point) (w : List ℕ) (r d : ℕ) → upColumn p w r d ≡ lastColumn upAlong p w r d
-unfolding upColumn lastColumn
-upColumn-last p [] r d = refl
-upColumn-last p (a ∷ w) r d = upColumn-last (step p a) w r (cond (upAlong p a r) (p .col) d)
+  -- Where a piece is split at a letter: that letter in the turn, and the corner that it leaves
+  split-at : (c : NoBackStep s t) (k : ℕ) → k < 4 → (x : Word) (b : Bool) (y : Word) → true ∷ word s t k ≡ x ++ b ∷ y
+      → LetterAt t (letterOf (frameOf k) b) (cut s t k + length x)
+      × CornerIn k (cornerAt s t (cut s t k + length x)) (startE s t k + earliers x) (startL s t k + laters x)
+  split-at c k h x b y e =
+      let v : Word = true ∷ word s t k in
+      let n : length x < length v = omega (arith, simp length-append at (ap length e)) in
+      let at : getD v (length x) false ≡ b = ap (λ (w : Word). getD w (length x) false) e ∙ getD-append-seam x b y false in (
+        (place-lt s t c k h (length x) n, letter-in-piece s t c k h (length x) n ∙ ap (letterOf (frameOf k)) at),
+        rw (take-split v x (b ∷ y) e) at (corner-in-piece s t c k h (length x) (omega arith)),
+      )
 
-pub downColumn-last : (p : Point) (w : List ℕ) (r d : ℕ) → downColumn p w r d ≡ lastColumn downAlong p w r d
-unfolding downColumn lastColumn
-downColumn-last p [] r d = refl
-downColumn-last p (a ∷ w) r d = downColumn-last (step p a) w r (cond (downAlong p a r) (p .col) d)
+  module _ (c : NoBackStep s t) (k : ℕ) (h : k < 4) where
+    abbrev formed : Shape s t
+    formed = shape s t c
 
-pub tally-append : (al : Along) (p : Point) (u v : List ℕ) (c r : ℕ) → tally al p (u ++ v) c r ≡ tally al p u c r + tally al (walk p u) v c r
-unfolding tally walk
-tally-append al p [] v c r = omega arith
-tally-append al p (a ∷ u) v c r = omega (arith, tally-append al (step p a) u v c r)
+    stands : (i : ℕ) → LetterAt t (frameOf (next k) .later) i → Stands k i
+    unfolding letterOf
+    stands i (l, e) =
+        let q = in-piece s t c i l in
+        go (q .piece) (q .small) (q .offset) (q .within) (q .place) (getD (true ∷ word s t (q .piece)) (q .offset) false) refl
+        (sym (letter-in-piece s t c (q .piece) (q .small) (q .offset) (q .within)) ∙ ap (λ (j : ℕ). getD t j 0) (q .place) ∙ e)
+      where
+        lower-in : (j : ℕ) → j ≡ k → (m : ℕ) → m < length (true ∷ word s t j) → cut s t j + m ≡ i → getD (true ∷ word s t j) m false ≡ false → Stands k i
+        lower-in j d = rw d lower
 
-pub last-append :
-    (al : Along) (p : Point) (u v : List ℕ) (r d : ℕ) → lastColumn al p (u ++ v) r d ≡ lastColumn al (walk p u) v r (lastColumn al p u r d)
-unfolding lastColumn walk
-last-append al p [] v r d = refl
-last-append al p (a ∷ u) v r d = last-append al (step p a) u v r (cond (al p a r) (p .col) d)
+        upper-in : (j : ℕ) → j ≡ next k → (m : ℕ) → m < length (true ∷ word s t j) → cut s t j + m ≡ i → getD (true ∷ word s t j) m false ≡ true → Stands k i
+        upper-in j d = rw d upper
 
--- ---- a walk that misses a row, and one that crosses it once
+        go : (j : ℕ) → j < 4 → (m : ℕ) → m < length (true ∷ word s t j) → cut s t j + m ≡ i → (b : Bool) → getD (true ∷ word s t j) m false ≡ b
+            → letterOf (frameOf j) b ≡ frameOf (next k) .later → Stands k i
+        go j small m n p false d f = lower-in j (earlier-injective j k small h (f ∙ turns k .later)) m n p d
+        go j small m n p true d f = upper-in j (later-injective j (next k) small (next-lt k) f) m n p d
 
-pub record Misses (al : Along) (p : Point) (w : List ℕ) (r : ℕ) : Type 0 where
-  pub counts : (c : ℕ) → tally al p w c r ≡ 0
-  pub last : (d : ℕ) → lastColumn al p w r d ≡ d
+    lower-line : (m : ℕ) → m < length (true ∷ word s t k) → line k (cut s t k + m) ≡ startE s t k + earliers (take m (true ∷ word s t k))
+    lower-line m n = rw (turns k .later) (corner-in-piece s t c k h m (omega arith) .across)
 
--- At corner column m
-pub record Crosses (al : Along) (p : Point) (w : List ℕ) (r m : ℕ) : Type 0 where
-  pub counts : (c : ℕ) → tally al p w c r ≡ count (leb m c)
-  pub last : (d : ℕ) → lastColumn al p w r d ≡ m
+    upper-line : (m : ℕ) → m < length (true ∷ word s t (next k)) → line k (cut s t (next k) + m) ≡ startL s t (next k) + laters (take m (true ∷ word s t (next k)))
+    upper-line m n = corner-in-piece s t c (next k) (next-lt k) m (omega arith) .up
 
-misses-nil : (al : Along) (p : Point) (r : ℕ) → Misses al p [] r
-unfolding tally lastColumn
-misses-nil al p r = record { counts = λ c. refl; last = λ d. refl }
+    -- Through piece k up to where the next one starts, and on through that to where it ends
+    lower-bounds : (m : ℕ) → m < length (true ∷ word s t k) → getD (true ∷ word s t k) m false ≡ false
+        → (startE s t k ≤ line k (cut s t k + m)) × (line k (cut s t k + m) < startL s t (next k))
+    unfolding earliers
+    lower-bounds m n d =
+        let v : Word = true ∷ word s t k in
+        let e = lower-line m n in
+        (omega arith, omega (arith, earliers-next-earlier m v n d, earliers-take-le (suc m) v, formed .next-later k h))
 
-misses-cons : (al : Along) (p : Point) (a : ℕ) (w : List ℕ) (r : ℕ) → al p a r ≡ false → Misses al (step p a) w r → Misses al p (a ∷ w) r
-unfolding tally lastColumn count
-misses-cons al p a w r e m = record { counts = λ c. rw (e, m .counts c); last = λ d. rw (e, m .last d) }
+    upper-bounds : (m : ℕ) → m < length (true ∷ word s t (next k)) → getD (true ∷ word s t (next k)) m false ≡ true
+        → (startL s t (next k) ≤ line k (cut s t (next k) + m)) × (line k (cut s t (next k) + m) + startE s t (next (next k)) < 255)
+    unfolding laters
+    upper-bounds m n d =
+        let v : Word = true ∷ word s t (next k) in
+        let e = upper-line m n in
+        (omega arith, omega (arith, laters-next-later m v n d, laters-take-le (suc m) v, formed .next-earlier (next k) (next-lt k)))
 
-crosses-cons :
-    (al : Along) (p : Point) (a : ℕ) (w : List ℕ) (r : ℕ) → al p a r ≡ true → Misses al (step p a) w r → Crosses al p (a ∷ w) r (p .col)
-unfolding tally lastColumn count
-crosses-cons al p a w r e m = record { counts = λ c. rw (e, m .counts c) (omega arith); last = λ d. rw (e, m .last (p .col)) }
+    -- No other line is left by the letter across
+    pub line-bounds : (i : ℕ) → LetterAt t (frameOf (next k) .later) i → (startE s t k ≤ line k i) × (line k i + startE s t (next (next k)) < 255)
+    line-bounds i l = go (stands i l)
+      where
+        go : Stands k i → (startE s t k ≤ line k i) × (line k i + startE s t (next (next k)) < 255)
+        go (lower m n e d) = rw (← e) (let b = lower-bounds m n d in omega (arith, formed .next-earlier (next k) (next-lt k)))
+        go (upper m n e d) = rw (← e) (let b = upper-bounds m n d in omega (arith, formed .next-later k h))
 
--- One walk after the other, which starts where the first one ends
-module _ (al : Along) (p q : Point) (u v : List ℕ) (r : ℕ) (e : walk p u ≡ q) where
-  pub misses-misses : Misses al p u r → Misses al q v r → Misses al p (u ++ v) r
-  misses-misses m n =
-      record { counts = λ c. rw (tally-append, e, m .counts c, n .counts c); last = λ d. rw (last-append, e, m .last d, n .last d) }
+    once : (i j : ℕ) → Stands k i → Stands k j → line k i ≡ line k j → i ≡ j
+    once i j (lower m n e d) (lower m′ n′ e′ d′) g =
+        let v : Word = true ∷ word s t k in
+        let same : m ≡ m′ =
+        rises-once (λ a. earliers (take a v)) (λ a b. earliers-take-mono a b v) m m′ (omega (arith, earliers-next-earlier m v n d)) (omega (arith, earliers-next-earlier m′ v n′ d′))
+        (omega (arith, lower-line m n, lower-line m′ n′, ap (line k) e, ap (line k) e′)) in
+        omega arith
+    once i j (lower m n e d) (upper m′ n′ e′ d′) g = absurd (omega (arith, lower-bounds m n d, upper-bounds m′ n′ d′, ap (line k) e, ap (line k) e′))
+    once i j (upper m n e d) (lower m′ n′ e′ d′) g = absurd (omega (arith, upper-bounds m n d, lower-bounds m′ n′ d′, ap (line k) e, ap (line k) e′))
+    once i j (upper m n e d) (upper m′ n′ e′ d′) g =
+        let v : Word = true ∷ word s t (next k) in
+        let same : m ≡ m′ =
+        rises-once (λ a. laters (take a v)) (λ a b. laters-take-mono a b v) m m′ (omega (arith, laters-next-later m v n d)) (omega (arith, laters-next-later m′ v n′ d′))
+        (omega (arith, upper-line m n, upper-line m′ n′, ap (line k) e, ap (line k) e′)) in
+        omega arith
 
-  pub misses-crosses : (k : ℕ) → Misses al p u r → Crosses al q v r k → Crosses al p (u ++ v) r k
-  misses-crosses k m n =
-      record {
-        counts = λ c. rw (tally-append, e, m .counts c, n .counts c) (omega arith);
-        last = λ d. rw (last-append, e, m .last d, n .last d);
-      }
+    module _ (m : ℕ) where
+      crossing-low : startE s t k ≤ m → m < startL s t (next k) → Crossing k m
+      unfolding earliers laters letterOf
+      crossing-low a b =
+          let v : Word = true ∷ word s t k in
+          let r : EarlierAt v (m - startE s t k) = earlier-at v (m - startE s t k) (omega (arith, formed .next-later k h)) in
+          let ((below, letter), q) = split-at c k h (r .before) false (r .after) (r .split) in
+          let i : ℕ = cut s t k + length (r .before) in
+          let e : startE s t k + earliers (r .before) ≡ m = omega (arith, r .count) in
+          let across : LetterAt t (frameOf (next k) .later) i = (below, letter ∙ sym (turns k .later)) in
+          let here : line k i ≡ m = rw (turns k .later) (q .across ∙ e) in
+          let turned = along-next k (cornerAt s t i) (q .on-chart) in
+          let within : startE s t (next k) ≤ depth k i = omega (arith, formed .next-earlier k h, ap laters (r .split), laters-append (r .before) (false ∷ r .after)) in
+          record {
+            place = i;
+            letter = across;
+            here = here;
+            only = λ j l g. once j i (stands j l) (stands i across) (g ∙ sym here);
+            under = λ x x-col x-row f.
+                let cell = cell-next k x x-col x-row in
+                let column = under-from-column (word s t k) (startE s t k) (startL s t k) (cellE k x) (cellL k x) (r .before) (r .after) (r .split) (e ∙ sym f ∙ cell-turned k x) in (
+                  λ l. (column .1 (omega arith), under-from-start _ _ _ _ _ (omega arith) (omega arith)),
+                  λ (u, w). omega (arith, column .0 u),
+                );
+          }
 
-  pub crosses-misses : (k : ℕ) → Crosses al p u r k → Misses al q v r → Crosses al p (u ++ v) r k
-  crosses-misses k m n =
-      record {
-        counts = λ c. rw (tally-append, e, m .counts c, n .counts c) (omega arith);
-        last = λ d. rw (last-append, e, m .last d, n .last k);
-      }
+      crossing-high : startL s t (next k) ≤ m → m + startE s t (next (next k)) < 255 → Crossing k m
+      unfolding earliers laters letterOf
+      crossing-high a b =
+          let v : Word = true ∷ word s t (next k) in
+          let r : LaterAt v (suc (m - startL s t (next k))) =
+          later-at v (suc (m - startL s t (next k))) (omega arith) (omega (arith, formed .next-earlier (next k) (next-lt k))) in
+          let (across, q) = split-at c (next k) (next-lt k) (r .before) true (r .after) (r .split) in
+          let i : ℕ = cut s t (next k) + length (r .before) in
+          let e : startL s t (next k) + laters (r .before) ≡ m = omega (arith, r .count) in
+          let here : line k i ≡ m = q .up ∙ e in
+          record {
+            place = i;
+            letter = across;
+            here = here;
+            only = λ j l g. once j i (stands j l) (stands i across) (g ∙ sym here);
+            under = λ x x-col x-row f.
+                let cell = cell-next k x x-col x-row in
+                let turned = cell-turned k x in
+                let row = under-from-row (word s t (next k)) (startE s t (next k)) (startL s t (next k)) (cellE (next k) x) (cellL (next k) x) (r .before) (r .after) (r .split) (e ∙ sym f) in (
+                  λ l. (
+                    under-from-end _ _ _ _ _ (omega (arith, formed .next-later k h)) (omega (arith, formed .next-earlier k h)),
+                    row .1 (omega arith),
+                  ),
+                  λ (u, w). omega (arith, row .0 w),
+                );
+          }
 
--- ---- letters that never turn back
-
-unfoldable pub Each : (ℕ → Type 0) → List ℕ → Type 0
-Each P [] = Unit
-Each P (a ∷ w) = P a × Each P w
-
--- A walk of letters of a kind that never runs along a row
-misses-each :
-    (al : Along) (r : ℕ) (Kind : ℕ → Type 0) → ((a : ℕ) → Kind a → (p : Point) → al p a r ≡ false) → (p : Point) (w : List ℕ) → Each Kind w → Misses al p w r
-unfolding Each
-misses-each al r Kind never p [] h = misses-nil al p r
-misses-each al r Kind never p (a ∷ w) h =
-    misses-cons al p a w r (never a (h .0) p) (misses-each al r Kind never (step p a) w (h .1))
-
--- The letters of a kind, which corners are past row r, and that such a letter runs along row r exactly where it takes the walk past it
-pub record Passage (al : Along) (r : ℕ) (Kind : ℕ → Type 0) (Past : Point → Type 0) : Type 0 where
-  pub stays : (p : Point) (a : ℕ) → Kind a → Past p → Past (step p a)
-  pub passes : (p : Point) (a : ℕ) → Kind a → (Past p → ⊥) → Past (step p a) → al p a r ≡ true
-  pub before : (p : Point) (a : ℕ) → Kind a → (Past (step p a) → ⊥) → al p a r ≡ false
-  pub after : (p : Point) (a : ℕ) → Kind a → Past p → al p a r ≡ false
-
-module _ (al : Along) (r : ℕ) (Kind : ℕ → Type 0) (Past : Point → Type 0) (g : Passage al r Kind Past) where
-  stays-walk : (p : Point) (w : List ℕ) → Each Kind w → Past p → Past (walk p w)
-  unfolding Each walk
-  stays-walk p [] h k = k
-  stays-walk p (a ∷ w) h k = stays-walk (step p a) w (h .1) (g .stays p a (h .0) k)
-
-  pub misses-after : (p : Point) (w : List ℕ) → Each Kind w → Past p → Misses al p w r
-  unfolding Each
-  misses-after p [] h k = misses-nil al p r
-  misses-after p (a ∷ w) h k =
-      misses-cons al p a w r (g .after p a (h .0) k) (misses-after (step p a) w (h .1) (g .stays p a (h .0) k))
-
-  pub misses-before : (p : Point) (w : List ℕ) → Each Kind w → (Past (walk p w) → ⊥) → Misses al p w r
-  unfolding Each walk
-  misses-before p [] h k = misses-nil al p r
-  misses-before p (a ∷ w) h k =
-      misses-cons al p a w r (g .before p a (h .0) (λ q. k (stays-walk (step p a) w (h .1) q))) (misses-before (step p a) w (h .1) k)
-
-  -- The letter that takes the walk past the row
-  pub crosses-at :
-      (p : Point) (u : List ℕ) (a : ℕ) (v : List ℕ) → Each Kind u → Kind a → Each Kind v
-      → (Past (walk p u) → ⊥) → Past (step (walk p u) a) → Crosses al p (u ++ a ∷ v) r (walk p u .col)
-  crosses-at p u a v hu ha hv not-yet past =
-      misses-crosses al p (walk p u) u (a ∷ v) r refl _ (misses-before p u hu not-yet)
-      (crosses-cons al (walk p u) a v r (g .passes (walk p u) a ha not-yet past) (misses-after (step (walk p u) a) v hv past))
-
--- Rising letters: all but 3
-abbrev pub Rising : ℕ → Type 0
-Rising a = a ≡ 3 → ⊥
-
--- Falling letters: all but 1
-abbrev pub Falling : ℕ → Type 0
-Falling a = a ≡ 1 → ⊥
-
-pub never-up : (r a : ℕ) → Falling a → (p : Point) → upAlong p a r ≡ false
-unfolding upAlong
-never-up r a h p = rw (ne-eqb a 1 h)
-
-pub never-down : (r a : ℕ) → Rising a → (p : Point) → downAlong p a r ≡ false
-unfolding downAlong
-never-down r a h p = rw (ne-eqb a 3 h)
-
-and-false-right : (a b : Bool) → b ≡ false → (a && b) ≡ false
-and-false-right true b e = e
-and-false-right false b e = refl
-
--- Past a row is above it
-pub rising : (r : ℕ) → Passage upAlong r Rising (λ p. r < p .row)
-unfolding step upAlong
-rising r = record { stays = stays; passes = passes; before = before; after = after }
-  where
-    stays : (p : Point) (a : ℕ) → Rising a → r < p .row → r < step p a .row
-    stays p zero h k = k
-    stays p (suc zero) h k = omega arith
-    stays p (suc (suc zero)) h k = k
-    stays p (suc (suc (suc zero))) h k = absurd (h refl)
-    stays p (suc (suc (suc (suc a)))) h k = k
-
-    passes : (p : Point) (a : ℕ) → Rising a → (r < p .row → ⊥) → r < step p a .row → upAlong p a r ≡ true
-    passes p zero h n k = absurd (n k)
-    passes p (suc zero) h n k = eq-eqb (p .row) r (omega arith)
-    passes p (suc (suc zero)) h n k = absurd (n k)
-    passes p (suc (suc (suc zero))) h n k = absurd (h refl)
-    passes p (suc (suc (suc (suc a)))) h n k = absurd (n k)
-
-    before : (p : Point) (a : ℕ) → Rising a → (r < step p a .row → ⊥) → upAlong p a r ≡ false
-    before p zero h n = refl
-    before p (suc zero) h n = ne-eqb (p .row) r (omega arith)
-    before p (suc (suc zero)) h n = refl
-    before p (suc (suc (suc zero))) h n = refl
-    before p (suc (suc (suc (suc a)))) h n = never-up r (suc (suc (suc (suc a)))) (λ e. omega arith) p
-
-    after : (p : Point) (a : ℕ) → Rising a → r < p .row → upAlong p a r ≡ false
-    after p a h k = and-false-right (eqb a 1) (eqb (p .row) r) (ne-eqb (p .row) r (omega arith))
-
--- Past a row is at its lower side or under it
-pub falling : (r : ℕ) → Passage downAlong r Falling (λ p. p .row ≤ r)
-unfolding step downAlong
-falling r = record { stays = stays; passes = passes; before = before; after = after }
-  where
-    stays : (p : Point) (a : ℕ) → Falling a → p .row ≤ r → step p a .row ≤ r
-    stays p zero h k = k
-    stays p (suc zero) h k = absurd (h refl)
-    stays p (suc (suc zero)) h k = k
-    stays p (suc (suc (suc zero))) h k = omega arith
-    stays p (suc (suc (suc (suc a)))) h k = k
-
-    passes : (p : Point) (a : ℕ) → Falling a → (p .row ≤ r → ⊥) → step p a .row ≤ r → downAlong p a r ≡ true
-    passes p zero h n k = absurd (n k)
-    passes p (suc zero) h n k = absurd (h refl)
-    passes p (suc (suc zero)) h n k = absurd (n k)
-    passes p (suc (suc (suc zero))) h n k = eq-eqb (p .row) (suc r) (omega arith)
-    passes p (suc (suc (suc (suc a)))) h n k = absurd (n k)
-
-    before : (p : Point) (a : ℕ) → Falling a → (step p a .row ≤ r → ⊥) → downAlong p a r ≡ false
-    before p zero h n = refl
-    before p (suc zero) h n = refl
-    before p (suc (suc zero)) h n = refl
-    before p (suc (suc (suc zero))) h n = ne-eqb (p .row) (suc r) (omega arith)
-    before p (suc (suc (suc (suc a)))) h n = never-down r (suc (suc (suc (suc a)))) (λ e. omega arith) p
-
-    after : (p : Point) (a : ℕ) → Falling a → p .row ≤ r → downAlong p a r ≡ false
-    after p a h k = and-false-right (eqb a 3) (eqb (p .row) (suc r)) (ne-eqb (p .row) (suc r) (omega arith))
-
--- A walk that has no letter up, one that starts above the row, and one that ends under it
-module _ (r : ℕ) (p : Point) (w : List ℕ) where
-  pub misses-up-falling : Each Falling w → Misses upAlong p w r
-  misses-up-falling h = misses-each upAlong r Falling (never-up r) p w h
-
-  pub misses-up-above : Each Rising w → r < p .row → Misses upAlong p w r
-  misses-up-above h k = misses-after upAlong r Rising _ (rising r) p w h k
-
-  pub misses-up-below : Each Rising w → walk p w .row ≤ r → Misses upAlong p w r
-  misses-up-below h k = misses-before upAlong r Rising _ (rising r) p w h (omega arith)
-
-  pub misses-down-rising : Each Rising w → Misses downAlong p w r
-  misses-down-rising h = misses-each downAlong r Rising (never-down r) p w h
-
-  pub misses-down-below : Each Falling w → p .row ≤ r → Misses downAlong p w r
-  misses-down-below h k = misses-after downAlong r Falling _ (falling r) p w h k
-
-  pub misses-down-above : Each Falling w → r < walk p w .row → Misses downAlong p w r
-  misses-down-above h k = misses-before downAlong r Falling _ (falling r) p w h (omega arith)
-
--- ---- spelled words
-
-pub spell-append : (f : Frame) (u v : Word) → spell f (u ++ v) ≡ spell f u ++ spell f v
-unfolding spell
-spell-append f [] v = refl
-spell-append f (false ∷ u) v = rw (spell-append f u v)
-spell-append f (true ∷ u) v = rw (spell-append f u v)
-
-pub spell-each : (f : Frame) (Kind : ℕ → Type 0) → Kind (f .earlier) → Kind (f .later) → (w : Word) → Each Kind (spell f w)
-unfolding spell Each
-spell-each f Kind e l [] = tt
-spell-each f Kind e l (false ∷ w) = (e, spell-each f Kind e l w)
-spell-each f Kind e l (true ∷ w) = (l, spell-each f Kind e l w)
-
--- Where a spelled word leads, in each frame
-pub record Led (p : Point) (c r : ℕ) : Type 0 where
-  pub col : p .col ≡ c
-  pub row : p .row ≡ r
-
-pub walk-frame0 : (p : Point) (w : Word) → Led (walk p (spell (frameOf 0) w)) (p .col + earliers w) (p .row + laters w)
-unfolding walk step spell frameOf earliers laters
-walk-frame0 p [] = record { col = omega arith; row = omega arith }
-walk-frame0 p (false ∷ w) = let q = walk-frame0 (step p 0) w in record { col = omega (arith, q .col); row = omega (arith, q .row) }
-walk-frame0 p (true ∷ w) = let q = walk-frame0 (step p 1) w in record { col = omega (arith, q .col); row = omega (arith, q .row) }
-
-pub walk-frame1 : (p : Point) (w : Word) → Led (walk p (spell (frameOf 1) w)) (p .col + laters w) (p .row - earliers w)
-unfolding walk step spell frameOf earliers laters
-walk-frame1 p [] = record { col = omega arith; row = omega arith }
-walk-frame1 p (false ∷ w) = let q = walk-frame1 (step p 3) w in record { col = omega (arith, q .col); row = omega (arith, q .row) }
-walk-frame1 p (true ∷ w) = let q = walk-frame1 (step p 0) w in record { col = omega (arith, q .col); row = omega (arith, q .row) }
-
-pub walk-frame2 : (p : Point) (w : Word) → Led (walk p (spell (frameOf 2) w)) (p .col - earliers w) (p .row - laters w)
-unfolding walk step spell frameOf earliers laters
-walk-frame2 p [] = record { col = omega arith; row = omega arith }
-walk-frame2 p (false ∷ w) = let q = walk-frame2 (step p 2) w in record { col = omega (arith, q .col); row = omega (arith, q .row) }
-walk-frame2 p (true ∷ w) = let q = walk-frame2 (step p 3) w in record { col = omega (arith, q .col); row = omega (arith, q .row) }
-
-pub walk-frame3 : (p : Point) (w : Word) → Led (walk p (spell (frameOf 3) w)) (p .col - laters w) (p .row + earliers w)
-unfolding walk step spell frameOf earliers laters
-walk-frame3 p [] = record { col = omega arith; row = omega arith }
-walk-frame3 p (false ∷ w) = let q = walk-frame3 (step p 1) w in record { col = omega (arith, q .col); row = omega (arith, q .row) }
-walk-frame3 p (true ∷ w) = let q = walk-frame3 (step p 2) w in record { col = omega (arith, q .col); row = omega (arith, q .row) }
-
--- ---- the letter of a spelled word that crosses a row
-
-letterOf : Frame → Bool → ℕ
-letterOf f false = f .earlier
-letterOf f true = f .later
-
-spell-cons : (f : Frame) (b : Bool) (w : Word) → spell f (b ∷ w) ≡ letterOf f b ∷ spell f w
-unfolding spell letterOf
-spell-cons f false w = refl
-spell-cons f true w = refl
-
-letter-kind : (f : Frame) (Kind : ℕ → Type 0) → Kind (f .earlier) → Kind (f .later) → (b : Bool) → Kind (letterOf f b)
-unfolding letterOf
-letter-kind f Kind e l false = e
-letter-kind f Kind e l true = l
-
-crosses-spelled :
-    (al : Along) (r : ℕ) (Kind : ℕ → Type 0) (Past : Point → Type 0) → Passage al r Kind Past
-    → (f : Frame) → Kind (f .earlier) → Kind (f .later) → (p : Point) (v x : Word) (b : Bool) (y : Word) → v ≡ x ++ b ∷ y
-    → (Past (walk p (spell f x)) → ⊥) → Past (step (walk p (spell f x)) (letterOf f b)) → Crosses al p (spell f v) r (walk p (spell f x) .col)
-crosses-spelled al r Kind Past g f e l p v x b y s not-yet past =
-    rw
-    (s, spell-append, spell-cons)
-    (crosses-at al r Kind Past g p (spell f x) (letterOf f b) (spell f y) (spell-each f Kind e l x) (letter-kind f Kind e l b) (spell-each f Kind e l y) not-yet past)
-
--- Frame 0 goes up by its later letter, frame 3 by its earlier one; frame 1 goes down by its earlier letter, frame 2 by its later one
-module _ (r : ℕ) (p : Point) (v x y : Word) where
-  pub crosses-frame0 : v ≡ x ++ true ∷ y → p .row + laters x ≡ r → Crosses upAlong p (spell (frameOf 0) v) r (p .col + earliers x)
-  unfolding frameOf step letterOf
-  crosses-frame0 s e =
-      let q = walk-frame0 p x in
-      rw
-      (q .col)
-      at
-      (crosses-spelled upAlong r Rising _ (rising r) (frameOf 0) (omega arith) (omega arith) p v x true y s (omega (arith, q .row)) (omega (arith, q .row)))
-
-  pub crosses-frame3 : v ≡ x ++ false ∷ y → p .row + earliers x ≡ r → Crosses upAlong p (spell (frameOf 3) v) r (p .col - laters x)
-  unfolding frameOf step letterOf
-  crosses-frame3 s e =
-      let q = walk-frame3 p x in
-      rw
-      (q .col)
-      at
-      (crosses-spelled upAlong r Rising _ (rising r) (frameOf 3) (omega arith) (omega arith) p v x false y s (omega (arith, q .row)) (omega (arith, q .row)))
-
-  pub crosses-frame1 : v ≡ x ++ false ∷ y → p .row ≡ suc (r + earliers x) → Crosses downAlong p (spell (frameOf 1) v) r (p .col + laters x)
-  unfolding frameOf step letterOf
-  crosses-frame1 s e =
-      let q = walk-frame1 p x in
-      rw
-      (q .col)
-      at
-      (crosses-spelled downAlong r Falling _ (falling r) (frameOf 1) (omega arith) (omega arith) p v x false y s (omega (arith, q .row)) (omega (arith, q .row)))
-
-  pub crosses-frame2 : v ≡ x ++ true ∷ y → p .row ≡ suc (r + laters x) → Crosses downAlong p (spell (frameOf 2) v) r (p .col - earliers x)
-  unfolding frameOf step letterOf
-  crosses-frame2 s e =
-      let q = walk-frame2 p x in
-      rw
-      (q .col)
-      at
-      (crosses-spelled downAlong r Falling _ (falling r) (frameOf 2) (omega arith) (omega arith) p v x true y s (omega (arith, q .row)) (omega (arith, q .row)))
+      pub crossing : startE s t k ≤ m → m + startE s t (next (next k)) < 255 → Crossing k m
+      crossing a b = elim (decLe (startL s t (next k)) m) [ yes l ↦ crossing-high l b | no l ↦ crossing-low a (lt-of-not-le l) ]

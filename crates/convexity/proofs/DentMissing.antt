@@ -1,10 +1,9 @@
 -- A dented outline has a missing cell: the point straight above an earlier letter of a factor that is no Christoffel word lies in the triangle of three
 -- path cells, all enclosed, and is not under the path of its piece.
 use Prim.Native.Nat.{ℕ, zero, suc, _+_, _-_, _*_, _≤_, _<_}
-use native.Mathlib.Nat.{mul-le-mul-left, le-of-mul-le-mul-left}
 use native.Mathlib.Omega.{arith}
 use mathlib.Core.Path.{_≡_, refl, ap, subst}
-use mathlib.Core.Logic.{_↔_, ⊎-elim}
+use mathlib.Core.Logic.{⊎-elim}
 use mathlib.Core.Bool.{Bool, true, false}
 use mathlib.Core.List.{List, [], _∷_, _++_}
 use lib.ListN.{take}
@@ -13,19 +12,21 @@ use borrow.Author.Tests.{ltb-true}
 use Rattle.words.specs.Word.{Word, earliers, laters}
 use Rattle.words.specs.Lyndon.{Factor, Falling, factorsOf}
 use Rattle.words.specs.Christoffel.{christoffel}
-use Rattle.words.proofs.BelowLaws.{first-found}
+use Rattle.base.proofs.BelowLaws.{first-found}
 use Rattle.words.proofs.Counts.{earliers-take-le, laters-take-le}
 use Rattle.words.proofs.Factors.{falling-head, falling-tail, factors-exist}
 use Rattle.words.proofs.Dent.{Above}
 use Rattle.words.proofs.Criterion.{christoffel-or-above}
-use Rattle.lattice.specs.declared.Point.{Point}
+use Rattle.chart.specs.declared.Point.{Point}
 use Rattle.lattice.specs.Enclosed.{encloses}
 use Rattle.lattice.specs.Hull
 use Rattle.lattice.specs.Hull.{InHull, Missing}
 use Rattle.convexity.specs.Pieces.{word, factors, dentLength, dentPiece}
+use Rattle.base.proofs.Mean.{mean-mirror, mean-at-most}
 use Rattle.convexity.proofs.Frame.{Dented, InTriangle, dent-in-piece, above-not-under}
-use Rattle.convexity.specs.Quadrant.{startE, startL, cellE, cellL, UnderFrom}
-use Rattle.convexity.proofs.Quadrant.{Clear, Shape}
+use Rattle.convexity.specs.Quadrant.{startE, startL, UnderFrom}
+use Rattle.convexity.proofs.Quadrant.{NoBackStep}
+use Rattle.convexity.proofs.RowEnds.{enclosed-iff}
 use Rattle.convexity.proofs.PathCells.{cellOf, cellE-cellOf, cellL-cellOf, col-cellOf, row-cellOf, pathCell, across-le, up-le, path-across-le, path-up-le, path-enclosed}
 
 -- ---- a piece with a dent
@@ -74,20 +75,14 @@ dented-word w h =
 
 -- ---- means in a frame
 
--- The mean of three numbers, counted from the other end
-pub mean-flipped : (a b c P P₁ P₂ P₃ F F₁ F₂ F₃ : ℕ) → P + F ≡ 254 → P₁ + F₁ ≡ 254 → P₂ + F₂ ≡ 254 → P₃ + F₃ ≡ 254
-    → (a + b + c) * P ≡ a * P₁ + b * P₂ + c * P₃ → (a + b + c) * F ≡ a * F₁ + b * F₂ + c * F₃
-mean-flipped a b c P P₁ P₂ P₃ F F₁ F₂ F₃ e e₁ e₂ e₃ h =
-    omega (arith, ap (λ (n : ℕ). (a + b + c) * n) e, ap (λ (n : ℕ). a * n) e₁, ap (λ (n : ℕ). b * n) e₂, ap (λ (n : ℕ). c * n) e₃)
-
 module _ (a b c P P₁ P₂ P₃ Q Q₁ Q₂ Q₃ : ℕ) (some : 0 < a + b + c)
     (p : P ≤ 254) (p₁ : P₁ ≤ 254) (p₂ : P₂ ≤ 254) (p₃ : P₃ ≤ 254) (q : Q ≤ 254) (q₁ : Q₁ ≤ 254) (q₂ : Q₂ ≤ 254) (q₃ : Q₃ ≤ 254)
     (across : (a + b + c) * P ≡ a * P₁ + b * P₂ + c * P₃) (up : (a + b + c) * Q ≡ a * Q₁ + b * Q₂ + c * Q₃) where
   P-flipped : (a + b + c) * (254 - P) ≡ a * (254 - P₁) + b * (254 - P₂) + c * (254 - P₃)
-  P-flipped = mean-flipped a b c P P₁ P₂ P₃ _ _ _ _ (omega arith) (omega arith) (omega arith) (omega arith) across
+  P-flipped = mean-mirror 254 a b c P P₁ P₂ P₃ _ _ _ _ (omega arith) (omega arith) (omega arith) (omega arith) across
 
   Q-flipped : (a + b + c) * (254 - Q) ≡ a * (254 - Q₁) + b * (254 - Q₂) + c * (254 - Q₃)
-  Q-flipped = mean-flipped a b c Q Q₁ Q₂ Q₃ _ _ _ _ (omega arith) (omega arith) (omega arith) (omega arith) up
+  Q-flipped = mean-mirror 254 a b c Q Q₁ Q₂ Q₃ _ _ _ _ (omega arith) (omega arith) (omega arith) (omega arith) up
 
   -- A mean of points in a frame is that mean of the cells
   cell-triangle : (k : ℕ) → Hull.InTriangle (cellOf k P Q) (cellOf k P₁ Q₁) (cellOf k P₂ Q₂) (cellOf k P₃ Q₃)
@@ -97,91 +92,81 @@ module _ (a b c P P₁ P₂ P₃ Q Q₁ Q₂ Q₃ : ℕ) (some : 0 < a + b + c)
   cell-triangle (suc (suc zero)) = record { a = a; b = b; c = c; some = some; cols = P-flipped; rows = Q-flipped }
   cell-triangle (suc (suc (suc k))) = record { a = a; b = b; c = c; some = some; cols = Q-flipped; rows = across }
 
--- A mean is no larger than a bound of its parts
-pub mean-le : (a b c Q Q₁ Q₂ Q₃ m : ℕ) → 0 < a + b + c → (a + b + c) * Q ≡ a * Q₁ + b * Q₂ + c * Q₃ → Q₁ ≤ m → Q₂ ≤ m → Q₃ ≤ m → Q ≤ m
-mean-le a b c Q Q₁ Q₂ Q₃ m some e h₁ h₂ h₃ =
-    le-of-mul-le-mul-left {k = a + b + c} (omega (arith, mul-le-mul-left a h₁, mul-le-mul-left b h₂, mul-le-mul-left c h₃)) some
-
 -- ---- the missing cell
 
-module _
-    (s : Point) (t : List ℕ) (clear : Clear s t) (shape : Shape s t)
-    (enclosed-iff :
-    (x : Point) → x .col < 255 → x .row < 255
-    → (encloses s t (x .col) (x .row) ≡ true) ↔ ((k : ℕ) → k < 4 → UnderFrom (word s t k) (startE s t k) (startL s t k) (cellE k x) (cellL k x)))
-  where
-    module _ (k : ℕ) (h : k < 4) (d : Dented (word s t k)) where
-      abbrev w : Word
-      w = word s t k
+module _ (s : Point) (t : List ℕ) (straight : NoBackStep s t) where
+  module _ (k : ℕ) (h : k < 4) (d : Dented (word s t k)) where
+    abbrev w : Word
+    w = word s t k
 
-      abbrev v : InTriangle w (earliers (d .before)) (laters (d .before) + 1)
-      v = d .hull
+    abbrev v : InTriangle w (earliers (d .before)) (laters (d .before) + 1)
+    v = d .hull
 
-      -- Where the point above the path lies in the frame, and the cell there
-      abbrev P : ℕ
-      P = startE s t k + earliers (d .before)
+    -- Where the point above the path lies in the frame, and the cell there
+    abbrev P : ℕ
+    P = startE s t k + earliers (d .before)
 
-      abbrev Q : ℕ
-      Q = startL s t k + (laters (d .before) + 1)
+    abbrev Q : ℕ
+    Q = startL s t k + (laters (d .before) + 1)
 
-      abbrev cell : Point
-      cell = cellOf k P Q
+    abbrev cell : Point
+    cell = cellOf k P Q
 
-      across-on-chart : P ≤ 254
-      across-on-chart =
-          let m = mean-le (v .a) (v .b) (v .c) _ _ _ _ (earliers w) (v .some) (v .across) (earliers-take-le (v .i) w) (earliers-take-le (v .j) w) (earliers-take-le (v .k) w) in
-          omega (arith, across-le s t clear shape k h)
+    across-on-chart : P ≤ 254
+    across-on-chart =
+        let m = mean-at-most (v .a) (v .b) (v .c) _ _ _ _ (earliers w) (v .some) (v .across) (earliers-take-le (v .i) w) (earliers-take-le (v .j) w) (earliers-take-le (v .k) w) in
+        omega (arith, across-le s t straight k h)
 
-      up-on-chart : Q ≤ 254
-      up-on-chart =
-          let m = mean-le (v .a) (v .b) (v .c) _ _ _ _ (laters w) (v .some) (v .up) (laters-take-le (v .i) w) (laters-take-le (v .j) w) (laters-take-le (v .k) w) in
-          omega (arith, up-le s t clear shape k h)
+    up-on-chart : Q ≤ 254
+    up-on-chart =
+        let m = mean-at-most (v .a) (v .b) (v .c) _ _ _ _ (laters w) (v .some) (v .up) (laters-take-le (v .i) w) (laters-take-le (v .j) w) (laters-take-le (v .k) w) in
+        omega (arith, up-le s t straight k h)
 
-      cell-in-hull : InHull s t cell
-      cell-in-hull =
-          record {
-            p = pathCell s t k (v .i);
-            q = pathCell s t k (v .j);
-            t = pathCell s t k (v .k);
-            p-enclosed = path-enclosed s t clear shape k h (v .i) (v .i-within);
-            q-enclosed = path-enclosed s t clear shape k h (v .j) (v .j-within);
-            t-enclosed = path-enclosed s t clear shape k h (v .k) (v .k-within);
-            triangle =
-                cell-triangle (v .a) (v .b) (v .c) _ _ _ _ _ _ _ _ (v .some)
-                across-on-chart (on-path-across (v .i)) (on-path-across (v .j)) (on-path-across (v .k))
-                up-on-chart (on-path-up (v .i)) (on-path-up (v .j)) (on-path-up (v .k))
-                (omega (arith, v .across)) (omega (arith, v .up)) k;
-          }
-        where
-          on-path-across : (i : ℕ) → startE s t k + earliers (take i w) ≤ 254
-          on-path-across = path-across-le s t clear shape k h
+    cell-in-hull : InHull s t cell
+    cell-in-hull =
+        record {
+          p = pathCell s t k (v .i);
+          q = pathCell s t k (v .j);
+          t = pathCell s t k (v .k);
+          p-enclosed = path-enclosed s t straight k h (v .i) (v .i-within);
+          q-enclosed = path-enclosed s t straight k h (v .j) (v .j-within);
+          t-enclosed = path-enclosed s t straight k h (v .k) (v .k-within);
+          triangle =
+              cell-triangle (v .a) (v .b) (v .c) _ _ _ _ _ _ _ _ (v .some)
+              across-on-chart (on-path-across (v .i)) (on-path-across (v .j)) (on-path-across (v .k))
+              up-on-chart (on-path-up (v .i)) (on-path-up (v .j)) (on-path-up (v .k))
+              (omega (arith, v .across)) (omega (arith, v .up)) k;
+        }
+      where
+        on-path-across : (i : ℕ) → startE s t k + earliers (take i w) ≤ 254
+        on-path-across = path-across-le s t straight k h
 
-          on-path-up : (i : ℕ) → startL s t k + laters (take i w) ≤ 254
-          on-path-up = path-up-le s t clear shape k h
+        on-path-up : (i : ℕ) → startL s t k + laters (take i w) ≤ 254
+        on-path-up = path-up-le s t straight k h
 
-      cell-open : encloses s t (cell .col) (cell .row) ≡ false
-      cell-open = go (encloses s t (cell .col) (cell .row)) refl
-        where
-          under : UnderFrom w (startE s t k) (startL s t k) P Q → ⊥
-          under u =
-              above-not-under w (d .before) (d .after) (d .split)
-              (record { upto = u .upto; within = u .within; left = omega (arith, u .left); high = omega (arith, u .high) })
+    cell-open : encloses s t (cell .col) (cell .row) ≡ false
+    cell-open = go (encloses s t (cell .col) (cell .row)) refl
+      where
+        under : UnderFrom w (startE s t k) (startL s t k) P Q → ⊥
+        under u =
+            above-not-under w (d .before) (d .after) (d .split)
+            (record { upto = u .upto; within = u .within; left = omega (arith, u .left); high = omega (arith, u .high) })
 
-          go : (b : Bool) → encloses s t (cell .col) (cell .row) ≡ b → encloses s t (cell .col) (cell .row) ≡ false
-          go false e = e
-          go true e =
-              let col = col-cellOf k P Q across-on-chart up-on-chart in
-              let row = row-cellOf k P Q across-on-chart up-on-chart in
-              let u = enclosed-iff cell (omega arith) (omega arith) .0 e k h in
-              absurd (under (rw (cellE-cellOf k P Q across-on-chart, cellL-cellOf k P Q up-on-chart) at u))
+        go : (b : Bool) → encloses s t (cell .col) (cell .row) ≡ b → encloses s t (cell .col) (cell .row) ≡ false
+        go false e = e
+        go true e =
+            let col = col-cellOf k P Q across-on-chart up-on-chart in
+            let row = row-cellOf k P Q across-on-chart up-on-chart in
+            let u = enclosed-iff s t straight cell (omega arith) (omega arith) .0 e k h in
+            absurd (under (rw (cellE-cellOf k P Q across-on-chart, cellL-cellOf k P Q up-on-chart) at u))
 
-      pub dented-missing : Missing s t cell
-      dented-missing = record { hull = cell-in-hull; open-cell = cell-open }
+    pub dented-missing : Missing s t cell
+    dented-missing = record { hull = cell-in-hull; open-cell = cell-open }
 
-    pub dent-missing : dentPiece s t < 4 → (x : Point) × Missing s t x
-    unfolding dentPiece factors
-    dent-missing h =
-        let k : ℕ = dentPiece s t in
-        let e = first-found (λ k. ltb 0 (dentLength (factors s t k))) 4 h in
-        let d : Dented (word s t k) = dented-word (word s t k) (ltb-true 0 (dentLength (factors s t k)) e) in
-        (cell k h d, dented-missing k h d)
+  pub dent-missing : dentPiece s t < 4 → (x : Point) × Missing s t x
+  unfolding dentPiece factors
+  dent-missing h =
+      let k : ℕ = dentPiece s t in
+      let e = first-found (λ k. ltb 0 (dentLength (factors s t k))) 4 h in
+      let d : Dented (word s t k) = dented-word (word s t k) (ltb-true 0 (dentLength (factors s t k)) e) in
+      (cell k h d, dented-missing k h d)

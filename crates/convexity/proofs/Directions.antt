@@ -14,13 +14,13 @@ use Rattle.words.specs.Word.{Word, earliers, laters}
 use Rattle.words.specs.Lyndon.{Factor, copies, written}
 use Rattle.words.proofs.Counts.{laters-copies, length-copies, laters-next-later, laters-take-le}
 use Rattle.words.proofs.Factors.{factors-exist}
-use Rattle.lattice.specs.declared.Point.{Point}
+use Rattle.chart.specs.declared.Point.{Point}
 use Rattle.convexity.specs.Frame.{frameOf}
 use Rattle.convexity.specs.Cut.{west, turn}
 use Rattle.convexity.specs.Pieces.{Reaches, word, factors, edgesOf, edges, edgeCount, dentPiece}
 use Rattle.convexity.specs.Directions.{edgeCols, edgeRows, SameDirection}
 use Rattle.convexity.proofs.Frame.{run, rise, Falls, EdgesFall}
-use Rattle.convexity.proofs.Quadrant.{Clear}
+use Rattle.convexity.proofs.Quadrant.{NoBackStep}
 use Rattle.convexity.proofs.Shape.{shape}
 use Rattle.convexity.proofs.Smooth.{smooth-edges}
 use Rattle.convexity.proofs.Bounds.{edges-length}
@@ -117,7 +117,7 @@ points-not-nil (suc k) p x y = points-not-nil k (points-turned k p) (ap negℤ y
 -- Each edge of the list is past the one before it, and the first is past the bound
 data Turning : ℕ → ℕ → ℕ → List ℤ → Type 0 where
   none : {n e l : ℕ} → Turning n e l []
-  next :
+  more :
       {n e l k e′ l′ : ℕ} {dx dy : ℤ} {es : List ℤ} → After n e l k e′ l′ → Points k e′ l′ dx dy → Turning (suc k) e′ l′ es
       → Turning n e l (dx ∷ dy ∷ es)
 
@@ -141,8 +141,8 @@ rows-next dx dy es i = let d : 2 * suc i + 1 ≡ suc (suc (2 * i + 1)) = omega a
 turning-past : {n e l : ℕ} {es : List ℤ} → Turning n e l es → (i : ℕ) → 2 * i < length es → Past n e l (edgeCols es i) (edgeRows es i)
 unfolding edgeCols edgeRows
 turning-past none i h = absurd (omega arith)
-turning-past (next a p r) zero h = record { frame = _; across = _; up = _; after = a; points = p }
-turning-past (next a p r) (suc i) h =
+turning-past (more a p r) zero h = record { frame = _; across = _; up = _; after = a; points = p }
+turning-past (more a p r) (suc i) h =
     let t = turning-past r i (omega arith) in
     rw (cols-next, rows-next) (record { frame = _; across = _; up = _; after = after-trans a (t .after); points = t .points })
 
@@ -152,16 +152,16 @@ turning-apart :
 unfolding edgeCols edgeRows
 turning-apart t i zero h m s = absurd (omega arith)
 turning-apart none i (suc j) h m s = absurd (omega arith)
-turning-apart (next a p r) zero (suc j) h m s =
+turning-apart (more a p r) zero (suc j) h m s =
     let t = turning-past r j (omega arith) in
     after-apart _ _ (t .after) p (t .points) (rw (cols-next, rows-next) at s)
-turning-apart (next a p r) (suc i) (suc j) h m s = turning-apart r i j (omega arith) (omega arith) (simp (cols-next, rows-next) at s)
+turning-apart (more a p r) (suc i) (suc j) h m s = turning-apart r i j (omega arith) (omega arith) (simp (cols-next, rows-next) at s)
 
 -- A bound that only says how many frames are begun
 turning-from : {n m e l : ℕ} {es : List ℤ} → n ≤ m → Turning m 0 0 es → Turning n e l es
 turning-from h none = none
-turning-from h (next (later-frame m) p r) = next (later-frame (le-trans h m)) p r
-turning-from h (next (same-frame m s) p r) = absurd (omega arith)
+turning-from h (more (later-frame m) p r) = more (later-frame (le-trans h m)) p r
+turning-from h (more (same-frame m s) p r) = absurd (omega arith)
 
 -- ---- the edges of one piece
 
@@ -208,9 +208,9 @@ module _ (k : ℕ) (small : k < 4) {es : List ℤ} (rest : Turning (suc k) 0 0 e
       (f : Factor) (fs : List Factor) → EdgesFall (f ∷ fs) → EndsLater (written (f ∷ fs)) → {n e l : ℕ} → After n e l k (run f) (rise f)
       → Turning n e l (edgesOf (frameOf k) (f ∷ fs) ++ es)
   unfolding EdgesFall Falls edgesOf
-  turning-factors f [] h ends a = next a (points f [] h ends) (turning-from (le-refl (suc k)) rest)
+  turning-factors f [] h ends a = more a (points f [] h ends) (turning-from (le-refl (suc k)) rest)
   turning-factors f (g ∷ gs) h ends a =
-      next a (points f (g ∷ gs) h ends)
+      more a (points f (g ∷ gs) h ends)
       (turning-factors g gs (h .2) (ends-later-rest f (g ∷ gs) ends) (same-frame refl (edge-falls f g (h .0 .repeated) (h .2 .0 .repeated) (h .1))))
 
   turning-piece : (fs : List Factor) → EdgesFall fs → EndsLater (written fs) → Turning k 0 0 (edgesOf (frameOf k) fs ++ es)
@@ -220,11 +220,11 @@ module _ (k : ℕ) (small : k < 4) {es : List ℤ} (rest : Turning (suc k) 0 0 e
 
 -- ---- the four pieces
 
-module _ (s : Point) (t : List ℕ) (clear : Clear s t) (smooth : dentPiece s t ≡ 4) where
+module _ (s : Point) (t : List ℕ) (straight : NoBackStep s t) (smooth : dentPiece s t ≡ 4) where
   piece-turning : (k : ℕ) → k < 4 → {es : List ℤ} → Turning (suc k) 0 0 es → Turning k 0 0 (edgesOf (frameOf k) (factors s t k) ++ es)
   unfolding factors
   piece-turning k h rest =
-      turning-piece k h rest (factors s t k) (smooth-edges s t smooth k h) (rw (factors-exist (word s t k) .whole) (shape s t clear .ends k h))
+      turning-piece k h rest (factors s t k) (smooth-edges s t smooth k h) (rw (factors-exist (word s t k) .whole) (shape s t straight .ends k h))
 
   -- From up, inclusive, the directions turn clockwise to just short of up again
   edges-turning : Turning 0 0 0 (edges s t)
@@ -247,7 +247,7 @@ module _ (s : Point) (w : List ℕ) where
     pub edge-not-nil : (i : ℕ) → i < edgeCount (west s w) (turn s w) → edgeCols es i ≡ pos 0 → edgeRows es i ≡ pos 0 → ⊥
     edge-not-nil i l = let p = turning-past sent-turning i (edge-within i l) in points-not-nil (p .frame) (p .points)
 
-    -- "No two edges share a direction."
+    -- No two edges share a direction
     pub directions-distinct :
         (i j : ℕ) → i < j → j < edgeCount (west s w) (turn s w)
         → SameDirection (edgeCols es i) (edgeRows es i) (edgeCols es j) (edgeRows es j) → ⊥

@@ -9,15 +9,15 @@ use mathlib.Core.List.{List}
 use lib.ListN.{length, getD}
 use lib.Dec.{ltb, eqb}
 use borrow.Author.Tests.{ltb-true, leb-false, eqb-true, eqb-false, lt-ltb, le-ltb, eq-eqb}
-use Rattle.words.proofs.BelowLaws.{below-suc, and-left, and-right}
-use Rattle.lattice.specs.Limits.{side}
-use Rattle.lattice.specs.declared.Point.{Point}
+use Rattle.base.proofs.BelowLaws.{below-suc, and-left, and-right}
+use Rattle.chart.specs.Limits.{side}
+use Rattle.chart.specs.declared.Point.{Point}
 use Rattle.lattice.specs.Chart.{step, leaves, cornerAt}
 use Rattle.lattice.specs.Refusals.{Simple}
-use Rattle.lattice.proofs.WalkLaws.{Walked, walked, rotated, turned, length-rotation, point-eq, corner-zero, corner-suc, corner-all, corner-injective}
+use Rattle.lattice.proofs.WalkLaws.{Walked, OnChart, walked, rotated, turned, length-rotation, point-eq, corner-zero, corner-suc, corner-all, corner-injective}
 use Rattle.convexity.specs.Frame.{Frame, frameOf, along}
 use Rattle.convexity.specs.Cut.{before, least, cornerPlace, westPlace, west, turn}
-unfoldable pub use Rattle.convexity.specs.Reading.{opposite}
+use Rattle.convexity.specs.Reading.{opposite}
 use Rattle.convexity.proofs.Quadrant.{Turn}
 
 -- ---- the least number below a bound
@@ -139,10 +139,6 @@ turn-of s w t =
 
 -- ---- steps in a frame
 
-pub record OnChart (p : Point) : Type 0 where
-  pub col : p .col ≤ 255
-  pub row : p .row ≤ 255
-
 pub on-chart : (s : Point) (w : List ℕ) → Walked s w → (i : ℕ) → i ≤ length w → OnChart (cornerAt s w i)
 on-chart s w d i h = record { col = d .col-le i h; row = d .row-le i h }
 
@@ -180,7 +176,7 @@ moved (suc (suc (suc k))) (suc (suc (suc zero))) p h e c = earlier-back refl (om
 moved (suc (suc (suc k))) (suc (suc (suc (suc a)))) p h e c = absurd (omega arith)
 
 -- Corners of the chart that lie as far along both letters of a frame are equal
-along-injective : (k : ℕ) (p q : Point) → OnChart p → OnChart q → along (frameOf k .earlier) p ≡ along (frameOf k .earlier) q
+pub along-injective : (k : ℕ) (p q : Point) → OnChart p → OnChart q → along (frameOf k .earlier) p ≡ along (frameOf k .earlier) q
     → along (frameOf k .later) p ≡ along (frameOf k .later) q → p ≡ q
 unfolding frameOf along
 along-injective zero p q c d e l = point-eq p q e l
@@ -242,14 +238,15 @@ module _ (s : Point) (w : List ℕ) (d : Walked s w) where
   corner-previous zero = ap (cornerAt s w) (omega (arith, d .long)) ∙ corner-round
   corner-previous (suc i) = refl
 
-  record Next (i j : ℕ) : Type 0 where
+  -- The place after place i, past the end to the beginning
+  record After (i j : ℕ) : Type 0 where
     below : j < length w
     corner : cornerAt s w (suc i) ≡ cornerAt s w j
     apart : previous (length w) i ≢ j
 
-  next : (i : ℕ) → i < length w → (j : ℕ) × Next i j
+  place-after : (i : ℕ) → i < length w → (j : ℕ) × After i j
   unfolding previous
-  next i h =
+  place-after i h =
       elim (decLt (suc i) (length w)) [
         | yes l ↦ (suc i, record { below = l; corner = refl; apart = apart i l })
         | no l ↦ (0, record { below = omega arith; corner = ap (cornerAt s w) (omega arith) ∙ corner-round; apart = back i h (omega arith) })
@@ -269,7 +266,7 @@ module _ (s : Point) (w : List ℕ) (d : Walked s w) where
       let h : i < length w = t .below in
       let j : ℕ = previous (length w) i in
       let l : j < length w = previous-lt i h in
-      let (m, r) = next i h in
+      let (m, r) = place-after i h in
       let far : cornerAt s w j ≡ cornerAt s w m → ⊥ = λ e. r .apart (corner-injective s w d j m l (r .below) e) in
       bend-of (frameOf k) (getD w j 0) (getD w i 0) (cornerAt s w j) (cornerAt s w i) (cornerAt s w m) (t .none j l) (t .none m (r .below))
       (λ x y. far (along-injective k (cornerAt s w j) (cornerAt s w m) (on-chart s w d j (omega arith)) (on-chart s w d m (omega (arith, r .below))) x y))

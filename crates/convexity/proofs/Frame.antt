@@ -11,7 +11,7 @@ use lib.ListN.{length, take, drop, length-append}
 use lib.Seq.{take-append-seam, take-append-le, take-append-add, take-length, take-nil}
 use Rattle.words.specs.Word.{Word, earliers, laters}
 use Rattle.words.specs.Lyndon.{Factor, copies, written}
-use Rattle.words.proofs.Counts.{earliers-append, laters-append, earliers-laters, earliers-copies, laters-copies, earliers-take-drop, laters-take-drop, earliers-take-mono, laters-take-mono, laters-take-le}
+use Rattle.words.proofs.Counts.{earliers-append, laters-append, earliers-laters, earliers-copies, laters-copies, earliers-take-drop, laters-take-drop, earliers-take-mono, laters-take-mono}
 use Rattle.words.proofs.Dent.{Above, Triangle, above-triangle}
 
 -- Some path point of w is left of (p, q) and above it, or level with it
@@ -23,7 +23,7 @@ pub record Under (w : Word) (p q : ℕ) : Type 0 where
 
 -- ---- a path point is a beginning of the word
 
-take-split : (w x y : Word) → w ≡ x ++ y → take (length x) w ≡ x
+pub take-split : (w x y : Word) → w ≡ x ++ y → take (length x) w ≡ x
 take-split w x y e = ap (take (length x)) e ∙ take-append-seam x y
 
 split-within : (w x y : Word) → w ≡ x ++ y → length x ≤ length w
@@ -110,11 +110,6 @@ pub record Over (w : Word) (p q : ℕ) : Type 0 where
   pub at : EarlierAt w p
   pub low : laters (at .before) < q
 
-pub over-not-under : (w : Word) (p q : ℕ) → Over w p q → Under w p q → ⊥
-over-not-under w p q o u =
-    let r : EarlierAt w p = o .at in
-    omega (arith, o .low, columnwise w (r .before) (r .after) (r .split) p q (r .count) .0 u)
-
 -- A point no higher than the path's end is under the path or over it
 pub under-or-over : (w : Word) (p q : ℕ) → q ≤ laters w → Under w p q ⊎ Over w p q
 under-or-over w p q h =
@@ -129,13 +124,6 @@ under-or-over w p q h =
           | yes k ↦ inl (columnwise w (r .before) (r .after) (r .split) p q (r .count) .1 k)
           | no k ↦ inr (record { at = r; low = lt-of-not-le k })
         ]
-
-pub under-dec : (w : Word) (p q : ℕ) → Under w p q ⊎ (Under w p q → ⊥)
-under-dec w p q =
-    elim (decLe q (laters w)) [
-      | yes h ↦ ⊎-map (λ u. u) (over-not-under w p q) (under-or-over w p q h)
-      | no h ↦ inr (λ u. omega (arith, u .high, laters-take-le (u .upto) w))
-    ]
 
 -- ---- edges
 

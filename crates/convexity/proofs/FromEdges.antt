@@ -3,7 +3,7 @@
 use Prim.Native.Nat.{ℕ, zero, suc, _+_, _<_}
 use native.Mathlib.Omega.{arith}
 use mathlib.Core.Path.{_≡_, refl, sym, ap, _∙_}
-use mathlib.Core.Bool.{true, false}
+use mathlib.Core.Bool.{true}
 use mathlib.Core.List.{List, [], _∷_, _++_, append-nil}
 use lib.ListN.{length, length-append}
 use lib.Dec.{ltb, lit<}
@@ -12,18 +12,18 @@ use borrow.Author.Tests.{ltb-false, eq-eqb, ne-eqb}
 use Rattle.words.specs.Word.{Word}
 use Rattle.words.specs.Lyndon.{Factor, Falling, written}
 use Rattle.words.specs.Counted.{edgeWord, edgesWord, sizes}
-use Rattle.words.proofs.BelowLaws.{first-none-at}
+use Rattle.base.proofs.BelowLaws.{first-none-at}
 use Rattle.words.proofs.Factors.{factors-exist, falling-head, falling-tail}
 use Rattle.words.proofs.Counted.{factor-edge, edge-length}
-use Rattle.lattice.specs.declared.Point.{Point}
-use Rattle.convexity.specs.Frame.{Frame, frameOf}
+use Rattle.chart.specs.declared.Point.{Point}
+use Rattle.convexity.specs.Frame.{frameOf}
 use Rattle.convexity.specs.Cut.{west, turn}
 use Rattle.convexity.specs.Pieces.{Reaches, piece, word, factors, dentLength, dentPiece, edgesOf, edges}
 use Rattle.convexity.specs.Quadrant.{spell}
 use Rattle.convexity.specs.FromEdges.{quadrantOf, runIn, riseIn, sizesIn, pieceFrom, lettersFrom, stepCount}
 use Rattle.convexity.proofs.Frame.{run, rise, EdgesFall}
-use Rattle.convexity.proofs.Quadrant.{Clear}
-use Rattle.convexity.proofs.Shape.{shape}
+use Rattle.convexity.proofs.Quadrant.{NoBackStep}
+use Rattle.convexity.proofs.Shape.{shape, length-spell}
 use Rattle.convexity.proofs.Smooth.{dent-first, smooth-edges}
 use Rattle.convexity.proofs.Signed.{Is, is-self, is-neg, is-unique, Counted, stepCols, stepRows, step-lies}
 use Rattle.convexity.proofs.Directions.{EndsLater, first-rises, ends-later-rest}
@@ -165,13 +165,13 @@ module _ (k : ℕ) (small : k < 4) (es : List ℤ) where
 
 -- ---- the four pieces
 
-module _ (s : Point) (t : List ℕ) (clear : Clear s t) (smooth : dentPiece s t ≡ 4) where
+module _ (s : Point) (t : List ℕ) (straight : NoBackStep s t) (smooth : dentPiece s t ≡ 4) where
   abbrev flat : ℕ → List ℤ
   flat k = edgesOf (frameOf k) (factors s t k)
 
   rises : (k : ℕ) → k < 4 → AllRise (factors s t k)
   unfolding factors
-  rises k h = all-rise (factors s t k) (smooth-edges s t smooth k h) (rw (factors-exist (word s t k) .whole) (shape s t clear .ends k h))
+  rises k h = all-rise (factors s t k) (smooth-edges s t smooth k h) (rw (factors-exist (word s t k) .whole) (shape s t straight .ends k h))
 
   keep : (k : ℕ) → k < 4 → (es : List ℤ) → sizesIn k (flat k ++ es) ≡ sizes (factors s t k) ++ sizesIn k es
   keep k h es = own-sizes k h es (factors s t k) (rises k h)
@@ -204,17 +204,17 @@ module _ (s : Point) (t : List ℕ) (clear : Clear s t) (smooth : dentPiece s t 
   pub piece-from-edges : (k : ℕ) → k < 4 → piece s t k ≡ pieceFrom k (edges s t)
   unfolding pieceFrom
   piece-from-edges k h =
-      shape s t clear .spelled k h ∙ ap (λ (w : Word). spell (frameOf k) (true ∷ w)) (word-sizes s t smooth k h ∙ ap edgesWord (sym (edges-sizes k h)))
+      shape s t straight .spelled k h ∙ ap (λ (w : Word). spell (frameOf k) (true ∷ w)) (word-sizes s t smooth k h ∙ ap edgesWord (sym (edges-sizes k h)))
 
   pub turn-from-edges : t ≡ lettersFrom (edges s t)
   unfolding lettersFrom
   turn-from-edges =
-      shape s t clear .whole
+      shape s t straight .whole
       ∙ rw (piece-from-edges 0 (lit< tt), piece-from-edges 1 (lit< tt), piece-from-edges 2 (lit< tt), piece-from-edges 3 (lit< tt))
 
 -- Two turns with the same edges are the same letters
 pub turn-unique :
-    {s s′ : Point} {t t′ : List ℕ} → Clear s t → Clear s′ t′ → dentPiece s t ≡ 4 → dentPiece s′ t′ ≡ 4 → edges s t ≡ edges s′ t′ → t ≡ t′
+    {s s′ : Point} {t t′ : List ℕ} → NoBackStep s t → NoBackStep s′ t′ → dentPiece s t ≡ 4 → dentPiece s′ t′ ≡ 4 → edges s t ≡ edges s′ t′ → t ≡ t′
 turn-unique {s} {s′} {t} {t′} h h′ e e′ same = turn-from-edges s t h e ∙ ap lettersFrom same ∙ sym (turn-from-edges s′ t′ h′ e′)
 
 -- ---- outlines as sent
@@ -224,12 +224,6 @@ module _ (s : Point) (w : List ℕ) (h : Reaches s w) (smooth : dentPiece (west 
   sent-from-edges = turn-from-edges (west s w) (turn s w) (clear-of s w h) smooth
 
 -- ---- how many letters a list writes
-
-length-spell : (f : Frame) (w : Word) → length (spell f w) ≡ length w
-unfolding spell
-length-spell f [] = refl
-length-spell f (false ∷ w) = ap suc (length-spell f w)
-length-spell f (true ∷ w) = ap suc (length-spell f w)
 
 -- The letters of quadrant k, its first left out
 abbrev count : ℕ → List ℤ → ℕ

@@ -1,11 +1,11 @@
 -- The edges answer for a cell piece by piece: the walk of the edges passes through the first cells of the four pieces, which hold its extremes, and each
 -- piece's side values are read in its own frame.
-use Prim.Native.Nat.{ℕ, zero, suc, _+_, _≤_, _<_}
+use Prim.Native.Nat.{ℕ, zero, suc, _+_, _-_, _≤_, _<_}
 use native.Mathlib.Nat.{le-refl}
 use native.Mathlib.Decide.{decLe}
 use native.Mathlib.Omega.{arith}
 use mathlib.Core.Path.{_≡_, refl, sym, ap, _∙_}
-use mathlib.Core.Logic.{_↔_, Iff·trans, Iff·and, _⊎_, inl, inr, ⊎-elim, ⊎-map}
+use mathlib.Core.Logic.{_↔_, Iff·rfl, Iff·trans, Iff·and, _⊎_, inl, inr, ⊎-elim, ⊎-map}
 use mathlib.Core.Bool.{Bool, true, false, cond, and-eq-true-iff}
 use mathlib.Core.List.{List, [], _∷_, _++_}
 use lib.IntN.{ℤ, pos, _+ℤ_, +ℤ-assoc, +ℤ-idr}
@@ -13,7 +13,7 @@ use Rattle.words.specs.Word.{earliers, laters}
 use Rattle.words.specs.Lyndon.{Factor, copies, written}
 use Rattle.words.proofs.Factors.{factors-exist}
 use Rattle.words.proofs.Counts.{earliers-append, laters-append, earliers-copies, laters-copies}
-use Rattle.lattice.specs.declared.Point.{Point}
+use Rattle.chart.specs.declared.Point.{Point}
 use Rattle.lattice.specs.Chart.{walk, cornerAt}
 use Rattle.convexity.specs.Frame.{Frame, frameOf, along}
 use Rattle.convexity.specs.Cut.{cut}
@@ -21,8 +21,9 @@ use Rattle.convexity.specs.Pieces.{word, factors, edgesOf, edges}
 use Rattle.convexity.specs.Inside.{leℤ, minℤ, maxℤ, noneOutside, colSteps, rowSteps, lowestMet, highestMet, within, insideEdges}
 use Rattle.convexity.proofs.Frame.{Sides, run, rise}
 use Rattle.convexity.specs.Quadrant.{startOf, startE, startL, cellAlong, cellE, cellL}
+use Rattle.convexity.proofs.Ring.{next, next-lt, next-suc, next-round, below-four, all-round}
 use Rattle.convexity.proofs.Quadrant.{Shape}
-use Rattle.convexity.proofs.Signed.{up, down, is-self, is-add, is-unique, le-iff, Counted, Lies, Placed, placed-cell, stepCols, stepRows, step-lies, lies-step, reached, lies-end, lies-sides, none-outside-append, cols-append, rows-append, reached-append}
+use Rattle.convexity.proofs.Signed.{up, down, is-self, is-add, is-unique, le-iff, Counted, Lies, Placed, placed-cell, lies-next, stepCols, stepRows, step-lies, lies-step, reached, lies-end, lies-sides, none-outside-append, cols-append, rows-append, reached-append}
 
 -- ---- the vertices of a walk
 
@@ -67,30 +68,39 @@ or-assoc f = (
   ⊎-elim (⊎-map (λ a. a) λ c. f .1 (inl c)) λ d. inr (f .1 (inr d)),
 )
 
--- The lowest and the highest number met are at most, at least a number where some vertex is
-lowest-col-iff : (es : List ℤ) (x y c : ℤ) → (leℤ (lowestMet (colSteps es) x) c ≡ true) ↔ Meets (λ v w. leℤ v c ≡ true) es x y
-unfolding lowestMet colSteps Meets
-lowest-col-iff [] x y c = ((λ h. h), λ h. h)
-lowest-col-iff (dx ∷ []) x y c = ((λ h. h), λ h. h)
-lowest-col-iff (dx ∷ dy ∷ es) x y c = either (min-iff x (lowestMet (colSteps es) (x +ℤ dx)) c) (lowest-col-iff es (x +ℤ dx) (y +ℤ dy) c)
+-- The test of the walk's extreme along the earlier letter of frame k: its lowest column is at most that of the cell x, its highest row at least that of x,
+-- its highest column at least, its lowest row at most. With no edges it is a test of one vertex
+unfoldable spans : ℕ → Point → List ℤ → ℤ → ℤ → Bool
+spans zero x es v w = leℤ (lowestMet (colSteps es) v) (pos (x .col))
+spans (suc zero) x es v w = leℤ (pos (x .row)) (highestMet (rowSteps es) w)
+spans (suc (suc zero)) x es v w = leℤ (pos (x .col)) (highestMet (colSteps es) v)
+spans (suc (suc (suc k))) x es v w = leℤ (lowestMet (rowSteps es) w) (pos (x .row))
 
-highest-col-iff : (es : List ℤ) (x y c : ℤ) → (leℤ c (highestMet (colSteps es) x) ≡ true) ↔ Meets (λ v w. leℤ c v ≡ true) es x y
-unfolding highestMet colSteps Meets
-highest-col-iff [] x y c = ((λ h. h), λ h. h)
-highest-col-iff (dx ∷ []) x y c = ((λ h. h), λ h. h)
-highest-col-iff (dx ∷ dy ∷ es) x y c = either (max-iff x (highestMet (colSteps es) (x +ℤ dx)) c) (highest-col-iff es (x +ℤ dx) (y +ℤ dy) c)
+-- What an edge more adds by one vertex, the walk has where some vertex has it
+meets-iff :
+    (Q : List ℤ → ℤ → ℤ → Type 0) → ((d v w : ℤ) → Q (d ∷ []) v w ↔ Q [] v w)
+    → ((d e : ℤ) (es : List ℤ) (v w : ℤ) → Q (d ∷ e ∷ es) v w ↔ (Q [] v w ⊎ Q es (v +ℤ d) (w +ℤ e)))
+    → (es : List ℤ) (v w : ℤ) → Q es v w ↔ Meets (Q []) es v w
+unfolding Meets
+meets-iff Q one more [] v w = Iff·rfl
+meets-iff Q one more (d ∷ []) v w = one d v w
+meets-iff Q one more (d ∷ e ∷ es) v w = either (more d e es v w) (meets-iff Q one more es (v +ℤ d) (w +ℤ e))
 
-lowest-row-iff : (es : List ℤ) (x y r : ℤ) → (leℤ (lowestMet (rowSteps es) y) r ≡ true) ↔ Meets (λ v w. leℤ w r ≡ true) es x y
-unfolding lowestMet rowSteps Meets
-lowest-row-iff [] x y r = ((λ h. h), λ h. h)
-lowest-row-iff (dx ∷ []) x y r = ((λ h. h), λ h. h)
-lowest-row-iff (dx ∷ dy ∷ es) x y r = either (min-iff y (lowestMet (rowSteps es) (y +ℤ dy)) r) (lowest-row-iff es (x +ℤ dx) (y +ℤ dy) r)
+-- The extreme of the walk passes where some vertex does
+spans-iff : (k : ℕ) (x : Point) (es : List ℤ) (v w : ℤ) → (spans k x es v w ≡ true) ↔ Meets (λ a b. spans k x [] a b ≡ true) es v w
+unfolding spans lowestMet highestMet colSteps rowSteps
+spans-iff zero x = meets-iff (λ es v w. spans 0 x es v w ≡ true) (λ d v w. Iff·rfl) λ d e es v w. min-iff v (lowestMet (colSteps es) (v +ℤ d)) (pos (x .col))
+spans-iff (suc zero) x = meets-iff (λ es v w. spans 1 x es v w ≡ true) (λ d v w. Iff·rfl) λ d e es v w. max-iff w (highestMet (rowSteps es) (w +ℤ e)) (pos (x .row))
+spans-iff (suc (suc zero)) x = meets-iff (λ es v w. spans 2 x es v w ≡ true) (λ d v w. Iff·rfl) λ d e es v w. max-iff v (highestMet (colSteps es) (v +ℤ d)) (pos (x .col))
+spans-iff (suc (suc (suc k))) x = meets-iff (λ es v w. spans 3 x es v w ≡ true) (λ d v w. Iff·rfl) λ d e es v w. min-iff w (lowestMet (rowSteps es) (w +ℤ e)) (pos (x .row))
 
-highest-row-iff : (es : List ℤ) (x y r : ℤ) → (leℤ r (highestMet (rowSteps es) y) ≡ true) ↔ Meets (λ v w. leℤ r w ≡ true) es x y
-unfolding highestMet rowSteps Meets
-highest-row-iff [] x y r = ((λ h. h), λ h. h)
-highest-row-iff (dx ∷ []) x y r = ((λ h. h), λ h. h)
-highest-row-iff (dx ∷ dy ∷ es) x y r = either (max-iff y (highestMet (rowSteps es) (y +ℤ dy)) r) (highest-row-iff es (x +ℤ dx) (y +ℤ dy) r)
+-- A vertex in frame k
+placed-spans : (k : ℕ) (x : Point) → x .col < 255 → x .row < 255 → {p q : ℕ} {v w : ℤ} → Placed k p q v w → (spans k x [] v w ≡ true) ↔ (p ≤ cellE k x)
+unfolding spans lowestMet highestMet colSteps rowSteps Counted cellE cellAlong frameOf
+placed-spans zero x c r h = Iff·trans (le-iff (h .counted .0) (is-self (pos (x .col)))) (omega arith)
+placed-spans (suc zero) x c r h = Iff·trans (le-iff (is-self (pos (x .row))) (h .counted .1)) (omega arith)
+placed-spans (suc (suc zero)) x c r h = Iff·trans (le-iff (is-self (pos (x .col))) (h .counted .0)) (omega arith)
+placed-spans (suc (suc (suc k))) x c r h = Iff·trans (le-iff (h .counted .1) (is-self (pos (x .row)))) (omega arith)
 
 meets-here : (P : ℤ → ℤ → Type 0) (es : List ℤ) (x y : ℤ) → P x y → Meets P es x y
 unfolding Meets
@@ -140,13 +150,6 @@ meets-passed P N k (g ∷ gs) {o = o} {vp = vp} {vq = vq} {x = x} {y = y} h f m 
 
 -- ---- the ring of the four pieces
 
-below-four : (P : ℕ → Type 0) → P 0 → P 1 → P 2 → P 3 → (k : ℕ) → k < 4 → P k
-below-four P a b c d zero h = a
-below-four P a b c d (suc zero) h = b
-below-four P a b c d (suc (suc zero)) h = c
-below-four P a b c d (suc (suc (suc zero))) h = d
-below-four P a b c d (suc (suc (suc (suc k)))) h = absurd (omega arith)
-
 module _ (s : Point) (t : List ℕ) where
   -- The first cell of piece k on the walk of the edges
   unfoldable pub firstCol : ℕ → ℤ
@@ -157,30 +160,6 @@ module _ (s : Point) (t : List ℕ) where
   firstRow zero = pos (s .row)
   firstRow (suc k) = reached (rowSteps (edgesOf (frameOf k) (factors s t k))) (firstRow k)
 
-  -- The ring's equations, one by one
-  record Ring : Type 0 where
-    later-1 : startL s t 1 ≡ startE s t 0 + earliers (word s t 0)
-    later-2 : startL s t 2 ≡ startE s t 1 + earliers (word s t 1)
-    later-3 : startL s t 3 ≡ startE s t 2 + earliers (word s t 2)
-    later-0 : startL s t 0 ≡ startE s t 3 + earliers (word s t 3)
-    earlier-1 : startE s t 1 + startL s t 0 + 1 + laters (word s t 0) ≡ 255
-    earlier-2 : startE s t 2 + startL s t 1 + 1 + laters (word s t 1) ≡ 255
-    earlier-3 : startE s t 3 + startL s t 2 + 1 + laters (word s t 2) ≡ 255
-    earlier-0 : startE s t 0 + startL s t 3 + 1 + laters (word s t 3) ≡ 255
-
-  ring : Shape s t → Ring
-  ring h =
-      record {
-        later-1 = h .next-later 0 (omega arith);
-        later-2 = h .next-later 1 (omega arith);
-        later-3 = h .next-later 2 (omega arith);
-        later-0 = h .last-later;
-        earlier-1 = h .next-earlier 0 (omega arith);
-        earlier-2 = h .next-earlier 1 (omega arith);
-        earlier-3 = h .next-earlier 2 (omega arith);
-        earlier-0 = h .last-earlier;
-      }
-
   whole-piece : (k : ℕ) → written (factors s t k) ≡ word s t k
   unfolding factors
   whole-piece k = factors-exist (word s t k) .whole
@@ -190,43 +169,20 @@ module _ (s : Point) (t : List ℕ) where
   first-placed-0 = record { counted = omega arith }
 
   -- The next piece starts where the edges of this one end
-  turn :
-      Ring → (k : ℕ) → k < 3 → {x y : ℤ} → Placed k (startE s t k + earliers (word s t k)) (startL s t k + laters (word s t k)) x y
-      → Placed (suc k) (startE s t (suc k)) (startL s t (suc k)) x y
-  unfolding Counted
-  turn g zero l h = record { counted = omega arith }
-  turn g (suc zero) l h = record { counted = omega arith }
-  turn g (suc (suc zero)) l h = record { counted = omega arith }
-  turn g (suc (suc (suc k))) l h = absurd (omega arith)
+  turn : Shape s t → (k : ℕ) → k < 4 → {x y : ℤ} → Placed k (startE s t k + earliers (word s t k)) (startL s t k + laters (word s t k)) x y
+      → Placed (next k) (startE s t (next k)) (startL s t (next k)) x y
+  turn g k h p = rw (g .next-later k h) (lies-next k (omega (arith, g .next-earlier k h)) p)
 
-  turn-last : Ring → {x y : ℤ} → Placed 3 (startE s t 3 + earliers (word s t 3)) (startL s t 3 + laters (word s t 3)) x y → Placed 0 (startE s t 0) (startL s t 0) x y
-  unfolding Counted
-  turn-last g h = record { counted = omega arith }
-
-  first-placed : Ring → (k : ℕ) → k < 4 → Placed k (startE s t k) (startL s t k) (firstCol k) (firstRow k)
+  first-placed : Shape s t → (k : ℕ) → k < 4 → Placed k (startE s t k) (startL s t k) (firstCol k) (firstRow k)
   unfolding firstCol firstRow
   first-placed g zero l = first-placed-0
-  first-placed g (suc k) l = turn g k (omega arith) (rw whole-piece at (lies-end k (factors s t k) (first-placed g k (omega arith))))
+  first-placed g (suc k) l =
+      rw (next-suc k (omega arith)) at (turn g k (omega arith) (rw whole-piece at (lies-end k (factors s t k) (first-placed g k (omega arith)))))
 
   -- The last piece ends at the first cell of the first
-  last-placed : Ring → Placed 0 (startE s t 0) (startL s t 0) (firstCol 4) (firstRow 4)
+  last-placed : Shape s t → Placed 0 (startE s t 0) (startL s t 0) (firstCol 4) (firstRow 4)
   unfolding firstCol firstRow
-  last-placed g = turn-last g (rw whole-piece at (lies-end 3 (factors s t 3) (first-placed g 3 (omega arith))))
-
-  -- The box of the four first cells
-  record Box (v w : ℤ) : Type 0 where
-    west : startE s t 0 + down v ≤ up v
-    north : startE s t 1 + up w ≤ 254 + down w
-    east : startE s t 2 + up v ≤ 254 + down v
-    south : startE s t 3 + down w ≤ up w
-
-  boxed : Ring → (k : ℕ) → k < 4 → {v w : ℤ} → Passed k 254 (startE s t k) (startL s t k) (earliers (word s t k)) (laters (word s t k)) v w → Box v w
-  unfolding Counted
-  boxed g zero l i = omega arith
-  boxed g (suc zero) l i = omega arith
-  boxed g (suc (suc zero)) l i = omega arith
-  boxed g (suc (suc (suc zero))) l i = omega arith
-  boxed g (suc (suc (suc (suc k)))) l i = absurd (omega arith)
+  last-placed g = turn g 3 (omega arith) (rw whole-piece at (lies-end 3 (factors s t 3) (first-placed g 3 (omega arith))))
 
   -- Some vertex of piece k has P
   abbrev MeetsPiece : (ℤ → ℤ → Type 0) → ℕ → Type 0
@@ -239,62 +195,44 @@ module _ (s : Point) (t : List ℕ) where
   unfolding edges firstCol firstRow
   meets-edges P = either (meets-append P _ _ _ _ _) (either (meets-append P _ _ _ _ _) (meets-append P _ _ _ _ _))
 
-  -- What follows from P in the box, and gives P at the first cell of piece k, holds where the walk of the edges meets P
-  extreme :
-      Ring → (P : ℤ → ℤ → Type 0) (N : Type 0) → ((v w : ℤ) → Box v w → P v w → N) → (k : ℕ) → k < 4 → (N → P (firstCol k) (firstRow k))
-      → Meets P (edges s t) (pos (s .col)) (pos (s .row)) ↔ N
-  extreme g P N f k l b = (
-    λ m. ⊎-elim (passes 0 (omega arith)) (⊎-elim (passes 1 (omega arith)) (⊎-elim (passes 2 (omega arith)) (passes 3 (omega arith)))) (meets-edges P .0 m),
-    λ n. meets-edges P .1 (among k l (meets-here P _ _ _ (b n))),
-  )
-    where
-      passes : (j : ℕ) → j < 4 → MeetsPiece P j → N
-      passes j h = meets-passed P N j (factors s t j) (first-placed g j h) λ v w i. f v w (boxed g j h (rw whole-piece at i))
-
-      among : (j : ℕ) → j < 4 → MeetsPiece P j → MeetsSome P
-      among = below-four (λ j. MeetsPiece P j → MeetsSome P) inl (λ m. inr (inl m)) (λ m. inr (inr (inl m))) (λ m. inr (inr (inr m)))
+  among : (P : ℤ → ℤ → Type 0) (j : ℕ) → j < 4 → MeetsPiece P j → MeetsSome P
+  among P = below-four (λ j. MeetsPiece P j → MeetsSome P) inl (λ m. inr (inl m)) (λ m. inr (inr (inl m))) (λ m. inr (inr (inr m)))
 
   -- No side value of piece k is below 0, in its frame
   abbrev RightSide : Point → ℕ → Type 0
   RightSide x k = Sides (factors s t k) (startE s t k) (startL s t k) (cellE k x) (cellL k x)
 
-  module _ (g : Ring) (x : Point) (x-col : x .col < 255) (x-row : x .row < 255) where
-    -- The walk's lowest column is that of the first cell of piece 0, its highest row that of piece 1, and so on
-    lowest-col : (leℤ (lowestMet (colSteps (edges s t)) (pos (s .col))) (pos (x .col)) ≡ true) ↔ (startE s t 0 ≤ cellE 0 x)
-    unfolding Counted cellE cellAlong frameOf
-    lowest-col =
-        let h = first-placed g 0 (omega arith) in
-        let c : ℤ = pos (x .col) in
-        Iff·trans (lowest-col-iff (edges s t) (pos (s .col)) (pos (s .row)) c)
-        (extreme g (λ v w. leℤ v c ≡ true) (startE s t 0 ≤ cellE 0 x) (λ v w b m. omega (arith, le-true v c .0 m)) 0 (omega arith)
-        λ n. le-true (firstCol 0) c .1 (omega arith))
+  module _ (g : Shape s t) (x : Point) (x-col : x .col < 255) (x-row : x .row < 255) where
+    -- No vertex of piece j lies less far along the earlier letter of any frame than the first cell of that frame's piece
+    none-before :
+        (j : ℕ) → j < 4 → {v w : ℤ} → Passed j 254 (startE s t j) (startL s t j) (earliers (word s t j)) (laters (word s t j)) v w
+        → (k : ℕ) → k < 4 → spans k x [] v w ≡ true → startE s t k ≤ cellE k x
+    none-before j h {v} {w} i =
+        let a = next-lt j in
+        let b = next-lt (next j) in
+        let here = i .lies in
+        let after = lies-next j {q′ = 254 - i .q} (omega (arith, g .next-earlier j h)) here in
+        let across = lies-next (next j) {q′ = 254 - i .p} (omega (arith, g .next-later j h, g .next-earlier (next j) a)) after in
+        let back = lies-next (next (next j)) {q′ = i .q} (omega (arith, g .next-earlier j h)) across in
+        all-round (λ k. spans k x [] v w ≡ true → startE s t k ≤ cellE k x) j h
+        (λ m. omega (arith, placed-spans j x x-col x-row here .0 m))
+        (λ m. omega (arith, placed-spans (next j) x x-col x-row after .0 m, g .next-earlier j h))
+        (λ m. omega (arith, placed-spans (next (next j)) x x-col x-row across .0 m, g .next-later j h, g .next-earlier (next j) a))
+        (λ m. omega (arith, placed-spans (next (next (next j))) x x-col x-row back .0 m, rw (next-round j h) at (g .next-later (next (next (next j))) (next-lt (next (next j))))))
 
-    highest-row : (leℤ (pos (x .row)) (highestMet (rowSteps (edges s t)) (pos (s .row))) ≡ true) ↔ (startE s t 1 ≤ cellE 1 x)
-    unfolding Counted cellE cellAlong frameOf
-    highest-row =
-        let h = first-placed g 1 (omega arith) in
-        let r : ℤ = pos (x .row) in
-        Iff·trans (highest-row-iff (edges s t) (pos (s .col)) (pos (s .row)) r)
-        (extreme g (λ v w. leℤ r w ≡ true) (startE s t 1 ≤ cellE 1 x) (λ v w b m. omega (arith, le-true r w .0 m)) 1 (omega arith)
-        λ n. le-true r (firstRow 1) .1 (omega arith))
+    -- So the walk's extreme along each frame's earlier letter is that of its piece's first cell
+    extreme : (k : ℕ) → k < 4 → (spans k x (edges s t) (pos (s .col)) (pos (s .row)) ≡ true) ↔ (startE s t k ≤ cellE k x)
+    extreme k l =
+        Iff·trans (spans-iff k x (edges s t) (pos (s .col)) (pos (s .row))) (
+          λ m. ⊎-elim (passes 0 (omega arith)) (⊎-elim (passes 1 (omega arith)) (⊎-elim (passes 2 (omega arith)) (passes 3 (omega arith)))) (meets-edges P .0 m),
+          λ n. meets-edges P .1 (among P k l (meets-here P _ _ _ (placed-spans k x x-col x-row (first-placed g k l) .1 n))),
+        )
+      where
+        P : ℤ → ℤ → Type 0
+        P v w = spans k x [] v w ≡ true
 
-    highest-col : (leℤ (pos (x .col)) (highestMet (colSteps (edges s t)) (pos (s .col))) ≡ true) ↔ (startE s t 2 ≤ cellE 2 x)
-    unfolding Counted cellE cellAlong frameOf
-    highest-col =
-        let h = first-placed g 2 (omega arith) in
-        let c : ℤ = pos (x .col) in
-        Iff·trans (highest-col-iff (edges s t) (pos (s .col)) (pos (s .row)) c)
-        (extreme g (λ v w. leℤ c v ≡ true) (startE s t 2 ≤ cellE 2 x) (λ v w b m. omega (arith, le-true c v .0 m)) 2 (omega arith)
-        λ n. le-true c (firstCol 2) .1 (omega arith))
-
-    lowest-row : (leℤ (lowestMet (rowSteps (edges s t)) (pos (s .row))) (pos (x .row)) ≡ true) ↔ (startE s t 3 ≤ cellE 3 x)
-    unfolding Counted cellE cellAlong frameOf
-    lowest-row =
-        let h = first-placed g 3 (omega arith) in
-        let r : ℤ = pos (x .row) in
-        Iff·trans (lowest-row-iff (edges s t) (pos (s .col)) (pos (s .row)) r)
-        (extreme g (λ v w. leℤ w r ≡ true) (startE s t 3 ≤ cellE 3 x) (λ v w b m. omega (arith, le-true w r .0 m)) 3 (omega arith)
-        λ n. le-true (firstRow 3) r .1 (omega arith))
+        passes : (j : ℕ) → j < 4 → MeetsPiece P j → startE s t k ≤ cellE k x
+        passes j h = meets-passed P _ j (factors s t j) (first-placed g j h) λ v w i. none-before j h (rw whole-piece at i) k l
 
     none-outside-iff :
         (noneOutside (edges s t) (pos (s .col)) (pos (s .row)) (pos (x .col)) (pos (x .row)) ≡ true)
@@ -327,11 +265,10 @@ pub inside-iff :
     (s : Point) (t : List ℕ) → Shape s t → (x : Point) → x .col < 255 → x .row < 255
     → (insideEdges s (edges s t) x ≡ true)
     ↔ ((k : ℕ) → k < 4 → (startE s t k ≤ cellE k x) × Sides (factors s t k) (startE s t k) (startL s t k) (cellE k x) (cellL k x))
-unfolding insideEdges within
-inside-iff s t h x c r =
-    let g = ring s t h in
-    let cols = Iff·trans (and-eq-true-iff _ _) (Iff·and (lowest-col s t g x c r) (highest-col s t g x c r)) in
-    let rows = Iff·trans (and-eq-true-iff _ _) (Iff·and (lowest-row s t g x c r) (highest-row s t g x c r)) in
+unfolding insideEdges within spans
+inside-iff s t g x c r =
+    let cols = Iff·trans (and-eq-true-iff _ _) (Iff·and (extreme s t g x c r 0 (omega arith)) (extreme s t g x c r 2 (omega arith))) in
+    let rows = Iff·trans (and-eq-true-iff _ _) (Iff·and (extreme s t g x c r 3 (omega arith)) (extreme s t g x c r 1 (omega arith))) in
     Iff·trans (and-eq-true-iff _ _) (Iff·trans (Iff·and (Iff·trans (and-eq-true-iff _ _) (Iff·and cols rows)) (none-outside-iff s t g x c r))
     (gather (λ k. startE s t k ≤ cellE k x) (RightSide s t x)))
 
@@ -367,7 +304,7 @@ module _ (s : Point) (t : List ℕ) where
   unfolding Counted firstCol firstRow
   edges-return h =
       let start = first-placed-0 s t .counted in
-      let stop = last-placed s t (ring s t h) .counted in
+      let stop = last-placed s t h .counted in
       (cols-reached ∙ is-unique (stop .0) (start .0) refl, rows-reached ∙ is-unique (stop .1) (start .1) refl)
 
   -- The edges sum to nil

@@ -1,7 +1,10 @@
--- One piece in its frame; the four pieces; lines and the search for the lowest missing cell; back-steps; the reading and the same block; the edges' directions; the letters from the edges.
+-- One piece in its frame; the four pieces in a ring; the theorem and the four corners; back-steps; the reading and the same block; the edges' directions; the letters from the edges.
 pub mod Frame
+pub mod Ring
 pub mod Quadrant
 pub mod Extreme
+pub mod Levels
+pub mod Cuts
 pub mod Shape
 pub mod Crossings
 pub mod UnderLaws
@@ -15,11 +18,7 @@ pub mod PathCells
 pub mod DentMissing
 pub mod Theorem
 pub mod Sent
-pub mod Line
-pub mod Rows
-pub mod Side
-pub mod Mirror
-pub mod Climb
+pub mod Corners
 pub mod OneRun
 pub mod BackSteps
 pub mod Reading

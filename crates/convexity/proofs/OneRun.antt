@@ -1,226 +1,179 @@
--- Where no cell is missing, each row's enclosed cells are one run, and each column's: between two enclosed cells of a row there is none that is not. So a
--- row has one up and one down, the up to the left of the down, and a column has one right and one left, the right above the left. Each law says
--- which cell is missing where it fails.
+-- Where no cell is missing, the enclosed cells of a line are one run: between two of them there is none that is not. The cell on the right hand of a letter is
+-- enclosed and the one on its left hand is not; so a line is left once by the letter across it, and the letter back lies on the far side of the run. Each law
+-- says which cell is missing where it fails.
 use Prim.Native.Nat.{ℕ, zero, suc, _+_, _-_, _*_, _≤_, _<_}
-use native.Mathlib.Nat.{mul-add, add-mul, mul-assoc, mul-comm, mul-left-comm}
 use native.Mathlib.Decide.{decLt}
 use native.Mathlib.Omega.{arith}
 use mathlib.Core.Path.{_≡_, sym, ap, subst}
 use mathlib.Core.Logic.{_≢_}
-use mathlib.Core.Bool.{true, false}
 use mathlib.Core.List.{List}
-use lib.ListN.{length, getD}
-use borrow.Author.Tests.{eq-eqb, ne-eqb}
-use Rattle.lattice.specs.declared.Point.{Point}
+use lib.ListN.{getD}
+use Rattle.chart.specs.declared.Point.{Point}
 use Rattle.lattice.specs.Chart.{cornerAt}
-use Rattle.lattice.specs.Enclosed.{ups, downs, encloses}
 use Rattle.lattice.specs.Hull.{InTriangle, Missing}
 use Rattle.lattice.proofs.WalkLaws.{point, point-eq, corner-injective}
-use Rattle.lattice.proofs.Jumps.{upsTo, downsTo, ups-to, downs-to, ups-column-zero, ups-row-zero}
-use Rattle.lattice.proofs.RightHand.{leftOf, rightOf, clockwise-right, clockwise-left}
+use Rattle.lattice.proofs.Jumps.{upsTo, ups-column-zero, ups-row-zero}
+use Rattle.lattice.proofs.RightHand.{leftOf, rightOf}
 use Rattle.convexity.specs.Frame.{frameOf, along}
+use Rattle.convexity.specs.Reading.{opposite}
+use Rattle.base.proofs.Mean.{mean-same, mean-at-least}
 use Rattle.convexity.proofs.Quadrant.{Turn}
-use Rattle.convexity.proofs.PathCells.{turn-lowest}
+use Rattle.convexity.proofs.Extreme.{along-injective, on-chart}
+use Rattle.convexity.proofs.Levels.{LetterAt, In, Out, shifted, level-enclosed, level-open, right-in, left-out}
 
 -- Some cell is missing
 abbrev pub SomeMissing : Point → List ℕ → Type 0
 SomeMissing s t = (x : Point) × Missing s t x
 
--- The point p stands for the cell one to the left and one below it, as in the laws of the right hand. Its level is 1, or 0
-abbrev In : Point → List ℕ → Point → Type 0
-In s t p = upsTo s t (p .col) (p .row) ≡ downsTo s t (p .col) (p .row) + 1
-
-abbrev Out : Point → List ℕ → Point → Type 0
-Out s t p = upsTo s t (p .col) (p .row) ≡ downsTo s t (p .col) (p .row)
-
--- The letter a stands at place i
-abbrev pub LetterAt : List ℕ → ℕ → ℕ → Type 0
-LetterAt t a i = (i < length t) × (getD t i 0 ≡ a)
-
 -- ---- a segment
 
-ruleset ring = (mul-add, add-mul, mul-assoc, mul-comm, mul-left-comm)
+-- A number between two others is their mean
+mean-between : (m n x y z : ℕ) → y ≡ x + n → z ≡ y + m → (m + n + 0) * y ≡ m * x + n * z + 0 * z
+mean-between m n x y z e f = omega (arith, ap (λ i. m * i) e, ap (λ i. n * i) f)
 
-mean : (a b x y z : ℕ) → y ≡ x + b → z ≡ x + b + a → (a + b + 0) * y ≡ a * x + b * z + 0 * z
-mean a b x y z e f = rw (e, f) (simp ring (omega arith))
+mean-level : (m n x y z : ℕ) → x ≡ y → z ≡ y → (m + n + 0) * y ≡ m * x + n * z + 0 * z
+mean-level m n x y z e f = rw (e, f) (mean-same m n 0 y)
 
-same : (a b y : ℕ) → (a + b + 0) * y ≡ a * y + b * y + 0 * y
-same a b y = simp ring (omega arith)
-
--- A cell between two others of its row, and of its column
-between-row : (x y z r : ℕ) → x ≤ y → y ≤ z → x < z → InTriangle (point y r) (point x r) (point z r) (point z r)
-between-row x y z r h k l =
+-- A point between two others of its row, and of its column
+between-row : (p x q : Point) → p .row ≡ x .row → q .row ≡ x .row → p .col ≤ x .col → x .col ≤ q .col → p .col < q .col → InTriangle x p q q
+between-row p x q e f h k l =
     record {
-      a = z - y;
-      b = y - x;
+      a = q .col - x .col;
+      b = x .col - p .col;
       c = 0;
       some = omega arith;
-      cols = mean (z - y) (y - x) x y z (omega arith) (omega arith);
-      rows = same (z - y) (y - x) r;
+      cols = mean-between (q .col - x .col) (x .col - p .col) (p .col) (x .col) (q .col) (omega arith) (omega arith);
+      rows = mean-level (q .col - x .col) (x .col - p .col) (p .row) (x .row) (q .row) e f;
     }
 
-between-col : (c x y z : ℕ) → x ≤ y → y ≤ z → x < z → InTriangle (point c y) (point c x) (point c z) (point c z)
-between-col c x y z h k l =
+between-col : (p x q : Point) → p .col ≡ x .col → q .col ≡ x .col → p .row ≤ x .row → x .row ≤ q .row → p .row < q .row → InTriangle x p q q
+between-col p x q e f h k l =
     record {
-      a = z - y;
-      b = y - x;
+      a = q .row - x .row;
+      b = x .row - p .row;
       c = 0;
       some = omega arith;
-      cols = same (z - y) (y - x) c;
-      rows = mean (z - y) (y - x) x y z (omega arith) (omega arith);
+      cols = mean-level (q .row - x .row) (x .row - p .row) (p .col) (x .col) (q .col) e f;
+      rows = mean-between (q .row - x .row) (x .row - p .row) (p .row) (x .row) (q .row) (omega arith) (omega arith);
     }
+
+-- The cell for which a point stands
+abbrev cell : Point → Point
+cell p = point (p .col - 1) (p .row - 1)
+
+unshifted : (p : Point) → 0 < p .col → 0 < p .row → p ≡ shifted (cell p)
+unshifted p h k = point-eq p (shifted (cell p)) (omega arith) (omega arith)
+
+unshift : {x p q : Point} → InTriangle (shifted x) (shifted p) (shifted q) (shifted q) → InTriangle x p q q
+unshift h = record { a = h .a; b = h .b; c = h .c; some = h .some; cols = omega (arith, h .cols); rows = omega (arith, h .rows) }
 
 module _ (s : Point) (t : List ℕ) where
-  -- ---- a cell of level 0 between two of level 1 is missing
+  -- A point of level 1 stands for a cell
+  in-col : (p : Point) → In s t p → 0 < p .col
+  in-col p i =
+      elim (decLt 0 (p .col)) [
+        | yes l ↦ l
+        | no l ↦ let e : p .col ≡ 0 = omega arith in absurd (omega (arith, ups-column-zero s t (p .row), ap (λ (c : ℕ). upsTo s t c (p .row)) e))
+      ]
 
-  enclosed : (c r : ℕ) → In s t (point (suc c) (suc r)) → encloses s t c r ≡ true
-  unfolding encloses
-  enclosed c r h = eq-eqb (ups s t c r) (downs s t c r + 1) (rw (ups-to, downs-to) h)
+  in-row : (p : Point) → In s t p → 0 < p .row
+  in-row p i =
+      elim (decLt 0 (p .row)) [
+        | yes l ↦ l
+        | no l ↦ let e : p .row ≡ 0 = omega arith in absurd (omega (arith, ups-row-zero s t (p .col), ap (upsTo s t (p .col)) e))
+      ]
 
-  not-enclosed : (c r : ℕ) → Out s t (point (suc c) (suc r)) → encloses s t c r ≡ false
-  unfolding encloses
-  not-enclosed c r h = ne-eqb (ups s t c r) (downs s t c r + 1) (rw (ups-to, downs-to) (omega arith))
-
-  segment : (p x q : Point) → InTriangle x p q q → In s t (point (suc (p .col)) (suc (p .row))) → Out s t (point (suc (x .col)) (suc (x .row)))
-      → In s t (point (suc (q .col)) (suc (q .row))) → SomeMissing s t
-  segment p x q v i o j = (
-    x,
-    record {
-      hull =
-          record {
-            p = p;
-            q = q;
-            t = q;
-            p-enclosed = enclosed (p .col) (p .row) i;
-            q-enclosed = enclosed (q .col) (q .row) j;
-            t-enclosed = enclosed (q .col) (q .row) j;
-            triangle = v;
+  -- One of level 0 between two of level 1 is missing
+  gap : (p x q : Point) → InTriangle x p q q → In s t p → Out s t x → In s t q → SomeMissing s t
+  gap p x q v i o j =
+      let p′ = unshifted p (in-col p i) (in-row p i) in
+      let q′ = unshifted q (in-col q j) (in-row q j) in
+      let x′ = unshifted x
+      (mean-at-least (v .a) (v .b) (v .c) _ _ _ _ 1 (v .some) (v .cols) (in-col p i) (in-col q j) (in-col q j))
+      (mean-at-least (v .a) (v .b) (v .c) _ _ _ _ 1 (v .some) (v .rows) (in-row p i) (in-row q j) (in-row q j)) in
+      let e = level-enclosed s t (cell q) (subst (In s t) q′ j) in (
+        cell x,
+        record {
+          hull = record {
+            p = cell p;
+            q = cell q;
+            t = cell q;
+            p-enclosed = level-enclosed s t (cell p) (subst (In s t) p′ i);
+            q-enclosed = e;
+            t-enclosed = e;
+            triangle = unshift (rw (x′, p′, q′) at v);
           };
-      open-cell = not-enclosed (x .col) (x .row) o;
-    },
-  )
+          open-cell = level-open s t (cell x) (subst (Out s t) x′ o);
+        },
+      )
 
-  in-not-out : (p q : Point) → p ≡ q → In s t p → Out s t q → ⊥
-  in-not-out p q e i o = let i′ : In s t q = subst (In s t) e i in omega arith
-
-  row-run : (x y z r : ℕ) → x ≤ y → y ≤ z → In s t (point x r) → Out s t (point y r) → In s t (point z r) → SomeMissing s t
-  row-run zero y z r h k i o j = absurd (omega (arith, ups-column-zero s t r))
-  row-run (suc x) zero z r h k i o j = absurd (omega arith)
-  row-run (suc x) (suc y) zero r h k i o j = absurd (omega arith)
-  row-run (suc x) (suc y) (suc z) zero h k i o j = absurd (omega (arith, ups-row-zero s t (suc x)))
-  row-run (suc x) (suc y) (suc z) (suc r) h k i o j =
-      elim (decLt x z) [
-        | yes l ↦ segment (point x r) (point y r) (point z r) (between-row x y z r (omega arith) (omega arith) l) i o j
-        | no l ↦ absurd (in-not-out _ _ (ap (λ (c : ℕ). point c (suc r)) (omega arith)) i o)
-      ]
-
-  col-run : (c x y z : ℕ) → x ≤ y → y ≤ z → In s t (point c x) → Out s t (point c y) → In s t (point c z) → SomeMissing s t
-  col-run c zero y z h k i o j = absurd (omega (arith, ups-row-zero s t c))
-  col-run c (suc x) zero z h k i o j = absurd (omega arith)
-  col-run c (suc x) (suc y) zero h k i o j = absurd (omega arith)
-  col-run zero (suc x) (suc y) (suc z) h k i o j = absurd (omega (arith, ups-column-zero s t (suc x)))
-  col-run (suc c) (suc x) (suc y) (suc z) h k i o j =
-      elim (decLt x z) [
-        | yes l ↦ segment (point c x) (point c y) (point c z) (between-col c x y z (omega arith) (omega arith) l) i o j
-        | no l ↦ absurd (in-not-out _ _ (ap (point (suc c)) (omega arith)) i o)
-      ]
-
-  -- The same for points that lie in one row, or in one column
-  row-gap : (p x q : Point) → p .row ≡ x .row → q .row ≡ x .row → p .col ≤ x .col → x .col ≤ q .col → In s t p → Out s t x → In s t q → SomeMissing s t
-  row-gap p x q e f h k i o j =
-      row-run (p .col) (x .col) (q .col) (x .row) h k
-      (subst (λ (r : ℕ). In s t (point (p .col) r)) e i) o (subst (λ (r : ℕ). In s t (point (q .col) r)) f j)
-
-  col-gap : (p x q : Point) → p .col ≡ x .col → q .col ≡ x .col → p .row ≤ x .row → x .row ≤ q .row → In s t p → Out s t x → In s t q → SomeMissing s t
-  col-gap p x q e f h k i o j =
-      col-run (x .col) (p .row) (x .row) (q .row) h k
-      (subst (λ (c : ℕ). In s t (point c (p .row))) e i) o (subst (λ (c : ℕ). In s t (point c (q .row))) f j)
-
-  -- ---- two letters along one row or one column of a turn that leaves W upwards
+  -- ---- two letters across one line of a turn that leaves W upwards
 
   module _ (h : Turn s t) (up : getD t 0 0 ≡ 1) where
     abbrev corner : ℕ → Point
     corner i = cornerAt s t i
 
-    right-in : (a i : ℕ) → LetterAt t a i → In s t (rightOf (corner i) a)
-    right-in a i e = subst (λ (b : ℕ). In s t (rightOf (corner i) b)) (e .1) (clockwise-right s t (h .walked) 0 (turn-lowest s t h) up i (e .0))
+    -- A frame's later letter at two places of one line, the second further along the earlier letter
+    apart-gap : (k i j : ℕ) → LetterAt t (frameOf k .later) i → LetterAt t (frameOf k .later) j → along (frameOf k .later) (corner i) ≡ along (frameOf k .later) (corner j)
+        → along (frameOf k .earlier) (corner i) < along (frameOf k .earlier) (corner j) → SomeMissing s t
+    unfolding frameOf along rightOf leftOf
+    apart-gap zero i j e f r l =
+        gap (rightOf (corner i) 1) (leftOf (corner j) 1) (rightOf (corner j) 1) (between-row _ _ _ (omega arith) (omega arith) (omega arith) (omega arith) (omega arith))
+        (right-in s t h up 1 i e) (left-out s t h up 1 j f) (right-in s t h up 1 j f)
+    apart-gap (suc zero) i j e f r l =
+        gap (rightOf (corner j) 0) (leftOf (corner j) 0) (rightOf (corner i) 0) (between-col _ _ _ (omega arith) (omega arith) (omega arith) (omega arith) (omega arith))
+        (right-in s t h up 0 j f) (left-out s t h up 0 j f) (right-in s t h up 0 i e)
+    apart-gap (suc (suc zero)) i j e f r l =
+        let level : corner i .row ≡ corner j .row = omega (arith, h .walked .row-le i (omega arith), h .walked .row-le j (omega arith)) in
+        gap (rightOf (corner j) 3) (leftOf (corner j) 3) (rightOf (corner i) 3) (between-row _ _ _ (omega arith) (omega arith) (omega arith) (omega arith) (omega arith))
+        (right-in s t h up 3 j f) (left-out s t h up 3 j f) (right-in s t h up 3 i e)
+    apart-gap (suc (suc (suc k))) i j e f r l =
+        let level : corner i .col ≡ corner j .col = omega (arith, h .walked .col-le i (omega arith), h .walked .col-le j (omega arith)) in
+        gap (rightOf (corner i) 2) (leftOf (corner j) 2) (rightOf (corner j) 2) (between-col _ _ _ (omega arith) (omega arith) (omega arith) (omega arith) (omega arith))
+        (right-in s t h up 2 i e) (left-out s t h up 2 j f) (right-in s t h up 2 j f)
 
-    left-out : (a i : ℕ) → LetterAt t a i → Out s t (leftOf (corner i) a)
-    left-out a i e = subst (λ (b : ℕ). Out s t (leftOf (corner i) b)) (e .1) (clockwise-left s t (h .walked) 0 (turn-lowest s t h) up i (e .0))
+    -- At two places of one line, for corners at two places differ
+    pub twice : (k i j : ℕ) → LetterAt t (frameOf k .later) i → LetterAt t (frameOf k .later) j → i ≢ j
+        → along (frameOf k .later) (corner i) ≡ along (frameOf k .later) (corner j) → SomeMissing s t
+    twice k i j e f n r =
+        elim (decLt (along (frameOf k .earlier) (corner i)) (along (frameOf k .earlier) (corner j))) [
+          | yes l ↦ apart-gap k i j e f r l
+          | no l ↦
+              elim (decLt (along (frameOf k .earlier) (corner j)) (along (frameOf k .earlier) (corner i))) [
+                | yes m ↦ apart-gap k j i f e (sym r) m
+                | no m ↦
+                    absurd (n (corner-injective s t (h .walked) i j (e .0) (f .0)
+                    (along-injective k (corner i) (corner j) (on-chart s t (h .walked) i (omega arith)) (on-chart s t (h .walked) j (omega arith)) (omega arith) r)))
+              ]
+        ]
 
-    -- Two of the same letter
-    ups-gap : (i j : ℕ) → LetterAt t 1 i → LetterAt t 1 j → corner i .row ≡ corner j .row → corner i .col < corner j .col → SomeMissing s t
-    unfolding rightOf leftOf
-    ups-gap i j e f r l =
-        row-gap (rightOf (corner i) 1) (leftOf (corner j) 1) (rightOf (corner j) 1) (omega arith) (omega arith) (omega arith) (omega arith)
-        (right-in 1 i e) (left-out 1 j f) (right-in 1 j f)
-
-    downs-gap : (i j : ℕ) → LetterAt t 3 i → LetterAt t 3 j → corner i .row ≡ corner j .row → corner i .col < corner j .col → SomeMissing s t
-    unfolding rightOf leftOf
-    downs-gap i j e f r l =
-        row-gap (rightOf (corner i) 3) (leftOf (corner i) 3) (rightOf (corner j) 3) (omega arith) (omega arith) (omega arith) (omega arith)
-        (right-in 3 i e) (left-out 3 i e) (right-in 3 j f)
-
-    rights-gap : (i j : ℕ) → LetterAt t 0 i → LetterAt t 0 j → corner i .col ≡ corner j .col → corner i .row < corner j .row → SomeMissing s t
-    unfolding rightOf leftOf
-    rights-gap i j e f c l =
-        col-gap (rightOf (corner i) 0) (leftOf (corner i) 0) (rightOf (corner j) 0) (omega arith) (omega arith) (omega arith) (omega arith)
-        (right-in 0 i e) (left-out 0 i e) (right-in 0 j f)
-
-    lefts-gap : (i j : ℕ) → LetterAt t 2 i → LetterAt t 2 j → corner i .col ≡ corner j .col → corner i .row < corner j .row → SomeMissing s t
-    unfolding rightOf leftOf
-    lefts-gap i j e f c l =
-        col-gap (rightOf (corner i) 2) (leftOf (corner j) 2) (rightOf (corner j) 2) (omega arith) (omega arith) (omega arith) (omega arith)
-        (right-in 2 i e) (left-out 2 j f) (right-in 2 j f)
+    -- The later letter, and the letter back across the same line that is not further along the earlier letter
+    pub back-gap : (k i j : ℕ) → LetterAt t (frameOf k .later) i → LetterAt t (opposite (frameOf k .later)) j
+        → along (frameOf k .later) (corner i) + 1 ≡ along (frameOf k .later) (corner j) → along (frameOf k .earlier) (corner j) ≤ along (frameOf k .earlier) (corner i) → SomeMissing s t
+    unfolding frameOf along opposite rightOf leftOf
+    back-gap zero i j e f r l =
+        gap (rightOf (corner j) 3) (leftOf (corner i) 1) (rightOf (corner i) 1) (between-row _ _ _ (omega arith) (omega arith) (omega arith) (omega arith) (omega arith))
+        (right-in s t h up 3 j f) (left-out s t h up 1 i e) (right-in s t h up 1 i e)
+    back-gap (suc zero) i j e f r l =
+        let below : corner i .row ≤ corner j .row = omega (arith, h .walked .row-le i (omega arith)) in
+        gap (rightOf (corner i) 0) (leftOf (corner j) 2) (rightOf (corner j) 2) (between-col _ _ _ (omega arith) (omega arith) (omega arith) (omega arith) (omega arith))
+        (right-in s t h up 0 i e) (left-out s t h up 2 j f) (right-in s t h up 2 j f)
+    back-gap (suc (suc zero)) i j e f r l =
+        let left : corner i .col ≤ corner j .col = omega (arith, h .walked .col-le i (omega arith)) in
+        let level : corner i .row ≡ corner j .row + 1 = omega (arith, h .walked .row-le i (omega arith), h .walked .row-le j (omega arith)) in
+        gap (rightOf (corner i) 3) (leftOf (corner j) 1) (rightOf (corner j) 1) (between-row _ _ _ (omega arith) (omega arith) (omega arith) (omega arith) (omega arith))
+        (right-in s t h up 3 i e) (left-out s t h up 1 j f) (right-in s t h up 1 j f)
+    back-gap (suc (suc (suc k))) i j e f r l =
+        let level : corner i .col ≡ corner j .col + 1 = omega (arith, h .walked .col-le i (omega arith), h .walked .col-le j (omega arith)) in
+        gap (rightOf (corner j) 0) (leftOf (corner i) 2) (rightOf (corner i) 2) (between-col _ _ _ (omega arith) (omega arith) (omega arith) (omega arith) (omega arith))
+        (right-in s t h up 0 j f) (left-out s t h up 2 i e) (right-in s t h up 2 i e)
 
     -- An up, and a down along the same row that is not to its right
     pub up-down : (i j : ℕ) → LetterAt t 1 i → LetterAt t 3 j → corner i .row + 1 ≡ corner j .row → corner j .col ≤ corner i .col → SomeMissing s t
-    unfolding rightOf leftOf
-    up-down i j e f r l =
-        row-gap (rightOf (corner j) 3) (leftOf (corner i) 1) (rightOf (corner i) 1) (omega arith) (omega arith) (omega arith) (omega arith)
-        (right-in 3 j f) (left-out 1 i e) (right-in 1 i e)
+    unfolding frameOf along opposite
+    up-down i j e f r l = back-gap 0 i j e f r l
 
     -- A right, and a left along the same column that is not below it
     pub right-left : (i j : ℕ) → LetterAt t 0 i → LetterAt t 2 j → corner i .col + 1 ≡ corner j .col → corner i .row ≤ corner j .row → SomeMissing s t
-    unfolding rightOf leftOf
-    right-left i j e f c l =
-        col-gap (rightOf (corner i) 0) (leftOf (corner j) 2) (rightOf (corner j) 2) (omega arith) (omega arith) (omega arith) (omega arith)
-        (right-in 0 i e) (left-out 2 j f) (right-in 2 j f)
-
-    -- Corners at two places differ: in one row by their columns, in one column by their rows
-    row-sides : (i j : ℕ) → i < length t → j < length t → i ≢ j → corner i .row ≡ corner j .row
-        → (corner i .col < corner j .col → SomeMissing s t) → (corner j .col < corner i .col → SomeMissing s t) → SomeMissing s t
-    row-sides i j l m n r a b =
-        elim (decLt (corner i .col) (corner j .col)) [
-          | yes x ↦ a x
-          | no x ↦
-              elim (decLt (corner j .col) (corner i .col)) [
-                | yes y ↦ b y
-                | no y ↦ absurd (n (corner-injective s t (h .walked) i j l m (point-eq (corner i) (corner j) (omega arith) r)))
-              ]
-        ]
-
-    col-sides : (i j : ℕ) → i < length t → j < length t → i ≢ j → corner i .col ≡ corner j .col
-        → (corner i .row < corner j .row → SomeMissing s t) → (corner j .row < corner i .row → SomeMissing s t) → SomeMissing s t
-    col-sides i j l m n c a b =
-        elim (decLt (corner i .row) (corner j .row)) [
-          | yes x ↦ a x
-          | no x ↦
-              elim (decLt (corner j .row) (corner i .row)) [
-                | yes y ↦ b y
-                | no y ↦ absurd (n (corner-injective s t (h .walked) i j l m (point-eq (corner i) (corner j) c (omega arith))))
-              ]
-        ]
-
-    -- A frame's later letter at two places, from one line to the next
-    pub twice : (k i j : ℕ) → LetterAt t (frameOf k .later) i → LetterAt t (frameOf k .later) j → i ≢ j
-        → along (frameOf k .later) (corner i) ≡ along (frameOf k .later) (corner j) → SomeMissing s t
-    unfolding frameOf along
-    twice zero i j e f n r = row-sides i j (e .0) (f .0) n r (ups-gap i j e f r) (ups-gap j i f e (sym r))
-    twice (suc zero) i j e f n c = col-sides i j (e .0) (f .0) n c (rights-gap i j e f c) (rights-gap j i f e (sym c))
-    twice (suc (suc zero)) i j e f n q =
-        let r : corner i .row ≡ corner j .row = omega (arith, h .walked .row-le i (omega arith), h .walked .row-le j (omega arith)) in
-        row-sides i j (e .0) (f .0) n r (downs-gap i j e f r) (downs-gap j i f e (sym r))
-    twice (suc (suc (suc k))) i j e f n q =
-        let c : corner i .col ≡ corner j .col = omega (arith, h .walked .col-le i (omega arith), h .walked .col-le j (omega arith)) in
-        col-sides i j (e .0) (f .0) n c (lefts-gap i j e f c) (lefts-gap j i f e (sym c))
+    unfolding frameOf along opposite
+    right-left i j e f c l = back-gap 1 i j e f c (omega arith)

@@ -12,18 +12,19 @@ use lib.ListN.{length, getD, take, drop, length-append, length-drop, take-append
 use lib.Seq.{getD-at, take-at, drop-at}
 use lib.Dec.{leb, eqb, eqb·suc-suc}
 use borrow.Author.Tests.{lt-leb, eqb-false, ne-eqb, eqb-true, eq-eqb}
-use Rattle.lattice.specs.Limits.{side}
-use Rattle.lattice.specs.declared.Point.{Point}
+use Rattle.chart.specs.Limits.{side}
+use Rattle.chart.specs.declared.Point.{Point}
 use Rattle.lattice.specs.Chart.{step, leaves, walk, cornerAt}
 use Rattle.lattice.specs.Enclosed.{count, upAlong, downAlong, ups, downs, encloses}
 use Rattle.lattice.specs.Refusals.{Simple}
-use Rattle.lattice.proofs.WalkLaws.{Walked, walked, simple-of-walked, point, point-eq, walk-append, corner-zero, corner-suc, corner-all, corner-injective, rotation, length-rotation, letter-rotation-before}
-use Rattle.lattice.proofs.Jumps.{Stays}
+use Rattle.lattice.proofs.WalkLaws.{Walked, OnChart, walked, simple-of-walked, point, point-eq, walk-append, corner-zero, corner-suc, corner-all, corner-injective, rotation, length-rotation, letter-rotation-before}
+use Rattle.lattice.proofs.Jumps.{tally, tally-append, Stays}
 use Rattle.lattice.proofs.RightHand.{Lowest, place-before, leaving-lowest, arriving-up, arriving-right}
 use Rattle.convexity.specs.Frame.{frameOf, along}
 use Rattle.convexity.specs.Cut.{before, westPlace, west, turn, clockwise}
-use Rattle.convexity.specs.Reading.{opposite, backward, reading}
-use Rattle.convexity.proofs.Extreme.{FirstAt, first-at-cornerPlace, not-before-earlier, not-before-later, OnChart, on-chart}
+use Rattle.convexity.specs.Reading.{opposite, backward, rightHanded}
+use Rattle.convexity.proofs.Levels.{first-lowest, ups-tally, downs-tally}
+use Rattle.convexity.proofs.Extreme.{FirstAt, first-at-cornerPlace, not-before-earlier, not-before-later, on-chart}
 
 -- ---- one letter back
 
@@ -167,15 +168,7 @@ unfolding westPlace
 west-first s w t = first-at-cornerPlace s w 0 (omega (arith, t .long))
 
 west-lowest : (s : Point) (w : List ℕ) → Walked s w → Lowest s w (westPlace s w)
-unfolding frameOf along
-west-lowest s w t =
-    let k = westPlace s w in
-    let f = west-first s w t in
-    record {
-      below = f .below;
-      least-col = λ i l. not-before-earlier (frameOf 0) (cornerAt s w i) (cornerAt s w k) (f .none i l);
-      least-row = λ i l. not-before-later (frameOf 0) (cornerAt s w i) (cornerAt s w k) (f .none i l);
-    }
+west-lowest s w t = first-lowest s w (westPlace s w) (west-first s w t)
 
 -- The letter that leaves W
 leaving-west : (s : Point) (w : List ℕ) → Walked s w → getD (turn s w) 0 0 ≡ getD w (westPlace s w) 0
@@ -264,16 +257,6 @@ down-back p (suc (suc zero)) c r l e = refl
 down-back p (suc (suc (suc zero))) c r l e = refl
 down-back p (suc (suc (suc (suc a)))) c r l e = absurd (omega arith)
 
-ups-append : (p : Point) (u v : List ℕ) (c r : ℕ) → ups p (u ++ v) c r ≡ ups p u c r + ups (walk p u) v c r
-unfolding ups walk
-ups-append p [] v c r = omega arith
-ups-append p (a ∷ u) v c r = omega (arith, ups-append (step p a) u v c r)
-
-downs-append : (p : Point) (u v : List ℕ) (c r : ℕ) → downs p (u ++ v) c r ≡ downs p u c r + downs (walk p u) v c r
-unfolding downs walk
-downs-append p [] v c r = omega arith
-downs-append p (a ∷ u) v c r = omega (arith, downs-append (step p a) u v c r)
-
 -- Letters that can be taken back, one by one: each is a letter and stays on the chart
 record Kept (p : Point) (w : List ℕ) : Type 0 where
   letter : (i : ℕ) → i < length w → getD w i 0 < 4
@@ -296,33 +279,27 @@ walk-back p (a ∷ w) k =
     ∙ ap (λ (q : Point). step q (opposite a)) (walk-back (step p a) w (kept-rest p a w k))
     ∙ step-back p a l e
 
-ups-back : (p : Point) (w : List ℕ) (c r : ℕ) → Kept p w → ups (walk p w) (backward w) c r ≡ downs p w c r
-unfolding walk backward ups downs
-ups-back p [] c r k = refl
-ups-back p (a ∷ w) c r k =
+-- A test of the letters backwards counts what its counterpart counts of the letters as sent
+tally-back :
+    (f g : Point → ℕ → Bool) → ((p : Point) (a : ℕ) → a < 4 → leaves p a ≡ false → f (step p a) (opposite a) ≡ g p a)
+    → (p : Point) (w : List ℕ) → Kept p w → tally f (walk p w) (backward w) ≡ tally g p w
+unfolding walk backward tally
+tally-back f g same p [] k = refl
+tally-back f g same p (a ∷ w) k =
     let (l, e) = kept-first p a w k in
     let rest = kept-rest p a w k in
     omega (
       arith,
-      ups-append (walk (step p a) w) (backward w) (opposite a ∷ []) c r,
-      ap (λ (q : Point). ups q (opposite a ∷ []) c r) (walk-back (step p a) w rest),
-      ap count (up-back p a c r l e),
-      ups-back (step p a) w c r rest,
+      tally-append f (walk (step p a) w) (backward w) (opposite a ∷ []),
+      ap (λ (q : Point). tally f q (opposite a ∷ [])) (walk-back (step p a) w rest),
+      ap count (same p a l e),
+      tally-back f g same (step p a) w rest,
     )
 
-downs-back : (p : Point) (w : List ℕ) (c r : ℕ) → Kept p w → downs (walk p w) (backward w) c r ≡ ups p w c r
-unfolding walk backward ups downs
-downs-back p [] c r k = refl
-downs-back p (a ∷ w) c r k =
-    let (l, e) = kept-first p a w k in
-    let rest = kept-rest p a w k in
-    omega (
-      arith,
-      downs-append (walk (step p a) w) (backward w) (opposite a ∷ []) c r,
-      ap (λ (q : Point). downs q (opposite a ∷ []) c r) (walk-back (step p a) w rest),
-      ap count (down-back p a c r l e),
-      downs-back (step p a) w c r rest,
-    )
+tally-closed :
+    (f g : Point → ℕ → Bool) → ((p : Point) (a : ℕ) → a < 4 → leaves p a ≡ false → f (step p a) (opposite a) ≡ g p a)
+    → (p : Point) (w : List ℕ) → Kept p w → walk p w ≡ p → tally f p (backward w) ≡ tally g p w
+tally-closed f g same p w k e = ap (λ (q : Point). tally f q (backward w)) (sym e) ∙ tally-back f g same p w k
 
 -- ---- the turn
 
@@ -410,10 +387,10 @@ module _ (s : Point) (w : List ℕ) (h : Simple s w) where
 
   -- Ups and downs change places
   pub ups-backward : (c r : ℕ) → ups s (backward w) c r ≡ downs s w c r
-  ups-backward c r = ap (λ (p : Point). ups p (backward w) c r) (sym (walked s w h .closed)) ∙ ups-back s w c r kept
+  ups-backward c r = ups-tally s (backward w) c r ∙ tally-closed _ _ (λ p a. up-back p a c r) s w kept (walked s w h .closed) ∙ sym (downs-tally s w c r)
 
   pub downs-backward : (c r : ℕ) → downs s (backward w) c r ≡ ups s w c r
-  downs-backward c r = ap (λ (p : Point). downs p (backward w) c r) (sym (walked s w h .closed)) ∙ downs-back s w c r kept
+  downs-backward c r = downs-tally s (backward w) c r ∙ tally-closed _ _ (λ p a. down-back p a c r) s w kept (walked s w h .closed) ∙ sym (ups-tally s w c r)
 
   -- Backwards it encloses the cells of which downs less ups is 1
   pub encloses-backward : (c r : ℕ) → encloses s (backward w) c r ≡ eqb (downs s w c r) (ups s w c r + 1)
@@ -422,48 +399,48 @@ module _ (s : Point) (w : List ℕ) (h : Simple s w) where
 
 -- ---- the reading
 
-pub reading-clockwise : (s : Point) (w : List ℕ) → clockwise (turn s w) ≡ true → reading s w ≡ w
-unfolding reading
+pub reading-clockwise : (s : Point) (w : List ℕ) → clockwise (turn s w) ≡ true → rightHanded s w ≡ w
+unfolding rightHanded
 reading-clockwise s w e = rw e
 
-pub reading-backward : (s : Point) (w : List ℕ) → clockwise (turn s w) ≡ false → reading s w ≡ backward w
-unfolding reading
+pub reading-backward : (s : Point) (w : List ℕ) → clockwise (turn s w) ≡ false → rightHanded s w ≡ backward w
+unfolding rightHanded
 reading-backward s w e = rw e
 
 -- What holds of the letters where they are clockwise, and backwards where they are not, holds of the reading
-by-reading : (s : Point) (w : List ℕ) (P : List ℕ → Type 0) → (clockwise (turn s w) ≡ true → P w) → (clockwise (turn s w) ≡ false → P (backward w)) → P (reading s w)
+by-reading : (s : Point) (w : List ℕ) (P : List ℕ → Type 0) → (clockwise (turn s w) ≡ true → P w) → (clockwise (turn s w) ≡ false → P (backward w)) → P (rightHanded s w)
 by-reading s w P on back = go (clockwise (turn s w)) refl
   where
-    go : (b : Bool) → clockwise (turn s w) ≡ b → P (reading s w)
+    go : (b : Bool) → clockwise (turn s w) ≡ b → P (rightHanded s w)
     go true e = subst P (sym (reading-clockwise s w e)) (on e)
     go false e = subst P (sym (reading-backward s w e)) (back e)
 
-pub length-reading : (s : Point) (w : List ℕ) → length (reading s w) ≡ length w
+pub length-reading : (s : Point) (w : List ℕ) → length (rightHanded s w) ≡ length w
 length-reading s w = by-reading s w (λ v. length v ≡ length w) (λ e. refl) (λ e. length-backward w)
 
 module _ (s : Point) (w : List ℕ) (h : Simple s w) where
   -- The reading passes refusals 1 to 7, with the same W
-  pub simple-reading : Simple s (reading s w)
+  pub simple-reading : Simple s (rightHanded s w)
   simple-reading = by-reading s w (Simple s) (λ e. h) (λ e. simple-backward s w h)
 
-  pub west-reading : west s (reading s w) ≡ west s w
+  pub west-reading : west s (rightHanded s w) ≡ west s w
   west-reading = by-reading s w (λ v. west s v ≡ west s w) (λ e. refl) (λ e. west-backward s w h)
 
-  pub clockwise-reading : clockwise (turn s (reading s w)) ≡ true
+  pub clockwise-reading : clockwise (turn s (rightHanded s w)) ≡ true
   clockwise-reading = by-reading s w (λ v. clockwise (turn s v) ≡ true) (λ e. e) (clockwise-backward s w h)
 
   -- Its turn is the turn, forward or backward
-  pub turn-reading : turn s (reading s w) ≡ cond (clockwise (turn s w)) (turn s w) (backward (turn s w))
+  pub turn-reading : turn s (rightHanded s w) ≡ cond (clockwise (turn s w)) (turn s w) (backward (turn s w))
   turn-reading =
       by-reading s w (λ v. turn s v ≡ cond (clockwise (turn s w)) (turn s w) (backward (turn s w))) (λ e. rw e) (λ e. rw e (turn-backward s w h))
 
   -- Letters sent backwards have the same reading
-  pub reading-of-backward : reading s (backward w) ≡ reading s w
+  pub reading-of-backward : rightHanded s (backward w) ≡ rightHanded s w
   reading-of-backward =
-      by-reading s w (λ v. reading s (backward w) ≡ v)
+      by-reading s w (λ v. rightHanded s (backward w) ≡ v)
       (λ e. reading-backward s (backward w) (anticlockwise-backward s w h e) ∙ backward-backward s w h)
       (λ e. reading-clockwise s (backward w) (clockwise-backward s w h e))
 
   -- The reading of a reading is that reading
-  pub reading-reading : reading s (reading s w) ≡ reading s w
-  reading-reading = reading-clockwise s (reading s w) clockwise-reading
+  pub reading-reading : rightHanded s (rightHanded s w) ≡ rightHanded s w
+  reading-reading = reading-clockwise s (rightHanded s w) clockwise-reading

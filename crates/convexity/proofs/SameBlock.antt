@@ -9,23 +9,23 @@ use mathlib.Core.Bool.{true, false, cond}
 use mathlib.Core.List.{List}
 use lib.ListN.{length, getD}
 use lib.Seq.{ext-getD}
-use borrow.Author.Tests.{leb-false, eqb-true, eqb-false, eq-eqb, ne-eqb}
-use Rattle.lattice.specs.Limits.{side}
-use Rattle.lattice.specs.declared.Point.{Point}
+use borrow.Author.Tests.{leb-false, eqb-false, ne-eqb}
+use Rattle.chart.specs.Limits.{side}
+use Rattle.chart.specs.declared.Point.{Point}
 use Rattle.lattice.specs.Chart.{step, leaves, walk, cornerAt}
 use Rattle.lattice.specs.Enclosed.{ups, downs, encloses}
 use Rattle.lattice.specs.Refusals.{Simple}
 use Rattle.lattice.proofs.WalkLaws.{Walked, walked, point, point-eq, corner-zero, corner-suc, corner-all, corner-injective, rotation, length-rotation, corner-rotation-before, corner-rotation-after, turned, rotated, rotated-simple}
 use Rattle.lattice.proofs.Jumps.{rises, falls, upsTo, downsTo, upsAt, rightsAt, leftsAt, ups-to, downs-to, ups-jump-vertical, downs-jump-vertical, ups-column-zero, downs-column-zero, ups-row-zero, downs-row-zero, jump-horizontal, ups-found, downs-found, rights-found, lefts-found, ups-none, rights-none, lefts-none}
-use Rattle.lattice.proofs.RightHand.{leftOf, rightOf, OneAbove, left-hand, level, clockwise-right, tally-rotation}
+use Rattle.lattice.proofs.RightHand.{leftOf, rightOf, OneAbove, left-hand, level, tally-rotation}
 use Rattle.convexity.specs.Frame.{frameOf}
 use Rattle.convexity.specs.Cut.{before, westPlace, west, turn, clockwise}
 use Rattle.convexity.specs.Pieces.{Reaches, dentPiece, edges}
 use Rattle.convexity.specs.Inside.{insideEdges}
-use Rattle.convexity.specs.Reading.{backward, reading}
+use Rattle.convexity.specs.Reading.{backward, rightHanded}
 use Rattle.convexity.proofs.Quadrant.{Turn}
 use Rattle.convexity.proofs.Extreme.{turn-of}
-use Rattle.convexity.proofs.PathCells.{turn-lowest, left-of-anchor, below-anchor}
+use Rattle.convexity.proofs.Levels.{enclosed-level, level-enclosed, leaves-upwards, turn-lowest, left-of-anchor, below-anchor, anchor-lowest}
 use Rattle.convexity.proofs.Sent.{encloses-turn, edges-answer-sent}
 use Rattle.convexity.proofs.Reading.{first-unique, west-first, simple-reading, west-reading, clockwise-reading, turn-reading}
 
@@ -126,23 +126,7 @@ record UpTurn (s : Point) (t : List ℕ) : Type 0 where
 abbrev pub SameCells : Point → List ℕ → Point → List ℕ → Type 0
 SameCells s w s′ w′ = (c r : ℕ) → encloses s w c r ≡ encloses s′ w′ c r
 
-enclosed-level : (s : Point) (t : List ℕ) (c r : ℕ) → encloses s t c r ≡ true → upsTo s t (suc c) (suc r) ≡ downsTo s t (suc c) (suc r) + 1
-unfolding encloses
-enclosed-level s t c r e = omega (arith, eqb-true (ups s t c r) (downs s t c r + 1) e, ups-to s t c r, downs-to s t c r)
-
-level-enclosed : (s : Point) (t : List ℕ) (c r : ℕ) → upsTo s t (suc c) (suc r) ≡ downsTo s t (suc c) (suc r) + 1 → encloses s t c r ≡ true
-unfolding encloses
-level-enclosed s t c r e = eq-eqb (ups s t c r) (downs s t c r + 1) (omega (arith, ups-to s t c r, downs-to s t c r))
-
 module _ (s : Point) (t : List ℕ) (d : UpTurn s t) where
-  -- The cell at W is enclosed
-  west-enclosed : encloses s t (s .col) (s .row) ≡ true
-  unfolding rightOf leftOf
-  west-enclosed =
-      let cell : rightOf (cornerAt s t 0) (getD t 0 0) ≡ point (suc (s .col)) (suc (s .row)) = λ z. rightOf (corner-zero s t z) (d .up z) in
-      level-enclosed s t (s .col) (s .row)
-      (rw cell at (clockwise-right s t (d .turn .walked) 0 (turn-lowest s t (d .turn)) (d .up) 0 (turn-lowest s t (d .turn) .below)))
-
   -- No enclosed cell comes before it
   west-left : (c r : ℕ) → encloses s t c r ≡ true → s .col ≤ c
   west-left c r e =
@@ -162,8 +146,8 @@ module _ (s : Point) (t : List ℕ) (s′ : Point) (t′ : List ℕ) (d : UpTurn
   -- The cell at W is the same
   same-start : s ≡ s′
   same-start =
-      let here : encloses s′ t′ (s .col) (s .row) ≡ true = sym (same (s .col) (s .row)) ∙ west-enclosed s t d in
-      let there : encloses s t (s′ .col) (s′ .row) ≡ true = same (s′ .col) (s′ .row) ∙ west-enclosed s′ t′ d′ in
+      let here : encloses s′ t′ (s .col) (s .row) ≡ true = sym (same (s .col) (s .row)) ∙ anchor-lowest s t (d .turn) (d .up) .enclosed in
+      let there : encloses s t (s′ .col) (s′ .row) ≡ true = same (s′ .col) (s′ .row) ∙ anchor-lowest s′ t′ (d′ .turn) (d′ .up) .enclosed in
       let c : s .col ≡ s′ .col = omega (arith, west-left s′ t′ d′ (s .col) (s .row) here, west-left s t d (s′ .col) (s′ .row) there) in
       point-eq s s′ c (omega (arith, west-low s t d (s′ .col) (s′ .row) (sym c) there, west-low s′ t′ d′ (s .col) (s .row) c here))
 
@@ -183,9 +167,9 @@ module _ (s : Point) (t : List ℕ) (s′ : Point) (t′ : List ℕ) (d : UpTurn
         | inl f ↦
             elim (level s′ t′ (d′ .turn .walked) 0 (turn-lowest s′ t′ (d′ .turn)) (d′ .up) (suc c) (suc r)) [
               | inl g ↦ omega arith
-              | inr g ↦ absurd (omega (arith, enclosed-level s t c r (same c r ∙ level-enclosed s′ t′ c r g)))
+              | inr g ↦ absurd (omega (arith, enclosed-level s t (point c r) (same c r ∙ level-enclosed s′ t′ (point c r) g)))
             ]
-        | inr f ↦ omega (arith, enclosed-level s′ t′ c r (sym (same c r) ∙ level-enclosed s t c r f))
+        | inr f ↦ omega (arith, enclosed-level s′ t′ (point c r) (sym (same c r) ∙ level-enclosed s t (point c r) f))
       ]
 
   same-letters : t ≡ t′
@@ -240,8 +224,7 @@ module _ (s : Point) (w : List ℕ) (t : Walked s w) where
 -- ---- outlines as sent, past refusals 1 to 6 and clockwise
 
 up-turn : (s : Point) (w : List ℕ) → Simple s w → clockwise (turn s w) ≡ true → UpTurn (west s w) (turn s w)
-unfolding clockwise
-up-turn s w h c = record { turn = turn-of s w h; up = eqb-true (getD (turn s w) 0 0) 1 c }
+up-turn s w h c = record { turn = turn-of s w h; up = leaves-upwards (turn s w) c }
 
 module _ (s : Point) (w : List ℕ) (s′ : Point) (w′ : List ℕ) (h : Simple s w) (h′ : Simple s′ w′)
     (c : clockwise (turn s w) ≡ true) (c′ : clockwise (turn s′ w′) ≡ true) (same : SameCells s w s′ w′) where
@@ -293,14 +276,14 @@ module _ (s : Point) (w : List ℕ) (s′ : Point) (w′ : List ℕ) (h : Reache
 module _ (s : Point) (w : List ℕ) (s′ : Point) (w′ : List ℕ) (h : Simple s w) (h′ : Simple s′ w′) where
   -- Readings of the same cells have the same W and the same turn, and the other way round
   pub same-reading :
-      SameCells s (reading s w) s′ (reading s′ w′) ↔ ((west s w ≡ west s′ w′) × (turn s (reading s w) ≡ turn s′ (reading s′ w′)))
+      SameCells s (rightHanded s w) s′ (rightHanded s′ w′) ↔ ((west s w ≡ west s′ w′) × (turn s (rightHanded s w) ≡ turn s′ (rightHanded s′ w′)))
   same-reading = (there, back)
     where
       v : List ℕ
-      v = reading s w
+      v = rightHanded s w
 
       v′ : List ℕ
-      v′ = reading s′ w′
+      v′ = rightHanded s′ w′
 
       there : SameCells s v s′ v′ → (west s w ≡ west s′ w′) × (turn s v ≡ turn s′ v′)
       there e =
@@ -379,7 +362,7 @@ module _ (s : Point) (w : List ℕ) (h : Simple s w) (k : ℕ) (b : k ≤ length
       (subst (λ (q : Point). SameLevels (west p v) (turn p v) q (turn s w)) (sym west-rotation) same)
 
   -- The reading encloses the same cells wherever the pen began
-  pub reading-rotation : SameCells (cornerAt s w k) (reading (cornerAt s w k) (rotation k w)) s (reading s w)
+  pub reading-rotation : SameCells (cornerAt s w k) (rightHanded (cornerAt s w k) (rotation k w)) s (rightHanded s w)
   reading-rotation =
       let h′ = rotated-simple s w k b h in
       same-reading (cornerAt s w k) (rotation k w) s w h′ h .1 (

@@ -3,23 +3,23 @@ use Prim.Native.Nat.{ℕ, _≤_, _<_}
 use mathlib.Core.Path.{_≡_, _∙_, sym, ap, subst₂}
 use mathlib.Core.Logic.{_↔_}
 use mathlib.Core.List.{List}
-use mathlib.Core.Bool.{true, false}
-use Rattle.lattice.specs.declared.Point.{Point}
+use lib.Dec.{lit<}
+use Rattle.chart.specs.declared.Point.{Point}
 use Rattle.lattice.specs.Chart.{cornerAt}
 use Rattle.lattice.specs.Enclosed.{encloses}
 use Rattle.lattice.specs.Hull.{InHull, Missing, LowestMissing}
 use Rattle.lattice.specs.Refusals.{Simple}
-use Rattle.lattice.specs.Search.{missingCell}
+use Rattle.rows.specs.Search.{missingCell}
 use Rattle.lattice.proofs.WalkLaws.{walked}
 use Rattle.lattice.proofs.RightHand.{encloses-rotation}
-use Rattle.convexity.specs.Cut.{west, turn, westPlace, cut, cornerPlace}
+use Rattle.convexity.specs.Cut.{west, turn, westPlace, cornerPlace, cutCorner}
 use Rattle.convexity.specs.Pieces.{Reaches, IsAnchor, dentPiece, edges, edgeCount}
 use Rattle.convexity.specs.Inside.{insideEdges}
-use Rattle.convexity.proofs.Quadrant.{Clear, Shape}
+use Rattle.convexity.proofs.Quadrant.{NoBackStep}
 use Rattle.convexity.proofs.Extreme.{turn-of}
 use Rattle.convexity.proofs.Shape.{shape, straight-of}
 use Rattle.convexity.proofs.RowEnds.{bottom, top}
-use Rattle.convexity.proofs.PathCells.{anchor-lowest}
+use Rattle.convexity.proofs.Levels.{leaves-upwards, anchor-lowest}
 use Rattle.convexity.proofs.Bounds.{edges-bounded}
 use Rattle.convexity.proofs.Theorem.{edges-answer, dent-iff-missing, search-finds}
 
@@ -29,7 +29,7 @@ module _ (s : Point) (w : List ℕ) where
   unfolding west turn
   encloses-turn h c r = encloses-rotation s w (westPlace s w) (walked s w h .closed) c r
 
-  pub clear-of : Reaches s w → Clear (west s w) (turn s w)
+  pub clear-of : Reaches s w → NoBackStep (west s w) (turn s w)
   clear-of h =
       record { turn = turn-of s w (h .simple); clockwise = h .clockwise; straight = straight-of (west s w) (turn s w) (h .straight) }
 
@@ -83,6 +83,7 @@ module _ (s : Point) (w : List ℕ) where
         → LowestMissing s w
         (missingCell (west s w) (turn s w) (cornerAt (west s w) (turn s w) (cornerPlace (west s w) (turn s w) 3) .row)
         (cornerAt (west s w) (turn s w) (cornerPlace (west s w) (turn s w) 1) .row))
+    unfolding cutCorner
     named-lowest d =
         let f = shape (west s w) (turn s w) (clear-of h) in
         let found = search-finds (west s w) (turn s w) (clear-of h) d in
@@ -92,18 +93,18 @@ module _ (s : Point) (w : List ℕ) where
           lowest = λ y m. found .lowest y (missing-turn (h .simple) y .1 m);
         } in
         subst₂ (λ (b t : ℕ). LowestMissing s w (missingCell (west s w) (turn s w) b t))
-        (ap (λ (i : ℕ). cornerAt (west s w) (turn s w) i .row) (f .south))
-        (ap (λ (i : ℕ). cornerAt (west s w) (turn s w) i .row) (f .north))
+        (ap (λ (i : ℕ). cornerAt (west s w) (turn s w) i .row) (f .corners 3 (lit< tt)))
+        (ap (λ (i : ℕ). cornerAt (west s w) (turn s w) i .row) (f .corners 1 (lit< tt)))
         sent
 
     -- The cell at W is the lowest enclosed cell of the leftmost column
     pub west-anchor : IsAnchor s w (west s w)
     west-anchor =
-        let a = anchor-lowest (west s w) (turn s w) (clear-of h) (shape (west s w) (turn s w) (clear-of h)) in
+        let a = anchor-lowest (west s w) (turn s w) (turn-of s w (h .simple)) (leaves-upwards (turn s w) (h .clockwise)) in
         record {
           enclosed = sym (encloses-turn (h .simple) _ _) ∙ a .enclosed;
-          leftmost = λ c r l. sym (encloses-turn (h .simple) c r) ∙ a .left c r l;
-          lowest = λ r l. sym (encloses-turn (h .simple) _ r) ∙ a .below r l;
+          leftmost = λ c r l. sym (encloses-turn (h .simple) c r) ∙ a .leftmost c r l;
+          lowest = λ r l. sym (encloses-turn (h .simple) _ r) ∙ a .lowest r l;
         }
 
     -- A list of 1,016 edges has room for every outline

@@ -5,28 +5,31 @@ use native.Mathlib.Nat.{add-zero, add-suc}
 use native.Mathlib.Numerals.{one-add}
 use native.Mathlib.Decide.{decLt}
 use native.Mathlib.Omega.{arith}
-use mathlib.Core.Path.{_≡_, refl, sym, ap, _∙_, subst}
-use mathlib.Core.Logic.{_⊎_, inl, inr, ⊎-elim, _≢_}
+use mathlib.Core.Path.{_≡_, refl, sym, ap, _∙_}
+use mathlib.Core.Logic.{_⊎_, inl, inr, ⊎-elim}
 use mathlib.Core.Bool.{Bool, true, false, _||_}
-use mathlib.Core.List.{List, [], _∷_, _++_, map, append-nil, map-append}
+use mathlib.Core.List.{List, [], _∷_, _++_, map, append-nil}
 use lib.ListN.{length, getD, take, drop, length-append, length-take, length-drop, length-map, take-append-drop, List·getD-append, List·getD-map}
-use lib.Seq.{take-suc, take-all, take-take, take-append-le, drop-append-le, drop-cons, drop-length, drop-drop, getD-append-add, getD-append-seam, getD-take, getD-drop}
+use lib.Seq.{take-length, drop-cons, drop-length, drop-drop, getD-append-add, getD-append-seam, getD-take, getD-drop}
 use lib.Dec.{ltb, eqb}
-use borrow.Author.Tests.{ltb-false, le-leb, lt-leb, eqb-true, eq-eqb, ne-eqb, not-false}
+use borrow.Author.Tests.{ltb-false, eqb-true, eq-eqb, not-false}
 use Rattle.words.specs.Word.{Word, wordOf, earliers, laters}
-use Rattle.words.specs.Below.{first}
-use Rattle.words.proofs.BelowLaws.{first-le, first-before}
-use Rattle.words.proofs.Counts.{earliers-append, laters-append}
-use Rattle.lattice.specs.Limits.{side}
-use Rattle.lattice.specs.declared.Point.{Point}
+use Rattle.base.proofs.BelowLaws.{first-le, first-before}
+use Rattle.words.proofs.Counts.{earliers-take-suc, laters-take-suc}
+use Rattle.chart.specs.Limits.{side}
+use Rattle.chart.specs.declared.Point.{Point}
 use Rattle.lattice.specs.Chart.{cornerAt}
-use Rattle.lattice.proofs.WalkLaws.{Walked, corner-zero}
+use Rattle.lattice.proofs.WalkLaws.{Walked, OnChart}
 use Rattle.convexity.specs.Frame.{Frame, frameOf, along}
-use Rattle.convexity.specs.Cut.{cornerPlace, clockwise, ahead, cutCorner, cut}
+use Rattle.convexity.specs.Cut.{cutCorner, cut}
 use Rattle.convexity.specs.Pieces.{rounds, piece, stray, strayAt, strayPiece, word}
 use Rattle.convexity.specs.Quadrant.{spell, startOf, startE, startL}
-use Rattle.convexity.proofs.Quadrant.{Clear, Shape}
-use Rattle.convexity.proofs.Extreme.{FirstAt, first-at-cornerPlace, opposite, OnChart, on-chart, Moved, earlier-on, later-on, earlier-back, later-back, Bend, by-later, by-earlier, previous, corner-round, moves, bend}
+use Rattle.convexity.specs.Reading.{opposite}
+use Rattle.convexity.proofs.Ring.{next, next-lt, next-suc, below-four, round-ring, Apart, apart, Turns, turns, along-next}
+use Rattle.convexity.proofs.Quadrant.{NoBackStep, Shape}
+use Rattle.convexity.proofs.Levels.{leaves-upwards}
+use Rattle.convexity.proofs.Cuts.{ahead-round, cut-step, cut-zero, corner-west, cut-on, cut-round, cuts-rise, cuts-fit, piece-part, piece-length, piece-at, previous-zero, previous-pos, corner-first, corners-differ, coming-west, corner-after}
+use Rattle.convexity.proofs.Extreme.{FirstAt, on-chart, Moved, earlier-on, later-on, earlier-back, later-back, Bend, by-later, by-earlier, previous, corner-round, moves, bend}
 
 -- A test of the first piece with a back-step finds none
 pub straight-of : (s : Point) (t : List ℕ) → ltb (strayPiece s t) 4 ≡ false → strayPiece s t ≡ 4
@@ -37,55 +40,24 @@ straight-of s t e =
 -- ---- the letters of a frame
 
 -- a is one of the frame's letters
-abbrev pub LetterOf : Frame → ℕ → Type 0
+abbrev LetterOf : Frame → ℕ → Type 0
 LetterOf f a = (a ≡ f .earlier) ⊎ (a ≡ f .later)
 
-of-not-stray : (f : Frame) (a : ℕ) → stray f a ≡ false → LetterOf f a
+no-back-step-letter : (f : Frame) (a : ℕ) → stray f a ≡ false → LetterOf f a
 unfolding stray
-of-not-stray f a e = go (eqb a (f .earlier)) refl (not-false (eqb a (f .earlier) || eqb a (f .later)) e)
+no-back-step-letter f a e = go (eqb a (f .earlier)) refl (not-false (eqb a (f .earlier) || eqb a (f .later)) e)
   where
     go : (b : Bool) → eqb a (f .earlier) ≡ b → (b || eqb a (f .later)) ≡ true → LetterOf f a
     go true p q = inl (eqb-true a (f .earlier) p)
     go false p q = inr (eqb-true a (f .later) q)
 
--- The four letters of a frame's directions, on and back, differ
-record Apart (f : Frame) : Type 0 where
-  letters : f .earlier ≢ f .later
-  earlier-earlier : opposite (f .earlier) ≢ f .earlier
-  earlier-later : opposite (f .earlier) ≢ f .later
-  later-earlier : opposite (f .later) ≢ f .earlier
-  later-later : opposite (f .later) ≢ f .later
-
-apart : (k : ℕ) → Apart (frameOf k)
-unfolding frameOf opposite
-apart zero = omega arith
-apart (suc zero) = omega arith
-apart (suc (suc zero)) = omega arith
-apart (suc (suc (suc k))) = omega arith
-
--- g is f turned by a quarter
-record Turns (f g : Frame) : Type 0 where
-  earlier : g .earlier ≡ opposite (f .later)
-  later : g .later ≡ f .earlier
-  back : opposite (g .earlier) ≡ f .later
-
-turns : (k : ℕ) → k < 3 → Turns (frameOf k) (frameOf (suc k))
-unfolding frameOf opposite
-turns zero h = omega arith
-turns (suc zero) h = omega arith
-turns (suc (suc zero)) h = omega arith
-turns (suc (suc (suc k))) h = absurd (omega arith)
-
-turns-last : Turns (frameOf 3) (frameOf 0)
-unfolding frameOf opposite
-turns-last = omega arith
-
--- No corner comes first in a frame and in the next one
-bends-differ : (f g : Frame) (a b : ℕ) → Apart f → Turns f g → Bend f a b → Bend g a b → ⊥
-bends-differ f g a b h t (by-later p q) (by-later p′ q′) = omega arith
-bends-differ f g a b h t (by-later p q) (by-earlier p′ q′) = omega arith
-bends-differ f g a b h t (by-earlier p q) (by-later p′ q′) = omega arith
-bends-differ f g a b h t (by-earlier p q) (by-earlier p′ q′) = omega arith
+-- Of the first three frames none has both of these letters, a left and an up
+not-both : (k : ℕ) → k < 3 → LetterOf (frameOf k) 2 → LetterOf (frameOf k) 1 → ⊥
+unfolding frameOf
+not-both zero h l u = ⊎-elim (λ e. omega arith) (λ e. omega arith) l
+not-both (suc zero) h l u = ⊎-elim (λ e. omega arith) (λ e. omega arith) l
+not-both (suc (suc zero)) h l u = ⊎-elim (λ e. omega arith) (λ e. omega arith) u
+not-both (suc (suc (suc k))) h l u = absurd (omega arith)
 
 -- From one piece to the next the walk comes on the later letter of the one and leaves on the later letter of the other
 junction : (f g : Frame) (a b : ℕ) → Apart f → Turns f g → LetterOf f a → Bend g a b → (a ≡ f .later) × (b ≡ g .later)
@@ -95,19 +67,11 @@ junction f g a b h t o (by-earlier p q) =
 
 -- ---- the letters of the pieces
 
-pub ahead-on : (n a b : ℕ) → a ≤ b → ahead n a b ≡ b - a
-unfolding ahead
-ahead-on n a b h = rw (le-leb a b h)
-
-pub ahead-round : (n a b : ℕ) → b < a → ahead n a b ≡ b + n - a
-unfolding ahead
-ahead-round n a b h = rw (lt-leb a b h)
-
 length-rounds : (t : List ℕ) → length (rounds t) ≡ length t + (length t + (length t + length t))
 unfolding rounds
 length-rounds t = simp length-append
 
-pub rounds-before : (t : List ℕ) (i : ℕ) → i < length t → getD (rounds t) i 0 ≡ getD t i 0
+rounds-before : (t : List ℕ) (i : ℕ) → i < length t → getD (rounds t) i 0 ≡ getD t i 0
 unfolding rounds
 rounds-before t i h = List·getD-append t (t ++ (t ++ t)) 0 i h
 
@@ -129,15 +93,9 @@ of-piece s t e k h i a b c =
     (omega (arith, ltb-false (strayAt s t k) (length (piece s t k)) none)) in
     let at : getD (piece s t k) m 0 ≡ getD r i 0 =
     getD-take (cut s t (suc k) - cut s t k) (drop (cut s t k) r) m 0 (omega arith) ∙ getD-drop (cut s t k) r m 0 ∙ ap (λ (j : ℕ). getD r j 0) (omega arith) in
-    of-not-stray (frameOf k) (getD r i 0) (rw at at straight)
+    no-back-step-letter (frameOf k) (getD r i 0) (rw at at straight)
 
 -- ---- a list of a frame's letters, as a word
-
-take-word : (l m : ℕ) (u : List ℕ) → take m (wordOf l u) ≡ wordOf l (take m u)
-unfolding wordOf
-take-word l zero u = refl
-take-word l (suc m) [] = refl
-take-word l (suc m) (a ∷ u) = ap (λ (v : Word). eqb a l ∷ v) (take-word l m u)
 
 -- A word is spelled back
 spell-word : (f : Frame) → Apart f → (u : List ℕ) → ((i : ℕ) → i < length u → LetterOf f (getD u i 0)) → spell f (wordOf (f .later) u) ≡ u
@@ -154,196 +112,102 @@ spell-word f h (a ∷ u) o = go (eqb a (f .later)) refl (spell-word f h u (λ i 
         ⊎-elim (λ (p : a ≡ f .earlier). cc)
         (λ (p : a ≡ f .later). let z : _≡_ {A = ℕ} 0 1 = cc (eq-eqb a (f .later) p) in absurd (omega arith)) (o 0 (omega arith))
 
--- q lies as much further along the frame's letters than p as the word has of each
-pub record On (f : Frame) (p q : Point) (w : Word) : Type 0 where
-  pub across : along (f .earlier) q ≡ along (f .earlier) p + earliers w
-  pub up : along (f .later) q ≡ along (f .later) p + laters w
+-- A letter of a frame
+unfoldable pub letterOf : Frame → Bool → ℕ
+letterOf f false = f .earlier
+letterOf f true = f .later
 
--- One step by a letter of the frame
-on-step : (f : Frame) (a : ℕ) (p q : Point) → Apart f → LetterOf f a → Moved f a p q → On f p q (wordOf (f .later) (a ∷ []))
-unfolding wordOf earliers laters
-on-step f a p q h o (earlier-on x y z) = rw (ne-eqb a (f .later) (omega arith)) (record { across = y; up = omega arith })
-on-step f a p q h o (later-on x y z) = rw (eq-eqb a (f .later) x) (record { across = omega arith; up = z })
-on-step f a p q h o (earlier-back x y z) = absurd (⊎-elim (λ e. omega arith) (λ e. omega arith) o)
-on-step f a p q h o (later-back x y z) = absurd (⊎-elim (λ e. omega arith) (λ e. omega arith) o)
+pub length-spell : (f : Frame) (w : Word) → length (spell f w) ≡ length w
+unfolding spell
+length-spell f [] = refl
+length-spell f (false ∷ w) = ap suc (length-spell f w)
+length-spell f (true ∷ w) = ap suc (length-spell f w)
 
-on-append : (f : Frame) (p q r : Point) (u v : Word) → On f p q u → On f q r v → On f p r (u ++ v)
-on-append f p q r u v h k = record { across = rw earliers-append (omega arith); up = rw laters-append (omega arith) }
+pub spell-append : (f : Frame) (u v : Word) → spell f (u ++ v) ≡ spell f u ++ spell f v
+unfolding spell
+spell-append f [] v = refl
+spell-append f (false ∷ u) v = rw (spell-append f u v)
+spell-append f (true ∷ u) v = rw (spell-append f u v)
 
--- The letters walked from place i on
-pub on-walk : (s : Point) (t : List ℕ) → Walked s t → (k i m : ℕ) → i + m ≤ length t → ((j : ℕ) → i ≤ j → j < i + m → LetterOf (frameOf k) (getD t j 0))
-    → On (frameOf k) (cornerAt s t i) (cornerAt s t (i + m)) (wordOf (frameOf k .later) (take m (drop i t)))
-unfolding earliers laters wordOf
-on-walk s t d k i zero h o = rw add-zero (record { across = omega arith; up = omega arith })
-on-walk s t d k i (suc m) h o =
-    let f : Frame = frameOf k in
-    let a : ℕ = getD t (i + m) 0 in
-    let u : List ℕ = take m (drop i t) in
-    let l : m < length (drop i t) = simp length-drop (omega arith) in
-    let more : take (suc m) (drop i t) ≡ u ++ (a ∷ []) = take-suc (drop i t) m 0 l ∙ ap (λ (b : ℕ). u ++ (b ∷ [])) (getD-drop i t m 0) in
-    let rest : On f (cornerAt s t i) (cornerAt s t (i + m)) (wordOf (f .later) u) = on-walk s t d k i m (omega arith) (λ j a b. o j a (omega arith)) in
-    let one : On f (cornerAt s t (i + m)) (cornerAt s t (suc (i + m))) (wordOf (f .later) (a ∷ [])) =
-    on-step f a (cornerAt s t (i + m)) (cornerAt s t (suc (i + m))) (apart k) (o (i + m) (omega arith) (omega arith)) (moves s t d k (i + m) (omega arith)) in
-    rw (add-suc, more, map-append) (on-append f (cornerAt s t i) (cornerAt s t (i + m)) (cornerAt s t (suc (i + m))) (wordOf (f .later) u) (wordOf (f .later) (a ∷ [])) rest one)
+getD-spell : (f : Frame) (w : Word) (i : ℕ) → i < length w → getD (spell f w) i 0 ≡ letterOf f (getD w i false)
+unfolding spell letterOf
+getD-spell f [] i h = absurd (omega arith)
+getD-spell f (false ∷ w) zero h = refl
+getD-spell f (true ∷ w) zero h = refl
+getD-spell f (false ∷ w) (suc i) h = getD-spell f w i (omega arith)
+getD-spell f (true ∷ w) (suc i) h = getD-spell f w i (omega arith)
 
--- How far a corner lies along a letter, and along the letter of the way back
-along-opposite : (a : ℕ) (p : Point) → OnChart p → along (opposite a) p + along a p ≡ side
-unfolding along opposite
-along-opposite zero p h = omega arith
-along-opposite (suc zero) p h = omega arith
-along-opposite (suc (suc zero)) p h = omega arith
-along-opposite (suc (suc (suc a))) p h = omega arith
+-- p is a corner of the chart, P along the earlier letter of frame k and Q along the later one
+pub record CornerIn (k : ℕ) (p : Point) (P Q : ℕ) : Type 0 where
+  pub on-chart : OnChart p
+  pub across : along (frameOf k .earlier) p ≡ P
+  pub up : along (frameOf k .later) p ≡ Q
 
-pub previous-pos : (n i : ℕ) → 0 < i → previous n i ≡ i - 1
-unfolding previous
-previous-pos n zero h = absurd (omega arith)
-previous-pos n (suc i) h = omega arith
+-- One letter of the frame further
+corner-on : (k : ℕ) (b : Bool) (p q : Point) (P Q : ℕ) → OnChart q → CornerIn k p P Q → Moved (frameOf k) (letterOf (frameOf k) b) p q
+    → CornerIn k q (P + earliers (b ∷ [])) (Q + laters (b ∷ []))
+unfolding letterOf earliers laters
+corner-on k false p q P Q o c (earlier-on x y z) = record { on-chart = o; across = omega arith; up = omega arith }
+corner-on k false p q P Q o c (later-on x y z) = absurd (omega (arith, apart k))
+corner-on k false p q P Q o c (earlier-back x y z) = absurd (omega (arith, apart k))
+corner-on k false p q P Q o c (later-back x y z) = absurd (omega (arith, apart k))
+corner-on k true p q P Q o c (earlier-on x y z) = absurd (omega (arith, apart k))
+corner-on k true p q P Q o c (later-on x y z) = record { on-chart = o; across = omega arith; up = omega arith }
+corner-on k true p q P Q o c (earlier-back x y z) = absurd (omega (arith, apart k))
+corner-on k true p q P Q o c (later-back x y z) = absurd (omega (arith, apart k))
 
-module _ (s : Point) (t : List ℕ) (c : Clear s t) where
+module _ (s : Point) (t : List ℕ) (c : NoBackStep s t) where
   steps : Walked s t
   steps = c .turn .walked
 
-  first-at : (k : ℕ) → FirstAt s t k (cornerPlace s t k)
-  first-at k = first-at-cornerPlace s t k (omega (arith, steps .long))
-
-  west-first : FirstAt s t 0 0
-  west-first = record { below = omega (arith, steps .long); none = λ j l. rw corner-zero (c .turn .west j l) }
-
-  leaving-west : getD t 0 0 ≡ 1
-  unfolding clockwise
-  leaving-west = eqb-true (getD t 0 0) 1 (c .clockwise)
-
-  coming-west : getD t (length t - 1) 0 ≡ 2
-  unfolding frameOf opposite previous
-  coming-west = go (bend s t steps 0 0 west-first)
-    where
-      go : Bend (frameOf 0) (getD t (length t - 1) 0) (getD t 0 0) → getD t (length t - 1) 0 ≡ 2
-      go (by-later p q) = p
-      go (by-earlier p q) = absurd (omega (arith, leaving-west))
-
-  -- W comes first in none of the next frames
-  north-after : 0 < cornerPlace s t 1
-  unfolding frameOf opposite previous
-  north-after = elim (decLt 0 (cornerPlace s t 1)) [ yes h ↦ h | no h ↦ absurd (go (bend s t steps 1 0 (subst (FirstAt s t 1) (omega arith) (first-at 1)))) ]
-    where
-      go : Bend (frameOf 1) (getD t (length t - 1) 0) (getD t 0 0) → ⊥
-      go (by-later p q) = omega (arith, leaving-west)
-      go (by-earlier p q) = omega (arith, leaving-west)
-
-  south-after : 0 < cornerPlace s t 3
-  unfolding frameOf opposite previous
-  south-after = elim (decLt 0 (cornerPlace s t 3)) [ yes h ↦ h | no h ↦ absurd (go (bend s t steps 3 0 (subst (FirstAt s t 3) (omega arith) (first-at 3)))) ]
-    where
-      go : Bend (frameOf 3) (getD t (length t - 1) 0) (getD t 0 0) → ⊥
-      go (by-later p q) = omega (arith, coming-west)
-      go (by-earlier p q) = omega (arith, coming-west)
-
-  places-differ : (k : ℕ) → k < 3 → cornerPlace s t k ≢ cornerPlace s t (suc k)
-  places-differ k h e =
-      bends-differ (frameOf k) (frameOf (suc k)) _ _ (apart k) (turns k h) (bend s t steps k (cornerPlace s t k) (first-at k))
-      (bend s t steps (suc k) (cornerPlace s t k) (subst (FirstAt s t (suc k)) (sym e) (first-at (suc k))))
+  up : getD t 0 0 ≡ 1
+  up = leaves-upwards t (c .clockwise)
 
   -- ---- the cut places rise
 
-  pub cut-zero : cut s t 0 ≡ 0
-  unfolding cut
-  cut-zero = refl
-
-  cut-north : cut s t 1 ≡ cornerPlace s t 1
-  unfolding cut cutCorner
-  cut-north = omega (arith, ahead-on (length t) 0 (cornerPlace s t 1) (omega arith))
-
-  cut-east′ : cut s t 2 ≡ cornerPlace s t 1 + ahead (length t) (cornerPlace s t 1) (cornerPlace s t 2)
-  unfolding cut cutCorner
-  cut-east′ = ap (λ (m : ℕ). m + ahead (length t) (cornerPlace s t 1) (cornerPlace s t 2)) cut-north
-
-  -- Else piece 1 would hold the letter that comes to W
-  east-after : cornerPlace s t 1 < cornerPlace s t 2
-  unfolding frameOf
-  east-after =
-      elim (decLt (cornerPlace s t 1) (cornerPlace s t 2)) [
-        | yes h ↦ h
-        | no h ↦
-            let n : ℕ = length t in
-            let l : cornerPlace s t 2 < cornerPlace s t 1 = omega (arith, places-differ 1 (omega arith)) in
-            let below : cornerPlace s t 1 < n = first-at 1 .below in
-            let far : cut s t 2 ≡ cornerPlace s t 2 + n = omega (arith, cut-east′, ahead-round n (cornerPlace s t 1) (cornerPlace s t 2) l) in
-            let o : LetterOf (frameOf 1) (getD (rounds t) (n - 1) 0) =
-            of-piece s t (c .straight) 1 (omega arith) (n - 1) (omega (arith, cut-north)) (omega arith) (omega (arith, length-rounds t)) in
-            let two : getD (rounds t) (n - 1) 0 ≡ 2 = rounds-before t (n - 1) (omega arith) ∙ coming-west in
-            absurd (⊎-elim (λ e. omega arith) (λ e. omega arith) o)
+  -- Else the piece would run on past the end of the turn, and hold the letter that comes to W and the one that leaves it
+  corner-rises : (k : ℕ) → k < 3 → cut s t k ≡ cutCorner s t k → cutCorner s t k < cutCorner s t (suc k)
+  corner-rises k h e =
+      let n : ℕ = length t in
+      let a : ℕ = cutCorner s t k in
+      let b : ℕ = cutCorner s t (suc k) in
+      elim (decLt a b) [
+        | yes l ↦ l
+        | no l ↦
+            let m : b < a = omega (arith, rw (next-suc k h) at (corners-differ s t (c .turn) k (omega arith))) in
+            let below : a < n = corner-first s t (c .turn) k (omega arith) .below in
+            let after : 0 < b = corner-after s t (c .turn) up (suc k) (omega arith) (omega arith) in
+            let far : cut s t (suc k) ≡ b + n = omega (arith, cut-step s t k, ahead-round n a b m) in
+            let of : (i : ℕ) → a ≤ i → i < b + n → LetterOf (frameOf k) (getD (rounds t) i 0) =
+            λ i x y. of-piece s t (c .straight) k (omega arith) i (omega arith) (omega arith) (omega (arith, length-rounds t)) in
+            absurd (not-both k h
+            (rw (rounds-before t (n - 1) (omega arith), coming-west s t (c .turn) up) at (of (n - 1) (omega arith) (omega arith)))
+            (rw (rounds-after t 0 (omega arith), up) at (of (n + 0) (omega arith) (omega arith))))
       ]
 
-  cut-east : cut s t 2 ≡ cornerPlace s t 2
-  cut-east = omega (arith, cut-east′, east-after, ahead-on (length t) (cornerPlace s t 1) (cornerPlace s t 2) (omega (arith, east-after)))
+  cut-corner : (k : ℕ) → k < 4 → cut s t k ≡ cutCorner s t k
+  cut-corner zero h = omega (arith, cut-zero s t, corner-west s t)
+  cut-corner (suc k) h =
+      let e = cut-corner k (omega arith) in
+      let r = corner-rises k (omega arith) e in
+      cut-on s t k e (omega arith)
 
-  cut-south′ : cut s t 3 ≡ cornerPlace s t 2 + ahead (length t) (cornerPlace s t 2) (cornerPlace s t 3)
-  unfolding cut cutCorner
-  cut-south′ = ap (λ (m : ℕ). m + ahead (length t) (cornerPlace s t 2) (cornerPlace s t 3)) cut-east
+  rise : (k : ℕ) → k < 3 → cutCorner s t k < cutCorner s t (suc k)
+  rise k h = corner-rises k h (cut-corner k (omega arith))
 
-  -- Else piece 2 would hold the letter that leaves W
-  south-late : cornerPlace s t 2 < cornerPlace s t 3
-  unfolding frameOf
-  south-late =
-      elim (decLt (cornerPlace s t 2) (cornerPlace s t 3)) [
-        | yes h ↦ h
-        | no h ↦
-            let n : ℕ = length t in
-            let l : cornerPlace s t 3 < cornerPlace s t 2 = omega (arith, places-differ 2 (omega arith)) in
-            let below : cornerPlace s t 2 < n = first-at 2 .below in
-            let far : cut s t 3 ≡ cornerPlace s t 3 + n = omega (arith, cut-south′, ahead-round n (cornerPlace s t 2) (cornerPlace s t 3) l) in
-            let o : LetterOf (frameOf 2) (getD (rounds t) (n + 0) 0) =
-            of-piece s t (c .straight) 2 (omega arith) (n + 0) (omega (arith, cut-east)) (omega (arith, south-after)) (omega (arith, length-rounds t)) in
-            let one : getD (rounds t) (n + 0) 0 ≡ 1 = rounds-after t 0 (omega arith) ∙ leaving-west in
-            absurd (⊎-elim (λ e. omega arith) (λ e. omega arith) o)
-      ]
-
-  cut-south : cut s t 3 ≡ cornerPlace s t 3
-  cut-south = omega (arith, cut-south′, south-late, ahead-on (length t) (cornerPlace s t 2) (cornerPlace s t 3) (omega (arith, south-late)))
-
-  cut-round : cut s t 4 ≡ length t
-  unfolding cut cutCorner
-  cut-round = omega (arith, cut-south, first-at 3 .below, ahead-round (length t) (cornerPlace s t 3) 0 south-after)
+  whole-turn : cut s t 4 ≡ length t
+  whole-turn = cut-round s t cut-corner rise (corner-first s t (c .turn) 3 (omega arith) .below)
 
   rising : (k : ℕ) → k < 4 → cut s t k < cut s t (suc k)
-  rising zero h = omega (arith, cut-zero, cut-north, north-after)
-  rising (suc zero) h = omega (arith, cut-north, cut-east, east-after)
-  rising (suc (suc zero)) h = omega (arith, cut-east, cut-south, south-late)
-  rising (suc (suc (suc zero))) h = omega (arith, cut-south, cut-round, first-at 3 .below)
-  rising (suc (suc (suc (suc k)))) h = absurd (omega arith)
+  rising = cuts-rise s t cut-corner rise (corner-first s t (c .turn) 3 (omega arith) .below)
 
   pub cut-le : (k : ℕ) → k < 4 → cut s t (suc k) ≤ length t
-  cut-le zero h = omega (arith, cut-north, first-at 1 .below)
-  cut-le (suc zero) h = omega (arith, cut-east, first-at 2 .below)
-  cut-le (suc (suc zero)) h = omega (arith, cut-south, first-at 3 .below)
-  cut-le (suc (suc (suc zero))) h = omega (arith, cut-round)
-  cut-le (suc (suc (suc (suc k)))) h = absurd (omega arith)
+  cut-le = cuts-fit s t cut-corner rise (corner-first s t (c .turn) 3 (omega arith) .below)
 
-  pub cut-first : (k : ℕ) → k < 4 → FirstAt s t k (cut s t k)
-  cut-first zero h = subst (FirstAt s t 0) (sym cut-zero) west-first
-  cut-first (suc zero) h = subst (FirstAt s t 1) (sym cut-north) (first-at 1)
-  cut-first (suc (suc zero)) h = subst (FirstAt s t 2) (sym cut-east) (first-at 2)
-  cut-first (suc (suc (suc zero))) h = subst (FirstAt s t 3) (sym cut-south) (first-at 3)
-  cut-first (suc (suc (suc (suc k)))) h = absurd (omega arith)
+  cut-first : (k : ℕ) → k < 4 → FirstAt s t k (cut s t k)
+  cut-first k h = rw (cut-corner k h) (corner-first s t (c .turn) k h)
 
   -- ---- the pieces are parts of the turn
-
-  pub piece-part : (k : ℕ) → k < 4 → piece s t k ≡ take (cut s t (suc k) - cut s t k) (drop (cut s t k) t)
-  unfolding piece rounds
-  piece-part k h =
-      let r : List ℕ = t ++ (t ++ t) in
-      let a : ℕ = cut s t k in
-      let b : ℕ = cut s t (suc k) in
-      let l : a ≤ length t = omega (arith, rising k h, cut-le k h) in
-      let m : b - a ≤ length (drop a t) = simp length-drop (omega (arith, cut-le k h)) in
-      ap (take (b - a)) (drop-append-le a t r l) ∙ take-append-le (b - a) (drop a t) r m
-
-  pub piece-length : (k : ℕ) → k < 4 → length (piece s t k) ≡ cut s t (suc k) - cut s t k
-  piece-length k h = rw (piece-part k h) (simp (length-take, length-drop) (omega (arith, cut-le k h)))
-
-  pub piece-at : (k : ℕ) → k < 4 → (i : ℕ) → i < cut s t (suc k) - cut s t k → getD (piece s t k) i 0 ≡ getD t (cut s t k + i) 0
-  piece-at k h i l =
-      rw (piece-part k h) (getD-take (cut s t (suc k) - cut s t k) (drop (cut s t k) t) i 0 l ∙ getD-drop (cut s t k) t i 0)
 
   piece-rest : (k : ℕ) → k < 4 → drop (cut s t k) t ≡ piece s t k ++ drop (cut s t (suc k)) t
   piece-rest k h =
@@ -351,55 +215,52 @@ module _ (s : Point) (t : List ℕ) (c : Clear s t) where
       let b : ℕ = cut s t (suc k) in
       let e : a + (b - a) ≡ b = omega (arith, rising k h) in
       let rest : drop (b - a) (drop a t) ≡ drop b t = drop-drop (b - a) a t ∙ ap (λ (m : ℕ). drop m t) e in
-      rw (piece-part k h) (sym (take-append-drop (b - a) (drop a t)) ∙ ap (λ (v : List ℕ). take (b - a) (drop a t) ++ v) rest)
+      rw (piece-part s t cut-le k h) (sym (take-append-drop (b - a) (drop a t)) ∙ ap (λ (v : List ℕ). take (b - a) (drop a t) ++ v) rest)
 
   pieces-whole : t ≡ piece s t 0 ++ (piece s t 1 ++ (piece s t 2 ++ piece s t 3))
   pieces-whole =
-      let e0 : t ≡ piece s t 0 ++ drop (cut s t 1) t = ap (λ (m : ℕ). drop m t) (sym cut-zero) ∙ piece-rest 0 (omega arith) in
+      let e0 : t ≡ piece s t 0 ++ drop (cut s t 1) t = ap (λ (m : ℕ). drop m t) (sym (cut-zero s t)) ∙ piece-rest 0 (omega arith) in
       let e1 = piece-rest 1 (omega arith) in
       let e2 = piece-rest 2 (omega arith) in
-      let e3 : drop (cut s t 3) t ≡ piece s t 3 = piece-rest 3 (omega arith) ∙ ap (λ (m : ℕ). piece s t 3 ++ drop m t) cut-round ∙ ap (λ (v : List ℕ). piece s t 3 ++ v) (drop-length t) ∙ append-nil (piece s t 3) in
+      let e3 : drop (cut s t 3) t ≡ piece s t 3 = piece-rest 3 (omega arith) ∙ ap (λ (m : ℕ). piece s t 3 ++ drop m t) whole-turn ∙ ap (λ (v : List ℕ). piece s t 3 ++ v) (drop-length t) ∙ append-nil (piece s t 3) in
       e0 ∙ ap (λ (v : List ℕ). piece s t 0 ++ v) (e1 ∙ ap (λ (v : List ℕ). piece s t 1 ++ v) (e2 ∙ ap (λ (v : List ℕ). piece s t 2 ++ v) e3))
 
   -- ---- a piece begins and ends with its later letter
 
-  pub of-frame : (k : ℕ) → k < 4 → (i : ℕ) → cut s t k ≤ i → i < cut s t (suc k) → LetterOf (frameOf k) (getD t i 0)
+  of-frame : (k : ℕ) → k < 4 → (i : ℕ) → cut s t k ≤ i → i < cut s t (suc k) → LetterOf (frameOf k) (getD t i 0)
   of-frame k h i a b =
       let l : i < length t = omega (arith, cut-le k h) in
       rw (rounds-before t i l) at (of-piece s t (c .straight) k h i a b (omega (arith, length-rounds t)))
 
-  meeting : (k : ℕ) → k < 3 → (getD t (cut s t (suc k) - 1) 0 ≡ frameOf k .later) × (getD t (cut s t (suc k)) 0 ≡ frameOf (suc k) .later)
+  -- The place before the start of the next piece
+  place-before : (k : ℕ) → k < 4 → previous (length t) (cut s t (next k)) ≡ cut s t (suc k) - 1
+  place-before =
+      round-ring (λ k j. previous (length t) (cut s t j) ≡ cut s t (suc k) - 1)
+      (λ k h. previous-pos (length t) (cut s t (suc k)) (omega (arith, rising k (omega arith))))
+      (rw cut-zero (previous-zero (length t) ∙ ap (λ (n : ℕ). n - 1) (sym whole-turn)))
+
+  meeting : (k : ℕ) → k < 4 → (getD t (cut s t (suc k) - 1) 0 ≡ frameOf k .later) × (getD t (cut s t (next k)) 0 ≡ frameOf (next k) .later)
   meeting k h =
-      let r : cut s t k < cut s t (suc k) = rising k (omega arith) in
-      junction (frameOf k) (frameOf (suc k)) _ _ (apart k) (turns k h) (of-frame k (omega arith) (cut s t (suc k) - 1) (omega arith) (omega arith))
-      (rw (previous-pos (length t) (cut s t (suc k)) (omega arith)) at (bend s t steps (suc k) (cut s t (suc k)) (cut-first (suc k) (omega arith))))
+      let r : cut s t k < cut s t (suc k) = rising k h in
+      junction (frameOf k) (frameOf (next k)) _ _ (apart k) (turns k) (of-frame k h (cut s t (suc k) - 1) (omega arith) (omega arith))
+      (rw (place-before k h) at (bend s t steps (next k) (cut s t (next k)) (cut-first (next k) (next-lt k))))
 
-  pub piece-first : (k : ℕ) → k < 4 → getD t (cut s t k) 0 ≡ frameOf k .later
-  unfolding frameOf
-  piece-first zero h = ap (λ (i : ℕ). getD t i 0) cut-zero ∙ leaving-west
-  piece-first (suc k) h = meeting k (omega arith) .1
-
-  pub piece-last : (k : ℕ) → k < 4 → getD t (cut s t (suc k) - 1) 0 ≡ frameOf k .later
-  unfolding frameOf
-  piece-last zero h = meeting 0 (omega arith) .0
-  piece-last (suc zero) h = meeting 1 (omega arith) .0
-  piece-last (suc (suc zero)) h = meeting 2 (omega arith) .0
-  piece-last (suc (suc (suc zero))) h = ap (λ (i : ℕ). getD t (i - 1) 0) cut-round ∙ coming-west
-  piece-last (suc (suc (suc (suc k)))) h = absurd (omega arith)
+  piece-first : (k : ℕ) → k < 4 → getD t (cut s t k) 0 ≡ frameOf k .later
+  piece-first = below-four _ (meeting 3 (omega arith) .1) (meeting 0 (omega arith) .1) (meeting 1 (omega arith) .1) (meeting 2 (omega arith) .1)
 
   -- ---- the four words
 
   piece-word : (k : ℕ) → k < 4 → piece s t k ≡ frameOf k .later ∷ drop 1 (piece s t k)
   piece-word k h =
       let r : cut s t k < cut s t (suc k) = rising k h in
-      let at : getD (piece s t k) 0 0 ≡ frameOf k .later = piece-at k h 0 (omega arith) ∙ ap (λ (i : ℕ). getD t i 0) (add-zero (cut s t k)) ∙ piece-first k h in
-      drop-cons (piece s t k) 0 0 (omega (arith, piece-length k h)) ∙ ap (λ (a : ℕ). a ∷ drop 1 (piece s t k)) at
+      let at : getD (piece s t k) 0 0 ≡ frameOf k .later = piece-at s t cut-le k h 0 (omega arith) ∙ ap (λ (i : ℕ). getD t i 0) (add-zero (cut s t k)) ∙ piece-first k h in
+      drop-cons (piece s t k) 0 0 (omega (arith, piece-length s t cut-le k h)) ∙ ap (λ (a : ℕ). a ∷ drop 1 (piece s t k)) at
 
   rest-at : (k : ℕ) → k < 4 → (i : ℕ) → suc i < cut s t (suc k) - cut s t k → getD (drop 1 (piece s t k)) i 0 ≡ getD t (cut s t k + suc i) 0
-  rest-at k h i l = getD-drop 1 (piece s t k) i 0 ∙ ap (λ (j : ℕ). getD (piece s t k) j 0) (one-add i) ∙ piece-at k h (suc i) l
+  rest-at k h i l = getD-drop 1 (piece s t k) i 0 ∙ ap (λ (j : ℕ). getD (piece s t k) j 0) (one-add i) ∙ piece-at s t cut-le k h (suc i) l
 
   rest-length : (k : ℕ) → k < 4 → length (drop 1 (piece s t k)) + 1 ≡ cut s t (suc k) - cut s t k
-  rest-length k h = simp length-drop (omega (arith, piece-length k h, rising k h))
+  rest-length k h = simp length-drop (omega (arith, piece-length s t cut-le k h, rising k h))
 
   spelled : (k : ℕ) → k < 4 → piece s t k ≡ spell (frameOf k) (true ∷ word s t k)
   unfolding spell word
@@ -421,73 +282,97 @@ module _ (s : Point) (t : List ℕ) (c : Clear s t) where
       let long : length u ≡ n + 1 = sym (length-map u g) ∙ ap length e ∙ length-append x (b ∷ []) in
       let all : n + 1 + 1 ≡ cut s t (suc k) - cut s t k = omega (arith, rest-length k h) in
       let place : cut s t k + suc n ≡ cut s t (suc k) - 1 = omega arith in
-      let letter : getD u n 0 ≡ f .later = rest-at k h n (omega arith) ∙ ap (λ (j : ℕ). getD t j 0) place ∙ piece-last k h in
+      let letter : getD u n 0 ≡ f .later = rest-at k h n (omega arith) ∙ ap (λ (j : ℕ). getD t j 0) place ∙ meeting k h .0 in
       let last : getD (map g u) n (g 0) ≡ b = ap (λ (v : Word). getD v n (g 0)) e ∙ getD-append-seam x b [] (g 0) in
       sym last ∙ List·getD-map g u n 0 ∙ eq-eqb (getD u n 0) (f .later) letter
 
-  -- The corners of a piece, in its frame
-  pub corner-in-piece : (k : ℕ) → k < 4 → (m : ℕ) → cut s t k + m ≤ cut s t (suc k)
-      → On (frameOf k) (startOf s t k) (cornerAt s t (cut s t k + m)) (take m (true ∷ word s t k))
-  unfolding word wordOf startOf
-  corner-in-piece k h m l =
-      let f : Frame = frameOf k in
-      let a : ℕ = cut s t k in
-      let b : ℕ = cut s t (suc k) in
-      let u : List ℕ = drop 1 (piece s t k) in
-      let first : eqb (f .later) (f .later) ≡ true = eq-eqb (f .later) (f .later) refl in
-      let part : take m (drop a t) ≡ take m (f .later ∷ u) =
-      sym (take-take m (b - a) (drop a t) (omega arith)) ∙ ap (take m) (sym (piece-part k h) ∙ piece-word k h) in
-      let spelling : wordOf (f .later) (take m (drop a t)) ≡ take m (true ∷ wordOf (f .later) u) =
-      ap (wordOf (f .later)) part ∙ sym (take-word (f .later) m (f .later ∷ u)) ∙ ap (λ (c : Bool). take m (c ∷ wordOf (f .later) u)) first in
-      rw spelling at (on-walk s t steps k a m (omega (arith, cut-le k h)) (λ j x y. of-frame k h j x (omega arith)))
-
-  pub word-length : (k : ℕ) → k < 4 → length (word s t k) + 1 ≡ cut s t (suc k) - cut s t k
+  word-length : (k : ℕ) → k < 4 → length (word s t k) + 1 ≡ cut s t (suc k) - cut s t k
   unfolding word wordOf
   word-length k h = simp length-map (rest-length k h)
 
-  walks : (k : ℕ) → k < 4 → On (frameOf k) (startOf s t k) (startOf s t (suc k)) (true ∷ word s t k)
-  unfolding startOf
-  walks k h =
-      let m : ℕ = cut s t (suc k) - cut s t k in
-      let place : cut s t k + m ≡ cut s t (suc k) = omega (arith, rising k h) in
-      let all : take m (true ∷ word s t k) ≡ true ∷ word s t k = take-all m (true ∷ word s t k) (omega (arith, word-length k h)) in
-      rw (all, place) at (corner-in-piece k h m (omega arith))
+  -- ---- the letters and the corners of a piece, in its frame
+
+  pub place-lt : (k : ℕ) → k < 4 → (m : ℕ) → m < length (true ∷ word s t k) → cut s t k + m < length t
+  place-lt k h m l = omega (arith, word-length k h, rising k h, cut-le k h)
+
+  pub letter-in-piece : (k : ℕ) → k < 4 → (m : ℕ) → m < length (true ∷ word s t k)
+      → getD t (cut s t k + m) 0 ≡ letterOf (frameOf k) (getD (true ∷ word s t k) m false)
+  letter-in-piece k h m l =
+      sym (piece-at s t cut-le k h m (omega (arith, word-length k h))) ∙ ap (λ (u : List ℕ). getD u m 0) (spelled k h)
+      ∙ getD-spell (frameOf k) (true ∷ word s t k) m l
+
+  pub corner-in-piece : (k : ℕ) → k < 4 → (m : ℕ) → m ≤ length (true ∷ word s t k)
+      → CornerIn k (cornerAt s t (cut s t k + m)) (startE s t k + earliers (take m (true ∷ word s t k))) (startL s t k + laters (take m (true ∷ word s t k)))
+  unfolding startE startL startOf earliers laters
+  corner-in-piece k h zero l =
+      let m : cut s t k ≤ length t = omega (arith, place-lt k h 0 (omega arith)) in
+      rw (add-zero (cut s t k)) (record { on-chart = on-chart s t steps (cut s t k) m; across = omega arith; up = omega arith })
+  corner-in-piece k h (suc m) l =
+      let v : Word = true ∷ word s t k in
+      let j : ℕ = cut s t k + m in
+      let n : j < length t = place-lt k h m l in
+      let c =
+      corner-on k (getD v m false) (cornerAt s t j) (cornerAt s t (suc j)) _ _ (on-chart s t steps (suc j) n) (corner-in-piece k h m (omega arith))
+      (rw (letter-in-piece k h m l) at (moves s t steps k j n)) in
+      rw (add-suc (cut s t k) m)
+      (record { on-chart = c .on-chart; across = omega (arith, earliers-take-suc m v l); up = omega (arith, laters-take-suc m v l) })
+
+  -- Each place is in one of the pieces
+  pub record InPiece (i : ℕ) : Type 0 where
+    pub piece : ℕ
+    pub small : piece < 4
+    pub offset : ℕ
+    pub within : offset < length (true ∷ word s t piece)
+    pub place : cut s t piece + offset ≡ i
+
+  pub in-piece : (i : ℕ) → i < length t → InPiece i
+  in-piece i h = go 4 (omega arith) (omega (arith, whole-turn))
+    where
+      go : (n : ℕ) → n ≤ 4 → i < cut s t n → InPiece i
+      go zero l m = absurd (omega (arith, cut-zero s t))
+      go (suc n) l m =
+          elim (decLt i (cut s t n)) [
+            | yes a ↦ go n (omega arith) a
+            | no a ↦ record { piece = n; small = l; offset = i - cut s t n; within = omega (arith, word-length n l); place = omega arith }
+          ]
 
   -- ---- the ring
 
-  start-on-chart : (k : ℕ) → k < 4 → OnChart (startOf s t (suc k))
+  -- The end of a piece
+  piece-end : (k : ℕ) → k < 4 → CornerIn k (startOf s t (suc k)) (startE s t k + earliers (true ∷ word s t k)) (startL s t k + laters (true ∷ word s t k))
   unfolding startOf
-  start-on-chart k h = on-chart s t steps (cut s t (suc k)) (cut-le k h)
+  piece-end k h =
+      let n : ℕ = length (true ∷ word s t k) in
+      let place : cut s t k + n ≡ cut s t (suc k) = omega (arith, word-length k h, rising k h) in
+      rw (take-length, place) at (corner-in-piece k h n (omega arith))
 
-  round-start : startOf s t 4 ≡ startOf s t 0
+  -- The next piece starts where this one ends
+  start-next : (k : ℕ) → k < 4 → startOf s t (suc k) ≡ startOf s t (next k)
   unfolding startOf
-  round-start = ap (cornerAt s t) cut-round ∙ corner-round s t steps ∙ ap (cornerAt s t) (sym cut-zero)
+  start-next =
+      round-ring (λ k j. cornerAt s t (cut s t (suc k)) ≡ cornerAt s t (cut s t j)) (λ k h. refl)
+      (ap (cornerAt s t) whole-turn ∙ corner-round s t steps ∙ ap (cornerAt s t) (sym (cut-zero s t)))
 
-  turned-later : (k : ℕ) → k < 4 → (g : Frame) → Turns (frameOf k) g → along (g .later) (startOf s t (suc k)) ≡ startE s t k + earliers (word s t k)
-  unfolding startE earliers
-  turned-later k h g q = rw (q .later) (walks k h .across)
+  next-later : (k : ℕ) → k < 4 → startL s t (next k) ≡ startE s t k + earliers (word s t k)
+  unfolding startL earliers
+  next-later k h = rw (turns k .later, ← start-next k h) (piece-end k h .across)
 
-  turned-earlier : (k : ℕ) → k < 4 → (g : Frame) → Turns (frameOf k) g
-      → along (g .earlier) (startOf s t (suc k)) + startL s t k + 1 + laters (word s t k) ≡ side
-  unfolding startL laters
-  turned-earlier k h g q =
-      rw (q .earlier) (omega (arith, walks k h .up, along-opposite (frameOf k .later) (startOf s t (suc k)) (start-on-chart k h)))
+  next-earlier : (k : ℕ) → k < 4 → startE s t (next k) + startL s t k + 1 + laters (word s t k) ≡ side
+  unfolding startE startL laters
+  next-earlier k h =
+      let e = piece-end k h in
+      rw (← start-next k h) (omega (arith, along-next k (startOf s t (suc k)) (e .on-chart)))
 
 -- Without back-steps a turn is four words in a ring
-pub shape : (s : Point) (t : List ℕ) → Clear s t → Shape s t
-unfolding startE startL
+pub shape : (s : Point) (t : List ℕ) → NoBackStep s t → Shape s t
 shape s t c =
     record {
-      north = cut-north s t c;
-      east = cut-east s t c;
-      south = cut-south s t c;
-      round = cut-round s t c;
+      corners = cut-corner s t c;
+      round = whole-turn s t c;
       rises = rising s t c;
       whole = pieces-whole s t c;
       spelled = spelled s t c;
       ends = ends s t c;
-      next-later = λ k h. turned-later s t c k (omega arith) (frameOf (suc k)) (turns k h);
-      next-earlier = λ k h. turned-earlier s t c k (omega arith) (frameOf (suc k)) (turns k h);
-      last-later = rw (round-start s t c) at (turned-later s t c 3 (omega arith) (frameOf 0) turns-last);
-      last-earlier = rw (round-start s t c) at (turned-earlier s t c 3 (omega arith) (frameOf 0) turns-last);
+      next-later = next-later s t c;
+      next-earlier = next-earlier s t c;
     }

@@ -12,12 +12,13 @@ use borrow.Author.Tests.{ltb-true, ltb-false}
 use Rattle.words.specs.Word.{Word, earliers, laters}
 use Rattle.words.specs.Lyndon.{Factor, copies, written}
 use Rattle.words.proofs.Counts.{earliers-append, laters-append, earliers-copies, laters-copies}
-use Rattle.lattice.specs.declared.Point.{Point}
+use Rattle.chart.specs.declared.Point.{Point}
 use Rattle.convexity.specs.Frame.{Frame, frameOf}
 use Rattle.convexity.specs.Pieces.{edgesOf}
 use Rattle.convexity.specs.Inside.{notNegative, leℤ, sideValue, noneOutside, colSteps, rowSteps}
 use Rattle.convexity.proofs.Frame.{Sides, run, rise}
 use Rattle.convexity.specs.Quadrant.{cellAlong, cellE, cellL}
+use Rattle.convexity.proofs.Ring.{next}
 
 -- ---- integers as differences
 
@@ -125,6 +126,14 @@ placed-cell (suc zero) x h l = record { counted = omega arith }
 placed-cell (suc (suc zero)) x h l = record { counted = omega arith }
 placed-cell (suc (suc (suc k))) x h l = record { counted = omega arith }
 
+-- Turned by a quarter: across is up in the next frame, and up is across from the other end
+pub lies-next : (k : ℕ) {o p q q′ : ℕ} {x y : ℤ} → q + q′ ≡ o → Lies k o p q x y → Lies (next k) o q′ p x y
+unfolding Counted
+lies-next zero e h = record { counted = omega arith }
+lies-next (suc zero) e h = record { counted = omega arith }
+lies-next (suc (suc zero)) e h = record { counted = omega arith }
+lies-next (suc (suc (suc k))) e h = record { counted = omega arith }
+
 -- The step of e earlier letters and l later ones
 abbrev pub stepCols : Frame → ℕ → ℕ → ℤ
 stepCols f e l = pos e *ℤ f .earlier-cols +ℤ pos l *ℤ f .later-cols
@@ -196,13 +205,6 @@ lies-sides k [] h g = ((λ e. tt), λ s. refl)
 lies-sides k (f ∷ fs) h g =
     let d = step-lies k (run f) (rise f) in
     Iff·trans (and-eq-true-iff _ _) (Iff·and (side-iff k h d g) (lies-sides k fs (lies-step k h d) g))
-
--- For cells of the chart
-pub frame-sides :
-    (k : ℕ) (fs : List Factor) (v x : Point) → v .col < 255 → v .row < 255 → x .col < 255 → x .row < 255
-    → (noneOutside (edgesOf (frameOf k) fs) (pos (v .col)) (pos (v .row)) (pos (x .col)) (pos (x .row)) ≡ true)
-    ↔ Sides fs (cellE k v) (cellL k v) (cellE k x) (cellL k x)
-frame-sides k fs v x vc vr xc xr = lies-sides k fs (placed-cell k v vc vr) (placed-cell k x xc xr)
 
 -- ---- the edges of a piece and those after it: what follows begins where the piece ends
 

@@ -1,8 +1,8 @@
 -- Where no piece is dented, every factor is a Christoffel word, so each piece's edges hug its path and fall in slope.
-use Prim.Native.Nat.{ℕ, zero, suc, _+_, _*_, _≤_, _<_}
+use Prim.Native.Nat.{ℕ, _<_}
 use native.Mathlib.Nat.{not-suc-le-zero}
 use native.Mathlib.Omega.{arith}
-use mathlib.Core.Path.{_≡_, refl, sym, ap, _∙_}
+use mathlib.Core.Path.{_≡_, refl}
 use mathlib.Core.Bool.{Bool, true, false}
 use mathlib.Core.List.{List, [], _∷_}
 use lib.ListN.{length}
@@ -10,13 +10,13 @@ use lib.Dec.{ltb}
 use borrow.Author.Tests.{ltb-false}
 use Rattle.words.specs.Lyndon.{Factor, Falling, none, last, then, Proper}
 use Rattle.words.specs.Christoffel.{christoffel, Christoffel}
-use Rattle.words.proofs.BelowLaws.{first-none-at}
+use Rattle.base.proofs.BelowLaws.{first-none-at}
 use Rattle.words.proofs.Christoffel.{christoffel-iff}
 use Rattle.words.proofs.Factors.{factors-exist, falling-head}
 use Rattle.words.proofs.Slope.{under-chord, near-chord, slope-of-less}
-use Rattle.lattice.specs.declared.Point.{Point}
+use Rattle.chart.specs.declared.Point.{Point}
 use Rattle.convexity.specs.Pieces.{word, factors, dentLength, dentPiece}
-use Rattle.convexity.proofs.Frame.{Hugs, Edge, Falls, EdgesFall}
+use Rattle.convexity.proofs.Frame.{Edge, Falls, EdgesFall}
 
 -- Without a dent the first factor is a Christoffel word, and there is no dent in the others
 pub dent-first : (f : Factor) (fs : List Factor) → Proper f → dentLength (f ∷ fs) ≡ 0 → Christoffel (f .word) × (dentLength fs ≡ 0)

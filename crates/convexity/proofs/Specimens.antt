@@ -1,13 +1,13 @@
--- The cut, the dents, the edges and their rule on document 01's specimens, H1 to H6, and on an outline with the factor 001101: the checker computes
+-- The cut, the dents, the edges and their rule on the contract's specimens, H1 to H6, and on an outline with the factor 001101: the checker computes
 -- every row, and the whole test's table stands in the crate outline.
 use Prim.Native.Nat.{ℕ}
 use mathlib.Core.Path.{_≡_, refl}
 use mathlib.Core.Bool.{Bool, true, false}
 use mathlib.Core.List.{List, [], _∷_}
 use lib.IntN.{ℤ, pos, negsuc}
-use Rattle.lattice.specs.declared.Point.{Point}
+use Rattle.chart.specs.declared.Point.{Point}
 use Rattle.lattice.specs.Chart
-use Rattle.words.specs.Below
+use Rattle.base.specs.Below
 use Rattle.words.specs.Word
 use Rattle.words.specs.Lyndon
 use Rattle.words.specs.Christoffel

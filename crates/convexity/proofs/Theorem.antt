@@ -1,55 +1,39 @@
 -- The convexity theorem. Enclosed is under four paths, inside is four rows of sides, and without a dent these are the same in each frame (E1). A mean of
 -- cells keeps every side, so without a dent no hull cell is missing, and with one a point above a path is (E2). The rows' ends then lead to the
 -- lowest missing cell (E3).
-use Prim.Native.Nat.{ℕ, zero, suc, _+_, _-_, _*_, _≤_, _<_, suc-le-suc}
-use native.Mathlib.Nat.{le-trans, mul-le-mul-left, le-of-mul-le-mul-left}
+use Prim.Native.Nat.{ℕ, zero, suc, _+_, _*_, _≤_, _<_, suc-le-suc}
 use native.Mathlib.Omega.{arith}
 use native.Mathlib.Decide.{decLt}
-use mathlib.Core.Path.{_≡_, refl, sym, ap, _∙_, subst}
-use mathlib.Core.Logic.{_↔_, _⊎_, inl, inr, ⊎-elim}
+use mathlib.Core.Path.{_≡_, refl, sym, _∙_, subst}
+use mathlib.Core.Logic.{_↔_, inl, inr, ⊎-elim}
 use mathlib.Core.Bool.{Bool, true, false, true≢false}
 use mathlib.Core.List.{List}
-use lib.Dec.{lit<}
 use Rattle.words.specs.Word.{Word, laters}
-use Rattle.words.specs.Lyndon.{written}
 use Rattle.words.proofs.Factors.{factors-exist}
-use Rattle.words.proofs.BelowLaws.{first-le}
-use Rattle.lattice.specs.declared.Point.{Point}
-use Rattle.lattice.specs.Chart.{cornerAt}
-use Rattle.lattice.proofs.WalkLaws.{Walked}
+use Rattle.base.proofs.BelowLaws.{first-le}
+use Rattle.chart.specs.declared.Point.{Point}
 use Rattle.lattice.specs.Enclosed.{encloses}
 use Rattle.lattice.specs.Hull.{InTriangle, InHull, Missing, LowestMissing, After}
-use Rattle.lattice.specs.Search.{upColumn, downColumn, missingCell, lowestGap}
+use Rattle.rows.specs.Search.{upColumn, downColumn, missingCell}
 use Rattle.convexity.specs.Frame.{frameOf}
-use Rattle.convexity.specs.Cut.{cut, cornerPlace}
 use Rattle.convexity.specs.Pieces.{word, factors, dentPiece, edges}
 use Rattle.convexity.specs.Inside.{insideEdges}
+use Rattle.base.proofs.Mean.{mean-mirror, mean-at-least}
 use Rattle.convexity.proofs.Frame.{Sides}
-use Rattle.convexity.specs.Quadrant.{startE, startL, cellE, cellL, cellAlong, startOf, UnderFrom}
-use Rattle.convexity.proofs.Quadrant.{Clear, Shape}
+use Rattle.convexity.specs.Quadrant.{startE, startL, cellE, cellL, cellAlong, UnderFrom}
+use Rattle.convexity.proofs.Ring.{next, next-lt, cell-next}
+use Rattle.convexity.proofs.Quadrant.{NoBackStep, Shape}
 use Rattle.convexity.proofs.Shape.{shape}
 use Rattle.convexity.proofs.UnderLaws.{under-from-left, under-from-high}
-use Rattle.convexity.proofs.RowEnds.{enclosed-iff, enclosed-on-chart, enclosed-row, row-ends, row-within, bottom-lt-top, bottom, top, start-col}
+use Rattle.convexity.proofs.Crossings.{UnderPiece}
+use Rattle.convexity.proofs.RowEnds.{enclosed-iff, enclosed-on-chart, enclosed-row, row-ends, row-full, row-fits, bottom-lt-top, bottom, top}
 use Rattle.convexity.proofs.SidesFrom.{underfrom-iff-sides, sides-mean}
 use Rattle.convexity.proofs.Inside.{inside-iff}
 use Rattle.convexity.proofs.Smooth.{smooth-edges}
-use Rattle.convexity.proofs.PathCells.{row-full}
-use Rattle.convexity.proofs.DentMissing.{mean-flipped, mean-le, dent-missing}
-use Rattle.convexity.proofs.Line.{triangle-cols, triangle-below}
-use Rattle.convexity.proofs.Rows.{Rows, Within, HullOf}
-use Rattle.convexity.proofs.Climb.{search-lowest}
-
--- A cell in one frame and in the next: along opposite letters the distances add up
-cell-next : (k : ℕ) → k < 3 → (x : Point) → x .col < 255 → x .row < 255 → cellE (suc k) x + cellL k x ≡ 254
-unfolding cellE cellL cellAlong frameOf
-cell-next zero h x c r = omega arith
-cell-next (suc zero) h x c r = omega arith
-cell-next (suc (suc zero)) h x c r = omega arith
-cell-next (suc (suc (suc k))) h x c r = absurd (omega arith)
-
-cell-last : (x : Point) → x .col < 255 → x .row < 255 → cellE 0 x + cellL 3 x ≡ 254
-unfolding cellE cellL cellAlong frameOf
-cell-last x c r = omega arith
+use Rattle.convexity.proofs.DentMissing.{dent-missing}
+use Rattle.rows.proofs.Line.{triangle-cols, triangle-below}
+use Rattle.rows.proofs.Rows.{Rows, Within, HullOf}
+use Rattle.rows.proofs.Gaps.{search-lowest}
 
 -- Two tests that say the same are equal
 same-test : {P : Type 0} (a b : Bool) → (a ≡ true) ↔ P → (b ≡ true) ↔ P → a ≡ b
@@ -58,36 +42,27 @@ same-test false true e f = e .1 (f .0 refl)
 same-test false false e f = refl
 
 -- A cell on the chart
-OnChart : Point → Type 0
-OnChart x = (x .col < 255) × (x .row < 255)
+CellOnChart : Point → Type 0
+CellOnChart x = (x .col < 255) × (x .row < 255)
 
 -- The mean of three cells in a frame
-along-mean : (l : ℕ) {x p q u : Point} (v : InTriangle x p q u) → OnChart x → OnChart p → OnChart q → OnChart u
+along-mean : (l : ℕ) {x p q u : Point} (v : InTriangle x p q u) → CellOnChart x → CellOnChart p → CellOnChart q → CellOnChart u
     → (v .a + v .b + v .c) * cellAlong l x ≡ v .a * cellAlong l p + v .b * cellAlong l q + v .c * cellAlong l u
-unfolding cellAlong OnChart
+unfolding cellAlong CellOnChart
 along-mean zero v xs ps qs us = v .cols
 along-mean (suc zero) v xs ps qs us = v .rows
 along-mean (suc (suc zero)) v xs ps qs us =
-    mean-flipped (v .a) (v .b) (v .c) _ _ _ _ _ _ _ _ (omega arith) (omega arith) (omega arith) (omega arith) (v .cols)
+    mean-mirror 254 (v .a) (v .b) (v .c) _ _ _ _ _ _ _ _ (omega arith) (omega arith) (omega arith) (omega arith) (v .cols)
 along-mean (suc (suc (suc l))) v xs ps qs us =
-    mean-flipped (v .a) (v .b) (v .c) _ _ _ _ _ _ _ _ (omega arith) (omega arith) (omega arith) (omega arith) (v .rows)
+    mean-mirror 254 (v .a) (v .b) (v .c) _ _ _ _ _ _ _ _ (omega arith) (omega arith) (omega arith) (omega arith) (v .rows)
 
--- A mean is no less than a bound of its parts
-mean-ge : (a b c Q Q₁ Q₂ Q₃ m : ℕ) → 0 < a + b + c → (a + b + c) * Q ≡ a * Q₁ + b * Q₂ + c * Q₃ → m ≤ Q₁ → m ≤ Q₂ → m ≤ Q₃ → m ≤ Q
-mean-ge a b c Q Q₁ Q₂ Q₃ m some e h₁ h₂ h₃ =
-    le-of-mul-le-mul-left {k = a + b + c} (omega (arith, mul-le-mul-left a h₁, mul-le-mul-left b h₂, mul-le-mul-left c h₃)) some
-
-module _ (s : Point) (t : List ℕ) (clear : Clear s t) where
+module _ (s : Point) (t : List ℕ) (straight : NoBackStep s t) where
   abbrev formed : Shape s t
-  formed = shape s t clear
+  formed = shape s t straight
 
   -- Within the next piece's extreme, a cell is no higher than this piece reaches
   high-next : (x : Point) → x .col < 255 → x .row < 255 → ((k : ℕ) → k < 4 → startE s t k ≤ cellE k x) → (k : ℕ) → k < 4 → cellL k x ≤ startL s t k + laters (word s t k)
-  high-next x c r within zero h = omega (arith, cell-next 0 (omega arith) x c r, within 1 (omega arith), formed .next-earlier 0 (omega arith))
-  high-next x c r within (suc zero) h = omega (arith, cell-next 1 (omega arith) x c r, within 2 (omega arith), formed .next-earlier 1 (omega arith))
-  high-next x c r within (suc (suc zero)) h = omega (arith, cell-next 2 (omega arith) x c r, within 3 (omega arith), formed .next-earlier 2 (omega arith))
-  high-next x c r within (suc (suc (suc zero))) h = omega (arith, cell-last x c r, within 0 (omega arith), formed .last-earlier)
-  high-next x c r within (suc (suc (suc (suc k)))) h = absurd (omega arith)
+  high-next x c r within k h = omega (arith, cell-next k x c r, within (next k) (next-lt k), formed .next-earlier k h)
 
   -- Without a dent, under the path of a piece is on the right side of its edges
   under-sides : dentPiece s t ≡ 4 → (k : ℕ) → k < 4 → (P Q : ℕ) → startE s t k ≤ P → Q ≤ startL s t k + laters (word s t k)
@@ -101,14 +76,14 @@ module _ (s : Point) (t : List ℕ) (clear : Clear s t) where
 
   -- A cell under the four paths; a cell within the extremes and on the right side of all edges
   UnderAll : Point → Type 0
-  UnderAll x = (k : ℕ) → k < 4 → UnderFrom (word s t k) (startE s t k) (startL s t k) (cellE k x) (cellL k x)
+  UnderAll x = (k : ℕ) → k < 4 → UnderPiece s t k x
 
   SidesAll : Point → Type 0
   SidesAll x = (k : ℕ) → k < 4 → (startE s t k ≤ cellE k x) × Sides (factors s t k) (startE s t k) (startL s t k) (cellE k x) (cellL k x)
 
-  under-iff-sides : dentPiece s t ≡ 4 → (x : Point) → x .col < 255 → x .row < 255 → UnderAll x ↔ SidesAll x
+  all-under-iff-sides : dentPiece s t ≡ 4 → (x : Point) → x .col < 255 → x .row < 255 → UnderAll x ↔ SidesAll x
   unfolding UnderAll SidesAll
-  under-iff-sides smooth x c r = (
+  all-under-iff-sides smooth x c r = (
     λ under k h.
         let left = under-from-left _ _ _ _ _ (under k h) in
         (left, under-sides smooth k h (cellE k x) (cellL k x) left (under-from-high _ _ _ _ _ (under k h)) .0 (under k h)),
@@ -120,31 +95,31 @@ module _ (s : Point) (t : List ℕ) (clear : Clear s t) where
   pub edges-answer : dentPiece s t ≡ 4 → (x : Point) → x .col < 255 → x .row < 255 → insideEdges s (edges s t) x ≡ encloses s t (x .col) (x .row)
   unfolding UnderAll SidesAll
   edges-answer smooth x c r =
-      let both = under-iff-sides smooth x c r in
-      let enclosed = enclosed-iff s t (clear .turn .walked) formed x c r in
+      let both = all-under-iff-sides smooth x c r in
+      let enclosed = enclosed-iff s t straight x c r in
       same-test (insideEdges s (edges s t) x) (encloses s t (x .col) (x .row)) (inside-iff s t formed x c r)
       (λ e. both .0 (enclosed .0 e), λ a. enclosed .1 (both .1 a))
 
   -- A mean of cells within the extremes and on the right side of all edges is one too
-  sides-all-mean : {x p q u : Point} → InTriangle x p q u → OnChart x → OnChart p → OnChart q → OnChart u → SidesAll p → SidesAll q → SidesAll u → SidesAll x
+  sides-all-mean : {x p q u : Point} → InTriangle x p q u → CellOnChart x → CellOnChart p → CellOnChart q → CellOnChart u → SidesAll p → SidesAll q → SidesAll u → SidesAll x
   unfolding SidesAll cellE cellL
   sides-all-mean v xs ps qs us sp sq su k h =
       let across = along-mean (frameOf k .earlier) v xs ps qs us in
       let up = along-mean (frameOf k .later) v xs ps qs us in (
-        mean-ge (v .a) (v .b) (v .c) _ _ _ _ _ (v .some) across (sp k h .0) (sq k h .0) (su k h .0),
+        mean-at-least (v .a) (v .b) (v .c) _ _ _ _ _ (v .some) across (sp k h .0) (sq k h .0) (su k h .0),
         sides-mean (factors s t k) _ _ (v .a) (v .b) (v .c) _ _ _ _ _ _ _ _ (v .some) across up (sp k h .1) (sq k h .1) (su k h .1),
       )
 
   -- An enclosed cell is on the chart; without a dent it is on the right side of all edges
-  enclosed-sides : dentPiece s t ≡ 4 → (x : Point) → encloses s t (x .col) (x .row) ≡ true → OnChart x × SidesAll x
-  unfolding OnChart UnderAll
+  enclosed-sides : dentPiece s t ≡ 4 → (x : Point) → encloses s t (x .col) (x .row) ≡ true → CellOnChart x × SidesAll x
+  unfolding CellOnChart UnderAll
   enclosed-sides smooth x e =
-      let on = enclosed-on-chart s t (clear .turn .walked) formed (x .col) (x .row) e in
-      (on, under-iff-sides smooth x (on .0) (on .1) .0 (enclosed-iff s t (clear .turn .walked) formed x (on .0) (on .1) .0 e))
+      let on = enclosed-on-chart s t straight (x .col) (x .row) e in
+      (on, all-under-iff-sides smooth x (on .0) (on .1) .0 (enclosed-iff s t straight x (on .0) (on .1) .0 e))
 
   -- Without a dent every hull cell is enclosed: means keep the extremes and the sides
   smooth-full : dentPiece s t ≡ 4 → (x : Point) → InHull s t x → encloses s t (x .col) (x .row) ≡ true
-  unfolding OnChart UnderAll
+  unfolding CellOnChart UnderAll
   smooth-full smooth x h =
       let v = h .triangle in
       let p = enclosed-sides smooth (h .p) (h .p-enclosed) in
@@ -152,8 +127,8 @@ module _ (s : Point) (t : List ℕ) (clear : Clear s t) where
       let u = enclosed-sides smooth (h .t) (h .t-enclosed) in
       let xc : x .col < 255 = suc-le-suc (triangle-cols 254 v (omega arith) (omega arith) (omega arith)) in
       let xr : x .row < 255 = suc-le-suc (triangle-below 254 v (omega arith) (omega arith) (omega arith)) in
-      enclosed-iff s t (clear .turn .walked) formed x xc xr .1
-      (under-iff-sides smooth x xc xr .1 (sides-all-mean v (xc, xr) (p .0) (q .0) (u .0) (p .1) (q .1) (u .1)))
+      enclosed-iff s t straight x xc xr .1
+      (all-under-iff-sides smooth x xc xr .1 (sides-all-mean v (xc, xr) (p .0) (q .0) (u .0) (p .1) (q .1) (u .1)))
 
   dentPiece-le : dentPiece s t ≤ 4
   unfolding dentPiece
@@ -162,7 +137,7 @@ module _ (s : Point) (t : List ℕ) (clear : Clear s t) where
   -- E2: a dent is a missing cell
   pub dent-iff-missing : (dentPiece s t < 4) ↔ ((x : Point) × Missing s t x)
   dent-iff-missing = (
-    dent-missing s t clear formed (enclosed-iff s t (clear .turn .walked) formed),
+    dent-missing s t straight,
     λ m.
         elim (decLt (dentPiece s t) 4) [
           | yes l ↦ l
@@ -180,29 +155,17 @@ module _ (s : Point) (t : List ℕ) (clear : Clear s t) where
   hi r = downColumn s t r 0
 
   block-rows : Rows lo hi (bottom s t) (top s t)
-  unfolding startOf
-  block-rows =
-      let w = clear .turn .walked in
-      record {
-        below = bottom-lt-top s t w formed;
-        full =
-            λ r b l.
-            let cell = row-full s t clear formed r b l in
-            let ends = row-ends s t w formed r b l (cell .0) .0 (cell .2) in
-            omega arith;
-        fits = λ r b l. le-trans (row-within s t w formed r b l .1) (start-col s t w formed 2 (lit< tt));
-      }
+  block-rows = record { below = bottom-lt-top s t straight; full = row-full s t straight; fits = row-fits s t straight }
 
   -- Its cells are the enclosed ones, and its hull is theirs
   enclosed-within : (x : Point) → encloses s t (x .col) (x .row) ≡ true → Within lo hi (bottom s t) (top s t) x
   enclosed-within x e =
-      let w = clear .turn .walked in
-      let r = enclosed-row s t w formed (x .col) (x .row) e in
-      let ends = row-ends s t w formed (x .row) (r .0) (r .1) (x .col) .0 e in
+      let r = enclosed-row s t straight (x .col) (x .row) e in
+      let ends = row-ends s t straight (x .row) (r .0) (r .1) (x .col) .0 e in
       record { above = r .0; below = r .1; begun = ends .0; before = ends .1 }
 
   within-enclosed : (x : Point) → Within lo hi (bottom s t) (top s t) x → encloses s t (x .col) (x .row) ≡ true
-  within-enclosed x h = row-ends s t (clear .turn .walked) formed (x .row) (h .above) (h .below) (x .col) .1 (h .begun, h .before)
+  within-enclosed x h = row-ends s t straight (x .row) (h .above) (h .below) (x .col) .1 (h .begun, h .before)
 
   hull-of : (x : Point) → InHull s t x → HullOf lo hi (bottom s t) (top s t) x
   hull-of x h =

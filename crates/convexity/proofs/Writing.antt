@@ -15,7 +15,7 @@ use Rattle.convexity.specs.Frame.{frameOf}
 use Rattle.convexity.specs.Quadrant.{spell}
 use Rattle.convexity.specs.Directions.{edgeCols, edgeRows}
 use Rattle.convexity.specs.FromEdges.{quadrantOf, runIn, riseIn, sizesIn, pieceFrom}
-use Rattle.convexity.proofs.Crossings.{spell-append}
+use Rattle.convexity.proofs.Shape.{spell-append}
 use Rattle.convexity.proofs.Directions.{cols-next, rows-next}
 use Rattle.convexity.proofs.FromEdges.{quadrant-step}
 

@@ -3,7 +3,7 @@ use Prim.Native.Nat.{ℕ}
 use mathlib.Core.Path.{_≡_}
 use mathlib.Core.List.{List}
 use lib.IntN.{ℤ}
-use Rattle.lattice.specs.declared.Point.{Point}
+use Rattle.chart.specs.declared.Point.{Point}
 use Rattle.convexity.specs.Cut.{west, turn}
 use Rattle.convexity.specs.Pieces.{Reaches, dentPiece, edges}
 

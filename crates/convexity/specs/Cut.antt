@@ -4,7 +4,8 @@ use mathlib.Core.Bool.{Bool, true, false, cond, _&&_, _||_}
 use mathlib.Core.List.{List, [], _∷_, _++_}
 use lib.ListN.{length, getD, take, drop}
 use lib.Dec.{leb, ltb, eqb}
-use Rattle.lattice.specs.declared.Point.{Point}
+use Rattle.chart.specs.declared.Point.{Point}
+use Rattle.chart.specs.Outline.{Outline}
 use Rattle.lattice.specs.Chart.{cornerAt}
 use Rattle.convexity.specs.Frame.{Frame, frameOf, along}
 
@@ -34,6 +35,10 @@ west s w = cornerAt s w (westPlace s w)
 
 unfoldable pub turn : Point → List ℕ → List ℕ
 turn s w = drop (westPlace s w) w ++ take (westPlace s w) w
+
+-- The reading of an outline: the corner W, and the letters from there once round
+abbrev pub reading : Outline → Outline
+reading o = record { start = west (o .start) (o .letters); letters = turn (o .start) (o .letters) }
 
 -- "The outline is clockwise if the letter leaving W is 1." For a turn t
 unfoldable pub clockwise : List ℕ → Bool

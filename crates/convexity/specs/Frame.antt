@@ -1,8 +1,8 @@
 -- The four pieces' ordered letters, with their steps (document 01, "Two letters").
 use Prim.Native.Nat.{ℕ, zero, suc, _-_}
 use lib.IntN.{ℤ, pos, negsuc}
-use Rattle.lattice.specs.Limits.{side}
-use Rattle.lattice.specs.declared.Point.{Point}
+use Rattle.chart.specs.Limits.{side}
+use Rattle.chart.specs.declared.Point.{Point}
 
 -- A piece's two letters, the earlier and the later, each with its step in columns and in rows
 pub record Frame : Type 0 where

@@ -6,11 +6,11 @@ use mathlib.Core.List.{List, [], _∷_, _++_}
 use lib.ListN.{length, getD, take, drop}
 use lib.Dec.{ltb, eqb}
 use lib.IntN.{ℤ, pos, _+ℤ_, _*ℤ_}
-use Rattle.words.specs.Below.{first}
+use Rattle.base.specs.Below.{first}
 use Rattle.words.specs.Word.{Word, wordOf, earliers, laters}
 use Rattle.words.specs.Lyndon.{Factor, factorsOf}
 use Rattle.words.specs.Christoffel.{christoffel}
-use Rattle.lattice.specs.declared.Point.{Point}
+use Rattle.chart.specs.declared.Point.{Point}
 use Rattle.convexity.specs.Frame.{Frame, frameOf}
 use Rattle.lattice.specs.Refusals.{Simple}
 use Rattle.lattice.specs.Enclosed.{encloses}

@@ -2,7 +2,7 @@
 use Prim.Native.Nat.{ℕ, zero, suc}
 use mathlib.Core.Bool.{cond}
 use mathlib.Core.List.{List, [], _∷_, _++_}
-use Rattle.lattice.specs.declared.Point.{Point}
+use Rattle.chart.specs.declared.Point.{Point}
 use Rattle.convexity.specs.Cut.{turn, clockwise}
 
 -- The letter of the way back: right and left, up and down change places
@@ -18,5 +18,5 @@ backward [] = []
 backward (a ∷ w) = backward w ++ (opposite a ∷ [])
 
 -- The letters read clockwise, from the same start corner
-unfoldable pub reading : Point → List ℕ → List ℕ
-reading s w = cond (clockwise (turn s w)) w (backward w)
+unfoldable pub rightHanded : Point → List ℕ → List ℕ
+rightHanded s w = cond (clockwise (turn s w)) w (backward w)

@@ -6,11 +6,9 @@ use crate::plain::Counted;
 use crate::sets;
 use crate::walks;
 use crate::walks::CORNERS;
-use lattice::Point;
-use outline::Fields;
-use outline::loose;
-use outline::paper;
-use outline::test;
+use chart::Fields;
+use chart::Point;
+use chart::reply;
 ghost use Rattle.io.specs.Counts.{Counts};
 
 // Two numbers an edge, for an edge from each of the 16 cells.
@@ -77,7 +75,7 @@ fn in_set(set: u32, col: u16, row: u16) -> bool {
 fn query_agrees(anchor: Point, edges: &[i16], set: u32, t: u16) -> bool {
     let col = spread(t % 8);
     let row = spread(t / 8);
-    let fields = paper::of_position(loose::loose_query(anchor, edges, Point { col, row }));
+    let fields = reply::of_position(polygon::loose_query(anchor, edges, Point { col, row }));
     if fields.number != 0 {
         return false;
     }
@@ -165,7 +163,7 @@ pub fn run(corners: &[u16; CORNERS], n: usize, first: usize, counted: Counted) -
         row: corner / 5,
     };
     let mut list = [0i16; ROOM];
-    let fields = paper::of_verdict(test::test(start, &letters[..count], &mut list));
+    let fields = reply::of_verdict(outline::test(start, &letters[..count], &mut list));
     Answer {
         number: fields.number,
         agrees: agrees(fields, &list, counted),

@@ -1,5 +1,5 @@
--- The first so many of a list, no more than it has, are that many. Assumes nothing.
-use Prim.Native.Nat.{ℕ, _≤_, min}
+-- The first so many of a list, no more than it has, are that many: the smaller of the two counts is no more than the list's.
+use Prim.Native.Nat.{ℕ, min}
 use native.Mathlib.Omega.{arith}
 use mathlib.Core.Path.{_≡_, sym}
 use mathlib.Core.List.{List}
@@ -8,6 +8,3 @@ use lib.Seq.{length-take-le}
 
 pub first-length : {A : Type 0} (l : List A) (m n r : ℕ) → length l ≡ m → r ≡ min n m → r ≡ length (take r l)
 first-length l m n r e h = sym (length-take-le r l (omega arith))
-
-pub first-le : {A : Type 0} (l : List A) (m n : ℕ) → length l ≡ m → length (take (min n m) l) ≤ m
-first-le l m n e = omega (arith, length-take-le (min n m) l (omega arith))

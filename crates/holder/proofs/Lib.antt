@@ -1,8 +1,8 @@
--- The plain book on lists of calls; the list theorem; the laws of the code.
+-- What is at work in the plain book; the list theorem; the laws of the code.
 pub mod Lists
+pub mod LastTaken
 pub mod Stands
 pub mod ListTheorem
-pub mod PlainBook
-pub mod CloseLaws
+pub mod CallLaws
 pub mod FirstLaws
 pub mod SameLaws

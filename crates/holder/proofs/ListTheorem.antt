@@ -1,118 +1,145 @@
--- Every list of calls on a fresh holder gets the plain book's replies: the fresh holder stands for the fresh book, every call keeps that and replies as the
--- book does, and the rest is induction over the list.
--- Assumes, as the section's parameters, that a clear turn has no more edges than the holder has space for, and that edges answer for the block.
+-- Every list of calls on a fresh holder gets the plain book's replies: the fresh holder stands for the fresh book, every call keeps that and replies as
+-- the book does, and the rest is induction over the list. A query then answers by the outline last taken, and a close names the cell that the verdict names.
 use Prim.Native.Nat.{ℕ, _*_, _≤_, _<_, min}
 use native.Mathlib.Omega.{arith}
-use mathlib.Core.Path.{_≡_, refl, sym, ap, _∙_}
+use mathlib.Core.Path.{_≡_, refl, sym, ap, subst, _∙_}
 use mathlib.Core.Logic.{_↔_}
 use mathlib.Core.Bool.{Bool, true, false, cond, _||_, true≢false}
 use mathlib.Core.Option.{Option, none, some}
-use mathlib.Core.List.{List, [], _∷_, _++_}
-use lib.ListN.{length, length-replicate}
+use mathlib.Core.List.{List, [], _∷_}
+use lib.ListN.{length, take, drop, replicate, length-take}
+use lib.Seq.{take-at}
 use lib.Dec.{leb}
-use lib.IntN.{pos}
+use lib.IntN.{ℤ, pos}
 use borrow.Author.Tests.{leb-false, lt-leb}
-use Rattle.lattice.specs.Limits.{longest, side}
-use Rattle.lattice.specs.declared.Point.{Point}
-use Rattle.lattice.specs.Refusals.{Simple}
+use Rattle.chart.specs.Limits.{side, longestList}
+use Rattle.chart.specs.Outline.{Outline}
+use Rattle.chart.specs.Fields.{verdictFields}
+use Rattle.chart.specs.declared.Point.{Point}
+use Rattle.chart.specs.declared.Refusal.the-variants.{Dent, Cell}
+use Rattle.chart.specs.declared.Verdict.{Verdict}
+use Rattle.chart.specs.declared.Verdict.the-variants.{Taken, Refused}
 use Rattle.lattice.specs.Enclosed.{encloses}
-use Rattle.lattice.proofs.WalkLaws.{point-eq}
-use Rattle.convexity.specs.Cut.{west, turn}
-use Rattle.convexity.specs.Pieces.{edges, edgeCount, dentPiece}
-use Rattle.convexity.specs.Inside.{insideEdges}
-use Rattle.convexity.proofs.Quadrant.{Clear}
-use Rattle.outline.specs.Test.{dent, testOf, edgesAfter}
-use Rattle.outline.specs.Loose.{badCell, longestList}
-use Rattle.outline.specs.Fields.{verdictFields, refusalFields, accepted}
-use Rattle.outline.specs.Dents.{Dented, dentOf}
-use Rattle.outline.proofs.TestLaws.{TakenFacts, taken-facts, DentFacts, dent-facts-of, nine-iff-dented, test-dented, room-enough, edges-first}
-use Rattle.outline.specs.declared.Refusal.the-variants.{Dent, Cell}
-use Rattle.outline.specs.declared.Verdict.{Verdict}
-use Rattle.outline.specs.declared.Verdict.the-variants.{Taken, Refused}
-use Rattle.holder.specs.Calls.{Call, begin, add, drop, clear, close, query}
+use Rattle.lattice.specs.Hull.{Missing, LowestMissing}
+use Rattle.convexity.specs.Cut.{reading}
+use Rattle.convexity.specs.Pieces.{edges, Reaches}
+use Rattle.convexity.proofs.Bounds.{edges-length}
+use Rattle.convexity.proofs.Sent.{edges-answer-sent}
+use Rattle.verdict.specs.Verdict.{verdictOf, lentAfter}
+use Rattle.verdict.specs.Named.{CellNamed}
+use Rattle.verdict.proofs.VerdictLaws.{TakenFacts, taken-facts, taken-fits}
+use Rattle.verdict.proofs.Cells.{nine-iff-missing, verdict-named}
+use Rattle.polygon.specs.Loose.{badCell}
+use Rattle.polygon.proofs.LooseCases.{inside-short}
+use Rattle.border.specs.Judged.{judgedOf}
+use Rattle.border.proofs.JudgedLaws.{judged-verdict, judged-numbers}
 use Rattle.holder.specs.Replies.{replyFields}
-use Rattle.holder.specs.Book.{Outline, Book, fresh, equalsWork, roomyTest, closedWith, closes, asked, answer, repliesFrom, replies}
-use Rattle.holder.specs.Holder.{draftLetters, workLetters, workEdges, freshHolder, ended, sameOutline, lentList, tested, closedBy, closeOf, queryOf}
-use Rattle.holder.specs.Run.{handle, handledFrom, handled, holderAfter, bookAfter, replyAfter}
+use Rattle.holder.specs.Book.{Book, drafted, atWork, putDraft, putWork, fresh, equalsWork, closedReply, workAfter, closes, asked, answer, repliesFrom, replies, bookAfter}
+use Rattle.holder.specs.LastTaken.{lastTaken}
+use Rattle.holder.specs.Holder.{outlineOf, workEdges, freshHolder, draftOf, workOf, ended, replaced, hasOutline, located, holderAfterClose, closedBy, closeOf, queryOf, answerOf}
+use Rattle.holder.specs.Run.{handledFrom, handled, holderAfter, replyAfter}
+use Rattle.holder.specs.declared.Call.{Call}
+use Rattle.holder.specs.declared.Call.the-variants.{Begin, Add, Drop, Clear, Close, Query}
+use Rattle.holder.specs.declared.Kept.{Kept}
 use Rattle.holder.specs.declared.Draft.{Draft}
 use Rattle.holder.specs.declared.Work.{Work}
 use Rattle.holder.specs.declared.Holder.{Holder}
+use Rattle.holder.specs.declared.Answered.{Answered}
 use Rattle.holder.specs.declared.Reply.{Reply}
-use Rattle.holder.specs.declared.Reply.the-variants.{Inside, Outside, Taken as WasTaken, Same, Refused as WasRefused}
-use Rattle.holder.proofs.Stands.{Drafted, StandsForDraft, AtWork, StandsForWork, Stands, Kept, stands-fresh, kept-true, kept-false, begin-kept, add-kept, drop-kept, clear-kept}
+use Rattle.holder.specs.declared.Reply.the-variants.{Inside, Outside, Refused as WasRefused}
+use Rattle.holder.proofs.LastTaken.{work-last-taken}
+use Rattle.holder.proofs.Stands.{Drafted, StandsForDraft, Working, StandsForWork, Stands, Agrees, stands-fresh, agrees-true, agrees-false, begin-agrees, add-agrees, drop-agrees, clear-agrees}
 
 -- ---- close
 
--- "start and letters equal those at work"
-same-outline : (d : Draft) (w : Work) (o : Outline) (v : Option Outline) → Drafted d o → StandsForWork w v → sameOutline d w ≡ equalsWork o v
-unfolding sameOutline equalsWork
+-- A draft equals what is at work in the holder exactly if it does in the book
+same-outline : (d : Draft) (w : Work) (o : Outline) (v : Option Outline) → Drafted d o → StandsForWork w v → hasOutline w (d .kept) ≡ equalsWork o v
+unfolding hasOutline equalsWork
 same-outline d w o none k l = rw l
-same-outline d w o (some v) k l = rw (k .letters, l .letters, k .start, l .start, l .taken)
+same-outline d w o (some v) k l = rw (k .outline, l .outline, l .taken)
 
-lent-length : length lentList ≡ 2032
-unfolding lentList
-lent-length = length-replicate 2032 (pos 0)
+-- The numbers of an outline's edges, with zeros behind them
+abbrev pub listed : Outline → Verdict → List ℤ
+listed o v = lentAfter v (edges (reading o .start) (reading o .letters)) (replicate longestList (pos 0))
 
--- The outline of a draft that the test took is at work
-taken-at-work : (d : Draft) (o : Outline) (n c r : ℕ) → length (d .letters) ≡ longest → Drafted d o → testOf (o .start) (o .letters) (length lentList) ≡ Taken n c r →
-    AtWork
-    (record {
-      taken = true;
-      start = d .start;
-      letters = d .letters;
-      count = min (d .count) longest;
-      anchor = record { col = c; row = r };
-      numbers = edgesAfter (d .start) (draftLetters d) lentList;
-      edges = n;
-    })
-    o
-unfolding workLetters workEdges draftLetters
-taken-at-work d o n c r space k e =
-    let f : TakenFacts (o .start) (o .letters) (length lentList) n c r = taken-facts (o .start) (o .letters) (length lentList) n c r e in
-    let twice : min (min (d .count) longest) longest ≡ min (d .count) longest = omega arith in
-    let all : min (2 * n) longestList ≡ 2 * n = omega (arith, lent-length) in
+-- An outline that was taken is at work with its edges
+taken-working : (k : Kept) (o : Outline) (n : ℕ) (a : Point) → outlineOf k ≡ o → verdictOf o ≡ Taken n a → Working (replaced k a (listed o (Taken n a)) n) o
+unfolding replaced workEdges lentAfter
+taken-working k o n a kept e =
+    let f : TakenFacts o n a = taken-facts o n a e in
+    let all : min (2 * n) longestList ≡ 2 * n = omega (arith, taken-fits o n a e) in
+    let es : List ℤ = edges (reading o .start) (reading o .letters) in
+    let size : length es ≡ 2 * n = edges-length (reading o .start) (reading o .letters) ∙ ap (λ (j : ℕ). 2 * j) (sym (f .count)) in
     record {
       taken = refl;
-      start = k .start;
-      letters = rw twice (k .letters);
-      space = space;
-      fits = omega arith;
-      anchor = point-eq (record { col = c; row = r }) (west (o .start) (o .letters)) (f .col) (f .row);
-      edges = rw (all, k .letters, k .start) (edges-first (o .start) (o .letters) lentList n c r e);
-      simple = f .simple;
-      clear = f .clear;
+      outline = kept;
+      anchor = f .anchor;
+      edges = rw all (take-at es (drop (length es) (replicate longestList (pos 0))) (2 * n) size);
+      reaches = f .reaches;
       undented = f .undented;
     }
 
--- The two verdicts agree, the reply "same" or "taken" goes by the work on either side, and what is taken is at work
-closed-kept : {h : Holder} {b : Book} → Stands h b → (o : Outline) → Drafted (h .draft) o → (v : Verdict) →
-    testOf (o .start) (o .letters) (length lentList) ≡ v → Kept (closedBy h v) (closedWith b o v)
-unfolding closedBy closedWith ended
-closed-kept k o d (Refused f) e = (refl, record { space = k .space; draft = refl; work = k .work })
-closed-kept {h} {b} k o d (Taken n c r) e = (
-  rw (same-outline (h .draft) (h .work) o (b .work) d (k .work)),
-  record { space = k .space; draft = refl; work = taken-at-work (h .draft) o n c r (k .space) d e },
+-- By the verdict: the words "same" and "taken" go by the work on either side, and what is taken is at work
+closed-agrees : {h : Holder} {b : Book} → Stands h b → (o : Outline) → Drafted (draftOf h) o → (v : Verdict) → verdictOf o ≡ v →
+    Agrees (record { reply = closedReply (hasOutline (workOf h) (draftOf h .kept)) v; holder = holderAfterClose h (listed o v) v })
+    (record { reply = closedReply (equalsWork o (atWork b)) v; next = putWork (putDraft b none) (workAfter (atWork b) o v) })
+unfolding closedReply holderAfterClose workAfter ended
+closed-agrees k o d (Refused f) e = (refl, record { space = k .space; draft = refl; work = k .work })
+closed-agrees {h} {b} k o d (Taken n a) e = (
+  rw (same-outline (draftOf h) (workOf h) o (atWork b) d (k .work)),
+  record { space = k .space; draft = refl; work = taken-working (draftOf h .kept) o n a (d .outline) e },
 )
+
+-- The reply of a close has the verdict's number and cell
+closed-number : (t : Bool) (v : Verdict) → replyFields (closedReply t v) .number ≡ verdictFields v .number
+unfolding closedReply replyFields
+closed-number t (Refused f) = refl
+closed-number true (Taken n a) = refl
+closed-number false (Taken n a) = refl
+
+closed-named : (o : Outline) (t : Bool) (v : Verdict) → CellNamed o (verdictFields v) → CellNamed o (replyFields (closedReply t v))
+unfolding closedReply replyFields
+closed-named o t (Refused f) c = c
+closed-named o true (Taken n a) c = record { anchor = c .anchor; missing = c .missing }
+closed-named o false (Taken n a) c = record { anchor = c .anchor; missing = c .missing }
 
 -- ---- query
 
 -- A cell that passes refusal 11 is on the chart
-pub on-chart-cell : (x : Point) → badCell x ≡ false → (x .col < 255) × (x .row < 255)
+on-chart-cell : (x : Point) → badCell x ≡ false → (x .col < side) × (x .row < side)
 unfolding badCell
 on-chart-cell x e = go (leb side (x .col)) (leb side (x .row)) refl refl e
   where
-    go : (a b : Bool) → leb side (x .col) ≡ a → leb side (x .row) ≡ b → (a || b) ≡ false → (x .col < 255) × (x .row < 255)
+    go : (a b : Bool) → leb side (x .col) ≡ a → leb side (x .row) ≡ b → (a || b) ≡ false → (x .col < side) × (x .row < side)
     go true b p q z = absurd (true≢false z)
     go false true p q z = absurd (true≢false z)
     go false false p q z = (leb-false side (x .col) p, leb-false side (x .row) q)
 
-pub not-bad-cell : (x : Point) → x .col < 255 → x .row < 255 → badCell x ≡ false
+not-bad-cell : (x : Point) → x .col < side → x .row < side → badCell x ≡ false
 unfolding badCell
 not-bad-cell x c r = rw (lt-leb side (x .col) c, lt-leb side (x .row) r)
 
 cond-same : (t : Bool) (r : Reply) {x y : Reply} → (t ≡ false → x ≡ y) → cond t r x ≡ cond t r y
 cond-same true r e = refl
 cond-same false r e = e refl
+
+-- The list of edges at work is no longer than there is space for
+work-short : (w : Work) → length (workEdges w) ≤ longestList
+unfolding workEdges
+work-short w = omega (arith, length-take (min (2 * w .edges) longestList) (w .numbers))
+
+-- The edges at work answer for the outline at work
+work-answers : (w : Work) (x : Point) (o : Option Outline) → StandsForWork w o → located w x ≡ asked x o
+unfolding located asked
+work-answers w x none e = rw e
+work-answers w x (some o) k =
+    rw (inside-short (w .anchor) (workEdges w) x (work-short w), k .edges, k .anchor, k .taken)
+    (cond-same (badCell x) (WasRefused Cell) λ e.
+    rw (edges-answer-sent (o .start) (o .letters) (k .reaches) (k .undented) x (on-chart-cell x e .0) (on-chart-cell x e .1)))
+
+query-agrees : {h : Holder} {b : Book} → Stands h b → (x : Point) → Agrees (queryOf h x) (answer b (Query x))
+unfolding queryOf answer
+query-agrees {h} {b} k x = (work-answers (workOf h) x (atWork b) (k .work), k)
 
 says-inside : (t : Bool) → (cond t Inside Outside ≡ Inside) ↔ (t ≡ true)
 says-inside true = (λ e. refl, λ e. refl)
@@ -122,152 +149,121 @@ says-outside : (t : Bool) → (cond t Inside Outside ≡ Outside) ↔ (t ≡ fal
 says-outside true = (λ e. cc, λ e. cc)
 says-outside false = (λ e. refl, λ e. refl)
 
--- ---- numbers
-
--- A close's number is the test's
-closed-number : (b : Book) (o : Outline) (v : Verdict) → replyFields (closedWith b o v .reply) .number ≡ verdictFields v .number
-unfolding closedWith replyFields
-closed-number b o (Refused f) = refl
-closed-number b o (Taken n c r) = go (equalsWork o (b .work))
+-- 12 is the number of a query with nothing at work, and of no other
+asked-nothing : (x : Point) (o : Option Outline) → (replyFields (asked x o) .number ≡ 12) ↔ (o ≡ none)
+unfolding asked replyFields
+asked-nothing x none = (λ e. refl, λ e. refl)
+asked-nothing x (some o) = go (badCell x) (encloses (o .start) (o .letters) (x .col) (x .row))
   where
-    go : (t : Bool) → replyFields (cond t (Same n c r) (WasTaken n c r)) .number ≡ 0
-    go true = refl
-    go false = refl
-
-dent-number : (s : Point) (w : List ℕ) → replyFields (WasRefused (dentOf s w)) .number ≡ 9
-unfolding replyFields dentOf dent
-dent-number s w = refl
+    go : (t u : Bool) → (replyFields (cond t (WasRefused Cell) (cond u Inside Outside)) .number ≡ 12) ↔ (some o ≡ none)
+    go true u = (λ e. absurd (omega (arith, e)), λ e. cc)
+    go false true = (λ e. absurd (omega (arith, e)), λ e. cc)
+    go false false = (λ e. absurd (omega (arith, e)), λ e. cc)
 
 -- ---- the list theorem
 
--- The reply of a call after a list of calls is the list's last one
-pub handled-from-next : (h : Holder) (cs : List Call) (c : Call) →
-    handledFrom h (cs ++ (c ∷ [])) ≡ handledFrom h cs ++ (handle (holderAfter h cs) c .reply ∷ [])
-unfolding handledFrom holderAfter
-handled-from-next h [] c = refl
-handled-from-next h (d ∷ cs) c = ap (λ (r : List Reply). handle h d .reply ∷ r) (handled-from-next (handle h d .holder) cs c)
+close-agrees : {h : Holder} {b : Book} → Stands h b → Agrees (closeOf h) (closes b (drafted b))
+unfolding closeOf closes closedBy
+close-agrees {h} {b} k = go (drafted b) (k .draft)
+  where
+    go : (o : Option Outline) → StandsForDraft (draftOf h) o → Agrees (closeOf h) (closes b o)
+    go none e = agrees-false (draftOf h .begun) _ _ e (refl, k)
+    go (some o) d =
+        agrees-true (draftOf h .begun) _ _ (d .begun)
+        (rw (d .outline, judged-verdict o, judged-numbers o) (closed-agrees k o d (verdictOf o) refl))
 
-pub handled-next : (cs : List Call) (c : Call) → handled (cs ++ (c ∷ [])) ≡ handled cs ++ (replyAfter cs c ∷ [])
-unfolding handled replyAfter
-handled-next cs c = handled-from-next freshHolder cs c
+-- Every call replies as the book does, and its next holder stands for the next book
+call-agrees : {h : Holder} {b : Book} → Stands h b → (c : Call) → Agrees (answerOf h c) (answer b c)
+unfolding answerOf answer
+call-agrees k (Begin s) = begin-agrees k s
+call-agrees k (Add a) = add-agrees k a
+call-agrees k Drop = drop-agrees k
+call-agrees k Clear = clear-agrees k
+call-agrees k Close = close-agrees k
+call-agrees k (Query x) = query-agrees k x
 
-module _ (bounded : (s : Point) (w : List ℕ) → Clear (west s w) (turn s w) → edgeCount (west s w) (turn s w) ≤ 1016)
-    (answers : (s : Point) (w : List ℕ) → Simple s w → Clear (west s w) (turn s w) → dentPiece (west s w) (turn s w) ≡ 4 → (x : Point) →
-    x .col < 255 → x .row < 255 → insideEdges (west s w) (edges (west s w) (turn s w)) x ≡ encloses s w (x .col) (x .row)) where
-  -- "The holder has enough space for any taken outline's edges."
-  tested-roomy : (o : Outline) → testOf (o .start) (o .letters) (length lentList) ≡ roomyTest o
-  unfolding roomyTest
-  tested-roomy o =
-      room-enough (o .start) (o .letters) (length lentList) λ clear undented.
-      omega (arith, lent-length, bounded (o .start) (o .letters) clear)
+handled-from : {h : Holder} {b : Book} → Stands h b → (cs : List Call) → handledFrom h cs ≡ repliesFrom b cs
+unfolding handledFrom repliesFrom
+handled-from k [] = refl
+handled-from k (c ∷ cs) = cc (call-agrees k c .0, handled-from (call-agrees k c .1) cs)
 
-  pub close-kept : {h : Holder} {b : Book} → Stands h b → Kept (closeOf h) (closes b (b .draft))
-  unfolding closeOf closes tested
-  close-kept {h} {b} k = go (b .draft) (k .draft)
-    where
-      go : (o : Option Outline) → StandsForDraft (h .draft) o → Kept (closeOf h) (closes b o)
-      go none e = kept-false (h .draft .begun) _ _ e (refl, k)
-      go (some o) d =
-          let same : tested (h .draft) ≡ roomyTest o = rw (d .letters, d .start) (tested-roomy o) in
-          kept-true (h .draft .begun) _ _ (d .begun) (rw same (closed-kept k o d (roomyTest o) (tested-roomy o)))
+-- For every list of calls, whatever their arguments, each reply of a fresh holder is the plain book's (contract 8.2)
+pub list-theorem : (cs : List Call) → handled cs ≡ replies cs
+unfolding handled replies
+list-theorem cs = handled-from stands-fresh cs
 
-  -- The edges at work answer for the outline at work
-  query-answers : (h : Holder) (x : Point) (o : Option Outline) → StandsForWork (h .work) o → queryOf h x ≡ asked x o
-  unfolding queryOf asked
-  query-answers h x none e = rw e
-  query-answers h x (some o) w =
-      rw (w .edges, w .anchor, w .taken)
-      (cond-same (badCell x) (WasRefused Cell) λ e.
-      rw (answers (o .start) (o .letters) (w .simple) (w .clear) (w .undented) x (on-chart-cell x e .0) (on-chart-cell x e .1)))
+-- ---- after a list of calls
 
-  pub query-kept : {h : Holder} {b : Book} → Stands h b → (x : Point) → Kept (handle h (query x)) (answer b (query x))
-  unfolding handle answer
-  query-kept {h} {b} k x = (query-answers h x (b .work) (k .work), k)
+stands-from : {h : Holder} {b : Book} → Stands h b → (cs : List Call) → Stands (holderAfter h cs) (bookAfter b cs)
+unfolding holderAfter bookAfter
+stands-from k [] = k
+stands-from k (c ∷ cs) = stands-from (call-agrees k c .1) cs
 
-  -- Every call replies as the book does, and its next holder stands for the next book
-  pub stands-kept : {h : Holder} {b : Book} → Stands h b → (c : Call) →
-      (handle h c .reply ≡ answer b c .reply) × Stands (handle h c .holder) (answer b c .next)
-  unfolding handle answer
-  stands-kept k (begin s) = begin-kept k s
-  stands-kept k (add a) = add-kept k a
-  stands-kept k drop = drop-kept k
-  stands-kept k clear = clear-kept k
-  stands-kept k close = close-kept k
-  stands-kept k (query x) = query-kept k x
+-- The reply of one more call
+reply-after : (cs : List Call) (c : Call) → replyAfter cs c ≡ answer (bookAfter fresh cs) c .reply
+unfolding replyAfter
+reply-after cs c = call-agrees (stands-from stands-fresh cs) c .0
 
-  pub handled-from : {h : Holder} {b : Book} → Stands h b → (cs : List Call) → handledFrom h cs ≡ repliesFrom b cs
-  unfolding handledFrom repliesFrom
-  handled-from k [] = refl
-  handled-from k (c ∷ cs) = cc (stands-kept k c .0, handled-from (stands-kept k c .1) cs)
+-- So the holder has at work the outline last taken, with its anchor and its edges (contract 8.3)
+pub holder-last-taken : (cs : List Call) → StandsForWork (workOf (holderAfter freshHolder cs)) (lastTaken cs)
+holder-last-taken cs =
+    subst (StandsForWork (workOf (holderAfter freshHolder cs))) (work-last-taken cs) (stands-from stands-fresh cs .work)
 
-  -- Demand 3 of lists of calls: whatever the calls and their arguments, a fresh holder gives the plain book's replies
-  pub list-theorem : (cs : List Call) → handled cs ≡ replies cs
-  unfolding handled replies
-  list-theorem cs = handled-from stands-fresh cs
+module _ (cs : List Call) (x : Point) where
+  -- The reply of a query is read off the outline last taken
+  pub query-reply : replyAfter cs (Query x) ≡ asked x (lastTaken cs)
+  unfolding answer
+  query-reply = reply-after cs (Query x) ∙ ap (asked x) (work-last-taken cs)
 
-  -- ---- after a list of calls
+  -- It has number 12 exactly when there is none
+  pub query-nothing : (replyFields (replyAfter cs (Query x)) .number ≡ 12) ↔ (lastTaken cs ≡ none)
+  query-nothing = rw query-reply (asked-nothing x (lastTaken cs))
 
-  pub stands-from : {h : Holder} {b : Book} → Stands h b → (cs : List Call) → Stands (holderAfter h cs) (bookAfter b cs)
-  unfolding holderAfter bookAfter
-  stands-from k [] = k
-  stands-from k (c ∷ cs) = stands-from (stands-kept k c .1) cs
+  module _ (o : Outline) (last : lastTaken cs ≡ some o) (col : x .col < side) (row : x .row < side) where
+    answered : replyAfter cs (Query x) ≡ cond (encloses (o .start) (o .letters) (x .col) (x .row)) Inside Outside
+    unfolding asked
+    answered = query-reply ∙ ap (asked x) last ∙ rw (not-bad-cell x col row)
 
-  pub stands-after : (cs : List Call) → Stands (holderAfter freshHolder cs) (bookAfter fresh cs)
-  stands-after cs = stands-from stands-fresh cs
+    -- It is "inside" exactly when that outline encloses the cell, and else "outside" (contract 8.4)
+    pub query-inside : (replyAfter cs (Query x) ≡ Inside) ↔ (encloses (o .start) (o .letters) (x .col) (x .row) ≡ true)
+    query-inside = rw answered (says-inside (encloses (o .start) (o .letters) (x .col) (x .row)))
 
-  -- The next query's reply, with the outline o at work in the book
-  pub query-reply : (cs : List Call) (o : Outline) → bookAfter fresh cs .work ≡ some o → (x : Point) → x .col < 255 → x .row < 255 →
-      replyAfter cs (query x) ≡ cond (encloses (o .start) (o .letters) (x .col) (x .row)) Inside Outside
-  unfolding replyAfter answer asked
-  query-reply cs o e x c r = stands-kept (stands-after cs) (query x) .0 ∙ ap (asked x) e ∙ rw (not-bad-cell x c r)
+    pub query-outside : (replyAfter cs (Query x) ≡ Outside) ↔ (encloses (o .start) (o .letters) (x .col) (x .row) ≡ false)
+    query-outside = rw answered (says-outside (encloses (o .start) (o .letters) (x .col) (x .row)))
 
-  -- It is "inside" exactly when the outline at work encloses the cell
-  pub query-inside : (cs : List Call) (o : Outline) → bookAfter fresh cs .work ≡ some o → (x : Point) → x .col < 255 → x .row < 255 →
-      (replyAfter cs (query x) ≡ Inside) ↔ (encloses (o .start) (o .letters) (x .col) (x .row) ≡ true)
-  query-inside cs o e x c r =
-      let (there, back) = says-inside (encloses (o .start) (o .letters) (x .col) (x .row)) in
-      let reply = query-reply cs o e x c r in
-      (λ i. there (sym reply ∙ i), λ i. reply ∙ back i)
+module _ (cs : List Call) (o : Outline) (draft : drafted (bookAfter fresh cs) ≡ some o) where
+  -- The reply of a close is that of the draft's verdict
+  pub close-reply : replyAfter cs Close ≡ closedReply (equalsWork o (atWork (bookAfter fresh cs))) (verdictOf o)
+  unfolding answer closes
+  close-reply = reply-after cs Close ∙ ap (λ (d : Option Outline). closes (bookAfter fresh cs) d .reply) draft
 
-  -- Else it is "outside"
-  pub query-outside : (cs : List Call) (o : Outline) → bookAfter fresh cs .work ≡ some o → (x : Point) → x .col < 255 → x .row < 255 →
-      (replyAfter cs (query x) ≡ Outside) ↔ (encloses (o .start) (o .letters) (x .col) (x .row) ≡ false)
-  query-outside cs o e x c r =
-      let (there, back) = says-outside (encloses (o .start) (o .letters) (x .col) (x .row)) in
-      let reply = query-reply cs o e x c r in
-      (λ i. there (sym reply ∙ i), λ i. reply ∙ back i)
+  close-number : replyFields (replyAfter cs Close) .number ≡ verdictFields (verdictOf o) .number
+  close-number = rw close-reply (closed-number (equalsWork o (atWork (bookAfter fresh cs))) (verdictOf o))
 
-  -- The next close's reply, with the outline o drafted in the book
-  pub close-reply : (cs : List Call) (o : Outline) → bookAfter fresh cs .draft ≡ some o →
-      replyAfter cs close ≡ closedWith (bookAfter fresh cs) o (roomyTest o) .reply
-  unfolding replyAfter answer closes
-  close-reply cs o e = stands-kept (stands-after cs) close .0 ∙ ap (λ (d : Option Outline). closes (bookAfter fresh cs) d .reply) e
+  -- Of a draft that reaches the dent test: it has number 9 exactly when some cell is in the hull of the enclosed cells and not enclosed (contract 8.4)
+  pub close-nine-missing : Reaches (o .start) (o .letters) →
+      (replyFields (replyAfter cs Close) .number ≡ 9) ↔ ((x : Point) × Missing (o .start) (o .letters) x)
+  close-nine-missing r = rw close-number (nine-iff-missing o r)
 
-  -- Its number is 9 exactly when none of 1 to 8 applies to the draft and it is dented
-  pub close-number-nine : (cs : List Call) (o : Outline) → bookAfter fresh cs .draft ≡ some o →
-      (replyFields (replyAfter cs close) .number ≡ 9) ↔ Dented (o .start) (o .letters)
-  unfolding roomyTest
-  close-number-nine cs o e =
-      let n : ℕ = 2 * edgeCount (west (o .start) (o .letters)) (turn (o .start) (o .letters)) in
-      let number : replyFields (replyAfter cs close) .number ≡ verdictFields (roomyTest o) .number =
-      ap (λ (r : Reply). replyFields r .number) (close-reply cs o e) ∙ closed-number (bookAfter fresh cs) o (roomyTest o) in
-      let (there, back) = nine-iff-dented (o .start) (o .letters) n in
-      (λ i. there (sym number ∙ i), λ i. number ∙ back i)
+  close-cell : CellNamed o (replyFields (replyAfter cs Close))
+  close-cell = rw close-reply (closed-named o (equalsWork o (atWork (bookAfter fresh cs))) (verdictOf o) (verdict-named o))
 
-  -- It is then the refusal 9 with that dent's fields, and only then
-  pub close-refused-nine : (cs : List Call) (o : Outline) → bookAfter fresh cs .draft ≡ some o →
-      (replyAfter cs close ≡ WasRefused (dentOf (o .start) (o .letters))) ↔ Dented (o .start) (o .letters)
-  unfolding roomyTest closedWith
-  close-refused-nine cs o e = (
-    λ i. close-number-nine cs o e .0 (rw i (dent-number (o .start) (o .letters))),
-    λ i. close-reply cs o e ∙ rw (test-dented (o .start) (o .letters) (2 * edgeCount (west (o .start) (o .letters)) (turn (o .start) (o .letters))) i),
-  )
-
-  -- And the cell that it names is the one that the search finds
-  pub close-names-lowest : (cs : List Call) (o : Outline) → bookAfter fresh cs .draft ≡ some o → (k p l c r : ℕ) →
-      replyAfter cs close ≡ WasRefused (Dent k p l c r) → DentFacts (o .start) (o .letters) k p l c r
+  -- And the cell named is the lowest of them, leftmost in its row
+  pub close-names-lowest : (k p l : ℕ) (x : Point) → replyAfter cs Close ≡ WasRefused (Dent k p l x) → LowestMissing (o .start) (o .letters) x
   unfolding replyFields
-  close-names-lowest cs o e k p l c r i =
-      let d : Dented (o .start) (o .letters) = close-number-nine cs o e .0 (rw i) in
-      let same : replyAfter cs close ≡ WasRefused (dentOf (o .start) (o .letters)) = close-refused-nine cs o e .1 d in
-      dent-facts-of (o .start) (o .letters) k p l c r d (cc)
+  close-names-lowest k p l x e =
+      let named : CellNamed o (replyFields (WasRefused (Dent k p l x))) = rw e at close-cell in named .missing refl
+
+-- The cell that a close names, for every holder with a draft
+close-named : (h : Holder) → draftOf h .begun ≡ true → CellNamed (outlineOf (draftOf h .kept)) (replyFields (closeOf h .reply))
+unfolding closeOf closedBy
+close-named h b =
+    let o : Outline = outlineOf (draftOf h .kept) in
+    let t : Bool = hasOutline (workOf h) (draftOf h .kept) in
+    let closed : CellNamed o (replyFields (closedReply t (judgedOf o .verdict))) = rw (judged-verdict o) (closed-named o t (verdictOf o) (verdict-named o)) in
+    rw b closed
+
+-- A close's promise, from its answer alone
+pub close-promised : (h : Holder) (r : Answered) → r ≡ closeOf h →
+    (r ≡ closeOf h) × (draftOf h .begun ≡ true → CellNamed (outlineOf (draftOf h .kept)) (replyFields (r .reply)))
+close-promised h r e = (e, λ b. rw e (close-named h b))

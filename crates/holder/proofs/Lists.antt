@@ -1,26 +1,23 @@
--- The plain book on some lists of calls: the checker computes the replies, and they are those that document 01 gives. A draft filled to the
--- brim is too long to compute, so there one law says what n adds do.
--- Assumes nothing.
-use Prim.Native.Nat.{ℕ, zero, suc, _+_, _≤_, _<_}
-use native.Mathlib.Nat.{add-zero, add-suc, suc-add}
+-- The plain book on some lists of calls: the checker computes the replies. A draft filled to the brim is too long to compute, so there one law, by
+-- induction over the count, says what n adds do.
+use Prim.Native.Nat.{ℕ, zero, suc, _+_, _≤_}
 use native.Mathlib.Omega.{arith}
-use mathlib.Core.Path.{_≡_, refl, sym, ap, _∙_}
-use mathlib.Core.Bool.{Bool, true, false, cond}
-use mathlib.Core.Option.{none, some}
+use mathlib.Core.Path.{_≡_, refl, ap, _∙_}
+use mathlib.Core.Bool.{Bool, true, false}
+use mathlib.Core.Option.{some}
 use mathlib.Core.List.{List, [], _∷_, _++_, map, append-assoc, append-nil}
-use lib.ListN.{length, replicate, length-append, length-replicate}
+use lib.ListN.{length, replicate, length-append}
 use lib.Dec.{leb, lit≤}
-use borrow.Author.Tests.{lt-leb, le-leb, le-ltb}
-use Rattle.lattice.specs.Limits.{longest}
-use Rattle.lattice.specs.declared.Point.{Point}
-use Rattle.outline.specs.declared.Fields.{Fields}
-use Rattle.outline.specs.Fields.{numbered, placed, said, accepted, no-word, inside, outside, taken, same}
-use Rattle.outline.proofs.Computes.{computes}
-use Rattle.holder.specs.Calls.{Call, begin, add, drop, clear, close, query}
+use borrow.Author.Tests.{lt-leb}
+use Rattle.chart.specs.Limits.{side, longest}
+use Rattle.chart.specs.declared.Point.{Point}
+use Rattle.chart.specs.declared.Fields.{Fields}
+use Rattle.chart.specs.Fields.{numbered, placed, said, accepted, no-word, inside, outside, taken, same}
+use Rattle.verdict.proofs.Computes.{computes}
 use Rattle.holder.specs.Replies.{replyFields}
-use Rattle.holder.specs.declared.Reply.{Reply}
-use Rattle.holder.specs.declared.Reply.the-variants.{Done, Refused, DraftFull, DraftOpen, NoDraft, NothingAtWork}
-use Rattle.outline.specs.declared.Refusal.the-variants.{Start, Letter}
+use Rattle.holder.specs.declared.Call.{Call}
+use Rattle.holder.specs.declared.Call.the-variants.{Begin, Add, Drop, Clear, Close, Query}
+use Rattle.polygon.specs.Loose.{badCell}
 use Rattle.holder.specs.Book
 
 unfoldable pub at : ℕ → ℕ → Point
@@ -28,7 +25,11 @@ at c r = record { col = c; row = r }
 
 -- Begin, add each letter, close
 unfoldable pub draw : Point → List ℕ → List Call
-draw s w = begin s ∷ (map add w ++ (close ∷ []))
+draw s w = Begin s ∷ (map (λ a. Add a) w ++ (Close ∷ []))
+
+-- What a list of calls on a fresh book is replied, written out
+unfoldable pub replied : List Call → List Fields
+replied cs = map replyFields (Book.replies cs)
 
 -- The replies of n calls that were done, with no word
 unfoldable pub done : ℕ → List Fields
@@ -45,44 +46,44 @@ H6 = 1 ∷ 1 ∷ 1 ∷ 0 ∷ 3 ∷ 3 ∷ 0 ∷ 0 ∷ 3 ∷ 2 ∷ 2 ∷ 2 ∷ []
 
 -- A name that opens the book, for the proofs that compute it
 opened : Bool
-unfolding at draw done H3 H4 H6 computes replyFields Book.fresh Book.sameLetters Book.equalsWork Book.roomyTest Book.begins Book.adds Book.drops Book.closedWith Book.closes Book.asked Book.answer Book.repliesFrom Book.replies
+unfolding at draw replied done H3 H4 H6 computes replyFields badCell Book.fresh Book.sameLetters Book.sameOutline Book.equalsWork Book.begins Book.adds Book.drops Book.closedReply Book.workAfter Book.closes Book.asked Book.answer Book.repliesFrom Book.replies
 opened = true
 
 -- H3, then H4: the same block from another start is "taken", and H4 again is "same"
-pub taken-then-same : map replyFields (Book.replies (draw (at 0 1) H3 ++ (draw (at 1 1) H4 ++ (draw (at 1 1) H4 ++ (query (at 1 2) ∷ query (at 0 2) ∷ query (at 0 255) ∷ [])))))
-    ≡ done 13 ++ (accepted taken 4 0 1 ∷ (done 13 ++ (accepted taken 4 0 1 ∷ (done 13 ++ (accepted same 4 0 1 ∷ said inside ∷ said outside ∷ numbered 11 ∷ [])))))
+pub taken-then-same : replied (draw (at 0 1) H3 ++ (draw (at 1 1) H4 ++ (draw (at 1 1) H4 ++ (Query (at 1 2) ∷ Query (at 0 2) ∷ Query (at 0 side) ∷ []))))
+    ≡ done 13 ++ (accepted taken 4 (at 0 1) ∷ (done 13 ++ (accepted taken 4 (at 0 1) ∷
+    (done 13 ++ (accepted same 4 (at 0 1) ∷ said inside ∷ said outside ∷ numbered 11 ∷ [])))))
 unfolding opened
 taken-then-same = refl
 
 -- A clear between: nothing is at work, and H3 again is "taken". A refused close keeps what is at work and ends the draft
-pub clear-between : map replyFields (Book.replies (draw (at 0 1) H3 ++ (clear ∷ query (at 1 1) ∷ (draw (at 0 1) H3 ++ (draw (at 0 0) H6 ++ (close ∷ query (at 1 1) ∷ []))))))
-    ≡ done 13 ++ (accepted taken 4 0 1 ∷ said no-word ∷ numbered 12 ∷ (done 13 ++ (accepted taken 4 0 1 ∷ (done 13 ++
+pub clear-between : replied (draw (at 0 1) H3 ++ (Clear ∷ Query (at 1 1) ∷ (draw (at 0 1) H3 ++ (draw (at 0 0) H6 ++ (Close ∷ Query (at 1 1) ∷ [])))))
+    ≡ done 13 ++ (accepted taken 4 (at 0 1) ∷ said no-word ∷ numbered 12 ∷ (done 13 ++ (accepted taken 4 (at 0 1) ∷ (done 13 ++
     (record { number = 9; word = no-word; place = 4; piece = 2; length = 4; col = 1; row = 1 } ∷ numbered 13 ∷ said inside ∷ [])))))
 unfolding opened
 clear-between = refl
 
+-- A book with this draft, and nothing at work
+drawn : Point → List ℕ → Book.Book
+drawn s w = Book.putDraft Book.fresh (some (record { start = s; letters = w }))
+
 -- n adds of a letter to a draft that has room for them
-pub adding : (n : ℕ) (s : Point) (w : List ℕ) (cs : List Call) → length w + n ≤ longest →
-    Book.repliesFrom (record { draft = some (record { start = s; letters = w }); work = none }) (replicate n (add 1) ++ cs)
-    ≡ replicate n Done ++ Book.repliesFrom (record { draft = some (record { start = s; letters = w ++ replicate n 1 }); work = none }) cs
-unfolding Book.repliesFrom Book.answer Book.adds
+adding : (n : ℕ) (s : Point) (w : List ℕ) (cs : List Call) → length w + n ≤ longest →
+    map replyFields (Book.repliesFrom (drawn s w) (replicate n (Add 1) ++ cs)) ≡ done n ++ map replyFields (Book.repliesFrom (drawn s (w ++ replicate n 1)) cs)
+unfolding drawn done replyFields Book.fresh Book.repliesFrom Book.answer Book.adds
 adding zero s w cs fits = rw append-nil
 adding (suc n) s w cs fits =
     let room : leb longest (length w) ≡ false = lt-leb longest (length w) (omega arith) in
     let rest = adding n s (w ++ (1 ∷ [])) cs (simp length-append (omega arith)) in
-    rw room (ap (λ (r : List Reply). Done ∷ r) (rest ∙ simp append-assoc))
+    rw room (ap (λ (r : List Fields). said no-word ∷ r) (rest ∙ simp append-assoc))
 
--- Every state refusal: 12, 13 three times, 14, 3 in its place, 15 at 2,048 letters and not before
-unfoldable pub stateCalls : List Call
-unfolding at
-stateCalls =
-    query (at 0 255) ∷ add 9 ∷ close ∷ drop ∷ begin (at 0 256) ∷ begin (at 0 0) ∷ begin (at 0 256) ∷ add 4 ∷
-    (replicate 2048 (add 1) ++ (add 9 ∷ drop ∷ drop ∷ []))
-
-pub state-refusals : Book.replies stateCalls
-    ≡ NothingAtWork ∷ NoDraft ∷ NoDraft ∷ NoDraft ∷ Refused Start ∷ Done ∷ DraftOpen ∷ Refused (Letter 0) ∷
-    (replicate 2048 Done ++ (DraftFull ∷ Done ∷ NoDraft ∷ []))
-unfolding opened stateCalls
+-- Every refusal by the state: 12, 13 three times, 14, and 15 with as many letters as a draft may have and not before; 2 and 3 in their places
+pub state-refusals : replied
+    (Query (at 0 side) ∷ Add 9 ∷ Close ∷ Drop ∷ Begin (at 0 (suc side)) ∷ Begin (at 0 0) ∷ Begin (at 0 (suc side)) ∷ Add 4 ∷
+    (replicate longest (Add 1) ++ (Add 9 ∷ Drop ∷ Drop ∷ [])))
+    ≡ numbered 12 ∷ numbered 13 ∷ numbered 13 ∷ numbered 13 ∷ numbered 2 ∷ said no-word ∷ numbered 14 ∷ placed 3 0 ∷
+    (done longest ++ (numbered 15 ∷ said no-word ∷ numbered 13 ∷ []))
+unfolding opened drawn
 state-refusals =
-    ap (λ (r : List Reply). NothingAtWork ∷ NoDraft ∷ NoDraft ∷ NoDraft ∷ Refused Start ∷ Done ∷ DraftOpen ∷ Refused (Letter 0) ∷ r)
-    (adding 2048 (record { col = 0; row = 0 }) [] (add 9 ∷ drop ∷ drop ∷ []) (lit≤ tt))
+    ap (λ (r : List Fields). numbered 12 ∷ numbered 13 ∷ numbered 13 ∷ numbered 13 ∷ numbered 2 ∷ said no-word ∷ numbered 14 ∷ placed 3 0 ∷ r)
+    (adding longest (at 0 0) [] (Add 9 ∷ Drop ∷ Drop ∷ []) (lit≤ tt))

@@ -1,5 +1,5 @@
--- Two lists of letters are the same where they are as long and each letter equals its fellow: one letter taken off each at a time.
--- Assumes nothing.
+-- Two outlines are the same where their starts are and their letters are; two lists of letters where they are as long and each letter equals its
+-- fellow, one letter taken off each at a time.
 use Prim.Native.Nat.{ℕ, suc, _+_, _<_}
 use native.Mathlib.Numerals.{add-one}
 use native.Mathlib.Omega.{arith}
@@ -10,7 +10,18 @@ use lib.ListN.{length, drop, getD}
 use lib.Dec.{eqb}
 use lib.Seq.{drop-cons, drop-length}
 use borrow.Author.Tests.{eq-eqb, ne-eqb}
-use Rattle.holder.specs.Book.{sameLetters}
+use Rattle.chart.specs.Outline.{Outline}
+use Rattle.lattice.specs.Chart.{samePoint}
+use Rattle.holder.specs.Book.{sameLetters, sameOutline}
+
+-- By the starts
+pub same-elsewhere : (o v : Outline) → samePoint (o .start) (v .start) ≡ false → false ≡ sameOutline o v
+unfolding sameOutline
+same-elsewhere o v e = rw e
+
+pub same-there : (o v : Outline) → samePoint (o .start) (v .start) ≡ true → sameLetters (o .letters) (v .letters) ≡ sameOutline o v
+unfolding sameOutline
+same-there o v e = rw e
 
 and-false : (t : Bool) {u : Bool} → u ≡ false → (t && u) ≡ false
 and-false true e = e

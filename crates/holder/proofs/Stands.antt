@@ -1,25 +1,24 @@
--- This holder stands for this book: the flags say what there is, the first letters of each list are the book's, and the anchor and the edges at work are
--- those of the outline at work. Begin, add, drop and clear keep it and reply as the book does.
--- Assumes nothing.
+-- A holder stands for a book: the flags say what there is, what is kept is the book's outline, and the anchor and the edges at work are those of the
+-- outline at work. Begin, add, drop and clear keep it and reply as the book does, because each changes one slot on either side alike.
 use Prim.Native.Nat.{ℕ, suc, _+_, _≤_, _<_, min}
 use native.Mathlib.Omega.{arith}
 use mathlib.Core.Path.{_≡_, refl, sym, ap, _∙_}
 use mathlib.Core.Bool.{Bool, true, false, cond, true≢false}
 use mathlib.Core.Option.{Option, none, some}
-use mathlib.Core.List.{List, [], _∷_, _++_}
+use mathlib.Core.List.{[], _∷_, _++_}
 use lib.ListN.{length, take, set, length-take, length-set, length-replicate}
 use lib.Seq.{take-suc-set}
 use lib.Dec.{leb, ltb}
 use borrow.Author.Tests.{leb-false}
-use Rattle.lattice.specs.Limits.{longest}
-use Rattle.lattice.specs.declared.Point.{Point}
-use Rattle.lattice.specs.Refusals.{badStart, Simple}
-use Rattle.convexity.specs.Cut.{west, turn}
-use Rattle.convexity.specs.Pieces.{edges, dentPiece}
-use Rattle.convexity.proofs.Quadrant.{Clear}
-use Rattle.holder.specs.Book.{Outline, Book, fresh, Answer, begins, adds, drops, answer}
-use Rattle.holder.specs.Holder.{draftLetters, workLetters, workEdges, noDraft, noWork, freshHolder, ended, removed, beginOf, addOf, dropOf, clearOf}
-use Rattle.holder.specs.Calls.{clear}
+use Rattle.chart.specs.Limits.{longest}
+use Rattle.chart.specs.Outline.{Outline}
+use Rattle.chart.specs.declared.Point.{Point}
+use Rattle.lattice.specs.Refusals.{badStart}
+use Rattle.convexity.specs.Cut.{reading}
+use Rattle.convexity.specs.Pieces.{edges, dentPiece, Reaches}
+use Rattle.holder.specs.Book.{Book, drafted, atWork, fresh, Answer, begins, adds, drops, answer}
+use Rattle.holder.specs.Holder.{outlineOf, workEdges, noneKept, noDraft, noWork, freshHolder, draftOf, workOf, begunAt, lengthened, ended, removed, beginOf, addOf, dropOf, clearOf}
+use Rattle.holder.specs.declared.Call.the-variants.{Clear}
 use Rattle.holder.specs.declared.Draft.{Draft}
 use Rattle.holder.specs.declared.Work.{Work}
 use Rattle.holder.specs.declared.Holder.{Holder}
@@ -27,110 +26,105 @@ use Rattle.holder.specs.declared.Answered.{Answered}
 
 -- ---- the relation
 
--- A draft that holds this outline
+-- A draft that keeps this outline
 pub record Drafted (d : Draft) (o : Outline) : Type 0 where
   pub begun : d .begun ≡ true
-  pub start : d .start ≡ o .start
-  pub letters : draftLetters d ≡ o .letters
-  pub fits : d .count ≤ longest
+  pub outline : outlineOf (d .kept) ≡ o
+  pub fits : d .kept .count ≤ longest
 
 abbrev pub StandsForDraft : Draft → Option Outline → Type 0
 StandsForDraft d none = d .begun ≡ false
 StandsForDraft d (some o) = Drafted d o
 
--- A work that holds this outline, which was taken
-pub record AtWork (w : Work) (o : Outline) : Type 0 where
+-- A work that keeps this outline, which was taken, with its anchor and its edges
+pub record Working (w : Work) (o : Outline) : Type 0 where
   pub taken : w .taken ≡ true
-  pub start : w .start ≡ o .start
-  pub letters : workLetters w ≡ o .letters
-  pub space : length (w .letters) ≡ longest
-  pub fits : w .count ≤ longest
-  pub anchor : w .anchor ≡ west (o .start) (o .letters)
-  pub edges : workEdges w ≡ edges (west (o .start) (o .letters)) (turn (o .start) (o .letters))
-  pub simple : Simple (o .start) (o .letters)
-  pub clear : Clear (west (o .start) (o .letters)) (turn (o .start) (o .letters))
-  pub undented : dentPiece (west (o .start) (o .letters)) (turn (o .start) (o .letters)) ≡ 4
+  pub outline : outlineOf (w .kept) ≡ o
+  pub anchor : w .anchor ≡ reading o .start
+  pub edges : workEdges w ≡ edges (reading o .start) (reading o .letters)
+  pub reaches : Reaches (o .start) (o .letters)
+  pub undented : dentPiece (reading o .start) (reading o .letters) ≡ 4
 
 abbrev pub StandsForWork : Work → Option Outline → Type 0
 StandsForWork w none = w .taken ≡ false
-StandsForWork w (some o) = AtWork w o
+StandsForWork w (some o) = Working w o
 
 pub record Stands (h : Holder) (b : Book) : Type 0 where
-  pub space : length (h .draft .letters) ≡ longest
-  pub draft : StandsForDraft (h .draft) (b .draft)
-  pub work : StandsForWork (h .work) (b .work)
+  pub space : length (draftOf h .kept .letters) ≡ longest
+  pub draft : StandsForDraft (draftOf h) (drafted b)
+  pub work : StandsForWork (workOf h) (atWork b)
 
 -- A call's answer is the book's, and the next holder stands for the next book
-abbrev pub Kept : Answered → Answer → Type 0
-Kept a n = (a .reply ≡ n .reply) × Stands (a .holder) (n .next)
+abbrev pub Agrees : Answered → Answer → Type 0
+Agrees a n = (a .reply ≡ n .reply) × Stands (a .holder) (n .next)
 
 pub stands-fresh : Stands freshHolder fresh
-unfolding freshHolder noDraft noWork fresh
-stands-fresh = record { space = length-replicate {A = ℕ} 2048 0; draft = refl; work = refl }
+unfolding freshHolder noDraft noWork noneKept fresh
+stands-fresh = record { space = length-replicate {A = ℕ} longest 0; draft = refl; work = refl }
 
 -- ---- tests: the holder's flag is known, or both sides test the same
 
-pub kept-true : (t : Bool) (x y : Answered) {n : Answer} → t ≡ true → Kept x n → Kept (cond t x y) n
-kept-true true x y e k = k
-kept-true false x y e k = absurd (true≢false (sym e))
+pub agrees-true : (t : Bool) (x y : Answered) {n : Answer} → t ≡ true → Agrees x n → Agrees (cond t x y) n
+agrees-true true x y e k = k
+agrees-true false x y e k = absurd (true≢false (sym e))
 
-pub kept-false : (t : Bool) (x y : Answered) {n : Answer} → t ≡ false → Kept y n → Kept (cond t x y) n
-kept-false true x y e k = absurd (true≢false e)
-kept-false false x y e k = k
+pub agrees-false : (t : Bool) (x y : Answered) {n : Answer} → t ≡ false → Agrees y n → Agrees (cond t x y) n
+agrees-false true x y e k = absurd (true≢false e)
+agrees-false false x y e k = k
 
-pub kept-either : {x y : Answered} {m n : Answer} (t : Bool) → Kept x m → (t ≡ false → Kept y n) → Kept (cond t x y) (cond t m n)
-kept-either true k l = k
-kept-either false k l = l refl
+agrees-either : {x y : Answered} {m n : Answer} (t : Bool) → Agrees x m → (t ≡ false → Agrees y n) → Agrees (cond t x y) (cond t m n)
+agrees-either true k l = k
+agrees-either false k l = l refl
 
 -- ---- begin
 
-pub begin-kept : {h : Holder} {b : Book} → Stands h b → (s : Point) → Kept (beginOf h s) (begins b s (b .draft))
-unfolding beginOf begins draftLetters
-begin-kept {h} {b} k s = go (b .draft) (k .draft)
+pub begin-agrees : {h : Holder} {b : Book} → Stands h b → (s : Point) → Agrees (beginOf h s) (begins b s (drafted b))
+unfolding beginOf begins begunAt outlineOf
+begin-agrees {h} {b} k s = go (drafted b) (k .draft)
   where
-    go : (o : Option Outline) → StandsForDraft (h .draft) o → Kept (beginOf h s) (begins b s o)
+    go : (o : Option Outline) → StandsForDraft (draftOf h) o → Agrees (beginOf h s) (begins b s o)
     go none e =
-        kept-false (h .draft .begun) _ _ e
-        (kept-either (badStart s) (refl, k) λ on.
-        (refl, record { space = k .space; draft = record { begun = refl; start = refl; letters = refl; fits = omega arith }; work = k .work }))
-    go (some o) d = kept-true (h .draft .begun) _ _ (d .begun) (refl, k)
+        agrees-false (draftOf h .begun) _ _ e
+        (agrees-either (badStart s) (refl, k) λ on.
+        (refl, record { space = k .space; draft = record { begun = refl; outline = refl; fits = omega arith }; work = k .work }))
+    go (some o) d = agrees-true (draftOf h .begun) _ _ (d .begun) (refl, k)
 
 -- ---- add
 
 -- The count is the count of the book's letters
-pub drafted-length : (d : Draft) (o : Outline) → length (d .letters) ≡ longest → Drafted d o → length (o .letters) ≡ d .count
-unfolding draftLetters
-drafted-length d o space k = ap length (sym (k .letters)) ∙ rw length-take (omega arith)
+drafted-length : (d : Draft) (o : Outline) → length (d .kept .letters) ≡ longest → Drafted d o → length (o .letters) ≡ d .kept .count
+unfolding outlineOf
+drafted-length d o space k =
+    ap (λ (v : Outline). length (v .letters)) (sym (k .outline)) ∙ rw length-take (omega arith)
 
 -- One letter more
-drafted-more : (d : Draft) (o : Outline) (a : ℕ) → length (d .letters) ≡ longest → Drafted d o → d .count < longest →
-    take (min (d .count + 1) longest) (set (d .letters) (d .count) a) ≡ o .letters ++ (a ∷ [])
-unfolding draftLetters
+drafted-more : (d : Draft) (o : Outline) (a : ℕ) → length (d .kept .letters) ≡ longest → Drafted d o → d .kept .count < longest →
+    outlineOf (lengthened (d .kept) a .kept) ≡ record { start = o .start; letters = o .letters ++ (a ∷ []) }
+unfolding outlineOf lengthened
 drafted-more d o a space k room =
-    let now : min (d .count) longest ≡ d .count = omega arith in
-    let then : min (d .count + 1) longest ≡ suc (d .count) = omega arith in
-    rw (then, take-suc-set (d .letters) (d .count) a (omega arith)) (ap (λ (w : List ℕ). w ++ (a ∷ [])) (rw now at (k .letters)))
+    let now : min (d .kept .count) longest ≡ d .kept .count = omega arith in
+    let then : min (d .kept .count + 1) longest ≡ suc (d .kept .count) = omega arith in
+    rw (sym (k .outline), now, then, take-suc-set (d .kept .letters) (d .kept .count) a (omega arith))
 
-pub add-kept : {h : Holder} {b : Book} → Stands h b → (a : ℕ) → Kept (addOf h a) (adds b a (b .draft))
-unfolding addOf adds draftLetters
-add-kept {h} {b} k a = go (b .draft) (k .draft)
+pub add-agrees : {h : Holder} {b : Book} → Stands h b → (a : ℕ) → Agrees (addOf h a) (adds b a (drafted b))
+unfolding addOf adds lengthened
+add-agrees {h} {b} k a = go (drafted b) (k .draft)
   where
-    go : (o : Option Outline) → StandsForDraft (h .draft) o → Kept (addOf h a) (adds b a o)
-    go none e = kept-false (h .draft .begun) _ _ e (refl, k)
+    go : (o : Option Outline) → StandsForDraft (draftOf h) o → Agrees (addOf h a) (adds b a o)
+    go none e = agrees-false (draftOf h .begun) _ _ e (refl, k)
     go (some o) d =
-        let count : length (o .letters) ≡ h .draft .count = drafted-length (h .draft) o (k .space) d in
-        kept-true (h .draft .begun) _ _ (d .begun)
+        let count : length (o .letters) ≡ draftOf h .kept .count = drafted-length (draftOf h) o (k .space) d in
+        agrees-true (draftOf h .begun) _ _ (d .begun)
         (rw count
-        (kept-either (leb longest (h .draft .count)) (refl, k) λ room.
-        kept-either (ltb 3 a) (refl, k) λ letter. (
+        (agrees-either (leb longest (draftOf h .kept .count)) (refl, k) λ room.
+        agrees-either (ltb 3 a) (refl, k) λ letter. (
           refl,
           record {
-            space = length-set (h .draft .letters) (h .draft .count) a ∙ k .space;
+            space = length-set (draftOf h .kept .letters) (draftOf h .kept .count) a ∙ k .space;
             draft =
                 record {
                   begun = refl;
-                  start = d .start;
-                  letters = drafted-more (h .draft) o a (k .space) d (leb-false longest (h .draft .count) room);
+                  outline = drafted-more (draftOf h) o a (k .space) d (leb-false longest (draftOf h .kept .count) room);
                   fits = omega (arith, leb-false);
                 };
             work = k .work;
@@ -139,16 +133,16 @@ add-kept {h} {b} k a = go (b .draft) (k .draft)
 
 -- ---- drop
 
-pub drop-kept : {h : Holder} {b : Book} → Stands h b → Kept (dropOf h) (drops b (b .draft))
+pub drop-agrees : {h : Holder} {b : Book} → Stands h b → Agrees (dropOf h) (drops b (drafted b))
 unfolding dropOf drops ended
-drop-kept {h} {b} k = go (b .draft) (k .draft)
+drop-agrees {h} {b} k = go (drafted b) (k .draft)
   where
-    go : (o : Option Outline) → StandsForDraft (h .draft) o → Kept (dropOf h) (drops b o)
-    go none e = kept-false (h .draft .begun) _ _ e (refl, k)
-    go (some o) d = kept-true (h .draft .begun) _ _ (d .begun) (refl, record { space = k .space; draft = refl; work = k .work })
+    go : (o : Option Outline) → StandsForDraft (draftOf h) o → Agrees (dropOf h) (drops b o)
+    go none e = agrees-false (draftOf h .begun) _ _ e (refl, k)
+    go (some o) d = agrees-true (draftOf h .begun) _ _ (d .begun) (refl, record { space = k .space; draft = refl; work = k .work })
 
 -- ---- clear
 
-pub clear-kept : {h : Holder} {b : Book} → Stands h b → Kept (clearOf h) (answer b clear)
+pub clear-agrees : {h : Holder} {b : Book} → Stands h b → Agrees (clearOf h) (answer b Clear)
 unfolding clearOf answer removed
-clear-kept k = (refl, record { space = k .space; draft = k .draft; work = refl })
+clear-agrees k = (refl, record { space = k .space; draft = k .draft; work = refl })

@@ -1,6 +1,6 @@
--- What document 01 gives of a holder's reply: the number, the word and the fields, for every case of `Reply`.
-use Rattle.outline.specs.declared.Fields.{Fields}
-use Rattle.outline.specs.Fields.{numbered, said, accepted, refusalFields, no-word, inside, outside, taken, same}
+-- A holder's reply written out: the number, the word and the fields, for every case of `Reply` (contract 4 and 5).
+use Rattle.chart.specs.declared.Fields.{Fields}
+use Rattle.chart.specs.Fields.{numbered, said, accepted, refusalFields, no-word, inside, outside, taken, same}
 use Rattle.holder.specs.declared.Reply.{Reply}
 use Rattle.holder.specs.declared.Reply.the-variants.{Done, Inside, Outside, Taken, Same, Refused, NothingAtWork, NoDraft, DraftOpen, DraftFull}
 
@@ -8,8 +8,8 @@ unfoldable pub replyFields : Reply → Fields
 replyFields Done = said no-word
 replyFields Inside = said inside
 replyFields Outside = said outside
-replyFields (Taken e c r) = accepted taken e c r
-replyFields (Same e c r) = accepted same e c r
+replyFields (Taken n a) = accepted taken n a
+replyFields (Same n a) = accepted same n a
 replyFields (Refused f) = refusalFields f
 replyFields NothingAtWork = numbered 12
 replyFields NoDraft = numbered 13

@@ -1,34 +1,38 @@
-// The holder: a draft, what is at work, and the calls on them.
-use lattice::LONGEST;
-use lattice::Point;
-use lattice::checks;
-use outline::Refusal;
-use outline::Verdict;
-use outline::loose;
-use outline::loose::LONGEST_LIST;
+// The holder: a draft, what is at work, and the calls on them (contract 7).
+use chart::LONGEST;
+use chart::LONGEST_LIST;
+use chart::Point;
+use chart::Refusal;
+use chart::Verdict;
+use survey::checks;
+ghost use mathlib.Core.Bool.{cond, true};
 ghost use mathlib.Core.Path.{_≡_};
-ghost use Rattle.holder.specs.Holder.{freshHolder, draftEnded, beginOf, addOf, dropOf, clearOf, closeOf, queryOf};
-ghost use mathlib.Core.Bool.{cond};
+ghost use Rattle.verdict.specs.Named.{CellNamed};
+ghost use Rattle.holder.specs.Replies.{replyFields};
+ghost use Rattle.holder.specs.Holder.{outlineOf, draftOf, withDraft, workOf, withWork, freshHolder, beginOf, addOf, dropOf, clearOf, closeOf, queryOf, answerOf};
 
 mod drafts;
 mod letters;
-pub mod paper;
 mod works;
+pub mod written;
 
-// An outline in the making: its start, and the letters so far.
-pub struct Draft {
-    pub begun: bool,
+// What a draft and a work share: a start, and as many letters as are counted.
+pub struct Kept {
     pub start: Point,
     pub letters: [u8; LONGEST],
     pub count: usize,
 }
 
-// The outline last taken, with its anchor and its edges, two numbers an edge.
+// An outline in the making, if one was begun.
+pub struct Draft {
+    pub begun: bool,
+    pub kept: Kept,
+}
+
+// The outline last taken, if one was, with its anchor and its edges, two numbers an edge.
 pub struct Work {
     pub taken: bool,
-    pub start: Point,
-    pub letters: [u8; LONGEST],
-    pub count: usize,
+    pub kept: Kept,
     pub anchor: Point,
     pub numbers: [i16; LONGEST_LIST],
     pub edges: usize,
@@ -39,15 +43,25 @@ pub struct Holder {
     pub work: Work,
 }
 
-// What a call on the holder answers.
+// A call on the holder, with its argument.
+pub enum Call {
+    Begin { start: Point },
+    Add { letter: u8 },
+    Drop,
+    Clear,
+    Close,
+    Query { cell: Point },
+}
+
+// What a call answers.
 pub enum Reply {
     // Begin, add, drop or clear was done.
     Done,
     Inside,
     Outside,
     // A close took the draft: the count of edges, and the anchor.
-    Taken { edges: u16, col: u16, row: u16 },
-    Same { edges: u16, col: u16, row: u16 },
+    Taken { edges: u16, anchor: Point },
+    Same { edges: u16, anchor: Point },
     // Refusals 1 to 11.
     Refused(Refusal),
     // 12. A query with nothing at work.
@@ -56,7 +70,7 @@ pub enum Reply {
     NoDraft,
     // 14. Begin with a draft open.
     DraftOpen,
-    // 15. Add with 2,048 letters in the draft.
+    // 15. Add with as many letters in the draft as it may have.
     DraftFull,
 }
 
@@ -76,30 +90,52 @@ pub fn fresh() -> Holder
 }
 
 // The reply of a close that took the draft.
-fn taken_reply(same: bool, edges: u16, col: u16, row: u16) -> Reply
-    ensures { λ r. ⌜ r ≡ cond same (Reply.Same edges col row) (Reply.Taken edges col row) ⌝ }
+fn taken_reply(same: bool, edges: u16, anchor: Point) -> Reply
+    ensures { λ r. ⌜ r ≡ cond same (Reply.Same edges anchor) (Reply.Taken edges anchor) ⌝ }
 {
     if same {
-        Reply::Same { edges, col, row }
+        Reply::Same { edges, anchor }
     } else {
-        Reply::Taken { edges, col, row }
+        Reply::Taken { edges, anchor }
     }
 }
 
+// The slots. The calls reach a draft and a work by these four alone.
 impl Holder {
-    // What is at work remains.
-    fn end_draft(mut self) -> Self
-        ensures { λ r. ⌜ r ≡ draftEnded self ⌝ }
+    fn drafted(self) -> Draft
+        ensures { λ r. ⌜ r ≡ draftOf self ⌝ }
     {
-        let draft = self.draft.end();
+        self.draft
+    }
+
+    fn put_draft(mut self, draft: Draft) -> Self
+        ensures { λ r. ⌜ r ≡ withDraft self draft ⌝ }
+    {
         self.draft = draft;
         self
     }
 
+    fn at_work(self) -> Work
+        ensures { λ r. ⌜ r ≡ workOf self ⌝ }
+    {
+        self.work
+    }
+
+    fn put_work(mut self, work: Work) -> Self
+        ensures { λ r. ⌜ r ≡ withWork self work ⌝ }
+    {
+        self.work = work;
+        self
+    }
+}
+
+// The calls.
+impl Holder {
     pub fn begin(self, start: Point) -> Answered
         ensures { λ r. ⌜ r ≡ beginOf self start ⌝ }
     {
-        if self.draft.begun {
+        let draft = self.drafted();
+        if draft.begun {
             return Answered {
                 reply: Reply::DraftOpen,
                 holder: self,
@@ -111,25 +147,25 @@ impl Holder {
                 holder: self,
             };
         }
-        let draft = self.draft.begin_at(start);
-        let work = self.work;
+        let opened = draft.begin_at(start);
         Answered {
             reply: Reply::Done,
-            holder: Holder { draft, work },
+            holder: self.put_draft(opened),
         }
     }
 
-    // The draft is copied and changed here, and not by a method of its own: that would copy its letters once more.
     pub fn add(self, letter: u8) -> Answered
         ensures { λ r. ⌜ r ≡ addOf self letter ⌝ }
     {
-        if !self.draft.begun {
+        let draft = self.drafted();
+        if !draft.begun {
             return Answered {
                 reply: Reply::NoDraft,
                 holder: self,
             };
         }
-        let count = self.draft.count;
+        let mut kept = draft.kept;
+        let count = kept.count;
         if LONGEST <= count {
             return Answered {
                 reply: Reply::DraftFull,
@@ -144,20 +180,19 @@ impl Holder {
                 holder: self,
             };
         }
-        let mut draft = self.draft;
-        draft.letters[count] = letter;
-        draft.count = count + 1;
-        let work = self.work;
+        kept.letters[count] = letter;
+        kept.count = count + 1;
         Answered {
             reply: Reply::Done,
-            holder: Holder { draft, work },
+            holder: self.put_draft(Draft { begun: true, kept }),
         }
     }
 
     pub fn drop(self) -> Answered
         ensures { λ r. ⌜ r ≡ dropOf self ⌝ }
     {
-        if !self.draft.begun {
+        let draft = self.drafted();
+        if !draft.begun {
             return Answered {
                 reply: Reply::NoDraft,
                 holder: self,
@@ -165,65 +200,75 @@ impl Holder {
         }
         Answered {
             reply: Reply::Done,
-            holder: self.end_draft(),
+            holder: self.put_draft(draft.end()),
         }
     }
 
     pub fn clear(self) -> Answered
         ensures { λ r. ⌜ r ≡ clearOf self ⌝ }
     {
-        let draft = self.draft;
-        let work = self.work.remove();
+        let work = self.at_work();
         Answered {
             reply: Reply::Done,
-            holder: Holder { draft, work },
+            holder: self.put_work(work.remove()),
         }
     }
 
+    // The cell that it names is the anchor of an outline that is taken, and the lowest missing one of a dented outline.
     pub fn close(self) -> Answered
-        ensures { λ r. ⌜ r ≡ closeOf self ⌝ }
+        ensures answer { λ r. ⌜ r ≡ closeOf self ⌝ }
+        ensures named { λ r. ⌜ (draftOf self .begun ≡ true → CellNamed (outlineOf (draftOf self .kept)) (replyFields (r .reply))) ⌝ }
     {
-        if !self.draft.begun {
+        let draft = self.drafted();
+        if !draft.begun {
             return Answered {
                 reply: Reply::NoDraft,
                 holder: self,
             };
         }
-        let mut numbers: [i16; LONGEST_LIST] = [0; LONGEST_LIST];
-        let verdict = self.draft.test(&mut numbers);
-        let mut next = self.end_draft();
+        let kept = draft.kept;
+        let judged = kept.judge();
+        let next = self.put_draft(draft.end());
+        let verdict = judged.verdict;
         match verdict {
             Verdict::Refused(why) => Answered {
                 reply: Reply::Refused(why),
                 holder: next,
             },
-            Verdict::Taken { edges, col, row } => {
-                let same = self.draft.same_as(self.work);
-                let anchor = Point { col, row };
-                let work = self.work.replace(self.draft, anchor, numbers, edges);
-                next.work = work;
+            Verdict::Taken { edges, anchor } => {
+                let work = self.at_work();
+                let same = work.has(kept);
+                let numbers = judged.numbers;
+                let taken = work.replace(kept, anchor, numbers, edges);
                 Answered {
-                    reply: taken_reply(same, edges, col, row),
-                    holder: next,
+                    reply: taken_reply(same, edges, anchor),
+                    holder: next.put_work(taken),
                 }
             }
         }
     }
 
     // Answers from the edges at work, not from the letters.
-    pub fn query(self, cell: Point) -> Reply
+    pub fn query(self, cell: Point) -> Answered
         ensures { λ r. ⌜ r ≡ queryOf self cell ⌝ }
     {
-        if !self.work.taken {
-            return Reply::NothingAtWork;
+        let work = self.at_work();
+        Answered {
+            reply: work.locate(cell),
+            holder: self,
         }
-        if loose::bad_cell(cell) {
-            return Reply::Refused(Refusal::Cell);
-        }
-        if self.work.has_inside(cell) {
-            Reply::Inside
-        } else {
-            Reply::Outside
+    }
+
+    pub fn answer(self, call: Call) -> Answered
+        ensures { λ r. ⌜ r ≡ answerOf self call ⌝ }
+    {
+        match call {
+            Call::Begin { start } => self.begin(start),
+            Call::Add { letter } => self.add(letter),
+            Call::Drop => self.drop(),
+            Call::Clear => self.clear(),
+            Call::Close => self.close(),
+            Call::Query { cell } => self.query(cell),
         }
     }
 }

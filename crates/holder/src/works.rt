@@ -1,17 +1,18 @@
 // What is at work: the outline last taken.
-use crate::Draft;
+use crate::Kept;
+use crate::Reply;
 use crate::Work;
-use crate::letters;
-use lattice::LONGEST;
-use lattice::Point;
-use outline::loose;
-use outline::loose::LONGEST_LIST;
+use chart::LONGEST_LIST;
+use chart::Point;
+use chart::Refusal;
+use polygon::bad_cell;
+use polygon::inside;
 ghost use mathlib.Core.Path.{_≡_};
-ghost use Prim.Native.Nat.{_*_, _≤_, min};
-ghost use lib.ListN.{length, take};
-ghost use Rattle.convexity.specs.Inside.{insideEdges};
-ghost use Rattle.outline.specs.Loose.{longestList};
-ghost use Rattle.holder.specs.Holder.{noWork, workEdges, workOf, removed};
+ghost use Prim.Native.Nat.{_*_, min};
+ghost use lib.ListN.{take};
+ghost use Rattle.chart.specs.Limits.{longestList};
+ghost use Rattle.polygon.specs.Loose.{insideList};
+ghost use Rattle.holder.specs.Holder.{noWork, workEdges, replaced, removed, hasOutline, located};
 
 // How many numbers stand for this many edges: no more than there is space for.
 fn number_count(edges: usize) -> usize
@@ -26,8 +27,7 @@ fn number_count(edges: usize) -> usize
 
 // The numbers of the edges, of those that there is space for.
 fn first(numbers: &[i16; LONGEST_LIST], edges: usize) -> &[i16]
-    ensures list { λ r. ⌜ now r ≡ take (min (2 * edges) longestList) (now (numbers .entry)) ⌝ }
-    ensures short { λ r. ⌜ length (now r) ≤ longestList ⌝ }
+    ensures { λ r. ⌜ now r ≡ take (min (2 * edges) longestList) (now (numbers .entry)) ⌝ }
 {
     let n = number_count(edges);
     let all = &numbers[..];
@@ -38,33 +38,27 @@ impl Work {
     pub fn none() -> Self
         ensures { λ r. ⌜ r ≡ noWork ⌝ }
     {
+        let kept = Kept::none();
         Work {
             taken: false,
-            start: Point { col: 0, row: 0 },
-            letters: [0; LONGEST],
-            count: 0,
+            kept,
             anchor: Point { col: 0, row: 0 },
             numbers: [0; LONGEST_LIST],
             edges: 0,
         }
     }
 
-    // The draft, taken, replaces what is at work.
+    // An outline that was taken replaces what is at work.
     pub fn replace(
         mut self,
-        draft: Draft,
+        kept: Kept,
         anchor: Point,
         numbers: [i16; LONGEST_LIST],
         edges: u16,
     ) -> Self
-        ensures { λ r. ⌜ r ≡ workOf draft anchor numbers edges ⌝ }
+        ensures { λ r. ⌜ r ≡ replaced kept anchor numbers edges ⌝ }
     {
-        let start = draft.start;
-        let sent = draft.letters;
-        let count = letters::held(draft.count);
-        self.start = start;
-        self.letters = sent;
-        self.count = count;
+        self.kept = kept;
         self.anchor = anchor;
         self.numbers = numbers;
         self.edges = edges as usize;
@@ -76,17 +70,43 @@ impl Work {
         ensures { λ r. ⌜ r ≡ removed self ⌝ }
     {
         self.taken = false;
-        self.count = 0;
-        self.edges = 0;
         self
     }
 
-    pub fn has_inside(self, cell: Point) -> bool
-        ensures { λ b. ⌜ b ≡ insideEdges (self .anchor) (workEdges self) cell ⌝ }
+    // This outline is at work, letter by letter.
+    pub fn has(self, kept: Kept) -> bool
+        ensures { λ r. ⌜ r ≡ hasOutline self kept ⌝ }
+    {
+        if !self.taken {
+            return false;
+        }
+        let own = self.kept;
+        kept.same_as(own)
+    }
+
+    fn has_inside(self, cell: Point) -> bool
+        ensures { λ b. ⌜ b ≡ insideList (self .anchor) (workEdges self) cell ⌝ }
     {
         let anchor = self.anchor;
         let edges = self.edges;
         let list = first(&self.numbers, edges);
-        loose::inside_edges(anchor, list, cell)
+        inside(anchor, list, cell)
+    }
+
+    // 12, 11, or where the cell lies.
+    pub fn locate(self, cell: Point) -> Reply
+        ensures { λ r. ⌜ r ≡ located self cell ⌝ }
+    {
+        if !self.taken {
+            return Reply::NothingAtWork;
+        }
+        if bad_cell(cell) {
+            return Reply::Refused(Refusal::Cell);
+        }
+        if self.has_inside(cell) {
+            Reply::Inside
+        } else {
+            Reply::Outside
+        }
     }
 }

@@ -5,7 +5,7 @@ use native.Mathlib.Omega.{arith}
 use mathlib.Core.Path.{_≡_, refl}
 use mathlib.Core.Bool.{true, false}
 use mathlib.Core.List.{List, [], _∷_}
-use Rattle.lattice.specs.declared.Point.{Point}
+use Rattle.chart.specs.declared.Point.{Point}
 use Rattle.lattice.specs.Chart.{step}
 use Rattle.lattice.specs.Enclosed.{encloses, ups, downs, count, upAlong, downAlong}
 use Rattle.lattice.specs.Hull.{InHull}

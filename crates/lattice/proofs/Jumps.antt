@@ -12,8 +12,8 @@ use native.Mathlib.Omega.{arith}
 use lib.ListN.{length, getD}
 use lib.Dec.{ltb, eqb, leb·suc-suc, leb·suc-zero, eqb·suc-suc, eqb·suc-zero}
 use borrow.Author.Tests.{eqb-true, eqb-false, lt-ltb, le-ltb, eq-eqb, ne-eqb}
-use Rattle.words.proofs.BelowLaws.{and-left, and-right}
-use Rattle.lattice.specs.declared.Point.{Point}
+use Rattle.base.proofs.BelowLaws.{and-left, and-right}
+use Rattle.chart.specs.declared.Point.{Point}
 use Rattle.lattice.specs.Chart.{step, leaves, walk, cornerAt}
 use Rattle.lattice.specs.Enclosed.{count, upAlong, downAlong, ups, downs}
 use Rattle.lattice.proofs.WalkLaws.{point, point-eq, step-right, step-up, step-left, step-down, corner-zero, corner-suc, corner-all, Walked, corner-injective}

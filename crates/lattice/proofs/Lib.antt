@@ -1,9 +1,6 @@
--- Walks and their rotations; jumps across sides; the right hand; the laws of the code.
+-- Walks and their rotations; jumps across sides; the right hand; the laws of the code; the simplest outlines.
 pub mod WalkLaws
 pub mod Jumps
 pub mod RightHand
 pub mod WalkCode
-pub mod CheckLaws
-pub mod SearchLaws
-pub mod RowLaws
 pub mod HullLaws

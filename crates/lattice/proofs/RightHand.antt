@@ -9,7 +9,7 @@ use native.Mathlib.Decide.{decLe, ℕ-discrete}
 use native.Mathlib.Omega.{arith}
 use lib.ListN.{length, take, drop, getD, take-append-drop}
 use borrow.Author.Tests.{eqb-false}
-use Rattle.lattice.specs.declared.Point.{Point}
+use Rattle.chart.specs.declared.Point.{Point}
 use Rattle.lattice.specs.Chart.{step, leaves, walk, cornerAt}
 use Rattle.lattice.specs.Enclosed.{ups, downs, encloses}
 use Rattle.lattice.proofs.WalkLaws.{point, point-eq, step-right, step-up, step-left, step-down, corner-zero, corner-suc, corner-all, Walked, corner-injective, rotation, walk-append}

@@ -1,14 +1,19 @@
 -- What the code of a walk meets at each letter: a letter that leaves the chart is not taken, and any other changes a number that is within its bounds.
 use Prim.Native.Nat.{ℕ, zero, suc, _+_, _-_, _<_, _≤_}
-use mathlib.Core.Path.{_≡_, refl}
+use mathlib.Core.Path.{_≡_, refl, sym}
 use mathlib.Core.Bool.{Bool, true, false, cond, _&&_, _||_, or-false, and-eq-true-iff}
+use mathlib.Core.List.{List}
+use lib.ListN.{length, getD}
 use lib.Dec.{eqb, leb, ltb}
 use native.Mathlib.Nat.{add-zero, sub-zero}
+use native.Mathlib.Numerals.{add-one}
 use native.Mathlib.Omega.{arith}
-use borrow.Author.Tests.{ltb-true, leb-false, lt-leb, eqb-true, eqb-false, ne-eqb}
-use Rattle.lattice.specs.Limits.{side}
-use Rattle.lattice.specs.declared.Point.{Point}
-use Rattle.lattice.specs.Chart.{step, leaves, stepped}
+use borrow.Author.Tests.{ltb-true, ltb-false, leb-false, lt-leb, eqb-true, eqb-false, ne-eqb}
+use Rattle.chart.specs.Limits.{side}
+use Rattle.chart.specs.declared.Point.{Point}
+use Rattle.lattice.specs.Chart.{step, leaves, stepped, cornerAt}
+use Rattle.lattice.specs.Refusals.{badStart, leavingPlace, Stays}
+use Rattle.lattice.proofs.WalkLaws.{or-left, or-right, first-absent, OnChart, step-on-chart, corner-zero, corner-suc}
 
 -- A letter above 3 is none of the four
 high : (a k : ℕ) → k ≤ 3 → eqb (suc (suc (suc (suc a)))) k ≡ false
@@ -92,3 +97,40 @@ stays-left p a e h = eqb-false (p .col) 0 (rw h at e)
 pub stays-down : (p : Point) (a : ℕ) → leaves p a ≡ false → a ≡ 3 → p .row ≡ 0 → ⊥
 unfolding leaves
 stays-down p a e h = eqb-false (p .row) 0 (rw h at e)
+
+-- ---- the corner in hand
+
+pub start-on-chart : (s : Point) → badStart s ≡ false → OnChart s
+unfolding badStart
+start-on-chart s e =
+    record {
+      col = ltb-false side (s .col) (or-left (ltb side (s .col)) (ltb side (s .row)) e);
+      row = ltb-false side (s .row) (or-right (ltb side (s .col)) (ltb side (s .row)) e);
+    }
+
+pub stepped-on-chart : (p : Point) (a : ℕ) → OnChart p → OnChart (stepped p a)
+stepped-on-chart p a h = go (leaves p a) refl
+  where
+    go : (b : Bool) → leaves p a ≡ b → OnChart (stepped p a)
+    go true e = rw (stepped-leaving p a e) h
+    go false e = rw (stepped-staying p a e) (step-on-chart p a e h)
+
+module _ (s : Point) (w : List ℕ) where
+  pub stays-at : Stays s w → (i : ℕ) → i < length w → leaves (cornerAt s w i) (getD w i 0) ≡ false
+  unfolding leavingPlace
+  stays-at t = first-absent (λ i. leaves (cornerAt s w i) (getD w i 0)) (length w) t
+
+  pub corner-next : (i : ℕ) (p q : Point) → i < length w → p ≡ cornerAt s w i → leaves (cornerAt s w i) (getD w i 0) ≡ false → q ≡ stepped p (getD w i 0) → q ≡ cornerAt s w (i + 1)
+  corner-next i p q l e h d = cc (stepped-staying (cornerAt s w i) (getD w i 0) h, corner-suc s w i l, add-one i)
+
+  -- p is the corner at place i, where no letter leaves the chart
+  pub record Walking (i : ℕ) (p : Point) : Type 0 where
+    pub le : i ≤ length w
+    pub corner : Stays s w → p ≡ cornerAt s w i
+
+  pub walking-zero : Walking 0 s
+  walking-zero = record { le = omega arith; corner = λ t. sym (corner-zero s w) }
+
+  pub walking-more : (i : ℕ) (p q : Point) → Walking i p → i < length w → q ≡ stepped p (getD w i 0) → Walking (i + 1) q
+  walking-more i p q t l d =
+      record { le = omega arith; corner = λ h. corner-next i p q l (t .corner h) (stays-at h i l) d }

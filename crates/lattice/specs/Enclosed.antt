@@ -3,7 +3,7 @@ use Prim.Native.Nat.{ℕ, suc, _+_}
 use mathlib.Core.Bool.{Bool, true, false, _&&_}
 use mathlib.Core.List.{List, [], _∷_}
 use lib.Dec.{leb, eqb}
-use Rattle.lattice.specs.declared.Point.{Point}
+use Rattle.chart.specs.declared.Point.{Point}
 use Rattle.lattice.specs.Chart.{step}
 
 unfoldable pub count : Bool → ℕ

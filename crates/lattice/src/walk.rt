@@ -1,6 +1,6 @@
 // One step of a walk. Neither function branches on the letter, which a processor cannot foresee.
-use crate::Point;
-use crate::SIDE;
+use chart::Point;
+use chart::SIDE;
 ghost use mathlib.Core.Path.{_≡_};
 ghost use mathlib.Core.Bool.{cond};
 ghost use lib.Dec.{eqb};

@@ -1,19 +1,2 @@
--- The specimens; the test's laws, one a branch; then the laws of the code.
-pub mod Computes
-pub mod Specimens
+-- Lending the edges, and the test by what is said of the outline.
 pub mod TestLaws
-pub mod Readings
-pub mod Buffer
-pub mod CutCode
-pub mod CutLaws
-pub mod StrayCode
-pub mod Integers
-pub mod FrameSizes
-pub mod Spans
-pub mod LooseCases
-pub mod TraceLaws
-pub mod DentLaws
-pub mod EarlyLaws
-pub mod PieceLaws
-pub mod TurnLaws
-pub mod ReplyLaws

@@ -1,79 +1,61 @@
-// The outline: its border cut in four, the test, and the loose query.
-pub mod cut;
-pub mod edge;
-pub mod frame;
-pub mod loose;
-pub mod paper;
-mod signed;
-pub mod test;
-mod trace;
+// The test: refusals 1 to 9, then room for the edges (contract 6.1).
+use chart::Point;
+use chart::Refusal;
+use chart::Verdict;
+ghost use Prim.Native.Nat.{_*_, _≤_};
+ghost use mathlib.Core.Path.{_≡_};
+ghost use mathlib.Core.List.{_++_};
+ghost use lib.ListN.{length, take, drop};
+ghost use Rattle.chart.specs.Limits.{longestList};
+ghost use Rattle.chart.specs.Fields.{verdictFields};
+ghost use Rattle.verdict.specs.Verdict.{testOf, testFields, edgesAfter};
+ghost use Rattle.verdict.specs.Named.{CellNamed};
+ghost use Rattle.outline.specs.Lent.{Lent};
 
-// Why an input is turned back: refusals 1 to 11 of document 01, each with the fields that it names.
-pub enum Refusal {
-    // 1. Fewer than 4 or more than 2,048 letters.
-    Count,
-    // 2. The start corner is off the chart.
-    Start,
-    // 3. A letter above 3.
-    Letter {
-        place: u16,
-    },
-    // 4. A letter reaches a corner off the chart.
-    Leaves {
-        place: u16,
-    },
-    // 5. The walk ends away from its start.
-    Unclosed,
-    // 6. A letter other than the last reaches a corner already met.
-    Touches {
-        place: u16,
-    },
-    // 7. The outline runs anticlockwise.
-    Anticlockwise,
-    // 8. A letter that is none of its piece's two.
-    BackStep {
-        piece: u16,
-        place: u16,
-    },
-    // 9. A factor that is no Christoffel word, and the lowest missing cell.
-    Dent {
-        piece: u16,
-        place: u16,
-        length: u16,
-        col: u16,
-        row: u16,
-    },
-    // 10, of a test. The lent list is shorter than two numbers an edge.
-    Room {
-        edges: u16,
-    },
-    // 10, of a loose query. The list is odd or too long.
-    List,
-    // 11. A cell number above 254.
-    Cell,
+// Copies the first n numbers of a list to the lent one.
+fn copy_edges(list: &[i16], n: usize, edges: &mut [i16])
+    requires { ⌜ (n ≤ length (now list)) × (n ≤ length (now edges)) ⌝ }
+    ensures { λ _. ⌜ now (edges .exit) ≡ take n (now (list .entry)) ++ drop n (now (edges .entry)) ⌝ }
+{
+    let mut i = 0;
+    while i < n {
+        let number = list[i];
+        edges[i] = number;
+        i += 1;
+    }
 }
 
-// What a test answers.
-pub enum Verdict {
-    // The count of edges, and the anchor.
-    Taken { edges: u16, col: u16, row: u16 },
-    Refused(Refusal),
+// Refusal 10, or the outline is taken: the numbers of the first `count` edges of a list are lent.
+fn lend(anchor: Point, list: &[i16], count: u16, edges: &mut [i16]) -> Verdict
+    requires { ⌜ (2 * count ≤ longestList) × (2 * count ≤ length (now list)) ⌝ }
+    ensures { λ r. ⌜ Lent anchor (take (2 * count) (now (list .entry))) count (now (edges .entry)) (now (edges .exit)) r ⌝ }
+{
+    let n = 2 * (count as usize);
+    if edges.len() < n {
+        return Verdict::Refused(Refusal::Room { edges: count });
+    }
+    copy_edges(list, n, edges);
+    Verdict::Taken {
+        edges: count,
+        anchor,
+    }
 }
 
-// What a loose query answers.
-pub enum Position {
-    Inside,
-    Outside,
-    Refused(Refusal),
-}
-
-// A reply on paper: the number, the word (0 none, 1 inside, 2 outside, 3 taken, 4 same) and the fields.
-pub struct Fields {
-    pub number: u16,
-    pub word: u16,
-    pub place: u16,
-    pub piece: u16,
-    pub length: u16,
-    pub col: u16,
-    pub row: u16,
+// Tests an outline. The lent list has the edges first where it is taken, and is left as it was where it is refused.
+pub fn test(start: Point, letters: &[u8], edges: &mut [i16]) -> Verdict
+    ensures verdict { λ r. ⌜ r ≡ testOf (record { start = start; letters = now (letters .entry) }) (length (now (edges .entry))) ⌝ }
+    ensures reply { λ r. ⌜ verdictFields r ≡ testFields (record { start = start; letters = now (letters .entry) }) (length (now (edges .entry))) ⌝ }
+    ensures edges { λ r. ⌜ now (edges .exit) ≡ edgesAfter (record { start = start; letters = now (letters .entry) }) (now (edges .entry)) ⌝ }
+    ensures cell { λ r. ⌜ CellNamed (record { start = start; letters = now (letters .entry) }) (verdictFields r) ⌝ }
+{
+    let judged = border::judge(start, letters);
+    let verdict = judged.verdict;
+    let numbers = judged.numbers;
+    match verdict {
+        Verdict::Refused(why) => Verdict::Refused(why),
+        Verdict::Taken {
+            edges: count,
+            anchor,
+        } => lend(anchor, &numbers, count, edges),
+    }
 }

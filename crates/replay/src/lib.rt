@@ -1,20 +1,23 @@
-// A list of calls as bytes, run from a fresh holder.
-use holder::Answered;
-use holder::Holder;
-use holder::paper::of_reply;
-use lattice::Point;
-use outline::paper;
-use outline::paper::NUMBERS;
+// A list of calls as bytes, run from a fresh holder (contract 10.3).
+use chart::Point;
+use chart::reply;
+use chart::reply::NUMBERS;
+use holder::Call;
+use holder::written::of_reply;
 ghost use mathlib.Core.Path.{_≡_};
-ghost use mathlib.Core.Option.{some};
-ghost use Prim.Native.Nat.{_≤_, _/_, min};
+ghost use Prim.Native.Nat.{_/_, min};
 ghost use lib.ListN.{length};
-ghost use Rattle.holder.specs.Calls.{Call};
-ghost use Rattle.holder.specs.Run.{handle};
-ghost use Rattle.replay.specs.Script.{wide as wideOf, callOf, callsRead, repliesAfter};
+ghost use Rattle.replay.specs.Script.{callWidth, replyWidth, wide as wideOf, callOf, callsRead, repliesAfter};
 
 // How many bytes a call is.
 pub const BYTES: usize = 5;
+
+// What the bytes of a call say.
+enum Decoded {
+    Call(Call),
+    // A number that is no call's.
+    Nothing,
+}
 
 // A number of 16 bits, low byte first.
 fn wide(low: u8, high: u8) -> u16
@@ -23,30 +26,27 @@ fn wide(low: u8, high: u8) -> u16
     low as u16 + 256 * (high as u16)
 }
 
-// One call, of five bytes.
-fn call(holder: Holder, number: u8, a: u8, b: u8, c: u8, d: u8) -> Answered
-    requires { ⌜ number ≤ 5 ⌝ }
-    ensures { λ r. ⌜ ((x : Call) → callOf number a b c d ≡ some x → r ≡ handle holder x) ⌝ }
+// A call's number, and then its argument.
+fn decode(number: u8, a: u8, b: u8, c: u8, d: u8) -> Decoded
+    ensures { λ r. ⌜ r ≡ callOf number a b c d ⌝ }
 {
     let col = wide(a, b);
     let row = wide(c, d);
     let point = Point { col, row };
     match number {
-        0 => holder.begin(point),
-        1 => holder.add(a),
-        2 => holder.drop(),
-        3 => holder.clear(),
-        4 => holder.close(),
-        _ => Answered {
-            reply: holder.query(point),
-            holder,
-        },
+        0 => Decoded::Call(Call::Begin { start: point }),
+        1 => Decoded::Call(Call::Add { letter: a }),
+        2 => Decoded::Call(Call::Drop),
+        3 => Decoded::Call(Call::Clear),
+        4 => Decoded::Call(Call::Close),
+        5 => Decoded::Call(Call::Query { cell: point }),
+        _ => Decoded::Nothing,
     }
 }
 
 // How many calls stand whole in this many bytes and have room for their replies in this many numbers.
 fn most(bytes: usize, numbers: usize) -> usize
-    ensures { λ r. ⌜ r ≡ min (bytes / 5) (numbers / 7) ⌝ }
+    ensures { λ r. ⌜ r ≡ min (bytes / callWidth) (numbers / replyWidth) ⌝ }
 {
     let calls = bytes / BYTES;
     let replies = numbers / NUMBERS;
@@ -63,21 +63,20 @@ pub fn replay(script: &[u8], replies: &mut [u16]) -> usize
     let mut done = 0;
     while done < end {
         let at = BYTES * done;
-        let number = script[at];
-        if 5 < number {
-            return done;
-        }
-        let answered = call(
-            holder,
-            number,
+        let decoded = decode(
+            script[at],
             script[at + 1],
             script[at + 2],
             script[at + 3],
             script[at + 4],
         );
-        let reply = answered.reply;
+        let Decoded::Call(call) = decoded else {
+            return done;
+        };
+        let answered = holder.answer(call);
+        let said = answered.reply;
         let to = NUMBERS * done;
-        paper::write(of_reply(reply), &mut replies[to..]);
+        reply::write(of_reply(said), &mut replies[to..]);
         holder = answered.holder;
         done += 1;
     }

@@ -5,10 +5,10 @@ use mathlib.Core.List.{List}
 use lib.ListN.{length}
 use lib.Dec.{leb}
 use lib.IntN.{ℤ}
-use Rattle.lattice.specs.declared.Point.{Point}
-use Rattle.outline.specs.Fields.{verdictFields, positionFields, replyAfter}
-use Rattle.outline.specs.Test.{testOf, edgesAfter}
-use Rattle.outline.specs.Loose.{looseOf}
+use Rattle.chart.specs.declared.Point.{Point}
+use Rattle.chart.specs.Fields.{positionFields, replyAfter}
+use Rattle.verdict.specs.Verdict.{testFields, edgesAfter}
+use Rattle.polygon.specs.Loose.{looseOf}
 
 -- A corner or a cell, as two numbers
 abbrev pub at : ℕ → ℕ → Point
@@ -16,10 +16,10 @@ at c r = record { col = c; row = r }
 
 -- A test: the reply list afterwards, and the list lent for edges afterwards
 unfoldable pub testReply : ℕ → ℕ → List ℕ → List ℤ → List ℕ → List ℕ
-testReply c r letters edges reply = replyAfter (verdictFields (testOf (at c r) letters (length edges))) reply
+testReply c r letters edges reply = replyAfter (testFields (record { start = at c r; letters = letters }) (length edges)) reply
 
 unfoldable pub testEdges : ℕ → ℕ → List ℕ → List ℤ → List ℕ → List ℤ
-testEdges c r letters edges reply = cond (leb 7 (length reply)) (edgesAfter (at c r) letters edges) edges
+testEdges c r letters edges reply = cond (leb 7 (length reply)) (edgesAfter (record { start = at c r; letters = letters }) edges) edges
 
 -- A loose query: the reply list afterwards
 unfoldable pub looseReply : ℕ → ℕ → List ℤ → ℕ → ℕ → List ℕ → List ℕ

@@ -1,14 +1,18 @@
 // The calls for C and Rust. A slice is passed as a pointer and a length. A reply is seven numbers at the front of a lent list, in the order
 // number, word (0 none, 1 inside, 2 outside, 3 taken, 4 same), place, piece, length, column, row; a list of fewer than seven is turned back.
-use lattice::Point;
-use outline::loose;
-use outline::paper;
-use outline::test;
+use chart::Point;
+use chart::reply::NUMBERS;
+use chart::reply::of_position;
+use chart::reply::of_verdict;
+use chart::reply::write;
 ghost use mathlib.Core.Path.{_≡_};
+ghost use mathlib.Core.Bool.{true};
 ghost use lib.ListN.{length};
 ghost use lib.Dec.{leb};
+ghost use Rattle.chart.specs.Fields.{fieldsOf};
+ghost use Rattle.verdict.specs.Named.{CellNamed};
 ghost use Rattle.replay.specs.Script.{callsRead, repliesAfter};
-ghost use Rattle.robequarry.specs.Face.{testReply, testEdges, looseReply};
+ghost use Rattle.robequarry.specs.Face.{at, testReply, testEdges, looseReply};
 
 // Tests an outline: the start corner and the letters. The edges stand first in the list lent for them, where the outline is taken.
 #[no_mangle]
@@ -22,12 +26,13 @@ pub extern "C" fn rq_test(
     ensures room { λ r. ⌜ r ≡ leb 7 (length (now (reply .entry))) ⌝ }
     ensures reply { λ r. ⌜ now (reply .exit) ≡ testReply col row (now (letters .entry)) (now (edges .entry)) (now (reply .entry)) ⌝ }
     ensures edges { λ r. ⌜ now (edges .exit) ≡ testEdges col row (now (letters .entry)) (now (edges .entry)) (now (reply .entry)) ⌝ }
+    ensures cell { λ r. ⌜ (r ≡ true → CellNamed (record { start = at col row; letters = now (letters .entry) }) (fieldsOf (now (reply .exit)))) ⌝ }
 {
-    if reply.len() < paper::NUMBERS {
+    if reply.len() < NUMBERS {
         return false;
     }
-    let verdict = test::test(Point { col, row }, letters, edges);
-    paper::write(paper::of_verdict(verdict), reply)
+    let verdict = outline::test(Point { col, row }, letters, edges);
+    write(of_verdict(verdict), reply)
 }
 
 // Asks whether a cell lies inside the edges that leave an anchor.
@@ -47,8 +52,8 @@ pub extern "C" fn rq_loose_query(
         col: anchor_col,
         row: anchor_row,
     };
-    let position = loose::loose_query(anchor, edges, Point { col, row });
-    paper::write(paper::of_position(position), reply)
+    let position = polygon::loose_query(anchor, edges, Point { col, row });
+    write(of_position(position), reply)
 }
 
 // Runs a script of calls, five bytes each, from a fresh holder, writes a reply of seven numbers for each, and says how many.

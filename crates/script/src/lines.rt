@@ -1,6 +1,6 @@
 // Replies as lines of text.
+use chart::reply::NUMBERS;
 use libc::STDOUT_FILENO;
-use outline::paper::NUMBERS;
 ghost use Prim.Native.Nat.{_+_, _*_, _≤_, _<_};
 ghost use lib.ListN.{length};
 

@@ -1,11 +1,10 @@
-// Runs every specimen of document 01 through the test, asks loose queries of two of them, and writes a line for each.
-use lattice::LONGEST;
-use lattice::Point;
+// Runs every specimen through the test, asks loose queries of two of them, and writes a line for each.
+use chart::Fields;
+use chart::LONGEST;
+use chart::LONGEST_LIST;
+use chart::Point;
+use chart::reply;
 use libc::STDOUT_FILENO;
-use outline::Fields;
-use outline::loose;
-use outline::paper;
-use outline::test;
 ghost use Rattle.io.specs.Counts.{Counts};
 
 // A number without its sign.
@@ -71,8 +70,8 @@ fn write_fields(fields: Fields) {
 
 // Tests an outline, and writes its line.
 fn write_test(name: &[u8], start: Point, letters: &[u8]) {
-    let mut edges = [0i16; loose::LONGEST_LIST];
-    let fields = paper::of_verdict(test::test(start, letters, &mut edges));
+    let mut edges = [0i16; LONGEST_LIST];
+    let fields = reply::of_verdict(outline::test(start, letters, &mut edges));
     io::write_all(STDOUT_FILENO, name);
     io::write_all(STDOUT_FILENO, b":");
     write_fields(fields);
@@ -125,7 +124,7 @@ fn write_word(fields: Fields) {
 
 // Asks whether a list of edges holds a cell, and writes its line.
 fn write_query(name: &[u8], anchor: Point, edges: &[i16], cell: Point) {
-    let fields = paper::of_position(loose::loose_query(anchor, edges, cell));
+    let fields = reply::of_position(polygon::loose_query(anchor, edges, cell));
     io::write_all(STDOUT_FILENO, name);
     io::write_all(STDOUT_FILENO, b", cell");
     write_cell(cell);

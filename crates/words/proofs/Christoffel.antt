@@ -10,10 +10,10 @@ use native.Mathlib.Omega.{arith}
 use lib.ListN.{length, take, getD}
 use lib.Dec.{ltb, eqb}
 use borrow.Author.Tests.{ltb-true, ltb-false, eqb-true, eq-eqb}
-use Rattle.words.specs.Below.{every}
+use Rattle.base.specs.Below.{every}
 use Rattle.words.specs.Word.{Word, laters}
 use Rattle.words.specs.Christoffel.{Coprime, Remainders, Christoffel, single, longer, coprime, remainders, christoffel}
-use Rattle.words.proofs.BelowLaws.{and-left, and-right, every-at, every-of}
+use Rattle.base.proofs.BelowLaws.{and-left, and-right, every-at, every-of}
 use Rattle.words.proofs.Counts.{laters-le-length, laters-take-suc, laters-next-earlier, letter-earlier}
 
 no-false : {A : Type 0} → false ≡ true → A

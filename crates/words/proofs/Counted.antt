@@ -16,7 +16,7 @@ use Rattle.words.specs.Word.{Word, earliers, laters}
 use Rattle.words.specs.Lyndon.{Factor, Proper, copies}
 use Rattle.words.specs.Christoffel.{Coprime, Christoffel, single, longer}
 use Rattle.words.specs.Counted.{listed, countedLetter, christoffelWord, dividesBoth, commonUpTo, common, edgeWord, edgesWord}
-use Rattle.words.proofs.BelowLaws.{and-left, and-right}
+use Rattle.base.proofs.BelowLaws.{and-left, and-right}
 use Rattle.words.proofs.Counts.{earliers-laters, earliers-copies, laters-copies, laters-take-suc}
 use Rattle.words.proofs.Coprime.{coprime-divides}
 use Rattle.words.proofs.Christoffel.{factor-le, Letters, remainders-letters, coprime-pos, coprime-lt, floor-next, christoffel-floors}
@@ -206,53 +206,6 @@ common-coprime a b some d x y p q =
     let across : g * d * x ≡ a = omega (arith, ap (λ (m : ℕ). g * m) p) in
     let upward : g * d * y ≡ b = omega (arith, ap (λ (m : ℕ). g * m) q) in
     le-of-mul-le-mul-left {k = g} (omega (arith, mul-one g, common-greatest a b (g * d) x y some across upward)) (common-pos a b some)
-
--- Euclid's two laws, by which a loop finds it
-pub common-zero : (a : ℕ) → 0 < a → common a 0 ≡ a
-common-zero a pos =
-    let g = common a 0 in
-    let some : 0 < a + 0 = omega arith in
-    omega (arith, common-greatest a 0 a 1 0 some (mul-one a) (mul-zero a), factor-le g (a / g) a (common-divides a 0 some .0) pos)
-
-rest-divided : (g x y q r : ℕ) → r + g * y * q ≡ g * x → (z : ℕ) × (g * z ≡ r)
-rest-divided zero x y q r e = (0, omega arith)
-rest-divided (suc g) x y q r e =
-    let l : y * q ≤ x = le-of-mul-le-mul-left {k = suc g} (omega arith) (omega arith) in
-    go (le-dest l .0) (le-dest l .1)
-  where
-    go : (z : ℕ) → y * q + z ≡ x → (z : ℕ) × (suc g * z ≡ r)
-    go z h = (z, omega (arith, ap (λ (m : ℕ). suc g * m) h))
-
-pub common-step : (a b : ℕ) → 0 < b → common a b ≡ common b (a % b)
-common-step a b pos = omega (arith, up, down)
-  where
-    q : ℕ
-    q = a / b
-
-    r : ℕ
-    r = a % b
-
-    some : 0 < a + b
-    some = omega arith
-
-    some′ : 0 < b + r
-    some′ = omega arith
-
-    parts : r + b * q ≡ a
-    parts = mod-add-div a b
-
-    up : common a b ≤ common b r
-    up =
-        let g = common a b in
-        let whole = common-divides a b some in
-        let z = rest-divided g (a / g) (b / g) q r (omega (arith, parts, ap (λ (m : ℕ). m * q) (whole .1))) in
-        common-greatest b r g (b / g) (z .0) some′ (whole .1) (z .1)
-
-    down : common b r ≤ common a b
-    down =
-        let g = common b r in
-        let whole = common-divides b r some′ in
-        common-greatest a b g (r / g + b / g * q) (b / g) some (omega (arith, parts, mul-add g (r / g) (b / g * q), ap (λ (m : ℕ). m * q) (whole .0))) (whole .0)
 
 -- ---- a factor with its repeats is fixed by its run and its rise
 

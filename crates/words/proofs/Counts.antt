@@ -109,10 +109,3 @@ letter-earlier i w h l = go (getD w i false) refl
     go : (a : Bool) → getD w i false ≡ a → getD w i false ≡ false
     go false e = e
     go true e = absurd (omega (arith, laters-next-later i w h e))
-
-pub letter-later : (i : ℕ) (w : Word) → i < length w → laters (take i w) < laters (take (suc i) w) → getD w i false ≡ true
-letter-later i w h l = go (getD w i false) refl
-  where
-    go : (a : Bool) → getD w i false ≡ a → getD w i false ≡ true
-    go true e = e
-    go false e = absurd (omega (arith, laters-next-earlier i w h e))

@@ -1,4 +1,4 @@
--- Duval's search, letter by letter: what was read stays some copies of a Lyndon word and a proper beginning of it, and where the search stops these copies are the first factor.
+-- Duval's search, letter by letter: what was read stays some copies of a Lyndon word and a proper beginning of it, and where the search stops these copies are the first factor. The first j - i letters are one copy, so their later letters are its own.
 use Prim.Native.Nat.{ℕ, zero, suc, _+_, _-_, _*_, _/_, _≤_, _<_}
 use native.Mathlib.Nat.{div-eq-of-lt-le}
 use native.Mathlib.Omega.{arith}
@@ -7,15 +7,15 @@ use mathlib.Core.Logic.{⊎-elim}
 use mathlib.Core.Bool.{Bool, true, false}
 use mathlib.Core.List.{List, [], _∷_, _++_, append-assoc, append-nil}
 use lib.ListN.{length, take, drop, getD, length-append, length-drop, take-append-drop, drop-of-length-le}
-use lib.Seq.{take-suc, drop-cons, getD-at, getD-drop, length-take-le}
+use lib.Seq.{take-suc, take-append-seam, drop-cons, getD-at, getD-drop, length-take-le}
 use lib.Dec.{eqb}
-use Rattle.words.specs.Word.{Word, Begins, wordOf}
+use Rattle.words.specs.Word.{Word, Begins, wordOf, laters}
 use Rattle.words.specs.Lyndon.{Lyndon, copies, factorsOf}
 use Rattle.words.specs.Search.{rank, rankOf, firstOf}
 use Rattle.words.proofs.WordOf.{length-wordOf, letter-wordOf}
 use Rattle.words.proofs.Lyndon.{lyndon-single, length-cut}
 use Rattle.words.proofs.Factors.{Stops, factors-first}
-use Rattle.words.proofs.Counts.{length-copies}
+use Rattle.words.proofs.Counts.{length-copies, laters-take-suc}
 use Rattle.words.proofs.Duval.{copies-append, lyndon-larger, step-same, stops-at-end, stops-at-smaller}
 
 -- j letters of w are read: `times` copies of a Lyndon word and a proper beginning of it. Letter i is the one that comes next in that word
@@ -97,6 +97,12 @@ letter-back (suc k) {p} q b y t i h e g = ap (λ (u : Word). getD u i false) cut
     here : length (copies k p ++ q) ≡ i
     here = omega (arith, length-append (copies k p) q, length-copies k p)
 
+-- Copies begin with one
+copies-first : (m : ℕ) (p t : Word) → 0 < m → (u : Word) × (copies m p ++ t ≡ p ++ u)
+unfolding copies
+copies-first zero p t h = absurd (omega arith)
+copies-first (suc k) p t h = (copies k p ++ t, append-assoc p (copies k p) t)
+
 module _ {w : Word} {i j : ℕ} (r : Read w i j) where
   pub read-letter : getD w i false ≡ r .next
   read-letter =
@@ -146,8 +152,17 @@ module _ {w : Word} {i j : ℕ} (r : Read w i j) where
       let p : take (suc j) w ≡ copies (r .times) (r .word) ++ (r .begun ++ true ∷ []) = rw f at (read-more h) in
       read-copies (take (suc j) w) 1 (rw p l) (omega arith) (sym (append-nil (take (suc j) w))) (omega (arith, length-take-le (suc j) w h)) h
 
+  -- One period is the beginning of j - i letters
+  read-period : take (j - i) w ≡ r .word
+  read-period =
+      let p : j - i ≡ length (r .word) = omega (arith, r .gap) in
+      let c = copies-first (r .times) (r .word) (r .begun ++ drop j w) (r .some) in
+      rw p (ap (λ (u : Word). take (length (r .word)) u) (read-whole r ∙ c .1) ∙ take-append-seam (r .word) (c .0))
+
   -- Where the search stops, the copies are the first factor
-  found : Stops (r .word) (r .begun ++ drop j w) → firstOf (factorsOf w) ≡ record { length = j - i; times = j / (j - i) }
+  found :
+      Stops (r .word) (r .begun ++ drop j w)
+      → firstOf (factorsOf w) ≡ record { length = j - i; times = j / (j - i); laters = laters (take (j - i) w) }
   unfolding firstOf
   found s =
       let p : j - i ≡ length (r .word) = omega (arith, r .gap) in
@@ -155,23 +170,30 @@ module _ {w : Word} {i j : ℕ} (r : Read w i j) where
       let f : factorsOf w ≡ record { word = r .word; times = r .times } ∷ factorsOf (r .begun ++ drop j w) =
       ap factorsOf (read-whole r) ∙ factors-first (r .word) (r .begun ++ drop j w) (r .times) (r .lyndon) (r .some) s
       in
-      rw (p, m) (ap firstOf f)
+      rw (read-period, p, m) (ap firstOf f)
 
-  pub found-at-end : length w ≤ j → firstOf (factorsOf w) ≡ record { length = j - i; times = j / (j - i) }
+  pub found-at-end : length w ≤ j → firstOf (factorsOf w) ≡ record { length = j - i; times = j / (j - i); laters = laters (take (j - i) w) }
   found-at-end h =
       found (rw (drop-of-length-le w h, append-nil (r .begun)) (stops-at-end (r .begun) (r .next) (r .rest) (r .proper)))
 
-  pub found-at-smaller : j < length w → getD w i false ≡ true → getD w j false ≡ false → firstOf (factorsOf w) ≡ record { length = j - i; times = j / (j - i) }
+  pub found-at-smaller :
+      j < length w
+      → getD w i false ≡ true
+      → getD w j false ≡ false
+      → firstOf (factorsOf w) ≡ record { length = j - i; times = j / (j - i); laters = laters (take (j - i) w) }
   found-at-smaller h e f =
       found (rw (drop-cons w j false h, f) (stops-at-smaller (r .begun) (r .rest) (drop (suc j) w) (rw (← e, read-letter) (r .proper))))
 
 -- ---- in a list of letters, from a place on
 
--- i and j are places of the list
-pub record Search (l : List ℕ) (from later i j : ℕ) : Type 0 where
+-- i and j are places of the list; of all letters read `all` are the later one, and `one` of those of one period
+pub record Search (l : List ℕ) (from later i j all one : ℕ) : Type 0 where
   pub start : from ≤ i
   pub ahead : i < j
   pub within : j ≤ length l
+  pub few : all ≤ j
+  pub whole : all ≡ laters (take (j - from) (wordOf later (drop from l)))
+  pub period : one ≡ laters (take (j - i) (wordOf later (drop from l)))
   pub read : Read (wordOf later (drop from l)) (i - from) (j - from)
 
 -- The two ranks tell the letters
@@ -187,6 +209,10 @@ rank-eq false true h k = absurd (omega arith)
 rank-eq true false h k = absurd (omega arith)
 rank-eq true true h k = refl
 
+rank-le : (a : Bool) → rank a ≤ 1
+rank-le false = omega arith
+rank-le true = omega arith
+
 -- The word that follows a place: its length, and its letters
 length-after : (l : List ℕ) (from later : ℕ) → length (wordOf later (drop from l)) ≡ length l - from
 length-after l from later = length-wordOf later (drop from l) ∙ length-drop from l
@@ -197,19 +223,44 @@ letter-after l from later i p h =
     letter-wordOf later (drop from l) (i - from) (omega (arith, length-drop from l))
     ∙ rw (getD-drop from l (i - from) 0, e)
 
+-- A letter read adds its rank to the count
+laters-one : (a : Bool) → laters (a ∷ []) ≡ rank a
+unfolding laters
+laters-one false = refl
+laters-one true = refl
+
+laters-after :
+    (l : List ℕ) (from later j : ℕ)
+    → from ≤ j
+    → j < length l
+    → laters (take (j + 1 - from) (wordOf later (drop from l))) ≡ laters (take (j - from) (wordOf later (drop from l))) + rankOf (getD l j 0) later
+laters-after l from later j p h =
+    let w = wordOf later (drop from l) in
+    let e : j + 1 - from ≡ suc (j - from) = omega arith in
+    rw (e, laters-take-suc (j - from) w (omega (arith, length-after l from later)), letter-after l from later j p h, laters-one (eqb (getD l j 0) later))
+
 read-at : {w : Word} {i j i′ j′ : ℕ} → i ≡ i′ → j ≡ j′ → Read w i j → Read w i′ j′
 read-at p q r = rw (← p, ← q) r
 
-pub search-start : (l : List ℕ) (from later : ℕ) → from < length l → Search l from later from (from + 1)
+pub search-start :
+    (l : List ℕ) (from later : ℕ) → from < length l → Search l from later from (from + 1) (rankOf (getD l from 0) later) (rankOf (getD l from 0) later)
+unfolding laters
 search-start l from later h =
+    let none : from - from ≡ 0 = omega arith in
+    let one : rankOf (getD l from 0) later ≡ laters (take (from + 1 - from) (wordOf later (drop from l))) =
+    omega (arith, rw none at (laters-after l from later from (omega arith) h))
+    in
     record {
       start = omega arith;
       ahead = omega arith;
       within = omega arith;
+      few = omega (arith, rank-le (eqb (getD l from 0) later));
+      whole = one;
+      period = one;
       read = read-at (omega arith) (omega arith) (read-start (wordOf later (drop from l)) (omega (arith, length-after l from later)));
     }
 
-module _ {l : List ℕ} {from later i j : ℕ} (s : Search l from later i j) where
+module _ {l : List ℕ} {from later i j all one : ℕ} (s : Search l from later i j all one) where
   before : i < length l
   before = omega (arith, s .ahead, s .within)
 
@@ -223,13 +274,29 @@ module _ {l : List ℕ} {from later i j : ℕ} (s : Search l from later i j) whe
   inside : j < length l → j - from < length (wordOf later (drop from l))
   inside h = omega (arith, s .start, s .ahead, length-after l from later)
 
-  pub search-larger : j < length l → rankOf (getD l i 0) later < rankOf (getD l j 0) later → Search l from later from (j + 1)
+  -- Letter j counted too
+  more : j < length l → all + rankOf (getD l j 0) later ≡ laters (take (j + 1 - from) (wordOf later (drop from l)))
+  more h = omega (arith, s .whole, laters-after l from later j (omega (arith, s .start, s .ahead)) h)
+
+  few-more : all + rankOf (getD l j 0) later ≤ j + 1
+  few-more = omega (arith, s .few, rank-le (eqb (getD l j 0) later))
+
+  pub search-fits : j < length l → {b : ℕ} → b ≡ rankOf (getD l j 0) later → all + b ≤ length l
+  search-fits h e = omega (arith, few-more, e)
+
+  pub search-larger :
+      j < length l
+      → rankOf (getD l i 0) later < rankOf (getD l j 0) later
+      → Search l from later from (j + 1) (all + rankOf (getD l j 0) later) (all + rankOf (getD l j 0) later)
   search-larger h k =
       let p = rank-lt (eqb (getD l i 0) later) (eqb (getD l j 0) later) k in
       record {
         start = omega arith;
         ahead = omega (arith, s .start, s .ahead);
         within = omega arith;
+        few = few-more;
+        whole = more h;
+        period = more h;
         read = read-at (omega arith) (omega (arith, s .start, s .ahead)) (read-larger (s .read) (inside h) (here ∙ p .0) (there h ∙ p .1));
       }
 
@@ -237,34 +304,45 @@ module _ {l : List ℕ} {from later i j : ℕ} (s : Search l from later i j) whe
       j < length l
       → rankOf (getD l i 0) later ≤ rankOf (getD l j 0) later
       → rankOf (getD l j 0) later ≤ rankOf (getD l i 0) later
-      → Search l from later (i + 1) (j + 1)
+      → Search l from later (i + 1) (j + 1) (all + rankOf (getD l j 0) later) one
   search-same h k m =
       let p = rank-eq (eqb (getD l i 0) later) (eqb (getD l j 0) later) k m in
+      let d : j + 1 - (i + 1) ≡ j - i = omega arith in
       record {
         start = omega (arith, s .start);
         ahead = omega (arith, s .ahead);
         within = omega arith;
+        few = few-more;
+        whole = more h;
+        period = rw d (s .period);
         read = read-at (omega (arith, s .start)) (omega (arith, s .start, s .ahead)) (read-same (s .read) (inside h) (here ∙ p ∙ sym (there h)));
       }
 
   -- The answer, where the search stops
   answer :
-      firstOf (factorsOf (wordOf later (drop from l))) ≡ record { length = j - from - (i - from); times = (j - from) / (j - from - (i - from)) }
-      → record { length = j - i; times = (j - from) / (j - i) } ≡ firstOf (factorsOf (wordOf later (drop from l)))
-  answer e = let d : j - from - (i - from) ≡ j - i = omega (arith, s .start, s .ahead) in sym (rw d at e)
+      firstOf (factorsOf (wordOf later (drop from l)))
+      ≡ record {
+        length = j - from - (i - from);
+        times = (j - from) / (j - from - (i - from));
+        laters = laters (take (j - from - (i - from)) (wordOf later (drop from l)));
+      }
+      → record { length = j - i; times = (j - from) / (j - i); laters = one } ≡ firstOf (factorsOf (wordOf later (drop from l)))
+  answer e = let d : j - from - (i - from) ≡ j - i = omega (arith, s .start, s .ahead) in rw (s .period) (sym (rw d at e))
 
-  pub search-end : length l ≤ j → record { length = j - i; times = (j - from) / (j - i) } ≡ firstOf (factorsOf (wordOf later (drop from l)))
+  pub search-end :
+      length l ≤ j → record { length = j - i; times = (j - from) / (j - i); laters = one } ≡ firstOf (factorsOf (wordOf later (drop from l)))
   search-end h = answer (found-at-end (s .read) (omega (arith, length-after l from later)))
 
   pub search-smaller :
       j < length l
       → rankOf (getD l j 0) later < rankOf (getD l i 0) later
-      → record { length = j - i; times = (j - from) / (j - i) } ≡ firstOf (factorsOf (wordOf later (drop from l)))
+      → record { length = j - i; times = (j - from) / (j - i); laters = one } ≡ firstOf (factorsOf (wordOf later (drop from l)))
   search-smaller h k =
       let p = rank-lt (eqb (getD l j 0) later) (eqb (getD l i 0) later) k in
       answer (found-at-smaller (s .read) (inside h) (here ∙ p .1) (there h ∙ p .0))
 
 -- Nothing follows the list's end
-pub search-none : (l : List ℕ) (from later : ℕ) → length l ≤ from → record { length = 0; times = 0 } ≡ firstOf (factorsOf (wordOf later (drop from l)))
+pub search-none :
+    (l : List ℕ) (from later : ℕ) → length l ≤ from → record { length = 0; times = 0; laters = 0 } ≡ firstOf (factorsOf (wordOf later (drop from l)))
 unfolding wordOf factorsOf firstOf
 search-none l from later h = rw (drop-of-length-le l h)

@@ -1,5 +1,4 @@
 -- Numbers below a bound; the order, Lyndon words and their one factoring; counts of letters, Christoffel words, the dent criterion and words from counts; the searches.
-pub mod BelowLaws
 pub mod Order
 pub mod Lyndon
 pub mod Factors

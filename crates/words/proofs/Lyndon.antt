@@ -61,7 +61,7 @@ lyndon-of-suffixes w b = record { some = b .some; least = λ i h k. differs (dif
         (b .smaller (take i w) (drop i w) (sym (take-append-drop i w)) (omega (arith, length-take-le i w (omega arith))) (omega (arith, length-drop i w)))
         (omega (arith, length-drop i w))
 
--- "smaller than each of its proper rotations" and "smaller than each of its proper ends" are one
+-- Smaller than every other rotation, and smaller than every proper end, are one
 pub lyndon-suffixes : (w : Word) → Lyndon w ↔ BySuffixes w
 lyndon-suffixes w = (λ l. suffixes-of-differences w (differences-of-lyndon w l), lyndon-of-suffixes w)
 

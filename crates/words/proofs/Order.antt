@@ -152,24 +152,10 @@ compare-words u v = go (compared u v)
     go (shorter t e) = ⊎-elim (λ p. inr (inl p)) (λ l. inl l) (prefix-cases t e)
     go (longer t e) = ⊎-elim (λ p. inr (inl (sym p))) (λ l. inr (inr l)) (prefix-cases t e)
 
--- A word and its beginning have no first difference
-pub prefix-not-differs : {u v : Word} (t : Word) → v ≡ u ++ t → Differs u v → ⊥
-prefix-not-differs {u} {v} t e d = less-irrefl v (differs (subst (λ (w : Word). Differs w v) (sym e) (differs-append-left t d)))
-
-pub prefix-not-less : {u v : Word} (t : Word) → v ≡ u ++ t → Less v u → ⊥
-prefix-not-less {u} {v} t e l = ⊎-elim (λ p. less-irrefl u (subst (λ (w : Word). Less w u) (sym p) l)) (λ k. less-asymm k l) (prefix-cases t e)
-
 -- What is smaller and not shorter differs at a letter
 pub differs-of-less : {u v : Word} → Less u v → length v ≤ length u → Differs u v
 differs-of-less {u} (begins b) h = absurd (omega (arith, simp length-append at (ap length (b .whole))))
 differs-of-less (differs d) h = d
-
-pub differs-cancel : (x u v : Word) → Differs (x ++ u) (x ++ v) ↔ Differs u v
-differs-cancel x u v = (λ d. go d (less-cancel x u v .0 (differs d)), differs-prepend x)
-  where
-    go : Differs (x ++ u) (x ++ v) → Less u v → Differs u v
-    go d (begins b) = let c = begins-prepend x b in absurd (prefix-not-differs (c .next ∷ c .rest) (c .whole) d)
-    go d (differs f) = f
 
 pub differs-trans : {u v w : Word} → Differs u v → Differs v w → Differs u w
 differs-trans {u} {v} {w} d e = go (compared u w)

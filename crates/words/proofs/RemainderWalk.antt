@@ -10,10 +10,10 @@ use mathlib.Core.Bool.{Bool, true, false, not, _&&_, Bool·beq}
 use mathlib.Core.List.{List, [], _∷_}
 use lib.ListN.{length, getD}
 use lib.Dec.{ltb, eqb}
-use Rattle.words.specs.Below.{every}
+use Rattle.base.specs.Below.{every}
 use Rattle.words.specs.Word.{Word, wordOf, laters}
 use Rattle.words.specs.Christoffel.{Coprime, coprime, remainders, christoffel}
-use Rattle.words.proofs.BelowLaws.{below-suc, every-at, every-of}
+use Rattle.base.proofs.BelowLaws.{below-suc, every-at, every-of}
 use Rattle.words.proofs.WordOf.{length-wordOf, letter-wordOf}
 use Rattle.words.proofs.Christoffel.{coprime-iff}
 use Rattle.words.proofs.Coprime.{coprime-no-multiple}

@@ -47,28 +47,6 @@ module _ (w : Word) (c : Christoffel w) (i : ℕ) (l : i ≤ length w) where
   pub near-chord : earliers (take i w) * laters w < (laters (take i w) + 1) * earliers w + laters w
   near-chord = omega (arith, prefix, whole, earliers-laters w, floor-lt w (christoffel-floors w .0 c) i l)
 
--- Strictly under it between the ends
-pub under-chord-strict : (w : Word) → Christoffel w → (i : ℕ) → 0 < i → i < length w → laters (take i w) * earliers w < earliers (take i w) * laters w
-under-chord-strict w c i pos less =
-    omega (arith, prefix w c i (omega arith), whole w c i (omega arith), floor-strict w (christoffel-floors w .0 c) i pos less)
-
--- The same for a word cut in two
-module _ (w u v : Word) (c : Christoffel w) (e : w ≡ u ++ v) where
-  cut : take (length u) w ≡ u
-  cut = ap (take (length u)) e ∙ take-append-seam u v
-
-  fits : length u ≤ length w
-  fits = omega (arith, ap length e, length-append u v)
-
-  pub under-chord-append : laters u * earliers w ≤ earliers u * laters w
-  under-chord-append = rw cut at (under-chord w c (length u) fits)
-
-  pub near-chord-append : earliers u * laters w < (laters u + 1) * earliers w + laters w
-  near-chord-append = rw cut at (near-chord w c (length u) fits)
-
-  pub under-chord-strict-append : 0 < length u → 0 < length v → laters u * earliers w < earliers u * laters w
-  under-chord-strict-append p q = rw cut at (under-chord-strict w c (length u) p (omega (arith, ap length e, length-append u v)))
-
 -- The slope is the same compared by the later letters among all
 slope-of-lengths : (u v : Word) → laters v * length u < laters u * length v → laters v * earliers u < laters u * earliers v
 slope-of-lengths u v h =

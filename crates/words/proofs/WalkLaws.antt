@@ -1,5 +1,5 @@
 -- A walk over the factors, one after the other: the rest of the factors are the factors of the rest, because a falling list of Lyndon words is the factoring of what it writes.
-use Prim.Native.Nat.{ℕ, _+_, _-_, _*_, _≤_, _<_}
+use Prim.Native.Nat.{ℕ, _+_, _*_, _≤_, _<_}
 use native.Mathlib.Nat.{mul-le-mul-right}
 use native.Mathlib.Omega.{arith}
 use mathlib.Core.Path.{_≡_, refl, sym, ap, _∙_, subst}
@@ -7,14 +7,14 @@ use mathlib.Core.Bool.{false}
 use mathlib.Core.List.{List, [], _∷_, _++_}
 use lib.ListN.{length, take, drop, length-append, length-drop, drop-of-length-le}
 use lib.Seq.{take-append-seam, drop-at, drop-drop}
-use Rattle.words.specs.Word.{Word, wordOf, earliers, laters}
+use Rattle.words.specs.Word.{Word, wordOf, laters}
 use Rattle.words.specs.Lyndon.{Factor, copies, written, Proper, Factoring, factorsOf}
 use Rattle.words.specs.Search.{judge, judged, firstOf}
 use Rattle.words.specs.Christoffel.{christoffel}
 use Rattle.words.specs.declared.Found.{Found}
 use Rattle.words.specs.declared.Judged.{Judged}
 use Rattle.words.proofs.WordOf.{length-wordOf, wordOf-take, wordOf-drop}
-use Rattle.words.proofs.Counts.{laters-le-length, length-copies, earliers-append, laters-append, earliers-copies, laters-copies}
+use Rattle.words.proofs.Counts.{laters-le-length, length-copies}
 use Rattle.words.proofs.Factors.{factors-exist, factors-of, falling-head, falling-tail, written-first}
 
 -- ---- in a word
@@ -74,17 +74,6 @@ module _ (w : Word) (f : Factor) (fs : List Factor) (e : factorsOf w ≡ f ∷ f
   pub first-length : length (f .word) ≤ length w
   first-length = let t = written-first (factoring .falling) in omega (arith, ap length (sym (factoring .whole) ∙ t .1), length-append (f .word) (t .0))
 
-  -- The letters of the copies, and of what follows
-  pub earliers-first : earliers w ≡ f .times * earliers (f .word) + earliers (drop (f .times * length (f .word)) w)
-  earliers-first =
-      rw after
-      (ap earliers whole ∙ earliers-append (copies (f .times) (f .word)) (written fs) ∙ rw (earliers-copies (f .times) (f .word)))
-
-  pub laters-first : laters w ≡ f .times * laters (f .word) + laters (drop (f .times * length (f .word)) w)
-  laters-first =
-      rw after
-      (ap laters whole ∙ laters-append (copies (f .times) (f .word)) (written fs) ∙ rw (laters-copies (f .times) (f .word)))
-
 -- ---- in a list of letters, from a place on
 
 -- What a judged factor says of the walk: the factor that it judges, and where the next one begins
@@ -131,7 +120,7 @@ unfolding wordOf factorsOf judged
 judged-none l at later h = rw (drop-of-length-le l h)
 
 -- The search finds what is judged
-first-judged : (fs : List Factor) → firstOf fs ≡ record { length = judged fs .length; times = judged fs .times }
+first-judged : (fs : List Factor) → firstOf fs ≡ record { length = judged fs .length; times = judged fs .times; laters = judged fs .laters }
 unfolding firstOf judged
 first-judged [] = refl
 first-judged (f ∷ fs) = refl
@@ -140,18 +129,28 @@ module _ (l : List ℕ) (at later : ℕ) (h : at < length l) {r : Found} (e : r 
   step : Step l at later (judged (factorsOf (wordOf later (drop at l))))
   step = step-at l at later h refl
 
-  found : r ≡ record { length = judged (factorsOf (wordOf later (drop at l))) .length; times = judged (factorsOf (wordOf later (drop at l))) .times }
+  found :
+      r
+      ≡ record {
+        length = judged (factorsOf (wordOf later (drop at l))) .length;
+        times = judged (factorsOf (wordOf later (drop at l))) .times;
+        laters = judged (factorsOf (wordOf later (drop at l))) .laters;
+      }
   found = e ∙ first-judged (factorsOf (wordOf later (drop at l)))
 
   pub found-fits : at + r .length ≤ length l
   found-fits = rw found (step .fits)
 
-  -- One copy, counted and tested, is the rest of the judgement
+  -- The count is that of one copy
+  pub found-counted : r .laters ≡ laters (wordOf later (take (r .length) (drop at l)))
+  found-counted = rw (found, ← step .copy, step .read)
+
+  -- One copy, tested, is the rest of the judgement
   pub found-judged :
       record {
         length = r .length;
         times = r .times;
-        laters = laters (wordOf later (take (r .length) (drop at l)));
+        laters = r .laters;
         christoffel = christoffel (wordOf later (take (r .length) (drop at l)));
       }
       ≡ judged (factorsOf (wordOf later (drop at l)))

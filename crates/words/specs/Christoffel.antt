@@ -1,23 +1,23 @@
--- Christoffel words by remainders (document 01, "Christoffel"; source 000, section 3.2).
-use Prim.Native.Nat.{ℕ, zero, suc, _+_, _-_, _*_, _%_, _<_, _≤_}
+-- Christoffel words by remainders (contract 3.10; source 000, section 3.2).
+use Prim.Native.Nat.{ℕ, suc, _+_, _-_, _*_, _%_, _<_, _≤_}
 use mathlib.Core.Path.{_≡_}
 use mathlib.Core.Logic.{_↔_}
 use mathlib.Core.Bool.{Bool, true, false, not, _&&_, Bool·beq}
-use mathlib.Core.List.{List, [], _∷_}
+use mathlib.Core.List.{[], _∷_}
 use lib.ListN.{length, getD}
 use lib.Dec.{ltb, eqb}
-use Rattle.words.specs.Below.{every}
+use Rattle.base.specs.Below.{every}
 use Rattle.words.specs.Word.{Word, laters}
 
--- "k and n sharing no divisor above 1"
+-- k and n have no common divisor but 1
 unfoldable pub Coprime : ℕ → ℕ → Type 0
 Coprime k n = (d a b : ℕ) → d * a ≡ k → d * b ≡ n → d ≤ 1
 
--- "for each i from 1 to n its letter i is the earlier exactly when i·k mod n exceeds (i−1)·k mod n"
+-- Letter i, from 1 to n, is the earlier one exactly if the remainder of i·k by n is larger than that of (i − 1)·k
 unfoldable pub Remainders : Word → ℕ → ℕ → Type 0
 Remainders w k n = (i : ℕ) → 1 ≤ i → i ≤ n → (getD w (i - 1) false ≡ false) ↔ ((i - 1) * k % n < i * k % n)
 
--- "Either single letter is one. A longer word of n letters, k of them the later letter, .. is one if .."
+-- A single letter, or a longer word whose count of later letters and length have no common divisor, and that follows the remainders of that count
 pub data Christoffel : Word → Type 0 where
   single : (a : Bool) → Christoffel (a ∷ [])
   longer : {w : Word} → 1 < length w → Coprime (laters w) (length w) → Remainders w (laters w) (length w) → Christoffel w

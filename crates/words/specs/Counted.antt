@@ -1,4 +1,4 @@
--- A Christoffel word written from its two counts, and an edge written from its run and its rise (document 01, "Christoffel" and "Edges", read backwards).
+-- A Christoffel word written from its two counts, and an edge written from its run and its rise (contract 3.10 and 3.12, read backwards).
 use Prim.Native.Nat.{ℕ, zero, suc, _+_, _*_, _/_, _%_}
 use mathlib.Core.Bool.{Bool, true, false, not, cond, _&&_}
 use mathlib.Core.List.{List, [], _∷_, _++_}
@@ -15,7 +15,7 @@ listed f (suc n) = f zero ∷ listed (λ i. f (suc i)) n
 unfoldable pub countedLetter : ℕ → ℕ → ℕ → Bool
 countedLetter k n i = not (ltb (i * k % n) (suc i * k % n))
 
--- The Christoffel word of a earlier letters and b later ones. "Either single letter is one"; a longer one goes by remainders
+-- The Christoffel word of a earlier letters and b later ones: a single letter, or a longer word by remainders
 unfoldable pub christoffelWord : ℕ → ℕ → Word
 christoffelWord a b = cond (eqb (a + b) 1) (eqb b 1 ∷ []) (listed (countedLetter b (a + b)) (a + b))
 

@@ -1,4 +1,4 @@
--- Lyndon words, and a word written as strictly falling Lyndon words with repeats (document 01, "Factors"; source 000, Theorem 2).
+-- Lyndon words, and a word written as strictly falling Lyndon words with repeats (contract 3.8 and 3.9; source 000, Theorem 2).
 use Prim.Native.Nat.{ℕ, zero, suc, _<_}
 use mathlib.Core.Path.{_≡_}
 use mathlib.Core.Bool.{Bool, true, false}
@@ -10,7 +10,7 @@ use Rattle.words.specs.Word.{Word, Less, less}
 unfoldable pub rotation : ℕ → Word → Word
 rotation i w = drop i w ++ take i w
 
--- "A Lyndon word is smaller than each of its proper rotations." It has at least one letter.
+-- A Lyndon word has at least one letter, and is smaller than every other rotation of itself
 pub record Lyndon (w : Word) : Type 0 where
   pub some : 0 < length w
   pub least : (i : ℕ) → 0 < i → i < length w → Less w (rotation i w)
@@ -29,19 +29,18 @@ unfoldable pub written : List Factor → Word
 written [] = []
 written (f ∷ fs) = copies (f .times) (f .word) ++ written fs
 
--- "Lyndon words, each repeated one or more times"
+-- A Lyndon word, with one repeat or more
 pub record Proper (f : Factor) : Type 0 where
   pub lyndon : Lyndon (f .word)
   pub repeated : 0 < f .times
 
--- "strictly falling": each word is larger than the next
+-- Strictly falling: each word is larger than the next
 pub data Falling : List Factor → Type 0 where
   none : Falling []
   last : {f : Factor} → Proper f → Falling (f ∷ [])
   then : {f g : Factor} {fs : List Factor} → Proper f → Less (g .word) (f .word) → Falling (g ∷ fs) → Falling (f ∷ g ∷ fs)
 
--- "written in the one way as strictly falling Lyndon words, each repeated one or more times". That there is one way, and
--- only one, is a theorem (proofs/Factors.antt: `factors-exist`, `factors-unique`).
+-- A way to write w as such a row. That there is one, and only one, is a theorem (proofs/Factors.antt: `factors-exist`, `factors-unique`).
 pub record Factoring (w : Word) (fs : List Factor) : Type 0 where
   pub falling : Falling fs
   pub whole : written fs ≡ w

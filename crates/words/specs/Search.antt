@@ -18,12 +18,12 @@ rank false = 0
 abbrev pub rankOf : ℕ → ℕ → ℕ
 rankOf letter later = rank (eqb letter later)
 
--- The first factor: the length of one copy, and the repeats. No factor: 0 and 0
+-- The first factor: the length of one copy, the repeats, and how many later letters a copy has. No factor: 0, 0 and 0
 unfoldable pub firstOf : List Factor → Found
-firstOf [] = record { length = 0; times = 0 }
-firstOf (f ∷ fs) = record { length = length (f .word); times = f .times }
+firstOf [] = record { length = 0; times = 0; laters = 0 }
+firstOf (f ∷ fs) = record { length = length (f .word); times = f .times; laters = laters (f .word) }
 
--- One factor: also how many later letters a copy has, and whether it is a Christoffel word
+-- One factor: the same, and whether a copy is a Christoffel word
 abbrev pub judge : Factor → Judged
 judge f = record { length = length (f .word); times = f .times; laters = laters (f .word); christoffel = christoffel (f .word) }
 

@@ -1,4 +1,4 @@
--- Words over two ordered letters, their letters counted, and their order (document 01, "Factors").
+-- Words over two ordered letters, their letters counted, and their order (contract 3.7).
 use Prim.Native.Nat.{ℕ, zero, suc}
 use mathlib.Core.Path.{_≡_}
 use mathlib.Core.Bool.{Bool, true, false}
@@ -38,7 +38,7 @@ pub record Differs (u v : Word) : Type 0 where
   pub left : u ≡ same ++ false ∷ low
   pub right : v ≡ same ++ true ∷ high
 
--- "A word is smaller than another if it is a proper beginning of it or has the earlier letter at the first difference."
+-- u is smaller than v: it ends before they differ, or has the earlier letter where they first do
 pub data Less (u v : Word) : Type 0 where
   begins : Begins u v → Less u v
   differs : Differs u v → Less u v

@@ -1,4 +1,4 @@
-// Words over two ordered letters: Lyndon words, their factorisation, and Christoffel words.
+// Words over two ordered letters: Lyndon words, their factorisation, and Christoffel words (contract 3.7 to 3.10).
 ghost use Prim.Native.Nat.{_+_, _%_, _<_, _≤_};
 ghost use mathlib.Core.Path.{_≡_};
 ghost use mathlib.Core.Bool.{_&&_};
@@ -8,20 +8,21 @@ ghost use Rattle.words.specs.Lyndon.{factorsOf};
 ghost use Rattle.words.specs.Christoffel.{coprime, remainders, christoffel};
 ghost use Rattle.words.specs.Search.{rankOf, firstOf, judged};
 
-// The first factor of a word: the letters of one copy, and how often it is repeated.
+// The first factor of a word: the letters of one copy, how often it is repeated, and the later letters of one copy.
 pub struct Found {
     pub length: usize,
     pub times: usize,
+    pub laters: usize,
 }
 
 // 1 for the later letter, 0 for any other.
-fn rank(letter: u8, later: u8) -> u8
+fn rank(letter: u8, later: u8) -> usize
     ensures { λ r. ⌜ r ≡ rankOf letter later ⌝ }
 {
     if letter == later { 1 } else { 0 }
 }
 
-// The first factor of what follows `from`, in one pass (source 000, Algorithm 1); 0 and 0 where nothing follows.
+// The first factor (contract 3.9) of what follows `from`, in one pass (source 000, Algorithm 1); all 0 where nothing follows.
 pub fn first_factor(w: &[u8], from: usize, later: u8) -> Found
     ensures { λ r. ⌜ r ≡ firstOf (factorsOf (wordOf later (drop from (now (w .entry))))) ⌝ }
 {
@@ -29,10 +30,14 @@ pub fn first_factor(w: &[u8], from: usize, later: u8) -> Found
         return Found {
             length: 0,
             times: 0,
+            laters: 0,
         };
     }
     let mut i = from;
     let mut j = from + 1;
+    // The later letters of all that was read, and those of one period of it.
+    let mut read = rank(w[from], later);
+    let mut laters = read;
     while j < w.len() {
         let a = rank(w[i], later);
         let b = rank(w[j], later);
@@ -42,31 +47,21 @@ pub fn first_factor(w: &[u8], from: usize, later: u8) -> Found
         // A larger letter makes one Lyndon word of all that was read.
         if a < b {
             i = from;
+            laters = read + b;
         } else {
             i += 1;
         }
+        read += b;
         j += 1;
     }
     let length = j - i;
+    let span = j - from;
+    let times = span / length;
     Found {
         length,
-        times: (j - from) / length,
+        times,
+        laters,
     }
-}
-
-// How many letters of `w` are the later one.
-pub fn count_later(w: &[u8], later: u8) -> usize
-    ensures { λ r. ⌜ r ≡ laters (wordOf later (now (w .entry))) ⌝ }
-{
-    let mut count: usize = 0;
-    let mut i = 0;
-    while i < w.len() {
-        if w[i] == later {
-            count += 1;
-        }
-        i += 1;
-    }
-    count
 }
 
 // (rem + k) mod n, by sums within n.
@@ -101,14 +96,14 @@ fn follows_remainders(w: &[u8], k: usize, later: u8) -> bool
     true
 }
 
-// Whether `w` is a Christoffel word: either single letter is one, the empty word is none.
-pub fn is_christoffel(w: &[u8], later: u8) -> bool
+// Whether `w`, k of its letters the later one, is a Christoffel word (contract 3.10): either single letter is one, the empty word is none.
+fn is_christoffel(w: &[u8], k: usize, later: u8) -> bool
+    requires { ⌜ k ≡ laters (wordOf later (now w)) ⌝ }
     ensures { λ r. ⌜ r ≡ christoffel (wordOf later (now (w .entry))) ⌝ }
 {
     if w.len() < 2 {
         return w.len() == 1;
     }
-    let k = count_later(w, later);
     follows_remainders(w, k, later)
 }
 
@@ -138,7 +133,7 @@ pub fn factor_at(w: &[u8], at: usize, later: u8) -> Judged
     Judged {
         length: found.length,
         times: found.times,
-        laters: count_later(copy, later),
-        christoffel: is_christoffel(copy, later),
+        laters: found.laters,
+        christoffel: is_christoffel(copy, found.laters, later),
     }
 }

@@ -1,6 +1,6 @@
--- `fresh` meets its contract: a draft and a work, each its definition. Assumes nothing.
-use borrow.Author.Needs.{needs}
+-- A draft and a work, each its own empty one.
 use Rattle.holder.specs.Holder.{freshHolder}
+use borrow.Author.Needs.{needs}
 use Rattle.holder.proofs.fresh.Statement.{statement}
 use Rattle.holder.proofs.fresh.Tie as tie
 

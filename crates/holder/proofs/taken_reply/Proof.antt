@@ -1,4 +1,4 @@
--- `taken_reply` meets its contract: a return for each case. Assumes nothing.
+-- The test chooses the word.
 use Rattle.holder.proofs.taken_reply.Statement.{statement}
 use Rattle.holder.proofs.taken_reply.Tie as tie
 

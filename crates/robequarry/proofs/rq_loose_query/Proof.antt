@@ -1,8 +1,8 @@
 -- The loose query answers, and its fields are written where there is room.
 use mathlib.Core.Path.{ap, _∙_}
 use borrow.Author.Needs.{needs}
-use Rattle.outline.specs.declared.Fields.{Fields}
-use Rattle.outline.specs.Fields.{positionFields, replyAfter}
+use Rattle.chart.specs.declared.Fields.{Fields}
+use Rattle.chart.specs.Fields.{positionFields, replyAfter}
 use Rattle.robequarry.specs.Face.{looseReply}
 use Rattle.robequarry.proofs.rq_loose_query.Statement.{statement}
 use Rattle.robequarry.proofs.rq_loose_query.Tie as tie

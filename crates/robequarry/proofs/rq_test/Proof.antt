@@ -2,12 +2,13 @@
 use Prim.Native.Nat.{_≤_, _<_}
 use native.Mathlib.Omega.{arith}
 use mathlib.Core.Path.{sym, ap, _∙_}
+use mathlib.Core.Bool.{true≢false}
 use lib.ListN.{length}
 use borrow.Author.Needs.{needs}
 use borrow.Author.Tests.{le-leb, lt-leb}
-use Rattle.outline.specs.declared.Fields.{Fields}
-use Rattle.outline.specs.Fields.{verdictFields, replyAfter}
-use Rattle.outline.proofs.ReplyLaws.{replyAfter-short}
+use Rattle.chart.specs.declared.Fields.{Fields}
+use Rattle.chart.specs.Fields.{replyAfter}
+use Rattle.chart.proofs.ReplyLaws.{replyAfter-short, fields-written}
 use Rattle.robequarry.specs.Face.{testReply, testEdges}
 use Rattle.robequarry.proofs.rq_test.Statement.{statement}
 use Rattle.robequarry.proofs.rq_test.Tie as tie
@@ -17,7 +18,7 @@ unfolding testReply testEdges
 returns c =
     let reply = c .before .before .before .args .reply .now in
     let short : length reply < 7 = omega (arith, c .if1 .taken) in
-    (sym (lt-leb 7 _ short), (sym (replyAfter-short _ reply short), rw (lt-leb 7 _ short)))
+    (sym (lt-leb 7 _ short), (sym (replyAfter-short _ reply short), (rw (lt-leb 7 _ short), λ e. absurd (true≢false (sym e)))))
 
 test-requires : tie.Need-test-requires
 test-requires c κs = search needs
@@ -43,11 +44,14 @@ returns-2 c =
     let else1 = tested .before .before in
     let reply = else1 .before .before .before .args .reply .now in
     let room : 7 ≤ length reply = omega (arith, else1 .if1 .left) in
-    let fields = named .of-verdict .ensures ∙ ap verdictFields (tested .test .ensures .0) in (
+    let same = named .of-verdict .ensures in (
       written .write .ensures .0,
       (
-        written .write .ensures .1 ∙ ap (λ (f : Fields). replyAfter f reply) fields,
-        rw (le-leb 7 _ room) (tested .test .ensures .1),
+        written .write .ensures .1 ∙ ap (λ (f : Fields). replyAfter f reply) (same ∙ tested .test .ensures .1 .0),
+        (
+          rw (le-leb 7 _ room) (tested .test .ensures .1 .1 .0),
+          λ e. rw (written .write .ensures .1, fields-written (named .of-verdict .result) reply room, same) (tested .test .ensures .1 .1 .1),
+        ),
       ),
     )
 

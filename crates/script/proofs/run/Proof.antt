@@ -1,4 +1,4 @@
--- `run` meets its contract: the replies of the calls read have room, and a replay keeps the length of its list. Assumes nothing.
+-- The replies of the calls read have room, and a replay keeps the length of its list.
 use native.Mathlib.Omega.{arith}
 use lib.ListN.{length}
 use Rattle.replay.proofs.ReplayLaws.{callsRead-room}

@@ -1,8 +1,8 @@
--- The search finds the length and the repeats; one copy is the part of the list that is counted and tested.
+-- The search finds the length, the repeats and the count; one copy is the part of the list that is tested.
 use native.Mathlib.Nat.{add-sub-cancel-left}
 use native.Mathlib.Omega.{arith}
 use borrow.Author.Needs.{needs}
-use Rattle.words.proofs.WalkLaws.{judged-none, found-fits, found-judged}
+use Rattle.words.proofs.WalkLaws.{judged-none, found-fits, found-counted, found-judged}
 use Rattle.words.proofs.factor_at.Statement.{statement}
 use Rattle.words.proofs.factor_at.Tie as tie
 
@@ -24,16 +24,15 @@ part-copy-start c = search needs
 part-copy-end : tie.Need-part-copy-end
 part-copy-end c = found-fits _ _ _ (c .before .before .if1 .left) (c .before .first-factor .ensures)
 
-count-later-requires : tie.Need-count-later-requires
-count-later-requires c κs = search needs
-
 is-christoffel-requires : tie.Need-is-christoffel-requires
-is-christoffel-requires c κs = search needs
+is-christoffel-requires c κs =
+    let searched = c .before .before in
+    rw add-sub-cancel-left (found-counted _ _ _ (searched .before .if1 .left) (searched .first-factor .ensures))
 
 returns-2 : tie.Need-returns-2
 returns-2 c =
-    let searched = c .before .before .before .before in
-    rw (c .is-christoffel .ensures, c .before .count-later .ensures, add-sub-cancel-left)
+    let searched = c .before .before .before in
+    rw (c .is-christoffel .ensures, add-sub-cancel-left)
     (found-judged _ _ _ (searched .before .if1 .left) (searched .first-factor .ensures))
 
 pub factor-at-spec : {M : Type 1} → statement M
@@ -46,6 +45,5 @@ factor-at-spec =
     sub-copy
     part-copy-start
     part-copy-end
-    count-later-requires
     is-christoffel-requires
     returns-2)

@@ -1,18 +1,18 @@
--- The loop keeps the shape of what was read; each way out of it settles the first factor.
+-- The loop keeps the shape of what was read and its two counts; each way out of it settles the first factor.
 use Prim.Native.Nat.{_-_}
 use native.Mathlib.Omega.{arith}
 use borrow.Author.Needs.{needs}
 use mathlib.Core.Logic.{⊎-elim}
 use lib.ListN.{length}
-use Rattle.words.proofs.FirstFactor.{Search, search-none, search-start, search-larger, search-same, search-smaller, search-end}
+use Rattle.words.proofs.FirstFactor.{Search, search-none, search-start, search-fits, search-larger, search-same, search-smaller, search-end}
 use Rattle.words.proofs.first_factor.Statement.{statement}
 use Rattle.words.proofs.first_factor.Tie as tie
 
 abbrev Inv-loop : tie.InvT-loop
-Inv-loop w from later i₀ j₀ i j = Search w from later i j
+Inv-loop w from later i₀ j₀ read₀ laters₀ i j read laters = Search w from later i j read laters
 
 abbrev μ-loop : tie.MeasureT-loop
-μ-loop w from later i₀ j₀ i j = length w - j
+μ-loop w from later i₀ j₀ read₀ laters₀ i j read laters = length w - j
 
 returns : tie.Need-returns Inv-loop μ-loop
 returns c = search-none _ _ _ (c .if1 .taken)
@@ -20,14 +20,14 @@ returns c = search-none _ _ _ (c .if1 .taken)
 add-j : tie.Need-add-j Inv-loop μ-loop
 add-j c = search needs
 
-loop-holds : tie.Need-loop-holds Inv-loop μ-loop
-loop-holds c = search-start _ _ _ (c .if1 .left)
-
 shared-slice-read-rank : tie.Need-shared-slice-read-rank Inv-loop μ-loop
 shared-slice-read-rank c = search needs
 
 rank-requires : tie.Need-rank-requires Inv-loop μ-loop
 rank-requires c κs = search needs
+
+loop-holds : tie.Need-loop-holds Inv-loop μ-loop
+loop-holds c = rw (c .rank .ensures) (search-start _ _ _ (c .before .before .if1 .left))
 
 shared-slice-read-rank-2 : tie.Need-shared-slice-read-rank-2 Inv-loop μ-loop
 shared-slice-read-rank-2 c = search needs
@@ -35,8 +35,24 @@ shared-slice-read-rank-2 c = search needs
 rank-requires-2 : tie.Need-rank-requires-2 Inv-loop μ-loop
 rank-requires-2 c κs = search needs
 
+shared-slice-read-rank-3 : tie.Need-shared-slice-read-rank-3 Inv-loop μ-loop
+shared-slice-read-rank-3 c = search needs
+
+rank-requires-3 : tie.Need-rank-requires-3 Inv-loop μ-loop
+rank-requires-3 c κs = search needs
+
+add-laters : tie.Need-add-laters Inv-loop μ-loop
+add-laters c =
+    let turn = c .before .before .before .before .before .before in
+    omega (arith, search-fits (turn .before .loop .inv) (turn .loop-test .taken) (c .before .before .rank3 .ensures))
+
 add-i : tie.Need-add-i Inv-loop μ-loop
 add-i c = search needs
+
+add-read : tie.Need-add-read Inv-loop μ-loop
+add-read c =
+    let turn = c .before .before .before .before .before .before in
+    omega (arith, search-fits (turn .before .loop .inv) (turn .loop-test .taken) (c .before .before .rank3 .ensures))
 
 add-j-2 : tie.Need-add-j-2 Inv-loop μ-loop
 add-j-2 c = search needs
@@ -49,19 +65,20 @@ loop-again c =
     let turn = c .before .before .before .before .before .before in
     let s = turn .before .loop .inv in
     let h = turn .loop-test .taken in
+    let b = c .before .before .rank3 .ensures in
     ⊎-elim
-    (λ w. rw (w .1) (search-larger s h (omega (arith, w .0 .taken))))
-    (λ w. rw (w .1) (search-same s h (omega (arith, w .0 .left)) (omega (arith, w .0 .left))))
+    (λ w. rw (w .1, w .2, b) (search-larger s h (omega (arith, w .0 .taken))))
+    (λ w. rw (w .1, w .2, b) (search-same s h (omega (arith, w .0 .left)) (omega (arith, w .0 .left))))
     (c .if3 .came)
 
 sub-length : tie.Need-sub-length Inv-loop μ-loop
 sub-length c = search needs
 
-sub-t9 : tie.Need-sub-t9 Inv-loop μ-loop
-sub-t9 c = search needs
+sub-span : tie.Need-sub-span Inv-loop μ-loop
+sub-span c = search needs
 
-div-t16 : tie.Need-div-t16 Inv-loop μ-loop
-div-t16 c = search needs
+div-times : tie.Need-div-times Inv-loop μ-loop
+div-times c = search needs
 
 returns-2 : tie.Need-returns-2 Inv-loop μ-loop
 returns-2 c =
@@ -79,16 +96,20 @@ first-factor-spec =
     μ-loop
     returns
     add-j
-    loop-holds
     shared-slice-read-rank
     rank-requires
+    loop-holds
     shared-slice-read-rank-2
     rank-requires-2
+    shared-slice-read-rank-3
+    rank-requires-3
+    add-laters
     add-i
+    add-read
     add-j-2
     loop-less
     loop-again
     sub-length
-    sub-t9
-    div-t16
+    sub-span
+    div-times
     returns-2)

@@ -9,15 +9,11 @@ use Rattle.words.proofs.is_christoffel.Tie as tie
 returns : tie.Need-returns
 returns c = christoffel-short _ _ (c .if1 .taken)
 
-count-later-requires : tie.Need-count-later-requires
-count-later-requires c κs = search needs
-
 follows-remainders-requires : tie.Need-follows-remainders-requires
-follows-remainders-requires c κs = (search needs, rw (c .count-later .ensures) (laters-wordOf-le _ _))
+follows-remainders-requires c κs = (search needs, rw (c .before .before .pre) (laters-wordOf-le _ _))
 
 returns-2 : tie.Need-returns-2
-returns-2 c = c .follows-remainders .ensures ∙ rw (c .before .count-later .ensures) (christoffel-long _ _ (search needs))
+returns-2 c = c .follows-remainders .ensures ∙ rw (c .before .before .before .pre) (christoffel-long _ _ (search needs))
 
 pub is-christoffel-spec : {M : Type 1} → statement M
-is-christoffel-spec =
-    tie.close (tie.spec returns count-later-requires follows-remainders-requires returns-2)
+is-christoffel-spec = tie.close (tie.spec returns follows-remainders-requires returns-2)

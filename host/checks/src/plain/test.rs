@@ -3,7 +3,7 @@
 use super::border::{first_stray, Pair, Turn, COLS, PAIRS, ROWS};
 use super::chart;
 use super::climb::missing_cell;
-use super::words::{count_later, first_factor, is_christoffel};
+use super::words::{first_factor, is_christoffel};
 use crate::{Fields, Point};
 
 /// Room for the edges of any taken outline.
@@ -73,12 +73,11 @@ fn factor(word: &[u8], pair: Pair, edges: &mut Edges) -> Result<(), Dent> {
     while at < word.len() {
         let found = first_factor(&word[at..], pair.later);
         let copy = &word[at..at + found.length];
-        let laters = count_later(copy, pair.later);
-        if !is_christoffel(copy, laters, pair.later) {
+        if !is_christoffel(copy, found.laters, pair.later) {
             return Err(Dent { at, length: found.length });
         }
-        let l = (laters * found.times) as i16;
-        let e = ((found.length - laters) * found.times) as i16;
+        let l = (found.laters * found.times) as i16;
+        let e = ((found.length - found.laters) * found.times) as i16;
         let (earlier, later) = (usize::from(pair.earlier), usize::from(pair.later));
         edges.push(e * COLS[earlier] + l * COLS[later], e * ROWS[earlier] + l * ROWS[later]);
         at += found.length * found.times;

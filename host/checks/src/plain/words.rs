@@ -1,30 +1,36 @@
 //! Words over two ordered letters.
 
-/// The first factor of a word: the letters of one copy, and how often it is repeated.
+/// The first factor of a word: the letters of one copy, how often it is repeated, and the later letters of one copy.
 pub struct Found {
     pub length: usize,
     pub times: usize,
+    pub laters: usize,
 }
 
 /// The first factor of a word that is not empty, in one pass (Duval).
 pub fn first_factor(word: &[u8], later: u8) -> Found {
     let mut i = 0;
     let mut j = 1;
+    // The later letters of all that was read, and those of one period of it.
+    let mut read = usize::from(word[0] == later);
+    let mut laters = read;
     while j < word.len() {
         let (a, b) = (word[i] == later, word[j] == later);
         if a && !b {
             break;
         }
+        read += usize::from(b);
         // A larger letter makes one Lyndon word of all that was read.
-        i = if b && !a { 0 } else { i + 1 };
+        if b && !a {
+            i = 0;
+            laters = read;
+        } else {
+            i += 1;
+        }
         j += 1;
     }
     let length = j - i;
-    Found { length, times: j / length }
-}
-
-pub fn count_later(word: &[u8], later: u8) -> usize {
-    word.iter().filter(|&&letter| letter == later).count()
+    Found { length, times: j / length, laters }
 }
 
 /// Whether a word with `laters` later letters is a Christoffel word, by the remainders of i·laters.

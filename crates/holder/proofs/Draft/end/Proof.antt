@@ -1,4 +1,4 @@
--- `Draft::end` meets its contract: the definition, field by field. Assumes nothing.
+-- The definition, field by field.
 use mathlib.Core.Path.{refl}
 use Rattle.holder.specs.Holder.{ended}
 use Rattle.holder.proofs.Draft.end.Statement.{statement}

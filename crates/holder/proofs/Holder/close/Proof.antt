@@ -1,20 +1,25 @@
--- `Holder::close` meets its contract: a return for no draft, and for each verdict of the test. Assumes nothing.
-use borrow.Author.Needs.{needs}
+-- Each return is a case of the definition (CallLaws).
 use borrow.Author.Tests.{not-true, not-false}
-use mathlib.Core.Path.{sym, _∙_}
-use Rattle.holder.proofs.CloseLaws.{close-none, close-refused, close-taken}
-use Rattle.holder.specs.Holder.{lentList}
+use Rattle.holder.proofs.ListTheorem.{close-promised}
+use Rattle.holder.proofs.CallLaws.{close-none, close-refused, close-taken}
+use borrow.Author.Needs.{needs}
 use Rattle.holder.proofs.Holder.close.Statement.{statement}
 use Rattle.holder.proofs.Holder.close.Tie as tie
 
+drafted-requires : tie.Need-drafted-requires
+drafted-requires c κs = search needs
+
 returns : tie.Need-returns
-returns c = close-none _ (not-true (c .before .before .args .self .draft .begun) (c .if1 .taken))
+returns c = close-promised _ _ (close-none _ _ (c .before .before .drafted .ensures) (not-true (c .before .before .drafted .result .begun) (c .if1 .taken)))
 
-test-requires : tie.Need-test-requires
-test-requires c κs = search needs
+judge-requires : tie.Need-judge-requires
+judge-requires c κs = search needs
 
-end-draft-requires : tie.Need-end-draft-requires
-end-draft-requires c κs = search needs
+end-requires : tie.Need-end-requires
+end-requires c κs = search needs
+
+put-draft-requires : tie.Need-put-draft-requires
+put-draft-requires c κs = search needs
 
 enum-known-verdict : tie.Need-enum-known-verdict
 enum-known-verdict c = search needs
@@ -22,8 +27,11 @@ enum-known-verdict c = search needs
 enum-known-verdict-2 : tie.Need-enum-known-verdict-2
 enum-known-verdict-2 c = search needs
 
-same-as-requires : tie.Need-same-as-requires
-same-as-requires c κs = search needs
+at-work-requires : tie.Need-at-work-requires
+at-work-requires c κs = search needs
+
+has-requires : tie.Need-has-requires
+has-requires c κs = search needs
 
 replace-requires : tie.Need-replace-requires
 replace-requires c κs = search needs
@@ -31,32 +39,41 @@ replace-requires c κs = search needs
 taken-reply-requires : tie.Need-taken-reply-requires
 taken-reply-requires c κs = search needs
 
+put-work-requires : tie.Need-put-work-requires
+put-work-requires c κs = search needs
+
 returns-2 : tie.Need-returns-2
 returns-2 c =
-    let at = c .before .before .before .before in
-    let h = at .before .before .before .before .args .self in
-    close-refused h _ _ (not-false (h .draft .begun) (at .before .before .if1 .left)) (sym (at .test .ensures .0) ∙ c .before .verdict .given .1)
-    (c .before .before .before .end-draft .ensures)
+    let at = c .before .before .before in
+    let draft = at .before .before .before .before .before .before .drafted in
+    close-promised _ _
+    (close-refused _ _ (draft .ensures) (not-false (draft .result .begun) (at .before .before .before .before .if1 .left)) _ (at .before .before .judge .ensures) _
+    (rw (at .before .end .ensures) at (at .put-draft .ensures)) _ (c .before .verdict .given .1))
 
 returns-3 : tie.Need-returns-3
-unfolding lentList
 returns-3 c =
-    let at = c .before .before .before .before .before .before .before in
-    let h = at .before .before .before .before .args .self in
-    close-taken h _ _ _ _ _ _ _ _ (not-false (h .draft .begun) (at .before .before .if1 .left)) (sym (at .test .ensures .0) ∙ c .before .before .before .before .verdict2 .given .1)
-    (c .before .before .before .before .before .before .end-draft .ensures) (at .test .ensures .1) (c .before .replace .ensures) (c .before .before .same-as .ensures) (c .taken-reply .ensures)
+    let at = c .before .before .before .before .before .before .before .before .before in
+    let draft = at .before .before .before .before .before .before .drafted in
+    close-promised _ _
+    (close-taken _ _ (draft .ensures) (not-false (draft .result .begun) (at .before .before .before .before .if1 .left)) _ (at .before .before .judge .ensures) _
+    (rw (at .before .end .ensures) at (at .put-draft .ensures)) _ _ _ _ _ _ (c .before .before .before .before .before .before .before .verdict2 .given .1) (rw (c .before .before .before .before .before .at-work .ensures) at (c .before .before .before .before .has .ensures))
+    (c .before .taken-reply .ensures) (c .before .before .replace .ensures) (c .put-work .ensures))
 
 pub close-spec : {M : Type 1} → statement M
 close-spec =
     tie.close
     (tie.spec
+    drafted-requires
     returns
-    test-requires
-    end-draft-requires
+    judge-requires
+    end-requires
+    put-draft-requires
     enum-known-verdict
     enum-known-verdict-2
-    same-as-requires
+    at-work-requires
+    has-requires
     replace-requires
     taken-reply-requires
+    put-work-requires
     returns-2
     returns-3)

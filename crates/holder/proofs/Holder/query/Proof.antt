@@ -1,43 +1,18 @@
--- `Holder::query` meets its contract: a return for each case of the definition. Assumes nothing.
-use borrow.Author.Needs.{needs}
-use borrow.Author.Tests.{not-true, not-false}
-use mathlib.Core.Path.{sym, _∙_}
+-- The work that the slot holds answers, and the holder goes back as it came.
 use Rattle.holder.specs.Holder.{queryOf}
+use borrow.Author.Needs.{needs}
 use Rattle.holder.proofs.Holder.query.Statement.{statement}
 use Rattle.holder.proofs.Holder.query.Tie as tie
 
+at-work-requires : tie.Need-at-work-requires
+at-work-requires c κs = search needs
+
+locate-requires : tie.Need-locate-requires
+locate-requires c κs = search needs
+
 returns : tie.Need-returns
 unfolding queryOf
-returns c = rw (not-true (c .before .before .args .self .work .taken) (c .if1 .taken))
-
-bad-cell-requires : tie.Need-bad-cell-requires
-bad-cell-requires c κs = search needs
-
-returns-2 : tie.Need-returns-2
-unfolding queryOf
-returns-2 c =
-    rw (not-false (c .before .before .before .before .args .self .work .taken) (c .before .before .if1 .left), sym (c .before .bad-cell .ensures) ∙ c .if2 .taken)
-
-has-inside-requires : tie.Need-has-inside-requires
-has-inside-requires c κs = search needs
-
-returns-3 : tie.Need-returns-3
-unfolding queryOf
-returns-3 c =
-    rw (
-      sym (c .before .has-inside .ensures) ∙ c .if3 .taken,
-      sym (c .before .before .before .bad-cell .ensures) ∙ c .before .before .if2 .left,
-      not-false (c .before .before .before .before .before .before .args .self .work .taken) (c .before .before .before .before .if1 .left),
-    )
-
-returns-4 : tie.Need-returns-4
-unfolding queryOf
-returns-4 c =
-    rw (
-      sym (c .before .has-inside .ensures) ∙ c .if3 .left,
-      sym (c .before .before .before .bad-cell .ensures) ∙ c .before .before .if2 .left,
-      not-false (c .before .before .before .before .before .before .args .self .work .taken) (c .before .before .before .before .if1 .left),
-    )
+returns c = rw (c .locate .ensures, c .before .at-work .ensures)
 
 pub query-spec : {M : Type 1} → statement M
-query-spec = tie.close (tie.spec returns bad-cell-requires returns-2 has-inside-requires returns-3 returns-4)
+query-spec = tie.close (tie.spec at-work-requires locate-requires returns)

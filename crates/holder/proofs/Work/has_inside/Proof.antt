@@ -1,19 +1,19 @@
--- `Work::has_inside` meets its contract: the list of edges at work is short enough for their rule. Assumes nothing.
-use borrow.Author.Needs.{needs}
+-- The list lent is that of the edges at work.
 use mathlib.Core.Path.{_∙_}
 use Rattle.holder.specs.Holder.{workEdges}
+use borrow.Author.Needs.{needs}
 use Rattle.holder.proofs.Work.has_inside.Statement.{statement}
 use Rattle.holder.proofs.Work.has_inside.Tie as tie
 
 first-requires : tie.Need-first-requires
 first-requires c κs = search needs
 
-inside-edges-requires : tie.Need-inside-edges-requires
-inside-edges-requires c κs = search needs
+inside-requires : tie.Need-inside-requires
+inside-requires c κs = search needs
 
 returns : tie.Need-returns
 unfolding workEdges
-returns c = c .inside-edges .ensures (c .before .first .ensures .1) ∙ rw (c .before .first .ensures .0)
+returns c = c .inside .ensures ∙ rw (c .before .first .ensures)
 
 pub has-inside-spec : {M : Type 1} → statement M
-has-inside-spec = tie.close (tie.spec first-requires inside-edges-requires returns)
+has-inside-spec = tie.close (tie.spec first-requires inside-requires returns)

@@ -1,4 +1,4 @@
--- `Work::remove` meets its contract: the definition, field by field. Assumes nothing.
+-- The definition, field by field.
 use mathlib.Core.Path.{refl}
 use Rattle.holder.specs.Holder.{removed}
 use Rattle.holder.proofs.Work.remove.Statement.{statement}

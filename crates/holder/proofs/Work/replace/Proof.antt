@@ -1,13 +1,12 @@
--- `Work::replace` meets its contract: the definition, field by field. Assumes nothing.
-use borrow.Author.Needs.{needs}
+-- The definition, field by field.
+use mathlib.Core.Path.{refl}
+use Rattle.holder.specs.Holder.{replaced}
 use Rattle.holder.proofs.Work.replace.Statement.{statement}
 use Rattle.holder.proofs.Work.replace.Tie as tie
 
-held-requires : tie.Need-held-requires
-held-requires c κs = search needs
-
 returns : tie.Need-returns
-returns c = cc
+unfolding replaced
+returns c = refl
 
 pub replace-spec : {M : Type 1} → statement M
-replace-spec = tie.close (tie.spec held-requires returns)
+replace-spec = tie.close (tie.spec returns)

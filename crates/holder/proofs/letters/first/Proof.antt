@@ -1,4 +1,4 @@
--- `letters::first` meets its contract: the letters held fit the space. Assumes nothing.
+-- The first so many of a list have that many: the letters held fit the space.
 use borrow.Author.Needs.{needs}
 use Rattle.holder.proofs.FirstLaws.{first-length}
 use Rattle.holder.proofs.letters.first.Statement.{statement}

@@ -1,4 +1,4 @@
--- `same` meets its contract. The invariant: the lists are the same if what is left of each from `i` on is. Assumes nothing.
+-- The lists are the same if what is left of each from `i` on is: that is the invariant, and each turn takes one letter off both.
 use Prim.Native.Nat.{_≤_, _-_}
 use native.Mathlib.Omega.{arith}
 use mathlib.Core.Path.{_≡_, refl, sym, _∙_}

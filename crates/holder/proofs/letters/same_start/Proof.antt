@@ -1,4 +1,4 @@
--- `letters::same_start` meets its contract: the two tests are those of the definition. Assumes nothing.
+-- The two tests are those of the definition.
 use borrow.Author.Tests.{eq-eqb, ne-eqb}
 use Rattle.lattice.specs.Chart.{samePoint}
 use Rattle.holder.proofs.letters.same_start.Statement.{statement}

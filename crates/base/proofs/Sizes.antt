@@ -1,0 +1,58 @@
+-- Sizes of integers, by their signs: sums, differences and products are no larger than those of their parts, and what is small enough fits a machine's width.
+use Prim.Native.Nat.{ℕ, zero, suc, _+_, _-_, _*_, _^_, _≤_, _<_}
+use native.Mathlib.Nat.{mul-le-mul}
+use native.Mathlib.Omega.{arith}
+use mathlib.Core.Path.{_≡_, refl}
+use mathlib.Core.Bool.{Bool, true, false, cond}
+use lib.Dec.{ltb}
+use lib.IntN.{ℤ, pos, negsuc, negℤ, natAbs, subℕ, _+ℤ_, _-ℤ_, _*ℤ_}
+use lib.Signed.{mag, natAbs-le}
+use borrow.Author.Tests.{ltb-true}
+use mir.Syntax.{Width, w16, w64}
+use mir.Val.{SFits, hbits, toZ, ofZ}
+use mir.ValLaws.{toZ-ofZ}
+
+size-sub : (a b : ℕ) → natAbs (subℕ a b) ≤ a + b
+size-sub a b = go (ltb a b) refl
+  where
+    go : (t : Bool) → ltb a b ≡ t → natAbs (cond t (negsuc (b - suc a)) (pos (a - b))) ≤ a + b
+    go true e = omega (arith, ltb-true a b e)
+    go false e = omega arith
+
+size-neg : (a : ℤ) → natAbs (negℤ a) ≡ natAbs a
+size-neg (pos zero) = refl
+size-neg (pos (suc a)) = refl
+size-neg (negsuc a) = refl
+
+pub size-sum : (a b : ℤ) → natAbs (a +ℤ b) ≤ natAbs a + natAbs b
+size-sum (pos a) (pos b) = omega arith
+size-sum (pos a) (negsuc b) = size-sub a (suc b)
+size-sum (negsuc a) (pos b) = omega (arith, size-sub b (suc a))
+size-sum (negsuc a) (negsuc b) = omega arith
+
+pub size-difference : (a b : ℤ) → natAbs (a -ℤ b) ≤ natAbs a + natAbs b
+size-difference a b = omega (arith, size-sum a (negℤ b), size-neg b)
+
+size-product : (a b : ℤ) → natAbs (a *ℤ b) ≡ natAbs a * natAbs b
+size-product (pos a) (pos b) = refl
+size-product (pos a) (negsuc b) = size-neg (pos (a * suc b))
+size-product (negsuc a) (pos b) = size-neg (pos (suc a * b))
+size-product (negsuc a) (negsuc b) = refl
+
+pub size-product-le : (a b : ℤ) {m n : ℕ} → natAbs a ≤ m → natAbs b ≤ n → natAbs (a *ℤ b) ≤ m * n
+size-product-le a b h k = rw (size-product a b) (mul-le-mul h k)
+
+mag-size : (a : ℤ) → mag a ≤ natAbs a
+mag-size (pos a) = omega arith
+mag-size (negsuc a) = omega arith
+
+pub fits-size : (w : Width) (a : ℤ) → natAbs a < 2 ^ hbits w → SFits w a
+fits-size w a h = record { sfits = omega (arith, mag-size a) }
+
+-- What a machine reads back from a number's bits is the number
+pub read-back : (a : ℤ) → mag a < 2 ^ 63 → toZ w64 (ofZ w64 a) ≡ a
+read-back a h = toZ-ofZ w64 a (record { sfits = h })
+
+-- A number of 16 bits is at most 2^15 in size
+pub size-16 : (a : ℤ) → SFits w16 a → natAbs a ≤ 32768
+size-16 a f = natAbs-le a (f .sfits)

@@ -1,0 +1,1 @@
+// General laws, theory alone: numbers below a bound, and sizes of integers.

@@ -1,0 +1,75 @@
+-- The cut places rise, each by at most once round; so the pieces lie one after the other in the letters read four times round.
+use Prim.Native.Nat.{ℕ, zero, suc, _+_, _-_, _*_, _≤_, _<_}
+use native.Mathlib.Nat.{suc-mul}
+use native.Mathlib.Decide.{decLe}
+use native.Mathlib.Omega.{arith}
+use mathlib.Core.Path.{_≡_}
+use mathlib.Core.Bool.{Bool, true, false, cond}
+use mathlib.Core.List.{List}
+use lib.ListN.{length}
+use lib.Dec.{ltb}
+use borrow.Author.Tests.{le-leb, lt-leb}
+use Rattle.chart.specs.declared.Point.{Point}
+use Rattle.lattice.specs.Chart.{cornerAt}
+use Rattle.convexity.specs.Frame.{frameOf}
+use Rattle.convexity.specs.Cut.{before, least, cornerPlace, ahead, cutCorner, cut}
+use Rattle.convexity.proofs.Extreme.{least-lt}
+
+-- ---- how many letters lead on from a place to another
+
+pub ahead-on : (n a b : ℕ) → a ≤ b → ahead n a b ≡ b - a
+unfolding ahead
+ahead-on n a b h = rw (le-leb a b h)
+
+pub ahead-round : (n a b : ℕ) → b < a → a ≤ n → ahead n a b ≡ n - a + b
+unfolding ahead
+ahead-round n a b h l = rw (lt-leb a b h) (omega arith)
+
+pub ahead-le : (n a b : ℕ) → a ≤ n → b ≤ n → ahead n a b ≤ n
+ahead-le n a b h l = elim (decLe a b) [ yes m ↦ omega (arith, ahead-on n a b m) | no m ↦ omega (arith, ahead-round n a b (omega arith) h) ]
+
+-- ---- the cut places
+
+least-le : (lt : ℕ → ℕ → Bool) (n : ℕ) → least lt n ≤ n - 1
+unfolding least
+least-le lt zero = omega arith
+least-le lt (suc n) = omega (arith, least-lt lt (suc n) (omega arith))
+
+module _ (s : Point) (t : List ℕ) where
+  pub cornerPlace-le : (k : ℕ) → cornerPlace s t k ≤ length t - 1
+  unfolding cornerPlace
+  cornerPlace-le k = least-le (λ i j. before (frameOf k) (cornerAt s t i) (cornerAt s t j)) (length t)
+
+  pub cutCorner-le : (k : ℕ) → cutCorner s t k ≤ length t - 1
+  unfolding cutCorner
+  cutCorner-le zero = omega arith
+  cutCorner-le (suc k) = go (ltb k 3)
+    where
+      go : (b : Bool) → cond b (cornerPlace s t (suc k)) 0 ≤ length t - 1
+      go true = cornerPlace-le (suc k)
+      go false = omega arith
+
+  pub cut-le-suc : (k : ℕ) → cut s t k ≤ cut s t (suc k)
+  unfolding cut
+  cut-le-suc k = omega arith
+
+  pub cut-suc-le : (k : ℕ) → cut s t (suc k) ≤ cut s t k + length t
+  unfolding cut
+  cut-suc-le k =
+      omega (
+        arith,
+        ahead-le (length t) (cutCorner s t k) (cutCorner s t (suc k)) (omega (arith, cutCorner-le k)) (omega (arith, cutCorner-le (suc k))),
+      )
+
+  pub cut-le-cut : (i j : ℕ) → i ≤ j → cut s t i ≤ cut s t j
+  cut-le-cut i zero h = let e : i ≡ 0 = omega arith in rw e (omega arith)
+  cut-le-cut i (suc j) h =
+      elim (decLe i j) [
+        | yes l ↦ omega (arith, cut-le-cut i j l, cut-le-suc j)
+        | no l ↦ let e : i ≡ suc j = omega arith in rw e (omega arith)
+      ]
+
+  pub cut-le : (k : ℕ) → cut s t k ≤ k * length t
+  unfolding cut
+  cut-le zero = omega arith
+  cut-le (suc k) = rw suc-mul (omega (arith, cut-le k, cut-suc-le k))

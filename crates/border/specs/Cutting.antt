@@ -1,0 +1,54 @@
+-- What the code of the cut promises, over the definitions of the crates lattice and convexity.
+use Prim.Native.Nat.{ℕ, suc, _+_, _-_, _*_, _≤_, _<_}
+use mathlib.Core.Path.{_≡_}
+use mathlib.Core.List.{List, _++_}
+use lib.ListN.{length, getD, take, drop}
+use Rattle.chart.specs.Limits.{longest}
+use Rattle.chart.specs.declared.Point.{Point}
+use Rattle.lattice.specs.Refusals.{Stays}
+use Rattle.convexity.specs.Frame.{Frame}
+use Rattle.convexity.specs.Cut.{cornerPlace, cut}
+use Rattle.convexity.specs.Pieces.{rounds, sent}
+use Rattle.border.specs.declared.frame.Pair.{Pair}
+
+-- A pair of letters in the code is a frame
+pub record PairOf (f : Frame) (r : Pair) : Type 0 where
+  pub earlier : r .earlier ≡ f .earlier
+  pub later : r .later ≡ f .later
+  pub earlier-cols : r .«earlier_cols» ≡ f .earlier-cols
+  pub earlier-rows : r .«earlier_rows» ≡ f .earlier-rows
+  pub later-cols : r .«later_cols» ≡ f .later-cols
+  pub later-rows : r .«later_rows» ≡ f .later-rows
+
+-- The first corner of piece k: a place of w, or 0 where w is empty
+pub record CornerFound (s : Point) (w : List ℕ) (k r : ℕ) : Type 0 where
+  pub within : r ≤ length w - 1
+  pub place : Stays s w → r ≡ cornerPlace s w k
+
+-- A buffer's first letters are those of w from a place on, past the list's end to its beginning
+abbrev pub Turned : List ℕ → ℕ → List ℕ → List ℕ → Type 0
+Turned w from before after = from ≤ length w → length w ≤ length before → take (length w) after ≡ drop from w ++ take from w
+
+-- A buffer's first n letters stay, and its letters up to end are those read on, past their end to their beginning
+pub record Rounded (before : List ℕ) (n end : ℕ) (after : List ℕ) : Type 0 where
+  pub same : take n after ≡ take n before
+  pub read : 0 < n → end ≤ 4 * n → end ≤ length before → take end after ≡ take end (rounds (take n before))
+
+-- The five cut places
+pub record CutsOf (s : Point) (t at : List ℕ) : Type 0 where
+  pub five : length at ≡ 5
+  pub rising : (k : ℕ) → k < 4 → getD at k 0 ≤ getD at (suc k) 0
+  pub around : getD at 4 0 ≤ 4 * length t
+  pub small : getD at 4 0 ≤ 4 * longest
+  pub places : Stays s t → length t ≤ longest → (k : ℕ) → k ≤ 4 → getD at k 0 ≡ cut s t k
+
+-- The pieces of a turn t from the corner s lie in a buffer between the cut places
+pub record Laid (s : Point) (t at buffer : List ℕ) : Type 0 where
+  pub places : (k : ℕ) → k ≤ 4 → getD at k 0 ≡ cut s t k
+  pub within : cut s t 4 ≤ length buffer
+  pub letters : take (cut s t 4) buffer ≡ take (cut s t 4) (rounds t)
+
+-- A place from W on as a place of the list as sent
+pub record SentTo (n w i r : ℕ) : Type 0 where
+  pub within : r < longest
+  pub place : 0 < n → n ≤ longest → w < n → i ≤ 4 * longest → r ≡ sent n w i

@@ -1,0 +1,7 @@
+-- The judgement of an outline; then what the functions of src/ promise of their parts.
+pub mod Judged
+pub mod Turning
+pub mod Cutting
+pub mod BackSteps
+pub mod Edge
+pub mod Dents

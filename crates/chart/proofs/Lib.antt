@@ -1,0 +1,3 @@
+-- A lent list after a reply; tables of replies.
+pub mod ReplyLaws
+pub mod Tables

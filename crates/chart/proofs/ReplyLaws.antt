@@ -1,0 +1,21 @@
+-- A list with room for a reply has the seven numbers first and then what stood behind them, and any other is as it was: the test of the room decides.
+use Prim.Native.Nat.{ℕ, _≤_, _<_}
+use mathlib.Core.Path.{_≡_}
+use mathlib.Core.List.{List, _++_}
+use lib.ListN.{length, drop}
+use borrow.Author.Tests.{le-leb, lt-leb}
+use Rattle.chart.specs.declared.Fields.{Fields}
+use Rattle.chart.specs.Fields.{numbersOf, fieldsOf, replyAfter}
+
+pub replyAfter-room : (f : Fields) (l : List ℕ) → 7 ≤ length l → replyAfter f l ≡ numbersOf f ++ drop 7 l
+unfolding replyAfter
+replyAfter-room f l room = rw (le-leb 7 (length l) room)
+
+pub replyAfter-short : (f : Fields) (l : List ℕ) → length l < 7 → replyAfter f l ≡ l
+unfolding replyAfter
+replyAfter-short f l short = rw (lt-leb 7 (length l) short)
+
+-- The reply is read back from the list
+pub fields-written : (f : Fields) (l : List ℕ) → 7 ≤ length l → fieldsOf (replyAfter f l) ≡ f
+unfolding fieldsOf numbersOf
+fields-written f l room = rw (replyAfter-room f l room)

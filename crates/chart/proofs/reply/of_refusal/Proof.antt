@@ -1,0 +1,147 @@
+-- Each arm writes the fields that the definition gives for its case.
+use mathlib.Core.Path.{_≡_, sym, ap}
+use Rattle.chart.specs.Fields.{refusalFields}
+use borrow.Author.Needs.{needs}
+use Rattle.chart.proofs.reply.of_refusal.Statement.{statement}
+use Rattle.chart.proofs.reply.of_refusal.Tie as tie
+
+enum-told : tie.Need-enum-told
+enum-told c = search needs
+
+numbered-requires : tie.Need-numbered-requires
+numbered-requires c κs = search needs
+
+enum-told-2 : tie.Need-enum-told-2
+enum-told-2 c = search needs
+
+numbered-requires-2 : tie.Need-numbered-requires-2
+numbered-requires-2 c κs = search needs
+
+enum-known-f : tie.Need-enum-known-f
+enum-known-f c = search needs
+
+placed-requires : tie.Need-placed-requires
+placed-requires c κs = search needs
+
+enum-known-f-2 : tie.Need-enum-known-f-2
+enum-known-f-2 c = search needs
+
+placed-requires-2 : tie.Need-placed-requires-2
+placed-requires-2 c κs = search needs
+
+enum-told-3 : tie.Need-enum-told-3
+enum-told-3 c = search needs
+
+numbered-requires-3 : tie.Need-numbered-requires-3
+numbered-requires-3 c κs = search needs
+
+enum-known-f-3 : tie.Need-enum-known-f-3
+enum-known-f-3 c = search needs
+
+placed-requires-3 : tie.Need-placed-requires-3
+placed-requires-3 c κs = search needs
+
+enum-told-4 : tie.Need-enum-told-4
+enum-told-4 c = search needs
+
+numbered-requires-4 : tie.Need-numbered-requires-4
+numbered-requires-4 c κs = search needs
+
+enum-known-f-4 : tie.Need-enum-known-f-4
+enum-known-f-4 c = search needs
+
+enum-known-f-5 : tie.Need-enum-known-f-5
+enum-known-f-5 c = search needs
+
+enum-known-f-6 : tie.Need-enum-known-f-6
+enum-known-f-6 c = search needs
+
+placed-requires-4 : tie.Need-placed-requires-4
+placed-requires-4 c κs = search needs
+
+enum-told-5 : tie.Need-enum-told-5
+enum-told-5 c = search needs
+
+numbered-requires-5 : tie.Need-numbered-requires-5
+numbered-requires-5 c κs = search needs
+
+enum-told-6 : tie.Need-enum-told-6
+enum-told-6 c = search needs
+
+numbered-requires-6 : tie.Need-numbered-requires-6
+numbered-requires-6 c κs = search needs
+
+returns : tie.Need-returns
+returns c = cc
+
+returns-2 : tie.Need-returns-2
+returns-2 c = cc
+
+returns-3 : tie.Need-returns-3
+returns-3 c = cc
+
+returns-4 : tie.Need-returns-4
+returns-4 c = cc
+
+returns-5 : tie.Need-returns-5
+returns-5 c = cc
+
+returns-6 : tie.Need-returns-6
+returns-6 c = cc
+
+returns-7 : tie.Need-returns-7
+returns-7 c = cc
+
+returns-8 : tie.Need-returns-8
+returns-8 c = cc
+
+returns-9 : tie.Need-returns-9
+returns-9 c = sym (ap refusalFields (c .before .f5 .given .1))
+
+returns-10 : tie.Need-returns-10
+returns-10 c = cc
+
+returns-11 : tie.Need-returns-11
+returns-11 c = cc
+
+returns-12 : tie.Need-returns-12
+returns-12 c = cc
+
+pub of-refusal-spec : {M : Type 1} → statement M
+of-refusal-spec =
+    tie.close
+    (tie.spec
+    enum-told
+    numbered-requires
+    enum-told-2
+    numbered-requires-2
+    enum-known-f
+    placed-requires
+    enum-known-f-2
+    placed-requires-2
+    enum-told-3
+    numbered-requires-3
+    enum-known-f-3
+    placed-requires-3
+    enum-told-4
+    numbered-requires-4
+    enum-known-f-4
+    enum-known-f-5
+    enum-known-f-6
+    placed-requires-4
+    enum-told-5
+    numbered-requires-5
+    enum-told-6
+    numbered-requires-6
+    returns
+    returns-2
+    returns-3
+    returns-4
+    returns-5
+    returns-6
+    returns-7
+    returns-8
+    returns-9
+    returns-10
+    returns-11
+    returns-12)

@@ -1,0 +1,80 @@
+-- A reply written out: its number, its word and its fields, for every answer of a test and of a loose query (contract 4 and 5).
+use Prim.Native.Nat.{ℕ}
+use mathlib.Core.Bool.{cond}
+use mathlib.Core.List.{List, [], _∷_, _++_}
+use lib.ListN.{length, drop, getD}
+use lib.Dec.{leb}
+use Rattle.chart.specs.declared.Point.{Point}
+use Rattle.chart.specs.declared.Fields.{Fields}
+use Rattle.chart.specs.declared.Refusal.{Refusal}
+use Rattle.chart.specs.declared.Refusal.the-variants.{Count, Start, Letter, Leaves, Unclosed, Touches, Anticlockwise, BackStep, Dent, Room, List as BadList, Cell}
+use Rattle.chart.specs.declared.Verdict.{Verdict}
+use Rattle.chart.specs.declared.Verdict.the-variants.{Taken, Refused}
+use Rattle.chart.specs.declared.Position.{Position}
+use Rattle.chart.specs.declared.Position.the-variants.{Inside, Outside, Refused as Rejected}
+
+-- The words of a reply
+abbrev pub no-word : ℕ
+no-word = 0
+
+abbrev pub inside : ℕ
+inside = 1
+
+abbrev pub outside : ℕ
+outside = 2
+
+abbrev pub taken : ℕ
+taken = 3
+
+abbrev pub same : ℕ
+same = 4
+
+-- A number alone; a number with a place
+abbrev pub numbered : ℕ → Fields
+numbered n = record { number = n; word = no-word; place = 0; piece = 0; length = 0; col = 0; row = 0 }
+
+abbrev pub placed : ℕ → ℕ → Fields
+placed n p = record { number = n; word = no-word; place = p; piece = 0; length = 0; col = 0; row = 0 }
+
+-- A word alone; an outline taken, with a word, the count of its edges and its anchor
+abbrev pub said : ℕ → Fields
+said v = record { number = 0; word = v; place = 0; piece = 0; length = 0; col = 0; row = 0 }
+
+abbrev pub accepted : ℕ → ℕ → Point → Fields
+accepted v edges a = record { number = 0; word = v; place = edges; piece = 0; length = 0; col = a .col; row = a .row }
+
+abbrev pub refusalFields : Refusal → Fields
+refusalFields Count = numbered 1
+refusalFields Start = numbered 2
+refusalFields (Letter p) = placed 3 p
+refusalFields (Leaves p) = placed 4 p
+refusalFields Unclosed = numbered 5
+refusalFields (Touches p) = placed 6 p
+refusalFields Anticlockwise = numbered 7
+refusalFields (BackStep k p) = record { number = 8; word = no-word; place = p; piece = k; length = 0; col = 0; row = 0 }
+refusalFields (Dent k p l x) = record { number = 9; word = no-word; place = p; piece = k; length = l; col = x .col; row = x .row }
+refusalFields (Room e) = placed 10 e
+refusalFields BadList = numbered 10
+refusalFields Cell = numbered 11
+
+abbrev pub verdictFields : Verdict → Fields
+verdictFields (Taken e a) = accepted no-word e a
+verdictFields (Refused f) = refusalFields f
+
+abbrev pub positionFields : Position → Fields
+positionFields Inside = said inside
+positionFields Outside = said outside
+positionFields (Rejected f) = refusalFields f
+
+-- A reply as seven numbers
+unfoldable pub numbersOf : Fields → List ℕ
+numbersOf f = f .number ∷ f .word ∷ f .place ∷ f .piece ∷ f .length ∷ f .col ∷ f .row ∷ []
+
+-- The reply whose seven numbers stand first in a list
+unfoldable pub fieldsOf : List ℕ → Fields
+fieldsOf l =
+    record { number = getD l 0 0; word = getD l 1 0; place = getD l 2 0; piece = getD l 3 0; length = getD l 4 0; col = getD l 5 0; row = getD l 6 0 }
+
+-- A lent list after a reply: the seven numbers stand first and the rest is unaltered; where there is no room for seven, all of it is
+unfoldable pub replyAfter : Fields → List ℕ → List ℕ
+replyAfter f lent = cond (leb 7 (length lent)) (numbersOf f ++ drop 7 lent) lent

@@ -1,0 +1,88 @@
+// The chart, its limits, and what the calls answer.
+pub mod reply;
+
+// A corner of the chart, or the cell whose lower left corner it is.
+pub struct Point {
+    pub col: u16,
+    pub row: u16,
+}
+
+// The chart has this many columns and rows of cells.
+pub const SIDE: u16 = 255;
+
+// An outline has at least and at most this many letters.
+pub const SHORTEST: usize = 4;
+
+pub const LONGEST: usize = 2048;
+
+// The longest list of edges: two numbers for each of 1,016.
+pub const LONGEST_LIST: usize = 2032;
+
+// Why an input is turned back: refusals 1 to 11, each with the fields that it names (contract 5).
+pub enum Refusal {
+    // 1. Fewer than 4 or more than 2,048 letters.
+    Count,
+    // 2. The start corner is off the chart.
+    Start,
+    // 3. A letter above 3.
+    Letter {
+        place: u16,
+    },
+    // 4. A letter reaches a corner off the chart.
+    Leaves {
+        place: u16,
+    },
+    // 5. The walk ends away from its start.
+    Unclosed,
+    // 6. A letter other than the last reaches a corner already met.
+    Touches {
+        place: u16,
+    },
+    // 7. The outline runs anticlockwise.
+    Anticlockwise,
+    // 8. A letter that is none of its piece's two.
+    BackStep {
+        piece: u16,
+        place: u16,
+    },
+    // 9. A factor that is no Christoffel word, and the lowest missing cell.
+    Dent {
+        piece: u16,
+        place: u16,
+        length: u16,
+        cell: Point,
+    },
+    // 10, of a test. The lent list is shorter than two numbers an edge.
+    Room {
+        edges: u16,
+    },
+    // 10, of a loose query. The list is odd or too long.
+    List,
+    // 11. A cell number above 254.
+    Cell,
+}
+
+// What is said of an outline.
+pub enum Verdict {
+    // The count of edges, and the anchor.
+    Taken { edges: u16, anchor: Point },
+    Refused(Refusal),
+}
+
+// What a loose query answers.
+pub enum Position {
+    Inside,
+    Outside,
+    Refused(Refusal),
+}
+
+// A reply written out: the number, the word (0 none, 1 inside, 2 outside, 3 taken, 4 same) and the fields.
+pub struct Fields {
+    pub number: u16,
+    pub word: u16,
+    pub place: u16,
+    pub piece: u16,
+    pub length: u16,
+    pub col: u16,
+    pub row: u16,
+}

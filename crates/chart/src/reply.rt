@@ -1,0 +1,134 @@
+// An answer written out: its number, its word and its fields (contract 4).
+use crate::Fields;
+use crate::Point;
+use crate::Position;
+use crate::Refusal;
+use crate::Verdict;
+ghost use mathlib.Core.Path.{_≡_};
+ghost use lib.ListN.{length};
+ghost use lib.Dec.{leb};
+ghost use Rattle.chart.specs.Fields.{numbered as numberedOf, placed as placedOf, said as saidOf, accepted as acceptedOf, refusalFields, verdictFields, positionFields, replyAfter};
+
+// How many numbers a reply is.
+pub const NUMBERS: usize = 7;
+
+// A number alone.
+pub fn numbered(number: u16) -> Fields
+    ensures { λ r. ⌜ r ≡ numberedOf number ⌝ }
+{
+    placed(number, 0)
+}
+
+// A number with a place.
+pub fn placed(number: u16, place: u16) -> Fields
+    ensures { λ r. ⌜ r ≡ placedOf number place ⌝ }
+{
+    Fields {
+        number,
+        word: 0,
+        place,
+        piece: 0,
+        length: 0,
+        col: 0,
+        row: 0,
+    }
+}
+
+// A word alone.
+pub fn said(word: u16) -> Fields
+    ensures { λ r. ⌜ r ≡ saidOf word ⌝ }
+{
+    accepted(word, 0, Point { col: 0, row: 0 })
+}
+
+// An outline taken, with a word: the count of edges, and the anchor.
+pub fn accepted(word: u16, edges: u16, anchor: Point) -> Fields
+    ensures { λ r. ⌜ r ≡ acceptedOf word edges anchor ⌝ }
+{
+    Fields {
+        number: 0,
+        word,
+        place: edges,
+        piece: 0,
+        length: 0,
+        col: anchor.col,
+        row: anchor.row,
+    }
+}
+
+pub fn of_refusal(f: Refusal) -> Fields
+    ensures { λ r. ⌜ r ≡ refusalFields f ⌝ }
+{
+    match f {
+        Refusal::Count => numbered(1),
+        Refusal::Start => numbered(2),
+        Refusal::Letter { place } => placed(3, place),
+        Refusal::Leaves { place } => placed(4, place),
+        Refusal::Unclosed => numbered(5),
+        Refusal::Touches { place } => placed(6, place),
+        Refusal::Anticlockwise => numbered(7),
+        Refusal::BackStep { piece, place } => Fields {
+            number: 8,
+            word: 0,
+            place,
+            piece,
+            length: 0,
+            col: 0,
+            row: 0,
+        },
+        Refusal::Dent {
+            piece,
+            place,
+            length,
+            cell,
+        } => Fields {
+            number: 9,
+            word: 0,
+            place,
+            piece,
+            length,
+            col: cell.col,
+            row: cell.row,
+        },
+        Refusal::Room { edges } => placed(10, edges),
+        Refusal::List => numbered(10),
+        Refusal::Cell => numbered(11),
+    }
+}
+
+pub fn of_verdict(v: Verdict) -> Fields
+    ensures { λ r. ⌜ r ≡ verdictFields v ⌝ }
+{
+    match v {
+        Verdict::Taken { edges, anchor } => accepted(0, edges, anchor),
+        Verdict::Refused(f) => of_refusal(f),
+    }
+}
+
+pub fn of_position(p: Position) -> Fields
+    ensures { λ r. ⌜ r ≡ positionFields p ⌝ }
+{
+    match p {
+        Position::Inside => said(1),
+        Position::Outside => said(2),
+        Position::Refused(f) => of_refusal(f),
+    }
+}
+
+// Writes a reply's seven numbers to the front of a lent list, and says whether it has room for them.
+pub fn write(f: Fields, list: &mut [u16]) -> bool
+    ensures room { λ r. ⌜ r ≡ leb 7 (length (now (list .entry))) ⌝ }
+    ensures list { λ r. ⌜ now (list .exit) ≡ replyAfter f (now (list .entry)) ⌝ }
+{
+    if list.len() < NUMBERS {
+        return false;
+    }
+    list[0] = f.number;
+    list[1] = f.word;
+    list[2] = f.place;
+    list[3] = f.piece;
+    list[4] = f.length;
+    list[5] = f.col;
+    list[6] = f.row;
+    true
+}

@@ -1,0 +1,147 @@
+-- The cut places of any turn. As long as W, N, E and S come in this order the cut places are theirs, and the pieces are parts of the turn; for then a piece
+-- leads on to the next corner, and the last one back to W. Each of these corners comes first in the order of its own frame, and a walk does not bend at a
+-- corner that comes first in two.
+use Prim.Native.Nat.{ℕ, zero, suc, _+_, _-_, _≤_, _<_}
+use native.Mathlib.Decide.{decLt}
+use native.Mathlib.Omega.{arith}
+use mathlib.Core.Path.{_≡_, refl, ap, _∙_}
+use mathlib.Core.Logic.{inl, inr, _≢_}
+use mathlib.Core.List.{List, _++_}
+use lib.ListN.{length, getD, take, drop, length-take, length-drop}
+use lib.Seq.{take-append-le, drop-append-le, getD-take, getD-drop}
+use borrow.Author.Tests.{le-leb, lt-leb, lt-ltb}
+use Rattle.base.proofs.BelowLaws.{below-suc}
+use Rattle.chart.specs.declared.Point.{Point}
+use Rattle.lattice.specs.Chart.{cornerAt}
+use Rattle.lattice.proofs.RightHand.{arriving-up}
+use Rattle.convexity.specs.Frame.{Frame, frameOf}
+use Rattle.convexity.specs.Cut.{cornerPlace, ahead, cutCorner, cut}
+use Rattle.convexity.specs.Pieces.{rounds, piece}
+use Rattle.convexity.specs.Reading.{opposite}
+use Rattle.convexity.proofs.Ring.{next, next-lt, below-four, Apart, apart, Turns, turns}
+use Rattle.convexity.proofs.Quadrant.{Turn}
+use Rattle.convexity.proofs.Levels.{turn-first, turn-lowest}
+use Rattle.convexity.proofs.Extreme.{FirstAt, first-at-cornerPlace, Bend, by-later, by-earlier, previous, corner-round, bend}
+
+-- ---- the cut places
+
+ahead-on : (n a b : ℕ) → a ≤ b → ahead n a b ≡ b - a
+unfolding ahead
+ahead-on n a b h = rw (le-leb a b h)
+
+pub ahead-round : (n a b : ℕ) → b < a → ahead n a b ≡ b + n - a
+unfolding ahead
+ahead-round n a b h = rw (lt-leb a b h)
+
+module _ (s : Point) (t : List ℕ) where
+  pub cut-step : (k : ℕ) → cut s t (suc k) ≡ cut s t k + ahead (length t) (cutCorner s t k) (cutCorner s t (suc k))
+  unfolding cut
+  cut-step k = refl
+
+  pub cut-zero : cut s t 0 ≡ 0
+  unfolding cut
+  cut-zero = refl
+
+  pub corner-west : cutCorner s t 0 ≡ 0
+  unfolding cutCorner
+  corner-west = refl
+
+  -- As long as the corners of the pieces come in their order, the cut places are theirs; and from the last the turn leads back to W
+  pub cut-on : (k : ℕ) → cut s t k ≡ cutCorner s t k → cutCorner s t k ≤ cutCorner s t (suc k) → cut s t (suc k) ≡ cutCorner s t (suc k)
+  cut-on k e l = omega (arith, cut-step k, ahead-on (length t) (cutCorner s t k) (cutCorner s t (suc k)) l)
+
+  module _ (cuts : (k : ℕ) → k < 4 → cut s t k ≡ cutCorner s t k) (rise : (k : ℕ) → k < 3 → cutCorner s t k < cutCorner s t (suc k))
+      (below : cutCorner s t 3 < length t) where
+    pub cut-round : cut s t 4 ≡ length t
+    unfolding cutCorner
+    cut-round = omega (arith, cut-step 3, cuts 3 (omega arith), ahead-round (length t) (cornerPlace s t 3) 0 (omega (arith, rise 2 (omega arith))))
+
+    pub cuts-rise : (k : ℕ) → k < 4 → cut s t k < cut s t (suc k)
+    cuts-rise k h =
+        elim (below-suc k 3 h) [
+          | inl e ↦ rw e (omega (arith, cut-round, cuts 3 (omega arith)))
+          | inr l ↦ omega (arith, cuts k h, cuts (suc k) (omega arith), rise k l)
+        ]
+
+    pub cuts-fit : (k : ℕ) → k < 4 → cut s t (suc k) ≤ length t
+    cuts-fit k h =
+        let a = cuts-rise 1 (omega arith) in
+        let b = cuts-rise 2 (omega arith) in
+        let c = cuts-rise 3 (omega arith) in
+        let d = cut-round in
+        below-four (λ k. cut s t (suc k) ≤ length t) (omega arith) (omega arith) (omega arith) (omega arith) k h
+
+  -- Where they lie within the turn, the pieces are parts of it
+  module _ (fits : (k : ℕ) → k < 4 → cut s t (suc k) ≤ length t) where
+    pub piece-part : (k : ℕ) → k < 4 → piece s t k ≡ take (cut s t (suc k) - cut s t k) (drop (cut s t k) t)
+    unfolding piece rounds
+    piece-part k h =
+        let r : List ℕ = t ++ (t ++ t) in
+        let a : ℕ = cut s t k in
+        let b : ℕ = cut s t (suc k) in
+        let l : a ≤ length t = omega (arith, cut-step k, fits k h) in
+        let m : b - a ≤ length (drop a t) = simp length-drop (omega (arith, fits k h)) in
+        ap (take (b - a)) (drop-append-le a t r l) ∙ take-append-le (b - a) (drop a t) r m
+
+    pub piece-length : (k : ℕ) → k < 4 → length (piece s t k) ≡ cut s t (suc k) - cut s t k
+    piece-length k h = rw (piece-part k h) (simp (length-take, length-drop) (omega (arith, fits k h)))
+
+    pub piece-at : (k : ℕ) → k < 4 → (i : ℕ) → i < cut s t (suc k) - cut s t k → getD (piece s t k) i 0 ≡ getD t (cut s t k + i) 0
+    piece-at k h i l =
+        rw (piece-part k h) (getD-take (cut s t (suc k) - cut s t k) (drop (cut s t k) t) i 0 l ∙ getD-drop (cut s t k) t i 0)
+
+-- ---- the corners of the pieces
+
+pub previous-zero : (n : ℕ) → previous n 0 ≡ n - 1
+unfolding previous
+previous-zero n = refl
+
+pub previous-pos : (n i : ℕ) → 0 < i → previous n i ≡ i - 1
+unfolding previous
+previous-pos n zero h = absurd (omega arith)
+previous-pos n (suc i) h = omega arith
+
+-- No corner comes first in a frame and in the next one
+bends-differ : (f g : Frame) (a b : ℕ) → Apart f → Turns f g → Bend f a b → Bend g a b → ⊥
+bends-differ f g a b h t (by-later p q) (by-later p′ q′) = omega arith
+bends-differ f g a b h t (by-later p q) (by-earlier p′ q′) = omega arith
+bends-differ f g a b h t (by-earlier p q) (by-later p′ q′) = omega arith
+bends-differ f g a b h t (by-earlier p q) (by-earlier p′ q′) = omega arith
+
+-- The corner to which a left comes and which an up leaves comes first in frame 0 alone
+west-only : (k : ℕ) → 0 < k → Bend (frameOf k) 2 1 → ⊥
+unfolding frameOf opposite
+west-only zero h b = omega arith
+west-only (suc zero) h (by-later p q) = omega arith
+west-only (suc zero) h (by-earlier p q) = omega arith
+west-only (suc (suc zero)) h (by-later p q) = omega arith
+west-only (suc (suc zero)) h (by-earlier p q) = omega arith
+west-only (suc (suc (suc k))) h (by-later p q) = omega arith
+west-only (suc (suc (suc k))) h (by-earlier p q) = omega arith
+
+module _ (s : Point) (t : List ℕ) (h : Turn s t) where
+  pub corner-first : (k : ℕ) → k < 4 → FirstAt s t k (cutCorner s t k)
+  unfolding cutCorner
+  corner-first zero l = turn-first s t h
+  corner-first (suc k) l = rw (lt-ltb k 3 (omega arith)) (first-at-cornerPlace s t (suc k) (omega (arith, h .walked .long)))
+
+  pub corners-differ : (k : ℕ) → k < 4 → cutCorner s t k ≢ cutCorner s t (next k)
+  corners-differ k l e =
+      bends-differ (frameOf k) (frameOf (next k)) _ _ (apart k) (turns k) (bend s t (h .walked) k (cutCorner s t k) (corner-first k l))
+      (bend s t (h .walked) (next k) (cutCorner s t k) (rw e (corner-first (next k) (next-lt k))))
+
+  module _ (up : getD t 0 0 ≡ 1) where
+    pub coming-west : getD t (length t - 1) 0 ≡ 2
+    coming-west =
+        let l : suc (length t - 1) ≡ length t = omega (arith, h .walked .long) in
+        arriving-up s t (h .walked) 0 (turn-lowest s t h) (length t - 1) (omega arith) (ap (cornerAt s t) l ∙ corner-round s t (h .walked)) up
+
+    pub corner-after : (k : ℕ) → 0 < k → k < 4 → 0 < cutCorner s t k
+    unfolding previous
+    corner-after k z l =
+        elim (decLt 0 (cutCorner s t k)) [
+          | yes m ↦ m
+          | no m ↦
+              let e : cutCorner s t k ≡ 0 = omega arith in
+              absurd (west-only k z (rw (coming-west, up) at (bend s t (h .walked) k 0 (rw e at (corner-first k l)))))
+        ]

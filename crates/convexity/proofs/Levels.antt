@@ -1,0 +1,130 @@
+-- A cell is enclosed exactly where its level, ups less downs, is 1. In a turn that leaves W upwards the cell on the right hand of every letter has level 1
+-- and the one on its left hand level 0; so the cell at W is enclosed, and as no corner lies left of W or below it in its column, no cell there is.
+use Prim.Native.Nat.{ℕ, suc, _+_, _<_, _≤_}
+use native.Mathlib.Omega.{arith}
+use mathlib.Core.Path.{_≡_, refl, subst}
+use mathlib.Core.Bool.{Bool, true, false, _&&_}
+use mathlib.Core.List.{List, [], _∷_}
+use lib.ListN.{length, getD}
+use lib.Dec.{leb, eqb}
+use borrow.Author.Tests.{leb-true, eqb-true, eq-eqb, ne-eqb}
+use Rattle.base.proofs.BelowLaws.{and-left, and-right}
+use Rattle.chart.specs.declared.Point.{Point}
+use Rattle.lattice.specs.Chart.{step, cornerAt}
+use Rattle.lattice.specs.Enclosed.{upAlong, downAlong, ups, downs, encloses}
+use Rattle.lattice.proofs.WalkLaws.{point, corner-zero}
+use Rattle.lattice.proofs.Jumps.{tally, tally-found, upsTo, downsTo, ups-to, downs-to}
+use Rattle.lattice.proofs.RightHand.{leftOf, rightOf, Lowest, clockwise-right, clockwise-left}
+use Rattle.convexity.specs.Frame.{frameOf, along}
+use Rattle.convexity.specs.Cut.{clockwise}
+use Rattle.convexity.specs.Pieces.{IsAnchor}
+use Rattle.convexity.proofs.Quadrant.{Turn}
+use Rattle.convexity.proofs.Extreme.{FirstAt, not-before-earlier, not-before-later}
+
+-- The corner that comes first in frame 0 is the lowest of the leftmost
+pub first-lowest : (s : Point) (w : List ℕ) (k : ℕ) → FirstAt s w 0 k → Lowest s w k
+unfolding frameOf along
+first-lowest s w k f =
+    record {
+      below = f .below;
+      least-col = λ i l. not-before-earlier (frameOf 0) (cornerAt s w i) (cornerAt s w k) (f .none i l);
+      least-row = λ i l. not-before-later (frameOf 0) (cornerAt s w i) (cornerAt s w k) (f .none i l);
+    }
+
+-- A clockwise turn leaves W upwards
+pub leaves-upwards : (t : List ℕ) → clockwise t ≡ true → getD t 0 0 ≡ 1
+unfolding clockwise
+leaves-upwards t c = eqb-true (getD t 0 0) 1 c
+
+-- The two counts of a row are tallies
+pub ups-tally : (p : Point) (w : List ℕ) (c r : ℕ) → ups p w c r ≡ tally (λ q a. upAlong q a r && leb (q .col) c) p w
+unfolding ups tally
+ups-tally p [] c r = refl
+ups-tally p (a ∷ w) c r = rw (ups-tally (step p a) w c r)
+
+pub downs-tally : (p : Point) (w : List ℕ) (c r : ℕ) → downs p w c r ≡ tally (λ q a. downAlong q a r && leb (q .col) c) p w
+unfolding downs tally
+downs-tally p [] c r = refl
+downs-tally p (a ∷ w) c r = rw (downs-tally (step p a) w c r)
+
+-- What the test of a letter and of a row says
+pub tested : (a k y r : ℕ) → (eqb a k && eqb y r) ≡ true → (a ≡ k) × (y ≡ r)
+tested a k y r e = (eqb-true a k (and-left (eqb a k) (eqb y r) e), eqb-true y r (and-right (eqb a k) (eqb y r) e))
+
+-- The letter a stands at place i
+abbrev pub LetterAt : List ℕ → ℕ → ℕ → Type 0
+LetterAt t a i = (i < length t) × (getD t i 0 ≡ a)
+
+-- The point p stands for the cell one to the left and one below it, as in the laws of the right hand. Its level is 1, or 0
+abbrev pub In : Point → List ℕ → Point → Type 0
+In s t p = upsTo s t (p .col) (p .row) ≡ downsTo s t (p .col) (p .row) + 1
+
+abbrev pub Out : Point → List ℕ → Point → Type 0
+Out s t p = upsTo s t (p .col) (p .row) ≡ downsTo s t (p .col) (p .row)
+
+abbrev pub shifted : Point → Point
+shifted x = point (suc (x .col)) (suc (x .row))
+
+module _ (s : Point) (t : List ℕ) where
+  pub enclosed-level : (x : Point) → encloses s t (x .col) (x .row) ≡ true → In s t (shifted x)
+  unfolding encloses
+  enclosed-level x e = omega (arith, eqb-true (ups s t (x .col) (x .row)) (downs s t (x .col) (x .row) + 1) e, ups-to s t (x .col) (x .row), downs-to s t (x .col) (x .row))
+
+  pub level-enclosed : (x : Point) → In s t (shifted x) → encloses s t (x .col) (x .row) ≡ true
+  unfolding encloses
+  level-enclosed x h = eq-eqb (ups s t (x .col) (x .row)) (downs s t (x .col) (x .row) + 1) (rw (ups-to, downs-to) h)
+
+  pub level-open : (x : Point) → Out s t (shifted x) → encloses s t (x .col) (x .row) ≡ false
+  unfolding encloses
+  level-open x h = ne-eqb (ups s t (x .col) (x .row)) (downs s t (x .col) (x .row) + 1) (rw (ups-to, downs-to) (omega arith))
+
+  -- For an enclosed cell some up is counted
+  pub up-counted : (c r : ℕ) → encloses s t c r ≡ true → (i : ℕ) × LetterAt t 1 i × (cornerAt s t i .col ≤ c) × (cornerAt s t i .row ≡ r)
+  unfolding encloses upAlong
+  up-counted c r e =
+      let (i, l, g) = tally-found (λ q a. upAlong q a r && leb (q .col) c) s t (omega (arith, ups-tally s t c r, eqb-true (ups s t c r) (downs s t c r + 1) e)) in
+      let p = cornerAt s t i in
+      let (a, b) = tested (getD t i 0) 1 (p .row) r (and-left (upAlong p (getD t i 0) r) (leb (p .col) c) g) in
+      (i, (l, a), leb-true (p .col) c (and-right (upAlong p (getD t i 0) r) (leb (p .col) c) g), b)
+
+  open-of-no-ups : (c r : ℕ) → ((i : ℕ) → i < length t → cornerAt s t i .col ≤ c → cornerAt s t i .row ≡ r → ⊥) → encloses s t c r ≡ false
+  open-of-no-ups c r h = go (encloses s t c r) refl
+    where
+      go : (b : Bool) → encloses s t c r ≡ b → encloses s t c r ≡ false
+      go false e = e
+      go true e = let (i, l, a, b) = up-counted c r e in absurd (h i (l .0) a b)
+
+  module _ (h : Turn s t) where
+    -- A turn begins at its lowest corner
+    pub turn-first : FirstAt s t 0 0
+    turn-first = record { below = omega (arith, h .walked .long); none = λ i l. rw corner-zero (h .west i l) }
+
+    pub turn-lowest : Lowest s t 0
+    turn-lowest = first-lowest s t 0 turn-first
+
+    -- No cell of a column left of W is enclosed, and none below the cell at W in its column
+    pub left-of-anchor : (c r : ℕ) → c < s .col → encloses s t c r ≡ false
+    left-of-anchor c r k = open-of-no-ups c r (λ i l a b. omega (arith, rw corner-zero at (turn-lowest .least-col i l)))
+
+    pub below-anchor : (r : ℕ) → r < s .row → encloses s t (s .col) r ≡ false
+    below-anchor r k =
+        open-of-no-ups (s .col) r (λ i l a b.
+        let least = rw corner-zero at (turn-lowest .least-col i l) in
+        omega (arith, rw corner-zero at (turn-lowest .least-row i l) (omega arith)))
+
+    module _ (up : getD t 0 0 ≡ 1) where
+      pub right-in : (a i : ℕ) → LetterAt t a i → In s t (rightOf (cornerAt s t i) a)
+      right-in a i e = subst (λ (b : ℕ). In s t (rightOf (cornerAt s t i) b)) (e .1) (clockwise-right s t (h .walked) 0 turn-lowest up i (e .0))
+
+      pub left-out : (a i : ℕ) → LetterAt t a i → Out s t (leftOf (cornerAt s t i) a)
+      left-out a i e = subst (λ (b : ℕ). Out s t (leftOf (cornerAt s t i) b)) (e .1) (clockwise-left s t (h .walked) 0 turn-lowest up i (e .0))
+
+      -- The cell right of an up
+      pub up-enclosed : (i : ℕ) → LetterAt t 1 i → encloses s t (cornerAt s t i .col) (cornerAt s t i .row) ≡ true
+      unfolding rightOf leftOf
+      up-enclosed i e = level-enclosed (cornerAt s t i) (right-in 1 i e)
+
+      -- The cell at W is the lowest enclosed cell of the leftmost column
+      pub anchor-lowest : IsAnchor s t s
+      anchor-lowest =
+          record { enclosed = rw corner-zero at (up-enclosed 0 (turn-lowest .below, up)); leftmost = left-of-anchor; lowest = below-anchor }

@@ -1,0 +1,130 @@
+-- The four frames in a ring: each is the one before it, turned by a quarter. Its later letter is the earlier one of the frame before, and its earlier letter
+-- goes back along the later one of the frame before. So one law about a piece and the next serves all four.
+use Prim.Native.Nat.{ℕ, zero, suc, _+_, _<_}
+use native.Mathlib.Omega.{arith}
+use mathlib.Core.Path.{_≡_, refl, sym, ap, _∙_}
+use mathlib.Core.Logic.{_≢_}
+use Rattle.chart.specs.Limits.{side}
+use Rattle.chart.specs.declared.Point.{Point}
+use Rattle.lattice.proofs.WalkLaws.{OnChart}
+use Rattle.convexity.specs.Frame.{Frame, frameOf, along}
+use Rattle.convexity.specs.Quadrant.{cellAlong, cellE, cellL}
+use Rattle.convexity.specs.Reading.{opposite}
+
+-- The piece after piece k. The first comes after the last
+abbrev pub next : ℕ → ℕ
+next zero = 1
+next (suc zero) = 2
+next (suc (suc zero)) = 3
+next (suc (suc (suc k))) = 0
+
+pub next-lt : (k : ℕ) → next k < 4
+next-lt zero = omega arith
+next-lt (suc zero) = omega arith
+next-lt (suc (suc zero)) = omega arith
+next-lt (suc (suc (suc k))) = omega arith
+
+pub next-suc : (k : ℕ) → k < 3 → next k ≡ suc k
+next-suc zero h = refl
+next-suc (suc zero) h = refl
+next-suc (suc (suc zero)) h = refl
+next-suc (suc (suc (suc k))) h = absurd (omega arith)
+
+pub next-round : (k : ℕ) → k < 4 → next (next (next (next k))) ≡ k
+next-round zero h = refl
+next-round (suc zero) h = refl
+next-round (suc (suc zero)) h = refl
+next-round (suc (suc (suc k))) h = omega arith
+
+-- What holds of each of the four
+pub below-four : (P : ℕ → Type 0) → P 0 → P 1 → P 2 → P 3 → (k : ℕ) → k < 4 → P k
+below-four P a b c d zero h = a
+below-four P a b c d (suc zero) h = b
+below-four P a b c d (suc (suc zero)) h = c
+below-four P a b c d (suc (suc (suc zero))) h = d
+below-four P a b c d (suc (suc (suc (suc k)))) h = absurd (omega arith)
+
+-- What holds along the turn, and from its last piece to its first, holds round the ring
+pub round-ring : (P : ℕ → ℕ → Type 0) → ((k : ℕ) → k < 3 → P k (suc k)) → P 3 0 → (k : ℕ) → k < 4 → P k (next k)
+round-ring P on last = below-four (λ k. P k (next k)) (on 0 (omega arith)) (on 1 (omega arith)) (on 2 (omega arith)) last
+
+-- What holds of a piece and of the three after it, in the ring, holds of all four
+pub all-round : (P : ℕ → Type 0) (j : ℕ) → j < 4 → P j → P (next j) → P (next (next j)) → P (next (next (next j))) → (k : ℕ) → k < 4 → P k
+all-round P zero h a b c d = below-four P a b c d
+all-round P (suc zero) h a b c d = below-four P d a b c
+all-round P (suc (suc zero)) h a b c d = below-four P c d a b
+all-round P (suc (suc (suc zero))) h a b c d = below-four P b c d a
+all-round P (suc (suc (suc (suc j)))) h a b c d = absurd (omega arith)
+
+-- The four letters of a frame's directions, on and back, differ
+pub record Apart (f : Frame) : Type 0 where
+  pub letters : f .earlier ≢ f .later
+  pub earlier-earlier : opposite (f .earlier) ≢ f .earlier
+  pub earlier-later : opposite (f .earlier) ≢ f .later
+  pub later-earlier : opposite (f .later) ≢ f .earlier
+  pub later-later : opposite (f .later) ≢ f .later
+  pub backs : opposite (f .later) ≢ opposite (f .earlier)
+
+pub apart : (k : ℕ) → Apart (frameOf k)
+unfolding frameOf opposite
+apart zero = omega arith
+apart (suc zero) = omega arith
+apart (suc (suc zero)) = omega arith
+apart (suc (suc (suc k))) = omega arith
+
+-- g is f turned by a quarter
+pub record Turns (f g : Frame) : Type 0 where
+  pub earlier : g .earlier ≡ opposite (f .later)
+  pub later : g .later ≡ f .earlier
+  pub back : opposite (g .earlier) ≡ f .later
+
+pub turns : (k : ℕ) → Turns (frameOf k) (frameOf (next k))
+unfolding frameOf opposite
+turns zero = omega arith
+turns (suc zero) = omega arith
+turns (suc (suc zero)) = omega arith
+turns (suc (suc (suc k))) = omega arith
+
+-- A letter is the earlier one of one piece, and the later one of one
+abbrev pieceOf : ℕ → ℕ
+pieceOf zero = 0
+pieceOf (suc zero) = 3
+pieceOf (suc (suc zero)) = 2
+pieceOf (suc (suc (suc a))) = 1
+
+piece-earlier : (k : ℕ) → k < 4 → pieceOf (frameOf k .earlier) ≡ k
+unfolding frameOf
+piece-earlier = below-four (λ k. pieceOf (frameOf k .earlier) ≡ k) refl refl refl refl
+
+piece-later : (k : ℕ) → k < 4 → next (pieceOf (frameOf k .later)) ≡ k
+unfolding frameOf
+piece-later = below-four (λ k. next (pieceOf (frameOf k .later)) ≡ k) refl refl refl refl
+
+pub earlier-injective : (j k : ℕ) → j < 4 → k < 4 → frameOf j .earlier ≡ frameOf k .earlier → j ≡ k
+earlier-injective j k h l e = sym (piece-earlier j h) ∙ ap pieceOf e ∙ piece-earlier k l
+
+pub later-injective : (j k : ℕ) → j < 4 → k < 4 → frameOf j .later ≡ frameOf k .later → j ≡ k
+later-injective j k h l e = sym (piece-later j h) ∙ ap (λ (a : ℕ). next (pieceOf a)) e ∙ piece-later k l
+
+-- A corner of the chart in a frame and in the next
+pub along-next : (k : ℕ) (p : Point) → OnChart p → along (frameOf (next k) .earlier) p + along (frameOf k .later) p ≡ side
+unfolding frameOf along
+along-next zero p h = omega arith
+along-next (suc zero) p h = omega arith
+along-next (suc (suc zero)) p h = omega arith
+along-next (suc (suc (suc k))) p h = omega arith
+
+-- A cell of the chart in a frame and in the next
+pub cell-turned : (k : ℕ) (x : Point) → cellL (next k) x ≡ cellE k x
+unfolding cellE cellL cellAlong frameOf
+cell-turned zero x = refl
+cell-turned (suc zero) x = refl
+cell-turned (suc (suc zero)) x = refl
+cell-turned (suc (suc (suc k))) x = refl
+
+pub cell-next : (k : ℕ) (x : Point) → x .col < 255 → x .row < 255 → cellE (next k) x + cellL k x ≡ 254
+unfolding cellE cellL cellAlong frameOf
+cell-next zero x c r = omega arith
+cell-next (suc zero) x c r = omega arith
+cell-next (suc (suc zero)) x c r = omega arith
+cell-next (suc (suc (suc k))) x c r = omega arith

@@ -1,0 +1,50 @@
+-- A loose query by its cases: the first refusal that applies, and else the rule of the edges. Each case is a clause of the definition.
+use Prim.Native.Nat.{_≤_, _<_, _%_}
+use mathlib.Core.Path.{_≡_}
+use mathlib.Core.Bool.{Bool, true, false, cond, _||_, true≢false}
+use mathlib.Core.List.{List}
+use lib.ListN.{length}
+use lib.Dec.{eqb, ltb}
+use lib.IntN.{ℤ}
+use borrow.Author.Tests.{ltb-false, lt-ltb, le-ltb}
+use Rattle.chart.specs.Limits.{longestList}
+use Rattle.chart.specs.declared.Point.{Point}
+use Rattle.convexity.specs.Inside.{insideEdges}
+use Rattle.chart.specs.declared.Refusal.the-variants.{List as BadList, Cell}
+use Rattle.chart.specs.declared.Position.the-variants.{Inside, Outside, Refused}
+use Rattle.polygon.specs.Loose.{insideList, badList, badCell, looseOf}
+
+or-false-second : (s t : Bool) → (s || t) ≡ false → t ≡ false
+or-false-second true t e = absurd (true≢false e)
+or-false-second false t e = e
+
+-- A list that refusal 10 lets pass is no longer than the longest
+pub short-list : (es : List ℤ) → badList es ≡ false → length es ≤ longestList
+unfolding badList
+short-list es e = ltb-false _ _ (or-false-second (eqb (length es % 2) 1) (ltb longestList (length es)) e)
+
+module _ (a : Point) (es : List ℤ) (x : Point) where
+  -- The rule of the edges, by the length of the list
+  pub inside-long : longestList < length es → false ≡ insideList a es x
+  unfolding insideList
+  inside-long h = rw (lt-ltb longestList (length es) h)
+
+  pub inside-short : length es ≤ longestList → insideList a es x ≡ insideEdges a es x
+  unfolding insideList
+  inside-short h = rw (le-ltb longestList (length es) h)
+
+  pub loose-list : badList es ≡ true → Refused BadList ≡ looseOf a es x
+  unfolding looseOf
+  loose-list e = rw e
+
+  pub loose-anchor : badList es ≡ false → badCell a ≡ true → Refused Cell ≡ looseOf a es x
+  unfolding looseOf
+  loose-anchor e h = rw (e, h)
+
+  pub loose-cell : badList es ≡ false → badCell a ≡ false → badCell x ≡ true → Refused Cell ≡ looseOf a es x
+  unfolding looseOf
+  loose-cell e h k = rw (e, h, k)
+
+  pub loose-edges : badList es ≡ false → badCell a ≡ false → badCell x ≡ false → looseOf a es x ≡ cond (insideEdges a es x) Inside Outside
+  unfolding looseOf
+  loose-edges e h k = rw (e, h, k)

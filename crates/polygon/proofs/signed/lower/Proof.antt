@@ -1,0 +1,26 @@
+-- By the test that the definition makes.
+use borrow.Author.Needs.{needs}
+use mathlib.Core.Path.{_≡_, sym, _∙_}
+use mir.Syntax.{w64}
+use mir.ValLaws.{toZ-ofZ}
+use Rattle.convexity.specs.Inside.{leℤ}
+use Rattle.polygon.proofs.Integers.{min-by}
+use Rattle.polygon.proofs.signed.lower.Statement.{statement}
+use Rattle.polygon.proofs.signed.lower.Tie as tie
+
+at-most-requires : tie.Need-at-most-requires
+at-most-requires c κs = search needs
+
+-- The test, at the numbers themselves
+tested : (c : tie.After-at-most) → leℤ (c .before .args .a) (c .before .args .b) ≡ c .at-most .result
+tested c =
+    sym (simp (toZ-ofZ w64 (c .before .args .a) (c .before .fits .a), toZ-ofZ w64 (c .before .args .b) (c .before .fits .b)) at (c .at-most .ensures))
+
+returns : tie.Need-returns
+returns c = toZ-ofZ w64 (c .before .before .args .a) (c .before .before .fits .a) ∙ sym (min-by _ _ (tested (c .before) ∙ c .if1 .taken))
+
+returns-2 : tie.Need-returns-2
+returns-2 c = toZ-ofZ w64 (c .before .before .args .b) (c .before .before .fits .b) ∙ sym (min-by _ _ (tested (c .before) ∙ c .if1 .left))
+
+pub lower-spec : {M : Type 1} → statement M
+lower-spec = tie.close (tie.spec at-most-requires returns returns-2)

@@ -1,0 +1,49 @@
+-- The two tests of the definition, in its order.
+use borrow.Author.Needs.{needs}
+use mathlib.Core.Path.{_≡_, _∙_, sym}
+use lib.IntN.{pos}
+use mir.Syntax.{w64}
+use mir.Val.{toZ, ofZ}
+use Rattle.convexity.specs.Inside.{leℤ}
+use Rattle.polygon.specs.Span.{spans}
+use Rattle.base.proofs.Sizes.{read-back}
+use Rattle.polygon.proofs.spanned.Statement.{statement}
+use Rattle.polygon.proofs.spanned.Tie as tie
+
+-- The cell's number is read back as it is, and so are the two ends
+cell-read : (c : tie.After-whole) → toZ w64 (ofZ w64 (c .whole .result)) ≡ pos (c .before .args .c)
+cell-read c = read-back (c .whole .result) (c .whole .ok) ∙ c .whole .ensures
+
+low-is : (c : tie.After-at-most) → c .at-most .result ≡ leℤ (c .before .before .before .args .s .low) (pos (c .before .before .before .args .c))
+low-is c =
+    simp (read-back (c .before .before .before .args .s .low) (c .before .struct-told .given .1 .0 .1), cell-read (c .before .before)) at (c .at-most .ensures)
+
+high-is :
+    (c : tie.After-at-most2)
+    → c .at-most2 .result
+    ≡ leℤ (pos (c .before .before .before .before .before .before .args .c)) (c .before .before .before .before .before .before .args .s .high)
+high-is c =
+    simp (
+      read-back (c .before .before .before .before .before .before .args .s .high) (c .before .struct-told2 .given .1 .1 .0 .1),
+      cell-read (c .before .before .before .before .before),
+    ) at (c .at-most2 .ensures)
+
+whole-requires : tie.Need-whole-requires
+whole-requires c κs = search needs
+
+at-most-requires : tie.Need-at-most-requires
+at-most-requires c κs = search needs
+
+at-most-requires-2 : tie.Need-at-most-requires-2
+at-most-requires-2 c κs = search needs
+
+returns : tie.Need-returns
+unfolding spans
+returns c = high-is c ∙ simp (sym (low-is (c .before .before .before)) ∙ c .before .before .if1 .taken)
+
+returns-2 : tie.Need-returns-2
+unfolding spans
+returns-2 c = c .if1 .left ∙ simp (sym (low-is (c .before)) ∙ c .if1 .left)
+
+pub spanned-spec : {M : Type 1} → statement M
+spanned-spec = tie.close (tie.spec whole-requires at-most-requires at-most-requires-2 returns returns-2)

@@ -1,0 +1,32 @@
+-- The loose query: refusals 10 and 11, then the rule of the edges (contract 6.2).
+use Prim.Native.Nat.{ℕ, _%_}
+use mathlib.Core.Bool.{Bool, false, cond, _||_}
+use mathlib.Core.List.{List}
+use lib.ListN.{length}
+use lib.Dec.{leb, ltb, eqb}
+use lib.IntN.{ℤ}
+use Rattle.chart.specs.Limits.{side, longestList}
+use Rattle.chart.specs.declared.Point.{Point}
+use Rattle.convexity.specs.Inside.{insideEdges}
+use Rattle.chart.specs.declared.Refusal.{Refusal}
+use Rattle.chart.specs.declared.Refusal.the-variants.{List as BadList, Cell}
+use Rattle.chart.specs.declared.Position.{Position}
+use Rattle.chart.specs.declared.Position.the-variants.{Inside, Outside, Refused}
+
+-- The rule of the edges for every list: no cell is inside one that is too long
+unfoldable pub insideList : Point → List ℤ → Point → Bool
+insideList a es x = cond (ltb longestList (length es)) false (insideEdges a es x)
+
+-- 10, of a loose query: an odd count of numbers, or too many
+unfoldable pub badList : List ℤ → Bool
+badList es = eqb (length es % 2) 1 || ltb longestList (length es)
+
+-- 11: a number of the cell is none of the chart's
+unfoldable pub badCell : Point → Bool
+badCell x = leb side (x .col) || leb side (x .row)
+
+unfoldable pub looseOf : Point → List ℤ → Point → Position
+looseOf a es x =
+    cond (badList es) (Refused BadList)
+    (cond (badCell a || badCell x) (Refused Cell)
+    (cond (insideEdges a es x) Inside Outside))

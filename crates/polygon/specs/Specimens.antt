@@ -1,0 +1,41 @@
+-- Loose queries with the edges of the specimens H2 and H3, and their refusals (contract 9). All rows are proved together (proofs/Specimens.antt).
+use Prim.Native.Nat.{ℕ}
+use mathlib.Core.Bool.{Bool}
+use mathlib.Core.List.{List, [], _∷_}
+use lib.IntN.{ℤ, pos, negsuc}
+use Rattle.chart.specs.declared.Point.{Point}
+use Rattle.chart.specs.declared.Fields.{Fields}
+use Rattle.chart.specs.Fields.{positionFields, numbered, said, inside, outside}
+use Rattle.chart.specs.Same.{sameFields}
+use Rattle.polygon.specs.Loose.{looseOf}
+
+at : ℕ → ℕ → Point
+at c r = record { col = c; row = r }
+
+-- A loose query, and its reply
+pub record Query : Type 0 where
+  pub anchor : Point
+  pub edges : List ℤ
+  pub cell : Point
+  pub fields : Fields
+
+unfoldable pub answered : Query → Bool
+answered h = sameFields (positionFields (looseOf (h .anchor) (h .edges) (h .cell))) (h .fields)
+
+ask : Point → List ℤ → Point → Fields → Query
+ask a es x f = record { anchor = a; edges = es; cell = x; fields = f }
+
+-- H2's edges in the block, beside it and far across the chart; H3's in its corner; no edges; refusals 10 and 11 in their order
+unfoldable pub queries : List Query
+unfolding at ask
+queries =
+    ask (at 0 0) (pos 2 ∷ pos 0 ∷ negsuc 1 ∷ pos 0 ∷ []) (at 1 0) (said inside) ∷
+    ask (at 0 0) (pos 2 ∷ pos 0 ∷ negsuc 1 ∷ pos 0 ∷ []) (at 3 0) (said outside) ∷
+    ask (at 0 0) (pos 2 ∷ pos 0 ∷ negsuc 1 ∷ pos 0 ∷ []) (at 254 0) (said outside) ∷
+    ask (at 0 1) (pos 1 ∷ pos 1 ∷ pos 1 ∷ negsuc 0 ∷ negsuc 0 ∷ negsuc 0 ∷ negsuc 0 ∷ pos 1 ∷ []) (at 1 2) (said inside) ∷
+    ask (at 0 1) (pos 1 ∷ pos 1 ∷ pos 1 ∷ negsuc 0 ∷ negsuc 0 ∷ negsuc 0 ∷ negsuc 0 ∷ pos 1 ∷ []) (at 0 2) (said outside) ∷
+    ask (at 7 7) [] (at 7 7) (said inside) ∷
+    ask (at 7 7) [] (at 7 8) (said outside) ∷
+    ask (at 255 0) (pos 1 ∷ []) (at 0 0) (numbered 10) ∷
+    ask (at 255 0) [] (at 0 0) (numbered 11) ∷
+    ask (at 0 0) [] (at 0 255) (numbered 11) ∷ []

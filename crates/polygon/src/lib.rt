@@ -1,0 +1,126 @@
+// An anchor and a list of edges as a polygon: which cells lie inside, and the loose query.
+use chart::LONGEST_LIST;
+use chart::Point;
+use chart::Position;
+use chart::Refusal;
+use chart::SIDE;
+ghost use mathlib.Core.Path.{_≡_};
+ghost use Prim.Native.Nat.{_^_, _≤_};
+ghost use lib.IntN.{pos, natAbs, _-ℤ_, _*ℤ_};
+ghost use Rattle.convexity.specs.Inside.{notNegative, sideValue};
+ghost use Rattle.polygon.specs.Span.{begun, stepped, spans};
+ghost use Rattle.polygon.specs.Loose.{insideList, badList, badCell, looseOf};
+
+mod signed;
+
+// One coordinate of a walk of edges: where it stands, and the lowest and the highest number met so far.
+struct Span {
+    at: i64,
+    low: i64,
+    high: i64,
+}
+
+// The walk at its start.
+fn begin(x: u16) -> Span
+    ensures { λ r. ⌜ r ≡ begun (pos x) ⌝ }
+{
+    let at = signed::whole(x);
+    Span {
+        at: at,
+        low: at,
+        high: at,
+    }
+}
+
+// The walk one step further: no sum of 1,016 edges is larger than 2^27.
+fn step(s: Span, d: i16) -> Span
+    requires { ⌜ natAbs (s .at) ≤ 2 ^ 27 ⌝ }
+    ensures { λ r. ⌜ r ≡ stepped s d ⌝ }
+{
+    let from = s.at;
+    let at = signed::sum(from, signed::widen(d));
+    Span {
+        at: at,
+        low: signed::lower(s.low, at),
+        high: signed::higher(s.high, at),
+    }
+}
+
+// The lowest number met is at most c, and the highest at least c.
+fn spanned(s: Span, c: u16) -> bool
+    ensures { λ r. ⌜ r ≡ spans s (pos c) ⌝ }
+{
+    let z = signed::whole(c);
+    signed::at_most(s.low, z) && signed::at_most(z, s.high)
+}
+
+// A step in one coordinate times the cell's distance in the other: one of a side value's two products.
+fn moment(d: i16, s: Span, c: u16) -> i64
+    requires { ⌜ natAbs (s .at) ≤ 2 ^ 27 ⌝ }
+    ensures { λ r. ⌜ (r ≡ d *ℤ (pos c -ℤ s .at)) × (natAbs r ≤ 2 ^ 43) ⌝ }
+{
+    signed::product(signed::widen(d), signed::difference(signed::whole(c), s.at))
+}
+
+// The side value is not negative: the cell is not outside the edge (dx, dy) that leaves where the walk stands.
+fn beside(dx: i16, dy: i16, cols: Span, rows: Span, cell: Point) -> bool
+    requires { ⌜ (natAbs (cols .at) ≤ 2 ^ 27) × (natAbs (rows .at) ≤ 2 ^ 27) ⌝ }
+    ensures { λ b. ⌜ b ≡ notNegative (sideValue dx dy (cols .at) (rows .at) (pos (cell .col)) (pos (cell .row))) ⌝ }
+{
+    let across = moment(dy, cols, cell.col);
+    let up = moment(dx, rows, cell.row);
+    signed::not_negative(signed::difference(across, up))
+}
+
+// The rule of the edges: side values, and the lowest and highest columns and rows met. No cell is inside a list that is too long.
+pub fn inside(anchor: Point, edges: &[i16], cell: Point) -> bool
+    ensures { λ b. ⌜ b ≡ insideList anchor (now (edges .entry)) cell ⌝ }
+{
+    if LONGEST_LIST < edges.len() {
+        return false;
+    }
+    let mut cols = begin(anchor.col);
+    let mut rows = begin(anchor.row);
+    let mut i = 0;
+    while i + 1 < edges.len() {
+        let dx = edges[i];
+        let dy = edges[i + 1];
+        if !beside(dx, dy, cols, rows, cell) {
+            return false;
+        }
+        cols = step(cols, dx);
+        rows = step(rows, dy);
+        i += 2;
+    }
+    spanned(cols, cell.col) && spanned(rows, cell.row)
+}
+
+// Refusal 10: an odd list, or one above 2,032 numbers.
+pub fn bad_list(edges: &[i16]) -> bool
+    ensures { λ b. ⌜ b ≡ badList (now (edges .entry)) ⌝ }
+{
+    edges.len() % 2 == 1 || LONGEST_LIST < edges.len()
+}
+
+// Refusal 11: a cell number above 254.
+pub fn bad_cell(x: Point) -> bool
+    ensures { λ b. ⌜ b ≡ badCell x ⌝ }
+{
+    SIDE <= x.col || SIDE <= x.row
+}
+
+pub fn loose_query(anchor: Point, edges: &[i16], cell: Point) -> Position
+    ensures { λ p. ⌜ p ≡ looseOf anchor (now (edges .entry)) cell ⌝ }
+{
+    if bad_list(edges) {
+        return Position::Refused(Refusal::List);
+    }
+    if bad_cell(anchor) || bad_cell(cell) {
+        return Position::Refused(Refusal::Cell);
+    }
+    if inside(anchor, edges, cell) {
+        Position::Inside
+    } else {
+        Position::Outside
+    }
+}

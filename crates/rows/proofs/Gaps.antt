@@ -1,0 +1,138 @@
+-- The search up the left and the right side of the hull finds the lowest missing cell, leftmost in its row: each side's climb stops at the first
+-- row with a missing cell on that side (proofs/Side.antt), and the right side is the left side's mirror image (proofs/Mirror.antt).
+use Prim.Native.Nat.{ℕ, suc, _-_, _≤_, _<_}
+use mathlib.Core.Path.{_≡_, refl, ap}
+use mathlib.Core.Bool.{Bool, true, false, cond}
+use mathlib.Core.Logic.{_⊎_, inl, inr}
+use native.Mathlib.Decide.{decLt}
+use native.Mathlib.Omega.{arith}
+use lib.Dec.{leb}
+use borrow.Author.Tests.{leb-true, leb-false}
+use Rattle.chart.specs.Limits.{side}
+use Rattle.chart.specs.declared.Point.{Point}
+use Rattle.lattice.specs.Hull.{After}
+use Rattle.rows.specs.Search.{climb, lowestGap}
+use Rattle.lattice.proofs.WalkLaws.{point-eq}
+use Rattle.rows.proofs.Rows.{Rows, Within, HullOf, hull-above, hull-below, hull-cols}
+use Rattle.rows.proofs.Side.{Left, climb-bottom}
+use Rattle.rows.proofs.Mirror.{Mirrored, mirror, mirrored-back, mirrored-rows, mirrored-hull}
+
+-- The cell g is in the hull, and not in the block
+pub record Gap (lo hi : ℕ → ℕ) (b t : ℕ) (g : Point) : Type 0 where
+  pub hull : HullOf lo hi b t g
+  pub outside : Within lo hi b t g → ⊥
+
+-- Every other such cell is in a higher row, or further right in the same row
+pub record Lowest (lo hi : ℕ → ℕ) (b t : ℕ) (g : Point) : Type 0 where
+  pub hull : HullOf lo hi b t g
+  pub outside : Within lo hi b t g → ⊥
+  pub lowest : (y : Point) → HullOf lo hi b t y → (Within lo hi b t y → ⊥) → (y ≡ g) ⊎ After g y
+
+-- No cell of the hull below row r is right of its row, and the cell next to row r on the right is in the hull
+record RightRow (lo hi : ℕ → ℕ) (b t r : ℕ) : Type 0 where
+  clear : (y : Point) → HullOf lo hi b t y → y .row < r → y .col < hi (y .row)
+  reach : r < t → HullOf lo hi b t (record { col = hi r; row = r })
+
+-- In the same row or a higher one, and in the same row no further left, is the same or after
+same-or-after : (g y : Point) → g .row ≤ y .row → (y .row ≡ g .row → g .col ≤ y .col) → (y ≡ g) ⊎ After g y
+unfolding After
+same-or-after g y h k =
+    elim (decLt (g .row) (y .row)) [
+      | yes l ↦ inr (inl l)
+      | no l ↦
+          let e : y .row ≡ g .row = omega arith in
+          let m : g .col ≤ y .col = k e in
+          elim (decLt (g .col) (y .col)) [ yes n ↦ inr (inr (omega arith, n)) | no n ↦ inl (point-eq y g (omega arith) e) ]
+    ]
+
+same-or-after-row : (g y : Point) → (y ≡ g) ⊎ After g y → g .row ≤ y .row
+unfolding After
+same-or-after-row g y (inl e) = omega (arith, ap (λ (x : Point). x .row) e)
+same-or-after-row g y (inr (inl l)) = omega arith
+same-or-after-row g y (inr (inr p)) = omega arith
+
+module _ (lo hi : ℕ → ℕ) (b t : ℕ) (rows : Rows lo hi b t) where
+  mirrored : Mirrored lo hi (λ r. side - hi r) (λ r. side - lo r) b t
+  mirrored = record { begins = λ r h l. omega (arith, rows .full r h l, rows .fits r h l); ends = λ r h l. omega (arith, rows .fits r h l) }
+
+  -- A gap at the left of the mirror image is one at the right
+  left-right : (g : Point) → Left (λ r. side - hi r) (λ r. side - lo r) b t b g → RightRow lo hi b t (g .row)
+  left-right g l =
+      let k = mirrored-rows mirrored rows in
+      record {
+        clear =
+            λ y h m.
+            omega (
+              arith,
+              l .clear (mirror y) (mirrored-hull mirrored rows h) (hull-above h) m,
+              hull-cols rows h,
+              rows .fits (y .row) (hull-above h) (hull-below h),
+            );
+        reach =
+            λ m.
+            let n = l .left m in
+            let e : side - suc (side - suc (hi (g .row))) ≡ hi (g .row) = omega arith in
+            let h = l .reach m (side - suc (hi (g .row))) (omega arith) (omega arith) in
+            rw e at (mirrored-hull (mirrored-back mirrored) k h);
+      }
+
+  climb-right : RightRow lo hi b t (climb (λ r. side - hi r) t b (t - b) .row)
+  climb-right = left-right _ (climb-bottom _ _ b t (mirrored-rows mirrored rows))
+
+  module _ (g : Point) (r : ℕ) (left : Left lo hi b t b g) (right : RightRow lo hi b t r) where
+    -- A cell of the hull below both rows is in the block
+    below-within : (y : Point) → HullOf lo hi b t y → y .row < g .row → y .row < r → Within lo hi b t y
+    below-within y h l m =
+        record { above = hull-above h; below = hull-below h; begun = left .clear y h (hull-above h) l; before = right .clear y h m }
+
+    -- The lower of both, the left one in the same row
+    lower-gap : (a : Bool) → leb (g .row) r ≡ a → cond a g (record { col = hi r; row = r }) .row < t → Gap lo hi b t (cond a g (record { col = hi r; row = r }))
+    lower-gap true e l = record { hull = left .reach l (g .col) (omega arith) (left .left l); outside = λ w. omega (arith, left .left l, w .begun) }
+    lower-gap false e l = record { hull = right .reach l; outside = λ w. omega (arith, w .before) }
+
+    lower-first : (a : Bool) → leb (g .row) r ≡ a → (y : Point) → HullOf lo hi b t y → (Within lo hi b t y → ⊥) →
+        (y ≡ cond a g (record { col = hi r; row = r })) ⊎ After (cond a g (record { col = hi r; row = r })) y
+    lower-first true e y h o =
+        let l : g .row ≤ r = leb-true _ _ e in
+        same-or-after g y
+        (elim (decLt (y .row) (g .row)) [ yes m ↦ absurd (o (below-within y h m (omega arith))) | no m ↦ omega arith ])
+        (λ d. left .furthest (omega (arith, hull-below h)) y h d)
+    lower-first false e y h o =
+        let l : r < g .row = leb-false _ _ e in
+        same-or-after (record { col = hi r; row = r }) y
+        (elim (decLt (y .row) r) [ yes m ↦ absurd (o (below-within y h (omega arith) m)) | no m ↦ omega arith ])
+        (λ d.
+        elim (decLt (y .col) (hi r)) [
+          | yes m ↦
+              absurd (o (record { above = hull-above h; below = hull-below h; begun = left .clear y h (hull-above h) (omega arith); before = rw d m }))
+          | no m ↦ omega arith
+        ])
+
+-- What the search finds in a row of the block is a missing cell
+pub search-sound : {lo hi : ℕ → ℕ} {b t : ℕ} → Rows lo hi b t → lowestGap lo hi b t .row < t → Gap lo hi b t (lowestGap lo hi b t)
+unfolding lowestGap
+search-sound {lo} {hi} {b} {t} rows = lower-gap lo hi b t rows _ _ (climb-bottom lo hi b t rows) (climb-right lo hi b t rows) _ refl
+
+-- Every missing cell is the one found or after it
+pub search-first :
+    {lo hi : ℕ → ℕ} {b t : ℕ} →
+    Rows lo hi b t →
+    (y : Point) →
+    HullOf lo hi b t y →
+    (Within lo hi b t y → ⊥) →
+    (y ≡ lowestGap lo hi b t) ⊎ After (lowestGap lo hi b t) y
+unfolding lowestGap
+search-first {lo} {hi} {b} {t} rows = lower-first lo hi b t rows _ _ (climb-bottom lo hi b t rows) (climb-right lo hi b t rows) _ refl
+
+-- Where a cell is missing, the search finds the lowest, leftmost in its row
+pub search-lowest :
+    {lo hi : ℕ → ℕ} {b t : ℕ} →
+    Rows lo hi b t →
+    (x : Point) →
+    HullOf lo hi b t x →
+    (Within lo hi b t x → ⊥) →
+    Lowest lo hi b t (lowestGap lo hi b t)
+search-lowest rows x h o =
+    let l = search-first rows in
+    let s = search-sound rows (omega (arith, same-or-after-row _ _ (l x h o), hull-below h)) in
+    record { hull = s .hull; outside = s .outside; lowest = l }

@@ -1,0 +1,284 @@
+-- Laws of the search for the lowest missing cell: an edge of the hull's side ends in a higher row, so the climb ends, and it reads no row but those below the top.
+use Prim.Native.Nat.{ℕ, zero, suc, _+_, _-_, _*_, _/_, _≤_, _<_}
+use mathlib.Core.Path.{_≡_, refl, sym, ap, _∙_}
+use mathlib.Core.Bool.{Bool, true, false, cond}
+use mathlib.Core.Logic.{inl, inr}
+use native.Mathlib.Nat.{mul-le-mul, mul-le-mul-left, div-lt-iff-lt-mul}
+use native.Mathlib.Decide.{decLt}
+use native.Mathlib.Omega.{arith}
+use lib.Dec.{ltb}
+use borrow.Author.Tests.{le-leb, lt-leb, lt-ltb, le-ltb}
+use Rattle.base.proofs.BelowLaws.{below-suc, first-same, first-none, first-is}
+use Rattle.chart.specs.declared.Point.{Point}
+use Rattle.rows.specs.Search.{leans, furthest, crossing, gapRow, climb, lowestGap}
+use Rattle.chart.specs.Limits.{side}
+use Rattle.lattice.proofs.WalkLaws.{point}
+
+-- A number of 16 bits times a count of rows
+pub product-small : (a d : ℕ) → a < 65536 → d < 256 → a * d ≤ 16711425
+product-small a d h k =
+    let x : a ≤ 65535 = omega arith in
+    let y : d ≤ 255 = omega arith in
+    mul-le-mul x y
+
+-- A mean of two numbers, rounded up, is below what bounds both
+mean-small : (u v x y b : ℕ) → 0 < u + v → x < b → y < b → (u * x + v * y + (u + v - 1)) / (u + v) < b
+mean-small u v x y b pos h k = div-lt-iff-lt-mul pos .1 (omega (arith, mul-le-mul-left u h, mul-le-mul-left v k))
+
+pub crossing-small : (lo : ℕ → ℕ) (i j r b : ℕ) → i < r → r < j → lo i < b → lo j < b → crossing lo i j r < b
+unfolding crossing
+crossing-small lo i j r b ir rj h k =
+    let d : j - i ≡ (j - r) + (r - i) = omega arith in rw d (mean-small (j - r) (r - i) (lo i) (lo j) b (omega arith) h k)
+
+module _ (lo : ℕ → ℕ) (i : ℕ) where
+  pub furthest-above : (j k n : ℕ) → i < j → i < k → i < furthest lo i j k n
+  unfolding furthest
+  furthest-above j k zero h l = h
+  furthest-above j k (suc n) h l = go (leans lo i j k) (λ m. λ (g : i < m). furthest-above m (suc k) n g (omega arith))
+    where
+      go : (b : Bool) → ((m : ℕ) → i < m → i < furthest lo i m (suc k) n) → i < furthest lo i (cond b k j) (suc k) n
+      go true rest = rest k l
+      go false rest = rest j h
+
+  pub furthest-below : (t j k n : ℕ) → j < t → k + n ≤ t → furthest lo i j k n < t
+  unfolding furthest
+  furthest-below t j k zero h l = h
+  furthest-below t j k (suc n) h l = go (leans lo i j k) (λ m. λ (g : m < t). furthest-below t m (suc k) n g (omega arith))
+    where
+      go : (b : Bool) → ((m : ℕ) → m < t → furthest lo i m (suc k) n < t) → furthest lo i (cond b k j) (suc k) n < t
+      go true rest = rest k (omega arith)
+      go false rest = rest j h
+
+  -- Where no row is left, and where row k is the next
+  pub furthest-end : (t j k : ℕ) → t ≤ k → furthest lo i j k (t - k) ≡ j
+  unfolding furthest
+  furthest-end t j k h = let e : t - k ≡ 0 = omega arith in rw e
+
+  pub furthest-next :
+      (t j k : ℕ) (b : Bool) → k < t → leans lo i j k ≡ b → furthest lo i j k (t - k) ≡ furthest lo i (cond b k j) (k + 1) (t - (k + 1))
+  unfolding furthest
+  furthest-next t j k b h l =
+      let n = t - (k + 1) in
+      let e : t - k ≡ suc n = omega arith in
+      let d : suc k ≡ k + 1 = omega arith in
+      let s : furthest lo i j k (suc n) ≡ furthest lo i (cond (leans lo i j k) k j) (suc k) n = refl in
+      cc
+
+-- The upper end of the hull's edge that leaves row i
+abbrev pub edgeEnd : (ℕ → ℕ) → ℕ → ℕ → ℕ
+edgeEnd lo t i = furthest lo i (suc i) (suc (suc i)) (t - suc (suc i))
+
+pub edge-start : (lo : ℕ → ℕ) (t i : ℕ) → edgeEnd lo t i ≡ furthest lo i (i + 1) (i + 2) (t - (i + 2))
+edge-start lo t i =
+    let one : suc i ≡ i + 1 = omega arith in
+    let two : suc (suc i) ≡ i + 2 = omega arith in
+    cc
+
+pub edge-above : (lo : ℕ → ℕ) (t i : ℕ) → i < edgeEnd lo t i
+edge-above lo t i = furthest-above lo i (suc i) (suc (suc i)) (t - suc (suc i)) (omega arith) (omega arith)
+
+pub edge-below : (lo : ℕ → ℕ) (t i : ℕ) → suc i < t → edgeEnd lo t i < t
+edge-below lo t i h = furthest-below lo i t (suc i) (suc (suc i)) (t - suc (suc i)) h (omega arith)
+
+-- No row after i and before r begins right of the line from row i to row j
+pub NoGap : (ℕ → ℕ) → ℕ → ℕ → ℕ → Type 0
+NoGap lo i j r = (k : ℕ) → i < k → k < r → lo k ≤ crossing lo i j k
+
+module _ (lo : ℕ → ℕ) (i j : ℕ) where
+  pub no-gap-start : NoGap lo i j (i + 1)
+  unfolding NoGap
+  no-gap-start k h l = absurd (omega arith)
+
+  pub no-gap-next : (r : ℕ) → NoGap lo i j r → lo r ≤ crossing lo i j r → NoGap lo i j (r + 1)
+  unfolding NoGap
+  no-gap-next r g h k l m = elim (below-suc k r (omega arith)) [ inl e ↦ rw e h | inr n ↦ g k l n ]
+
+  pub gapRow-none : i < j → NoGap lo i j j → gapRow lo i j ≡ j
+  unfolding NoGap gapRow
+  gapRow-none h g =
+      omega (
+        arith,
+        first-none (λ k. ltb (crossing lo i j (suc i + k)) (lo (suc i + k))) (j - suc i) (λ k l. le-ltb (crossing lo i j (suc i + k)) (lo (suc i + k)) (g (suc i + k) (omega arith) (omega arith))),
+      )
+
+  pub gapRow-found : (r : ℕ) → i < r → r < j → NoGap lo i j r → crossing lo i j r < lo r → gapRow lo i j ≡ r
+  unfolding NoGap gapRow
+  gapRow-found r h l g f =
+      let e : suc i + (r - suc i) ≡ r = omega arith in
+      ap (λ (n : ℕ). suc i + n)
+      (first-is (λ k. ltb (crossing lo i j (suc i + k)) (lo (suc i + k)))
+      (j - suc i)
+      (r - suc i)
+      (omega arith)
+      (λ k m. le-ltb (crossing lo i j (suc i + k)) (lo (suc i + k)) (g (suc i + k) (omega arith) (omega arith)))
+      (rw e (lt-ltb (crossing lo i j r) (lo r) f)))
+      ∙ e
+
+-- The first row of that edge that begins right of it, or its upper end
+abbrev pub edgeGap : (ℕ → ℕ) → ℕ → ℕ → ℕ
+edgeGap lo t i = gapRow lo i (edgeEnd lo t i)
+
+-- One edge of the climb: there is no row above, a gap is found, or the climb goes on
+data Edge (lo : ℕ → ℕ) (t i : ℕ) : Type 0 where
+  done : t ≤ suc i → Edge lo t i
+  gap : suc i < t → edgeGap lo t i < edgeEnd lo t i → Edge lo t i
+  on : suc i < t → edgeEnd lo t i ≤ edgeGap lo t i → Edge lo t i
+
+module _ (lo : ℕ → ℕ) (t i : ℕ) where
+  edge : Edge lo t i
+  edge =
+      elim (decLt (suc i) t) [
+        | no l ↦ done (omega arith)
+        | yes l ↦ elim (decLt (edgeGap lo t i) (edgeEnd lo t i)) [ yes g ↦ gap l g | no g ↦ on l (omega arith) ]
+      ]
+
+  climb-zero : climb lo t i 0 ≡ point 0 t
+  unfolding climb
+  climb-zero = refl
+
+  pub climb-done : (n : ℕ) → t ≤ suc i → climb lo t i n ≡ point 0 t
+  unfolding climb
+  climb-done zero h = refl
+  climb-done (suc n) h = simp (le-leb t (suc i) h)
+
+  pub climb-gap :
+      (n : ℕ) → suc i < t → edgeGap lo t i < edgeEnd lo t i →
+      climb lo t i (suc n) ≡ point (crossing lo i (edgeEnd lo t i) (edgeGap lo t i)) (edgeGap lo t i)
+  unfolding climb
+  climb-gap n h g = simp (lt-leb t (suc i) h, lt-ltb (edgeGap lo t i) (edgeEnd lo t i) g)
+
+  pub climb-on : (n : ℕ) → suc i < t → edgeEnd lo t i ≤ edgeGap lo t i → climb lo t i (suc n) ≡ climb lo t (edgeEnd lo t i) n
+  unfolding climb
+  climb-on n h g = simp (lt-leb t (suc i) h, le-ltb (edgeGap lo t i) (edgeEnd lo t i) g)
+
+-- More edges than there are rows above change nothing
+pub climb-fuel : (lo : ℕ → ℕ) (t i m n : ℕ) → t ≤ i + m → t ≤ i + n → climb lo t i m ≡ climb lo t i n
+climb-fuel lo t i zero n h k = climb-done lo t i 0 (omega arith) ∙ sym (climb-done lo t i n (omega arith))
+climb-fuel lo t i (suc m) zero h k = climb-done lo t i (suc m) (omega arith) ∙ sym (climb-done lo t i 0 (omega arith))
+climb-fuel lo t i (suc m) (suc n) h k =
+    elim (edge lo t i) [
+      | done l ↦ climb-done lo t i (suc m) l ∙ sym (climb-done lo t i (suc n) l)
+      | gap l g ↦ climb-gap lo t i m l g ∙ sym (climb-gap lo t i n l g)
+      | on l g ↦
+          climb-on lo t i m l g
+          ∙ climb-fuel lo t (edgeEnd lo t i) m n (omega (arith, edge-above lo t i)) (omega (arith, edge-above lo t i))
+          ∙ sym (climb-on lo t i n l g)
+    ]
+
+-- An edge from row i to row j, and the first row r right of it
+module _ (lo : ℕ → ℕ) (t i j r : ℕ) (above : suc i < t) (end : j ≡ edgeEnd lo t i) (next : r ≡ gapRow lo i j) where
+  at-edge : r ≡ edgeGap lo t i
+  at-edge = next ∙ ap (gapRow lo i) end
+
+  pub climb-stops : r < j → climb lo t i (t - i) ≡ point (crossing lo i j r) r
+  climb-stops h =
+      let d : t - i ≡ suc (t - suc i) = omega arith in
+      let e = at-edge in
+      let f = climb-gap lo t i (t - suc i) above (omega arith) in
+      cc
+
+  pub climb-goes-on : j ≤ r → climb lo t i (t - i) ≡ climb lo t j (t - j)
+  climb-goes-on h =
+      let d : t - i ≡ suc (t - suc i) = omega arith in
+      let e = at-edge in
+      let f = climb-on lo t i (t - suc i) above (omega arith) in
+      let g = climb-fuel lo t j (t - suc i) (t - j) (omega (arith, edge-above lo t i)) (omega arith) in
+      cc
+
+-- The climb ends in a row up to the top
+pub climb-row-le : (lo : ℕ → ℕ) (t i n : ℕ) → climb lo t i n .row ≤ t
+climb-row-le lo t i zero = rw climb-zero (omega arith)
+climb-row-le lo t i (suc n) =
+    elim (edge lo t i) [
+      | done l ↦ rw (climb-done lo t i (suc n) l) (omega arith)
+      | gap l g ↦ rw (climb-gap lo t i n l g) (omega (arith, edge-below lo t i l))
+      | on l g ↦ rw (climb-on lo t i n l g) (climb-row-le lo t (edgeEnd lo t i) n)
+    ]
+
+-- Rows that begin alike below the top give the same climb
+module _ (f g : ℕ → ℕ) (t : ℕ) (same : (r : ℕ) → r < t → f r ≡ g r) where
+  leans-same : (i j k : ℕ) → i < t → j < t → k < t → leans f i j k ≡ leans g i j k
+  unfolding leans
+  leans-same i j k a b c = rw (same i a, same j b, same k c)
+
+  furthest-same : (i j k n : ℕ) → i < t → j < t → k + n ≤ t → furthest f i j k n ≡ furthest g i j k n
+  unfolding furthest
+  furthest-same i j k zero a b c = refl
+  furthest-same i j k (suc n) a b c = rw (leans-same i j k a b (omega arith)) (go (leans g i j k) (λ m. λ (l : m < t). furthest-same i m (suc k) n a l (omega arith)))
+    where
+      go :
+          (b : Bool) → ((m : ℕ) → m < t → furthest f i m (suc k) n ≡ furthest g i m (suc k) n) →
+          furthest f i (cond b k j) (suc k) n ≡ furthest g i (cond b k j) (suc k) n
+      go true rest = rest k (omega arith)
+      go false rest = rest j b
+
+  edgeEnd-same : (i : ℕ) → suc i < t → edgeEnd f t i ≡ edgeEnd g t i
+  edgeEnd-same i h = furthest-same i (suc i) (suc (suc i)) (t - suc (suc i)) (omega arith) h (omega arith)
+
+  crossing-same : (i j r : ℕ) → i < t → j < t → crossing f i j r ≡ crossing g i j r
+  unfolding crossing
+  crossing-same i j r a b = rw (same i a, same j b)
+
+  gapRow-same : (i j : ℕ) → i < t → j < t → gapRow f i j ≡ gapRow g i j
+  unfolding gapRow
+  gapRow-same i j a b =
+      ap (λ (n : ℕ). suc i + n)
+      (first-same
+      (λ k. ltb (crossing f i j (suc i + k)) (f (suc i + k)))
+      (λ k. ltb (crossing g i j (suc i + k)) (g (suc i + k)))
+      (j - suc i)
+      (λ k l. cc (crossing-same i j (suc i + k) a b, same (suc i + k) (omega arith))))
+
+  edgeGap-same : (i : ℕ) → suc i < t → edgeGap f t i ≡ edgeGap g t i
+  edgeGap-same i h = gapRow-same i (edgeEnd f t i) (omega arith) (edge-below f t i h) ∙ ap (gapRow g i) (edgeEnd-same i h)
+
+  pub climb-same : (i n : ℕ) → climb f t i n ≡ climb g t i n
+  climb-same i zero = climb-zero f t i ∙ sym (climb-zero g t i)
+  climb-same i (suc n) =
+      elim (edge f t i) [
+        | done l ↦ climb-done f t i (suc n) l ∙ sym (climb-done g t i (suc n) l)
+        | gap l h ↦
+            let d = edgeEnd-same i l in
+            let e = edgeGap-same i l in
+            let x = climb-gap f t i n l h in
+            let y = climb-gap g t i n l (omega arith) in
+            cc (crossing-same i (edgeEnd f t i) (edgeGap f t i) (omega arith) (edge-below f t i l))
+        | on l h ↦
+            let d = edgeEnd-same i l in
+            let e = edgeGap-same i l in
+            climb-on f t i n l h
+            ∙ climb-same (edgeEnd f t i) n
+            ∙ ap (λ (j : ℕ). climb g t j n) d
+            ∙ sym (climb-on g t i n l (omega arith))
+      ]
+
+-- The lower gap, from the climb p up the left side and the climb q up the mirror image m of the right side
+module _ (lo hi m : ℕ → ℕ) (b t : ℕ) (p q : Point) (mirror : (r : ℕ) → r < t → m r ≡ side - hi r) (left : p ≡ climb lo t b (t - b)) (right : q ≡ climb m t b (t - b)) where
+  right-row : q ≡ climb (λ r. side - hi r) t b (t - b)
+  right-row = right ∙ climb-same m (λ r. side - hi r) t mirror b (t - b)
+
+  pub lowestGap-left : p .row ≤ q .row → p ≡ lowestGap lo hi b t
+  unfolding lowestGap
+  lowestGap-left h = rw (← left, ← right-row, le-leb (p .row) (q .row) h)
+
+  pub lowestGap-right : q .row < p .row → point (hi (q .row)) (q .row) ≡ lowestGap lo hi b t
+  unfolding lowestGap
+  lowestGap-right h = rw (← left, ← right-row, lt-leb (p .row) (q .row) h)
+
+-- Rows that begin and end alike below the top have the same lower gap
+pub lowestGap-same :
+    (lo hi lo′ hi′ : ℕ → ℕ) (b t : ℕ) → ((r : ℕ) → r < t → lo r ≡ lo′ r) → ((r : ℕ) → r < t → hi r ≡ hi′ r) → lowestGap lo hi b t ≡ lowestGap lo′ hi′ b t
+lowestGap-same lo hi lo′ hi′ b t begin end =
+    let m : ℕ → ℕ = λ r. side - hi r in
+    let p = climb lo t b (t - b) in
+    let q = climb m t b (t - b) in
+    let mirror : (r : ℕ) → r < t → m r ≡ side - hi′ r = λ r h. ap (λ (x : ℕ). side - x) (end r h) in
+    let left : p ≡ climb lo′ t b (t - b) = climb-same lo lo′ t begin b (t - b) in
+    elim (decLt (q .row) (p .row)) [
+      | no h ↦
+          sym (lowestGap-left lo hi m b t p q (λ r l. refl) refl refl (omega arith)) ∙ lowestGap-left lo′ hi′ m b t p q mirror left refl (omega arith)
+      | yes h ↦
+          sym (lowestGap-right lo hi m b t p q (λ r l. refl) refl refl h)
+          ∙ ap (λ (x : ℕ). point x (q .row)) (end (q .row) (omega (arith, climb-row-le lo t b (t - b))))
+          ∙ lowestGap-right lo′ hi′ m b t p q mirror left refl h
+    ]

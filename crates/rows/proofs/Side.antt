@@ -1,0 +1,242 @@
+-- The climb up the left side stops at the first row with a hull cell left of it: all rows are right of the line from each row reached to the row to
+-- which the line from it leans furthest left, by the choice of that row for the rows above, and for the rows below because the row reached is a
+-- corner; so the whole hull is right of that line, and what of a row is right of it and left of the row's first cell is in the hull.
+use Prim.Native.Nat.{ℕ, zero, suc, _+_, _-_, _*_, _/_, _≤_, _<_}
+use mathlib.Core.Path.{_≡_, refl, ap}
+use mathlib.Core.Bool.{Bool, true, false, cond}
+use mathlib.Core.Logic.{inl, inr, _↔_}
+use native.Mathlib.Nat.{le-of-lt, le-trans, div-lt-iff-lt-mul}
+use native.Mathlib.Decide.{decLt}
+use native.Mathlib.Omega.{arith}
+use lib.Dec.{leb, ltb}
+use borrow.Author.Tests.{ltb-true, ltb-false, leb-true, leb-false}
+use Rattle.base.proofs.BelowLaws.{below-suc, first-le, first-found, first-before}
+use Rattle.chart.specs.declared.Point.{Point}
+use Rattle.rows.specs.Search.{leans, furthest, crossing, gapRow, climb}
+use Rattle.rows.proofs.Line.{Right, right-trans, right-turn, right-start, right-end, right-cycle, right-of-start, right-of-end, right-in-triangle}
+use Rattle.rows.proofs.Rows.{Rows, HullOf, begin, begin-within, hull-right}
+
+-- Of rows i + 1 to k - 1, row j is one to which the line from row i leans furthest left
+record Furthest (lo : ℕ → ℕ) (i j k : ℕ) : Type 0 where
+  above : i < j
+  below : j < k
+  right : (r : ℕ) → i < r → r < k → Right (begin lo i) (begin lo j) (begin lo r)
+
+-- Seen from p, with q x rows above it and u y rows above it, u is at least as far left as q
+leans-right :
+    (p q u : Point) (x y : ℕ) → q .row ≡ p .row + x → u .row ≡ p .row + y → u .col * x + p .col * y ≤ q .col * y + p .col * x → Right p u q
+leans-right p q u x y i j h =
+    omega (arith, ap (λ n. n * p .col) i, ap (λ n. n * u .col) i, ap (λ n. n * p .col) j, ap (λ n. n * q .col) j)
+
+leans-true : (lo : ℕ → ℕ) (i j k : ℕ) → i ≤ j → i ≤ k → leans lo i j k ≡ true → Right (begin lo i) (begin lo k) (begin lo j)
+unfolding leans
+leans-true lo i j k l m e = leans-right (begin lo i) (begin lo j) (begin lo k) (j - i) (k - i) (omega arith) (omega arith) (leb-true _ _ e)
+
+leans-false : (lo : ℕ → ℕ) (i j k : ℕ) → i ≤ j → i ≤ k → leans lo i j k ≡ false → Right (begin lo i) (begin lo j) (begin lo k)
+unfolding leans
+leans-false lo i j k l m e =
+    leans-right (begin lo i) (begin lo k) (begin lo j) (k - i) (j - i) (omega arith) (omega arith) (le-of-lt (leb-false _ _ e))
+
+furthest-step : (lo : ℕ → ℕ) (i j k : ℕ) → Furthest lo i j k → Furthest lo i (cond (leans lo i j k) k j) (suc k)
+furthest-step lo i j k f = go (leans lo i j k) refl
+  where
+    go : (b : Bool) → leans lo i j k ≡ b → Furthest lo i (cond b k j) (suc k)
+    go true e =
+        record {
+          above = omega arith;
+          below = omega arith;
+          right = λ r l m. elim (below-suc r k m) [
+            | inl d ↦ rw d right-end
+            | inr m′ ↦ right-trans (f .above) (omega arith) (omega arith) (leans-true lo i j k (omega arith) (omega arith) e) (f .right r l m′)
+          ];
+        }
+    go false e =
+        record {
+          above = f .above;
+          below = omega arith;
+          right = λ r l m. elim (below-suc r k m) [
+            | inl d ↦ rw d (leans-false lo i j k (omega arith) (omega arith) e)
+            | inr m′ ↦ f .right r l m′
+          ];
+        }
+
+furthest-more : (lo : ℕ → ℕ) (i j k n t : ℕ) → k + n ≡ t → Furthest lo i j k → Furthest lo i (furthest lo i j k n) t
+unfolding furthest
+furthest-more lo i j k zero t e f =
+    let e′ : k ≡ t = omega arith in
+    rw e′ at f
+furthest-more lo i j k (suc n) t e f = furthest-more lo i (cond (leans lo i j k) k j) (suc k) n t (omega arith) (furthest-step lo i j k f)
+
+furthest-furthest : (lo : ℕ → ℕ) (i t : ℕ) → suc i < t → Furthest lo i (furthest lo i (suc i) (suc (suc i)) (t - suc (suc i))) t
+furthest-furthest lo i t h = furthest-more lo i (suc i) (suc (suc i)) (t - suc (suc i)) t (omega arith)
+    (record { above = omega arith; below = omega arith; right = λ r l m. let e : r ≡ suc i = omega arith in rw e right-end })
+
+-- x is y rows above p and z rows below q
+crossing-offsets :
+    (p q x : Point) (y z : ℕ) →
+    x .row ≡ p .row + y →
+    q .row ≡ x .row + z →
+    0 < y + z →
+    ((z * p .col + y * q .col + (y + z - 1)) / (y + z) ≤ x .col) ↔ Right p q x
+crossing-offsets p q x y z i j l =
+    let times : (e : ℕ) → (x .row * e ≡ (p .row + y) * e) × (q .row * e ≡ (x .row + z) * e) = λ e. (ap (λ n. n * e) i, ap (λ n. n * e) j) in
+    let d = div-lt-iff-lt-mul {x = z * p .col + y * q .col + (y + z - 1)} {y = suc (x .col)} l in (
+      λ h.
+          let k = d .0 (omega arith) in
+          let k′ : z * p .col + y * q .col ≤ x .col * (y + z) = omega arith in
+          omega (arith, times (p .col), times (q .col), times (x .col)),
+      λ h.
+          let k′ : z * p .col + y * q .col ≤ x .col * (y + z) = omega (arith, times (p .col), times (q .col), times (x .col)) in
+          let k = d .1 (omega arith) in
+          omega arith,
+    )
+
+-- The cells of row r right of the line from row i to row j are those from the crossing on
+crossing-le : (lo : ℕ → ℕ) (i j r c : ℕ) → i < j → i ≤ r → r ≤ j → (crossing lo i j r ≤ c) ↔ Right (begin lo i) (begin lo j) (record { col = c; row = r })
+unfolding crossing
+crossing-le lo i j r c l m n =
+    let e : j - i ≡ r - i + (j - r) = omega arith in
+    rw e (crossing-offsets (begin lo i) (begin lo j) (record { col = c; row = r }) (r - i) (j - r) (omega arith) (omega arith) (omega arith))
+
+-- Row i is a corner of the left side: no line from a row below it to a row above it passes left of its first cell
+abbrev Corner : (ℕ → ℕ) → ℕ → ℕ → ℕ → Type 0
+Corner lo b t i = (r k : ℕ) → b ≤ r → r < i → i < k → k < t → Right (begin lo r) (begin lo i) (begin lo k)
+
+-- All rows are right of the line from row i to row j
+abbrev Edge : (ℕ → ℕ) → ℕ → ℕ → ℕ → ℕ → Type 0
+Edge lo b t i j = (r : ℕ) → b ≤ r → r < t → Right (begin lo i) (begin lo j) (begin lo r)
+
+furthest-edge : (lo : ℕ → ℕ) (b t i j : ℕ) → Corner lo b t i → Furthest lo i j t → Edge lo b t i j
+furthest-edge lo b t i j c f r h l =
+    elim (decLt r i) [
+      | yes m ↦ right-cycle (c r j h m (f .above) (f .below))
+      | no m ↦ elim (decLt i r) [
+        | yes m′ ↦ f .right r m′ l
+        | no m′ ↦ let e : r ≡ i = omega arith in rw e right-start
+      ]
+    ]
+
+edge-corner : (lo : ℕ → ℕ) (b t i j : ℕ) → i < j → Edge lo b t i j → Corner lo b t j
+edge-corner lo b t i j l e r k h m n o = right-turn {p = begin lo i} l (omega arith) (omega arith) (e r h (omega arith)) (e k (omega arith) o)
+
+-- The first row r between i and j that begins right of the line, or j
+record GapRow (lo : ℕ → ℕ) (i j r : ℕ) : Type 0 where
+  above : i < r
+  below : r ≤ j
+  found : r < j → crossing lo i j r < lo r
+  before : (s : ℕ) → i < s → s < r → lo s ≤ crossing lo i j s
+
+gapRow-gap : (lo : ℕ → ℕ) (i j : ℕ) → i < j → GapRow lo i j (gapRow lo i j)
+unfolding gapRow
+gapRow-gap lo i j l =
+    let f : ℕ → Bool = λ k. ltb (crossing lo i j (suc i + k)) (lo (suc i + k)) in
+    let m = first-le f (j - suc i) in
+    record {
+      above = omega arith;
+      below = omega arith;
+      found = λ h. ltb-true _ _ (first-found f (j - suc i) (omega arith));
+      before = λ s h k.
+          let e : s ≡ suc i + (s - suc i) = omega arith in
+          rw e (ltb-false _ _ (first-before f (j - suc i) (s - suc i) (omega arith)));
+    }
+
+-- What the climb from row i finds: the first cell, in the hull and left of its row, of the first row that has any; and a cell of row t where no
+-- row has
+pub record Left (lo hi : ℕ → ℕ) (b t i : ℕ) (g : Point) : Type 0 where
+  pub clear : (y : Point) → HullOf lo hi b t y → i ≤ y .row → y .row < g .row → lo (y .row) ≤ y .col
+  pub left : g .row < t → g .col < lo (g .row)
+  pub reach : g .row < t → (c : ℕ) → g .col ≤ c → c < lo (g .row) → HullOf lo hi b t (record { col = c; row = g .row })
+  pub furthest : g .row < t → (y : Point) → HullOf lo hi b t y → y .row ≡ g .row → g .col ≤ y .col
+
+module _ (lo hi : ℕ → ℕ) (b t : ℕ) (rows : Rows lo hi b t) where
+  -- No cell of the hull is left of row i
+  abbrev Clear : ℕ → Type 0
+  Clear i = (y : Point) → HullOf lo hi b t y → y .row ≡ i → lo i ≤ y .col
+
+  -- No cell of the hull is before the crossing in its row
+  edge-crossing : (i j : ℕ) → i < j → Edge lo b t i j → (y : Point) → HullOf lo hi b t y → i ≤ y .row → y .row ≤ j → crossing lo i j (y .row) ≤ y .col
+  edge-crossing i j l e y h m n = crossing-le lo i j (y .row) (y .col) l m n .1 (hull-right (omega arith) e h)
+
+  -- What is from the crossing on, and left of its row, is in the hull
+  crossing-reach : (i j r : ℕ) → i < r → r < j → b ≤ i → j < t → (c : ℕ) → crossing lo i j r ≤ c → c < lo r → HullOf lo hi b t (record { col = c; row = r })
+  crossing-reach i j r l m h k c n o =
+      record {
+        p = begin lo i;
+        q = begin lo j;
+        u = begin lo r;
+        p-within = begin-within rows i (omega arith) (omega arith);
+        q-within = begin-within rows j (omega arith) (omega arith);
+        u-within = begin-within rows r (omega arith) (omega arith);
+        triangle = right-in-triangle (omega arith) (omega arith) (omega arith) refl o (crossing-le lo i j r c (omega arith) (omega arith) (omega arith) .0 n);
+      }
+
+  bottom-corner : Corner lo b t b
+  bottom-corner r k h l m n = absurd (omega arith)
+
+  -- The bottom row is the start of an edge, or the only row
+  bottom-clear : Clear b
+  bottom-clear y h e =
+      elim (decLt (suc b) t) [
+        | yes l ↦
+            let f = furthest-furthest lo b t l in
+            right-of-start (f .above) e (hull-right (omega arith) (furthest-edge lo b t b _ bottom-corner f) h)
+        | no l ↦
+            let right : (r : ℕ) → b ≤ r → r < t → Right (begin lo b) (record { col = lo b; row = suc b }) (begin lo r)
+            = λ r m n. let d : r ≡ b = omega arith in rw d right-start in
+            right-of-start {q = record { col = lo b; row = suc b }} (omega arith) e (hull-right (omega arith) right h)
+      ]
+
+  -- The climb passes the edge from row i to row j, or stops at row r of it
+  climb-edge : (i j r : ℕ) (g : Point) → b ≤ i → j < t → Edge lo b t i j → GapRow lo i j r → Clear i →
+      (Corner lo b t j → Clear j → Left lo hi b t j g) →
+      Left lo hi b t i (cond (ltb r j) (record { col = crossing lo i j r; row = r }) g)
+  climb-edge i j r g h l e p c rest = go (ltb r j) refl
+    where
+      clear : (y : Point) → HullOf lo hi b t y → i ≤ y .row → y .row < r → lo (y .row) ≤ y .col
+      clear y k m n =
+          elim (decLt i (y .row)) [
+            | yes o ↦ le-trans (p .before (y .row) o n) (edge-crossing i j (omega arith) e y k m (omega arith))
+            | no o ↦ let d : y .row ≡ i = omega arith in rw d (c y k d)
+          ]
+
+      go : (a : Bool) → ltb r j ≡ a → Left lo hi b t i (cond a (record { col = crossing lo i j r; row = r }) g)
+      go true d =
+          let m : r < j = ltb-true r j d in
+          record {
+            clear = clear;
+            left = λ n. p .found m;
+            reach = λ n. crossing-reach i j r (p .above) m h l;
+            furthest = λ n y k f. rw f at (edge-crossing i j (omega arith) e y k (omega arith) (omega arith));
+          }
+      go false d =
+          let m : r ≡ j = omega (arith, ltb-false r j d) in
+          let n = rest (edge-corner lo b t i j (omega arith) e) (λ y k f. right-of-end {p = begin lo i} {q = begin lo j} (omega arith) f (hull-right (omega arith) e k)) in
+          record {
+            clear =
+                λ y k o q. elim (decLt (y .row) j) [ yes s ↦ clear y k o (omega arith) | no s ↦ n .clear y k (omega arith) q ];
+            left = n .left;
+            reach = n .reach;
+            furthest = n .furthest;
+          }
+
+  climb-left : (n i : ℕ) → t ≤ i + n → b ≤ i → i < t → Corner lo b t i → Clear i → Left lo hi b t i (climb lo t i n)
+  unfolding climb
+  climb-left zero i e h l c k = absurd (omega arith)
+  climb-left (suc n) i e h l c k =
+      go (leb t (suc i)) refl _ λ m.
+      let f = furthest-furthest lo i t m in
+      climb-edge i _ _ _ h (f .below) (furthest-edge lo b t i _ c f) (gapRow-gap lo i _ (f .above)) k
+      (climb-left n _ (omega arith) (omega arith) (f .below))
+    where
+      go : (a : Bool) → leb t (suc i) ≡ a → (g : Point) → (suc i < t → Left lo hi b t i g) → Left lo hi b t i (cond a (record { col = 0; row = t }) g)
+      go true d g rest =
+          record {
+            clear = λ y h m o. let f : y .row ≡ i = omega (arith, leb-true t (suc i) d) in rw f (k y h f);
+            left = λ m. absurd (omega arith);
+            reach = λ m. absurd (omega arith);
+            furthest = λ m. absurd (omega arith);
+          }
+      go false d g rest = rest (leb-false t (suc i) d)
+
+  pub climb-bottom : Left lo hi b t b (climb lo t b (t - b))
+  climb-bottom = climb-left (t - b) b (omega (arith, rows .below)) (omega arith) (rows .below) bottom-corner bottom-clear

@@ -1,0 +1,71 @@
+-- `search::gap_row` meets its contract. The loop's invariant: no row passed begins right of the line.
+use Prim.Native.Nat.{_-_, _≤_, _<_}
+use mathlib.Core.Path.{_≡_, sym}
+use native.Mathlib.Omega.{arith}
+use denote.Ref.{now}
+use Rattle.rows.specs.Rows.{rows}
+use Rattle.rows.proofs.SearchLaws.{NoGap, no-gap-start, no-gap-next, gapRow-none, gapRow-found}
+use Rattle.rows.proofs.gap_row.Statement.{statement}
+use Rattle.rows.proofs.gap_row.Tie as tie
+
+abbrev Inv-loop : tie.InvT-loop
+Inv-loop lo i j r₀ r = (i < r) × (r ≤ j) × NoGap (rows lo) i j r
+
+abbrev μ-loop : tie.MeasureT-loop
+μ-loop lo i j r₀ r = j - r
+
+add-r : tie.Need-add-r Inv-loop μ-loop
+add-r c = omega arith
+
+loop-holds : tie.Need-loop-holds Inv-loop μ-loop
+loop-holds c = (omega arith, omega arith, no-gap-start _ _ _)
+
+crossing-requires : tie.Need-crossing-requires Inv-loop μ-loop
+crossing-requires c κs = omega arith
+
+begins-requires : tie.Need-begins-requires Inv-loop μ-loop
+begins-requires c κs = omega arith
+
+returns : tie.Need-returns Inv-loop μ-loop
+returns c =
+    let turn = c .before .before .before .before .loop in
+    let args = c .before .before .before .before .before .args in (
+      sym (gapRow-found (rows (now (args .lo))) (args .i) (args .j) (turn .r) (omega arith) (omega arith) (turn .inv .2) (omega arith)),
+      omega arith,
+      omega arith,
+    )
+
+add-r-2 : tie.Need-add-r-2 Inv-loop μ-loop
+add-r-2 c = omega arith
+
+loop-less : tie.Need-loop-less Inv-loop μ-loop
+loop-less c = omega arith
+
+loop-again : tie.Need-loop-again Inv-loop μ-loop
+loop-again c =
+    let turn = c .before .before .before .before .loop in
+    let args = c .before .before .before .before .before .args in
+    (omega arith, omega arith, no-gap-next (rows (now (args .lo))) (args .i) (args .j) (turn .r) (turn .inv .2) (omega arith))
+
+returns-2 : tie.Need-returns-2 Inv-loop μ-loop
+returns-2 c =
+    let args = c .before .before .args in
+    let turn = c .before .loop in
+    let e : turn .r ≡ args .j = omega arith in
+    (sym (gapRow-none (rows (now (args .lo))) (args .i) (args .j) (omega arith) (rw e at (turn .inv .2))), omega arith, omega arith)
+
+pub gap-row-spec : {M : Type 1} → statement M
+gap-row-spec =
+    tie.close
+    (tie.spec
+    Inv-loop
+    μ-loop
+    add-r
+    loop-holds
+    crossing-requires
+    begins-requires
+    returns
+    add-r-2
+    loop-less
+    loop-again
+    returns-2)

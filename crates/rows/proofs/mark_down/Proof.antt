@@ -1,0 +1,48 @@
+-- `search::mark_down` meets its contract: it stores at the one row along which the letter runs down, or there is none on the chart.
+use Prim.Native.Nat.{_-_}
+use native.Mathlib.Omega.{arith}
+use denote.Ref.{now}
+use mathlib.Core.Logic.{⊎-elim}
+use borrow.Author.Tests.{ltb-true, ltb-false, leb-true, leb-false}
+use Rattle.lattice.specs.Enclosed.{downAlong}
+use Rattle.rows.proofs.RowLaws.{down-along, along-down, marked-set, marked-none}
+use borrow.Author.Needs.{needs}
+use Rattle.rows.proofs.mark_down.Statement.{statement}
+use Rattle.rows.proofs.mark_down.Tie as tie
+
+wide-requires : tie.Need-wide-requires
+wide-requires c κs = search needs
+
+sub-hi : tie.Need-sub-hi
+sub-hi c = search needs
+
+mul-hi : tie.Need-mul-hi
+mul-hi c = search needs
+
+element-write-hi : tie.Need-element-write-hi
+element-write-hi c = omega (arith, leb-true)
+
+returns : tie.Need-returns
+returns c =
+    let args = c .before .before .before .before .before .before .args in
+    marked-set
+    (downAlong (args .p) (args .letter))
+    (args .p .col)
+    (now (args .hi))
+    (omega arith)
+    (c .before .before .before .before .before .wide .result - 1)
+    (omega (arith, ltb-true, leb-true))
+    (omega (arith, leb-true))
+    (along-down (args .p) (args .letter) (c .before .before .before .before .before .wide .result - 1) (omega arith) (omega (arith, ltb-true)))
+    (λ r e. omega (arith, down-along (args .p) (args .letter) r e))
+
+returns-2 : tie.Need-returns-2
+returns-2 c =
+    let args = c .before .before .args in
+    marked-none (downAlong (args .p) (args .letter)) (args .p .col) (now (args .hi)) (omega arith) λ r n m e.
+    let (letter, row) = down-along (args .p) (args .letter) r e in
+    ⊎-elim (λ w. omega (arith, leb-false)) (λ u. ⊎-elim (λ w. omega (arith, leb-false)) (λ v. ⊎-elim (λ w. omega (arith, ltb-false)) (λ w. w .left letter) v) u) (c .if1 .came)
+
+pub mark-down-spec : {M : Type 1} → statement M
+mark-down-spec =
+    tie.close (tie.spec wide-requires sub-hi mul-hi element-write-hi returns returns-2)

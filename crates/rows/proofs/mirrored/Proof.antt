@@ -1,0 +1,77 @@
+-- `search::mirrored` meets its contract. The loop's invariant: every row passed has its mirror image.
+use Prim.Native.Nat.{ℕ, _-_, _≤_, _<_}
+use mathlib.Core.Path.{_≡_, refl, _∙_}
+use mathlib.Core.Logic.{inl, inr}
+use native.Mathlib.Omega.{arith}
+use denote.Ref.{now}
+use lib.ListN.{length, length-set}
+use lib.Seq.{getD-set-same, getD-set-other}
+use Rattle.base.proofs.BelowLaws.{below-suc}
+use Rattle.chart.specs.Limits.{side}
+use Rattle.rows.specs.Rows.{rows}
+use Rattle.rows.proofs.mirrored.Statement.{statement}
+use Rattle.rows.proofs.mirrored.Tie as tie
+
+abbrev Inv-loop : tie.InvT-loop
+Inv-loop hi left₀ k₀ left k = (k ≤ 256) × (length left ≡ 256) × ((m : ℕ) → m < k → rows left m ≡ side - rows hi m)
+
+abbrev μ-loop : tie.MeasureT-loop
+μ-loop hi left₀ k₀ left k = 256 - k
+
+loop-holds : tie.Need-loop-holds Inv-loop μ-loop
+loop-holds c = (omega arith, refl, λ m h. absurd (omega arith))
+
+mul-remaining : tie.Need-mul-remaining Inv-loop μ-loop
+mul-remaining c = omega arith
+
+element-copy-out-remaining : tie.Need-element-copy-out-remaining Inv-loop μ-loop
+element-copy-out-remaining c = omega arith
+
+remaining-requires : tie.Need-remaining-requires Inv-loop μ-loop
+remaining-requires c κs = tt
+
+mul-left : tie.Need-mul-left Inv-loop μ-loop
+mul-left c = omega arith
+
+array-write-left : tie.Need-array-write-left Inv-loop μ-loop
+array-write-left c = omega arith
+
+add-k : tie.Need-add-k Inv-loop μ-loop
+add-k c = omega arith
+
+loop-less : tie.Need-loop-less Inv-loop μ-loop
+loop-less c = omega arith
+
+loop-again : tie.Need-loop-again Inv-loop μ-loop
+loop-again c =
+    let turn = c .before .before .before .loop in
+    let hi = now (c .before .before .before .before .args .hi) in
+    let x = c .remaining .result in (
+      omega arith,
+      simp length-set (turn .inv .1),
+      λ m h.
+          elim (below-suc m (turn .k) (omega arith)) [
+            | inl e ↦ rw e (getD-set-same (turn .left) (turn .k) x 0 (omega arith) ∙ c .remaining .ensures)
+            | inr l ↦ getD-set-other (turn .left) (turn .k) m x 0 (λ e. omega arith) ∙ turn .inv .2 m l
+          ],
+    )
+
+returns : tie.Need-returns Inv-loop μ-loop
+returns c = λ k h. c .before .loop .inv .2 k (omega arith)
+
+pub mirrored-spec : {M : Type 1} → statement M
+mirrored-spec =
+    tie.close
+    (tie.spec
+    Inv-loop
+    μ-loop
+    loop-holds
+    mul-remaining
+    element-copy-out-remaining
+    remaining-requires
+    mul-left
+    array-write-left
+    add-k
+    loop-less
+    loop-again
+    returns)

@@ -1,0 +1,59 @@
+-- The rows that are searched end where the definition keeps their columns.
+use mathlib.Core.Path.{_∙_}
+use denote.Ref.{now}
+use native.Mathlib.Omega.{arith}
+use Rattle.lattice.specs.Enclosed.{upAlong, downAlong}
+use Rattle.rows.specs.Rows.{rows}
+use Rattle.rows.specs.Search.{keptColumn}
+use Rattle.rows.proofs.SearchLaws.{lowestGap-same}
+use Rattle.rows.proofs.RowLaws.{found-high, found-below, found-gap}
+use borrow.Author.Needs.{needs}
+use Rattle.rows.proofs.missing_cell.Statement.{statement}
+use Rattle.rows.proofs.missing_cell.Tie as tie
+
+returns : tie.Need-returns
+returns c = found-high _ _ _ _ (omega arith)
+
+returns-2 : tie.Need-returns-2
+returns-2 c = found-below _ _ _ _ (omega arith)
+
+row-ends-requires : tie.Need-row-ends-requires
+row-ends-requires c κs = search needs
+
+wide-requires : tie.Need-wide-requires
+wide-requires c κs = search needs
+
+wide-requires-2 : tie.Need-wide-requires-2
+wide-requires-2 c κs = search needs
+
+lowest-gap-requires : tie.Need-lowest-gap-requires
+lowest-gap-requires c κs = search needs
+
+returns-3 : tie.Need-returns-3
+returns-3 c =
+    let args = c .before .before .before .before .before .before .before .args in
+    let ends = c .before .before .before .row-ends in
+    let b = c .before .before .wide in
+    let t = c .before .wide2 in
+    c .lowest-gap .ensures ∙ rw (b .ensures .0, t .ensures .0, found-gap (args .s) (now (args .w)) (args .bottom) (args .top) (omega arith) (omega arith))
+    (lowestGap-same
+    (rows (ends .result .lo))
+    (rows (ends .result .hi))
+    (λ r. keptColumn upAlong (args .s) (now (args .w)) r 0)
+    (λ r. keptColumn downAlong (args .s) (now (args .w)) r 0)
+    (args .bottom)
+    (args .top)
+    (λ r h. ends .ensures .lo-up r (omega arith))
+    (λ r h. ends .ensures .hi-down r (omega arith)))
+
+pub missing-cell-spec : {M : Type 1} → statement M
+missing-cell-spec =
+    tie.close
+    (tie.spec
+    returns
+    returns-2
+    row-ends-requires
+    wide-requires
+    wide-requires-2
+    lowest-gap-requires
+    returns-3)

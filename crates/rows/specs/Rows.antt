@@ -1,0 +1,25 @@
+-- A list of numbers as a function of the row, and what the code keeps of the ends of the rows.
+use Prim.Native.Nat.{ℕ, _<_}
+use mathlib.Core.Path.{_≡_}
+use mathlib.Core.Bool.{Bool, cond, _&&_}
+use mathlib.Core.List.{List}
+use lib.ListN.{length, getD}
+use lib.Dec.{leb}
+use Rattle.chart.specs.Limits.{side}
+use Rattle.chart.specs.declared.Point.{Point}
+use Rattle.lattice.specs.Enclosed.{upAlong, downAlong}
+use Rattle.rows.specs.Search.{keptColumn}
+
+-- The number at row r, and 0 past the last row
+abbrev pub rows : List ℕ → ℕ → ℕ
+rows l r = getD l r 0
+
+-- m is l with the column c, where that is one of the chart's, at the rows of which the test holds
+pub record Marked (test : ℕ → Bool) (c : ℕ) (l m : List ℕ) : Type 0 where
+  pub size : length m ≡ 256
+  pub marked : (r : ℕ) → r < 256 → rows m r ≡ cond (test r && leb c side) c (rows l r)
+
+-- What lo and hi say of the rows: the columns of the last up and of the last down along each
+pub record RowEnds (s : Point) (w lo hi : List ℕ) : Type 0 where
+  pub lo-up : (r : ℕ) → r < 256 → rows lo r ≡ keptColumn upAlong s w r 0
+  pub hi-down : (r : ℕ) → r < 256 → rows hi r ≡ keptColumn downAlong s w r 0

@@ -1,0 +1,203 @@
+// The lowest missing cell, from the ends of the rows.
+use chart::Point;
+use chart::SIDE;
+use lattice::walk;
+ghost use Prim.Native.Nat.{ℕ, suc, _+_, _-_, _<_, _≤_};
+ghost use mathlib.Core.Path.{_≡_};
+ghost use lib.ListN.{length};
+ghost use Rattle.chart.specs.Limits.{side};
+ghost use Rattle.rows.specs.Search.{leans as leansOf, furthest as furthestOf, crossing as crossingOf, gapRow, climb as climbOf, lowestGap, foundCell};
+ghost use Rattle.lattice.specs.Enclosed.{upAlong, downAlong};
+ghost use Rattle.rows.specs.Rows.{rows, Marked, RowEnds};
+
+// A number of 16 bits as an index.
+fn wide(x: u16) -> usize
+    ensures { λ r. ⌜ (r ≡ x) × (r < 65536) ⌝ }
+{
+    x as usize
+}
+
+// The ends of the rows: row `r` of an outline goes from column `lo[r]` up to but not including column `hi[r]`.
+struct Ends {
+    lo: [u16; 256],
+    hi: [u16; 256],
+}
+
+// An up along a row begins it.
+fn mark_up(lo: &mut [u16; 256], p: Point, letter: u8)
+    requires { ⌜ length (now lo) ≡ 256 ⌝ }
+    ensures { λ _. ⌜ Marked (upAlong p letter) (p .col) (now (lo .entry)) (now (lo .exit)) ⌝ }
+{
+    let row = wide(p.row);
+    if letter == 1 && row < 256 && p.col <= SIDE {
+        lo[row] = p.col;
+    }
+}
+
+// A down along a row ends it.
+fn mark_down(hi: &mut [u16; 256], p: Point, letter: u8)
+    requires { ⌜ length (now hi) ≡ 256 ⌝ }
+    ensures { λ _. ⌜ Marked (downAlong p letter) (p .col) (now (hi .entry)) (now (hi .exit)) ⌝ }
+{
+    let row = wide(p.row);
+    if letter == 3 && 0 < row && row <= 256 && p.col <= SIDE {
+        hi[row - 1] = p.col;
+    }
+}
+
+// The ends of the rows of an outline, by one pass over its letters.
+fn row_ends(s: Point, w: &[u8]) -> Ends
+    ensures { λ r. ⌜ RowEnds s (now (w .entry)) (r .lo) (r .hi) ⌝ }
+{
+    let mut lo = [0u16; 256];
+    let mut hi = [0u16; 256];
+    let mut p = s;
+    let mut i = 0;
+    while i < w.len() {
+        let letter = w[i];
+        mark_up(&mut lo, p, letter);
+        mark_down(&mut hi, p, letter);
+        p = walk::step(p, letter);
+        i += 1;
+    }
+    Ends { lo, hi }
+}
+
+// The column at which row `r` begins.
+fn begins(lo: &[u16; 256], r: usize) -> usize
+    requires { ⌜ r < 256 ⌝ }
+    ensures { λ x. ⌜ (x ≡ rows (now (lo .entry)) r) × (x < 65536) ⌝ }
+{
+    wide(lo[r])
+}
+
+// Seen from row `i`, row `k` begins at least as far left as row `j` does.
+fn leans(lo: &[u16; 256], i: usize, j: usize, k: usize) -> bool
+    requires { ⌜ (i ≤ j) × (i ≤ k) × (j < 256) × (k < 256) ⌝ }
+    ensures { λ r. ⌜ r ≡ leansOf (rows (now (lo .entry))) i j k ⌝ }
+{
+    let a = begins(lo, i);
+    let b = begins(lo, j);
+    let c = begins(lo, k);
+    let near = j - i;
+    let far = k - i;
+    c * near + a * far <= b * far + a * near
+}
+
+// Of the rows from `i + 1` to `t - 1`, the one to which the line from row `i` leans furthest left, the last among equals.
+fn furthest(lo: &[u16; 256], i: usize, t: usize) -> usize
+    requires { ⌜ (i + 1 < t) × (t ≤ 255) ⌝ }
+    ensures { λ r. ⌜ (r ≡ furthestOf (rows (now (lo .entry))) i (suc i) (suc (suc i)) (t - suc (suc i))) × (i < r) × (r < t) ⌝ }
+{
+    let mut j = i + 1;
+    let mut k = i + 2;
+    while k < t {
+        if leans(lo, i, j, k) {
+            j = k;
+        }
+        k += 1;
+    }
+    j
+}
+
+// The first column of row `r` that is not left of the line from row `i` to row `j`.
+fn crossing(lo: &[u16; 256], i: usize, j: usize, r: usize) -> usize
+    requires { ⌜ (i < r) × (r < j) × (j < 256) ⌝ }
+    ensures { λ c. ⌜ (c ≡ crossingOf (rows (now (lo .entry))) i j r) × (c < 65536) ⌝ }
+{
+    let a = begins(lo, i);
+    let b = begins(lo, j);
+    let height = j - i;
+    ((j - r) * a + (r - i) * b + (height - 1)) / height
+}
+
+// The first row after `i` and before `j` that begins right of that column, or `j` where there is none.
+fn gap_row(lo: &[u16; 256], i: usize, j: usize) -> usize
+    requires { ⌜ (i < j) × (j < 256) ⌝ }
+    ensures { λ r. ⌜ (r ≡ gapRow (rows (now (lo .entry))) i j) × (i < r) × (r ≤ j) ⌝ }
+{
+    let mut r = i + 1;
+    while r < j {
+        if crossing(lo, i, j, r) < begins(lo, r) {
+            return r;
+        }
+        r += 1;
+    }
+    j
+}
+
+// Up the left side of the hull from row `b`: the first column of the first row that begins right of that side, or a cell of row `t` where there is none.
+fn climb(lo: &[u16; 256], t: usize, b: usize) -> Point
+    requires { ⌜ (b ≤ t) × (t ≤ 255) ⌝ }
+    ensures { λ r. ⌜ (r ≡ climbOf (rows (now (lo .entry))) t b (t - b)) × (r .row ≤ t) ⌝ }
+{
+    let mut i = b;
+    while i + 1 < t {
+        let j = furthest(lo, i, t);
+        let r = gap_row(lo, i, j);
+        if r < j {
+            return Point {
+                col: crossing(lo, i, j, r) as u16,
+                row: r as u16,
+            };
+        }
+        i = j;
+    }
+    Point {
+        col: 0,
+        row: t as u16,
+    }
+}
+
+// What is left of the chart's columns from column `x` on.
+fn remaining(x: u16) -> u16
+    ensures { λ r. ⌜ r ≡ side - x ⌝ }
+{
+    if x <= SIDE { SIDE - x } else { 0 }
+}
+
+// The rows seen from the right.
+fn mirrored(hi: &[u16; 256]) -> [u16; 256]
+    ensures { λ r. ⌜ ((k : ℕ) → k < 256 → rows r k ≡ side - rows (now (hi .entry)) k) ⌝ }
+{
+    let mut left = [0u16; 256];
+    let mut k = 0;
+    while k < 256 {
+        left[k] = remaining(hi[k]);
+        k += 1;
+    }
+    left
+}
+
+// The lower of the gaps at the left side and at the right side of rows `b` to `t - 1`; the left one in the same row.
+fn lowest_gap(ends: Ends, b: usize, t: usize) -> Point
+    requires { ⌜ (b ≤ t) × (t ≤ 255) ⌝ }
+    ensures { λ r. ⌜ r ≡ lowestGap (rows (ends .lo)) (rows (ends .hi)) b t ⌝ }
+{
+    let lo = ends.lo;
+    let hi = ends.hi;
+    let left = climb(&lo, t, b);
+    let mirror = mirrored(&hi);
+    let right = climb(&mirror, t, b);
+    if left.row <= right.row {
+        return left;
+    }
+    let row = wide(right.row);
+    Point {
+        col: hi[row],
+        row: right.row,
+    }
+}
+
+// The lowest missing cell, leftmost in its row, of an outline between the corner rows `bottom` and `top`; the start where these are no rows of the chart.
+pub fn missing_cell(s: Point, w: &[u8], bottom: u16, top: u16) -> Point
+    ensures { λ r. ⌜ r ≡ foundCell s (now (w .entry)) bottom top ⌝ }
+{
+    if SIDE < top {
+        return s;
+    }
+    if top < bottom {
+        return s;
+    }
+    lowest_gap(row_ends(s, w), wide(bottom), wide(top))
+}

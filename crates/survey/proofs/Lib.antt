@@ -1,0 +1,3 @@
+-- The laws of each check; then the first that applies.
+pub mod CheckLaws
+pub mod SurveyLaws

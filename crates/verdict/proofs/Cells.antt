@@ -1,0 +1,76 @@
+-- What a reader takes from a verdict: each answer's facts (VerdictLaws) meet the convexity theorem of the same outline.
+use Prim.Native.Nat.{ℕ, _*_, _<_}
+use mathlib.Core.Path.{_≡_, refl, sym, _∙_, ap}
+use mathlib.Core.Logic.{⊎-elim, _↔_}
+use mathlib.Core.List.{List}
+use lib.ListN.{length, take}
+use lib.IntN.{ℤ}
+use native.Mathlib.Decide.{decLt}
+use native.Mathlib.Omega.{arith}
+use Rattle.chart.specs.Limits.{side}
+use Rattle.chart.specs.declared.Point.{Point}
+use Rattle.chart.specs.declared.Verdict.{Verdict}
+use Rattle.chart.specs.declared.Verdict.the-variants.{Taken, Refused}
+use Rattle.chart.specs.Outline.{Outline}
+use Rattle.chart.specs.Fields.{verdictFields}
+use Rattle.lattice.specs.Enclosed.{encloses}
+use Rattle.lattice.specs.Hull.{Missing, LowestMissing}
+use Rattle.convexity.specs.Cut.{reading}
+use Rattle.convexity.specs.Pieces.{Reaches, IsAnchor, edges}
+use Rattle.convexity.specs.Inside.{insideEdges}
+use Rattle.convexity.proofs.Sent.{edges-answer-sent, dented-iff-missing, named-lowest, west-anchor}
+use Rattle.verdict.specs.Verdict.{cellFound, dentIn, verdictOf, testOf, testFields, edgesAfter}
+use Rattle.verdict.specs.Dents.{Dented, dentOf}
+use Rattle.verdict.specs.Named.{cellOf, CellNamed}
+use Rattle.verdict.proofs.VerdictLaws.{pastEight, reaches-of, dented-or-not, TakenFacts, taken-facts, verdict-dented, verdict-taken, dented-of-nine, nine-of-dented, nine-iff-dented, roomy, test-refused, test-short, test-taken, edges-first}
+
+module _ (o : Outline) where
+  -- An outline that reaches the dent test is refused there exactly when some cell is in the hull of its enclosed cells and not enclosed
+  pub nine-iff-missing : Reaches (o .start) (o .letters) → (verdictFields (verdictOf o) .number ≡ 9) ↔ ((x : Point) × Missing (o .start) (o .letters) x)
+  nine-iff-missing r =
+      let nine = nine-iff-dented o in
+      let dent = dented-iff-missing (o .start) (o .letters) r in
+      (λ e. dent .0 (nine .0 e .dented), λ x. nine .1 (record { reaches = r; dented = dent .1 x }))
+
+  -- The cell of the reply: the lowest missing one where a dent is refused, and the anchor where the outline is taken
+  pub verdict-named : CellNamed o (verdictFields (verdictOf o))
+  unfolding pastEight dentOf dentIn cellFound
+  verdict-named = record { anchor = anchor; missing = missing }
+    where
+      anchor : verdictFields (verdictOf o) .number ≡ 0 → IsAnchor (o .start) (o .letters) (cellOf (verdictFields (verdictOf o)))
+      anchor e =
+          let r : Reaches (o .start) (o .letters) = reaches-of o (rw e) in
+          ⊎-elim
+          (λ h. absurd (omega (arith, e, nine-of-dented o (record { reaches = r; dented = h }))))
+          (λ u. rw (verdict-taken o r u) (west-anchor (o .start) (o .letters) r))
+          (dented-or-not (reading o .start) (reading o .letters))
+
+      missing : verdictFields (verdictOf o) .number ≡ 9 → LowestMissing (o .start) (o .letters) (cellOf (verdictFields (verdictOf o)))
+      missing e =
+          let d : Dented o = dented-of-nine o e in
+          rw (verdict-dented o d) (named-lowest (o .start) (o .letters) (d .reaches) (d .dented))
+
+  -- So does the reply of a test: 10 names no cell
+  pub test-named : (m : ℕ) → CellNamed o (testFields o m)
+  unfolding testFields
+  test-named m = go (verdictOf o) refl
+    where
+      same : testOf o m ≡ verdictOf o → CellNamed o (verdictFields (testOf o m))
+      same e = rw e verdict-named
+
+      go : (v : Verdict) → verdictOf o ≡ v → CellNamed o (verdictFields (testOf o m))
+      go (Refused f) e = same (test-refused o m f e ∙ sym e)
+      go (Taken n a) e =
+          elim (decLt m (2 * n)) [
+            | yes h ↦ rw (test-short o m n a e h) (record { anchor = λ z. absurd (omega (arith, z)); missing = λ z. absurd (omega (arith, z)) })
+            | no h ↦ same (test-taken o m n a e (omega arith) ∙ sym e)
+          ]
+
+  -- A taken outline's anchor and edges, as they stand in the lent list, answer for its cells
+  pub taken-answers : (lent : List ℤ) (n : ℕ) (a : Point) → testOf o (length lent) ≡ Taken n a → (x : Point) → x .col < side → x .row < side
+      → insideEdges a (take (2 * n) (edgesAfter o lent)) x ≡ encloses (o .start) (o .letters) (x .col) (x .row)
+  taken-answers lent n a e x i j =
+      let f : TakenFacts o n a = taken-facts o n a (roomy o (length lent) n a e .said) in
+      ap (λ (es : List ℤ). insideEdges a es x) (edges-first o lent n a e) ∙
+      (ap (λ (b : Point). insideEdges b (edges (reading o .start) (reading o .letters)) x) (f .anchor) ∙
+      edges-answer-sent (o .start) (o .letters) (f .reaches) (f .undented) x i j)

@@ -1,0 +1,269 @@
+-- The verdict follows the published rule because a word has one falling factoring, so the computed factors are any factors, and the test for Christoffel words
+-- passes exactly those; the first piece and the first factor that fail it are then the ones that 9 names.
+use Prim.Native.Nat.{ℕ, _+_, _<_}
+use native.Mathlib.Numerals.{add-one}
+use native.Mathlib.Omega.{arith}
+use mathlib.Core.Path.{_≡_, refl, sym, ap, _∙_, subst}
+use mathlib.Core.Logic.{_↔_, ⊎-elim}
+use mathlib.Core.Bool.{Bool, true, false, false≢true}
+use mathlib.Core.List.{List, [], _∷_, _++_}
+use lib.ListN.{length, length-append}
+use lib.Dec.{ltb}
+use borrow.Author.Tests.{lt-ltb, le-ltb, ltb-true, ltb-false}
+use Rattle.base.proofs.BelowLaws.{first-found, first-before, first-none, first-is, first-none-at}
+use Rattle.words.specs.Word.{Word}
+use Rattle.words.specs.Lyndon.{Factor, Falling, Factoring, written}
+use Rattle.words.specs.Christoffel.{Christoffel, christoffel}
+use Rattle.words.proofs.Factors.{falling-head, falling-tail, factors-exist, factors-unique, factors-of}
+use Rattle.words.proofs.Counts.{length-copies}
+use Rattle.words.proofs.Christoffel.{christoffel-iff}
+use Rattle.chart.specs.declared.Point.{Point}
+use Rattle.chart.specs.declared.Refusal.the-variants.{Dent}
+use Rattle.chart.specs.declared.Verdict.the-variants.{Taken, Refused}
+use Rattle.chart.specs.Outline.{Outline}
+use Rattle.lattice.specs.Hull.{LowestMissing}
+use Rattle.convexity.specs.Frame.{frameOf}
+use Rattle.convexity.specs.Cut.{reading}
+use Rattle.convexity.specs.Pieces.{Reaches, word, factors, dentAt, dentLength, dentPiece, edgesOf, edges, edgeCount, IsAnchor}
+use Rattle.convexity.proofs.Smooth.{dent-first}
+use Rattle.convexity.proofs.Theorem.{lowest-unique}
+use Rattle.convexity.proofs.Sent.{named-lowest, west-anchor}
+use Rattle.verdict.specs.Verdict.{placeSent, cellFound, dentIn, verdictOf}
+use Rattle.verdict.specs.Dents.{dentOf}
+use Rattle.verdict.specs.Rule.{pieceWord, pieceCut, AllChristoffel, none, more, Smooth, FirstDent, FactorsOf, ByTheRule}
+use Rattle.verdict.proofs.VerdictLaws.{dented-or-not, TakenFacts, taken-facts, verdict-dented, verdict-taken}
+
+-- ---- dents in a list of factors
+
+no-christoffel : (w : Word) → ¬ Christoffel w → christoffel w ≡ false
+no-christoffel w h = go (christoffel w) refl
+  where
+    go : (b : Bool) → christoffel w ≡ b → b ≡ false
+    go true e = absurd (h (christoffel-iff w .0 e))
+    go false e = refl
+
+not-christoffel : (w : Word) → christoffel w ≡ false → ¬ Christoffel w
+not-christoffel w e c = false≢true (sym e ∙ christoffel-iff w .1 c)
+
+-- Christoffel words have no dent among them, and without one all are Christoffel words
+dent-none : (fs : List Factor) → AllChristoffel fs → dentLength fs ≡ 0
+unfolding dentLength
+dent-none [] none = refl
+dent-none (f ∷ fs) (more c h) = rw (dentLength, christoffel-iff (f .word) .1 c) (dent-none fs h)
+
+all-christoffel : (fs : List Factor) → Falling fs → dentLength fs ≡ 0 → AllChristoffel fs
+all-christoffel [] d e = none
+all-christoffel (f ∷ fs) d e =
+    let r = dent-first f fs (falling-head d) e in more (r .0) (all-christoffel fs (falling-tail d) (r .1))
+
+-- A list of factors at its first dent
+record Split (fs : List Factor) : Type 0 where
+  before : List Factor
+  dent : Factor
+  after : List Factor
+  whole : fs ≡ before ++ dent ∷ after
+  smooth : AllChristoffel before
+  dented : ¬ Christoffel (dent .word)
+
+split : (fs : List Factor) → 0 < dentLength fs → Split fs
+unfolding dentLength
+split [] h = absurd (omega arith)
+split (f ∷ fs) h = go (christoffel (f .word)) refl (split fs)
+  where
+    go : (b : Bool) → christoffel (f .word) ≡ b → (0 < dentLength fs → Split fs) → Split (f ∷ fs)
+    go true e rest =
+        let r = rest (rw (e, dentLength) at h) in
+        record {
+          before = f ∷ r .before;
+          dent = r .dent;
+          after = r .after;
+          whole = ap (λ (l : List Factor). f ∷ l) (r .whole);
+          smooth = more (christoffel-iff (f .word) .0 e) (r .smooth);
+          dented = r .dented;
+        }
+    go false e rest =
+        record { before = []; dent = f; after = fs; whole = refl; smooth = none; dented = not-christoffel (f .word) e }
+
+module _ (f : Factor) (fs : List Factor) (d : ¬ Christoffel (f .word)) where
+  dent-length : (before : List Factor) → AllChristoffel before → dentLength (before ++ f ∷ fs) ≡ length (f .word)
+  unfolding dentLength
+  dent-length [] none = rw (dentLength, no-christoffel (f .word) d)
+  dent-length (g ∷ before) (more c h) = rw (dentLength, christoffel-iff (g .word) .1 c) (dent-length before h)
+
+  dent-at : (before : List Factor) → AllChristoffel before → dentAt (before ++ f ∷ fs) ≡ length (written before)
+  unfolding dentAt written
+  dent-at [] none = rw (dentAt, no-christoffel (f .word) d)
+  dent-at (g ∷ before) (more c h) =
+      rw (dentAt, christoffel-iff (g .word) .1 c, length-append, length-copies, dent-at before h)
+
+-- ---- the pieces of a turn
+
+-- Piece k of the letters t from s on has a dent
+abbrev dentedAt : Point → List ℕ → ℕ → Bool
+dentedAt s t k = ltb 0 (dentLength (factors s t k))
+
+module _ (o : Outline) where
+  abbrev s : Point
+  s = reading o .start
+
+  abbrev t : List ℕ
+  t = reading o .letters
+
+  -- The computed factors are the factors
+  factors-are : (k : ℕ) (fs : List Factor) → Factoring (pieceWord o k) fs → factors s t k ≡ fs
+  unfolding factors
+  factors-are k fs f = factors-of (word s t k) fs f
+
+  factors-factor : (k : ℕ) → Factoring (pieceWord o k) (factors s t k)
+  unfolding factors
+  factors-factor k = factors-exist (word s t k)
+
+  smooth-undented : (k : ℕ) → Smooth o k → dentedAt s t k ≡ false
+  smooth-undented k h =
+      le-ltb 0 (dentLength (factors s t k)) (omega (arith, ap dentLength (factors-are k (h .factors) (h .factoring)), dent-none (h .factors) (h .christoffel)))
+
+  undented-smooth : (k : ℕ) → dentedAt s t k ≡ false → Smooth o k
+  undented-smooth k e =
+      record {
+        factors = factors s t k;
+        factoring = factors-factor k;
+        christoffel =
+            all-christoffel (factors s t k) (factors-factor k .falling) (omega (arith, ltb-false 0 (dentLength (factors s t k)) e));
+      }
+
+  -- ---- taken
+
+  smooth-none : ((k : ℕ) → k < 4 → Smooth o k) → dentPiece s t ≡ 4
+  unfolding dentPiece
+  smooth-none h = first-none (dentedAt s t) 4 (λ k l. smooth-undented k (h k l))
+
+  none-smooth : dentPiece s t ≡ 4 → (k : ℕ) → k < 4 → Smooth o k
+  unfolding dentPiece
+  none-smooth e k l = undented-smooth k (first-none-at (dentedAt s t) 4 e k l)
+
+  module _ (r : Reaches (o .start) (o .letters)) where
+    -- An outline that meets none of 1 to 8 is taken exactly if every factor of every piece is a Christoffel word
+    pub taken-iff-christoffel : ((n : ℕ) × (a : Point) × (verdictOf o ≡ Taken n a)) ↔ ((k : ℕ) → k < 4 → Smooth o k)
+    taken-iff-christoffel = (
+      λ v. none-smooth (taken-facts o (v .0) (v .1) (v .2) .undented),
+      λ h. (edgeCount s t, s, verdict-taken o r (smooth-none h)),
+    )
+
+    -- ---- refused by 9
+
+    -- The fields of 9 with a dent in piece k
+    dent-named : (k : ℕ) → dentPiece s t ≡ k
+        → dentOf o ≡ Dent (k + 1) (placeSent o (pieceCut o k + 1 + dentAt (factors s t k))) (dentLength (factors s t k)) (cellFound (reading o))
+    unfolding dentOf dentIn
+    dent-named k e = rw (e, add-one k)
+
+    cell-lowest : dentPiece s t < 4 → LowestMissing (o .start) (o .letters) (cellFound (reading o))
+    unfolding cellFound
+    cell-lowest d = named-lowest (o .start) (o .letters) r d
+
+    nine-of-first-dent : (p i l : ℕ) (x : Point) → FirstDent o p i l x → verdictOf o ≡ Refused (Dent p i l x)
+    unfolding dentPiece
+    nine-of-first-dent p i l x h =
+        let k : ℕ = h .k in
+        let e : factors s t k ≡ h .before ++ h .dent ∷ h .after = factors-are k _ (h .factoring) in
+        let size : dentLength (factors s t k) ≡ length (h .dent .word) =
+        ap dentLength e ∙ dent-length (h .dent) (h .after) (h .dented) (h .before) (h .smooth) in
+        let at : dentAt (factors s t k) ≡ length (written (h .before)) =
+        ap dentAt e ∙ dent-at (h .dent) (h .after) (h .dented) (h .before) (h .smooth) in
+        let some : 0 < length (h .dent .word) = dent-some (h .before) (h .factoring .falling) in
+        let first : dentPiece s t ≡ k =
+        first-is (dentedAt s t) 4 k (h .below) (λ j l. smooth-undented j (h .earlier j l)) (lt-ltb 0 (dentLength (factors s t k)) (omega arith)) in
+        let d : dentPiece s t < 4 = omega (arith, h .below) in
+        let piece : k + 1 ≡ p = sym (h .piece) in
+        let place : placeSent o (pieceCut o k + 1 + dentAt (factors s t k)) ≡ i =
+        ap (λ (n : ℕ). placeSent o (pieceCut o k + 1 + n)) at ∙ sym (h .place) in
+        let copy : dentLength (factors s t k) ≡ l = size ∙ sym (h .copy) in
+        let cell : cellFound (reading o) ≡ x = lowest-unique (cell-lowest d) (h .cell) in
+        verdict-dented o (record { reaches = r; dented = d }) ∙ ap Refused (dent-named k first ∙ λ j. Dent (piece j) (place j) (copy j) (cell j))
+      where
+        dent-some : (before : List Factor) → Falling (before ++ h .dent ∷ h .after) → 0 < length (h .dent .word)
+        dent-some [] d = falling-head d .lyndon .some
+        dent-some (g ∷ before) d = dent-some before (falling-tail d)
+
+    first-dent-of-nine : (p i l : ℕ) (x : Point) → verdictOf o ≡ Refused (Dent p i l x) → FirstDent o p i l x
+    unfolding dentPiece
+    first-dent-of-nine p i l x e = ⊎-elim dented undented (dented-or-not s t)
+      where
+        undented : dentPiece s t ≡ 4 → FirstDent o p i l x
+        undented u = let v = verdict-taken o r u in let z : _≡_ {A = ℕ} 0 1 = cc in absurd (omega arith)
+
+        dented : dentPiece s t < 4 → FirstDent o p i l x
+        dented d =
+            let k : ℕ = dentPiece s t in
+            let f : Split (factors s t k) =
+            split (factors s t k) (ltb-true 0 (dentLength (factors s t k)) (first-found (dentedAt s t) 4 d)) in
+            let said = sym (ap Refused (dent-named k refl)) ∙ sym (verdict-dented o (record { reaches = r; dented = d })) ∙ e in
+            let place : placeSent o (pieceCut o k + 1 + dentAt (factors s t k)) ≡ i = cc in
+            let copy : dentLength (factors s t k) ≡ l = cc in
+            let cell : cellFound (reading o) ≡ x = cc in
+            record {
+              k = k;
+              below = d;
+              earlier = λ j h. undented-smooth j (first-before (dentedAt s t) 4 j h);
+              before = f .before;
+              dent = f .dent;
+              after = f .after;
+              factoring = subst (λ (fs : List Factor). Factoring (pieceWord o k) fs) (f .whole) (factors-factor k);
+              smooth = f .smooth;
+              dented = f .dented;
+              piece = cc;
+              place =
+                  sym place ∙
+                  ap (λ (n : ℕ). placeSent o (pieceCut o k + 1 + n)) (ap dentAt (f .whole) ∙ dent-at (f .dent) (f .after) (f .dented) (f .before) (f .smooth));
+              copy = sym copy ∙ ap dentLength (f .whole) ∙ dent-length (f .dent) (f .after) (f .dented) (f .before) (f .smooth);
+              cell = subst (λ (y : Point). LowestMissing (o .start) (o .letters) y) cell (cell-lowest d);
+            }
+
+    -- An outline that meets none of 1 to 8 is refused by 9, with these fields, exactly if they are those of its first factor that is no Christoffel word
+    pub nine-iff-first-dent : (p i l : ℕ) (x : Point) → (verdictOf o ≡ Refused (Dent p i l x)) ↔ FirstDent o p i l x
+    nine-iff-first-dent p i l x = (first-dent-of-nine p i l x, nine-of-first-dent p i l x)
+
+  -- ---- the fields and the edges of a taken outline
+
+  pub taken-count : (n : ℕ) (a : Point) → verdictOf o ≡ Taken n a → (fs : ℕ → List Factor) → FactorsOf o fs
+      → n ≡ length (fs 0) + (length (fs 1) + (length (fs 2) + length (fs 3)))
+  unfolding edgeCount
+  taken-count n a e fs h =
+      taken-facts o n a e .count ∙
+      rw (
+        factors-are 0 (fs 0) (h 0 (omega arith)),
+        factors-are 1 (fs 1) (h 1 (omega arith)),
+        factors-are 2 (fs 2) (h 2 (omega arith)),
+        factors-are 3 (fs 3) (h 3 (omega arith)),
+      )
+
+  pub taken-anchor : (n : ℕ) (a : Point) → verdictOf o ≡ Taken n a → IsAnchor (o .start) (o .letters) a
+  taken-anchor n a e =
+      let f : TakenFacts o n a = taken-facts o n a e in
+      subst (λ (b : Point). IsAnchor (o .start) (o .letters) b) (sym (f .anchor)) (west-anchor (o .start) (o .letters) (f .reaches))
+
+  pub edges-of-factors : (fs : ℕ → List Factor) → FactorsOf o fs
+      → edges (reading o .start) (reading o .letters) ≡
+      edgesOf (frameOf 0) (fs 0) ++ (edgesOf (frameOf 1) (fs 1) ++ (edgesOf (frameOf 2) (fs 2) ++ edgesOf (frameOf 3) (fs 3)))
+  unfolding edges
+  edges-of-factors fs h =
+      rw (
+        factors-are 0 (fs 0) (h 0 (omega arith)),
+        factors-are 1 (fs 1) (h 1 (omega arith)),
+        factors-are 2 (fs 2) (h 2 (omega arith)),
+        factors-are 3 (fs 3) (h 3 (omega arith)),
+      )
+
+  -- ---- the rule whole
+
+  pub by-the-rule : Reaches (o .start) (o .letters) → ByTheRule o
+  by-the-rule r =
+      record {
+        factored = λ k. (factors s t k, factors-factor k);
+        one-way = λ k. factors-unique (pieceWord o k);
+        taken = taken-iff-christoffel r;
+        nine = nine-iff-first-dent r;
+        count = taken-count;
+        anchor = taken-anchor;
+        edges = edges-of-factors;
+      }

@@ -1,0 +1,247 @@
+-- The first refusal that applies hides every later one, so an answer past number 8 tells that none of 1 to 8 applies, and then the answer is read off
+-- the dent and the room.
+use Prim.Native.Nat.{ℕ, _-_, _*_, _≤_, _<_}
+use native.Mathlib.Omega.{arith}
+use native.Mathlib.Decide.{decLt}
+use mathlib.Core.Path.{_≡_, refl, sym, ap, _∙_}
+use mathlib.Core.Logic.{_⊎_, inl, inr, ⊎-elim, _≢_, _↔_}
+use mathlib.Core.Bool.{Bool, true, false, not, cond, _||_, true≢false}
+use mathlib.Core.List.{List, _++_}
+use lib.ListN.{length, take, drop, length-append, length-drop}
+use lib.Seq.{take-at}
+use lib.Dec.{ltb, eqb}
+use lib.IntN.{ℤ}
+use borrow.Author.Tests.{lt-ltb, le-ltb, not-false}
+use Rattle.base.proofs.BelowLaws.{first-le}
+use Rattle.chart.specs.declared.Point.{Point}
+use Rattle.chart.specs.declared.Refusal.{Refusal}
+use Rattle.chart.specs.declared.Refusal.the-variants.{Count, Start, Letter, Leaves, Unclosed, Touches, Anticlockwise, Dent, Room}
+use Rattle.chart.specs.declared.Verdict.{Verdict}
+use Rattle.chart.specs.declared.Verdict.the-variants.{Taken, Refused}
+use Rattle.chart.specs.Outline.{Outline}
+use Rattle.chart.specs.Fields.{verdictFields, refusalFields, numbered, placed, accepted}
+use Rattle.lattice.specs.Refusals.{badCount, badStart, letterPlace, leavingPlace, unclosed, touchingPlace, Simple}
+use Rattle.survey.specs.declared.Surveyed.{Surveyed}
+use Rattle.survey.specs.declared.Surveyed.the-variants.{Passed, Refused as Stopped}
+use Rattle.survey.specs.Survey.{surveyOf}
+use Rattle.survey.proofs.SurveyLaws.{survey-passed}
+use Rattle.convexity.specs.Cut.{reading, clockwise}
+use Rattle.convexity.specs.Pieces.{strayPiece, factors, dentLength, dentPiece, edges, edgeCount, Reaches}
+use Rattle.convexity.proofs.Bounds.{edges-length}
+use Rattle.convexity.proofs.Sent.{edges-fit}
+use Rattle.verdict.specs.Verdict.{placeSent, backStepIn, cellFound, dentIn, turnVerdict, readingVerdict, afterSurvey, verdictOf, withRoom, testOf, lentAfter, edgesAfter}
+use Rattle.verdict.specs.Dents.{Dented, dentOf}
+
+-- ---- refusals 1 to 8
+
+-- The answer's number is none of 1 to 8
+unfoldable pub pastEight : Verdict → Bool
+pastEight v = eqb (verdictFields v .number) 0 || ltb 8 (verdictFields v .number)
+
+-- A name that opens the numbers
+numbers : Bool
+unfolding pastEight
+numbers = true
+
+-- One of 1 to 8 is the answer
+pub record Early (v : Verdict) : Type 0 where
+  pub refusal : Refusal
+  pub early : pastEight (Refused refusal) ≡ false
+  pub answer : v ≡ Refused refusal
+
+-- One link of the chain of tests: it gives the answer, or it failed, and the answer is the rest's
+link : {R : Type 0} (b : Bool) (f : Refusal) (v : Verdict) → pastEight (Refused f) ≡ false → (b ≡ false → R ⊎ Early v) → R ⊎ Early (cond b (Refused f) v)
+link true f v e rest = inr (record { refusal = f; early = e; answer = refl })
+link false f v e rest = rest refl
+
+-- The same in the survey
+survey-link : {R : Type 0} (b : Bool) (f : Refusal) (c : Surveyed) (v : Verdict) → pastEight (Refused f) ≡ false → (b ≡ false → R ⊎ Early (afterSurvey c v)) →
+    R ⊎ Early (afterSurvey (cond b (Stopped f) c) v)
+unfolding afterSurvey
+survey-link true f c v e rest = inr (record { refusal = f; early = e; answer = refl })
+survey-link false f c v e rest = rest refl
+
+-- A turn has a piece with a dent, or none of its factors is other than a Christoffel word
+pub dented-or-not : (s : Point) (t : List ℕ) → (dentPiece s t < 4) ⊎ (dentPiece s t ≡ 4)
+unfolding dentPiece
+dented-or-not s t =
+    elim (decLt (dentPiece s t) 4) [
+      | yes h ↦ inl h
+      | no h ↦ inr (omega (arith, first-le (λ k. ltb 0 (dentLength (factors s t k))) 4))
+    ]
+
+module _ (o : Outline) where
+  abbrev s : Point
+  s = o .start
+
+  abbrev w : List ℕ
+  w = o .letters
+
+  -- The pieces' edges, their count, and the first piece with a dent, all of the reading
+  abbrev count : ℕ
+  count = edgeCount (reading o .start) (reading o .letters)
+
+  abbrev dent : ℕ
+  dent = dentPiece (reading o .start) (reading o .letters)
+
+  -- None of 1 to 8 applies, or one of them is the answer
+  pub reaches-or-early : Reaches (o .start) (o .letters) ⊎ Early (verdictOf o)
+  unfolding verdictOf surveyOf afterSurvey readingVerdict turnVerdict backStepIn
+  reaches-or-early =
+      survey-link (badCount w) Count _ _ (unfold numbers in refl) λ counted.
+      survey-link (badStart s) Start _ _ (unfold numbers in refl) λ started.
+      survey-link (ltb (letterPlace w) (length w)) (Letter (letterPlace w)) _ _ (unfold numbers in refl) λ lettered.
+      survey-link (ltb (leavingPlace s w) (length w)) (Leaves (leavingPlace s w)) _ _ (unfold numbers in refl) λ stays.
+      survey-link (unclosed s w) Unclosed _ _ (unfold numbers in refl) λ closed.
+      survey-link (ltb (touchingPlace s w) (length w - 1)) (Touches (touchingPlace s w)) _ _ (unfold numbers in refl) λ simple.
+      link (not (clockwise (reading o .letters))) Anticlockwise _ (unfold numbers in refl) λ right.
+      link (ltb (strayPiece (reading o .start) (reading o .letters)) 4) (backStepIn (placeSent o) (reading o) (strayPiece (reading o .start) (reading o .letters))) _
+      (unfold numbers in refl) λ straight.
+      inl (record {
+        simple = record { counted = counted; started = started; lettered = lettered; stays = stays; closed = closed; simple = simple };
+        clockwise = not-false (clockwise (reading o .letters)) right;
+        straight = straight;
+      })
+
+  -- An answer past number 8 is the answer of an outline to which none of 1 to 8 applies
+  pub reaches-of : pastEight (verdictOf o) ≡ true → Reaches (o .start) (o .letters)
+  reaches-of h = ⊎-elim (λ r. r) (λ e. absurd (true≢false (sym h ∙ ap pastEight (e .answer) ∙ e .early))) reaches-or-early
+
+  -- Past 1 to 8 the dent decides
+  verdict-past-eight : Reaches (o .start) (o .letters) → verdictOf o ≡ cond (ltb dent 4) (Refused (dentOf o)) (Taken count (reading o .start))
+  unfolding verdictOf readingVerdict turnVerdict dentOf afterSurvey
+  verdict-past-eight r = rw (← survey-passed s w (r .simple), r .clockwise, r .straight)
+
+  pub verdict-dented : Dented o → verdictOf o ≡ Refused (dentOf o)
+  verdict-dented d = verdict-past-eight (d .reaches) ∙ rw (lt-ltb dent 4 (d .dented))
+
+  pub verdict-taken : Reaches (o .start) (o .letters) → dentPiece (reading o .start) (reading o .letters) ≡ 4
+      → verdictOf o ≡ Taken (edgeCount (reading o .start) (reading o .letters)) (reading o .start)
+  verdict-taken r u = verdict-past-eight r ∙ rw (u)
+
+  -- What "taken" tells of an outline
+  pub record TakenFacts (n : ℕ) (a : Point) : Type 0 where
+    pub reaches : Reaches (o .start) (o .letters)
+    pub undented : dentPiece (reading o .start) (reading o .letters) ≡ 4
+    pub count : n ≡ edgeCount (reading o .start) (reading o .letters)
+    pub anchor : a ≡ reading o .start
+
+  pub taken-facts : (n : ℕ) (a : Point) → verdictOf o ≡ Taken n a → TakenFacts n a
+  taken-facts n a e = ⊎-elim dented undented (dented-or-not (reading o .start) (reading o .letters))
+    where
+      reach : Reaches (o .start) (o .letters)
+      reach = reaches-of (ap pastEight e ∙ unfold numbers in refl)
+
+      dented : dentPiece (reading o .start) (reading o .letters) < 4 → TakenFacts n a
+      dented h =
+          let x : verdictOf o ≡ Refused (dentOf o) = verdict-dented (record { reaches = reach; dented = h }) in
+          let z : _≡_ {A = ℕ} 0 1 = cc in
+          absurd (omega arith)
+
+      undented : dentPiece (reading o .start) (reading o .letters) ≡ 4 → TakenFacts n a
+      undented u =
+          let same : verdictOf o ≡ Taken (edgeCount (reading o .start) (reading o .letters)) (reading o .start) = verdict-taken reach u in
+          record { reaches = reach; undented = u; count = cc; anchor = cc }
+
+  -- The holder has room for the edges of every outline that is taken
+  pub taken-fits : (n : ℕ) (a : Point) → verdictOf o ≡ Taken n a → 2 * n ≤ 2032
+  taken-fits n a e =
+      let f : TakenFacts n a = taken-facts n a e in
+      let fit = edges-fit (o .start) (o .letters) (f .reaches) in
+      omega (arith, f .count)
+
+  -- Number 9 is the answer exactly for a dented outline
+  pub dented-of-nine : verdictFields (verdictOf o) .number ≡ 9 → Dented o
+  unfolding numbers
+  dented-of-nine nine = ⊎-elim (λ h. record { reaches = reach; dented = h }) undented (dented-or-not (reading o .start) (reading o .letters))
+    where
+      reach : Reaches (o .start) (o .letters)
+      reach = reaches-of (rw nine)
+
+      undented : dentPiece (reading o .start) (reading o .letters) ≡ 4 → Dented o
+      undented u =
+          let e = ap (λ (x : Verdict). verdictFields x .number) (verdict-taken reach u) in absurd (omega (arith, e, nine))
+
+  pub nine-of-dented : Dented o → verdictFields (verdictOf o) .number ≡ 9
+  unfolding numbers dentOf dentIn
+  nine-of-dented d = rw (verdict-dented d)
+
+  pub nine-iff-dented : (verdictFields (verdictOf o) .number ≡ 9) ↔ Dented o
+  nine-iff-dented = (dented-of-nine, nine-of-dented)
+
+  -- ---- the room
+
+  pub test-refused : (m : ℕ) (f : Refusal) → verdictOf o ≡ Refused f → testOf o m ≡ Refused f
+  unfolding testOf withRoom
+  test-refused m f e = rw e
+
+  pub test-short : (m n : ℕ) (a : Point) → verdictOf o ≡ Taken n a → m < 2 * n → testOf o m ≡ Refused (Room n)
+  unfolding testOf withRoom
+  test-short m n a e h = rw (e, lt-ltb m (2 * n) h)
+
+  pub test-taken : (m n : ℕ) (a : Point) → verdictOf o ≡ Taken n a → 2 * n ≤ m → testOf o m ≡ Taken n a
+  unfolding testOf withRoom
+  test-taken m n a e h = rw (e, le-ltb m (2 * n) h)
+
+  -- A test that takes an outline, or names a dent, says what is said of the outline without regard to room
+  pub record Roomy (m n : ℕ) (a : Point) : Type 0 where
+    pub said : verdictOf o ≡ Taken n a
+    pub room : 2 * n ≤ m
+
+  pub roomy : (m n : ℕ) (a : Point) → testOf o m ≡ Taken n a → Roomy m n a
+  roomy m n a e = go (verdictOf o) refl
+    where
+      go : (v : Verdict) → verdictOf o ≡ v → Roomy m n a
+      go (Refused f) x = let y = test-refused m f x in let z : _≡_ {A = ℕ} 0 1 = cc in absurd (omega arith)
+      go (Taken k b) x =
+          elim (decLt m (2 * k)) [
+            | yes h ↦ let y = test-short m k b x h in let z : _≡_ {A = ℕ} 0 1 = cc in absurd (omega arith)
+            | no h ↦
+                let y : testOf o m ≡ Taken k b = test-taken m k b x (omega arith) in
+                let p : k ≡ n = cc in
+                let q : b ≡ a = cc in
+                record { said = cc; room = omega arith }
+          ]
+
+  pub nine-roomless : (m : ℕ) → (verdictFields (testOf o m) .number ≡ 9) ↔ (verdictFields (verdictOf o) .number ≡ 9)
+  unfolding numbers
+  nine-roomless m = go (verdictOf o) refl
+    where
+      go : (v : Verdict) → verdictOf o ≡ v → (verdictFields (testOf o m) .number ≡ 9) ↔ (verdictFields (verdictOf o) .number ≡ 9)
+      go (Refused f) x = rw (test-refused m f x, x) (λ e. e, λ e. e)
+      go (Taken k b) x =
+          elim (decLt m (2 * k)) [
+            | yes h ↦ rw (test-short m k b x h, x) (λ e. absurd (omega (arith, e)), λ e. absurd (omega (arith, e)))
+            | no h ↦ rw (test-taken m k b x (omega arith), x) (λ e. e, λ e. e)
+          ]
+
+  -- ---- the lent list afterwards
+
+  pub edges-after : (lent : List ℤ) (n : ℕ) (a : Point) → testOf o (length lent) ≡ Taken n a →
+      edgesAfter o lent ≡ edges (reading o .start) (reading o .letters) ++ drop (length (edges (reading o .start) (reading o .letters))) lent
+  unfolding edgesAfter lentAfter
+  edges-after lent n a e = rw e
+
+  pub edges-refused : (lent : List ℤ) (f : Refusal) → testOf o (length lent) ≡ Refused f → edgesAfter o lent ≡ lent
+  unfolding edgesAfter lentAfter
+  edges-refused lent f e = rw e
+
+  pub edges-first : (lent : List ℤ) (n : ℕ) (a : Point) → testOf o (length lent) ≡ Taken n a
+      → take (2 * n) (edgesAfter o lent) ≡ edges (reading o .start) (reading o .letters)
+  edges-first lent n a e =
+      let k : TakenFacts n a = taken-facts n a (roomy (length lent) n a e .said) in
+      let t : List ℕ = reading o .letters in
+      let u : Point = reading o .start in
+      ap (take (2 * n)) (edges-after lent n a e) ∙
+      take-at (edges u t) (drop (length (edges u t)) lent) (2 * n) (edges-length u t ∙ ap (λ (j : ℕ). 2 * j) (sym (k .count)))
+
+  -- The lent list is as long as before
+  pub edges-after-length : (lent : List ℤ) → length (edgesAfter o lent) ≡ length lent
+  edges-after-length lent = go (testOf o (length lent)) refl
+    where
+      go : (v : Verdict) → testOf o (length lent) ≡ v → length (edgesAfter o lent) ≡ length lent
+      go (Refused f) e = ap (length {A = ℤ}) (edges-refused lent f e)
+      go (Taken n a) e =
+          let r : Roomy (length lent) n a = roomy (length lent) n a e in
+          let k : TakenFacts n a = taken-facts n a (r .said) in
+          rw (edges-after lent n a e) (simp (length-append, length-drop, edges-length) (omega (arith, r .room, k .count)))

@@ -1,0 +1,15 @@
+-- The outlines that reach the dent test and are dented, and their refusal 9 (contract 3.11 and 5.2).
+use Prim.Native.Nat.{_<_}
+use Rattle.chart.specs.declared.Refusal.{Refusal}
+use Rattle.chart.specs.Outline.{Outline}
+use Rattle.convexity.specs.Cut.{reading}
+use Rattle.convexity.specs.Pieces.{dentPiece, Reaches}
+use Rattle.verdict.specs.Verdict.{placeSent, dentIn}
+
+-- None of 1 to 8 applies, and a factor is no Christoffel word
+pub record Dented (o : Outline) : Type 0 where
+  pub reaches : Reaches (o .start) (o .letters)
+  pub dented : dentPiece (reading o .start) (reading o .letters) < 4
+
+unfoldable pub dentOf : Outline → Refusal
+dentOf o = dentIn (placeSent o) (reading o) (dentPiece (reading o .start) (reading o .letters))

@@ -1,0 +1,15 @@
+-- What the cell of a reply is (contract 8.4): the anchor where an outline is taken, and the lowest missing cell where it is refused by 9.
+use mathlib.Core.Path.{_≡_}
+use Rattle.chart.specs.declared.Point.{Point}
+use Rattle.chart.specs.declared.Fields.{Fields}
+use Rattle.chart.specs.Outline.{Outline}
+use Rattle.lattice.specs.Hull.{LowestMissing}
+use Rattle.convexity.specs.Pieces.{IsAnchor}
+
+-- The cell of a reply
+abbrev pub cellOf : Fields → Point
+cellOf f = record { col = f .col; row = f .row }
+
+pub record CellNamed (o : Outline) (f : Fields) : Type 0 where
+  pub anchor : f .number ≡ 0 → IsAnchor (o .start) (o .letters) (cellOf f)
+  pub missing : f .number ≡ 9 → LowestMissing (o .start) (o .letters) (cellOf f)

@@ -1,0 +1,75 @@
+-- The published rule, in definitions alone: an outline that meets none of 1 to 8 is taken exactly if every factor of every piece is a Christoffel word, and
+-- else 9 names the first factor that is none (contract 3.9 to 3.11, and 5.2). Factors here are any falling Lyndon words that write the piece's word, and
+-- Christoffel words are those of the definition by remainders; no computed list and no test stands in between. Pieces are counted from 0.
+use Prim.Native.Nat.{ℕ, _+_, _<_}
+use mathlib.Core.Path.{_≡_}
+use mathlib.Core.Logic.{_↔_}
+use mathlib.Core.List.{List, [], _∷_, _++_}
+use lib.ListN.{length}
+use Rattle.words.specs.Word.{Word}
+use Rattle.words.specs.Lyndon.{Factor, Factoring, written}
+use Rattle.words.specs.Christoffel.{Christoffel}
+use Rattle.chart.specs.declared.Point.{Point}
+use Rattle.chart.specs.declared.Refusal.the-variants.{Dent}
+use Rattle.chart.specs.declared.Verdict.the-variants.{Taken, Refused}
+use Rattle.chart.specs.Outline.{Outline}
+use Rattle.lattice.specs.Hull.{LowestMissing}
+use Rattle.convexity.specs.Frame.{frameOf}
+use Rattle.convexity.specs.Cut.{reading, cut}
+use Rattle.convexity.specs.Pieces.{word, edgesOf, edges, IsAnchor}
+use Rattle.verdict.specs.Verdict.{placeSent, verdictOf}
+
+-- The word of piece k on the reading from W, and the cut place at which the piece begins (contract 3.3 and 3.6)
+abbrev pub pieceWord : Outline → ℕ → Word
+pieceWord o k = word (reading o .start) (reading o .letters) k
+
+abbrev pub pieceCut : Outline → ℕ → ℕ
+pieceCut o k = cut (reading o .start) (reading o .letters) k
+
+-- Every factor is a Christoffel word
+pub data AllChristoffel : List Factor → Type 0 where
+  none : AllChristoffel []
+  more : {f : Factor} {fs : List Factor} → Christoffel (f .word) → AllChristoffel fs → AllChristoffel (f ∷ fs)
+
+-- Piece k has factors, and none of them is a dent (contract 3.11)
+pub record Smooth (o : Outline) (k : ℕ) : Type 0 where
+  pub factors : List Factor
+  pub factoring : Factoring (pieceWord o k) factors
+  pub christoffel : AllChristoffel factors
+
+-- The fields of 9 (contract 5.2): in piece k the factor `dent` is no Christoffel word, and all factors before it, in this piece and in the earlier ones, are. Its first
+-- copy begins behind the piece's first letter, which its word leaves out, and behind what the factors before it write
+pub record FirstDent (o : Outline) (p i l : ℕ) (x : Point) : Type 0 where
+  pub k : ℕ
+  pub below : k < 4
+  pub earlier : (j : ℕ) → j < k → Smooth o j
+  pub before : List Factor
+  pub dent : Factor
+  pub after : List Factor
+  pub factoring : Factoring (pieceWord o k) (before ++ dent ∷ after)
+  pub smooth : AllChristoffel before
+  pub dented : ¬ Christoffel (dent .word)
+  pub piece : p ≡ k + 1
+  pub place : i ≡ placeSent o (pieceCut o k + 1 + length (written before))
+  pub copy : l ≡ length (dent .word)
+  pub cell : LowestMissing (o .start) (o .letters) x
+
+-- The factors of the four pieces
+abbrev pub FactorsOf : Outline → (ℕ → List Factor) → Type 0
+FactorsOf o fs = (k : ℕ) → k < 4 → Factoring (pieceWord o k) (fs k)
+
+-- What holds of every outline that meets none of 1 to 8 (proofs/Rule.antt: `by-the-rule`)
+pub record ByTheRule (o : Outline) : Type 0 where
+  -- each piece has factors, in one way and in no other (contract 3.9)
+  pub factored : (k : ℕ) → (fs : List Factor) × Factoring (pieceWord o k) fs
+  pub one-way : (k : ℕ) (fs gs : List Factor) → Factoring (pieceWord o k) fs → Factoring (pieceWord o k) gs → fs ≡ gs
+  -- taken, or refused by 9 with these fields
+  pub taken : ((n : ℕ) × (a : Point) × (verdictOf o ≡ Taken n a)) ↔ ((k : ℕ) → k < 4 → Smooth o k)
+  pub nine : (p i l : ℕ) (x : Point) → (verdictOf o ≡ Refused (Dent p i l x)) ↔ FirstDent o p i l x
+  -- the fields of a taken outline, and its edges, one for each factor (contract 3.12, 3.13 and 6.1)
+  pub count : (n : ℕ) (a : Point) → verdictOf o ≡ Taken n a → (fs : ℕ → List Factor) → FactorsOf o fs →
+      n ≡ length (fs 0) + (length (fs 1) + (length (fs 2) + length (fs 3)))
+  pub anchor : (n : ℕ) (a : Point) → verdictOf o ≡ Taken n a → IsAnchor (o .start) (o .letters) a
+  pub edges : (fs : ℕ → List Factor) → FactorsOf o fs →
+      edges (reading o .start) (reading o .letters) ≡
+      edgesOf (frameOf 0) (fs 0) ++ (edgesOf (frameOf 1) (fs 1) ++ (edgesOf (frameOf 2) (fs 2) ++ edgesOf (frameOf 3) (fs 3)))

@@ -1,0 +1,77 @@
+-- The specimen outlines as one table (contract 9), and the test that a row passes. All rows are proved together (proofs/Specimens.antt).
+use Prim.Native.Nat.{ℕ}
+use mathlib.Core.Bool.{Bool, true, false, _&&_}
+use mathlib.Core.List.{List, [], _∷_, _++_}
+use lib.ListN.{length, drop, replicate}
+use lib.Dec.{eqb}
+use lib.IntN.{ℤ, pos, negsuc}
+use Rattle.chart.specs.declared.Point.{Point}
+use Rattle.chart.specs.Outline.{Outline}
+use Rattle.chart.specs.declared.Fields.{Fields}
+use Rattle.chart.specs.Same.{sameFields}
+use Rattle.chart.specs.Fields.{numbered, placed, accepted, no-word}
+use Rattle.verdict.specs.Verdict.{testFields, edgesAfter}
+
+-- An outline, what the test replies of it, and the edges that it writes
+pub record Specimen : Type 0 where
+  pub outline : Outline
+  pub fields : Fields
+  pub edges : List ℤ
+
+-- A list lent for sixteen edges
+unfoldable pub lent : List ℤ
+lent = replicate 32 (pos 99)
+
+unfoldable pub sameℤ : ℤ → ℤ → Bool
+sameℤ (pos a) (pos b) = eqb a b
+sameℤ (pos a) (negsuc b) = false
+sameℤ (negsuc a) (pos b) = false
+sameℤ (negsuc a) (negsuc b) = eqb a b
+
+unfoldable pub sameℤs : List ℤ → List ℤ → Bool
+sameℤs [] [] = true
+sameℤs [] (b ∷ fs) = false
+sameℤs (a ∷ es) [] = false
+sameℤs (a ∷ es) (b ∷ fs) = sameℤ a b && sameℤs es fs
+
+-- The test replies the row's fields, and the lent list then has the row's edges first and is otherwise unaltered
+unfoldable pub right : Specimen → Bool
+right h =
+    sameFields (testFields (h .outline) (length lent)) (h .fields) &&
+    sameℤs (edgesAfter (h .outline) lent) (h .edges ++ drop (length (h .edges)) lent)
+
+-- A start; an outline taken; one refused
+unfoldable pub at : ℕ → ℕ → Point
+at c r = record { col = c; row = r }
+
+yes-with : Point → List ℕ → ℕ → ℕ → ℕ → List ℤ → Specimen
+yes-with s w n c r es = record { outline = record { start = s; letters = w }; fields = accepted no-word n (at c r); edges = es }
+
+no-with : Point → List ℕ → Fields → Specimen
+no-with s w f = record { outline = record { start = s; letters = w }; fields = f; edges = [] }
+
+-- H1 to H12 in their order; the start above 255 with letters above 3; a walk that leaves the chart and does not close; a dent that only a
+-- palindrome test would pass, the factor 001101
+unfoldable pub specimens : List Specimen
+unfolding at yes-with no-with
+specimens =
+    yes-with (at 0 0) (1 ∷ 0 ∷ 3 ∷ 2 ∷ []) 0 0 0 [] ∷
+    yes-with (at 0 0) (1 ∷ 0 ∷ 0 ∷ 0 ∷ 3 ∷ 2 ∷ 2 ∷ 2 ∷ []) 2 0 0 (pos 2 ∷ pos 0 ∷ negsuc 1 ∷ pos 0 ∷ []) ∷
+    yes-with (at 0 1) (1 ∷ 0 ∷ 1 ∷ 0 ∷ 3 ∷ 0 ∷ 3 ∷ 2 ∷ 3 ∷ 2 ∷ 1 ∷ 2 ∷ []) 4 0 1
+    (pos 1 ∷ pos 1 ∷ pos 1 ∷ negsuc 0 ∷ negsuc 0 ∷ negsuc 0 ∷ negsuc 0 ∷ pos 1 ∷ []) ∷
+    yes-with (at 1 1) (2 ∷ 1 ∷ 0 ∷ 1 ∷ 0 ∷ 3 ∷ 0 ∷ 3 ∷ 2 ∷ 3 ∷ 2 ∷ 1 ∷ []) 4 0 1
+    (pos 1 ∷ pos 1 ∷ pos 1 ∷ negsuc 0 ∷ negsuc 0 ∷ negsuc 0 ∷ negsuc 0 ∷ pos 1 ∷ []) ∷
+    yes-with (at 0 0) (1 ∷ 1 ∷ 0 ∷ 3 ∷ 0 ∷ 3 ∷ 2 ∷ 2 ∷ []) 3 0 0 (pos 0 ∷ pos 1 ∷ pos 1 ∷ negsuc 0 ∷ negsuc 0 ∷ pos 0 ∷ []) ∷
+    no-with (at 0 0) (1 ∷ 1 ∷ 1 ∷ 0 ∷ 3 ∷ 3 ∷ 0 ∷ 0 ∷ 3 ∷ 2 ∷ 2 ∷ 2 ∷ [])
+    (record { number = 9; word = no-word; place = 4; piece = 2; length = 4; col = 1; row = 1 }) ∷
+    no-with (at 0 0) (1 ∷ 1 ∷ 0 ∷ 3 ∷ 0 ∷ 1 ∷ 0 ∷ 3 ∷ 3 ∷ 2 ∷ 2 ∷ 2 ∷ [])
+    (record { number = 8; word = no-word; place = 5; piece = 2; length = 0; col = 0; row = 0 }) ∷
+    no-with (at 0 0) (1 ∷ 0 ∷ 2 ∷ 3 ∷ []) (placed 6 2) ∷
+    no-with (at 0 0) (0 ∷ 1 ∷ 2 ∷ 3 ∷ []) (numbered 7) ∷
+    no-with (at 0 0) (1 ∷ 0 ∷ 3 ∷ []) (numbered 1) ∷
+    no-with (at 255 0) (1 ∷ 0 ∷ 3 ∷ 2 ∷ []) (placed 4 1) ∷
+    no-with (at 0 1) (1 ∷ 0 ∷ 3 ∷ 3 ∷ []) (numbered 5) ∷
+    no-with (at 256 0) (7 ∷ 7 ∷ 7 ∷ 7 ∷ []) (numbered 2) ∷
+    no-with (at 255 0) (0 ∷ 0 ∷ 0 ∷ 0 ∷ []) (placed 4 0) ∷
+    no-with (at 0 0) (1 ∷ 0 ∷ 0 ∷ 1 ∷ 1 ∷ 0 ∷ 1 ∷ 0 ∷ 3 ∷ 3 ∷ 3 ∷ 3 ∷ 2 ∷ 2 ∷ 2 ∷ 2 ∷ [])
+    (record { number = 9; word = no-word; place = 1; piece = 1; length = 6; col = 1; row = 1 }) ∷ []
