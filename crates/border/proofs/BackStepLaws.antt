@@ -13,13 +13,14 @@ use borrow.Author.Tests.{lt-ltb, le-ltb, eq-eqb, ne-eqb}
 use Rattle.base.specs.Below.{first}
 use Rattle.base.proofs.BelowLaws.{first-step, first-stop}
 use Rattle.chart.specs.Limits.{longest}
-use Rattle.chart.specs.declared.Point.{Point}
+use Rattle.chart.specs.Outline.{Outline}
+use Rattle.lattice.specs.Chart.{size}
 use Rattle.convexity.specs.Frame.{Frame, frameOf}
 use Rattle.convexity.specs.Cut.{cut}
-use Rattle.convexity.specs.Pieces.{rounds, piece, stray, strayAt, strayPiece}
+use Rattle.convexity.specs.Pieces.{rounds, piece, isBackStep, backStepAt, backStepPiece}
 use Rattle.border.specs.declared.frame.Pair.{Pair}
 use Rattle.lattice.specs.Refusals.{Stays}
-use Rattle.border.specs.declared.back_steps.BackStep.the-variants.{None, At}
+use Rattle.border.specs.declared.back_steps.BackStep.the-variants.{None}
 use Rattle.border.specs.Cutting.{PairOf, Rounded, CutsOf, Laid}
 use Rattle.border.specs.BackSteps.{Found, FoundAt}
 use Rattle.border.proofs.CutLaws.{cut-le-cut}
@@ -27,22 +28,22 @@ use Rattle.border.proofs.CutLaws.{cut-le-cut}
 -- ---- the letters of one piece
 
 module _ {f : Frame} {r : Pair} (h : PairOf f r) (a : ℕ) where
-  pub stray-other : (a ≡ r .earlier → ⊥) → (a ≡ r .later → ⊥) → stray f a ≡ true
-  unfolding stray
-  stray-other x y =
+  pub back-step-other : (a ≡ r .earlier → ⊥) → (a ≡ r .later → ⊥) → isBackStep f a ≡ true
+  unfolding isBackStep
+  back-step-other x y =
       let p = h .earlier in
       let q = h .later in
       let e : eqb a (r .earlier) ≡ false = ne-eqb a (r .earlier) x in
       let l : eqb a (r .later) ≡ false = ne-eqb a (r .later) y in
       cc
 
-  pub stray-earlier : a ≡ r .earlier → stray f a ≡ false
-  unfolding stray
-  stray-earlier x = let p = h .earlier in let e : eqb a (r .earlier) ≡ true = eq-eqb a (r .earlier) x in cc
+  pub no-back-step-earlier : a ≡ r .earlier → isBackStep f a ≡ false
+  unfolding isBackStep
+  no-back-step-earlier x = let p = h .earlier in let e : eqb a (r .earlier) ≡ true = eq-eqb a (r .earlier) x in cc
 
-  pub stray-later : (a ≡ r .earlier → ⊥) → a ≡ r .later → stray f a ≡ false
-  unfolding stray
-  stray-later x y =
+  pub no-back-step-later : (a ≡ r .earlier → ⊥) → a ≡ r .later → isBackStep f a ≡ false
+  unfolding isBackStep
+  no-back-step-later x y =
       let p = h .earlier in
       let q = h .later in
       let e : eqb a (r .earlier) ≡ false = ne-eqb a (r .earlier) x in
@@ -52,23 +53,23 @@ module _ {f : Frame} {r : Pair} (h : PairOf f r) (a : ℕ) where
 -- The first i letters of a piece have no back-step
 pub record Passed (letters : List ℕ) (k i : ℕ) : Type 0 where
   pub within : i ≤ length letters
-  pub none : first (λ j. stray (frameOf k) (getD letters j 0)) i ≡ i
+  pub none : first (λ j. isBackStep (frameOf k) (getD letters j 0)) i ≡ i
 
 pub passed-start : (letters : List ℕ) (k : ℕ) → Passed letters k 0
 unfolding first
 passed-start letters k = record { within = omega arith; none = refl }
 
 module _ {letters : List ℕ} {k i : ℕ} (p : Passed letters k i) where
-  pub passed-next : i < length letters → stray (frameOf k) (getD letters i 0) ≡ false → Passed letters k (i + 1)
-  passed-next l e = record { within = omega arith; none = first-step (λ j. stray (frameOf k) (getD letters j 0)) i (p .none) e }
+  pub passed-next : i < length letters → isBackStep (frameOf k) (getD letters i 0) ≡ false → Passed letters k (i + 1)
+  passed-next l e = record { within = omega arith; none = first-step (λ j. isBackStep (frameOf k) (getD letters j 0)) i (p .none) e }
 
-  pub passed-stop : i < length letters → stray (frameOf k) (getD letters i 0) ≡ true → i ≡ first (λ j. stray (frameOf k) (getD letters j 0)) (length letters)
-  passed-stop l e = sym (first-stop (λ j. stray (frameOf k) (getD letters j 0)) (length letters) i (p .none) e l)
+  pub passed-stop : i < length letters → isBackStep (frameOf k) (getD letters i 0) ≡ true → i ≡ first (λ j. isBackStep (frameOf k) (getD letters j 0)) (length letters)
+  passed-stop l e = sym (first-stop (λ j. isBackStep (frameOf k) (getD letters j 0)) (length letters) i (p .none) e l)
 
-  pub passed-end : length letters ≤ i → i ≡ first (λ j. stray (frameOf k) (getD letters j 0)) (length letters)
+  pub passed-end : length letters ≤ i → i ≡ first (λ j. isBackStep (frameOf k) (getD letters j 0)) (length letters)
   passed-end l =
       let e : i ≡ length letters = omega (arith, p .within) in
-      sym (p .none) ∙ ap (first (λ j. stray (frameOf k) (getD letters j 0))) e
+      sym (p .none) ∙ ap (first (λ j. isBackStep (frameOf k) (getD letters j 0))) e
 
 -- ---- the pieces
 
@@ -83,31 +84,31 @@ part-of-take a b e l h k =
     let z : e ≡ a + (e - a) = omega arith in
     ap (λ (n : ℕ). take (b - a) (drop a (take n l))) z ∙ ap (take (b - a)) (drop-take a (e - a) l) ∙ take-take (b - a) (e - a) (drop a l) (omega arith)
 
-module _ {s : Point} {t at buffer : List ℕ} (h : Laid s t at buffer) where
+module _ {o : Outline} {at buffer : List ℕ} (h : Laid o at buffer) where
   pub laid-rising : (k : ℕ) → k < 4 → getD at k 0 ≤ getD at (suc k) 0
-  laid-rising k l = omega (arith, h .places k (omega arith), h .places (suc k) l, cut-le-cut s t k (suc k) (omega arith))
+  laid-rising k l = omega (arith, h .places k (omega arith), h .places (suc k) l, cut-le-cut o k (suc k) (omega arith))
 
   pub laid-within : (k : ℕ) → k ≤ 4 → getD at k 0 ≤ length buffer
-  laid-within k l = omega (arith, h .places k l, cut-le-cut s t k 4 l, h .within)
+  laid-within k l = omega (arith, h .places k l, cut-le-cut o k 4 l, h .within)
 
   -- Between its cut places in the buffer stands the piece
-  pub laid-piece : (k : ℕ) → k < 4 → take (getD at (suc k) 0 - getD at k 0) (drop (getD at k 0) buffer) ≡ piece s t k
+  pub laid-piece : (k : ℕ) → k < 4 → take (getD at (suc k) 0 - getD at k 0) (drop (getD at k 0) buffer) ≡ piece o k
   unfolding piece
   laid-piece k l =
       let a = h .places k (omega arith) in
       let b = h .places (suc k) l in
-      let m = cut-le-cut s t k (suc k) (omega arith) in
-      let n = cut-le-cut s t (suc k) 4 l in
+      let m = cut-le-cut o k (suc k) (omega arith) in
+      let n = cut-le-cut o (suc k) 4 l in
       rw (a, b)
-      (sym (part-of-take (cut s t k) (cut s t (suc k)) (cut s t 4) buffer m n)
-      ∙ ap (λ (u : List ℕ). take (cut s t (suc k) - cut s t k) (drop (cut s t k) u)) (h .letters)
-      ∙ part-of-take (cut s t k) (cut s t (suc k)) (cut s t 4) (rounds t) m n)
+      (sym (part-of-take (cut o k) (cut o (suc k)) (cut o 4) buffer m n)
+      ∙ ap (λ (u : List ℕ). take (cut o (suc k) - cut o k) (drop (cut o k) u)) (h .letters)
+      ∙ part-of-take (cut o k) (cut o (suc k)) (cut o 4) (rounds (o .letters)) m n)
 
 -- The pieces lie so in a buffer that begins with the turn and was then filled round and round up to the last cut place
 pub laid-of :
-    {s : Point} {t at before after : List ℕ} → Stays s t → 0 < length t → length t ≤ longest → CutsOf s t at → take (length t) before ≡ t
-    → getD at 4 0 ≤ length before → Rounded before (length t) (getD at 4 0) after → length after ≡ length before → Laid s t at after
-laid-of {s} {t} {at} {before} {after} stays pos short cuts begins room rounded kept =
+    {o : Outline} {at before after : List ℕ} → Stays o → 0 < size o → size o ≤ longest → CutsOf o at → take (size o) before ≡ o .letters
+    → getD at 4 0 ≤ length before → Rounded before (size o) (getD at 4 0) after → length after ≡ length before → Laid o at after
+laid-of {o} {at} {before} {after} stays pos short cuts begins room rounded kept =
     let places = cuts .places stays short in
     let last = places 4 (omega arith) in
     let same = rounded .read pos (cuts .around) room in
@@ -118,17 +119,17 @@ laid-of {s} {t} {at} {before} {after} stays pos short cuts begins room rounded k
     }
 
 -- The piece has a back-step
-abbrev pub strayed : Point → List ℕ → ℕ → Bool
-strayed s t k = ltb (strayAt s t k) (length (piece s t k))
+abbrev pub hasBackStep : Outline → ℕ → Bool
+hasBackStep o k = ltb (backStepAt o k) (length (piece o k))
 
 -- No piece before the kth has a back-step
 pub record Searched (buffer at : List ℕ) (k : ℕ) : Type 0 where
   pub passed : k ≤ 4
-  pub none : (s : Point) (t : List ℕ) → Laid s t at buffer → first (strayed s t) k ≡ k
+  pub none : (o : Outline) → Laid o at buffer → first (hasBackStep o) k ≡ k
 
 pub searched-start : (buffer at : List ℕ) → Searched buffer at 0
 unfolding first
-searched-start buffer at = record { passed = omega arith; none = λ s t h. refl }
+searched-start buffer at = record { passed = omega arith; none = λ o h. refl }
 
 -- The search in piece k: it lies in the buffer from x up to y, and i letters stand before its first back-step
 pub record InPiece (buffer at : List ℕ) (k x y i : ℕ) : Type 0 where
@@ -138,45 +139,45 @@ pub record InPiece (buffer at : List ℕ) (k x y i : ℕ) : Type 0 where
   pub ends : y ≡ getD at (k + 1) 0
   pub rises : x ≤ y
   pub within : y ≤ length buffer
-  pub stops : i ≡ first (λ j. stray (frameOf k) (getD (take (y - x) (drop x buffer)) j 0)) (length (take (y - x) (drop x buffer)))
+  pub stops : i ≡ first (λ j. isBackStep (frameOf k) (getD (take (y - x) (drop x buffer)) j 0)) (length (take (y - x) (drop x buffer)))
 
 module _ {buffer at : List ℕ} {k x y i : ℕ} (p : InPiece buffer at k x y i) where
-  in-piece : {s : Point} {t : List ℕ} → Laid s t at buffer → take (y - x) (drop x buffer) ≡ piece s t k
+  in-piece : {o : Outline} → Laid o at buffer → take (y - x) (drop x buffer) ≡ piece o k
   in-piece h = rw (p .begins, p .ends, add-one) (laid-piece h k (p .piece-lt))
 
-  in-stray : {s : Point} {t : List ℕ} → Laid s t at buffer → i ≡ strayAt s t k
-  unfolding strayAt
-  in-stray {s} {t} h = p .stops ∙ ap (λ (u : List ℕ). first (λ j. stray (frameOf k) (getD u j 0)) (length u)) (in-piece h)
+  in-back-step : {o : Outline} → Laid o at buffer → i ≡ backStepAt o k
+  unfolding backStepAt
+  in-back-step {o} h = p .stops ∙ ap (λ (u : List ℕ). first (λ j. isBackStep (frameOf k) (getD u j 0)) (length u)) (in-piece h)
 
   pub searched-next : length (take (y - x) (drop x buffer)) ≤ i → Searched buffer at (k + 1)
   searched-next l =
       record {
         passed = omega (arith, p .piece-lt);
-        none = λ s t h.
-            first-step (strayed s t) k (p .searched .none s t h)
-            (le-ltb (strayAt s t k) (length (piece s t k)) (omega (arith, ap length (in-piece h), in-stray h)));
+        none = λ o h.
+            first-step (hasBackStep o) k (p .searched .none o h)
+            (le-ltb (backStepAt o k) (length (piece o k)) (omega (arith, ap length (in-piece h), in-back-step h)));
       }
 
   pub searched-found : i < length (take (y - x) (drop x buffer)) → FoundAt buffer at k (x + i)
-  unfolding strayPiece
+  unfolding backStepPiece
   searched-found l =
       let m : length (take (y - x) (drop x buffer)) ≤ y - x = simp length-take (omega arith) in
       record {
         piece-lt = p .piece-lt;
         at-le = omega (arith, p .rises, p .within);
-        step = λ s t h.
+        step = λ o h.
             record {
               piece =
-                  sym (first-stop (strayed s t) 4 k (p .searched .none s t h)
-                  (lt-ltb (strayAt s t k) (length (piece s t k)) (omega (arith, ap length (in-piece h), in-stray h))) (p .piece-lt));
-              at = omega (arith, p .begins, h .places k (omega arith), in-stray h);
+                  sym (first-stop (hasBackStep o) 4 k (p .searched .none o h)
+                  (lt-ltb (backStepAt o k) (length (piece o k)) (omega (arith, ap length (in-piece h), in-back-step h))) (p .piece-lt));
+              at = omega (arith, p .begins, h .places k (omega arith), in-back-step h);
             };
       }
 
 pub searched-end : {buffer at : List ℕ} {k : ℕ} → Searched buffer at k → 4 ≤ k → Found buffer at None
-unfolding strayPiece
-searched-end {k = k} p l s t h = let e : k ≡ 4 = omega (arith, p .passed) in rw e at (p .none s t h)
+unfolding backStepPiece
+searched-end {k = k} p l o h = let e : k ≡ 4 = omega (arith, p .passed) in rw e at (p .none o h)
 
 -- The cut places are none of a turn whose pieces lie in the buffer
 pub searched-off : (buffer at : List ℕ) (k : ℕ) → k < 4 → (getD at k 0 ≤ getD at (k + 1) 0 → getD at (k + 1) 0 ≤ length buffer → ⊥) → Found buffer at None
-searched-off buffer at k l off s t h = absurd (off (rw add-one (laid-rising h k l)) (rw add-one (laid-within h (suc k) l)))
+searched-off buffer at k l off o h = absurd (off (rw add-one (laid-rising h k l)) (rw add-one (laid-within h (suc k) l)))

@@ -7,7 +7,9 @@ use mathlib.Core.Path.{_≡_, refl, sym, ap, _∙_}
 use mathlib.Core.List.{List, [], _∷_, _++_, append-assoc}
 use lib.ListN.{length, getD, take, set, length-set, length-append, length-take, List·getD-append}
 use lib.Seq.{take-suc, take-suc-set, take-set-le, take-all, take-take, take-append-le, getD-take, getD-append-add, length-take-le}
-use Rattle.lattice.proofs.WalkLaws.{point, rotation, length-rotation, letter-rotation-before, letter-rotation-after}
+use Rattle.chart.specs.Outline.{outline}
+use Rattle.lattice.specs.Chart.{rotation}
+use Rattle.lattice.proofs.WalkLaws.{point, length-rotation, letter-rotation-before, letter-rotation-after}
 use Rattle.convexity.specs.Pieces.{rounds}
 use Rattle.border.specs.Cutting.{Turned, Rounded}
 
@@ -34,22 +36,22 @@ module _ {w : List ℕ} {from : ℕ} {before buffer : List ℕ} {i : ℕ} (t : T
       record {
         sized = simp length-set (t .sized);
         passed = omega arith;
-        letters = store buffer (rotation from w) i a (omega (arith, t .sized)) (omega (arith, length-rotation (point 0 0) w from k)) e (t .letters);
+        letters = store buffer (rotation from w) i a (omega (arith, t .sized)) (omega (arith, length-rotation (outline (point 0 0) w) from k)) e (t .letters);
       }
 
   -- The letter before the list's end, and past it
   pub turning-on : i < length w - from → Turning w from before (set buffer i (getD w (from + i) 0)) (i + 1)
-  turning-on l = turning-store (getD w (from + i) 0) (sym (letter-rotation-before (point 0 0) w from k i (omega arith)))
+  turning-on l = turning-store (getD w (from + i) 0) (sym (letter-rotation-before (outline (point 0 0) w) from k i (omega arith)))
 
   pub turning-round : length w - from ≤ i → Turning w from before (set buffer i (getD w (i - (length w - from)) 0)) (i + 1)
   turning-round l =
       turning-store (getD w (i - (length w - from)) 0)
-      (ap (λ (j : ℕ). getD w j 0) (omega arith) ∙ sym (letter-rotation-after (point 0 0) w from k i (omega arith) h))
+      (ap (λ (j : ℕ). getD w j 0) (omega arith) ∙ sym (letter-rotation-after (outline (point 0 0) w) from k i (omega arith) h))
 
 pub turning-end : {w : List ℕ} {from : ℕ} {before buffer : List ℕ} {i : ℕ} → Turning w from before buffer i → length w ≤ i → Turned w from before buffer
 turning-end {w} {from} {buffer = buffer} {i} t l k room =
     let e : i ≡ length w = omega (arith, t .passed) in
-    ap (λ (j : ℕ). take j buffer) (sym e) ∙ t .letters ∙ take-all i (rotation from w) (omega (arith, length-rotation (point 0 0) w from k))
+    ap (λ (j : ℕ). take j buffer) (sym e) ∙ t .letters ∙ take-all i (rotation from w) (omega (arith, length-rotation (outline (point 0 0) w) from k))
 
 -- ---- the rounds
 

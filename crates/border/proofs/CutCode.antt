@@ -13,9 +13,10 @@ use lib.Seq.{getD-set-same, getD-set-other}
 use lib.Dec.{ltb, eqb}
 use borrow.Author.Tests.{ltb-true, ltb-false, lt-ltb, le-ltb, eqb-true, eqb-false}
 use Rattle.base.proofs.BelowLaws.{below-suc, first-before}
-use Rattle.chart.specs.Limits.{side}
+use Rattle.chart.specs.Limits.{side, longest}
 use Rattle.chart.specs.declared.Point.{Point}
-use Rattle.lattice.specs.Chart.{leaves, stepped, cornerAt}
+use Rattle.chart.specs.Outline.{Outline}
+use Rattle.lattice.specs.Chart.{leaves, stepped, cornerAt, size, letterAt}
 use Rattle.lattice.specs.Refusals.{leavingPlace, Stays}
 use Rattle.lattice.proofs.WalkLaws.{corner-zero, corner-suc}
 use Rattle.lattice.proofs.WalkCode.{stepped-staying}
@@ -58,58 +59,58 @@ before-ranks p q {r = r} h hp hq =
     digits-order (along (r .earlier) p) (along (r .earlier) q) (along (r .later) p) (along (r .later) q) hp hq ∙ rw (h .earlier, h .later)
 
 -- No letter of a walk that stays on the chart leaves it
-pub stays-at : (s : Point) (w : List ℕ) → Stays s w → (i : ℕ) → i < length w → leaves (cornerAt s w i) (getD w i 0) ≡ false
+pub stays-at : (o : Outline) → Stays o → (i : ℕ) → i < size o → leaves (cornerAt o i) (letterAt o i) ≡ false
 unfolding leavingPlace
-stays-at s w t i l =
-    first-before (λ i. leaves (cornerAt s w i) (getD w i 0)) (length w) i (omega (arith, ltb-false (leavingPlace s w) (length w) t))
+stays-at o t i l =
+    first-before (λ i. leaves (cornerAt o i) (letterAt o i)) (size o) i (omega (arith, ltb-false (leavingPlace o) (size o) t))
 
 -- The corner that the next letter reaches
-pub step-reached : (s : Point) (w : List ℕ) (i : ℕ) {p q : Point} → Stays s w → i < length w → p ≡ cornerAt s w i → q ≡ stepped p (getD w i 0)
-    → q ≡ cornerAt s w (i + 1)
-step-reached s w i t l reached step =
-    step ∙ ap (λ (x : Point). stepped x (getD w i 0)) reached ∙ stepped-staying (cornerAt s w i) (getD w i 0) (stays-at s w t i l)
-    ∙ sym (corner-suc s w i l) ∙ ap (cornerAt s w) (sym (add-one i))
+pub step-reached : (o : Outline) (i : ℕ) {p q : Point} → Stays o → i < size o → p ≡ cornerAt o i → q ≡ stepped p (letterAt o i)
+    → q ≡ cornerAt o (i + 1)
+step-reached o i t l reached step =
+    step ∙ ap (λ (x : Point). stepped x (letterAt o i)) reached ∙ stepped-staying (cornerAt o i) (letterAt o i) (stays-at o t i l)
+    ∙ sym (corner-suc o i l) ∙ ap (cornerAt o) (sym (add-one i))
 
 -- The order of the places of a walk by their corners, in the frame of piece k
-abbrev pub placesBefore : Point → List ℕ → ℕ → ℕ → ℕ → Bool
-placesBefore s w k i j = before (frameOf k) (cornerAt s w i) (cornerAt s w j)
+abbrev pub placesBefore : Outline → ℕ → ℕ → ℕ → Bool
+placesBefore o k i j = before (frameOf k) (cornerAt o i) (cornerAt o j)
 
 -- After i letters of a walk: the place and the corner that come first so far, and the corner reached
-pub record Scanned (s : Point) (w : List ℕ) (k place : ℕ) (corner p : Point) (i : ℕ) : Type 0 where
-  pub passed : i ≤ length w
+pub record Scanned (o : Outline) (k place : ℕ) (corner p : Point) (i : ℕ) : Type 0 where
+  pub passed : i ≤ size o
   pub within : place ≤ i - 1
-  pub reached : Stays s w → p ≡ cornerAt s w i
-  pub best : Stays s w → place ≡ least (placesBefore s w k) i
-  pub held : Stays s w → corner ≡ cornerAt s w place
+  pub reached : Stays o → p ≡ cornerAt o i
+  pub best : Stays o → place ≡ least (placesBefore o k) i
+  pub held : Stays o → corner ≡ cornerAt o place
 
-pub scanned-start : (s : Point) (w : List ℕ) (k : ℕ) → Scanned s w k 0 s s 0
+pub scanned-start : (o : Outline) (k : ℕ) → Scanned o k 0 (o .start) (o .start) 0
 unfolding least
-scanned-start s w k =
+scanned-start o k =
     record {
       passed = omega arith;
       within = omega arith;
-      reached = λ h. sym (corner-zero s w);
+      reached = λ h. sym (corner-zero o);
       best = λ h. refl;
-      held = λ h. sym (corner-zero s w);
+      held = λ h. sym (corner-zero o);
     }
 
-module _ {s : Point} {w : List ℕ} {k place : ℕ} {corner p q : Point} {i : ℕ} (h : Scanned s w k place corner p i) (l : i < length w)
-    (step : q ≡ stepped p (getD w i 0)) where
-  next-reached : Stays s w → q ≡ cornerAt s w (i + 1)
-  next-reached t = step-reached s w i t l (h .reached t) step
+module _ {o : Outline} {k place : ℕ} {corner p q : Point} {i : ℕ} (h : Scanned o k place corner p i) (l : i < size o)
+    (step : q ≡ stepped p (letterAt o i)) where
+  next-reached : Stays o → q ≡ cornerAt o (i + 1)
+  next-reached t = step-reached o i t l (h .reached t) step
 
-  comes : Stays s w → (b : Bool) → b ≡ before (frameOf k) p corner
-      → least (placesBefore s w k) (i + 1) ≡ cond b i place
+  comes : Stays o → (b : Bool) → b ≡ before (frameOf k) p corner
+      → least (placesBefore o k) (i + 1) ≡ cond b i place
   unfolding least
   comes t b e =
       let f = h .reached t in
       let g = h .best t in
       let d = h .held t in
-      let o : before (frameOf k) (cornerAt s w i) (cornerAt s w (least (placesBefore s w k) i)) ≡ b = cc in
+      let o : before (frameOf k) (cornerAt o i) (cornerAt o (least (placesBefore o k) i)) ≡ b = cc in
       rw add-one (cc)
 
   -- The corner reached comes before the first so far, and is the first from now on
-  pub scanned-first : true ≡ before (frameOf k) p corner → Scanned s w k i p q (i + 1)
+  pub scanned-first : true ≡ before (frameOf k) p corner → Scanned o k i p q (i + 1)
   scanned-first e =
       record {
         passed = omega arith;
@@ -119,7 +120,7 @@ module _ {s : Point} {w : List ℕ} {k place : ℕ} {corner p q : Point} {i : �
         held = h .reached;
       }
 
-  pub scanned-later : false ≡ before (frameOf k) p corner → Scanned s w k place corner q (i + 1)
+  pub scanned-later : false ≡ before (frameOf k) p corner → Scanned o k place corner q (i + 1)
   scanned-later e =
       record {
         passed = omega arith;
@@ -129,59 +130,59 @@ module _ {s : Point} {w : List ℕ} {k place : ℕ} {corner p q : Point} {i : �
         held = h .held;
       }
 
-pub scanned-end : {s : Point} {w : List ℕ} {k place : ℕ} {corner p : Point} {i : ℕ} → Scanned s w k place corner p i → length w ≤ i → CornerFound s w k place
+pub scanned-end : {o : Outline} {k place : ℕ} {corner p : Point} {i : ℕ} → Scanned o k place corner p i → size o ≤ i → CornerFound o k place
 unfolding cornerPlace
-scanned-end {s} {w} {k} {i = i} h l =
-    let e : i ≡ length w = omega (arith, h .passed) in
-    record { within = omega (arith, h .within); place = λ t. h .best t ∙ ap (least (placesBefore s w k)) e }
+scanned-end {o} {k} {i = i} h l =
+    let e : i ≡ size o = omega (arith, h .passed) in
+    record { within = omega (arith, h .within); place = λ t. h .best t ∙ ap (least (placesBefore o k)) e }
 
 -- The same, where the first corner so far is kept by its rank in a pair r
-pub record Ranking (s : Point) (w : List ℕ) (k : ℕ) (r : Pair) (place least : ℕ) (p : Point) (i : ℕ) : Type 0 where
+pub record Ranking (o : Outline) (k : ℕ) (r : Pair) (place least : ℕ) (p : Point) (i : ℕ) : Type 0 where
   pub corner : Point
-  pub scanned : Scanned s w k place corner p i
+  pub scanned : Scanned o k place corner p i
   pub rank : least ≡ rankOf r corner
   pub small : along (r .later) corner < 65536
 
-pub ranking-start : (s : Point) (w : List ℕ) (k : ℕ) {r : Pair} {n : ℕ} → (n ≡ rankOf r s) × (along (r .later) s < 65536) → Ranking s w k r 0 n s 0
-ranking-start s w k h = record { corner = s; scanned = scanned-start s w k; rank = h .0; small = h .1 }
+pub ranking-start : (o : Outline) (k : ℕ) {r : Pair} {n : ℕ} → (n ≡ rankOf r (o .start)) × (along (r .later) (o .start) < 65536) → Ranking o k r 0 n (o .start) 0
+ranking-start o k h = record { corner = o .start; scanned = scanned-start o k; rank = h .0; small = h .1 }
 
-module _ {s : Point} {w : List ℕ} {k place n m : ℕ} {r : Pair} {p q : Point} {i : ℕ} (f : PairOf (frameOf k) r) (h : Ranking s w k r place n p i)
-    (l : i < length w) (step : q ≡ stepped p (getD w i 0)) (here : (m ≡ rankOf r p) × (along (r .later) p < 65536)) where
+module _ {o : Outline} {k place n m : ℕ} {r : Pair} {p q : Point} {i : ℕ} (f : PairOf (frameOf k) r) (h : Ranking o k r place n p i)
+    (l : i < size o) (step : q ≡ stepped p (letterAt o i)) (here : (m ≡ rankOf r p) × (along (r .later) p < 65536)) where
   order : ltb m n ≡ before (frameOf k) p (h .corner)
   order = rw (here .0, h .rank) (before-ranks p (h .corner) f (here .1) (h .small))
 
-  pub ranking-first : m < n → Ranking s w k r i m q (i + 1)
+  pub ranking-first : m < n → Ranking o k r i m q (i + 1)
   ranking-first lt =
       record { corner = p; scanned = scanned-first (h .scanned) l step (sym (lt-ltb m n lt) ∙ order); rank = here .0; small = here .1 }
 
-  pub ranking-later : n ≤ m → Ranking s w k r place n q (i + 1)
+  pub ranking-later : n ≤ m → Ranking o k r place n q (i + 1)
   ranking-later le =
       record { corner = h .corner; scanned = scanned-later (h .scanned) l step (sym (le-ltb m n le) ∙ order); rank = h .rank; small = h .small }
 
 -- The corner at which piece k ends
-module _ (s : Point) (t : List ℕ) (k : ℕ) where
-  pub corner-next : k < 3 → {r : ℕ} → CornerFound s t (k + 1) r → Stays s t → r ≡ cutCorner s t (suc k)
+module _ (o : Outline) (k : ℕ) where
+  pub corner-next : k < 3 → {r : ℕ} → CornerFound o (k + 1) r → Stays o → r ≡ cutCorner o (suc k)
   unfolding cutCorner
-  corner-next h {r} f e = rw (lt-ltb k 3 h) (f .place e ∙ ap (cornerPlace s t) (add-one k))
+  corner-next h {r} f e = rw (lt-ltb k 3 h) (f .place e ∙ ap (cornerPlace o) (add-one k))
 
-  pub corner-last : 3 ≤ k → 0 ≡ cutCorner s t (suc k)
+  pub corner-last : 3 ≤ k → 0 ≡ cutCorner o (suc k)
   unfolding cutCorner
   corner-last h = rw (le-ltb k 3 h)
 
 -- After k pieces: the cut places so far, the last of them, and the corner there
-pub record Cutting (s : Point) (t at : List ℕ) (sum from k : ℕ) : Type 0 where
+pub record Cutting (o : Outline) (at : List ℕ) (sum from k : ℕ) : Type 0 where
   pub five : length at ≡ 5
   pub passed : k ≤ 4
   pub last : getD at k 0 ≡ sum
   pub rising : (j : ℕ) → j < k → getD at j 0 ≤ getD at (suc j) 0
-  pub around : sum ≤ k * length t
-  pub within : from ≤ length t - 1
-  pub corner : Stays s t → from ≡ cutCorner s t k
-  pub places : Stays s t → (j : ℕ) → j ≤ k → getD at j 0 ≡ cut s t j
+  pub around : sum ≤ k * size o
+  pub within : from ≤ size o - 1
+  pub corner : Stays o → from ≡ cutCorner o k
+  pub places : Stays o → (j : ℕ) → j ≤ k → getD at j 0 ≡ cut o j
 
-pub cutting-start : (s : Point) (t : List ℕ) → Cutting s t (replicate 5 0) 0 0 0
+pub cutting-start : (o : Outline) → Cutting o (replicate 5 0) 0 0 0
 unfolding cut cutCorner
-cutting-start s t =
+cutting-start o =
     record {
       five = refl;
       passed = omega arith;
@@ -193,15 +194,15 @@ cutting-start s t =
       places = λ e j h. let z : j ≡ 0 = omega arith in rw z;
     }
 
-module _ {s : Point} {t at : List ℕ} {sum from k to d : ℕ} (c : Cutting s t at sum from k) (h : k < 4) (on : d ≡ ahead (length t) from to)
-    (l : to ≤ length t - 1) (same : Stays s t → to ≡ cutCorner s t (suc k)) where
+module _ {o : Outline} {at : List ℕ} {sum from k to d : ℕ} (c : Cutting o at sum from k) (h : k < 4) (on : d ≡ ahead (size o) from to)
+    (l : to ≤ size o - 1) (same : Stays o → to ≡ cutCorner o (suc k)) where
   earlier-place : (j : ℕ) → j ≤ k → getD (set at (suc k) (sum + d)) j 0 ≡ getD at j 0
   earlier-place j m = getD-set-other at (suc k) j (sum + d) 0 (λ e. omega arith)
 
   this-place : getD (set at (suc k) (sum + d)) (suc k) 0 ≡ sum + d
   this-place = getD-set-same at (suc k) (sum + d) 0 (omega (arith, c .five))
 
-  pub cutting-next : Cutting s t (set at (k + 1) (sum + d)) (sum + d) to (k + 1)
+  pub cutting-next : Cutting o (set at (k + 1) (sum + d)) (sum + d) to (k + 1)
   unfolding cut
   cutting-next =
       rw add-one
@@ -213,12 +214,12 @@ module _ {s : Point} {t at : List ℕ} {sum from k to d : ℕ} (c : Cutting s t 
           | inl e ↦ rw e (omega (arith, earlier-place k (omega arith), this-place, c .last))
           | inr m′ ↦ omega (arith, earlier-place j (omega arith), earlier-place (suc j) m′, c .rising j m′)
         ];
-        around = rw suc-mul (omega (arith, c .around, ahead-le (length t) from to (omega (arith, c .within)) (omega arith)));
+        around = rw suc-mul (omega (arith, c .around, ahead-le (size o) from to (omega (arith, c .within)) (omega arith)));
         within = l;
         corner = same;
         places = λ e j m. elim (below-suc j (suc k) (omega arith)) [
           | inl z ↦
-              let a : sum ≡ cut s t k = sym (c .last) ∙ c .places e k (omega arith) in
+              let a : sum ≡ cut o k = sym (c .last) ∙ c .places e k (omega arith) in
               let b = c .corner e in
               let g = same e in
               rw z (this-place ∙ cc)
@@ -226,10 +227,10 @@ module _ {s : Point} {t at : List ℕ} {sum from k to d : ℕ} (c : Cutting s t 
         ];
       })
 
-pub cutting-end : {s : Point} {t at : List ℕ} {sum from k : ℕ} → Cutting s t at sum from k → 4 ≤ k → length t ≤ 2048 → CutsOf s t at
-cutting-end {s} {t} {at} {sum} {from} {k} c h short =
+pub cutting-end : {o : Outline} {at : List ℕ} {sum from k : ℕ} → Cutting o at sum from k → 4 ≤ k → size o ≤ longest → CutsOf o at
+cutting-end {o} {at} {sum} {from} {k} c h short =
     let e : k ≡ 4 = omega (arith, c .passed) in
-    let l : getD at 4 0 ≤ 4 * length t = omega (arith, rw e at (c .last), rw e at (c .around)) in
+    let l : getD at 4 0 ≤ 4 * size o = omega (arith, rw e at (c .last), rw e at (c .around)) in
     record {
       five = c .five;
       rising = λ j m. c .rising j (omega arith);
@@ -239,8 +240,8 @@ cutting-end {s} {t} {at} {sum} {from} {k} c h short =
     }
 
 -- No cut places: too many letters
-pub no-cuts : (s : Point) (t : List ℕ) → 2048 < length t → CutsOf s t (replicate 5 0)
-no-cuts s t h =
+pub no-cuts : (o : Outline) → longest < size o → CutsOf o (replicate 5 0)
+no-cuts o h =
     record {
       five = refl;
       rising = λ j m. omega (arith, getD-replicate {A = ℕ} 5 j 0 0 (omega arith), getD-replicate {A = ℕ} 5 (suc j) 0 0 (omega arith));

@@ -5,12 +5,10 @@ use native.Mathlib.Decide.{decLe}
 use native.Mathlib.Omega.{arith}
 use mathlib.Core.Path.{_≡_}
 use mathlib.Core.Bool.{Bool, true, false, cond}
-use mathlib.Core.List.{List}
-use lib.ListN.{length}
 use lib.Dec.{ltb}
 use borrow.Author.Tests.{le-leb, lt-leb}
-use Rattle.chart.specs.declared.Point.{Point}
-use Rattle.lattice.specs.Chart.{cornerAt}
+use Rattle.chart.specs.Outline.{Outline}
+use Rattle.lattice.specs.Chart.{cornerAt, size}
 use Rattle.convexity.specs.Frame.{frameOf}
 use Rattle.convexity.specs.Cut.{before, least, cornerPlace, ahead, cutCorner, cut}
 use Rattle.convexity.proofs.Extreme.{least-lt}
@@ -35,33 +33,33 @@ unfolding least
 least-le lt zero = omega arith
 least-le lt (suc n) = omega (arith, least-lt lt (suc n) (omega arith))
 
-module _ (s : Point) (t : List ℕ) where
-  pub cornerPlace-le : (k : ℕ) → cornerPlace s t k ≤ length t - 1
+module _ (o : Outline) where
+  pub cornerPlace-le : (k : ℕ) → cornerPlace o k ≤ size o - 1
   unfolding cornerPlace
-  cornerPlace-le k = least-le (λ i j. before (frameOf k) (cornerAt s t i) (cornerAt s t j)) (length t)
+  cornerPlace-le k = least-le (λ i j. before (frameOf k) (cornerAt o i) (cornerAt o j)) (size o)
 
-  pub cutCorner-le : (k : ℕ) → cutCorner s t k ≤ length t - 1
+  pub cutCorner-le : (k : ℕ) → cutCorner o k ≤ size o - 1
   unfolding cutCorner
   cutCorner-le zero = omega arith
   cutCorner-le (suc k) = go (ltb k 3)
     where
-      go : (b : Bool) → cond b (cornerPlace s t (suc k)) 0 ≤ length t - 1
+      go : (b : Bool) → cond b (cornerPlace o (suc k)) 0 ≤ size o - 1
       go true = cornerPlace-le (suc k)
       go false = omega arith
 
-  pub cut-le-suc : (k : ℕ) → cut s t k ≤ cut s t (suc k)
+  pub cut-le-suc : (k : ℕ) → cut o k ≤ cut o (suc k)
   unfolding cut
   cut-le-suc k = omega arith
 
-  pub cut-suc-le : (k : ℕ) → cut s t (suc k) ≤ cut s t k + length t
+  pub cut-suc-le : (k : ℕ) → cut o (suc k) ≤ cut o k + size o
   unfolding cut
   cut-suc-le k =
       omega (
         arith,
-        ahead-le (length t) (cutCorner s t k) (cutCorner s t (suc k)) (omega (arith, cutCorner-le k)) (omega (arith, cutCorner-le (suc k))),
+        ahead-le (size o) (cutCorner o k) (cutCorner o (suc k)) (omega (arith, cutCorner-le k)) (omega (arith, cutCorner-le (suc k))),
       )
 
-  pub cut-le-cut : (i j : ℕ) → i ≤ j → cut s t i ≤ cut s t j
+  pub cut-le-cut : (i j : ℕ) → i ≤ j → cut o i ≤ cut o j
   cut-le-cut i zero h = let e : i ≡ 0 = omega arith in rw e (omega arith)
   cut-le-cut i (suc j) h =
       elim (decLe i j) [
@@ -69,7 +67,7 @@ module _ (s : Point) (t : List ℕ) where
         | no l ↦ let e : i ≡ suc j = omega arith in rw e (omega arith)
       ]
 
-  pub cut-le : (k : ℕ) → cut s t k ≤ k * length t
+  pub cut-le : (k : ℕ) → cut o k ≤ k * size o
   unfolding cut
   cut-le zero = omega arith
   cut-le (suc k) = rw suc-mul (omega (arith, cut-le k, cut-suc-le k))

@@ -4,7 +4,7 @@ use native.Mathlib.Decide.{decLt}
 use native.Mathlib.Numerals.{add-one}
 use native.Mathlib.Omega.{arith}
 use mathlib.Core.Path.{_≡_, refl, sym, ap, _∙_}
-use mathlib.Core.Bool.{Bool, true, false}
+use mathlib.Core.Bool.{Bool}
 use mathlib.Core.List.{List, [], _∷_, _++_, append-assoc}
 use lib.ListN.{length, getD, take, drop, length-take, length-drop, take-append-drop}
 use lib.Seq.{take-nil, drop-drop}
@@ -14,9 +14,9 @@ use borrow.Author.Tests.{lt-ltb, le-ltb}
 use Rattle.base.specs.Below.{first}
 use Rattle.base.proofs.BelowLaws.{first-step, first-stop}
 use Rattle.chart.specs.Limits.{longest}
-use Rattle.chart.specs.declared.Point.{Point}
+use Rattle.chart.specs.Outline.{Outline}
+use Rattle.lattice.specs.Chart.{size}
 use Rattle.convexity.specs.Frame.{frameOf}
-use Rattle.convexity.specs.Cut.{cut}
 use Rattle.convexity.specs.Pieces.{piece, word, factors, dentAt, dentLength, dentPiece, edgesOf, edges, edgeCount}
 use Rattle.border.specs.declared.dents.InWord.{InWord}
 use Rattle.border.specs.declared.dents.InWord.the-variants.{Edges as WordEdges, Dent as WordDent}
@@ -67,24 +67,24 @@ module _ {buffer : List ℕ} {from to k count : ℕ} {before : List ℤ} where
 
 -- ---- the edges of the first pieces
 
-unfoldable pub countUpTo : Point → List ℕ → ℕ → ℕ
-countUpTo s t zero = 0
-countUpTo s t (suc k) = countUpTo s t k + length (factors s t k)
+unfoldable pub countUpTo : Outline → ℕ → ℕ
+countUpTo o zero = 0
+countUpTo o (suc k) = countUpTo o k + length (factors o k)
 
-unfoldable pub edgesUpTo : Point → List ℕ → ℕ → List ℤ
-edgesUpTo s t zero = []
-edgesUpTo s t (suc k) = edgesUpTo s t k ++ edgesOf (frameOf k) (factors s t k)
+unfoldable pub edgesUpTo : Outline → ℕ → List ℤ
+edgesUpTo o zero = []
+edgesUpTo o (suc k) = edgesUpTo o k ++ edgesOf (frameOf k) (factors o k)
 
-module _ (s : Point) (t : List ℕ) where
-  count-all : countUpTo s t 4 ≡ edgeCount s t
+module _ (o : Outline) where
+  count-all : countUpTo o 4 ≡ edgeCount o
   unfolding countUpTo edgeCount
   count-all = omega arith
 
-  edges-all : edgesUpTo s t 4 ≡ edges s t
+  edges-all : edgesUpTo o 4 ≡ edges o
   unfolding edgesUpTo edges
   edges-all = simp append-assoc
 
-  count-le : (k : ℕ) → k < 4 → countUpTo s t k + length (factors s t k) ≤ edgeCount s t
+  count-le : (k : ℕ) → k < 4 → countUpTo o k + length (factors o k) ≤ edgeCount o
   unfolding countUpTo edgeCount
   count-le zero h = omega arith
   count-le (suc zero) h = omega arith
@@ -95,22 +95,22 @@ module _ (s : Point) (t : List ℕ) where
 -- ---- the pieces
 
 -- The piece has a dent
-abbrev pub dented : Point → List ℕ → ℕ → Bool
-dented s t k = ltb 0 (dentLength (factors s t k))
+abbrev pub dented : Outline → ℕ → Bool
+dented o k = ltb 0 (dentLength (factors o k))
 
 -- After the first k pieces, with their edges in the list
 pub record Passed (buffer at : List ℕ) (before list : List ℤ) (count k : ℕ) : Type 0 where
   pub passed : k ≤ 4
   pub same : length list ≡ length before
-  pub none : (s : Point) (t : List ℕ) → length t ≤ longest → Laid s t at buffer → first (dented s t) k ≡ k
-  pub beyond : (s : Point) (t : List ℕ) → length t ≤ longest → Laid s t at buffer → 2 * edgeCount s t ≤ length before → drop (2 * count) list ≡ drop (2 * count) before
-  pub counted : (s : Point) (t : List ℕ) → length t ≤ longest → Laid s t at buffer → 2 * edgeCount s t ≤ length before → count ≡ countUpTo s t k
-  pub edges : (s : Point) (t : List ℕ) → length t ≤ longest → Laid s t at buffer → 2 * edgeCount s t ≤ length before → take (2 * count) list ≡ edgesUpTo s t k
+  pub none : (o : Outline) → size o ≤ longest → Laid o at buffer → first (dented o) k ≡ k
+  pub beyond : (o : Outline) → size o ≤ longest → Laid o at buffer → 2 * edgeCount o ≤ length before → drop (2 * count) list ≡ drop (2 * count) before
+  pub counted : (o : Outline) → size o ≤ longest → Laid o at buffer → 2 * edgeCount o ≤ length before → count ≡ countUpTo o k
+  pub edges : (o : Outline) → size o ≤ longest → Laid o at buffer → 2 * edgeCount o ≤ length before → take (2 * count) list ≡ edgesUpTo o k
 
 pub passed-start : (buffer at : List ℕ) (before : List ℤ) → Passed buffer at before before 0 0
 unfolding first countUpTo edgesUpTo
 passed-start buffer at before =
-    record { passed = omega arith; same = refl; none = λ s t h l. refl; beyond = λ s t h l room. refl; counted = λ s t h l room. refl; edges = λ s t h l room. refl }
+    record { passed = omega arith; same = refl; none = λ o h l. refl; beyond = λ o h l room. refl; counted = λ o h l room. refl; edges = λ o h l room. refl }
 
 -- Piece k lies in the buffer from x up to y, and is read
 pub record Read (buffer at : List ℕ) (before list : List ℤ) (count k x y : ℕ) (after : List ℤ) (r : InWord) : Type 0 where
@@ -122,54 +122,54 @@ pub record Read (buffer at : List ℕ) (before list : List ℤ) (count k x y : �
   pub found : PieceRead buffer x y k count list after r
 
 module _ {buffer at : List ℕ} {before list : List ℤ} {count k x y : ℕ} {after : List ℤ} where
-  module _ {r : InWord} (p : Read buffer at before list count k x y after r) {s : Point} {t : List ℕ} (h : Laid s t at buffer) where
-    read-factors : factorsIn k (drop 1 (take (y - x) (drop x buffer))) ≡ factors s t k
+  module _ {r : InWord} (p : Read buffer at before list count k x y after r) {o : Outline} (h : Laid o at buffer) where
+    read-factors : factorsIn k (drop 1 (take (y - x) (drop x buffer))) ≡ factors o k
     unfolding factors word
     read-factors =
-        let letters : take (y - x) (drop x buffer) ≡ piece s t k = rw (p .begins, p .ends, add-one) (laid-piece h k (p .piece-lt)) in
+        let letters : take (y - x) (drop x buffer) ≡ piece o k = rw (p .begins, p .ends, add-one) (laid-piece h k (p .piece-lt)) in
         ap (λ (u : List ℕ). factorsIn k (drop 1 u)) letters
 
-    read-word : length t ≤ longest → WordRead k (drop 1 (take (y - x) (drop x buffer))) count list after r
+    read-word : size o ≤ longest → WordRead k (drop 1 (take (y - x) (drop x buffer))) count list after r
     read-word short =
         let a = p .begins ∙ h .places k (omega (arith, p .piece-lt)) in
         let b = p .ends ∙ ap (λ (i : ℕ). getD at i 0) (add-one k) ∙ h .places (suc k) (p .piece-lt) in
-        p .found .word (omega (arith, cut-le-suc s t k)) (omega (arith, cut-le-cut s t (suc k) 4 (p .piece-lt), h .within)) (omega (arith, cut-suc-le s t k))
+        p .found .word (omega (arith, cut-le-suc o k)) (omega (arith, cut-le-cut o (suc k) 4 (p .piece-lt), h .within)) (omega (arith, cut-suc-le o k))
 
   -- Its edges stand behind those of the pieces before it
   module _ {n : ℕ} (p : Read buffer at before list count k x y after (WordEdges n)) where
-    module _ {s : Point} {t : List ℕ} (short : length t ≤ longest) (h : Laid s t at buffer) where
+    module _ {o : Outline} (short : size o ≤ longest) (h : Laid o at buffer) where
       abbrev put : EdgesPut k (drop 1 (take (y - x) (drop x buffer))) count list after n
       put = read-word p h short
 
-      smooth : dentLength (factors s t k) ≡ 0
+      smooth : dentLength (factors o k) ≡ 0
       smooth = sym (ap dentLength (read-factors p h)) ∙ put .none
 
-      module _ (room : 2 * edgeCount s t ≤ length before) where
+      module _ (room : 2 * edgeCount o ≤ length before) where
         fits : 2 * (count + length (factorsIn k (drop 1 (take (y - x) (drop x buffer))))) ≤ length list
-        fits = omega (arith, count-le s t k (p .piece-lt), p .pieces .counted s t short h room, ap length (read-factors p h), p .pieces .same)
+        fits = omega (arith, count-le o k (p .piece-lt), p .pieces .counted o short h room, ap length (read-factors p h), p .pieces .same)
 
-        more : n ≡ countUpTo s t (suc k)
+        more : n ≡ countUpTo o (suc k)
         unfolding countUpTo
-        more = omega (arith, put .count fits, p .pieces .counted s t short h room, ap length (read-factors p h))
+        more = omega (arith, put .count fits, p .pieces .counted o short h room, ap length (read-factors p h))
 
-        more-edges : take (2 * n) after ≡ edgesUpTo s t (suc k)
+        more-edges : take (2 * n) after ≡ edgesUpTo o (suc k)
         unfolding edgesUpTo
-        more-edges = put .edges fits ∙ rw (p .pieces .edges s t short h room, read-factors p h)
+        more-edges = put .edges fits ∙ rw (p .pieces .edges o short h room, read-factors p h)
 
         more-beyond : drop (2 * n) after ≡ drop (2 * n) before
         more-beyond =
-            put .beyond ∙ drop-further list before (2 * count) (2 * n) (omega (arith, put .count fits)) (p .pieces .beyond s t short h room)
+            put .beyond ∙ drop-further list before (2 * count) (2 * n) (omega (arith, put .count fits)) (p .pieces .beyond o short h room)
 
     pub passed-next : Passed buffer at before after n (k + 1)
     passed-next =
         record {
           passed = omega (arith, p .piece-lt);
           same = p .kept ∙ p .pieces .same;
-          none = λ s t short h.
-              first-step (dented s t) k (p .pieces .none s t short h) (le-ltb 0 (dentLength (factors s t k)) (omega (arith, smooth short h)));
-          beyond = λ s t short h room. more-beyond short h room;
-          counted = λ s t short h room. rw add-one (more short h room);
-          edges = λ s t short h room. rw add-one (more-edges short h room);
+          none = λ o short h.
+              first-step (dented o) k (p .pieces .none o short h) (le-ltb 0 (dentLength (factors o k)) (omega (arith, smooth short h)));
+          beyond = λ o short h room. more-beyond short h room;
+          counted = λ o short h room. rw add-one (more short h room);
+          edges = λ o short h room. rw add-one (more-edges short h room);
         }
 
   -- It has the first dent
@@ -180,14 +180,14 @@ module _ {buffer at : List ℕ} {before list : List ℤ} {count k x y : ℕ} {af
         piece-lt = p .piece-lt;
         at-le = omega (arith, p .found .within .0);
         size-le = omega (arith, p .found .within .0);
-        dent = λ s t short h.
+        dent = λ o short h.
             let d : DentIn k (drop 1 (take (y - x) (drop x buffer))) i l = read-word p h short in
-            let size : l ≡ dentLength (factors s t k) = d .size ∙ ap dentLength (read-factors p h) in
-            let place : i ≡ dentAt (factors s t k) = d .at ∙ ap dentAt (read-factors p h) in
+            let size : l ≡ dentLength (factors o k) = d .size ∙ ap dentLength (read-factors p h) in
+            let place : i ≡ dentAt (factors o k) = d .at ∙ ap dentAt (read-factors p h) in
             record {
               piece =
                   sym
-                  (first-stop (dented s t) 4 k (p .pieces .none s t short h) (lt-ltb 0 (dentLength (factors s t k)) (omega (arith, p .found .within .1)))
+                  (first-stop (dented o) 4 k (p .pieces .none o short h) (lt-ltb 0 (dentLength (factors o k)) (omega (arith, p .found .within .1)))
                   (p .piece-lt));
               at = omega (arith, p .begins, h .places k (omega (arith, p .piece-lt)));
               size = size;
@@ -196,11 +196,11 @@ module _ {buffer at : List ℕ} {before list : List ℤ} {count k x y : ℕ} {af
 
 pub passed-end : {buffer at : List ℕ} {before list : List ℤ} {count k : ℕ} → Passed buffer at before list count k → 4 ≤ k → FactorsRead buffer at before list (Edges count)
 unfolding dentPiece
-passed-end {list = list} {count = count} {k = k} p l s t short h =
+passed-end {list = list} {count = count} {k = k} p l o short h =
     let e : k ≡ 4 = omega (arith, p .passed) in
     record {
-      none = rw e at (p .none s t short h);
-      count = λ room. p .counted s t short h room ∙ rw e (count-all s t);
+      none = rw e at (p .none o short h);
+      count = λ room. p .counted o short h room ∙ rw e (count-all o);
       list = λ room.
-          sym (take-append-drop (2 * count) list) ∙ rw (p .beyond s t short h room, p .edges s t short h room, e, edges-all s t);
+          sym (take-append-drop (2 * count) list) ∙ rw (p .beyond o short h room, p .edges o short h room, e, edges-all o);
     }

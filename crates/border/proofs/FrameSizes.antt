@@ -1,5 +1,4 @@
 -- The steps of a piece's two letters are of size at most 1, as each clause of the frames shows, so a machine reads them back as they are.
--- Assumes nothing.
 use Prim.Native.Nat.{ℕ, zero, suc, _≤_}
 use native.Mathlib.Omega.{arith}
 use mathlib.Core.Path.{_≡_, _∙_}

@@ -1,29 +1,29 @@
 -- One law for each of the refusals 8 and 9 and one for an outline taken: the definition is a list of tests, and the first that holds decides.
-use Prim.Native.Nat.{ℕ, zero, suc, _+_, _-_, _*_, _≤_, _<_}
+use Prim.Native.Nat.{ℕ, _+_, _*_, _≤_, _<_}
 use native.Mathlib.Numerals.{add-one}
 use native.Mathlib.Omega.{arith}
 use mathlib.Core.Path.{_≡_, refl, sym, ap, _∙_}
-use mathlib.Core.Bool.{Bool, true, false, cond}
+use mathlib.Core.Bool.{true, false}
 use mathlib.Core.List.{List, _++_}
-use lib.ListN.{length, getD, take, drop, replicate, length-replicate}
+use lib.ListN.{length, getD, take, drop, length-replicate}
 use lib.Seq.{length-take-le}
 use lib.IntN.{ℤ, pos}
 use lib.Dec.{ltb}
-use borrow.Author.Tests.{lt-ltb, le-ltb}
+use borrow.Author.Tests.{lt-ltb}
 use Rattle.chart.specs.Limits.{side, longest, longestList}
 use Rattle.chart.specs.declared.Point.{Point}
+use Rattle.chart.specs.Outline.{Outline, outline}
 use Rattle.chart.specs.declared.Refusal.{Refusal}
 use Rattle.chart.specs.declared.Refusal.the-variants.{BackStep, Dent}
-use Rattle.chart.specs.declared.Verdict.{Verdict}
 use Rattle.chart.specs.declared.Verdict.the-variants.{Taken, Refused}
-use Rattle.lattice.specs.Chart.{cornerAt}
+use Rattle.lattice.specs.Chart.{cornerAt, size}
 use Rattle.lattice.specs.Refusals.{Simple, Stays}
 use Rattle.lattice.proofs.WalkLaws.{Walked, walked, simple-of-walked}
 use Rattle.rows.specs.Search.{foundCell}
 use Rattle.rows.proofs.RowLaws.{found-missing}
 use Rattle.convexity.specs.Frame.{frameOf, along}
-use Rattle.convexity.specs.Cut.{cornerPlace, cutCorner, west, turn, clockwise, cut}
-use Rattle.convexity.specs.Pieces.{strayAt, strayPiece, factors, dentAt, dentLength, dentPiece, sent, edges, edgeCount}
+use Rattle.convexity.specs.Cut.{cornerPlace, cutCorner, west, turn, clockwise, reading}
+use Rattle.convexity.specs.Pieces.{backStepPiece, dentPiece, sent, edges, edgeCount}
 use Rattle.convexity.proofs.Quadrant.{NoBackStep}
 use Rattle.convexity.proofs.Extreme.{cornerPlace-lt, cornerPlace-first, not-before-earlier, turn-of}
 use Rattle.convexity.proofs.Shape.{straight-of, shape}
@@ -38,71 +38,71 @@ use Rattle.border.specs.Judged.{zeros, judgedAs, judgedTurn}
 
 -- ---- the turn
 
-pub from-west : (s : Point) (w : List ℕ) → Simple s w → FromWest (west s w) (turn s w)
-from-west s w h = let t = turn-of s w h in record { simple = simple-of-walked (west s w) (turn s w) (t .walked); west = t .west }
+pub from-west : (o : Outline) → Simple o → FromWest (reading o)
+from-west o h = let t = turn-of o h in record { simple = simple-of-walked (reading o) (t .walked); west = t .west }
 
-module _ {s : Point} {t : List ℕ} (h : FromWest s t) where
-  pub turn-walked : Walked s t
-  turn-walked = walked s t (h .simple)
+module _ {o : Outline} (h : FromWest o) where
+  pub turn-walked : Walked o
+  turn-walked = walked o (h .simple)
 
-  turn-clear : clockwise t ≡ true → ltb (strayPiece s t) 4 ≡ false → NoBackStep s t
-  turn-clear c e = record { turn = record { walked = turn-walked; west = h .west }; clockwise = c; straight = straight-of s t e }
+  turn-clear : clockwise o ≡ true → ltb (backStepPiece o) 4 ≡ false → NoBackStep o
+  turn-clear c e = record { turn = record { walked = turn-walked; west = h .west }; clockwise = c; straight = straight-of o e }
 
   -- S is not above N, and N is on the chart
-  bottom-le-top : cornerAt s t (cornerPlace s t 3) .row ≤ cornerAt s t (cornerPlace s t 1) .row
+  bottom-le-top : cornerAt o (cornerPlace o 3) .row ≤ cornerAt o (cornerPlace o 1) .row
   unfolding frameOf along
   bottom-le-top =
-      not-before-earlier (frameOf 3) (cornerAt s t (cornerPlace s t 1)) (cornerAt s t (cornerPlace s t 3))
-      (cornerPlace-first s t 3 (cornerPlace s t 1) (cornerPlace-lt s t 1 (omega (arith, turn-walked .long))))
+      not-before-earlier (frameOf 3) (cornerAt o (cornerPlace o 1)) (cornerAt o (cornerPlace o 3))
+      (cornerPlace-first o 3 (cornerPlace o 1) (cornerPlace-lt o 1 (omega (arith, turn-walked .long))))
 
-  top-le-side : cornerAt s t (cornerPlace s t 1) .row ≤ side
-  top-le-side = turn-walked .row-le (cornerPlace s t 1) (omega (arith, turn-walked .long, cornerPlace-lt s t 1 (omega (arith, turn-walked .long))))
+  top-le-side : cornerAt o (cornerPlace o 1) .row ≤ side
+  top-le-side = turn-walked .row-le (cornerPlace o 1) (omega (arith, turn-walked .long, cornerPlace-lt o 1 (omega (arith, turn-walked .long))))
 
   -- A place from W on, as a place of the list as sent
-  place-sent : {v i r : ℕ} → v < length t → i ≤ 4 * longest → SentTo (length t) v i r → r ≡ sent (length t) v i
+  place-sent : {v i r : ℕ} → v < size o → i ≤ 4 * longest → SentTo (size o) v i r → r ≡ sent (size o) v i
   place-sent l k e = e .place (omega (arith, turn-walked .long)) (omega (arith, turn-walked .short)) l k
 
 -- ---- a turn without back-steps
 
-module _ {v : ℕ} {s : Point} {t cuts : List ℕ} (h : Straight v s t cuts) where
-  straight-clear : NoBackStep s t
+module _ {v : ℕ} {o : Outline} {cuts : List ℕ} (h : Straight v o cuts) where
+  straight-clear : NoBackStep o
   straight-clear = turn-clear (h .turn) (h .clockwise) (h .straight)
 
   -- The cut places of N and S are those of the corners
-  north-place : getD cuts 1 0 ≡ cornerPlace s t 1
+  north-place : getD cuts 1 0 ≡ cornerPlace o 1
   unfolding cutCorner
-  north-place = h .places 1 (omega arith) ∙ shape s t straight-clear .corners 1 (omega arith)
+  north-place = h .places 1 (omega arith) ∙ shape o straight-clear .corners 1 (omega arith)
 
-  south-place : getD cuts 3 0 ≡ cornerPlace s t 3
+  south-place : getD cuts 3 0 ≡ cornerPlace o 3
   unfolding cutCorner
-  south-place = h .places 3 (omega arith) ∙ shape s t straight-clear .corners 3 (omega arith)
+  south-place = h .places 3 (omega arith) ∙ shape o straight-clear .corners 3 (omega arith)
 
-  pub north-within : getD cuts 1 0 ≤ length t
-  north-within = omega (arith, north-place, turn-walked (h .turn) .long, cornerPlace-lt s t 1 (omega (arith, turn-walked (h .turn) .long)))
+  pub north-within : getD cuts 1 0 ≤ size o
+  north-within = omega (arith, north-place, turn-walked (h .turn) .long, cornerPlace-lt o 1 (omega (arith, turn-walked (h .turn) .long)))
 
-  pub south-within : getD cuts 3 0 ≤ length t
-  south-within = omega (arith, south-place, turn-walked (h .turn) .long, cornerPlace-lt s t 3 (omega (arith, turn-walked (h .turn) .long)))
+  pub south-within : getD cuts 3 0 ≤ size o
+  south-within = omega (arith, south-place, turn-walked (h .turn) .long, cornerPlace-lt o 3 (omega (arith, turn-walked (h .turn) .long)))
 
   -- The cell that the search names, between the rows of S and N
-  cell-found : {bottom top cell : Point} → (Stays s t → bottom ≡ cornerAt s t (getD cuts 3 0)) → (Stays s t → top ≡ cornerAt s t (getD cuts 1 0))
-      → cell ≡ foundCell s t (bottom .row) (top .row) → cell ≡ cellFound (record { start = s; letters = t })
+  cell-found : {bottom top cell : Point} → (Stays o → bottom ≡ cornerAt o (getD cuts 3 0)) → (Stays o → top ≡ cornerAt o (getD cuts 1 0))
+      → cell ≡ foundCell o (bottom .row) (top .row) → cell ≡ cellFound o
   unfolding cellFound
   cell-found {bottom} {top} {cell} b e f =
-      let p : bottom ≡ cornerAt s t (cornerPlace s t 3) = b (h .turn .simple .stays) ∙ ap (cornerAt s t) south-place in
-      let q : top ≡ cornerAt s t (cornerPlace s t 1) = e (h .turn .simple .stays) ∙ ap (cornerAt s t) north-place in
+      let p : bottom ≡ cornerAt o (cornerPlace o 3) = b (h .turn .simple .stays) ∙ ap (cornerAt o) south-place in
+      let q : top ≡ cornerAt o (cornerPlace o 1) = e (h .turn .simple .stays) ∙ ap (cornerAt o) north-place in
       f ∙ rw (p, q)
-      (found-missing s t (h .turn .simple .started) (h .turn .simple .stays) (cornerAt s t (cornerPlace s t 3) .row) (cornerAt s t (cornerPlace s t 1) .row)
+      (found-missing o (h .turn .simple .started) (h .turn .simple .stays) (cornerAt o (cornerPlace o 3) .row) (cornerAt o (cornerPlace o 1) .row)
       (bottom-le-top (h .turn)) (top-le-side (h .turn)))
 
-  pub dent-named : (k i l : ℕ) {place : ℕ} {bottom top cell : Point} → i ≤ 4 * longest → SentTo (length t) v i place
-      → (Stays s t → bottom ≡ cornerAt s t (getD cuts 3 0)) → (Stays s t → top ≡ cornerAt s t (getD cuts 1 0)) → cell ≡ foundCell s t (bottom .row) (top .row)
-      → Dent (k + 1) place l cell ≡ dentAs v s t k i l
+  pub dent-named : (k i l : ℕ) {place : ℕ} {bottom top cell : Point} → i ≤ 4 * longest → SentTo (size o) v i place
+      → (Stays o → bottom ≡ cornerAt o (getD cuts 3 0)) → (Stays o → top ≡ cornerAt o (getD cuts 1 0)) → cell ≡ foundCell o (bottom .row) (top .row)
+      → Dent (k + 1) place l cell ≡ dentAs v o k i l
   unfolding dentAs
   dent-named k i l m e b u f = rw (cell-found b u f, place-sent (h .turn) (h .place) m e)
 
   -- There is room for its edges
-  pub count-bounded : edgeCount s t ≤ 1016
-  count-bounded = edges-bounded s t straight-clear
+  pub count-bounded : edgeCount o ≤ 1016
+  count-bounded = edges-bounded o straight-clear
 
 -- ---- the answers
 
@@ -115,67 +115,67 @@ as-taken : (n : ℕ) (a : Point) (es : List ℤ) {after : List ℤ} → after �
 unfolding judgedAs lentAfter
 as-taken n a es e = ap (λ (l : List ℤ). record { verdict = Taken n a; numbers = l }) e
 
-module _ (v : ℕ) (s : Point) (t : List ℕ) where
-  turn-back-step : {k i : ℕ} → StepIs s t k i → k < 4 → judgedAs (Refused (BackStep (k + 1) (sent (length t) v i))) (edges s t) ≡ judgedTurn v s t
+module _ (v : ℕ) (o : Outline) where
+  turn-back-step : {k i : ℕ} → StepIs o k i → k < 4 → judgedAs (Refused (BackStep (k + 1) (sent (size o) v i))) (edges o) ≡ judgedTurn v o
   unfolding judgedTurn turnVerdict backStepIn
   turn-back-step {k} h l =
-      let b : ltb (strayPiece s t) 4 ≡ true = lt-ltb (strayPiece s t) 4 (omega (arith, h .piece)) in
+      let b : ltb (backStepPiece o) 4 ≡ true = lt-ltb (backStepPiece o) 4 (omega (arith, h .piece)) in
       rw (b, add-one k, h .at, h .piece)
 
-  module _ (b : ltb (strayPiece s t) 4 ≡ false) where
-    turn-dent : {k i l : ℕ} → DentIs s t k i l → k < 4 → judgedAs (Refused (dentAs v s t k i l)) (edges s t) ≡ judgedTurn v s t
+  module _ (b : ltb (backStepPiece o) 4 ≡ false) where
+    turn-dent : {k i l : ℕ} → DentIs o k i l → k < 4 → judgedAs (Refused (dentAs v o k i l)) (edges o) ≡ judgedTurn v o
     unfolding judgedTurn turnVerdict dentIn dentAs
     turn-dent {k} h l =
-        let c : ltb (dentPiece s t) 4 ≡ true = lt-ltb (dentPiece s t) 4 (omega (arith, h .piece)) in
+        let c : ltb (dentPiece o) 4 ≡ true = lt-ltb (dentPiece o) 4 (omega (arith, h .piece)) in
         rw (b, c, add-one k, h .at, h .size, h .piece)
 
-    turn-taken : dentPiece s t ≡ 4 → judgedAs (Taken (edgeCount s t) s) (edges s t) ≡ judgedTurn v s t
+    turn-taken : dentPiece o ≡ 4 → judgedAs (Taken (edgeCount o) (o .start)) (edges o) ≡ judgedTurn v o
     unfolding judgedTurn turnVerdict
     turn-taken c = rw (b, c)
 
 -- ---- the turn in the buffer
 
 module _ {v : ℕ} {s : Point} {n : ℕ} {buffer cuts : List ℕ} (h : Turning v s n buffer cuts) where
-  abbrev t : List ℕ
-  t = take n buffer
+  abbrev t : Outline
+  t = outline s (take n buffer)
 
-  pub turn-size : length t ≡ n
+  pub turn-size : size t ≡ n
   turn-size = length-take-le n buffer (h .within)
 
   -- 8
   pub step-judged : {k i place : ℕ} → FoundAt buffer cuts k i → SentTo n v i place → {r : Judged} → ((es : List ℤ) → r ≡ judgedAs (Refused (BackStep (k + 1) place)) es)
-      → r ≡ judgedTurn v s t
+      → r ≡ judgedTurn v t
   step-judged {k} {i} {place} e p {r} q =
-      let d : place ≡ sent (length t) v i =
+      let d : place ≡ sent (size t) v i =
       place-sent (h .ready .turn) (h .ready .place) (omega (arith, e .at-le, h .ready .sized)) (rw turn-size p) in
-      q (edges s t) ∙ rw d (turn-back-step v s t (e .step s t (h .ready .laid)) (e .piece-lt))
+      q (edges t) ∙ rw d (turn-back-step v t (e .step t (h .ready .laid)) (e .piece-lt))
 
-  pub none-straight : strayPiece s t ≡ 4 → ltb (strayPiece s t) 4 ≡ false
+  pub none-straight : backStepPiece t ≡ 4 → ltb (backStepPiece t) 4 ≡ false
   none-straight e = rw e
 
-  module _ (b : ltb (strayPiece s t) 4 ≡ false) where
-    pub straight-of-turning : Straight v s t cuts
+  module _ (b : ltb (backStepPiece t) 4 ≡ false) where
+    pub straight-of-turning : Straight v t cuts
     straight-of-turning =
         record { turn = h .ready .turn; place = h .ready .place; clockwise = h .ready .clockwise; straight = b; places = h .ready .laid .places }
 
     -- 9
-    pub dent-judged : {k i l : ℕ} → DentRead buffer cuts k i l → {r : Judged} → ((es : List ℤ) → r ≡ judgedAs (Refused (dentAs v s t k i l)) es) → r ≡ judgedTurn v s t
+    pub dent-judged : {k i l : ℕ} → DentRead buffer cuts k i l → {r : Judged} → ((es : List ℤ) → r ≡ judgedAs (Refused (dentAs v t k i l)) es) → r ≡ judgedTurn v t
     dent-judged e q =
-        q (edges s t) ∙ turn-dent v s t b (e .dent s t (turn-walked (h .ready .turn) .short) (h .ready .laid)) (e .piece-lt)
+        q (edges t) ∙ turn-dent v t b (e .dent t (turn-walked (h .ready .turn) .short) (h .ready .laid)) (e .piece-lt)
 
     -- Taken
-    module _ {after : List ℤ} {m : ℕ} (e : (s : Point) (t : List ℕ) → length t ≤ longest → Laid s t cuts buffer → EdgesAre s t zeros after m) where
-      abbrev found : EdgesAre s t zeros after m
-      found = e s t (turn-walked (h .ready .turn) .short) (h .ready .laid)
+    module _ {after : List ℤ} {m : ℕ} (e : (o : Outline) → size o ≤ longest → Laid o cuts buffer → EdgesAre o zeros after m) where
+      abbrev found : EdgesAre t zeros after m
+      found = e t (turn-walked (h .ready .turn) .short) (h .ready .laid)
 
-      room : 2 * edgeCount s t ≤ length zeros
+      room : 2 * edgeCount t ≤ length zeros
       room = rw (length-replicate longestList (pos 0)) (omega (arith, count-bounded straight-of-turning))
 
       pub count-le : m ≤ 1016
       count-le = omega (arith, found .count room, count-bounded straight-of-turning)
 
-      pub edges-judged : record { verdict = Taken m s; numbers = after } ≡ judgedTurn v s t
+      pub edges-judged : record { verdict = Taken m s; numbers = after } ≡ judgedTurn v t
       edges-judged =
-          let size : length (edges s t) ≡ 2 * m = edges-length s t ∙ ap (λ (k : ℕ). 2 * k) (sym (found .count room)) in
-          as-taken m s (edges s t) (found .list room ∙ rw size) ∙
-          ap (λ (k : ℕ). judgedAs (Taken k s) (edges s t)) (found .count room) ∙ turn-taken v s t b (found .none)
+          let size : length (edges t) ≡ 2 * m = edges-length t ∙ ap (λ (k : ℕ). 2 * k) (sym (found .count room)) in
+          as-taken m s (edges t) (found .list room ∙ rw size) ∙
+          ap (λ (k : ℕ). judgedAs (Taken k s) (edges t)) (found .count room) ∙ turn-taken v t b (found .none)

@@ -3,21 +3,21 @@ use Prim.Native.Nat.{ℕ, zero, suc, _+_, _-_, _*_, _/_, _≤_, _<_}
 use native.Mathlib.Nat.{mul-le-mul-left, mul-add}
 use native.Mathlib.Numerals.{add-one}
 use native.Mathlib.Omega.{arith}
-use mathlib.Core.Path.{_≡_, refl, sym, ap, _∙_, subst}
-use mathlib.Core.Bool.{Bool, true, false}
+use mathlib.Core.Path.{_≡_, refl, sym, ap, _∙_}
+use mathlib.Core.Bool.{true, false}
 use mathlib.Core.List.{List, [], _∷_, _++_, append-assoc, append-nil}
 use lib.ListN.{length, take, drop, set, length-set, drop-of-length-le}
 use lib.Seq.{take-suc-set, drop-drop}
-use lib.IntN.{ℤ, pos}
+use lib.IntN.{ℤ}
 use Rattle.words.specs.Word.{wordOf, earliers, laters}
 use Rattle.words.specs.Lyndon.{Factor, factorsOf}
 use Rattle.words.specs.Christoffel.{christoffel}
-use Rattle.words.specs.Search.{judge, judged}
+use Rattle.words.specs.Search.{judged}
 use Rattle.words.specs.declared.Judged.{Judged}
 use Rattle.words.proofs.Counts.{earliers-laters}
 use Rattle.words.proofs.WalkLaws.{Step, step-at}
 use Rattle.chart.specs.Limits.{longest}
-use Rattle.convexity.specs.Frame.{Frame, frameOf}
+use Rattle.convexity.specs.Frame.{frameOf}
 use Rattle.convexity.specs.Pieces.{dentAt, dentLength, edgesOf}
 use Rattle.border.specs.declared.edge.Edge.{Edge}
 use Rattle.border.specs.Edge.{EdgeOf}

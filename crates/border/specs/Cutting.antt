@@ -1,10 +1,11 @@
 -- What the code of the cut promises, over the definitions of the crates lattice and convexity.
-use Prim.Native.Nat.{ℕ, suc, _+_, _-_, _*_, _≤_, _<_}
+use Prim.Native.Nat.{ℕ, suc, _-_, _*_, _≤_, _<_}
 use mathlib.Core.Path.{_≡_}
-use mathlib.Core.List.{List, _++_}
-use lib.ListN.{length, getD, take, drop}
+use mathlib.Core.List.{List}
+use lib.ListN.{length, getD, take}
 use Rattle.chart.specs.Limits.{longest}
-use Rattle.chart.specs.declared.Point.{Point}
+use Rattle.chart.specs.Outline.{Outline}
+use Rattle.lattice.specs.Chart.{size, rotation}
 use Rattle.lattice.specs.Refusals.{Stays}
 use Rattle.convexity.specs.Frame.{Frame}
 use Rattle.convexity.specs.Cut.{cornerPlace, cut}
@@ -20,14 +21,14 @@ pub record PairOf (f : Frame) (r : Pair) : Type 0 where
   pub later-cols : r .«later_cols» ≡ f .later-cols
   pub later-rows : r .«later_rows» ≡ f .later-rows
 
--- The first corner of piece k: a place of w, or 0 where w is empty
-pub record CornerFound (s : Point) (w : List ℕ) (k r : ℕ) : Type 0 where
-  pub within : r ≤ length w - 1
-  pub place : Stays s w → r ≡ cornerPlace s w k
+-- The first corner of piece k: a place of the outline, or 0 where it has no letters
+pub record CornerFound (o : Outline) (k r : ℕ) : Type 0 where
+  pub within : r ≤ size o - 1
+  pub place : Stays o → r ≡ cornerPlace o k
 
 -- A buffer's first letters are those of w from a place on, past the list's end to its beginning
 abbrev pub Turned : List ℕ → ℕ → List ℕ → List ℕ → Type 0
-Turned w from before after = from ≤ length w → length w ≤ length before → take (length w) after ≡ drop from w ++ take from w
+Turned w from before after = from ≤ length w → length w ≤ length before → take (length w) after ≡ rotation from w
 
 -- A buffer's first n letters stay, and its letters up to end are those read on, past their end to their beginning
 pub record Rounded (before : List ℕ) (n end : ℕ) (after : List ℕ) : Type 0 where
@@ -35,18 +36,18 @@ pub record Rounded (before : List ℕ) (n end : ℕ) (after : List ℕ) : Type 0
   pub read : 0 < n → end ≤ 4 * n → end ≤ length before → take end after ≡ take end (rounds (take n before))
 
 -- The five cut places
-pub record CutsOf (s : Point) (t at : List ℕ) : Type 0 where
+pub record CutsOf (o : Outline) (at : List ℕ) : Type 0 where
   pub five : length at ≡ 5
   pub rising : (k : ℕ) → k < 4 → getD at k 0 ≤ getD at (suc k) 0
-  pub around : getD at 4 0 ≤ 4 * length t
+  pub around : getD at 4 0 ≤ 4 * size o
   pub small : getD at 4 0 ≤ 4 * longest
-  pub places : Stays s t → length t ≤ longest → (k : ℕ) → k ≤ 4 → getD at k 0 ≡ cut s t k
+  pub places : Stays o → size o ≤ longest → (k : ℕ) → k ≤ 4 → getD at k 0 ≡ cut o k
 
--- The pieces of a turn t from the corner s lie in a buffer between the cut places
-pub record Laid (s : Point) (t at buffer : List ℕ) : Type 0 where
-  pub places : (k : ℕ) → k ≤ 4 → getD at k 0 ≡ cut s t k
-  pub within : cut s t 4 ≤ length buffer
-  pub letters : take (cut s t 4) buffer ≡ take (cut s t 4) (rounds t)
+-- The pieces of a turn o lie in a buffer between the cut places
+pub record Laid (o : Outline) (at buffer : List ℕ) : Type 0 where
+  pub places : (k : ℕ) → k ≤ 4 → getD at k 0 ≡ cut o k
+  pub within : cut o 4 ≤ length buffer
+  pub letters : take (cut o 4) buffer ≡ take (cut o 4) (rounds (o .letters))
 
 -- A place from W on as a place of the list as sent
 pub record SentTo (n w i r : ℕ) : Type 0 where

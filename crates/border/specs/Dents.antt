@@ -7,7 +7,8 @@ use lib.IntN.{ℤ}
 use Rattle.words.specs.Word.{wordOf}
 use Rattle.words.specs.Lyndon.{Factor, factorsOf}
 use Rattle.chart.specs.Limits.{longest}
-use Rattle.chart.specs.declared.Point.{Point}
+use Rattle.chart.specs.Outline.{Outline}
+use Rattle.lattice.specs.Chart.{size}
 use Rattle.convexity.specs.Frame.{frameOf}
 use Rattle.convexity.specs.Cut.{cut}
 use Rattle.convexity.specs.Pieces.{factors, dentAt, dentLength, dentPiece, edgesOf, edges, edgeCount}
@@ -61,23 +62,23 @@ pub record PieceRead (buffer : List ℕ) (from to k count : ℕ) (before after :
   pub word : from ≤ to → to ≤ length buffer → to - from ≤ longest → WordRead k (drop 1 (take (to - from) (drop from buffer))) count before after r
 
 -- The first dent of a turn stands in piece k, i letters from W on, and has l letters
-pub record DentIs (s : Point) (t : List ℕ) (k i l : ℕ) : Type 0 where
-  pub piece : k ≡ dentPiece s t
-  pub at : i ≡ cut s t k + 1 + dentAt (factors s t k)
-  pub size : l ≡ dentLength (factors s t k)
+pub record DentIs (o : Outline) (k i l : ℕ) : Type 0 where
+  pub piece : k ≡ dentPiece o
+  pub at : i ≡ cut o k + 1 + dentAt (factors o k)
+  pub size : l ≡ dentLength (factors o k)
 
 -- A turn has no dent, and its edges, r of them, stand first in a list with room for them
-pub record EdgesAre (s : Point) (t : List ℕ) (before after : List ℤ) (r : ℕ) : Type 0 where
-  pub none : dentPiece s t ≡ 4
-  pub count : 2 * edgeCount s t ≤ length before → r ≡ edgeCount s t
-  pub list : 2 * edgeCount s t ≤ length before → after ≡ edges s t ++ drop (2 * r) before
+pub record EdgesAre (o : Outline) (before after : List ℤ) (r : ℕ) : Type 0 where
+  pub none : dentPiece o ≡ 4
+  pub count : 2 * edgeCount o ≤ length before → r ≡ edgeCount o
+  pub list : 2 * edgeCount o ≤ length before → after ≡ edges o ++ drop (2 * r) before
 
 pub record DentRead (buffer cuts : List ℕ) (k i l : ℕ) : Type 0 where
   pub piece-lt : k < 4
   pub at-le : i ≤ length buffer
   pub size-le : l ≤ length buffer
-  pub dent : (s : Point) (t : List ℕ) → length t ≤ longest → Laid s t cuts buffer → DentIs s t k i l
+  pub dent : (o : Outline) → size o ≤ longest → Laid o cuts buffer → DentIs o k i l
 
 abbrev pub FactorsRead : List ℕ → List ℕ → List ℤ → List ℤ → Factored → Type 0
-FactorsRead buffer cuts before after (Edges r) = (s : Point) (t : List ℕ) → length t ≤ longest → Laid s t cuts buffer → EdgesAre s t before after r
+FactorsRead buffer cuts before after (Edges r) = (o : Outline) → size o ≤ longest → Laid o cuts buffer → EdgesAre o before after r
 FactorsRead buffer cuts before after (Dent k i l) = DentRead buffer cuts k i l

@@ -1,12 +1,12 @@
 -- The verdict of an outline together with its edges, which stand first in a list of zeros; all zeros where it is refused.
 use Prim.Native.Nat.{ℕ}
 use mathlib.Core.List.{List}
-use lib.ListN.{length, replicate}
+use lib.ListN.{replicate}
 use lib.IntN.{ℤ, pos}
 use Rattle.chart.specs.Limits.{longestList}
-use Rattle.chart.specs.declared.Point.{Point}
 use Rattle.chart.specs.declared.Verdict.{Verdict}
 use Rattle.chart.specs.Outline.{Outline}
+use Rattle.lattice.specs.Chart.{size}
 use Rattle.convexity.specs.Cut.{reading}
 use Rattle.convexity.specs.Pieces.{sent, edges}
 use Rattle.verdict.specs.Verdict.{turnVerdict, readingVerdict, verdictOf, lentAfter}
@@ -18,14 +18,14 @@ zeros = replicate longestList (pos 0)
 unfoldable pub judgedAs : Verdict → List ℤ → Judged
 judgedAs v es = record { verdict = v; numbers = lentAfter v es zeros }
 
--- Of a turn t from the corner W, s, where W's letter stands at v in the list as sent
-unfoldable pub judgedTurn : ℕ → Point → List ℕ → Judged
-judgedTurn v s t = judgedAs (turnVerdict (sent (length t) v) (record { start = s; letters = t })) (edges s t)
+-- Of a turn o, where W's letter stands at v in the list as sent
+unfoldable pub judgedTurn : ℕ → Outline → Judged
+judgedTurn v o = judgedAs (turnVerdict (sent (size o) v) o) (edges o)
 
 -- Of an outline that passes refusals 1 to 6
 unfoldable pub judgedReading : Outline → Judged
-judgedReading o = judgedAs (readingVerdict o) (edges (reading o .start) (reading o .letters))
+judgedReading o = judgedAs (readingVerdict o) (edges (reading o))
 
 -- Of every outline
 unfoldable pub judgedOf : Outline → Judged
-judgedOf o = judgedAs (verdictOf o) (edges (reading o .start) (reading o .letters))
+judgedOf o = judgedAs (verdictOf o) (edges (reading o))

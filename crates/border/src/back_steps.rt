@@ -5,12 +5,12 @@ ghost use mathlib.Core.Path.{_≡_};
 ghost use lib.ListN.{length, getD};
 ghost use Rattle.base.specs.Below.{first as firstBelow};
 ghost use Rattle.convexity.specs.Frame.{frameOf};
-ghost use Rattle.convexity.specs.Pieces.{stray};
+ghost use Rattle.convexity.specs.Pieces.{isBackStep};
 ghost use Rattle.border.specs.BackSteps.{Found};
 
 // How many letters of piece k stand before its first back-step: all of them where it has none.
 fn straight_for(piece: &[u8], k: usize) -> usize
-    ensures { λ r. ⌜ r ≡ firstBelow (λ i. stray (frameOf k) (getD (now (piece .entry)) i 0)) (length (now (piece .entry))) ⌝ }
+    ensures { λ r. ⌜ r ≡ firstBelow (λ i. isBackStep (frameOf k) (getD (now (piece .entry)) i 0)) (length (now (piece .entry))) ⌝ }
 {
     let f = frame::pair_at(k);
     let mut i = 0;

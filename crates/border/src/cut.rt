@@ -8,6 +8,7 @@ ghost use Prim.Native.Nat.{_+_, _*_, _-_, _<_, _≤_};
 ghost use mathlib.Core.Path.{_≡_};
 ghost use lib.ListN.{length};
 ghost use Rattle.chart.specs.Limits.{side};
+ghost use Rattle.chart.specs.Outline.{outline};
 ghost use Rattle.convexity.specs.Frame.{along as alongOf};
 ghost use Rattle.lattice.specs.Chart.{cornerAt};
 ghost use Rattle.lattice.specs.Refusals.{Stays};
@@ -45,7 +46,7 @@ fn rank(earlier: u8, later: u8, p: Point) -> u32
 
 // The place whose letter leaves the first corner of piece k, in one walk from s.
 pub(crate) fn corner_place(s: Point, w: &[u8], k: usize) -> usize
-    ensures { λ r. ⌜ CornerFound s (now (w .entry)) k r ⌝ }
+    ensures { λ r. ⌜ CornerFound (outline s (now (w .entry))) k r ⌝ }
 {
     let f = frame::pair_at(k);
     let mut place = 0;
@@ -67,7 +68,7 @@ pub(crate) fn corner_place(s: Point, w: &[u8], k: usize) -> usize
 // The corner from which the letter at a place leaves.
 pub(crate) fn corner_at(s: Point, w: &[u8], place: usize) -> Point
     requires { ⌜ place ≤ length (now w) ⌝ }
-    ensures { λ r. ⌜ (Stays s (now (w .entry)) → r ≡ cornerAt s (now (w .entry)) place) ⌝ }
+    ensures { λ r. ⌜ (Stays (outline s (now (w .entry))) → r ≡ cornerAt (outline s (now (w .entry))) place) ⌝ }
 {
     let mut p = s;
     let mut i = 0;
@@ -132,7 +133,7 @@ pub(crate) struct Cuts {
 }
 
 pub(crate) fn cut_places(s: Point, t: &[u8]) -> Cuts
-    ensures { λ r. ⌜ CutsOf s (now (t .entry)) (r .at) ⌝ }
+    ensures { λ r. ⌜ CutsOf (outline s (now (t .entry))) (r .at) ⌝ }
 {
     let mut at = [0usize; 5];
     let n = t.len();

@@ -16,8 +16,9 @@ ghost use lib.ListN.{take};
 ghost use lib.IntN.{ℤ};
 ghost use lib.Dec.{ltb};
 ghost use Rattle.chart.specs.Limits.{longest};
+ghost use Rattle.chart.specs.Outline.{outline};
 ghost use Rattle.lattice.specs.Refusals.{Simple};
-ghost use Rattle.convexity.specs.Pieces.{strayPiece};
+ghost use Rattle.convexity.specs.Pieces.{backStepPiece};
 ghost use Rattle.border.specs.Turning.{Turning, Straight, dentAs};
 ghost use Rattle.border.specs.Judged.{judgedAs, judgedTurn, judgedReading, judgedOf};
 
@@ -44,9 +45,9 @@ fn refused(why: Refusal) -> Judged
 
 // 9: the dent of `length` letters that stands `at` letters from W on in a piece, counted from 0.
 fn dent(turn: Turn, letters: &[u8], piece: usize, at: usize, length: usize) -> Refusal
-    requires { ⌜ Straight (turn .place) (turn .west) (now letters) (turn .at) ⌝ }
+    requires { ⌜ Straight (turn .place) (outline (turn .west) (now letters)) (turn .at) ⌝ }
     requires { ⌜ (piece < 4) × (at ≤ 4 * longest) × (length ≤ 4 * longest) ⌝ }
-    ensures { λ r. ⌜ r ≡ dentAs (turn .place) (turn .west) (now (letters .entry)) piece at length ⌝ }
+    ensures { λ r. ⌜ r ≡ dentAs (turn .place) (outline (turn .west) (now (letters .entry))) piece at length ⌝ }
 {
     let cuts = turn.at;
     let bottom = cut::corner_at(turn.west, letters, cuts[3]).row;
@@ -63,8 +64,8 @@ fn dent(turn: Turn, letters: &[u8], piece: usize, at: usize, length: usize) -> R
 // 9, of a turn without back-steps, or the edges.
 fn edges(turn: Turn, buffer: &[u8]) -> Judged
     requires { ⌜ Turning (turn .place) (turn .west) (turn .count) (now buffer) (turn .at) ⌝ }
-    requires { ⌜ ltb (strayPiece (turn .west) (take (turn .count) (now buffer))) 4 ≡ false ⌝ }
-    ensures { λ r. ⌜ r ≡ judgedTurn (turn .place) (turn .west) (take (turn .count) (now (buffer .entry))) ⌝ }
+    requires { ⌜ ltb (backStepPiece (outline (turn .west) (take (turn .count) (now buffer)))) 4 ≡ false ⌝ }
+    ensures { λ r. ⌜ r ≡ judgedTurn (turn .place) (outline (turn .west) (take (turn .count) (now (buffer .entry)))) ⌝ }
 {
     let mut numbers = [0i16; LONGEST_LIST];
     let factored = dents::read(turn, buffer, &mut numbers);
@@ -87,7 +88,7 @@ fn edges(turn: Turn, buffer: &[u8]) -> Judged
 // 8 and 9, of a clockwise turn, or the edges.
 fn pieces(turn: Turn, buffer: &[u8]) -> Judged
     requires { ⌜ Turning (turn .place) (turn .west) (turn .count) (now buffer) (turn .at) ⌝ }
-    ensures { λ r. ⌜ r ≡ judgedTurn (turn .place) (turn .west) (take (turn .count) (now (buffer .entry))) ⌝ }
+    ensures { λ r. ⌜ r ≡ judgedTurn (turn .place) (outline (turn .west) (take (turn .count) (now (buffer .entry)))) ⌝ }
 {
     let found = back_steps::first(turn, buffer);
     match found {
@@ -104,8 +105,8 @@ fn pieces(turn: Turn, buffer: &[u8]) -> Judged
 
 // 7 to 9, of an outline that passes 1 to 6, or the edges: its letters are read once round from W on into a buffer.
 fn read(start: Point, letters: &[u8]) -> Judged
-    requires { ⌜ Simple start (now letters) ⌝ }
-    ensures { λ r. ⌜ r ≡ judgedReading (record { start = start; letters = now (letters .entry) }) ⌝ }
+    requires { ⌜ Simple (outline start (now letters)) ⌝ }
+    ensures { λ r. ⌜ r ≡ judgedReading (outline start (now (letters .entry))) ⌝ }
 {
     let count = letters.len();
     let place = cut::corner_place(start, letters, 0);
@@ -129,7 +130,7 @@ fn read(start: Point, letters: &[u8]) -> Judged
 
 // The first of refusals 1 to 9 that applies, or the edges (contract 5 and 3.12).
 pub fn judge(start: Point, letters: &[u8]) -> Judged
-    ensures { λ r. ⌜ r ≡ judgedOf (record { start = start; letters = now (letters .entry) }) ⌝ }
+    ensures { λ r. ⌜ r ≡ judgedOf (outline start (now (letters .entry))) ⌝ }
 {
     let surveyed = survey::survey(start, letters);
     match surveyed {

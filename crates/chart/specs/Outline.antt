@@ -6,3 +6,6 @@ use Rattle.chart.specs.declared.Point.{Point}
 pub record Outline : Type 0 where
   pub start : Point
   pub letters : List ℕ
+
+abbrev pub outline : Point → List ℕ → Outline
+outline s w = record { start = s; letters = w }

@@ -11,7 +11,7 @@ use Rattle.words.specs.Word.{Word, earliers, laters}
 use Rattle.words.specs.Lyndon.{Factor, Falling, none, last, then, Proper, written, copies, factorsOf}
 use Rattle.words.proofs.Counts.{earliers-laters, length-copies}
 use Rattle.words.proofs.Factors.{factors-exist}
-use Rattle.chart.specs.declared.Point.{Point}
+use Rattle.chart.specs.Outline.{Outline}
 use Rattle.convexity.specs.Frame.{Frame}
 use Rattle.convexity.specs.Pieces.{word, factors, edgesOf, edges, edgeCount}
 use Rattle.convexity.proofs.Ring.{next, next-lt}
@@ -35,28 +35,28 @@ factors-count w =
     subst (λ (v : Word). length (factorsOf w) ≤ length v) (e .whole) (falling-count (factorsOf w) (e .falling))
 
 -- No more edges in a piece than letters in its word
-piece-count : (s : Point) (t : List ℕ) (k : ℕ) → length (factors s t k) ≤ earliers (word s t k) + laters (word s t k)
+piece-count : (o : Outline) (k : ℕ) → length (factors o k) ≤ earliers (word o k) + laters (word o k)
 unfolding factors
-piece-count s t k = rw earliers-laters (factors-count (word s t k))
+piece-count o k = rw earliers-laters (factors-count (word o k))
 
 -- Two neighbouring words share the chart's 255 corner lines in the direction of the first one's earlier letter
-pub neighbours : (s : Point) (t : List ℕ) → Shape s t → (k : ℕ) → k < 4 → earliers (word s t k) + laters (word s t (next k)) ≤ 254
-neighbours s t h k l = omega (arith, h .next-later k l, h .next-earlier (next k) (next-lt k))
+pub neighbours : (o : Outline) → Shape o → (k : ℕ) → k < 4 → earliers (word o k) + laters (word o (next k)) ≤ 254
+neighbours o h k l = omega (arith, h .next-later k l, h .next-earlier (next k) (next-lt k))
 
-pub edges-bounded : (s : Point) (t : List ℕ) → NoBackStep s t → edgeCount s t ≤ 1016
+pub edges-bounded : (o : Outline) → NoBackStep o → edgeCount o ≤ 1016
 unfolding edgeCount
-edges-bounded s t c =
-    let share = neighbours s t (shape s t c) in
+edges-bounded o c =
+    let share = neighbours o (shape o c) in
     omega (
       arith,
       share 0 (lit< tt),
       share 1 (lit< tt),
       share 2 (lit< tt),
       share 3 (lit< tt),
-      piece-count s t 0,
-      piece-count s t 1,
-      piece-count s t 2,
-      piece-count s t 3,
+      piece-count o 0,
+      piece-count o 1,
+      piece-count o 2,
+      piece-count o 3,
     )
 
 -- Two numbers an edge
@@ -65,6 +65,6 @@ unfolding edgesOf
 edges-of-length f [] = refl
 edges-of-length f (g ∷ fs) = omega (arith, edges-of-length f fs)
 
-pub edges-length : (s : Point) (t : List ℕ) → length (edges s t) ≡ 2 * edgeCount s t
+pub edges-length : (o : Outline) → length (edges o) ≡ 2 * edgeCount o
 unfolding edges edgeCount
-edges-length s t = simp (length-append, edges-of-length) (omega arith)
+edges-length o = simp (length-append, edges-of-length) (omega arith)

@@ -11,8 +11,8 @@ use lib.ListN.{length, getD, take, drop, length-take, length-drop}
 use lib.Seq.{take-append-le, drop-append-le, getD-take, getD-drop}
 use borrow.Author.Tests.{le-leb, lt-leb, lt-ltb}
 use Rattle.base.proofs.BelowLaws.{below-suc}
-use Rattle.chart.specs.declared.Point.{Point}
-use Rattle.lattice.specs.Chart.{cornerAt}
+use Rattle.chart.specs.Outline.{Outline}
+use Rattle.lattice.specs.Chart.{cornerAt, size, letterAt}
 use Rattle.lattice.proofs.RightHand.{arriving-up}
 use Rattle.convexity.specs.Frame.{Frame, frameOf}
 use Rattle.convexity.specs.Cut.{cornerPlace, ahead, cutCorner, cut}
@@ -33,62 +33,62 @@ pub ahead-round : (n a b : ℕ) → b < a → ahead n a b ≡ b + n - a
 unfolding ahead
 ahead-round n a b h = rw (lt-leb a b h)
 
-module _ (s : Point) (t : List ℕ) where
-  pub cut-step : (k : ℕ) → cut s t (suc k) ≡ cut s t k + ahead (length t) (cutCorner s t k) (cutCorner s t (suc k))
+module _ (o : Outline) where
+  pub cut-step : (k : ℕ) → cut o (suc k) ≡ cut o k + ahead (size o) (cutCorner o k) (cutCorner o (suc k))
   unfolding cut
   cut-step k = refl
 
-  pub cut-zero : cut s t 0 ≡ 0
+  pub cut-zero : cut o 0 ≡ 0
   unfolding cut
   cut-zero = refl
 
-  pub corner-west : cutCorner s t 0 ≡ 0
+  pub corner-west : cutCorner o 0 ≡ 0
   unfolding cutCorner
   corner-west = refl
 
   -- As long as the corners of the pieces come in their order, the cut places are theirs; and from the last the turn leads back to W
-  pub cut-on : (k : ℕ) → cut s t k ≡ cutCorner s t k → cutCorner s t k ≤ cutCorner s t (suc k) → cut s t (suc k) ≡ cutCorner s t (suc k)
-  cut-on k e l = omega (arith, cut-step k, ahead-on (length t) (cutCorner s t k) (cutCorner s t (suc k)) l)
+  pub cut-on : (k : ℕ) → cut o k ≡ cutCorner o k → cutCorner o k ≤ cutCorner o (suc k) → cut o (suc k) ≡ cutCorner o (suc k)
+  cut-on k e l = omega (arith, cut-step k, ahead-on (size o) (cutCorner o k) (cutCorner o (suc k)) l)
 
-  module _ (cuts : (k : ℕ) → k < 4 → cut s t k ≡ cutCorner s t k) (rise : (k : ℕ) → k < 3 → cutCorner s t k < cutCorner s t (suc k))
-      (below : cutCorner s t 3 < length t) where
-    pub cut-round : cut s t 4 ≡ length t
+  module _ (cuts : (k : ℕ) → k < 4 → cut o k ≡ cutCorner o k) (rise : (k : ℕ) → k < 3 → cutCorner o k < cutCorner o (suc k))
+      (below : cutCorner o 3 < size o) where
+    pub cut-round : cut o 4 ≡ size o
     unfolding cutCorner
-    cut-round = omega (arith, cut-step 3, cuts 3 (omega arith), ahead-round (length t) (cornerPlace s t 3) 0 (omega (arith, rise 2 (omega arith))))
+    cut-round = omega (arith, cut-step 3, cuts 3 (omega arith), ahead-round (size o) (cornerPlace o 3) 0 (omega (arith, rise 2 (omega arith))))
 
-    pub cuts-rise : (k : ℕ) → k < 4 → cut s t k < cut s t (suc k)
+    pub cuts-rise : (k : ℕ) → k < 4 → cut o k < cut o (suc k)
     cuts-rise k h =
         elim (below-suc k 3 h) [
           | inl e ↦ rw e (omega (arith, cut-round, cuts 3 (omega arith)))
           | inr l ↦ omega (arith, cuts k h, cuts (suc k) (omega arith), rise k l)
         ]
 
-    pub cuts-fit : (k : ℕ) → k < 4 → cut s t (suc k) ≤ length t
+    pub cuts-fit : (k : ℕ) → k < 4 → cut o (suc k) ≤ size o
     cuts-fit k h =
         let a = cuts-rise 1 (omega arith) in
         let b = cuts-rise 2 (omega arith) in
         let c = cuts-rise 3 (omega arith) in
         let d = cut-round in
-        below-four (λ k. cut s t (suc k) ≤ length t) (omega arith) (omega arith) (omega arith) (omega arith) k h
+        below-four (λ k. cut o (suc k) ≤ size o) (omega arith) (omega arith) (omega arith) (omega arith) k h
 
   -- Where they lie within the turn, the pieces are parts of it
-  module _ (fits : (k : ℕ) → k < 4 → cut s t (suc k) ≤ length t) where
-    pub piece-part : (k : ℕ) → k < 4 → piece s t k ≡ take (cut s t (suc k) - cut s t k) (drop (cut s t k) t)
+  module _ (fits : (k : ℕ) → k < 4 → cut o (suc k) ≤ size o) where
+    pub piece-part : (k : ℕ) → k < 4 → piece o k ≡ take (cut o (suc k) - cut o k) (drop (cut o k) (o .letters))
     unfolding piece rounds
     piece-part k h =
-        let r : List ℕ = t ++ (t ++ t) in
-        let a : ℕ = cut s t k in
-        let b : ℕ = cut s t (suc k) in
-        let l : a ≤ length t = omega (arith, cut-step k, fits k h) in
-        let m : b - a ≤ length (drop a t) = simp length-drop (omega (arith, fits k h)) in
-        ap (take (b - a)) (drop-append-le a t r l) ∙ take-append-le (b - a) (drop a t) r m
+        let r : List ℕ = o .letters ++ (o .letters ++ o .letters) in
+        let a : ℕ = cut o k in
+        let b : ℕ = cut o (suc k) in
+        let l : a ≤ size o = omega (arith, cut-step k, fits k h) in
+        let m : b - a ≤ length (drop a (o .letters)) = simp length-drop (omega (arith, fits k h)) in
+        ap (take (b - a)) (drop-append-le a (o .letters) r l) ∙ take-append-le (b - a) (drop a (o .letters)) r m
 
-    pub piece-length : (k : ℕ) → k < 4 → length (piece s t k) ≡ cut s t (suc k) - cut s t k
+    pub piece-length : (k : ℕ) → k < 4 → length (piece o k) ≡ cut o (suc k) - cut o k
     piece-length k h = rw (piece-part k h) (simp (length-take, length-drop) (omega (arith, fits k h)))
 
-    pub piece-at : (k : ℕ) → k < 4 → (i : ℕ) → i < cut s t (suc k) - cut s t k → getD (piece s t k) i 0 ≡ getD t (cut s t k + i) 0
+    pub piece-at : (k : ℕ) → k < 4 → (i : ℕ) → i < cut o (suc k) - cut o k → getD (piece o k) i 0 ≡ letterAt o (cut o k + i)
     piece-at k h i l =
-        rw (piece-part k h) (getD-take (cut s t (suc k) - cut s t k) (drop (cut s t k) t) i 0 l ∙ getD-drop (cut s t k) t i 0)
+        rw (piece-part k h) (getD-take (cut o (suc k) - cut o k) (drop (cut o k) (o .letters)) i 0 l ∙ getD-drop (cut o k) (o .letters) i 0)
 
 -- ---- the corners of the pieces
 
@@ -119,29 +119,29 @@ west-only (suc (suc zero)) h (by-earlier p q) = omega arith
 west-only (suc (suc (suc k))) h (by-later p q) = omega arith
 west-only (suc (suc (suc k))) h (by-earlier p q) = omega arith
 
-module _ (s : Point) (t : List ℕ) (h : Turn s t) where
-  pub corner-first : (k : ℕ) → k < 4 → FirstAt s t k (cutCorner s t k)
+module _ (o : Outline) (h : Turn o) where
+  pub corner-first : (k : ℕ) → k < 4 → FirstAt o k (cutCorner o k)
   unfolding cutCorner
-  corner-first zero l = turn-first s t h
-  corner-first (suc k) l = rw (lt-ltb k 3 (omega arith)) (first-at-cornerPlace s t (suc k) (omega (arith, h .walked .long)))
+  corner-first zero l = turn-first o h
+  corner-first (suc k) l = rw (lt-ltb k 3 (omega arith)) (first-at-cornerPlace o (suc k) (omega (arith, h .walked .long)))
 
-  pub corners-differ : (k : ℕ) → k < 4 → cutCorner s t k ≢ cutCorner s t (next k)
+  pub corners-differ : (k : ℕ) → k < 4 → cutCorner o k ≢ cutCorner o (next k)
   corners-differ k l e =
-      bends-differ (frameOf k) (frameOf (next k)) _ _ (apart k) (turns k) (bend s t (h .walked) k (cutCorner s t k) (corner-first k l))
-      (bend s t (h .walked) (next k) (cutCorner s t k) (rw e (corner-first (next k) (next-lt k))))
+      bends-differ (frameOf k) (frameOf (next k)) _ _ (apart k) (turns k) (bend o (h .walked) k (cutCorner o k) (corner-first k l))
+      (bend o (h .walked) (next k) (cutCorner o k) (rw e (corner-first (next k) (next-lt k))))
 
-  module _ (up : getD t 0 0 ≡ 1) where
-    pub coming-west : getD t (length t - 1) 0 ≡ 2
+  module _ (up : letterAt o 0 ≡ 1) where
+    pub coming-west : letterAt o (size o - 1) ≡ 2
     coming-west =
-        let l : suc (length t - 1) ≡ length t = omega (arith, h .walked .long) in
-        arriving-up s t (h .walked) 0 (turn-lowest s t h) (length t - 1) (omega arith) (ap (cornerAt s t) l ∙ corner-round s t (h .walked)) up
+        let l : suc (size o - 1) ≡ size o = omega (arith, h .walked .long) in
+        arriving-up o (h .walked) 0 (turn-lowest o h) (size o - 1) (omega arith) (ap (cornerAt o) l ∙ corner-round o (h .walked)) up
 
-    pub corner-after : (k : ℕ) → 0 < k → k < 4 → 0 < cutCorner s t k
+    pub corner-after : (k : ℕ) → 0 < k → k < 4 → 0 < cutCorner o k
     unfolding previous
     corner-after k z l =
-        elim (decLt 0 (cutCorner s t k)) [
+        elim (decLt 0 (cutCorner o k)) [
           | yes m ↦ m
           | no m ↦
-              let e : cutCorner s t k ≡ 0 = omega arith in
-              absurd (west-only k z (rw (coming-west, up) at (bend s t (h .walked) k 0 (rw e at (corner-first k l)))))
+              let e : cutCorner o k ≡ 0 = omega arith in
+              absurd (west-only k z (rw (coming-west, up) at (bend o (h .walked) k 0 (rw e at (corner-first k l)))))
         ]

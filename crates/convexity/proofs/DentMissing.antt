@@ -18,6 +18,7 @@ use Rattle.words.proofs.Factors.{falling-head, falling-tail, factors-exist}
 use Rattle.words.proofs.Dent.{Above}
 use Rattle.words.proofs.Criterion.{christoffel-or-above}
 use Rattle.chart.specs.declared.Point.{Point}
+use Rattle.chart.specs.Outline.{Outline}
 use Rattle.lattice.specs.Enclosed.{encloses}
 use Rattle.lattice.specs.Hull
 use Rattle.lattice.specs.Hull.{InHull, Missing}
@@ -94,20 +95,20 @@ module _ (a b c P P₁ P₂ P₃ Q Q₁ Q₂ Q₃ : ℕ) (some : 0 < a + b + c)
 
 -- ---- the missing cell
 
-module _ (s : Point) (t : List ℕ) (straight : NoBackStep s t) where
-  module _ (k : ℕ) (h : k < 4) (d : Dented (word s t k)) where
+module _ (o : Outline) (straight : NoBackStep o) where
+  module _ (k : ℕ) (h : k < 4) (d : Dented (word o k)) where
     abbrev w : Word
-    w = word s t k
+    w = word o k
 
     abbrev v : InTriangle w (earliers (d .before)) (laters (d .before) + 1)
     v = d .hull
 
     -- Where the point above the path lies in the frame, and the cell there
     abbrev P : ℕ
-    P = startE s t k + earliers (d .before)
+    P = startE o k + earliers (d .before)
 
     abbrev Q : ℕ
-    Q = startL s t k + (laters (d .before) + 1)
+    Q = startL o k + (laters (d .before) + 1)
 
     abbrev cell : Point
     cell = cellOf k P Q
@@ -115,22 +116,22 @@ module _ (s : Point) (t : List ℕ) (straight : NoBackStep s t) where
     across-on-chart : P ≤ 254
     across-on-chart =
         let m = mean-at-most (v .a) (v .b) (v .c) _ _ _ _ (earliers w) (v .some) (v .across) (earliers-take-le (v .i) w) (earliers-take-le (v .j) w) (earliers-take-le (v .k) w) in
-        omega (arith, across-le s t straight k h)
+        omega (arith, across-le o straight k h)
 
     up-on-chart : Q ≤ 254
     up-on-chart =
         let m = mean-at-most (v .a) (v .b) (v .c) _ _ _ _ (laters w) (v .some) (v .up) (laters-take-le (v .i) w) (laters-take-le (v .j) w) (laters-take-le (v .k) w) in
-        omega (arith, up-le s t straight k h)
+        omega (arith, up-le o straight k h)
 
-    cell-in-hull : InHull s t cell
+    cell-in-hull : InHull (encloses o) cell
     cell-in-hull =
         record {
-          p = pathCell s t k (v .i);
-          q = pathCell s t k (v .j);
-          t = pathCell s t k (v .k);
-          p-enclosed = path-enclosed s t straight k h (v .i) (v .i-within);
-          q-enclosed = path-enclosed s t straight k h (v .j) (v .j-within);
-          t-enclosed = path-enclosed s t straight k h (v .k) (v .k-within);
+          p = pathCell o k (v .i);
+          q = pathCell o k (v .j);
+          t = pathCell o k (v .k);
+          p-marked = path-enclosed o straight k h (v .i) (v .i-within);
+          q-marked = path-enclosed o straight k h (v .j) (v .j-within);
+          t-marked = path-enclosed o straight k h (v .k) (v .k-within);
           triangle =
               cell-triangle (v .a) (v .b) (v .c) _ _ _ _ _ _ _ _ (v .some)
               across-on-chart (on-path-across (v .i)) (on-path-across (v .j)) (on-path-across (v .k))
@@ -138,35 +139,35 @@ module _ (s : Point) (t : List ℕ) (straight : NoBackStep s t) where
               (omega (arith, v .across)) (omega (arith, v .up)) k;
         }
       where
-        on-path-across : (i : ℕ) → startE s t k + earliers (take i w) ≤ 254
-        on-path-across = path-across-le s t straight k h
+        on-path-across : (i : ℕ) → startE o k + earliers (take i w) ≤ 254
+        on-path-across = path-across-le o straight k h
 
-        on-path-up : (i : ℕ) → startL s t k + laters (take i w) ≤ 254
-        on-path-up = path-up-le s t straight k h
+        on-path-up : (i : ℕ) → startL o k + laters (take i w) ≤ 254
+        on-path-up = path-up-le o straight k h
 
-    cell-open : encloses s t (cell .col) (cell .row) ≡ false
-    cell-open = go (encloses s t (cell .col) (cell .row)) refl
+    cell-open : encloses o (cell .col) (cell .row) ≡ false
+    cell-open = go (encloses o (cell .col) (cell .row)) refl
       where
-        under : UnderFrom w (startE s t k) (startL s t k) P Q → ⊥
+        under : UnderFrom w (startE o k) (startL o k) P Q → ⊥
         under u =
             above-not-under w (d .before) (d .after) (d .split)
             (record { upto = u .upto; within = u .within; left = omega (arith, u .left); high = omega (arith, u .high) })
 
-        go : (b : Bool) → encloses s t (cell .col) (cell .row) ≡ b → encloses s t (cell .col) (cell .row) ≡ false
+        go : (b : Bool) → encloses o (cell .col) (cell .row) ≡ b → encloses o (cell .col) (cell .row) ≡ false
         go false e = e
         go true e =
             let col = col-cellOf k P Q across-on-chart up-on-chart in
             let row = row-cellOf k P Q across-on-chart up-on-chart in
-            let u = enclosed-iff s t straight cell (omega arith) (omega arith) .0 e k h in
+            let u = enclosed-iff o straight cell (omega arith) (omega arith) .0 e k h in
             absurd (under (rw (cellE-cellOf k P Q across-on-chart, cellL-cellOf k P Q up-on-chart) at u))
 
-    pub dented-missing : Missing s t cell
+    pub dented-missing : Missing (encloses o) cell
     dented-missing = record { hull = cell-in-hull; open-cell = cell-open }
 
-  pub dent-missing : dentPiece s t < 4 → (x : Point) × Missing s t x
+  pub dent-missing : dentPiece o < 4 → (x : Point) × Missing (encloses o) x
   unfolding dentPiece factors
   dent-missing h =
-      let k : ℕ = dentPiece s t in
-      let e = first-found (λ k. ltb 0 (dentLength (factors s t k))) 4 h in
-      let d : Dented (word s t k) = dented-word (word s t k) (ltb-true 0 (dentLength (factors s t k)) e) in
+      let k : ℕ = dentPiece o in
+      let e = first-found (λ k. ltb 0 (dentLength (factors o k))) 4 h in
+      let d : Dented (word o k) = dented-word (word o k) (ltb-true 0 (dentLength (factors o k)) e) in
       (cell k h d, dented-missing k h d)

@@ -14,9 +14,9 @@ use Rattle.words.specs.Word.{Word, earliers, laters}
 use Rattle.words.specs.Lyndon.{Factor, copies, written}
 use Rattle.words.proofs.Counts.{laters-copies, length-copies, laters-next-later, laters-take-le}
 use Rattle.words.proofs.Factors.{factors-exist}
-use Rattle.chart.specs.declared.Point.{Point}
+use Rattle.chart.specs.Outline.{Outline}
+use Rattle.convexity.specs.Cut.{reading}
 use Rattle.convexity.specs.Frame.{frameOf}
-use Rattle.convexity.specs.Cut.{west, turn}
 use Rattle.convexity.specs.Pieces.{Reaches, word, factors, edgesOf, edges, edgeCount, dentPiece}
 use Rattle.convexity.specs.Directions.{edgeCols, edgeRows, SameDirection}
 use Rattle.convexity.proofs.Frame.{run, rise, Falls, EdgesFall}
@@ -220,35 +220,35 @@ module _ (k : ℕ) (small : k < 4) {es : List ℤ} (rest : Turning (suc k) 0 0 e
 
 -- ---- the four pieces
 
-module _ (s : Point) (t : List ℕ) (straight : NoBackStep s t) (smooth : dentPiece s t ≡ 4) where
-  piece-turning : (k : ℕ) → k < 4 → {es : List ℤ} → Turning (suc k) 0 0 es → Turning k 0 0 (edgesOf (frameOf k) (factors s t k) ++ es)
+module _ (o : Outline) (straight : NoBackStep o) (smooth : dentPiece o ≡ 4) where
+  piece-turning : (k : ℕ) → k < 4 → {es : List ℤ} → Turning (suc k) 0 0 es → Turning k 0 0 (edgesOf (frameOf k) (factors o k) ++ es)
   unfolding factors
   piece-turning k h rest =
-      turning-piece k h rest (factors s t k) (smooth-edges s t smooth k h) (rw (factors-exist (word s t k) .whole) (shape s t straight .ends k h))
+      turning-piece k h rest (factors o k) (smooth-edges o smooth k h) (rw (factors-exist (word o k) .whole) (shape o straight .ends k h))
 
   -- From up, inclusive, the directions turn clockwise to just short of up again
-  edges-turning : Turning 0 0 0 (edges s t)
+  edges-turning : Turning 0 0 0 (edges o)
   unfolding edges
   edges-turning =
       piece-turning 0 (lit< tt) (piece-turning 1 (lit< tt) (piece-turning 2 (lit< tt) (rw append-nil at (piece-turning 3 (lit< tt) none))))
 
-module _ (s : Point) (w : List ℕ) where
+module _ (o : Outline) where
   abbrev es : List ℤ
-  es = edges (west s w) (turn s w)
+  es = edges (reading o)
 
-  module _ (h : Reaches s w) (smooth : dentPiece (west s w) (turn s w) ≡ 4) where
+  module _ (h : Reaches o) (smooth : dentPiece (reading o) ≡ 4) where
     sent-turning : Turning 0 0 0 es
-    sent-turning = edges-turning (west s w) (turn s w) (clear-of s w h) smooth
+    sent-turning = edges-turning (reading o) (clear-of o h) smooth
 
-    edge-within : (i : ℕ) → i < edgeCount (west s w) (turn s w) → 2 * i < length es
-    edge-within i l = omega (arith, edges-length (west s w) (turn s w))
+    edge-within : (i : ℕ) → i < edgeCount (reading o) → 2 * i < length es
+    edge-within i l = omega (arith, edges-length (reading o))
 
     -- No edge is (0, 0)
-    pub edge-not-nil : (i : ℕ) → i < edgeCount (west s w) (turn s w) → edgeCols es i ≡ pos 0 → edgeRows es i ≡ pos 0 → ⊥
+    pub edge-not-nil : (i : ℕ) → i < edgeCount (reading o) → edgeCols es i ≡ pos 0 → edgeRows es i ≡ pos 0 → ⊥
     edge-not-nil i l = let p = turning-past sent-turning i (edge-within i l) in points-not-nil (p .frame) (p .points)
 
     -- No two edges share a direction
     pub directions-distinct :
-        (i j : ℕ) → i < j → j < edgeCount (west s w) (turn s w)
+        (i j : ℕ) → i < j → j < edgeCount (reading o)
         → SameDirection (edgeCols es i) (edgeRows es i) (edgeCols es j) (edgeRows es j) → ⊥
     directions-distinct i j l m = turning-apart sent-turning i j l (edge-within j m)

@@ -5,16 +5,15 @@ use native.Mathlib.Omega.{arith}
 use mathlib.Core.Path.{_≡_, refl, sym, ap, _∙_}
 use mathlib.Core.Logic.{_⊎_, inl, inr, _≢_}
 use mathlib.Core.Bool.{Bool, true, false, cond, _&&_, _||_}
-use mathlib.Core.List.{List}
-use lib.ListN.{length, getD}
 use lib.Dec.{ltb, eqb}
 use borrow.Author.Tests.{ltb-true, leb-false, eqb-true, eqb-false, lt-ltb, le-ltb, eq-eqb}
 use Rattle.base.proofs.BelowLaws.{below-suc, and-left, and-right}
 use Rattle.chart.specs.Limits.{side}
 use Rattle.chart.specs.declared.Point.{Point}
-use Rattle.lattice.specs.Chart.{step, leaves, cornerAt}
+use Rattle.chart.specs.Outline.{Outline}
+use Rattle.lattice.specs.Chart.{step, leaves, cornerAt, size, letterAt}
 use Rattle.lattice.specs.Refusals.{Simple}
-use Rattle.lattice.proofs.WalkLaws.{Walked, OnChart, walked, rotated, turned, length-rotation, point-eq, corner-zero, corner-suc, corner-all, corner-injective}
+use Rattle.lattice.proofs.WalkLaws.{Walked, OnChart, walked, rotated-walked, turned, length-rotation, point-eq, corner-zero, corner-suc, corner-all, corner-injective}
 use Rattle.convexity.specs.Frame.{Frame, frameOf, along}
 use Rattle.convexity.specs.Cut.{before, least, cornerPlace, westPlace, west, turn}
 use Rattle.convexity.specs.Reading.{opposite}
@@ -106,41 +105,41 @@ before-trans f p q r h k =
 -- ---- the first corner of a piece
 
 -- The corner at place i comes first in frame k
-pub record FirstAt (s : Point) (w : List ℕ) (k i : ℕ) : Type 0 where
-  pub below : i < length w
-  pub none : (j : ℕ) → j < length w → before (frameOf k) (cornerAt s w j) (cornerAt s w i) ≡ false
+pub record FirstAt (o : Outline) (k i : ℕ) : Type 0 where
+  pub below : i < size o
+  pub none : (j : ℕ) → j < size o → before (frameOf k) (cornerAt o j) (cornerAt o i) ≡ false
 
-pub cornerPlace-lt : (s : Point) (w : List ℕ) (k : ℕ) → 0 < length w → cornerPlace s w k < length w
+pub cornerPlace-lt : (o : Outline) (k : ℕ) → 0 < size o → cornerPlace o k < size o
 unfolding cornerPlace
-cornerPlace-lt s w k h = least-lt (λ i j. before (frameOf k) (cornerAt s w i) (cornerAt s w j)) (length w) h
+cornerPlace-lt o k h = least-lt (λ i j. before (frameOf k) (cornerAt o i) (cornerAt o j)) (size o) h
 
-pub cornerPlace-first : (s : Point) (w : List ℕ) (k i : ℕ) → i < length w
-    → before (frameOf k) (cornerAt s w i) (cornerAt s w (cornerPlace s w k)) ≡ false
+pub cornerPlace-first : (o : Outline) (k i : ℕ) → i < size o
+    → before (frameOf k) (cornerAt o i) (cornerAt o (cornerPlace o k)) ≡ false
 unfolding cornerPlace
-cornerPlace-first s w k i h =
-    least-first (λ i j. before (frameOf k) (cornerAt s w i) (cornerAt s w j)) (λ i. before-irrefl (frameOf k) (cornerAt s w i))
-    (λ i j m. before-trans (frameOf k) (cornerAt s w i) (cornerAt s w j) (cornerAt s w m)) (length w) i h
+cornerPlace-first o k i h =
+    least-first (λ i j. before (frameOf k) (cornerAt o i) (cornerAt o j)) (λ i. before-irrefl (frameOf k) (cornerAt o i))
+    (λ i j m. before-trans (frameOf k) (cornerAt o i) (cornerAt o j) (cornerAt o m)) (size o) i h
 
-pub first-at-cornerPlace : (s : Point) (w : List ℕ) (k : ℕ) → 0 < length w → FirstAt s w k (cornerPlace s w k)
-first-at-cornerPlace s w k h = record { below = cornerPlace-lt s w k h; none = cornerPlace-first s w k }
+pub first-at-cornerPlace : (o : Outline) (k : ℕ) → 0 < size o → FirstAt o k (cornerPlace o k)
+first-at-cornerPlace o k h = record { below = cornerPlace-lt o k h; none = cornerPlace-first o k }
 
 -- The letters from W on are a turn
-pub turn-of : (s : Point) (w : List ℕ) → Simple s w → Turn (west s w) (turn s w)
-unfolding west turn westPlace
-turn-of s w t =
-    let d : Walked s w = walked s w t in
-    let k : ℕ = cornerPlace s w 0 in
-    let h : k ≤ length w = omega (arith, cornerPlace-lt s w 0 (omega arith)) in
+pub turn-of : (o : Outline) → Simple o → Turn (turn o)
+unfolding turn westPlace
+turn-of o t =
+    let d : Walked o = walked o t in
+    let k : ℕ = cornerPlace o 0 in
+    let h : k ≤ size o = omega (arith, cornerPlace-lt o 0 (omega arith)) in
     record {
-      walked = rotated s w k h d;
+      walked = rotated-walked o k h d;
       west = λ i l.
-          let (j, m) = turned s w k h (d .closed) i (omega (arith, length-rotation s w k h)) in rw (m .corner) (cornerPlace-first s w 0 j (m .below));
+          let (j, m) = turned o k h (d .closed) i (omega (arith, length-rotation o k h)) in rw (m .corner) (cornerPlace-first o 0 j (m .below));
     }
 
 -- ---- steps in a frame
 
-pub on-chart : (s : Point) (w : List ℕ) → Walked s w → (i : ℕ) → i ≤ length w → OnChart (cornerAt s w i)
-on-chart s w d i h = record { col = d .col-le i h; row = d .row-le i h }
+pub on-chart : (o : Outline) → Walked o → (i : ℕ) → i ≤ size o → OnChart (cornerAt o i)
+on-chart o d i h = record { col = d .col-le i h; row = d .row-le i h }
 
 -- The letter a leads from p to q, one on or one back along one of the frame's letters, and not along the other
 pub data Moved (f : Frame) (a : ℕ) (p q : Point) : Type 0 where
@@ -221,53 +220,53 @@ unfoldable pub previous : ℕ → ℕ → ℕ
 previous n zero = n - 1
 previous n (suc i) = i
 
-module _ (s : Point) (w : List ℕ) (d : Walked s w) where
-  pub corner-round : cornerAt s w (length w) ≡ cornerAt s w 0
-  corner-round = corner-all s w ∙ d .closed ∙ sym (corner-zero s w)
+module _ (o : Outline) (d : Walked o) where
+  pub corner-round : cornerAt o (size o) ≡ cornerAt o 0
+  corner-round = corner-all o ∙ d .closed ∙ sym (corner-zero o)
 
-  pub moves : (k i : ℕ) → i < length w → Moved (frameOf k) (getD w i 0) (cornerAt s w i) (cornerAt s w (suc i))
-  moves k i h = rw (corner-suc s w i h) (moved k (getD w i 0) (cornerAt s w i) (d .letter i h) (d .stays i h) (on-chart s w d i (omega arith)))
+  pub moves : (k i : ℕ) → i < size o → Moved (frameOf k) (letterAt o i) (cornerAt o i) (cornerAt o (suc i))
+  moves k i h = rw (corner-suc o i h) (moved k (letterAt o i) (cornerAt o i) (d .letter i h) (d .stays i h) (on-chart o d i (omega arith)))
 
-  previous-lt : (i : ℕ) → i < length w → previous (length w) i < length w
+  previous-lt : (i : ℕ) → i < size o → previous (size o) i < size o
   unfolding previous
   previous-lt zero h = omega arith
   previous-lt (suc i) h = omega arith
 
-  corner-previous : (i : ℕ) → cornerAt s w (suc (previous (length w) i)) ≡ cornerAt s w i
+  corner-previous : (i : ℕ) → cornerAt o (suc (previous (size o) i)) ≡ cornerAt o i
   unfolding previous
-  corner-previous zero = ap (cornerAt s w) (omega (arith, d .long)) ∙ corner-round
+  corner-previous zero = ap (cornerAt o) (omega (arith, d .long)) ∙ corner-round
   corner-previous (suc i) = refl
 
   -- The place after place i, past the end to the beginning
   record After (i j : ℕ) : Type 0 where
-    below : j < length w
-    corner : cornerAt s w (suc i) ≡ cornerAt s w j
-    apart : previous (length w) i ≢ j
+    below : j < size o
+    corner : cornerAt o (suc i) ≡ cornerAt o j
+    apart : previous (size o) i ≢ j
 
-  place-after : (i : ℕ) → i < length w → (j : ℕ) × After i j
+  place-after : (i : ℕ) → i < size o → (j : ℕ) × After i j
   unfolding previous
   place-after i h =
-      elim (decLt (suc i) (length w)) [
+      elim (decLt (suc i) (size o)) [
         | yes l ↦ (suc i, record { below = l; corner = refl; apart = apart i l })
-        | no l ↦ (0, record { below = omega arith; corner = ap (cornerAt s w) (omega arith) ∙ corner-round; apart = back i h (omega arith) })
+        | no l ↦ (0, record { below = omega arith; corner = ap (cornerAt o) (omega arith) ∙ corner-round; apart = back i h (omega arith) })
       ]
     where
-      apart : (i : ℕ) → suc i < length w → previous (length w) i ≢ suc i
+      apart : (i : ℕ) → suc i < size o → previous (size o) i ≢ suc i
       apart zero l = omega (arith, d .long)
       apart (suc i) l = omega arith
 
-      back : (i : ℕ) → i < length w → suc i ≡ length w → previous (length w) i ≢ 0
+      back : (i : ℕ) → i < size o → suc i ≡ size o → previous (size o) i ≢ 0
       back zero h e = omega (arith, d .long)
       back (suc i) h e = omega (arith, d .long)
 
   -- At the first corner of a frame
-  pub bend : (k i : ℕ) → FirstAt s w k i → Bend (frameOf k) (getD w (previous (length w) i) 0) (getD w i 0)
+  pub bend : (k i : ℕ) → FirstAt o k i → Bend (frameOf k) (letterAt o (previous (size o) i)) (letterAt o i)
   bend k i t =
-      let h : i < length w = t .below in
-      let j : ℕ = previous (length w) i in
-      let l : j < length w = previous-lt i h in
+      let h : i < size o = t .below in
+      let j : ℕ = previous (size o) i in
+      let l : j < size o = previous-lt i h in
       let (m, r) = place-after i h in
-      let far : cornerAt s w j ≡ cornerAt s w m → ⊥ = λ e. r .apart (corner-injective s w d j m l (r .below) e) in
-      bend-of (frameOf k) (getD w j 0) (getD w i 0) (cornerAt s w j) (cornerAt s w i) (cornerAt s w m) (t .none j l) (t .none m (r .below))
-      (λ x y. far (along-injective k (cornerAt s w j) (cornerAt s w m) (on-chart s w d j (omega arith)) (on-chart s w d m (omega (arith, r .below))) x y))
+      let far : cornerAt o j ≡ cornerAt o m → ⊥ = λ e. r .apart (corner-injective o d j m l (r .below) e) in
+      bend-of (frameOf k) (letterAt o j) (letterAt o i) (cornerAt o j) (cornerAt o i) (cornerAt o m) (t .none j l) (t .none m (r .below))
+      (λ x y. far (along-injective k (cornerAt o j) (cornerAt o m) (on-chart o d j (omega arith)) (on-chart o d m (omega (arith, r .below))) x y))
       (rw (r .corner) at (moves k i h)) (rw corner-previous at (moves k j l))

@@ -15,9 +15,9 @@ use Rattle.words.specs.Counted.{edgeWord, edgesWord, sizes}
 use Rattle.base.proofs.BelowLaws.{first-none-at}
 use Rattle.words.proofs.Factors.{factors-exist, falling-head, falling-tail}
 use Rattle.words.proofs.Counted.{factor-edge, edge-length}
-use Rattle.chart.specs.declared.Point.{Point}
+use Rattle.chart.specs.Outline.{Outline}
 use Rattle.convexity.specs.Frame.{frameOf}
-use Rattle.convexity.specs.Cut.{west, turn}
+use Rattle.convexity.specs.Cut.{reading}
 use Rattle.convexity.specs.Pieces.{Reaches, piece, word, factors, dentLength, dentPiece, edgesOf, edges}
 use Rattle.convexity.specs.Quadrant.{spell}
 use Rattle.convexity.specs.FromEdges.{quadrantOf, runIn, riseIn, sizesIn, pieceFrom, lettersFrom, stepCount}
@@ -40,12 +40,12 @@ written-sizes (f ∷ fs) h e =
     let d = dent-first f fs p e in
     rw (factor-edge f p (d .0), written-sizes fs (falling-tail h) (d .1))
 
-pub word-sizes : (s : Point) (t : List ℕ) → dentPiece s t ≡ 4 → (k : ℕ) → k < 4 → word s t k ≡ edgesWord (sizes (factors s t k))
+pub word-sizes : (o : Outline) → dentPiece o ≡ 4 → (k : ℕ) → k < 4 → word o k ≡ edgesWord (sizes (factors o k))
 unfolding dentPiece factors
-word-sizes s t e k l =
-    let f = factors-exist (word s t k) in
-    let none-here = ltb-false 0 (dentLength (factors s t k)) (first-none-at (λ k. ltb 0 (dentLength (factors s t k))) 4 e k l) in
-    sym (f .whole) ∙ written-sizes (factors s t k) (f .falling) (omega arith)
+word-sizes o e k l =
+    let f = factors-exist (word o k) in
+    let none-here = ltb-false 0 (dentLength (factors o k)) (first-none-at (λ k. ltb 0 (dentLength (factors o k))) 4 e k l) in
+    sym (f .whole) ∙ written-sizes (factors o k) (f .falling) (omega arith)
 
 -- ---- an edge lies in the quadrant of its own piece
 
@@ -165,26 +165,26 @@ module _ (k : ℕ) (small : k < 4) (es : List ℤ) where
 
 -- ---- the four pieces
 
-module _ (s : Point) (t : List ℕ) (straight : NoBackStep s t) (smooth : dentPiece s t ≡ 4) where
+module _ (o : Outline) (straight : NoBackStep o) (smooth : dentPiece o ≡ 4) where
   abbrev flat : ℕ → List ℤ
-  flat k = edgesOf (frameOf k) (factors s t k)
+  flat k = edgesOf (frameOf k) (factors o k)
 
-  rises : (k : ℕ) → k < 4 → AllRise (factors s t k)
+  rises : (k : ℕ) → k < 4 → AllRise (factors o k)
   unfolding factors
-  rises k h = all-rise (factors s t k) (smooth-edges s t smooth k h) (rw (factors-exist (word s t k) .whole) (shape s t straight .ends k h))
+  rises k h = all-rise (factors o k) (smooth-edges o smooth k h) (rw (factors-exist (word o k) .whole) (shape o straight .ends k h))
 
-  keep : (k : ℕ) → k < 4 → (es : List ℤ) → sizesIn k (flat k ++ es) ≡ sizes (factors s t k) ++ sizesIn k es
-  keep k h es = own-sizes k h es (factors s t k) (rises k h)
+  keep : (k : ℕ) → k < 4 → (es : List ℤ) → sizesIn k (flat k ++ es) ≡ sizes (factors o k) ++ sizesIn k es
+  keep k h es = own-sizes k h es (factors o k) (rises k h)
 
   skip : (j k : ℕ) → k < 4 → (k ≡ j → ⊥) → (es : List ℤ) → sizesIn j (flat k ++ es) ≡ sizesIn j es
-  skip j k h apart es = other-sizes k h es j apart (factors s t k) (rises k h)
+  skip j k h apart es = other-sizes k h es j apart (factors o k) (rises k h)
 
-  flat-edges : edges s t ≡ flat 0 ++ (flat 1 ++ (flat 2 ++ (flat 3 ++ [])))
+  flat-edges : edges o ≡ flat 0 ++ (flat 1 ++ (flat 2 ++ (flat 3 ++ [])))
   unfolding edges
   flat-edges = rw append-nil
 
   -- The flat list determines the runs and rises of each piece's edges
-  pub edges-sizes : (k : ℕ) → k < 4 → sizesIn k (edges s t) ≡ sizes (factors s t k)
+  pub edges-sizes : (k : ℕ) → k < 4 → sizesIn k (edges o) ≡ sizes (factors o k)
   unfolding sizesIn
   edges-sizes zero h =
       rw (flat-edges, keep 0 (lit< tt), skip 0 1 (lit< tt) (λ e. omega arith), skip 0 2 (lit< tt) (λ e. omega arith), skip 0 3 (lit< tt) (λ e. omega arith))
@@ -201,27 +201,25 @@ module _ (s : Point) (t : List ℕ) (straight : NoBackStep s t) (smooth : dentPi
   edges-sizes (suc (suc (suc (suc k)))) h = absurd (omega arith)
 
   -- So it writes back each piece, and the letters from W on
-  pub piece-from-edges : (k : ℕ) → k < 4 → piece s t k ≡ pieceFrom k (edges s t)
+  pub piece-from-edges : (k : ℕ) → k < 4 → piece o k ≡ pieceFrom k (edges o)
   unfolding pieceFrom
   piece-from-edges k h =
-      shape s t straight .spelled k h ∙ ap (λ (w : Word). spell (frameOf k) (true ∷ w)) (word-sizes s t smooth k h ∙ ap edgesWord (sym (edges-sizes k h)))
+      shape o straight .spelled k h ∙ ap (λ (w : Word). spell (frameOf k) (true ∷ w)) (word-sizes o smooth k h ∙ ap edgesWord (sym (edges-sizes k h)))
 
-  pub turn-from-edges : t ≡ lettersFrom (edges s t)
+  pub turn-from-edges : o .letters ≡ lettersFrom (edges o)
   unfolding lettersFrom
   turn-from-edges =
-      shape s t straight .whole
+      shape o straight .whole
       ∙ rw (piece-from-edges 0 (lit< tt), piece-from-edges 1 (lit< tt), piece-from-edges 2 (lit< tt), piece-from-edges 3 (lit< tt))
 
 -- Two turns with the same edges are the same letters
-pub turn-unique :
-    {s s′ : Point} {t t′ : List ℕ} → NoBackStep s t → NoBackStep s′ t′ → dentPiece s t ≡ 4 → dentPiece s′ t′ ≡ 4 → edges s t ≡ edges s′ t′ → t ≡ t′
-turn-unique {s} {s′} {t} {t′} h h′ e e′ same = turn-from-edges s t h e ∙ ap lettersFrom same ∙ sym (turn-from-edges s′ t′ h′ e′)
+pub turn-unique : {o o′ : Outline} → NoBackStep o → NoBackStep o′ → dentPiece o ≡ 4 → dentPiece o′ ≡ 4 → edges o ≡ edges o′ → o .letters ≡ o′ .letters
+turn-unique {o} {o′} h h′ e e′ same = turn-from-edges o h e ∙ ap lettersFrom same ∙ sym (turn-from-edges o′ h′ e′)
 
 -- ---- outlines as sent
 
-module _ (s : Point) (w : List ℕ) (h : Reaches s w) (smooth : dentPiece (west s w) (turn s w) ≡ 4) where
-  pub sent-from-edges : turn s w ≡ lettersFrom (edges (west s w) (turn s w))
-  sent-from-edges = turn-from-edges (west s w) (turn s w) (clear-of s w h) smooth
+pub sent-from-edges : (o : Outline) → Reaches o → dentPiece (reading o) ≡ 4 → reading o .letters ≡ lettersFrom (edges (reading o))
+sent-from-edges o h smooth = turn-from-edges (reading o) (clear-of o h) smooth
 
 -- ---- how many letters a list writes
 

@@ -14,6 +14,8 @@ use Rattle.words.specs.Lyndon.{Factor, copies, written}
 use Rattle.words.proofs.Factors.{factors-exist}
 use Rattle.words.proofs.Counts.{earliers-append, laters-append, earliers-copies, laters-copies}
 use Rattle.chart.specs.declared.Point.{Point}
+use Rattle.chart.specs.Outline.{Outline}
+use Rattle.chart.specs.Limits.{side}
 use Rattle.lattice.specs.Chart.{walk, cornerAt}
 use Rattle.convexity.specs.Frame.{Frame, frameOf, along}
 use Rattle.convexity.specs.Cut.{cut}
@@ -95,7 +97,7 @@ spans-iff (suc (suc zero)) x = meets-iff (λ es v w. spans 2 x es v w ≡ true) 
 spans-iff (suc (suc (suc k))) x = meets-iff (λ es v w. spans 3 x es v w ≡ true) (λ d v w. Iff·rfl) λ d e es v w. min-iff w (lowestMet (rowSteps es) (w +ℤ e)) (pos (x .row))
 
 -- A vertex in frame k
-placed-spans : (k : ℕ) (x : Point) → x .col < 255 → x .row < 255 → {p q : ℕ} {v w : ℤ} → Placed k p q v w → (spans k x [] v w ≡ true) ↔ (p ≤ cellE k x)
+placed-spans : (k : ℕ) (x : Point) → x .col < side → x .row < side → {p q : ℕ} {v w : ℤ} → Placed k p q v w → (spans k x [] v w ≡ true) ↔ (p ≤ cellE k x)
 unfolding spans lowestMet highestMet colSteps rowSteps Counted cellE cellAlong frameOf
 placed-spans zero x c r h = Iff·trans (le-iff (h .counted .0) (is-self (pos (x .col)))) (omega arith)
 placed-spans (suc zero) x c r h = Iff·trans (le-iff (is-self (pos (x .row))) (h .counted .1)) (omega arith)
@@ -150,48 +152,48 @@ meets-passed P N k (g ∷ gs) {o = o} {vp = vp} {vq = vq} {x = x} {y = y} h f m 
 
 -- ---- the ring of the four pieces
 
-module _ (s : Point) (t : List ℕ) where
+module _ (o : Outline) where
   -- The first cell of piece k on the walk of the edges
   unfoldable pub firstCol : ℕ → ℤ
-  firstCol zero = pos (s .col)
-  firstCol (suc k) = reached (colSteps (edgesOf (frameOf k) (factors s t k))) (firstCol k)
+  firstCol zero = pos (o .start .col)
+  firstCol (suc k) = reached (colSteps (edgesOf (frameOf k) (factors o k))) (firstCol k)
 
   unfoldable pub firstRow : ℕ → ℤ
-  firstRow zero = pos (s .row)
-  firstRow (suc k) = reached (rowSteps (edgesOf (frameOf k) (factors s t k))) (firstRow k)
+  firstRow zero = pos (o .start .row)
+  firstRow (suc k) = reached (rowSteps (edgesOf (frameOf k) (factors o k))) (firstRow k)
 
-  whole-piece : (k : ℕ) → written (factors s t k) ≡ word s t k
+  whole-piece : (k : ℕ) → written (factors o k) ≡ word o k
   unfolding factors
-  whole-piece k = factors-exist (word s t k) .whole
+  whole-piece k = factors-exist (word o k) .whole
 
-  first-placed-0 : Placed 0 (startE s t 0) (startL s t 0) (firstCol 0) (firstRow 0)
+  first-placed-0 : Placed 0 (startE o 0) (startL o 0) (firstCol 0) (firstRow 0)
   unfolding firstCol firstRow startE startL startOf along frameOf cut cornerAt walk Counted
   first-placed-0 = record { counted = omega arith }
 
   -- The next piece starts where the edges of this one end
-  turn : Shape s t → (k : ℕ) → k < 4 → {x y : ℤ} → Placed k (startE s t k + earliers (word s t k)) (startL s t k + laters (word s t k)) x y
-      → Placed (next k) (startE s t (next k)) (startL s t (next k)) x y
+  turn : Shape o → (k : ℕ) → k < 4 → {x y : ℤ} → Placed k (startE o k + earliers (word o k)) (startL o k + laters (word o k)) x y
+      → Placed (next k) (startE o (next k)) (startL o (next k)) x y
   turn g k h p = rw (g .next-later k h) (lies-next k (omega (arith, g .next-earlier k h)) p)
 
-  first-placed : Shape s t → (k : ℕ) → k < 4 → Placed k (startE s t k) (startL s t k) (firstCol k) (firstRow k)
+  first-placed : Shape o → (k : ℕ) → k < 4 → Placed k (startE o k) (startL o k) (firstCol k) (firstRow k)
   unfolding firstCol firstRow
   first-placed g zero l = first-placed-0
   first-placed g (suc k) l =
-      rw (next-suc k (omega arith)) at (turn g k (omega arith) (rw whole-piece at (lies-end k (factors s t k) (first-placed g k (omega arith)))))
+      rw (next-suc k (omega arith)) at (turn g k (omega arith) (rw whole-piece at (lies-end k (factors o k) (first-placed g k (omega arith)))))
 
   -- The last piece ends at the first cell of the first
-  last-placed : Shape s t → Placed 0 (startE s t 0) (startL s t 0) (firstCol 4) (firstRow 4)
+  last-placed : Shape o → Placed 0 (startE o 0) (startL o 0) (firstCol 4) (firstRow 4)
   unfolding firstCol firstRow
-  last-placed g = turn g 3 (omega arith) (rw whole-piece at (lies-end 3 (factors s t 3) (first-placed g 3 (omega arith))))
+  last-placed g = turn g 3 (omega arith) (rw whole-piece at (lies-end 3 (factors o 3) (first-placed g 3 (omega arith))))
 
   -- Some vertex of piece k has P
   abbrev MeetsPiece : (ℤ → ℤ → Type 0) → ℕ → Type 0
-  MeetsPiece P k = Meets P (edgesOf (frameOf k) (factors s t k)) (firstCol k) (firstRow k)
+  MeetsPiece P k = Meets P (edgesOf (frameOf k) (factors o k)) (firstCol k) (firstRow k)
 
   abbrev MeetsSome : (ℤ → ℤ → Type 0) → Type 0
   MeetsSome P = MeetsPiece P 0 ⊎ (MeetsPiece P 1 ⊎ (MeetsPiece P 2 ⊎ MeetsPiece P 3))
 
-  meets-edges : (P : ℤ → ℤ → Type 0) → Meets P (edges s t) (pos (s .col)) (pos (s .row)) ↔ MeetsSome P
+  meets-edges : (P : ℤ → ℤ → Type 0) → Meets P (edges o) (pos (o .start .col)) (pos (o .start .row)) ↔ MeetsSome P
   unfolding edges firstCol firstRow
   meets-edges P = either (meets-append P _ _ _ _ _) (either (meets-append P _ _ _ _ _) (meets-append P _ _ _ _ _))
 
@@ -200,13 +202,13 @@ module _ (s : Point) (t : List ℕ) where
 
   -- No side value of piece k is below 0, in its frame
   abbrev RightSide : Point → ℕ → Type 0
-  RightSide x k = Sides (factors s t k) (startE s t k) (startL s t k) (cellE k x) (cellL k x)
+  RightSide x k = Sides (factors o k) (startE o k) (startL o k) (cellE k x) (cellL k x)
 
-  module _ (g : Shape s t) (x : Point) (x-col : x .col < 255) (x-row : x .row < 255) where
+  module _ (g : Shape o) (x : Point) (x-col : x .col < side) (x-row : x .row < side) where
     -- No vertex of piece j lies less far along the earlier letter of any frame than the first cell of that frame's piece
     none-before :
-        (j : ℕ) → j < 4 → {v w : ℤ} → Passed j 254 (startE s t j) (startL s t j) (earliers (word s t j)) (laters (word s t j)) v w
-        → (k : ℕ) → k < 4 → spans k x [] v w ≡ true → startE s t k ≤ cellE k x
+        (j : ℕ) → j < 4 → {v w : ℤ} → Passed j 254 (startE o j) (startL o j) (earliers (word o j)) (laters (word o j)) v w
+        → (k : ℕ) → k < 4 → spans k x [] v w ≡ true → startE o k ≤ cellE k x
     none-before j h {v} {w} i =
         let a = next-lt j in
         let b = next-lt (next j) in
@@ -214,16 +216,16 @@ module _ (s : Point) (t : List ℕ) where
         let after = lies-next j {q′ = 254 - i .q} (omega (arith, g .next-earlier j h)) here in
         let across = lies-next (next j) {q′ = 254 - i .p} (omega (arith, g .next-later j h, g .next-earlier (next j) a)) after in
         let back = lies-next (next (next j)) {q′ = i .q} (omega (arith, g .next-earlier j h)) across in
-        all-round (λ k. spans k x [] v w ≡ true → startE s t k ≤ cellE k x) j h
+        all-round (λ k. spans k x [] v w ≡ true → startE o k ≤ cellE k x) j h
         (λ m. omega (arith, placed-spans j x x-col x-row here .0 m))
         (λ m. omega (arith, placed-spans (next j) x x-col x-row after .0 m, g .next-earlier j h))
         (λ m. omega (arith, placed-spans (next (next j)) x x-col x-row across .0 m, g .next-later j h, g .next-earlier (next j) a))
         (λ m. omega (arith, placed-spans (next (next (next j))) x x-col x-row back .0 m, rw (next-round j h) at (g .next-later (next (next (next j))) (next-lt (next (next j))))))
 
     -- So the walk's extreme along each frame's earlier letter is that of its piece's first cell
-    extreme : (k : ℕ) → k < 4 → (spans k x (edges s t) (pos (s .col)) (pos (s .row)) ≡ true) ↔ (startE s t k ≤ cellE k x)
+    extreme : (k : ℕ) → k < 4 → (spans k x (edges o) (pos (o .start .col)) (pos (o .start .row)) ≡ true) ↔ (startE o k ≤ cellE k x)
     extreme k l =
-        Iff·trans (spans-iff k x (edges s t) (pos (s .col)) (pos (s .row))) (
+        Iff·trans (spans-iff k x (edges o) (pos (o .start .col)) (pos (o .start .row))) (
           λ m. ⊎-elim (passes 0 (omega arith)) (⊎-elim (passes 1 (omega arith)) (⊎-elim (passes 2 (omega arith)) (passes 3 (omega arith)))) (meets-edges P .0 m),
           λ n. meets-edges P .1 (among P k l (meets-here P _ _ _ (placed-spans k x x-col x-row (first-placed g k l) .1 n))),
         )
@@ -231,21 +233,21 @@ module _ (s : Point) (t : List ℕ) where
         P : ℤ → ℤ → Type 0
         P v w = spans k x [] v w ≡ true
 
-        passes : (j : ℕ) → j < 4 → MeetsPiece P j → startE s t k ≤ cellE k x
-        passes j h = meets-passed P _ j (factors s t j) (first-placed g j h) λ v w i. none-before j h (rw whole-piece at i) k l
+        passes : (j : ℕ) → j < 4 → MeetsPiece P j → startE o k ≤ cellE k x
+        passes j h = meets-passed P _ j (factors o j) (first-placed g j h) λ v w i. none-before j h (rw whole-piece at i) k l
 
     none-outside-iff :
-        (noneOutside (edges s t) (pos (s .col)) (pos (s .row)) (pos (x .col)) (pos (x .row)) ≡ true)
+        (noneOutside (edges o) (pos (o .start .col)) (pos (o .start .row)) (pos (x .col)) (pos (x .row)) ≡ true)
         ↔ (RightSide x 0 × (RightSide x 1 × (RightSide x 2 × RightSide x 3)))
     unfolding edges firstCol firstRow
     none-outside-iff = split 0 _ (omega arith) (split 1 _ (omega arith) (split 2 _ (omega arith) (sides 3 (omega arith))))
       where
-        sides : (k : ℕ) → k < 4 → (noneOutside (edgesOf (frameOf k) (factors s t k)) (firstCol k) (firstRow k) (pos (x .col)) (pos (x .row)) ≡ true) ↔ RightSide x k
-        sides k l = lies-sides k (factors s t k) (first-placed g k l) (placed-cell k x x-col x-row)
+        sides : (k : ℕ) → k < 4 → (noneOutside (edgesOf (frameOf k) (factors o k)) (firstCol k) (firstRow k) (pos (x .col)) (pos (x .row)) ≡ true) ↔ RightSide x k
+        sides k l = lies-sides k (factors o k) (first-placed g k l) (placed-cell k x x-col x-row)
 
         split :
             (k : ℕ) (es : List ℤ) → k < 4 → {A : Type 0} → (noneOutside es (firstCol (suc k)) (firstRow (suc k)) (pos (x .col)) (pos (x .row)) ≡ true) ↔ A
-            → (noneOutside (edgesOf (frameOf k) (factors s t k) ++ es) (firstCol k) (firstRow k) (pos (x .col)) (pos (x .row)) ≡ true) ↔ (RightSide x k × A)
+            → (noneOutside (edgesOf (frameOf k) (factors o k) ++ es) (firstCol k) (firstRow k) (pos (x .col)) (pos (x .row)) ≡ true) ↔ (RightSide x k × A)
         split k es l i = rw (none-outside-append (frameOf k) es) (Iff·trans (and-eq-true-iff _ _) (Iff·and (sides k l) i))
 
 -- Columns, then rows, then side values: two facts of each piece
@@ -262,15 +264,15 @@ gather A B = (
 
 -- The rule of a loose query, read in the four frames
 pub inside-iff :
-    (s : Point) (t : List ℕ) → Shape s t → (x : Point) → x .col < 255 → x .row < 255
-    → (insideEdges s (edges s t) x ≡ true)
-    ↔ ((k : ℕ) → k < 4 → (startE s t k ≤ cellE k x) × Sides (factors s t k) (startE s t k) (startL s t k) (cellE k x) (cellL k x))
+    (o : Outline) → Shape o → (x : Point) → x .col < side → x .row < side
+    → (insideEdges (o .start) (edges o) x ≡ true)
+    ↔ ((k : ℕ) → k < 4 → (startE o k ≤ cellE k x) × Sides (factors o k) (startE o k) (startL o k) (cellE k x) (cellL k x))
 unfolding insideEdges within spans
-inside-iff s t g x c r =
-    let cols = Iff·trans (and-eq-true-iff _ _) (Iff·and (extreme s t g x c r 0 (omega arith)) (extreme s t g x c r 2 (omega arith))) in
-    let rows = Iff·trans (and-eq-true-iff _ _) (Iff·and (extreme s t g x c r 3 (omega arith)) (extreme s t g x c r 1 (omega arith))) in
-    Iff·trans (and-eq-true-iff _ _) (Iff·trans (Iff·and (Iff·trans (and-eq-true-iff _ _) (Iff·and cols rows)) (none-outside-iff s t g x c r))
-    (gather (λ k. startE s t k ≤ cellE k x) (RightSide s t x)))
+inside-iff o g x c r =
+    let cols = Iff·trans (and-eq-true-iff _ _) (Iff·and (extreme o g x c r 0 (omega arith)) (extreme o g x c r 2 (omega arith))) in
+    let rows = Iff·trans (and-eq-true-iff _ _) (Iff·and (extreme o g x c r 3 (omega arith)) (extreme o g x c r 1 (omega arith))) in
+    Iff·trans (and-eq-true-iff _ _) (Iff·trans (Iff·and (Iff·trans (and-eq-true-iff _ _) (Iff·and cols rows)) (none-outside-iff o g x c r))
+    (gather (λ k. startE o k ≤ cellE k x) (RightSide o x)))
 
 -- ---- the edges close
 
@@ -289,24 +291,24 @@ total-nil ds x e =
     let sum = is-add (is-self x) (is-self (total ds)) in
     is-unique (is-self (total ds)) (is-self (pos 0)) (omega (arith, sum .eq, ap up (sym (reached-total ds x) ∙ e), ap down (sym (reached-total ds x) ∙ e)))
 
-module _ (s : Point) (t : List ℕ) where
-  cols-reached : reached (colSteps (edges s t)) (pos (s .col)) ≡ firstCol s t 4
+module _ (o : Outline) where
+  cols-reached : reached (colSteps (edges o)) (pos (o .start .col)) ≡ firstCol o 4
   unfolding edges firstCol
   cols-reached = simp (cols-append, reached-append)
 
-  rows-reached : reached (rowSteps (edges s t)) (pos (s .row)) ≡ firstRow s t 4
+  rows-reached : reached (rowSteps (edges o)) (pos (o .start .row)) ≡ firstRow o 4
   unfolding edges firstRow
   rows-reached = simp (rows-append, reached-append)
 
   -- The walk of the edges ends at the anchor
   pub edges-return :
-      Shape s t → (reached (colSteps (edges s t)) (pos (s .col)) ≡ pos (s .col)) × (reached (rowSteps (edges s t)) (pos (s .row)) ≡ pos (s .row))
+      Shape o → (reached (colSteps (edges o)) (pos (o .start .col)) ≡ pos (o .start .col)) × (reached (rowSteps (edges o)) (pos (o .start .row)) ≡ pos (o .start .row))
   unfolding Counted firstCol firstRow
   edges-return h =
-      let start = first-placed-0 s t .counted in
-      let stop = last-placed s t h .counted in
+      let start = first-placed-0 o .counted in
+      let stop = last-placed o h .counted in
       (cols-reached ∙ is-unique (stop .0) (start .0) refl, rows-reached ∙ is-unique (stop .1) (start .1) refl)
 
   -- The edges sum to nil
-  pub edges-close : Shape s t → (total (colSteps (edges s t)) ≡ pos 0) × (total (rowSteps (edges s t)) ≡ pos 0)
+  pub edges-close : Shape o → (total (colSteps (edges o)) ≡ pos 0) × (total (rowSteps (edges o)) ≡ pos 0)
   edges-close h = (total-nil _ _ (edges-return h .0), total-nil _ _ (edges-return h .1))

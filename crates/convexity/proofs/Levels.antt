@@ -10,7 +10,8 @@ use lib.Dec.{leb, eqb}
 use borrow.Author.Tests.{leb-true, eqb-true, eq-eqb, ne-eqb}
 use Rattle.base.proofs.BelowLaws.{and-left, and-right}
 use Rattle.chart.specs.declared.Point.{Point}
-use Rattle.lattice.specs.Chart.{step, cornerAt}
+use Rattle.chart.specs.Outline.{Outline}
+use Rattle.lattice.specs.Chart.{step, cornerAt, size, letterAt}
 use Rattle.lattice.specs.Enclosed.{upAlong, downAlong, ups, downs, encloses}
 use Rattle.lattice.proofs.WalkLaws.{point, corner-zero}
 use Rattle.lattice.proofs.Jumps.{tally, tally-found, upsTo, downsTo, ups-to, downs-to}
@@ -22,19 +23,19 @@ use Rattle.convexity.proofs.Quadrant.{Turn}
 use Rattle.convexity.proofs.Extreme.{FirstAt, not-before-earlier, not-before-later}
 
 -- The corner that comes first in frame 0 is the lowest of the leftmost
-pub first-lowest : (s : Point) (w : List ℕ) (k : ℕ) → FirstAt s w 0 k → Lowest s w k
+pub first-lowest : (o : Outline) (k : ℕ) → FirstAt o 0 k → Lowest o k
 unfolding frameOf along
-first-lowest s w k f =
+first-lowest o k f =
     record {
       below = f .below;
-      least-col = λ i l. not-before-earlier (frameOf 0) (cornerAt s w i) (cornerAt s w k) (f .none i l);
-      least-row = λ i l. not-before-later (frameOf 0) (cornerAt s w i) (cornerAt s w k) (f .none i l);
+      least-col = λ i l. not-before-earlier (frameOf 0) (cornerAt o i) (cornerAt o k) (f .none i l);
+      least-row = λ i l. not-before-later (frameOf 0) (cornerAt o i) (cornerAt o k) (f .none i l);
     }
 
 -- A clockwise turn leaves W upwards
-pub leaves-upwards : (t : List ℕ) → clockwise t ≡ true → getD t 0 0 ≡ 1
+pub leaves-upwards : (o : Outline) → clockwise o ≡ true → letterAt o 0 ≡ 1
 unfolding clockwise
-leaves-upwards t c = eqb-true (getD t 0 0) 1 c
+leaves-upwards o c = eqb-true (letterAt o 0) 1 c
 
 -- The two counts of a row are tallies
 pub ups-tally : (p : Point) (w : List ℕ) (c r : ℕ) → ups p w c r ≡ tally (λ q a. upAlong q a r && leb (q .col) c) p w
@@ -56,75 +57,75 @@ abbrev pub LetterAt : List ℕ → ℕ → ℕ → Type 0
 LetterAt t a i = (i < length t) × (getD t i 0 ≡ a)
 
 -- The point p stands for the cell one to the left and one below it, as in the laws of the right hand. Its level is 1, or 0
-abbrev pub In : Point → List ℕ → Point → Type 0
-In s t p = upsTo s t (p .col) (p .row) ≡ downsTo s t (p .col) (p .row) + 1
+abbrev pub In : Outline → Point → Type 0
+In o p = upsTo o (p .col) (p .row) ≡ downsTo o (p .col) (p .row) + 1
 
-abbrev pub Out : Point → List ℕ → Point → Type 0
-Out s t p = upsTo s t (p .col) (p .row) ≡ downsTo s t (p .col) (p .row)
+abbrev pub Out : Outline → Point → Type 0
+Out o p = upsTo o (p .col) (p .row) ≡ downsTo o (p .col) (p .row)
 
 abbrev pub shifted : Point → Point
 shifted x = point (suc (x .col)) (suc (x .row))
 
-module _ (s : Point) (t : List ℕ) where
-  pub enclosed-level : (x : Point) → encloses s t (x .col) (x .row) ≡ true → In s t (shifted x)
+module _ (o : Outline) where
+  pub enclosed-level : (x : Point) → encloses o (x .col) (x .row) ≡ true → In o (shifted x)
   unfolding encloses
-  enclosed-level x e = omega (arith, eqb-true (ups s t (x .col) (x .row)) (downs s t (x .col) (x .row) + 1) e, ups-to s t (x .col) (x .row), downs-to s t (x .col) (x .row))
+  enclosed-level x e = omega (arith, eqb-true (ups (o .start) (o .letters) (x .col) (x .row)) (downs (o .start) (o .letters) (x .col) (x .row) + 1) e, ups-to (o .start) (o .letters) (x .col) (x .row), downs-to (o .start) (o .letters) (x .col) (x .row))
 
-  pub level-enclosed : (x : Point) → In s t (shifted x) → encloses s t (x .col) (x .row) ≡ true
+  pub level-enclosed : (x : Point) → In o (shifted x) → encloses o (x .col) (x .row) ≡ true
   unfolding encloses
-  level-enclosed x h = eq-eqb (ups s t (x .col) (x .row)) (downs s t (x .col) (x .row) + 1) (rw (ups-to, downs-to) h)
+  level-enclosed x h = eq-eqb (ups (o .start) (o .letters) (x .col) (x .row)) (downs (o .start) (o .letters) (x .col) (x .row) + 1) (rw (ups-to, downs-to) h)
 
-  pub level-open : (x : Point) → Out s t (shifted x) → encloses s t (x .col) (x .row) ≡ false
+  pub level-open : (x : Point) → Out o (shifted x) → encloses o (x .col) (x .row) ≡ false
   unfolding encloses
-  level-open x h = ne-eqb (ups s t (x .col) (x .row)) (downs s t (x .col) (x .row) + 1) (rw (ups-to, downs-to) (omega arith))
+  level-open x h = ne-eqb (ups (o .start) (o .letters) (x .col) (x .row)) (downs (o .start) (o .letters) (x .col) (x .row) + 1) (rw (ups-to, downs-to) (omega arith))
 
   -- For an enclosed cell some up is counted
-  pub up-counted : (c r : ℕ) → encloses s t c r ≡ true → (i : ℕ) × LetterAt t 1 i × (cornerAt s t i .col ≤ c) × (cornerAt s t i .row ≡ r)
+  pub up-counted : (c r : ℕ) → encloses o c r ≡ true → (i : ℕ) × LetterAt (o .letters) 1 i × (cornerAt o i .col ≤ c) × (cornerAt o i .row ≡ r)
   unfolding encloses upAlong
   up-counted c r e =
-      let (i, l, g) = tally-found (λ q a. upAlong q a r && leb (q .col) c) s t (omega (arith, ups-tally s t c r, eqb-true (ups s t c r) (downs s t c r + 1) e)) in
-      let p = cornerAt s t i in
-      let (a, b) = tested (getD t i 0) 1 (p .row) r (and-left (upAlong p (getD t i 0) r) (leb (p .col) c) g) in
-      (i, (l, a), leb-true (p .col) c (and-right (upAlong p (getD t i 0) r) (leb (p .col) c) g), b)
+      let (i, l, g) = tally-found (λ q a. upAlong q a r && leb (q .col) c) (o .start) (o .letters) (omega (arith, ups-tally (o .start) (o .letters) c r, eqb-true (ups (o .start) (o .letters) c r) (downs (o .start) (o .letters) c r + 1) e)) in
+      let p = cornerAt o i in
+      let (a, b) = tested (letterAt o i) 1 (p .row) r (and-left (upAlong p (letterAt o i) r) (leb (p .col) c) g) in
+      (i, (l, a), leb-true (p .col) c (and-right (upAlong p (letterAt o i) r) (leb (p .col) c) g), b)
 
-  open-of-no-ups : (c r : ℕ) → ((i : ℕ) → i < length t → cornerAt s t i .col ≤ c → cornerAt s t i .row ≡ r → ⊥) → encloses s t c r ≡ false
-  open-of-no-ups c r h = go (encloses s t c r) refl
+  open-of-no-ups : (c r : ℕ) → ((i : ℕ) → i < size o → cornerAt o i .col ≤ c → cornerAt o i .row ≡ r → ⊥) → encloses o c r ≡ false
+  open-of-no-ups c r h = go (encloses o c r) refl
     where
-      go : (b : Bool) → encloses s t c r ≡ b → encloses s t c r ≡ false
+      go : (b : Bool) → encloses o c r ≡ b → encloses o c r ≡ false
       go false e = e
       go true e = let (i, l, a, b) = up-counted c r e in absurd (h i (l .0) a b)
 
-  module _ (h : Turn s t) where
+  module _ (h : Turn o) where
     -- A turn begins at its lowest corner
-    pub turn-first : FirstAt s t 0 0
+    pub turn-first : FirstAt o 0 0
     turn-first = record { below = omega (arith, h .walked .long); none = λ i l. rw corner-zero (h .west i l) }
 
-    pub turn-lowest : Lowest s t 0
-    turn-lowest = first-lowest s t 0 turn-first
+    pub turn-lowest : Lowest o 0
+    turn-lowest = first-lowest o 0 turn-first
 
     -- No cell of a column left of W is enclosed, and none below the cell at W in its column
-    pub left-of-anchor : (c r : ℕ) → c < s .col → encloses s t c r ≡ false
+    pub left-of-anchor : (c r : ℕ) → c < o .start .col → encloses o c r ≡ false
     left-of-anchor c r k = open-of-no-ups c r (λ i l a b. omega (arith, rw corner-zero at (turn-lowest .least-col i l)))
 
-    pub below-anchor : (r : ℕ) → r < s .row → encloses s t (s .col) r ≡ false
+    pub below-anchor : (r : ℕ) → r < o .start .row → encloses o (o .start .col) r ≡ false
     below-anchor r k =
-        open-of-no-ups (s .col) r (λ i l a b.
+        open-of-no-ups (o .start .col) r (λ i l a b.
         let least = rw corner-zero at (turn-lowest .least-col i l) in
         omega (arith, rw corner-zero at (turn-lowest .least-row i l) (omega arith)))
 
-    module _ (up : getD t 0 0 ≡ 1) where
-      pub right-in : (a i : ℕ) → LetterAt t a i → In s t (rightOf (cornerAt s t i) a)
-      right-in a i e = subst (λ (b : ℕ). In s t (rightOf (cornerAt s t i) b)) (e .1) (clockwise-right s t (h .walked) 0 turn-lowest up i (e .0))
+    module _ (up : letterAt o 0 ≡ 1) where
+      pub right-in : (a i : ℕ) → LetterAt (o .letters) a i → In o (rightOf (cornerAt o i) a)
+      right-in a i e = subst (λ (b : ℕ). In o (rightOf (cornerAt o i) b)) (e .1) (clockwise-right o (h .walked) 0 turn-lowest up i (e .0))
 
-      pub left-out : (a i : ℕ) → LetterAt t a i → Out s t (leftOf (cornerAt s t i) a)
-      left-out a i e = subst (λ (b : ℕ). Out s t (leftOf (cornerAt s t i) b)) (e .1) (clockwise-left s t (h .walked) 0 turn-lowest up i (e .0))
+      pub left-out : (a i : ℕ) → LetterAt (o .letters) a i → Out o (leftOf (cornerAt o i) a)
+      left-out a i e = subst (λ (b : ℕ). Out o (leftOf (cornerAt o i) b)) (e .1) (clockwise-left o (h .walked) 0 turn-lowest up i (e .0))
 
       -- The cell right of an up
-      pub up-enclosed : (i : ℕ) → LetterAt t 1 i → encloses s t (cornerAt s t i .col) (cornerAt s t i .row) ≡ true
+      pub up-marked : (i : ℕ) → LetterAt (o .letters) 1 i → encloses o (cornerAt o i .col) (cornerAt o i .row) ≡ true
       unfolding rightOf leftOf
-      up-enclosed i e = level-enclosed (cornerAt s t i) (right-in 1 i e)
+      up-marked i e = level-enclosed (cornerAt o i) (right-in 1 i e)
 
       -- The cell at W is the lowest enclosed cell of the leftmost column
-      pub anchor-lowest : IsAnchor s t s
+      pub anchor-lowest : IsAnchor o (o .start)
       anchor-lowest =
-          record { enclosed = rw corner-zero at (up-enclosed 0 (turn-lowest .below, up)); leftmost = left-of-anchor; lowest = below-anchor }
+          record { enclosed = rw corner-zero at (up-marked 0 (turn-lowest .below, up)); leftmost = left-of-anchor; lowest = below-anchor }

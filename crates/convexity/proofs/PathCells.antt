@@ -5,14 +5,15 @@ use native.Mathlib.Decide.{decLt}
 use native.Mathlib.Omega.{arith}
 use mathlib.Core.Path.{_≡_, refl, sym, ap, _∙_, subst}
 use mathlib.Core.Bool.{Bool, true, false}
-use mathlib.Core.List.{List, [], _∷_, _++_}
+use mathlib.Core.List.{[], _∷_, _++_}
 use lib.ListN.{length, take, getD}
 use lib.Seq.{take-suc, take-length}
 use Rattle.words.specs.Word.{Word, earliers, laters}
 use Rattle.words.proofs.Counts.{earliers-take-le, laters-take-le, earliers-next-later, laters-next-later}
 use Rattle.chart.specs.Limits.{side}
 use Rattle.chart.specs.declared.Point.{Point}
-use Rattle.lattice.specs.Chart.{cornerAt}
+use Rattle.chart.specs.Outline.{Outline}
+use Rattle.lattice.specs.Chart.{cornerAt, letterAt}
 use Rattle.lattice.specs.Enclosed.{encloses}
 use Rattle.lattice.proofs.WalkLaws.{point, point-eq, corner-suc}
 use Rattle.lattice.proofs.RightHand.{leftOf, rightOf, cornerOf, turn, clockwise-left-turn}
@@ -94,93 +95,93 @@ left-turn-letters (suc (suc zero)) = refl
 left-turn-letters (suc (suc (suc k))) = refl
 
 -- How far along the two letters of its frame the path of piece k is after i letters of its word, and the cell there
-abbrev pub pathE : Point → List ℕ → ℕ → ℕ → ℕ
-pathE s t k i = startE s t k + earliers (take i (word s t k))
+abbrev pub pathE : Outline → ℕ → ℕ → ℕ
+pathE o k i = startE o k + earliers (take i (word o k))
 
-abbrev pub pathL : Point → List ℕ → ℕ → ℕ → ℕ
-pathL s t k i = startL s t k + laters (take i (word s t k))
+abbrev pub pathL : Outline → ℕ → ℕ → ℕ
+pathL o k i = startL o k + laters (take i (word o k))
 
-abbrev pub pathCell : Point → List ℕ → ℕ → ℕ → Point
-pathCell s t k i = cellOf k (pathE s t k i) (pathL s t k i)
+abbrev pub pathCell : Outline → ℕ → ℕ → Point
+pathCell o k i = cellOf k (pathE o k i) (pathL o k i)
 
-module _ (s : Point) (t : List ℕ) (c : NoBackStep s t) where
+module _ (o : Outline) (c : NoBackStep o) where
   -- The frame bounds of a piece
-  pub across-le : (k : ℕ) → k < 4 → startE s t k + earliers (word s t k) ≤ 254
-  across-le k h = omega (arith, shape s t c .next-later k h, shape s t c .next-earlier (next k) (next-lt k))
+  pub across-le : (k : ℕ) → k < 4 → startE o k + earliers (word o k) ≤ 254
+  across-le k h = omega (arith, shape o c .next-later k h, shape o c .next-earlier (next k) (next-lt k))
 
-  pub up-le : (k : ℕ) → k < 4 → startL s t k + laters (word s t k) ≤ 254
-  up-le k h = omega (arith, shape s t c .next-earlier k h)
+  pub up-le : (k : ℕ) → k < 4 → startL o k + laters (word o k) ≤ 254
+  up-le k h = omega (arith, shape o c .next-earlier k h)
 
   module _ (k : ℕ) (h : k < 4) where
     -- The letters of the piece
     abbrev spelt : Word
-    spelt = true ∷ word s t k
+    spelt = true ∷ word o k
 
     -- The earlier letter is not the last of the piece
-    not-last : (i : ℕ) → i ≤ length (word s t k) → getD spelt i false ≡ false → i < length (word s t k)
+    not-last : (i : ℕ) → i ≤ length (word o k) → getD spelt i false ≡ false → i < length (word o k)
     not-last zero l e = let z : _≡_ {A = ℕ} 0 1 = cc in absurd (omega arith)
     not-last (suc i) l e =
-        elim (decLt (suc i) (length (word s t k))) [
+        elim (decLt (suc i) (length (word o k))) [
           | yes m ↦ m
           | no m ↦
-              let w : Word = word s t k in
+              let w : Word = word o k in
               let n : suc i ≡ length w = omega arith in
               let split : w ≡ take i w ++ (false ∷ []) =
               sym (take-length w) ∙ ap (λ (j : ℕ). take j w) (sym n) ∙ take-suc w i false l ∙ ap (λ (b : Bool). take i w ++ (b ∷ [])) e in
-              let b = shape s t c .ends k h (take i w) false split in
+              let b = shape o c .ends k h (take i w) false split in
               let z : _≡_ {A = ℕ} 0 1 = cc in
               absurd (omega arith)
         ]
 
-    pub path-across-le : (i : ℕ) → pathE s t k i ≤ 254
-    path-across-le i = omega (arith, across-le k h, earliers-take-le i (word s t k))
+    pub path-across-le : (i : ℕ) → pathE o k i ≤ 254
+    path-across-le i = omega (arith, across-le k h, earliers-take-le i (word o k))
 
-    pub path-up-le : (i : ℕ) → pathL s t k i ≤ 254
-    path-up-le i = omega (arith, up-le k h, laters-take-le i (word s t k))
+    pub path-up-le : (i : ℕ) → pathL o k i ≤ 254
+    path-up-le i = omega (arith, up-le k h, laters-take-le i (word o k))
 
-    pub path-enclosed : (i : ℕ) → i ≤ length (word s t k) → encloses s t (pathCell s t k i .col) (pathCell s t k i .row) ≡ true
+    pub path-enclosed : (i : ℕ) → i ≤ length (word o k) → encloses o (pathCell o k i .col) (pathCell o k i .row) ≡ true
     unfolding earliers laters letterOf cornerOf
-    path-enclosed i l = level-enclosed s t (pathCell s t k i) (arrives (getD spelt i false) refl)
+    path-enclosed i l = level-enclosed o (pathCell o k i) (arrives (getD spelt i false) refl)
       where
         -- The place of the letter that arrives at the corner above the cell, and the place of the one that leaves it
         a : ℕ
-        a = cut s t k + i
+        a = cut o k + i
 
         b : ℕ
-        b = cut s t k + suc i
+        b = cut o k + suc i
 
-        up : getD t 0 0 ≡ 1
-        up = leaves-upwards t (c .clockwise)
+        up : letterAt o 0 ≡ 1
+        up = leaves-upwards o (c .clockwise)
 
-        letter : (m : ℕ) → m < length spelt → (d : Bool) → getD spelt m false ≡ d → LetterAt t (letterOf (frameOf k) d) (cut s t k + m)
-        letter m n d e = (place-lt s t c k h m n, letter-in-piece s t c k h m n ∙ ap (letterOf (frameOf k)) e)
+        letter : (m : ℕ) → m < length spelt → (d : Bool) → getD spelt m false ≡ d → LetterAt (o .letters) (letterOf (frameOf k) d) (cut o k + m)
+        letter m n d e = (place-lt o c k h m n, letter-in-piece o c k h m n ∙ ap (letterOf (frameOf k)) e)
 
-        right : (m : ℕ) → m < length spelt → (d : Bool) → getD spelt m false ≡ d → In s t (rightOf (cornerAt s t (cut s t k + m)) (letterOf (frameOf k) d))
-        right m n d e = right-in s t (c .turn) up (letterOf (frameOf k) d) (cut s t k + m) (letter m n d e)
+        right : (m : ℕ) → m < length spelt → (d : Bool) → getD spelt m false ≡ d → In o (rightOf (cornerAt o (cut o k + m)) (letterOf (frameOf k) d))
+        right m n d e = right-in o (c .turn) up (letterOf (frameOf k) d) (cut o k + m) (letter m n d e)
 
-        corner : CornerIn k (cornerAt s t b) (pathE s t k i) (suc (pathL s t k i))
-        corner = let q = corner-in-piece s t c k h (suc i) (omega arith) in record { on-chart = q .on-chart; across = q .across; up = omega arith }
+        corner : CornerIn k (cornerAt o b) (pathE o k i) (suc (pathL o k i))
+        corner = let q = corner-in-piece o c k h (suc i) (omega arith) in record { on-chart = q .on-chart; across = q .across; up = omega arith }
 
-        arrives-earlier : i < length (word s t k) → getD spelt i false ≡ false → (d : Bool) → getD spelt (suc i) false ≡ d → In s t (shifted (pathCell s t k i))
+        arrives-earlier : i < length (word o k) → getD spelt i false ≡ false → (d : Bool) → getD spelt (suc i) false ≡ d → In o (shifted (pathCell o k i))
         arrives-earlier m e false d =
-            subst (In s t) (right-earlier k (cornerAt s t b) _ _ corner (path-across-le i) (path-up-le i)) (right (suc i) (omega arith) false d)
+            subst (In o) (right-earlier k (cornerAt o b) _ _ corner (path-across-le i) (path-up-le i)) (right (suc i) (omega arith) false d)
         arrives-earlier m e true d =
             let (n, f) = letter i (omega arith) false e in
             let (n′, g) = letter (suc i) (omega arith) true d in
-            let next : cornerAt s t (suc a) ≡ cornerAt s t b = ap (cornerAt s t) (omega arith) in
-            subst (In s t)
-            (ap (λ (p : Point). rightOf p (getD t a 0)) (sym (corner-suc s t a n) ∙ next) ∙ ap (rightOf (cornerAt s t b)) f
-            ∙ right-earlier k (cornerAt s t b) _ _ corner (path-across-le i) (path-up-le i))
-            (clockwise-left-turn s t (c .turn .walked) 0 (turn-lowest s t (c .turn)) up a b n n′ next (g ∙ left-turn-letters k ∙ ap turn (sym f)))
+            let next : cornerAt o (suc a) ≡ cornerAt o b = ap (cornerAt o) (omega arith) in
+            subst (In o)
+            (ap (λ (p : Point). rightOf p (letterAt o a)) (sym (corner-suc o a n) ∙ next) ∙ ap (rightOf (cornerAt o b)) f
+            ∙ right-earlier k (cornerAt o b) _ _ corner (path-across-le i) (path-up-le i))
+            (clockwise-left-turn o (c .turn .walked) 0 (turn-lowest o (c .turn)) up a b n n′ next (g ∙ left-turn-letters k ∙ ap turn (sym f)))
 
-        arrives : (d : Bool) → getD spelt i false ≡ d → In s t (shifted (pathCell s t k i))
+        arrives : (d : Bool) → getD spelt i false ≡ d → In o (shifted (pathCell o k i))
         arrives true e =
-            let q = corner-in-piece s t c k h i (omega arith) in
-            let below : CornerIn k (cornerAt s t a) (pathE s t k i) (pathL s t k i) =
+            let q = corner-in-piece o c k h i (omega arith) in
+            let below : CornerIn k (cornerAt o a) (pathE o k i) (pathL o k i) =
             record {
               on-chart = q .on-chart;
               across = omega (arith, earliers-next-later i spelt (omega arith) e);
               up = omega (arith, laters-next-later i spelt (omega arith) e);
             } in
-            subst (In s t) (right-later k (cornerAt s t a) _ _ below (path-across-le i) (path-up-le i)) (right i (omega arith) true e)
+            subst (In o) (right-later k (cornerAt o a) _ _ below (path-across-le i) (path-up-le i)) (right i (omega arith) true e)
         arrives false e = arrives-earlier (not-last i l e) e (getD spelt (suc i) false) refl

@@ -14,15 +14,16 @@ use lib.Dec.{leb, eqb, eqb·suc-suc}
 use borrow.Author.Tests.{lt-leb, eqb-false, ne-eqb, eqb-true, eq-eqb}
 use Rattle.chart.specs.Limits.{side}
 use Rattle.chart.specs.declared.Point.{Point}
-use Rattle.lattice.specs.Chart.{step, leaves, walk, cornerAt}
+use Rattle.chart.specs.Outline.{Outline, outline}
+use Rattle.lattice.specs.Chart.{step, leaves, walk, cornerAt, size, letterAt, rotated, rotation, Closed}
 use Rattle.lattice.specs.Enclosed.{count, upAlong, downAlong, ups, downs, encloses}
 use Rattle.lattice.specs.Refusals.{Simple}
-use Rattle.lattice.proofs.WalkLaws.{Walked, OnChart, walked, simple-of-walked, point, point-eq, walk-append, corner-zero, corner-suc, corner-all, corner-injective, rotation, length-rotation, letter-rotation-before}
+use Rattle.lattice.proofs.WalkLaws.{Walked, OnChart, walked, simple-of-walked, point, point-eq, walk-append, corner-zero, corner-suc, corner-all, corner-injective, length-rotation, letter-rotation-before, outline-eq}
 use Rattle.lattice.proofs.Jumps.{tally, tally-append, Stays}
 use Rattle.lattice.proofs.RightHand.{Lowest, place-before, leaving-lowest, arriving-up, arriving-right}
 use Rattle.convexity.specs.Frame.{frameOf, along}
 use Rattle.convexity.specs.Cut.{before, westPlace, west, turn, clockwise}
-use Rattle.convexity.specs.Reading.{opposite, backward, rightHanded}
+use Rattle.convexity.specs.Reading.{opposite, backward, rightHanded, reversed}
 use Rattle.convexity.proofs.Levels.{first-lowest, ups-tally, downs-tally}
 use Rattle.convexity.proofs.Extreme.{FirstAt, first-at-cornerPlace, not-before-earlier, not-before-later, on-chart}
 
@@ -91,68 +92,68 @@ letter-backward (a ∷ w) i l = go (letter-backward w i)
         first : (i < length w → ⊥) → 0 ≡ suc (length w) - suc i
         first m = omega arith
 
-module _ (s : Point) (w : List ℕ) (t : Walked s w) where
-  corner-round : cornerAt s w (length w) ≡ s
-  corner-round = corner-all s w ∙ t .closed
+module _ (o : Outline) (t : Walked o) where
+  corner-round : cornerAt o (size o) ≡ o .start
+  corner-round = corner-all o ∙ t .closed
 
   -- After i letters backwards the walk is where it was before the last i letters
-  pub corner-backward : (i : ℕ) → i ≤ length w → cornerAt s (backward w) i ≡ cornerAt s w (length w - i)
-  corner-backward zero l = corner-zero s (backward w) ∙ sym corner-round ∙ ap (cornerAt s w) (omega arith)
+  pub corner-backward : (i : ℕ) → i ≤ size o → cornerAt (reversed o) i ≡ cornerAt o (size o - i)
+  corner-backward zero l = corner-zero (reversed o) ∙ sym corner-round ∙ ap (cornerAt o) (omega arith)
   corner-backward (suc i) l =
-      let m : ℕ = length w - suc i in
-      let b : m < length w = omega arith in
-      let a : ℕ = getD w m 0 in
-      let here : cornerAt s (backward w) i ≡ step (cornerAt s w m) a =
-      corner-backward i (omega arith) ∙ ap (cornerAt s w) (omega arith) ∙ corner-suc s w m b in
-      corner-suc s (backward w) i (omega (arith, length-backward w))
-      ∙ (λ z. step (here z) (letter-backward w i l z))
-      ∙ step-back (cornerAt s w m) a (t .letter m b) (t .stays m b)
+      let m : ℕ = size o - suc i in
+      let b : m < size o = omega arith in
+      let a : ℕ = letterAt o m in
+      let here : cornerAt (reversed o) i ≡ step (cornerAt o m) a =
+      corner-backward i (omega arith) ∙ ap (cornerAt o) (omega arith) ∙ corner-suc o m b in
+      corner-suc (reversed o) i (omega (arith, length-backward (o .letters)))
+      ∙ (λ z. step (here z) (letter-backward (o .letters) i l z))
+      ∙ step-back (cornerAt o m) a (t .letter m b) (t .stays m b)
 
   -- The corner from which letter i backwards leaves, by the letter as sent
-  leaving-backward : (i : ℕ) → i < length w → cornerAt s (backward w) i ≡ step (cornerAt s w (length w - suc i)) (getD w (length w - suc i) 0)
+  leaving-backward : (i : ℕ) → i < size o → cornerAt (reversed o) i ≡ step (cornerAt o (size o - suc i)) (letterAt o (size o - suc i))
   leaving-backward i l =
-      corner-backward i (omega arith) ∙ ap (cornerAt s w) (omega arith) ∙ corner-suc s w (length w - suc i) (omega arith)
+      corner-backward i (omega arith) ∙ ap (cornerAt o) (omega arith) ∙ corner-suc o (size o - suc i) (omega arith)
 
-  pub walked-backward : Walked s (backward w)
+  pub walked-backward : Walked (reversed o)
   walked-backward =
-      let n : length (backward w) ≡ length w = length-backward w in
+      let n : length (backward (o .letters)) ≡ size o = length-backward (o .letters) in
       record {
         long = omega (arith, t .long);
         short = omega (arith, t .short);
-        letter = λ i l. rw (letter-backward w i (omega arith)) (opposite-lt (getD w (length w - suc i) 0));
-        col-le = λ i l. rw (corner-backward i (omega arith)) (t .col-le (length w - i) (omega arith));
-        row-le = λ i l. rw (corner-backward i (omega arith)) (t .row-le (length w - i) (omega arith));
+        letter = λ i l. rw (letter-backward (o .letters) i (omega arith)) (opposite-lt (letterAt o (size o - suc i)));
+        col-le = λ i l. rw (corner-backward i (omega arith)) (t .col-le (size o - i) (omega arith));
+        row-le = λ i l. rw (corner-backward i (omega arith)) (t .row-le (size o - i) (omega arith));
         stays = λ i l. stays i (omega arith);
         closed =
-            sym (corner-all s (backward w)) ∙ ap (cornerAt s (backward w)) n ∙ corner-backward (length w) (omega arith) ∙ ap (cornerAt s w) (omega arith)
-            ∙ corner-zero s w;
+            sym (corner-all (reversed o)) ∙ ap (cornerAt (reversed o)) n ∙ corner-backward (size o) (omega arith) ∙ ap (cornerAt o) (omega arith)
+            ∙ corner-zero o;
         distinct = λ i j l m. apart i j l (omega arith);
       }
     where
-      stays : (i : ℕ) → i < length w → leaves (cornerAt s (backward w) i) (getD (backward w) i 0) ≡ false
+      stays : (i : ℕ) → i < size o → leaves (cornerAt (reversed o) i) (getD (backward (o .letters)) i 0) ≡ false
       stays i l =
-          let m : ℕ = length w - suc i in
-          let b : m < length w = omega arith in
-          (λ z. leaves (leaving-backward i l z) (letter-backward w i l z))
-          ∙ stays-back (cornerAt s w m) (getD w m 0) (on-chart s w t m (omega arith)) (t .letter m b) (t .stays m b)
+          let m : ℕ = size o - suc i in
+          let b : m < size o = omega arith in
+          (λ z. leaves (leaving-backward i l z) (letter-backward (o .letters) i l z))
+          ∙ stays-back (cornerAt o m) (letterAt o m) (on-chart o t m (omega arith)) (t .letter m b) (t .stays m b)
 
-      apart : (i j : ℕ) → i < j → j < length w → cornerAt s (backward w) i ≡ cornerAt s (backward w) j → ⊥
+      apart : (i j : ℕ) → i < j → j < size o → cornerAt (reversed o) i ≡ cornerAt (reversed o) j → ⊥
       apart zero j l m e =
-          t .distinct 0 (length w - j) (omega arith) (omega arith)
-          (corner-zero s w ∙ sym (corner-zero s (backward w)) ∙ e ∙ corner-backward j (omega arith))
+          t .distinct 0 (size o - j) (omega arith) (omega arith)
+          (corner-zero o ∙ sym (corner-zero (reversed o)) ∙ e ∙ corner-backward j (omega arith))
       apart (suc i) j l m e =
-          t .distinct (length w - j) (length w - suc i) (omega arith) (omega arith)
+          t .distinct (size o - j) (size o - suc i) (omega arith) (omega arith)
           (sym (corner-backward j (omega arith)) ∙ sym e ∙ corner-backward (suc i) (omega arith))
 
   -- Backwards the walk leaves the same corners
-  place-backward : (i : ℕ) → i < length w → (j : ℕ) × (j < length w) × (cornerAt s (backward w) j ≡ cornerAt s w i)
-  place-backward zero l = (0, omega arith, corner-zero s (backward w) ∙ sym (corner-zero s w))
+  place-backward : (i : ℕ) → i < size o → (j : ℕ) × (j < size o) × (cornerAt (reversed o) j ≡ cornerAt o i)
+  place-backward zero l = (0, omega arith, corner-zero (reversed o) ∙ sym (corner-zero o))
   place-backward (suc i) l =
-      (length w - suc i, omega arith, corner-backward (length w - suc i) (omega arith) ∙ ap (cornerAt s w) (omega arith))
+      (size o - suc i, omega arith, corner-backward (size o - suc i) (omega arith) ∙ ap (cornerAt o) (omega arith))
 
-  place-sent : (j : ℕ) → j < length w → (i : ℕ) × (i < length w) × (cornerAt s w i ≡ cornerAt s (backward w) j)
-  place-sent zero l = (0, omega arith, corner-zero s w ∙ sym (corner-zero s (backward w)))
-  place-sent (suc j) l = (length w - suc j, omega arith, sym (corner-backward (suc j) (omega arith)))
+  place-sent : (j : ℕ) → j < size o → (i : ℕ) × (i < size o) × (cornerAt o i ≡ cornerAt (reversed o) j)
+  place-sent zero l = (0, omega arith, corner-zero o ∙ sym (corner-zero (reversed o)))
+  place-sent (suc j) l = (size o - suc j, omega arith, sym (corner-backward (suc j) (omega arith)))
 
 -- ---- W
 
@@ -163,74 +164,74 @@ first-unique p q h k =
     let c : p .col ≡ q .col = omega (arith, not-before-earlier (frameOf 0) p q h, not-before-earlier (frameOf 0) q p k) in
     point-eq p q c (omega (arith, not-before-later (frameOf 0) p q h c, not-before-later (frameOf 0) q p k (sym c)))
 
-pub west-first : (s : Point) (w : List ℕ) → Walked s w → FirstAt s w 0 (westPlace s w)
+pub west-first : (o : Outline) → Walked o → FirstAt o 0 (westPlace o)
 unfolding westPlace
-west-first s w t = first-at-cornerPlace s w 0 (omega (arith, t .long))
+west-first o t = first-at-cornerPlace o 0 (omega (arith, t .long))
 
-west-lowest : (s : Point) (w : List ℕ) → Walked s w → Lowest s w (westPlace s w)
-west-lowest s w t = first-lowest s w (westPlace s w) (west-first s w t)
+west-lowest : (o : Outline) → Walked o → Lowest o (westPlace o)
+west-lowest o t = first-lowest o (westPlace o) (west-first o t)
 
 -- The letter that leaves W
-leaving-west : (s : Point) (w : List ℕ) → Walked s w → getD (turn s w) 0 0 ≡ getD w (westPlace s w) 0
+leaving-west : (o : Outline) → Walked o → letterAt (turn o) 0 ≡ letterAt o (westPlace o)
 unfolding turn
-leaving-west s w t =
-    let k = westPlace s w in
-    let l : k < length w = west-first s w t .below in
-    letter-rotation-before s w k (omega arith) 0 (omega arith) ∙ ap (λ (i : ℕ). getD w i 0) (omega arith)
+leaving-west o t =
+    let k = westPlace o in
+    let l : k < size o = west-first o t .below in
+    letter-rotation-before o k (omega arith) 0 (omega arith) ∙ ap (λ (i : ℕ). letterAt o i) (omega arith)
 
-module _ (s : Point) (w : List ℕ) (t : Walked s w) where
-  west-same : west s (backward w) ≡ west s w
-  unfolding west
+module _ (o : Outline) (t : Walked o) where
+  west-same : west (reversed o) ≡ west o
+  unfolding turn
   west-same =
-      let back = walked-backward s w t in
-      let n : length (backward w) ≡ length w = length-backward w in
-      let f = west-first s w t in
-      let g = west-first s (backward w) back in
-      let (j, l, e) = place-backward s w t (westPlace s w) (f .below) in
-      let (i, m, d) = place-sent s w t (westPlace s (backward w)) (omega (arith, g .below)) in
-      first-unique (west s (backward w)) (west s w)
-      (subst (λ (p : Point). before (frameOf 0) p (west s w) ≡ false) d (f .none i m))
-      (subst (λ (p : Point). before (frameOf 0) p (west s (backward w)) ≡ false) e (g .none j (omega arith)))
+      let back = walked-backward o t in
+      let n : length (backward (o .letters)) ≡ size o = length-backward (o .letters) in
+      let f = west-first o t in
+      let g = west-first (reversed o) back in
+      let (j, l, e) = place-backward o t (westPlace o) (f .below) in
+      let (i, m, d) = place-sent o t (westPlace (reversed o)) (omega (arith, g .below)) in
+      first-unique (west (reversed o)) (west o)
+      (subst (λ (p : Point). before (frameOf 0) p (west o) ≡ false) d (f .none i m))
+      (subst (λ (p : Point). before (frameOf 0) p (west (reversed o)) ≡ false) e (g .none j (omega arith)))
 
   -- A corner of the walk backwards that is W stands at W's place there
-  west-place-at : (i : ℕ) → i < length w → cornerAt s (backward w) i ≡ cornerAt s w (westPlace s w) → westPlace s (backward w) ≡ i
-  unfolding west
+  west-place-at : (i : ℕ) → i < size o → cornerAt (reversed o) i ≡ cornerAt o (westPlace o) → westPlace (reversed o) ≡ i
+  unfolding turn
   west-place-at i l e =
-      let back = walked-backward s w t in
-      corner-injective s (backward w) back (westPlace s (backward w)) i (west-first s (backward w) back .below) (omega (arith, length-backward w)) (west-same ∙ sym e)
+      let back = walked-backward o t in
+      corner-injective (reversed o) back (westPlace (reversed o)) i (west-first (reversed o) back .below) (omega (arith, length-backward (o .letters))) (west-same ∙ sym e)
 
   -- W is left backwards by the opposite of the letter at place j, which comes to it
-  leaving-back : (j : ℕ) → j < length w → cornerAt s w (suc j) ≡ cornerAt s w (westPlace s w) → getD (turn s (backward w)) 0 0 ≡ opposite (getD w j 0)
+  leaving-back : (j : ℕ) → j < size o → cornerAt o (suc j) ≡ cornerAt o (westPlace o) → getD (turn (reversed o) .letters) 0 0 ≡ opposite (letterAt o j)
   leaving-back j l e =
-      let i : ℕ = length w - suc j in
-      let place : westPlace s (backward w) ≡ i = west-place-at i (omega arith) (corner-backward s w t i (omega arith) ∙ ap (cornerAt s w) (omega arith) ∙ e) in
-      leaving-west s (backward w) (walked-backward s w t) ∙ ap (λ (h : ℕ). getD (backward w) h 0) place ∙ letter-backward w i (omega arith)
-      ∙ ap (λ (h : ℕ). opposite (getD w h 0)) (omega arith)
+      let i : ℕ = size o - suc j in
+      let place : westPlace (reversed o) ≡ i = west-place-at i (omega arith) (corner-backward o t i (omega arith) ∙ ap (cornerAt o) (omega arith) ∙ e) in
+      leaving-west (reversed o) (walked-backward o t) ∙ ap (λ (h : ℕ). getD (backward (o .letters)) h 0) place ∙ letter-backward (o .letters) i (omega arith)
+      ∙ ap (λ (h : ℕ). opposite (letterAt o h)) (omega arith)
 
   -- An outline that leaves W to the right comes to it from above, and leaves it upwards backwards
-  clockwise-back : clockwise (turn s w) ≡ false → clockwise (turn s (backward w)) ≡ true
+  clockwise-back : clockwise (turn o) ≡ false → clockwise (turn (reversed o)) ≡ true
   unfolding clockwise opposite
   clockwise-back c =
-      let m = west-lowest s w t in
-      let (j, l, e, _) = place-before s w t (westPlace s w) (m .below) in
-      eq-eqb (getD (turn s (backward w)) 0 0) 1 (leaving-back j l e ∙ ap opposite (arriving-right s w t (westPlace s w) m j l e right))
+      let m = west-lowest o t in
+      let (j, l, e, _) = place-before o t (westPlace o) (m .below) in
+      eq-eqb (getD (turn (reversed o) .letters) 0 0) 1 (leaving-back j l e ∙ ap opposite (arriving-right o t (westPlace o) m j l e right))
     where
-      right : getD w (westPlace s w) 0 ≡ 0
+      right : letterAt o (westPlace o) ≡ 0
       right =
-          elim (leaving-lowest s w t (westPlace s w) (west-lowest s w t)) [
+          elim (leaving-lowest o t (westPlace o) (west-lowest o t)) [
             | inl a ↦ a
-            | inr a ↦ absurd (eqb-false (getD (turn s w) 0 0) 1 c (leaving-west s w t ∙ a))
+            | inr a ↦ absurd (eqb-false (letterAt (turn o) 0) 1 c (leaving-west o t ∙ a))
           ]
 
   -- One that leaves W upwards comes to it from the right, and leaves it to the right backwards
-  anticlockwise-back : clockwise (turn s w) ≡ true → clockwise (turn s (backward w)) ≡ false
+  anticlockwise-back : clockwise (turn o) ≡ true → clockwise (turn (reversed o)) ≡ false
   unfolding clockwise opposite
   anticlockwise-back c =
-      let m = west-lowest s w t in
-      let (j, l, e, _) = place-before s w t (westPlace s w) (m .below) in
-      let up : getD w (westPlace s w) 0 ≡ 1 = sym (leaving-west s w t) ∙ eqb-true (getD (turn s w) 0 0) 1 c in
-      let right : getD (turn s (backward w)) 0 0 ≡ 0 = leaving-back j l e ∙ ap opposite (arriving-up s w t (westPlace s w) m j l e up) in
-      ne-eqb (getD (turn s (backward w)) 0 0) 1 (omega arith)
+      let m = west-lowest o t in
+      let (j, l, e, _) = place-before o t (westPlace o) (m .below) in
+      let up : letterAt o (westPlace o) ≡ 1 = sym (leaving-west o t) ∙ eqb-true (letterAt (turn o) 0) 1 c in
+      let right : getD (turn (reversed o) .letters) 0 0 ≡ 0 = leaving-back j l e ∙ ap opposite (arriving-up o t (westPlace o) m j l e up) in
+      ne-eqb (getD (turn (reversed o) .letters) 0 0) 1 (omega arith)
 
 -- ---- counts
 
@@ -258,19 +259,19 @@ down-back p (suc (suc (suc zero))) c r l e = refl
 down-back p (suc (suc (suc (suc a)))) c r l e = absurd (omega arith)
 
 -- Letters that can be taken back, one by one: each is a letter and stays on the chart
-record Kept (p : Point) (w : List ℕ) : Type 0 where
-  letter : (i : ℕ) → i < length w → getD w i 0 < 4
-  stays : Stays p w
+record Kept (o : Outline) : Type 0 where
+  letter : (i : ℕ) → i < size o → letterAt o i < 4
+  stays : Stays o
 
-kept-rest : (p : Point) (a : ℕ) (w : List ℕ) → Kept p (a ∷ w) → Kept (step p a) w
+kept-rest : (p : Point) (a : ℕ) (w : List ℕ) → Kept (outline p (a ∷ w)) → Kept (outline (step p a) w)
 unfolding cornerAt walk
 kept-rest p a w k = record { letter = λ i l. k .letter (suc i) (omega arith); stays = λ i l. k .stays (suc i) (omega arith) }
 
-kept-first : (p : Point) (a : ℕ) (w : List ℕ) → Kept p (a ∷ w) → (a < 4) × (leaves p a ≡ false)
+kept-first : (p : Point) (a : ℕ) (w : List ℕ) → Kept (outline p (a ∷ w)) → (a < 4) × (leaves p a ≡ false)
 unfolding cornerAt walk
 kept-first p a w k = (k .letter 0 (omega arith), k .stays 0 (omega arith))
 
-walk-back : (p : Point) (w : List ℕ) → Kept p w → walk (walk p w) (backward w) ≡ p
+walk-back : (p : Point) (w : List ℕ) → Kept (outline p w) → walk (walk p w) (backward w) ≡ p
 unfolding walk backward
 walk-back p [] k = refl
 walk-back p (a ∷ w) k =
@@ -282,7 +283,7 @@ walk-back p (a ∷ w) k =
 -- A test of the letters backwards counts what its counterpart counts of the letters as sent
 tally-back :
     (f g : Point → ℕ → Bool) → ((p : Point) (a : ℕ) → a < 4 → leaves p a ≡ false → f (step p a) (opposite a) ≡ g p a)
-    → (p : Point) (w : List ℕ) → Kept p w → tally f (walk p w) (backward w) ≡ tally g p w
+    → (p : Point) (w : List ℕ) → Kept (outline p w) → tally f (walk p w) (backward w) ≡ tally g p w
 unfolding walk backward tally
 tally-back f g same p [] k = refl
 tally-back f g same p (a ∷ w) k =
@@ -298,8 +299,8 @@ tally-back f g same p (a ∷ w) k =
 
 tally-closed :
     (f g : Point → ℕ → Bool) → ((p : Point) (a : ℕ) → a < 4 → leaves p a ≡ false → f (step p a) (opposite a) ≡ g p a)
-    → (p : Point) (w : List ℕ) → Kept p w → walk p w ≡ p → tally f p (backward w) ≡ tally g p w
-tally-closed f g same p w k e = ap (λ (q : Point). tally f q (backward w)) (sym e) ∙ tally-back f g same p w k
+    → (o : Outline) → Kept o → Closed o → tally f (o .start) (backward (o .letters)) ≡ tally g (o .start) (o .letters)
+tally-closed f g same o k e = ap (λ (q : Point). tally f q (backward (o .letters))) (sym e) ∙ tally-back f g same (o .start) (o .letters) k
 
 -- ---- the turn
 
@@ -324,123 +325,123 @@ rotation-backward w k h =
     let whole : backward w ≡ backward v ++ backward u = ap backward (sym (take-append-drop k w)) ∙ backward-append u v in
     rw (whole, drop-at (backward v) (backward u) (length w - k) n, take-at (backward v) (backward u) (length w - k) n) (sym (backward-append v u))
 
-module _ (s : Point) (w : List ℕ) (t : Walked s w) where
+module _ (o : Outline) (t : Walked o) where
   -- The place of W backwards: as many letters stand before it as after W, and it is the first where W is the first
-  pub west-place-first : westPlace s w ≡ 0 → westPlace s (backward w) ≡ 0
+  pub west-place-first : westPlace o ≡ 0 → westPlace (reversed o) ≡ 0
   west-place-first e =
-      west-place-at s w t 0 (omega (arith, t .long)) (corner-zero s (backward w) ∙ sym (corner-zero s w) ∙ ap (cornerAt s w) (sym e))
+      west-place-at o t 0 (omega (arith, t .long)) (corner-zero (reversed o) ∙ sym (corner-zero o) ∙ ap (cornerAt o) (sym e))
 
-  pub west-place-later : 0 < westPlace s w → westPlace s (backward w) ≡ length w - westPlace s w
+  pub west-place-later : 0 < westPlace o → westPlace (reversed o) ≡ size o - westPlace o
   west-place-later h =
-      let l : westPlace s w < length w = west-first s w t .below in
-      west-place-at s w t (length w - westPlace s w) (omega arith)
-      (corner-backward s w t (length w - westPlace s w) (omega arith) ∙ ap (cornerAt s w) (omega arith))
+      let l : westPlace o < size o = west-first o t .below in
+      west-place-at o t (size o - westPlace o) (omega arith)
+      (corner-backward o t (size o - westPlace o) (omega arith) ∙ ap (cornerAt o) (omega arith))
 
   -- The turn backwards is the turn, backwards
-  turn-back : turn s (backward w) ≡ backward (turn s w)
+  turn-back : turn (reversed o) .letters ≡ backward (turn o .letters)
   unfolding turn
   turn-back =
-      elim (decLt 0 (westPlace s w)) [
+      elim (decLt 0 (westPlace o)) [
         | yes h ↦
-            ap (λ (i : ℕ). rotation i (backward w)) (west-place-later h)
-            ∙ rotation-backward w (westPlace s w) (omega (arith, west-first s w t .below))
+            ap (λ (i : ℕ). rotation i (backward (o .letters))) (west-place-later h)
+            ∙ rotation-backward (o .letters) (westPlace o) (omega (arith, west-first o t .below))
         | no h ↦
-            let z : westPlace s w ≡ 0 = omega arith in
-            ap (λ (i : ℕ). rotation i (backward w)) (west-place-first z) ∙ append-nil (backward w)
-            ∙ ap backward (sym (append-nil w) ∙ ap (λ (i : ℕ). rotation i w) (sym z))
+            let z : westPlace o ≡ 0 = omega arith in
+            ap (λ (i : ℕ). rotation i (backward (o .letters))) (west-place-first z) ∙ append-nil (backward (o .letters))
+            ∙ ap backward (sym (append-nil (o .letters)) ∙ ap (λ (i : ℕ). rotated i o .letters) (sym z))
       ]
 
 -- ---- an outline past refusals 1 to 6
 
-module _ (s : Point) (w : List ℕ) (h : Simple s w) where
-  kept : Kept s w
-  kept = record { letter = walked s w h .letter; stays = walked s w h .stays }
+module _ (o : Outline) (h : Simple o) where
+  kept : Kept o
+  kept = record { letter = walked o h .letter; stays = walked o h .stays }
 
   -- It passes them backwards
-  pub simple-backward : Simple s (backward w)
-  simple-backward = simple-of-walked s (backward w) (walked-backward s w (walked s w h))
+  pub simple-backward : Simple (reversed o)
+  simple-backward = simple-of-walked (reversed o) (walked-backward o (walked o h))
 
   -- It has the same W backwards
-  pub west-backward : west s (backward w) ≡ west s w
-  west-backward = west-same s w (walked s w h)
+  pub west-backward : west (reversed o) ≡ west o
+  west-backward = west-same o (walked o h)
 
-  pub turn-backward : turn s (backward w) ≡ backward (turn s w)
-  turn-backward = turn-back s w (walked s w h)
+  pub turn-backward : turn (reversed o) ≡ reversed (turn o)
+  turn-backward = outline-eq (turn (reversed o)) (reversed (turn o)) west-backward (turn-back o (walked o h))
 
   -- So its letter i is the opposite of the turn's letter that has i letters after it
-  pub letter-turn-backward : (i : ℕ) → i < length w → getD (turn s (backward w)) i 0 ≡ opposite (getD (turn s w) (length w - suc i) 0)
+  pub letter-turn-backward : (i : ℕ) → i < size o → letterAt (turn (reversed o)) i ≡ opposite (letterAt (turn o) (size o - suc i))
   unfolding turn
   letter-turn-backward i l =
-      let k = westPlace s w in
-      let n : length (turn s w) ≡ length w = length-rotation s w k (omega (arith, west-first s w (walked s w h) .below)) in
-      ap (λ (v : List ℕ). getD v i 0) turn-backward ∙ letter-backward (turn s w) i (omega arith) ∙ ap (λ (m : ℕ). opposite (getD (turn s w) (m - suc i) 0)) n
+      let k = westPlace o in
+      let n : size (turn o) ≡ size o = length-rotation o k (omega (arith, west-first o (walked o h) .below)) in
+      ap (λ (v : Outline). letterAt v i) turn-backward ∙ letter-backward (turn o .letters) i (omega arith) ∙ ap (λ (m : ℕ). opposite (letterAt (turn o) (m - suc i))) n
 
   -- It is clockwise either as it stands or backwards
-  pub clockwise-backward : clockwise (turn s w) ≡ false → clockwise (turn s (backward w)) ≡ true
-  clockwise-backward = clockwise-back s w (walked s w h)
+  pub clockwise-backward : clockwise (turn o) ≡ false → clockwise (turn (reversed o)) ≡ true
+  clockwise-backward = clockwise-back o (walked o h)
 
-  pub anticlockwise-backward : clockwise (turn s w) ≡ true → clockwise (turn s (backward w)) ≡ false
-  anticlockwise-backward = anticlockwise-back s w (walked s w h)
+  pub anticlockwise-backward : clockwise (turn o) ≡ true → clockwise (turn (reversed o)) ≡ false
+  anticlockwise-backward = anticlockwise-back o (walked o h)
 
-  pub backward-backward : backward (backward w) ≡ w
-  backward-backward = backward-twice w (walked s w h .letter)
+  pub backward-backward : backward (backward (o .letters)) ≡ o .letters
+  backward-backward = backward-twice (o .letters) (walked o h .letter)
 
   -- Ups and downs change places
-  pub ups-backward : (c r : ℕ) → ups s (backward w) c r ≡ downs s w c r
-  ups-backward c r = ups-tally s (backward w) c r ∙ tally-closed _ _ (λ p a. up-back p a c r) s w kept (walked s w h .closed) ∙ sym (downs-tally s w c r)
+  pub ups-backward : (c r : ℕ) → ups (o .start) (backward (o .letters)) c r ≡ downs (o .start) (o .letters) c r
+  ups-backward c r = ups-tally (o .start) (backward (o .letters)) c r ∙ tally-closed _ _ (λ p a. up-back p a c r) o kept (walked o h .closed) ∙ sym (downs-tally (o .start) (o .letters) c r)
 
-  pub downs-backward : (c r : ℕ) → downs s (backward w) c r ≡ ups s w c r
-  downs-backward c r = downs-tally s (backward w) c r ∙ tally-closed _ _ (λ p a. down-back p a c r) s w kept (walked s w h .closed) ∙ sym (ups-tally s w c r)
+  pub downs-backward : (c r : ℕ) → downs (o .start) (backward (o .letters)) c r ≡ ups (o .start) (o .letters) c r
+  downs-backward c r = downs-tally (o .start) (backward (o .letters)) c r ∙ tally-closed _ _ (λ p a. down-back p a c r) o kept (walked o h .closed) ∙ sym (ups-tally (o .start) (o .letters) c r)
 
   -- Backwards it encloses the cells of which downs less ups is 1
-  pub encloses-backward : (c r : ℕ) → encloses s (backward w) c r ≡ eqb (downs s w c r) (ups s w c r + 1)
+  pub encloses-backward : (c r : ℕ) → encloses (reversed o) c r ≡ eqb (downs (o .start) (o .letters) c r) (ups (o .start) (o .letters) c r + 1)
   unfolding encloses
   encloses-backward c r = rw (ups-backward c r, downs-backward c r)
 
 -- ---- the reading
 
-pub reading-clockwise : (s : Point) (w : List ℕ) → clockwise (turn s w) ≡ true → rightHanded s w ≡ w
+pub reading-clockwise : (o : Outline) → clockwise (turn o) ≡ true → rightHanded o ≡ o
 unfolding rightHanded
-reading-clockwise s w e = rw e
+reading-clockwise o e = rw e
 
-pub reading-backward : (s : Point) (w : List ℕ) → clockwise (turn s w) ≡ false → rightHanded s w ≡ backward w
+pub reading-backward : (o : Outline) → clockwise (turn o) ≡ false → rightHanded o ≡ reversed o
 unfolding rightHanded
-reading-backward s w e = rw e
+reading-backward o e = rw e
 
--- What holds of the letters where they are clockwise, and backwards where they are not, holds of the reading
-by-reading : (s : Point) (w : List ℕ) (P : List ℕ → Type 0) → (clockwise (turn s w) ≡ true → P w) → (clockwise (turn s w) ≡ false → P (backward w)) → P (rightHanded s w)
-by-reading s w P on back = go (clockwise (turn s w)) refl
+-- What holds of the outline where it is clockwise, and of the reversed one where it is not, holds of the reading
+by-reading : (o : Outline) (P : Outline → Type 0) → (clockwise (turn o) ≡ true → P o) → (clockwise (turn o) ≡ false → P (reversed o)) → P (rightHanded o)
+by-reading o P on back = go (clockwise (turn o)) refl
   where
-    go : (b : Bool) → clockwise (turn s w) ≡ b → P (rightHanded s w)
-    go true e = subst P (sym (reading-clockwise s w e)) (on e)
-    go false e = subst P (sym (reading-backward s w e)) (back e)
+    go : (b : Bool) → clockwise (turn o) ≡ b → P (rightHanded o)
+    go true e = subst P (sym (reading-clockwise o e)) (on e)
+    go false e = subst P (sym (reading-backward o e)) (back e)
 
-pub length-reading : (s : Point) (w : List ℕ) → length (rightHanded s w) ≡ length w
-length-reading s w = by-reading s w (λ v. length v ≡ length w) (λ e. refl) (λ e. length-backward w)
+pub length-reading : (o : Outline) → size (rightHanded o) ≡ size o
+length-reading o = by-reading o (λ v. size v ≡ size o) (λ e. refl) (λ e. length-backward (o .letters))
 
-module _ (s : Point) (w : List ℕ) (h : Simple s w) where
+module _ (o : Outline) (h : Simple o) where
   -- The reading passes refusals 1 to 7, with the same W
-  pub simple-reading : Simple s (rightHanded s w)
-  simple-reading = by-reading s w (Simple s) (λ e. h) (λ e. simple-backward s w h)
+  pub simple-reading : Simple (rightHanded o)
+  simple-reading = by-reading o Simple (λ e. h) (λ e. simple-backward o h)
 
-  pub west-reading : west s (rightHanded s w) ≡ west s w
-  west-reading = by-reading s w (λ v. west s v ≡ west s w) (λ e. refl) (λ e. west-backward s w h)
+  pub west-reading : west (rightHanded o) ≡ west o
+  west-reading = by-reading o (λ v. west v ≡ west o) (λ e. refl) (λ e. west-backward o h)
 
-  pub clockwise-reading : clockwise (turn s (rightHanded s w)) ≡ true
-  clockwise-reading = by-reading s w (λ v. clockwise (turn s v) ≡ true) (λ e. e) (clockwise-backward s w h)
+  pub clockwise-reading : clockwise (turn (rightHanded o)) ≡ true
+  clockwise-reading = by-reading o (λ v. clockwise (turn v) ≡ true) (λ e. e) (clockwise-backward o h)
 
   -- Its turn is the turn, forward or backward
-  pub turn-reading : turn s (rightHanded s w) ≡ cond (clockwise (turn s w)) (turn s w) (backward (turn s w))
+  pub turn-reading : turn (rightHanded o) ≡ cond (clockwise (turn o)) (turn o) (reversed (turn o))
   turn-reading =
-      by-reading s w (λ v. turn s v ≡ cond (clockwise (turn s w)) (turn s w) (backward (turn s w))) (λ e. rw e) (λ e. rw e (turn-backward s w h))
+      by-reading o (λ v. turn v ≡ cond (clockwise (turn o)) (turn o) (reversed (turn o))) (λ e. rw e) (λ e. rw e (turn-backward o h))
 
   -- Letters sent backwards have the same reading
-  pub reading-of-backward : rightHanded s (backward w) ≡ rightHanded s w
+  pub reading-of-backward : rightHanded (reversed o) ≡ rightHanded o
   reading-of-backward =
-      by-reading s w (λ v. rightHanded s (backward w) ≡ v)
-      (λ e. reading-backward s (backward w) (anticlockwise-backward s w h e) ∙ backward-backward s w h)
-      (λ e. reading-clockwise s (backward w) (clockwise-backward s w h e))
+      by-reading o (λ v. rightHanded (reversed o) ≡ v)
+      (λ e. reading-backward (reversed o) (anticlockwise-backward o h e) ∙ ap (outline (o .start)) (backward-backward o h))
+      (λ e. reading-clockwise (reversed o) (clockwise-backward o h e))
 
   -- The reading of a reading is that reading
-  pub reading-reading : rightHanded s (rightHanded s w) ≡ rightHanded s w
-  reading-reading = reading-clockwise s (rightHanded s w) clockwise-reading
+  pub reading-reading : rightHanded (rightHanded o) ≡ rightHanded o
+  reading-reading = reading-clockwise (rightHanded o) clockwise-reading

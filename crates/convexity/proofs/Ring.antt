@@ -122,7 +122,7 @@ cell-turned (suc zero) x = refl
 cell-turned (suc (suc zero)) x = refl
 cell-turned (suc (suc (suc k))) x = refl
 
-pub cell-next : (k : ℕ) (x : Point) → x .col < 255 → x .row < 255 → cellE (next k) x + cellL k x ≡ 254
+pub cell-next : (k : ℕ) (x : Point) → x .col < side → x .row < side → cellE (next k) x + cellL k x ≡ 254
 unfolding cellE cellL cellAlong frameOf
 cell-next zero x c r = omega arith
 cell-next (suc zero) x c r = omega arith

@@ -10,7 +10,9 @@ use lib.ListN.{length, getD}
 use lib.Dec.{leb, eqb}
 use borrow.Author.Tests.{eqb-true, eq-eqb, leb-true, leb-false}
 use Rattle.chart.specs.declared.Point.{Point}
-use Rattle.lattice.specs.Chart.{step, walk, cornerAt}
+use Rattle.chart.specs.Outline.{Outline, outline}
+use Rattle.chart.specs.Limits.{side}
+use Rattle.lattice.specs.Chart.{step, walk, cornerAt, letterAt, size}
 use Rattle.lattice.specs.Enclosed.{count, upAlong, downAlong, encloses}
 use Rattle.rows.specs.Search.{upColumn, downColumn}
 use Rattle.lattice.proofs.Jumps.{tally, tally-none}
@@ -19,7 +21,7 @@ use Rattle.convexity.specs.Cut.{cut}
 use Rattle.convexity.specs.Quadrant.{cellAlong, startOf, startE, cellE, cellL}
 use Rattle.convexity.proofs.Ring.{below-four}
 use Rattle.convexity.proofs.Quadrant.{NoBackStep}
-use Rattle.convexity.proofs.Levels.{ups-tally, downs-tally, tested, leaves-upwards, up-counted, up-enclosed}
+use Rattle.convexity.proofs.Levels.{ups-tally, downs-tally, tested, leaves-upwards, up-counted, up-marked}
 use Rattle.convexity.proofs.Shape.{shape, cut-le}
 use Rattle.convexity.proofs.Crossings.{UnderPiece, Crossing, crossing, line-bounds}
 use Rattle.convexity.proofs.UnderLaws.{under-from-left}
@@ -27,17 +29,17 @@ use Rattle.convexity.proofs.UnderLaws.{under-from-left}
 -- ---- a test of letters that finds one
 
 -- Place u is the one place of a walk whose letter passes the test f
-record Finds (f : Point → ℕ → Bool) (p : Point) (w : List ℕ) (u : ℕ) : Type 0 where
-  below : u < length w
-  found : f (cornerAt p w u) (getD w u 0) ≡ true
-  others : (i : ℕ) → i < length w → i ≢ u → f (cornerAt p w i) (getD w i 0) ≡ false
+record Finds (f : Point → ℕ → Bool) (o : Outline) (u : ℕ) : Type 0 where
+  below : u < size o
+  found : f (cornerAt o u) (letterAt o u) ≡ true
+  others : (i : ℕ) → i < size o → i ≢ u → f (cornerAt o i) (letterAt o i) ≡ false
 
-finds-next : (f : Point → ℕ → Bool) (p : Point) (a : ℕ) (w : List ℕ) (u : ℕ) → Finds f p (a ∷ w) (suc u) → Finds f (step p a) w u
+finds-next : (f : Point → ℕ → Bool) (p : Point) (a : ℕ) (w : List ℕ) (u : ℕ) → Finds f (outline p (a ∷ w)) (suc u) → Finds f (outline (step p a) w) u
 unfolding cornerAt walk
 finds-next f p a w u h = record { below = omega (arith, h .below); found = h .found; others = λ i l n. h .others (suc i) (omega arith) (λ e. n (omega arith)) }
 
 -- How many letters pass, of those at corner columns up to c
-tally-only : (f : Point → ℕ → Bool) (c : ℕ) (p : Point) (w : List ℕ) (u : ℕ) → Finds f p w u → tally (λ q a. f q a && leb (q .col) c) p w ≡ count (leb (cornerAt p w u .col) c)
+tally-only : (f : Point → ℕ → Bool) (c : ℕ) (p : Point) (w : List ℕ) (u : ℕ) → Finds f (outline p w) u → tally (λ q a. f q a && leb (q .col) c) p w ≡ count (leb (cornerAt (outline p w) u .col) c)
 unfolding tally cornerAt walk count
 tally-only f c p [] u h = absurd (omega (arith, h .below))
 tally-only f c p (a ∷ w) zero h =
@@ -51,12 +53,12 @@ lastColumn : (Point → ℕ → Bool) → Point → List ℕ → ℕ → ℕ
 lastColumn f p [] d = d
 lastColumn f p (a ∷ w) d = lastColumn f (step p a) w (cond (f p a) (p .col) d)
 
-last-none : (f : Point → ℕ → Bool) (p : Point) (w : List ℕ) (d : ℕ) → ((i : ℕ) → i < length w → f (cornerAt p w i) (getD w i 0) ≡ false) → lastColumn f p w d ≡ d
+last-none : (f : Point → ℕ → Bool) (p : Point) (w : List ℕ) (d : ℕ) → ((i : ℕ) → i < length w → f (cornerAt (outline p w) i) (getD w i 0) ≡ false) → lastColumn f p w d ≡ d
 unfolding lastColumn cornerAt walk
 last-none f p [] d h = refl
 last-none f p (a ∷ w) d h = rw (h 0 (omega arith)) (last-none f (step p a) w d (λ i l. h (suc i) (omega arith)))
 
-last-only : (f : Point → ℕ → Bool) (p : Point) (w : List ℕ) (d u : ℕ) → Finds f p w u → lastColumn f p w d ≡ cornerAt p w u .col
+last-only : (f : Point → ℕ → Bool) (p : Point) (w : List ℕ) (d u : ℕ) → Finds f (outline p w) u → lastColumn f p w d ≡ cornerAt (outline p w) u .col
 unfolding lastColumn cornerAt walk
 last-only f p [] d u h = absurd (omega (arith, h .below))
 last-only f p (a ∷ w) d zero h = rw (h .found) (last-none f (step p a) w (p .col) (λ i l. h .others (suc i) (omega arith) (λ e. omega arith)))
@@ -73,11 +75,11 @@ unfolding downColumn lastColumn
 down-column-last p [] r d = refl
 down-column-last p (a ∷ w) r d = down-column-last (step p a) w r (cond (downAlong p a r) (p .col) d)
 
-finds-of : (f : Point → ℕ → Bool) (p : Point) (w : List ℕ) (u : ℕ) → u < length w → f (cornerAt p w u) (getD w u 0) ≡ true
-    → ((i : ℕ) → i < length w → f (cornerAt p w i) (getD w i 0) ≡ true → i ≡ u) → Finds f p w u
-finds-of f p w u l e only = record { below = l; found = e; others = λ i m n. go i m n (f (cornerAt p w i) (getD w i 0)) refl }
+finds-of : (f : Point → ℕ → Bool) (o : Outline) (u : ℕ) → u < size o → f (cornerAt o u) (letterAt o u) ≡ true
+    → ((i : ℕ) → i < size o → f (cornerAt o i) (letterAt o i) ≡ true → i ≡ u) → Finds f o u
+finds-of f o u l e only = record { below = l; found = e; others = λ i m n. go i m n (f (cornerAt o i) (letterAt o i)) refl }
   where
-    go : (i : ℕ) → i < length w → i ≢ u → (b : Bool) → f (cornerAt p w i) (getD w i 0) ≡ b → f (cornerAt p w i) (getD w i 0) ≡ false
+    go : (i : ℕ) → i < size o → i ≢ u → (b : Bool) → f (cornerAt o i) (letterAt o i) ≡ b → f (cornerAt o i) (letterAt o i) ≡ false
     go i m n true d = absurd (n (only i m d))
     go i m n false d = d
 
@@ -95,75 +97,75 @@ sum-iff m n c = go (leb m c) (leb n c) refl refl
 -- ---- the rows of a turn
 
 -- The rows of S and of N
-abbrev pub bottom : Point → List ℕ → ℕ
-bottom s t = cornerAt s t (cut s t 3) .row
+abbrev pub bottom : Outline → ℕ
+bottom o = cornerAt o (cut o 3) .row
 
-abbrev pub top : Point → List ℕ → ℕ
-top s t = cornerAt s t (cut s t 1) .row
+abbrev pub top : Outline → ℕ
+top o = cornerAt o (cut o 1) .row
 
-module _ (s : Point) (t : List ℕ) (c : NoBackStep s t) where
-  bottom-start : startE s t 3 ≡ bottom s t
+module _ (o : Outline) (c : NoBackStep o) where
+  bottom-start : startE o 3 ≡ bottom o
   unfolding startE startOf frameOf along
   bottom-start = refl
 
-  top-start : startE s t 1 + top s t ≡ 255
+  top-start : startE o 1 + top o ≡ side
   unfolding startE startOf frameOf along
-  top-start = omega (arith, c .turn .walked .row-le (cut s t 1) (cut-le s t c 0 (omega arith)))
+  top-start = omega (arith, c .turn .walked .row-le (cut o 1) (cut-le o c 0 (omega arith)))
 
   -- An up leads across the rows, from piece 3 to piece 0, and so does a down, from piece 1 to piece 2
-  module _ (r : ℕ) (low : bottom s t ≤ r) (high : r < top s t) where
-    up : Crossing s t 3 r
-    up = crossing s t c 3 (omega arith) r (omega (arith, bottom-start)) (omega (arith, top-start))
+  module _ (r : ℕ) (low : bottom o ≤ r) (high : r < top o) where
+    up : Crossing o 3 r
+    up = crossing o c 3 (omega arith) r (omega (arith, bottom-start)) (omega (arith, top-start))
 
-    down : Crossing s t 1 (254 - r)
-    down = crossing s t c 1 (omega arith) (254 - r) (omega (arith, top-start)) (omega (arith, bottom-start, top-start))
+    down : Crossing o 1 (254 - r)
+    down = crossing o c 1 (omega arith) (254 - r) (omega (arith, top-start)) (omega (arith, bottom-start, top-start))
 
     abbrev upCol : ℕ
-    upCol = cornerAt s t (up .place) .col
+    upCol = cornerAt o (up .place) .col
 
     abbrev downCol : ℕ
-    downCol = cornerAt s t (down .place) .col
+    downCol = cornerAt o (down .place) .col
 
-    finds-up : Finds (λ p a. upAlong p a r) s t (up .place)
+    finds-up : Finds (λ p a. upAlong p a r) o (up .place)
     unfolding upAlong frameOf along
     finds-up =
-        finds-of (λ p a. upAlong p a r) s t (up .place) (up .letter .0) (rw (eq-eqb _ 1 (up .letter .1)) (eq-eqb _ r (up .here)))
-        (λ i l e. let (a, b) = tested (getD t i 0) 1 (cornerAt s t i .row) r e in up .only i (l, a) b)
+        finds-of (λ p a. upAlong p a r) o (up .place) (up .letter .0) (rw (eq-eqb _ 1 (up .letter .1)) (eq-eqb _ r (up .here)))
+        (λ i l e. let (a, b) = tested (letterAt o i) 1 (cornerAt o i .row) r e in up .only i (l, a) b)
 
-    finds-down : Finds (λ p a. downAlong p a r) s t (down .place)
+    finds-down : Finds (λ p a. downAlong p a r) o (down .place)
     unfolding downAlong frameOf along
     finds-down =
         let h = c .turn .walked .row-le (down .place) (omega (arith, down .letter .0)) in
-        finds-of (λ p a. downAlong p a r) s t (down .place) (down .letter .0)
-        (rw (eq-eqb _ 3 (down .letter .1)) (eq-eqb (cornerAt s t (down .place) .row) (suc r) (omega (arith, down .here, top-start))))
-        (λ i l e. let (a, b) = tested (getD t i 0) 3 (cornerAt s t i .row) (suc r) e in down .only i (l, a) (omega arith))
+        finds-of (λ p a. downAlong p a r) o (down .place) (down .letter .0)
+        (rw (eq-eqb _ 3 (down .letter .1)) (eq-eqb (cornerAt o (down .place) .row) (suc r) (omega (arith, down .here, top-start))))
+        (λ i l e. let (a, b) = tested (letterAt o i) 3 (cornerAt o i .row) (suc r) e in down .only i (l, a) (omega arith))
 
-    up-column : upColumn s t r 0 ≡ upCol
-    up-column = up-column-last s t r 0 ∙ last-only (λ p a. upAlong p a r) s t 0 (up .place) finds-up
+    up-column : upColumn (o .start) (o .letters) r 0 ≡ upCol
+    up-column = up-column-last (o .start) (o .letters) r 0 ∙ last-only (λ p a. upAlong p a r) (o .start) (o .letters) 0 (up .place) finds-up
 
-    down-column : downColumn s t r 0 ≡ downCol
-    down-column = down-column-last s t r 0 ∙ last-only (λ p a. downAlong p a r) s t 0 (down .place) finds-down
+    down-column : downColumn (o .start) (o .letters) r 0 ≡ downCol
+    down-column = down-column-last (o .start) (o .letters) r 0 ∙ last-only (λ p a. downAlong p a r) (o .start) (o .letters) 0 (down .place) finds-down
 
     -- The enclosed cells of the row are those from its up to its down
-    ends : (c : ℕ) → (encloses s t c r ≡ true) ↔ ((upCol ≤ c) × (c < downCol))
+    ends : (c : ℕ) → (encloses o c r ≡ true) ↔ ((upCol ≤ c) × (c < downCol))
     unfolding encloses
     ends c =
-        rw (ups-tally s t c r ∙ tally-only (λ p a. upAlong p a r) c s t (up .place) finds-up, downs-tally s t c r ∙ tally-only (λ p a. downAlong p a r) c s t (down .place) finds-down)
+        rw (ups-tally (o .start) (o .letters) c r ∙ tally-only (λ p a. upAlong p a r) c (o .start) (o .letters) (up .place) finds-up, downs-tally (o .start) (o .letters) c r ∙ tally-only (λ p a. downAlong p a r) c (o .start) (o .letters) (down .place) finds-down)
         (sum-iff upCol downCol c)
 
-    pub row-ends : (c : ℕ) → (encloses s t c r ≡ true) ↔ ((upColumn s t r 0 ≤ c) × (c < downColumn s t r 0))
+    pub row-ends : (c : ℕ) → (encloses o c r ≡ true) ↔ ((upColumn (o .start) (o .letters) r 0 ≤ c) × (c < downColumn (o .start) (o .letters) r 0))
     row-ends c = rw (up-column, down-column) (ends c)
 
     -- The cell right of the up is one of them
-    pub row-full : upColumn s t r 0 < downColumn s t r 0
+    pub row-full : upColumn (o .start) (o .letters) r 0 < downColumn (o .start) (o .letters) r 0
     unfolding frameOf along
-    row-full = rw (up-column, down-column) (ends upCol .0 (rw (up .here) at (up-enclosed s t (c .turn) (leaves-upwards t (c .clockwise)) (up .place) (up .letter))) .1)
+    row-full = rw (up-column, down-column) (ends upCol .0 (rw (up .here) at (up-marked o (c .turn) (leaves-upwards o (c .clockwise)) (up .place) (up .letter))) .1)
 
-    pub row-fits : downColumn s t r 0 ≤ 255
+    pub row-fits : downColumn (o .start) (o .letters) r 0 ≤ side
     row-fits = rw down-column (c .turn .walked .col-le (down .place) (omega (arith, down .letter .0)))
 
     -- Right of the up is under the paths of pieces 3 and 0, left of the down under those of pieces 1 and 2
-    row-under : (x : Point) → x .row ≡ r → x .col < 255 → (encloses s t (x .col) r ≡ true) ↔ ((k : ℕ) → k < 4 → UnderPiece s t k x)
+    row-under : (x : Point) → x .row ≡ r → x .col < side → (encloses o (x .col) r ≡ true) ↔ ((k : ℕ) → k < 4 → UnderPiece o k x)
     unfolding cellE cellL cellAlong frameOf along
     row-under x e l =
         let h = c .turn .walked .col-le (down .place) (omega (arith, down .letter .0)) in
@@ -173,33 +175,33 @@ module _ (s : Point) (t : List ℕ) (c : NoBackStep s t) where
               let (m, n) = ends (x .col) .0 g in
               let (u3, u0) = a .0 m in
               let (u1, u2) = b .0 (omega arith) in
-              below-four (λ k. UnderPiece s t k x) u0 u1 u2 u3,
+              below-four (λ k. UnderPiece o k x) u0 u1 u2 u3,
           λ u. ends (x .col) .1 (a .1 (u 3 (omega arith), u 0 (omega arith)), omega (arith, b .1 (u 1 (omega arith), u 2 (omega arith)))),
         )
 
-  pub bottom-lt-top : bottom s t < top s t
-  bottom-lt-top = omega (arith, bottom-start, top-start, shape s t c .next-later 3 (omega arith), shape s t c .next-earlier 0 (omega arith))
+  pub bottom-lt-top : bottom o < top o
+  bottom-lt-top = omega (arith, bottom-start, top-start, shape o c .next-later 3 (omega arith), shape o c .next-earlier 0 (omega arith))
 
   -- Outside the rows from S up to N there is no up
-  pub enclosed-row : (c r : ℕ) → encloses s t c r ≡ true → (bottom s t ≤ r) × (r < top s t)
+  pub enclosed-row : (c r : ℕ) → encloses o c r ≡ true → (bottom o ≤ r) × (r < top o)
   unfolding frameOf along
   enclosed-row x r e =
-      let (i, l, _, b) = up-counted s t x r e in
-      let lines = line-bounds s t c 3 (omega arith) i l in
+      let (i, l, _, b) = up-counted o x r e in
+      let lines = line-bounds o c 3 (omega arith) i l in
       (omega (arith, bottom-start), omega (arith, top-start))
 
-  pub enclosed-on-chart : (c r : ℕ) → encloses s t c r ≡ true → (c < 255) × (r < 255)
+  pub enclosed-on-chart : (c r : ℕ) → encloses o c r ≡ true → (c < side) × (r < side)
   enclosed-on-chart x r e =
       let (low, high) = enclosed-row x r e in
       (omega (arith, row-ends r low high x .0 e, row-fits r low high), omega (arith, top-start))
 
   -- A cell of the chart is enclosed exactly where it is under the paths of all four pieces
-  pub enclosed-iff : (x : Point) → x .col < 255 → x .row < 255 → (encloses s t (x .col) (x .row) ≡ true) ↔ ((k : ℕ) → k < 4 → UnderPiece s t k x)
+  pub enclosed-iff : (x : Point) → x .col < side → x .row < side → (encloses o (x .col) (x .row) ≡ true) ↔ ((k : ℕ) → k < 4 → UnderPiece o k x)
   unfolding cellE cellAlong frameOf
   enclosed-iff x l m = (
     λ e. let (low, high) = enclosed-row (x .col) (x .row) e in row-under (x .row) low high x refl l .0 e,
     λ u.
-        let low : bottom s t ≤ x .row = omega (arith, bottom-start, under-from-left _ _ _ _ _ (u 3 (omega arith))) in
-        let high : x .row < top s t = omega (arith, top-start, under-from-left _ _ _ _ _ (u 1 (omega arith))) in
+        let low : bottom o ≤ x .row = omega (arith, bottom-start, under-from-left _ _ _ _ _ (u 3 (omega arith))) in
+        let high : x .row < top o = omega (arith, top-start, under-from-left _ _ _ _ _ (u 1 (omega arith))) in
         row-under (x .row) low high x refl l .1 u,
   )

@@ -18,11 +18,12 @@ use Rattle.base.proofs.BelowLaws.{first-le, first-before}
 use Rattle.words.proofs.Counts.{earliers-take-suc, laters-take-suc}
 use Rattle.chart.specs.Limits.{side}
 use Rattle.chart.specs.declared.Point.{Point}
-use Rattle.lattice.specs.Chart.{cornerAt}
+use Rattle.chart.specs.Outline.{Outline}
+use Rattle.lattice.specs.Chart.{cornerAt, size, letterAt}
 use Rattle.lattice.proofs.WalkLaws.{Walked, OnChart}
 use Rattle.convexity.specs.Frame.{Frame, frameOf, along}
 use Rattle.convexity.specs.Cut.{cutCorner, cut}
-use Rattle.convexity.specs.Pieces.{rounds, piece, stray, strayAt, strayPiece, word}
+use Rattle.convexity.specs.Pieces.{rounds, piece, isBackStep, backStepAt, backStepPiece, word}
 use Rattle.convexity.specs.Quadrant.{spell, startOf, startE, startL}
 use Rattle.convexity.specs.Reading.{opposite}
 use Rattle.convexity.proofs.Ring.{next, next-lt, next-suc, below-four, round-ring, Apart, apart, Turns, turns, along-next}
@@ -32,10 +33,10 @@ use Rattle.convexity.proofs.Cuts.{ahead-round, cut-step, cut-zero, corn
 use Rattle.convexity.proofs.Extreme.{FirstAt, on-chart, Moved, earlier-on, later-on, earlier-back, later-back, Bend, by-later, by-earlier, previous, corner-round, moves, bend}
 
 -- A test of the first piece with a back-step finds none
-pub straight-of : (s : Point) (t : List ℕ) → ltb (strayPiece s t) 4 ≡ false → strayPiece s t ≡ 4
-unfolding strayPiece
-straight-of s t e =
-    omega (arith, first-le (λ k. ltb (strayAt s t k) (length (piece s t k))) 4, ltb-false (strayPiece s t) 4 e)
+pub straight-of : (o : Outline) → ltb (backStepPiece o) 4 ≡ false → backStepPiece o ≡ 4
+unfolding backStepPiece
+straight-of o e =
+    omega (arith, first-le (λ k. ltb (backStepAt o k) (length (piece o k))) 4, ltb-false (backStepPiece o) 4 e)
 
 -- ---- the letters of a frame
 
@@ -43,8 +44,8 @@ straight-of s t e =
 abbrev LetterOf : Frame → ℕ → Type 0
 LetterOf f a = (a ≡ f .earlier) ⊎ (a ≡ f .later)
 
-no-back-step-letter : (f : Frame) (a : ℕ) → stray f a ≡ false → LetterOf f a
-unfolding stray
+no-back-step-letter : (f : Frame) (a : ℕ) → isBackStep f a ≡ false → LetterOf f a
+unfolding isBackStep
 no-back-step-letter f a e = go (eqb a (f .earlier)) refl (not-false (eqb a (f .earlier) || eqb a (f .later)) e)
   where
     go : (b : Bool) → eqb a (f .earlier) ≡ b → (b || eqb a (f .later)) ≡ true → LetterOf f a
@@ -80,19 +81,19 @@ unfolding rounds
 rounds-after t i h = getD-append-add t (t ++ (t ++ t)) i 0 ∙ List·getD-append t (t ++ t) 0 i h
 
 -- A turn without back-steps: the letters walked from cut k to the next cut are of frame k
-of-piece : (s : Point) (t : List ℕ) → strayPiece s t ≡ 4 → (k : ℕ) → k < 4 → (i : ℕ) → cut s t k ≤ i → i < cut s t (suc k) → i < length (rounds t)
-    → LetterOf (frameOf k) (getD (rounds t) i 0)
-unfolding strayPiece strayAt piece
-of-piece s t e k h i a b c =
-    let r : List ℕ = rounds t in
-    let m : ℕ = i - cut s t k in
-    let long : m < length (piece s t k) = simp (length-take, length-drop) (omega arith) in
-    let none : ltb (strayAt s t k) (length (piece s t k)) ≡ false = first-before (λ k. ltb (strayAt s t k) (length (piece s t k))) 4 k (omega arith) in
-    let straight : stray (frameOf k) (getD (piece s t k) m 0) ≡ false =
-    first-before (λ i. stray (frameOf k) (getD (piece s t k) i 0)) (length (piece s t k)) m
-    (omega (arith, ltb-false (strayAt s t k) (length (piece s t k)) none)) in
-    let at : getD (piece s t k) m 0 ≡ getD r i 0 =
-    getD-take (cut s t (suc k) - cut s t k) (drop (cut s t k) r) m 0 (omega arith) ∙ getD-drop (cut s t k) r m 0 ∙ ap (λ (j : ℕ). getD r j 0) (omega arith) in
+of-piece : (o : Outline) → backStepPiece o ≡ 4 → (k : ℕ) → k < 4 → (i : ℕ) → cut o k ≤ i → i < cut o (suc k) → i < length (rounds (o .letters))
+    → LetterOf (frameOf k) (getD (rounds (o .letters)) i 0)
+unfolding backStepPiece backStepAt piece
+of-piece o e k h i a b c =
+    let r : List ℕ = rounds (o .letters) in
+    let m : ℕ = i - cut o k in
+    let long : m < length (piece o k) = simp (length-take, length-drop) (omega arith) in
+    let none : ltb (backStepAt o k) (length (piece o k)) ≡ false = first-before (λ k. ltb (backStepAt o k) (length (piece o k))) 4 k (omega arith) in
+    let straight : isBackStep (frameOf k) (getD (piece o k) m 0) ≡ false =
+    first-before (λ i. isBackStep (frameOf k) (getD (piece o k) i 0)) (length (piece o k)) m
+    (omega (arith, ltb-false (backStepAt o k) (length (piece o k)) none)) in
+    let at : getD (piece o k) m 0 ≡ getD r i 0 =
+    getD-take (cut o (suc k) - cut o k) (drop (cut o k) r) m 0 (omega arith) ∙ getD-drop (cut o k) r m 0 ∙ ap (λ (j : ℕ). getD r j 0) (omega arith) in
     no-back-step-letter (frameOf k) (getD r i 0) (rw at at straight)
 
 -- ---- a list of a frame's letters, as a word
@@ -156,165 +157,165 @@ corner-on k true p q P Q o c (later-on x y z) = record { on-chart = o; across = 
 corner-on k true p q P Q o c (earlier-back x y z) = absurd (omega (arith, apart k))
 corner-on k true p q P Q o c (later-back x y z) = absurd (omega (arith, apart k))
 
-module _ (s : Point) (t : List ℕ) (c : NoBackStep s t) where
-  steps : Walked s t
+module _ (o : Outline) (c : NoBackStep o) where
+  steps : Walked o
   steps = c .turn .walked
 
-  up : getD t 0 0 ≡ 1
-  up = leaves-upwards t (c .clockwise)
+  up : letterAt o 0 ≡ 1
+  up = leaves-upwards o (c .clockwise)
 
   -- ---- the cut places rise
 
   -- Else the piece would run on past the end of the turn, and hold the letter that comes to W and the one that leaves it
-  corner-rises : (k : ℕ) → k < 3 → cut s t k ≡ cutCorner s t k → cutCorner s t k < cutCorner s t (suc k)
+  corner-rises : (k : ℕ) → k < 3 → cut o k ≡ cutCorner o k → cutCorner o k < cutCorner o (suc k)
   corner-rises k h e =
-      let n : ℕ = length t in
-      let a : ℕ = cutCorner s t k in
-      let b : ℕ = cutCorner s t (suc k) in
+      let n : ℕ = size o in
+      let a : ℕ = cutCorner o k in
+      let b : ℕ = cutCorner o (suc k) in
       elim (decLt a b) [
         | yes l ↦ l
         | no l ↦
-            let m : b < a = omega (arith, rw (next-suc k h) at (corners-differ s t (c .turn) k (omega arith))) in
-            let below : a < n = corner-first s t (c .turn) k (omega arith) .below in
-            let after : 0 < b = corner-after s t (c .turn) up (suc k) (omega arith) (omega arith) in
-            let far : cut s t (suc k) ≡ b + n = omega (arith, cut-step s t k, ahead-round n a b m) in
-            let of : (i : ℕ) → a ≤ i → i < b + n → LetterOf (frameOf k) (getD (rounds t) i 0) =
-            λ i x y. of-piece s t (c .straight) k (omega arith) i (omega arith) (omega arith) (omega (arith, length-rounds t)) in
+            let m : b < a = omega (arith, rw (next-suc k h) at (corners-differ o (c .turn) k (omega arith))) in
+            let below : a < n = corner-first o (c .turn) k (omega arith) .below in
+            let after : 0 < b = corner-after o (c .turn) up (suc k) (omega arith) (omega arith) in
+            let far : cut o (suc k) ≡ b + n = omega (arith, cut-step o k, ahead-round n a b m) in
+            let of : (i : ℕ) → a ≤ i → i < b + n → LetterOf (frameOf k) (getD (rounds (o .letters)) i 0) =
+            λ i x y. of-piece o (c .straight) k (omega arith) i (omega arith) (omega arith) (omega (arith, length-rounds (o .letters))) in
             absurd (not-both k h
-            (rw (rounds-before t (n - 1) (omega arith), coming-west s t (c .turn) up) at (of (n - 1) (omega arith) (omega arith)))
-            (rw (rounds-after t 0 (omega arith), up) at (of (n + 0) (omega arith) (omega arith))))
+            (rw (rounds-before (o .letters) (n - 1) (omega arith), coming-west o (c .turn) up) at (of (n - 1) (omega arith) (omega arith)))
+            (rw (rounds-after (o .letters) 0 (omega arith), up) at (of (n + 0) (omega arith) (omega arith))))
       ]
 
-  cut-corner : (k : ℕ) → k < 4 → cut s t k ≡ cutCorner s t k
-  cut-corner zero h = omega (arith, cut-zero s t, corner-west s t)
+  cut-corner : (k : ℕ) → k < 4 → cut o k ≡ cutCorner o k
+  cut-corner zero h = omega (arith, cut-zero o, corner-west o)
   cut-corner (suc k) h =
       let e = cut-corner k (omega arith) in
       let r = corner-rises k (omega arith) e in
-      cut-on s t k e (omega arith)
+      cut-on o k e (omega arith)
 
-  rise : (k : ℕ) → k < 3 → cutCorner s t k < cutCorner s t (suc k)
+  rise : (k : ℕ) → k < 3 → cutCorner o k < cutCorner o (suc k)
   rise k h = corner-rises k h (cut-corner k (omega arith))
 
-  whole-turn : cut s t 4 ≡ length t
-  whole-turn = cut-round s t cut-corner rise (corner-first s t (c .turn) 3 (omega arith) .below)
+  whole-turn : cut o 4 ≡ size o
+  whole-turn = cut-round o cut-corner rise (corner-first o (c .turn) 3 (omega arith) .below)
 
-  rising : (k : ℕ) → k < 4 → cut s t k < cut s t (suc k)
-  rising = cuts-rise s t cut-corner rise (corner-first s t (c .turn) 3 (omega arith) .below)
+  rising : (k : ℕ) → k < 4 → cut o k < cut o (suc k)
+  rising = cuts-rise o cut-corner rise (corner-first o (c .turn) 3 (omega arith) .below)
 
-  pub cut-le : (k : ℕ) → k < 4 → cut s t (suc k) ≤ length t
-  cut-le = cuts-fit s t cut-corner rise (corner-first s t (c .turn) 3 (omega arith) .below)
+  pub cut-le : (k : ℕ) → k < 4 → cut o (suc k) ≤ size o
+  cut-le = cuts-fit o cut-corner rise (corner-first o (c .turn) 3 (omega arith) .below)
 
-  cut-first : (k : ℕ) → k < 4 → FirstAt s t k (cut s t k)
-  cut-first k h = rw (cut-corner k h) (corner-first s t (c .turn) k h)
+  cut-first : (k : ℕ) → k < 4 → FirstAt o k (cut o k)
+  cut-first k h = rw (cut-corner k h) (corner-first o (c .turn) k h)
 
   -- ---- the pieces are parts of the turn
 
-  piece-rest : (k : ℕ) → k < 4 → drop (cut s t k) t ≡ piece s t k ++ drop (cut s t (suc k)) t
+  piece-rest : (k : ℕ) → k < 4 → drop (cut o k) (o .letters) ≡ piece o k ++ drop (cut o (suc k)) (o .letters)
   piece-rest k h =
-      let a : ℕ = cut s t k in
-      let b : ℕ = cut s t (suc k) in
+      let a : ℕ = cut o k in
+      let b : ℕ = cut o (suc k) in
       let e : a + (b - a) ≡ b = omega (arith, rising k h) in
-      let rest : drop (b - a) (drop a t) ≡ drop b t = drop-drop (b - a) a t ∙ ap (λ (m : ℕ). drop m t) e in
-      rw (piece-part s t cut-le k h) (sym (take-append-drop (b - a) (drop a t)) ∙ ap (λ (v : List ℕ). take (b - a) (drop a t) ++ v) rest)
+      let rest : drop (b - a) (drop a (o .letters)) ≡ drop b (o .letters) = drop-drop (b - a) a (o .letters) ∙ ap (λ (m : ℕ). drop m (o .letters)) e in
+      rw (piece-part o cut-le k h) (sym (take-append-drop (b - a) (drop a (o .letters))) ∙ ap (λ (v : List ℕ). take (b - a) (drop a (o .letters)) ++ v) rest)
 
-  pieces-whole : t ≡ piece s t 0 ++ (piece s t 1 ++ (piece s t 2 ++ piece s t 3))
+  pieces-whole : o .letters ≡ piece o 0 ++ (piece o 1 ++ (piece o 2 ++ piece o 3))
   pieces-whole =
-      let e0 : t ≡ piece s t 0 ++ drop (cut s t 1) t = ap (λ (m : ℕ). drop m t) (sym (cut-zero s t)) ∙ piece-rest 0 (omega arith) in
+      let e0 : o .letters ≡ piece o 0 ++ drop (cut o 1) (o .letters) = ap (λ (m : ℕ). drop m (o .letters)) (sym (cut-zero o)) ∙ piece-rest 0 (omega arith) in
       let e1 = piece-rest 1 (omega arith) in
       let e2 = piece-rest 2 (omega arith) in
-      let e3 : drop (cut s t 3) t ≡ piece s t 3 = piece-rest 3 (omega arith) ∙ ap (λ (m : ℕ). piece s t 3 ++ drop m t) whole-turn ∙ ap (λ (v : List ℕ). piece s t 3 ++ v) (drop-length t) ∙ append-nil (piece s t 3) in
-      e0 ∙ ap (λ (v : List ℕ). piece s t 0 ++ v) (e1 ∙ ap (λ (v : List ℕ). piece s t 1 ++ v) (e2 ∙ ap (λ (v : List ℕ). piece s t 2 ++ v) e3))
+      let e3 : drop (cut o 3) (o .letters) ≡ piece o 3 = piece-rest 3 (omega arith) ∙ ap (λ (m : ℕ). piece o 3 ++ drop m (o .letters)) whole-turn ∙ ap (λ (v : List ℕ). piece o 3 ++ v) (drop-length (o .letters)) ∙ append-nil (piece o 3) in
+      e0 ∙ ap (λ (v : List ℕ). piece o 0 ++ v) (e1 ∙ ap (λ (v : List ℕ). piece o 1 ++ v) (e2 ∙ ap (λ (v : List ℕ). piece o 2 ++ v) e3))
 
   -- ---- a piece begins and ends with its later letter
 
-  of-frame : (k : ℕ) → k < 4 → (i : ℕ) → cut s t k ≤ i → i < cut s t (suc k) → LetterOf (frameOf k) (getD t i 0)
+  of-frame : (k : ℕ) → k < 4 → (i : ℕ) → cut o k ≤ i → i < cut o (suc k) → LetterOf (frameOf k) (letterAt o i)
   of-frame k h i a b =
-      let l : i < length t = omega (arith, cut-le k h) in
-      rw (rounds-before t i l) at (of-piece s t (c .straight) k h i a b (omega (arith, length-rounds t)))
+      let l : i < size o = omega (arith, cut-le k h) in
+      rw (rounds-before (o .letters) i l) at (of-piece o (c .straight) k h i a b (omega (arith, length-rounds (o .letters))))
 
   -- The place before the start of the next piece
-  place-before : (k : ℕ) → k < 4 → previous (length t) (cut s t (next k)) ≡ cut s t (suc k) - 1
+  place-before : (k : ℕ) → k < 4 → previous (size o) (cut o (next k)) ≡ cut o (suc k) - 1
   place-before =
-      round-ring (λ k j. previous (length t) (cut s t j) ≡ cut s t (suc k) - 1)
-      (λ k h. previous-pos (length t) (cut s t (suc k)) (omega (arith, rising k (omega arith))))
-      (rw cut-zero (previous-zero (length t) ∙ ap (λ (n : ℕ). n - 1) (sym whole-turn)))
+      round-ring (λ k j. previous (size o) (cut o j) ≡ cut o (suc k) - 1)
+      (λ k h. previous-pos (size o) (cut o (suc k)) (omega (arith, rising k (omega arith))))
+      (rw cut-zero (previous-zero (size o) ∙ ap (λ (n : ℕ). n - 1) (sym whole-turn)))
 
-  meeting : (k : ℕ) → k < 4 → (getD t (cut s t (suc k) - 1) 0 ≡ frameOf k .later) × (getD t (cut s t (next k)) 0 ≡ frameOf (next k) .later)
+  meeting : (k : ℕ) → k < 4 → (letterAt o (cut o (suc k) - 1) ≡ frameOf k .later) × (letterAt o (cut o (next k)) ≡ frameOf (next k) .later)
   meeting k h =
-      let r : cut s t k < cut s t (suc k) = rising k h in
-      junction (frameOf k) (frameOf (next k)) _ _ (apart k) (turns k) (of-frame k h (cut s t (suc k) - 1) (omega arith) (omega arith))
-      (rw (place-before k h) at (bend s t steps (next k) (cut s t (next k)) (cut-first (next k) (next-lt k))))
+      let r : cut o k < cut o (suc k) = rising k h in
+      junction (frameOf k) (frameOf (next k)) _ _ (apart k) (turns k) (of-frame k h (cut o (suc k) - 1) (omega arith) (omega arith))
+      (rw (place-before k h) at (bend o steps (next k) (cut o (next k)) (cut-first (next k) (next-lt k))))
 
-  piece-first : (k : ℕ) → k < 4 → getD t (cut s t k) 0 ≡ frameOf k .later
+  piece-first : (k : ℕ) → k < 4 → letterAt o (cut o k) ≡ frameOf k .later
   piece-first = below-four _ (meeting 3 (omega arith) .1) (meeting 0 (omega arith) .1) (meeting 1 (omega arith) .1) (meeting 2 (omega arith) .1)
 
   -- ---- the four words
 
-  piece-word : (k : ℕ) → k < 4 → piece s t k ≡ frameOf k .later ∷ drop 1 (piece s t k)
+  piece-word : (k : ℕ) → k < 4 → piece o k ≡ frameOf k .later ∷ drop 1 (piece o k)
   piece-word k h =
-      let r : cut s t k < cut s t (suc k) = rising k h in
-      let at : getD (piece s t k) 0 0 ≡ frameOf k .later = piece-at s t cut-le k h 0 (omega arith) ∙ ap (λ (i : ℕ). getD t i 0) (add-zero (cut s t k)) ∙ piece-first k h in
-      drop-cons (piece s t k) 0 0 (omega (arith, piece-length s t cut-le k h)) ∙ ap (λ (a : ℕ). a ∷ drop 1 (piece s t k)) at
+      let r : cut o k < cut o (suc k) = rising k h in
+      let at : getD (piece o k) 0 0 ≡ frameOf k .later = piece-at o cut-le k h 0 (omega arith) ∙ ap (λ (i : ℕ). letterAt o i) (add-zero (cut o k)) ∙ piece-first k h in
+      drop-cons (piece o k) 0 0 (omega (arith, piece-length o cut-le k h)) ∙ ap (λ (a : ℕ). a ∷ drop 1 (piece o k)) at
 
-  rest-at : (k : ℕ) → k < 4 → (i : ℕ) → suc i < cut s t (suc k) - cut s t k → getD (drop 1 (piece s t k)) i 0 ≡ getD t (cut s t k + suc i) 0
-  rest-at k h i l = getD-drop 1 (piece s t k) i 0 ∙ ap (λ (j : ℕ). getD (piece s t k) j 0) (one-add i) ∙ piece-at s t cut-le k h (suc i) l
+  rest-at : (k : ℕ) → k < 4 → (i : ℕ) → suc i < cut o (suc k) - cut o k → getD (drop 1 (piece o k)) i 0 ≡ letterAt o (cut o k + suc i)
+  rest-at k h i l = getD-drop 1 (piece o k) i 0 ∙ ap (λ (j : ℕ). getD (piece o k) j 0) (one-add i) ∙ piece-at o cut-le k h (suc i) l
 
-  rest-length : (k : ℕ) → k < 4 → length (drop 1 (piece s t k)) + 1 ≡ cut s t (suc k) - cut s t k
-  rest-length k h = simp length-drop (omega (arith, piece-length s t cut-le k h, rising k h))
+  rest-length : (k : ℕ) → k < 4 → length (drop 1 (piece o k)) + 1 ≡ cut o (suc k) - cut o k
+  rest-length k h = simp length-drop (omega (arith, piece-length o cut-le k h, rising k h))
 
-  spelled : (k : ℕ) → k < 4 → piece s t k ≡ spell (frameOf k) (true ∷ word s t k)
+  spelled : (k : ℕ) → k < 4 → piece o k ≡ spell (frameOf k) (true ∷ word o k)
   unfolding spell word
   spelled k h =
-      piece-word k h ∙ ap (λ (v : List ℕ). frameOf k .later ∷ v) (sym (spell-word (frameOf k) (apart k) (drop 1 (piece s t k)) letters))
+      piece-word k h ∙ ap (λ (v : List ℕ). frameOf k .later ∷ v) (sym (spell-word (frameOf k) (apart k) (drop 1 (piece o k)) letters))
     where
-      letters : (i : ℕ) → i < length (drop 1 (piece s t k)) → LetterOf (frameOf k) (getD (drop 1 (piece s t k)) i 0)
+      letters : (i : ℕ) → i < length (drop 1 (piece o k)) → LetterOf (frameOf k) (getD (drop 1 (piece o k)) i 0)
       letters i l =
-          let m : suc i < cut s t (suc k) - cut s t k = omega (arith, rest-length k h) in
-          rw (rest-at k h i m) (of-frame k h (cut s t k + suc i) (omega arith) (omega arith))
+          let m : suc i < cut o (suc k) - cut o k = omega (arith, rest-length k h) in
+          rw (rest-at k h i m) (of-frame k h (cut o k + suc i) (omega arith) (omega arith))
 
-  ends : (k : ℕ) → k < 4 → (x : Word) (b : Bool) → word s t k ≡ x ++ (b ∷ []) → b ≡ true
+  ends : (k : ℕ) → k < 4 → (x : Word) (b : Bool) → word o k ≡ x ++ (b ∷ []) → b ≡ true
   unfolding word wordOf
   ends k h x b e =
       let f : Frame = frameOf k in
       let g : ℕ → Bool = λ a. eqb a (f .later) in
-      let u : List ℕ = drop 1 (piece s t k) in
+      let u : List ℕ = drop 1 (piece o k) in
       let n : ℕ = length x in
       let long : length u ≡ n + 1 = sym (length-map u g) ∙ ap length e ∙ length-append x (b ∷ []) in
-      let all : n + 1 + 1 ≡ cut s t (suc k) - cut s t k = omega (arith, rest-length k h) in
-      let place : cut s t k + suc n ≡ cut s t (suc k) - 1 = omega arith in
-      let letter : getD u n 0 ≡ f .later = rest-at k h n (omega arith) ∙ ap (λ (j : ℕ). getD t j 0) place ∙ meeting k h .0 in
+      let all : n + 1 + 1 ≡ cut o (suc k) - cut o k = omega (arith, rest-length k h) in
+      let place : cut o k + suc n ≡ cut o (suc k) - 1 = omega arith in
+      let letter : getD u n 0 ≡ f .later = rest-at k h n (omega arith) ∙ ap (λ (j : ℕ). letterAt o j) place ∙ meeting k h .0 in
       let last : getD (map g u) n (g 0) ≡ b = ap (λ (v : Word). getD v n (g 0)) e ∙ getD-append-seam x b [] (g 0) in
       sym last ∙ List·getD-map g u n 0 ∙ eq-eqb (getD u n 0) (f .later) letter
 
-  word-length : (k : ℕ) → k < 4 → length (word s t k) + 1 ≡ cut s t (suc k) - cut s t k
+  word-length : (k : ℕ) → k < 4 → length (word o k) + 1 ≡ cut o (suc k) - cut o k
   unfolding word wordOf
   word-length k h = simp length-map (rest-length k h)
 
   -- ---- the letters and the corners of a piece, in its frame
 
-  pub place-lt : (k : ℕ) → k < 4 → (m : ℕ) → m < length (true ∷ word s t k) → cut s t k + m < length t
+  pub place-lt : (k : ℕ) → k < 4 → (m : ℕ) → m < length (true ∷ word o k) → cut o k + m < size o
   place-lt k h m l = omega (arith, word-length k h, rising k h, cut-le k h)
 
-  pub letter-in-piece : (k : ℕ) → k < 4 → (m : ℕ) → m < length (true ∷ word s t k)
-      → getD t (cut s t k + m) 0 ≡ letterOf (frameOf k) (getD (true ∷ word s t k) m false)
+  pub letter-in-piece : (k : ℕ) → k < 4 → (m : ℕ) → m < length (true ∷ word o k)
+      → letterAt o (cut o k + m) ≡ letterOf (frameOf k) (getD (true ∷ word o k) m false)
   letter-in-piece k h m l =
-      sym (piece-at s t cut-le k h m (omega (arith, word-length k h))) ∙ ap (λ (u : List ℕ). getD u m 0) (spelled k h)
-      ∙ getD-spell (frameOf k) (true ∷ word s t k) m l
+      sym (piece-at o cut-le k h m (omega (arith, word-length k h))) ∙ ap (λ (u : List ℕ). getD u m 0) (spelled k h)
+      ∙ getD-spell (frameOf k) (true ∷ word o k) m l
 
-  pub corner-in-piece : (k : ℕ) → k < 4 → (m : ℕ) → m ≤ length (true ∷ word s t k)
-      → CornerIn k (cornerAt s t (cut s t k + m)) (startE s t k + earliers (take m (true ∷ word s t k))) (startL s t k + laters (take m (true ∷ word s t k)))
+  pub corner-in-piece : (k : ℕ) → k < 4 → (m : ℕ) → m ≤ length (true ∷ word o k)
+      → CornerIn k (cornerAt o (cut o k + m)) (startE o k + earliers (take m (true ∷ word o k))) (startL o k + laters (take m (true ∷ word o k)))
   unfolding startE startL startOf earliers laters
   corner-in-piece k h zero l =
-      let m : cut s t k ≤ length t = omega (arith, place-lt k h 0 (omega arith)) in
-      rw (add-zero (cut s t k)) (record { on-chart = on-chart s t steps (cut s t k) m; across = omega arith; up = omega arith })
+      let m : cut o k ≤ size o = omega (arith, place-lt k h 0 (omega arith)) in
+      rw (add-zero (cut o k)) (record { on-chart = on-chart o steps (cut o k) m; across = omega arith; up = omega arith })
   corner-in-piece k h (suc m) l =
-      let v : Word = true ∷ word s t k in
-      let j : ℕ = cut s t k + m in
-      let n : j < length t = place-lt k h m l in
+      let v : Word = true ∷ word o k in
+      let j : ℕ = cut o k + m in
+      let n : j < size o = place-lt k h m l in
       let c =
-      corner-on k (getD v m false) (cornerAt s t j) (cornerAt s t (suc j)) _ _ (on-chart s t steps (suc j) n) (corner-in-piece k h m (omega arith))
-      (rw (letter-in-piece k h m l) at (moves s t steps k j n)) in
-      rw (add-suc (cut s t k) m)
+      corner-on k (getD v m false) (cornerAt o j) (cornerAt o (suc j)) _ _ (on-chart o steps (suc j) n) (corner-in-piece k h m (omega arith))
+      (rw (letter-in-piece k h m l) at (moves o steps k j n)) in
+      rw (add-suc (cut o k) m)
       (record { on-chart = c .on-chart; across = omega (arith, earliers-take-suc m v l); up = omega (arith, laters-take-suc m v l) })
 
   -- Each place is in one of the pieces
@@ -322,57 +323,57 @@ module _ (s : Point) (t : List ℕ) (c : NoBackStep s t) where
     pub piece : ℕ
     pub small : piece < 4
     pub offset : ℕ
-    pub within : offset < length (true ∷ word s t piece)
-    pub place : cut s t piece + offset ≡ i
+    pub within : offset < length (true ∷ word o piece)
+    pub place : cut o piece + offset ≡ i
 
-  pub in-piece : (i : ℕ) → i < length t → InPiece i
+  pub in-piece : (i : ℕ) → i < size o → InPiece i
   in-piece i h = go 4 (omega arith) (omega (arith, whole-turn))
     where
-      go : (n : ℕ) → n ≤ 4 → i < cut s t n → InPiece i
-      go zero l m = absurd (omega (arith, cut-zero s t))
+      go : (n : ℕ) → n ≤ 4 → i < cut o n → InPiece i
+      go zero l m = absurd (omega (arith, cut-zero o))
       go (suc n) l m =
-          elim (decLt i (cut s t n)) [
+          elim (decLt i (cut o n)) [
             | yes a ↦ go n (omega arith) a
-            | no a ↦ record { piece = n; small = l; offset = i - cut s t n; within = omega (arith, word-length n l); place = omega arith }
+            | no a ↦ record { piece = n; small = l; offset = i - cut o n; within = omega (arith, word-length n l); place = omega arith }
           ]
 
   -- ---- the ring
 
   -- The end of a piece
-  piece-end : (k : ℕ) → k < 4 → CornerIn k (startOf s t (suc k)) (startE s t k + earliers (true ∷ word s t k)) (startL s t k + laters (true ∷ word s t k))
+  piece-end : (k : ℕ) → k < 4 → CornerIn k (startOf o (suc k)) (startE o k + earliers (true ∷ word o k)) (startL o k + laters (true ∷ word o k))
   unfolding startOf
   piece-end k h =
-      let n : ℕ = length (true ∷ word s t k) in
-      let place : cut s t k + n ≡ cut s t (suc k) = omega (arith, word-length k h, rising k h) in
+      let n : ℕ = length (true ∷ word o k) in
+      let place : cut o k + n ≡ cut o (suc k) = omega (arith, word-length k h, rising k h) in
       rw (take-length, place) at (corner-in-piece k h n (omega arith))
 
   -- The next piece starts where this one ends
-  start-next : (k : ℕ) → k < 4 → startOf s t (suc k) ≡ startOf s t (next k)
+  start-next : (k : ℕ) → k < 4 → startOf o (suc k) ≡ startOf o (next k)
   unfolding startOf
   start-next =
-      round-ring (λ k j. cornerAt s t (cut s t (suc k)) ≡ cornerAt s t (cut s t j)) (λ k h. refl)
-      (ap (cornerAt s t) whole-turn ∙ corner-round s t steps ∙ ap (cornerAt s t) (sym (cut-zero s t)))
+      round-ring (λ k j. cornerAt o (cut o (suc k)) ≡ cornerAt o (cut o j)) (λ k h. refl)
+      (ap (cornerAt o) whole-turn ∙ corner-round o steps ∙ ap (cornerAt o) (sym (cut-zero o)))
 
-  next-later : (k : ℕ) → k < 4 → startL s t (next k) ≡ startE s t k + earliers (word s t k)
+  next-later : (k : ℕ) → k < 4 → startL o (next k) ≡ startE o k + earliers (word o k)
   unfolding startL earliers
   next-later k h = rw (turns k .later, ← start-next k h) (piece-end k h .across)
 
-  next-earlier : (k : ℕ) → k < 4 → startE s t (next k) + startL s t k + 1 + laters (word s t k) ≡ side
+  next-earlier : (k : ℕ) → k < 4 → startE o (next k) + startL o k + 1 + laters (word o k) ≡ side
   unfolding startE startL laters
   next-earlier k h =
       let e = piece-end k h in
-      rw (← start-next k h) (omega (arith, along-next k (startOf s t (suc k)) (e .on-chart)))
+      rw (← start-next k h) (omega (arith, along-next k (startOf o (suc k)) (e .on-chart)))
 
 -- Without back-steps a turn is four words in a ring
-pub shape : (s : Point) (t : List ℕ) → NoBackStep s t → Shape s t
-shape s t c =
+pub shape : (o : Outline) → NoBackStep o → Shape o
+shape o c =
     record {
-      corners = cut-corner s t c;
-      round = whole-turn s t c;
-      rises = rising s t c;
-      whole = pieces-whole s t c;
-      spelled = spelled s t c;
-      ends = ends s t c;
-      next-later = next-later s t c;
-      next-earlier = next-earlier s t c;
+      corners = cut-corner o c;
+      round = whole-turn o c;
+      rises = rising o c;
+      whole = pieces-whole o c;
+      spelled = spelled o c;
+      ends = ends o c;
+      next-later = next-later o c;
+      next-earlier = next-earlier o c;
     }

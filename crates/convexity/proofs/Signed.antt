@@ -13,6 +13,7 @@ use Rattle.words.specs.Word.{Word, earliers, laters}
 use Rattle.words.specs.Lyndon.{Factor, copies, written}
 use Rattle.words.proofs.Counts.{earliers-append, laters-append, earliers-copies, laters-copies}
 use Rattle.chart.specs.declared.Point.{Point}
+use Rattle.chart.specs.Limits.{side}
 use Rattle.convexity.specs.Frame.{Frame, frameOf}
 use Rattle.convexity.specs.Pieces.{edgesOf}
 use Rattle.convexity.specs.Inside.{notNegative, leℤ, sideValue, noneOutside, colSteps, rowSteps}
@@ -119,7 +120,7 @@ pub record Lies (k o p q : ℕ) (x y : ℤ) : Type 0 where
 abbrev pub Placed : ℕ → ℕ → ℕ → ℤ → ℤ → Type 0
 Placed k p q x y = Lies k 254 p q x y
 
-pub placed-cell : (k : ℕ) (x : Point) → x .col < 255 → x .row < 255 → Placed k (cellE k x) (cellL k x) (pos (x .col)) (pos (x .row))
+pub placed-cell : (k : ℕ) (x : Point) → x .col < side → x .row < side → Placed k (cellE k x) (cellL k x) (pos (x .col)) (pos (x .row))
 unfolding Counted cellE cellL cellAlong frameOf
 placed-cell zero x h l = record { counted = omega arith }
 placed-cell (suc zero) x h l = record { counted = omega arith }

@@ -14,7 +14,7 @@ use Rattle.base.proofs.BelowLaws.{first-none-at}
 use Rattle.words.proofs.Christoffel.{christoffel-iff}
 use Rattle.words.proofs.Factors.{factors-exist, falling-head}
 use Rattle.words.proofs.Slope.{under-chord, near-chord, slope-of-less}
-use Rattle.chart.specs.declared.Point.{Point}
+use Rattle.chart.specs.Outline.{Outline}
 use Rattle.convexity.specs.Pieces.{word, factors, dentLength, dentPiece}
 use Rattle.convexity.proofs.Frame.{Edge, Falls, EdgesFall}
 
@@ -45,8 +45,8 @@ edges-fall (f ∷ g ∷ fs) (then p l r) e =
     (edge f p (d .0), slope-of-less (f .word) (g .word) (d .0) (dent-first g fs (falling-head r) (d .1) .0) l, rest)
 
 -- No piece is dented: the edges of each fall
-pub smooth-edges : (s : Point) (t : List ℕ) → dentPiece s t ≡ 4 → (k : ℕ) → k < 4 → EdgesFall (factors s t k)
+pub smooth-edges : (o : Outline) → dentPiece o ≡ 4 → (k : ℕ) → k < 4 → EdgesFall (factors o k)
 unfolding dentPiece factors
-smooth-edges s t e k l =
-    let none-here = ltb-false 0 (dentLength (factors s t k)) (first-none-at (λ k. ltb 0 (dentLength (factors s t k))) 4 e k l) in
-    edges-fall (factors s t k) (factors-exist (word s t k) .falling) (omega arith)
+smooth-edges o e k l =
+    let none-here = ltb-false 0 (dentLength (factors o k)) (first-none-at (λ k. ltb 0 (dentLength (factors o k))) 4 e k l) in
+    edges-fall (factors o k) (factors-exist (word o k) .falling) (omega arith)

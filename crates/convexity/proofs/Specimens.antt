@@ -6,6 +6,7 @@ use mathlib.Core.Bool.{Bool, true, false}
 use mathlib.Core.List.{List, [], _∷_}
 use lib.IntN.{ℤ, pos, negsuc}
 use Rattle.chart.specs.declared.Point.{Point}
+use Rattle.chart.specs.Outline.{outline, Outline}
 use Rattle.lattice.specs.Chart
 use Rattle.base.specs.Below
 use Rattle.words.specs.Word
@@ -22,46 +23,43 @@ pub record Cut-up : Type 0 where
   pub dented : ℕ
   pub edges : List ℤ
 
-unfoldable pub cutUp : Point → List ℕ → Cut-up
-cutUp s w =
-    record {
-      corner = Cut.west s w;
-      dented = Pieces.dentPiece (Cut.west s w) (Cut.turn s w);
-      edges = Pieces.edges (Cut.west s w) (Cut.turn s w);
-    }
+unfoldable pub cutUp : Outline → Cut-up
+cutUp o =
+    let t = Cut.reading o in
+    record { corner = t .start; dented = Pieces.dentPiece t; edges = Pieces.edges t }
 
 -- A name that opens the definitions, for the rows that follow
 opened : Bool
-unfolding cutUp Below.every Below.first Below.further Word.wordOf Word.earliers Word.laters Word.less Lyndon.copies Lyndon.same Lyndon.push Lyndon.factorsOf Christoffel.coprime Christoffel.remainders Christoffel.christoffel Chart.step Chart.walk Chart.cornerAt Frame.frameOf Frame.along Cut.before Cut.least Cut.cornerPlace Cut.westPlace Cut.west Cut.turn Cut.ahead Cut.cutCorner Cut.cut Pieces.rounds Pieces.piece Pieces.word Pieces.factors Pieces.dentLength Pieces.dentPiece Pieces.edgesOf Pieces.edges Inside.notNegative Inside.leℤ Inside.minℤ Inside.maxℤ Inside.sideValue Inside.noneOutside Inside.colSteps Inside.rowSteps Inside.lowestMet Inside.highestMet Inside.within Inside.insideEdges
+unfolding cutUp Below.every Below.first Below.further Word.wordOf Word.earliers Word.laters Word.less Lyndon.copies Lyndon.same Lyndon.push Lyndon.factorsOf Christoffel.coprime Christoffel.remainders Christoffel.christoffel Chart.step Chart.walk Chart.cornerAt Frame.frameOf Frame.along Cut.before Cut.least Cut.cornerPlace Cut.westPlace Cut.turn Cut.ahead Cut.cutCorner Cut.cut Pieces.rounds Pieces.piece Pieces.word Pieces.factors Pieces.dentLength Pieces.dentPiece Pieces.edgesOf Pieces.edges Inside.notNegative Inside.leℤ Inside.minℤ Inside.maxℤ Inside.sideValue Inside.noneOutside Inside.colSteps Inside.rowSteps Inside.lowestMet Inside.highestMet Inside.within Inside.insideEdges
 opened = true
 
 abbrev at : ℕ → ℕ → Point
 at c r = record { col = c; row = r }
 
-H1 : cutUp (at 0 0) (1 ∷ 0 ∷ 3 ∷ 2 ∷ []) ≡ record { corner = at 0 0; dented = 4; edges = [] }
+H1 : cutUp (outline (at 0 0) (1 ∷ 0 ∷ 3 ∷ 2 ∷ [])) ≡ record { corner = at 0 0; dented = 4; edges = [] }
 unfolding opened
 H1 = refl
 
-H2 : cutUp (at 0 0) (1 ∷ 0 ∷ 0 ∷ 0 ∷ 3 ∷ 2 ∷ 2 ∷ 2 ∷ []) ≡ record { corner = at 0 0; dented = 4; edges = pos 2 ∷ pos 0 ∷ negsuc 1 ∷ pos 0 ∷ [] }
+H2 : cutUp (outline (at 0 0) (1 ∷ 0 ∷ 0 ∷ 0 ∷ 3 ∷ 2 ∷ 2 ∷ 2 ∷ [])) ≡ record { corner = at 0 0; dented = 4; edges = pos 2 ∷ pos 0 ∷ negsuc 1 ∷ pos 0 ∷ [] }
 unfolding opened
 H2 = refl
 
-H4 : cutUp (at 1 1) (2 ∷ 1 ∷ 0 ∷ 1 ∷ 0 ∷ 3 ∷ 0 ∷ 3 ∷ 2 ∷ 3 ∷ 2 ∷ 1 ∷ [])
+H4 : cutUp (outline (at 1 1) (2 ∷ 1 ∷ 0 ∷ 1 ∷ 0 ∷ 3 ∷ 0 ∷ 3 ∷ 2 ∷ 3 ∷ 2 ∷ 1 ∷ []))
     ≡ record { corner = at 0 1; dented = 4; edges = pos 1 ∷ pos 1 ∷ pos 1 ∷ negsuc 0 ∷ negsuc 0 ∷ negsuc 0 ∷ negsuc 0 ∷ pos 1 ∷ [] }
 unfolding opened
 H4 = refl
 
-H5 : cutUp (at 0 0) (1 ∷ 1 ∷ 0 ∷ 3 ∷ 0 ∷ 3 ∷ 2 ∷ 2 ∷ [])
+H5 : cutUp (outline (at 0 0) (1 ∷ 1 ∷ 0 ∷ 3 ∷ 0 ∷ 3 ∷ 2 ∷ 2 ∷ []))
     ≡ record { corner = at 0 0; dented = 4; edges = pos 0 ∷ pos 1 ∷ pos 1 ∷ negsuc 0 ∷ negsuc 0 ∷ pos 0 ∷ [] }
 unfolding opened
 H5 = refl
 
 -- H6 has a dent in piece 2, counted here from 0, and the factor 001101 is one in piece 1
-H6 : cutUp (at 0 0) (1 ∷ 1 ∷ 1 ∷ 0 ∷ 3 ∷ 3 ∷ 0 ∷ 0 ∷ 3 ∷ 2 ∷ 2 ∷ 2 ∷ []) .dented ≡ 1
+H6 : cutUp (outline (at 0 0) (1 ∷ 1 ∷ 1 ∷ 0 ∷ 3 ∷ 3 ∷ 0 ∷ 0 ∷ 3 ∷ 2 ∷ 2 ∷ 2 ∷ [])) .dented ≡ 1
 unfolding opened
 H6 = refl
 
-palindrome : cutUp (at 0 0) (1 ∷ 0 ∷ 0 ∷ 1 ∷ 1 ∷ 0 ∷ 1 ∷ 0 ∷ 3 ∷ 3 ∷ 3 ∷ 3 ∷ 2 ∷ 2 ∷ 2 ∷ 2 ∷ []) .dented ≡ 0
+palindrome : cutUp (outline (at 0 0) (1 ∷ 0 ∷ 0 ∷ 1 ∷ 1 ∷ 0 ∷ 1 ∷ 0 ∷ 3 ∷ 3 ∷ 3 ∷ 3 ∷ 2 ∷ 2 ∷ 2 ∷ 2 ∷ [])) .dented ≡ 0
 unfolding opened
 palindrome = refl
 

@@ -1,4 +1,4 @@
--- Edges of a flat list, columns then rows, and when two share a direction (document 01, "Edges").
+-- Edges of a flat list, columns then rows, and when two share a direction (contract 3.12).
 use Prim.Native.Nat.{ℕ, _+_, _*_}
 use mathlib.Core.Path.{_≡_}
 use mathlib.Core.Bool.{true}

@@ -1,4 +1,4 @@
--- The four pieces' ordered letters, with their steps (document 01, "Two letters").
+-- The four pieces' ordered letters, with their steps (contract 3.4).
 use Prim.Native.Nat.{ℕ, zero, suc, _-_}
 use lib.IntN.{ℤ, pos, negsuc}
 use Rattle.chart.specs.Limits.{side}
@@ -13,7 +13,7 @@ pub record Frame : Type 0 where
   pub later-cols : ℤ
   pub later-rows : ℤ
 
--- "0 before 1; 3 before 0; 2 before 3; 1 before 2": the frames of pieces 1 to 4, counted here from 0
+-- The frames of pieces 1 to 4, counted here from 0
 unfoldable pub frameOf : ℕ → Frame
 frameOf zero = record { earlier = 0; later = 1; earlier-cols = pos 1; earlier-rows = pos 0; later-cols = pos 0; later-rows = pos 1 }
 frameOf (suc zero) = record { earlier = 3; later = 0; earlier-cols = pos 0; earlier-rows = negsuc 0; later-cols = pos 1; later-rows = pos 0 }

@@ -1,4 +1,4 @@
--- The letters of a taken outline from W on, written back from its flat list of edges (document 01, "Two letters" and "Edges", read backwards). Pieces are
+-- The letters of a taken outline from W on, written back from its flat list of edges (contract 3.4 and 3.12, read backwards). Pieces are
 -- counted from 0 here, and so are the quadrants.
 use Prim.Native.Nat.{ℕ, zero, suc, _+_}
 use mathlib.Core.Bool.{true, cond}

@@ -1,4 +1,4 @@
--- The rule by which edges answer for a cell: side values and extremes (document 01, "Loose query").
+-- The rule by which edges answer for a cell: side values and extremes (contract 3.14 and 3.15).
 use mathlib.Core.Bool.{Bool, true, false, cond, _&&_}
 use mathlib.Core.List.{List, [], _∷_}
 use lib.IntN.{ℤ, pos, negsuc, _+ℤ_, _-ℤ_, _*ℤ_}
@@ -18,11 +18,11 @@ minℤ a b = cond (leℤ a b) a b
 unfoldable pub maxℤ : ℤ → ℤ → ℤ
 maxℤ a b = cond (leℤ a b) b a
 
--- "dy·(c−x) − dx·(r−y)": the side value of a cell for an edge (dx, dy) that leaves (x, y)
+-- The side value of a cell for an edge (dx, dy) that leaves (x, y)
 unfoldable pub sideValue : ℤ → ℤ → ℤ → ℤ → ℤ → ℤ → ℤ
 sideValue dx dy x y c r = dy *ℤ (c -ℤ x) -ℤ dx *ℤ (r -ℤ y)
 
--- "at least 0 for every edge": no side value of the walk from (x, y) is below 0
+-- No side value of the walk from (x, y) is below 0
 unfoldable pub noneOutside : List ℤ → ℤ → ℤ → ℤ → ℤ → Bool
 noneOutside [] x y c r = true
 noneOutside (dx ∷ []) x y c r = true
@@ -39,8 +39,7 @@ rowSteps [] = []
 rowSteps (dx ∷ []) = []
 rowSteps (dx ∷ dy ∷ es) = dy ∷ rowSteps es
 
--- "the lowest and highest columns and rows met by the walk, anchor and last edge's end included": the lowest and the highest
--- number that steps from x meet
+-- The lowest and the highest number that steps from x meet, x and the last one included
 unfoldable pub lowestMet : List ℤ → ℤ → ℤ
 lowestMet [] x = x
 lowestMet (d ∷ ds) x = minℤ x (lowestMet ds (x +ℤ d))

@@ -7,6 +7,7 @@ use lib.ListN.{length, take}
 use Rattle.words.specs.Word.{Word, earliers, laters}
 use Rattle.chart.specs.Limits.{side}
 use Rattle.chart.specs.declared.Point.{Point}
+use Rattle.chart.specs.Outline.{Outline}
 use Rattle.lattice.specs.Chart.{cornerAt}
 use Rattle.convexity.specs.Frame.{Frame, frameOf, along}
 use Rattle.convexity.specs.Cut.{cut}
@@ -26,14 +27,14 @@ cellAlong (suc (suc zero)) x = side - 1 - x .col
 cellAlong (suc (suc (suc a))) x = side - 1 - x .row
 
 -- The corner at which piece k starts, and how far it lies along the piece's earlier letter and along its later one
-unfoldable pub startOf : Point → List ℕ → ℕ → Point
-startOf s t k = cornerAt s t (cut s t k)
+unfoldable pub startOf : Outline → ℕ → Point
+startOf o k = cornerAt o (cut o k)
 
-unfoldable pub startE : Point → List ℕ → ℕ → ℕ
-startE s t k = along (frameOf k .earlier) (startOf s t k)
+unfoldable pub startE : Outline → ℕ → ℕ
+startE o k = along (frameOf k .earlier) (startOf o k)
 
-unfoldable pub startL : Point → List ℕ → ℕ → ℕ
-startL s t k = along (frameOf k .later) (startOf s t k)
+unfoldable pub startL : Outline → ℕ → ℕ
+startL o k = along (frameOf k .later) (startOf o k)
 
 -- A cell in frame k
 unfoldable pub cellE : ℕ → Point → ℕ

@@ -2,7 +2,7 @@
 use Prim.Native.Nat.{ℕ, zero, suc}
 use mathlib.Core.Bool.{cond}
 use mathlib.Core.List.{List, [], _∷_, _++_}
-use Rattle.chart.specs.declared.Point.{Point}
+use Rattle.chart.specs.Outline.{Outline}
 use Rattle.convexity.specs.Cut.{turn, clockwise}
 
 -- The letter of the way back: right and left, up and down change places
@@ -17,6 +17,10 @@ unfoldable pub backward : List ℕ → List ℕ
 backward [] = []
 backward (a ∷ w) = backward w ++ (opposite a ∷ [])
 
--- The letters read clockwise, from the same start corner
-unfoldable pub rightHanded : Point → List ℕ → List ℕ
-rightHanded s w = cond (clockwise (turn s w)) w (backward w)
+-- A closed walk, the other way round
+abbrev pub reversed : Outline → Outline
+reversed o = record { start = o .start; letters = backward (o .letters) }
+
+-- The outline read clockwise, from the same start corner
+unfoldable pub rightHanded : Outline → Outline
+rightHanded o = cond (clockwise (turn o)) o (reversed o)

@@ -60,7 +60,7 @@ same-outline d w o (some v) k l = rw (k .outline, l .outline, l .taken)
 
 -- The numbers of an outline's edges, with zeros behind them
 abbrev pub listed : Outline → Verdict → List ℤ
-listed o v = lentAfter v (edges (reading o .start) (reading o .letters)) (replicate longestList (pos 0))
+listed o v = lentAfter v (edges (reading o)) (replicate longestList (pos 0))
 
 -- An outline that was taken is at work with its edges
 taken-working : (k : Kept) (o : Outline) (n : ℕ) (a : Point) → outlineOf k ≡ o → verdictOf o ≡ Taken n a → Working (replaced k a (listed o (Taken n a)) n) o
@@ -68,8 +68,8 @@ unfolding replaced workEdges lentAfter
 taken-working k o n a kept e =
     let f : TakenFacts o n a = taken-facts o n a e in
     let all : min (2 * n) longestList ≡ 2 * n = omega (arith, taken-fits o n a e) in
-    let es : List ℤ = edges (reading o .start) (reading o .letters) in
-    let size : length es ≡ 2 * n = edges-length (reading o .start) (reading o .letters) ∙ ap (λ (j : ℕ). 2 * j) (sym (f .count)) in
+    let es : List ℤ = edges (reading o) in
+    let size : length es ≡ 2 * n = edges-length (reading o) ∙ ap (λ (j : ℕ). 2 * j) (sym (f .count)) in
     record {
       taken = refl;
       outline = kept;
@@ -135,7 +135,7 @@ work-answers w x none e = rw e
 work-answers w x (some o) k =
     rw (inside-short (w .anchor) (workEdges w) x (work-short w), k .edges, k .anchor, k .taken)
     (cond-same (badCell x) (WasRefused Cell) λ e.
-    rw (edges-answer-sent (o .start) (o .letters) (k .reaches) (k .undented) x (on-chart-cell x e .0) (on-chart-cell x e .1)))
+    rw (edges-answer-sent o (k .reaches) (k .undented) x (on-chart-cell x e .0) (on-chart-cell x e .1)))
 
 query-agrees : {h : Holder} {b : Book} → Stands h b → (x : Point) → Agrees (queryOf h x) (answer b (Query x))
 unfolding queryOf answer
@@ -153,7 +153,7 @@ says-outside false = (λ e. refl, λ e. refl)
 asked-nothing : (x : Point) (o : Option Outline) → (replyFields (asked x o) .number ≡ 12) ↔ (o ≡ none)
 unfolding asked replyFields
 asked-nothing x none = (λ e. refl, λ e. refl)
-asked-nothing x (some o) = go (badCell x) (encloses (o .start) (o .letters) (x .col) (x .row))
+asked-nothing x (some o) = go (badCell x) (encloses o (x .col) (x .row))
   where
     go : (t u : Bool) → (replyFields (cond t (WasRefused Cell) (cond u Inside Outside)) .number ≡ 12) ↔ (some o ≡ none)
     go true u = (λ e. absurd (omega (arith, e)), λ e. cc)
@@ -220,16 +220,16 @@ module _ (cs : List Call) (x : Point) where
   query-nothing = rw query-reply (asked-nothing x (lastTaken cs))
 
   module _ (o : Outline) (last : lastTaken cs ≡ some o) (col : x .col < side) (row : x .row < side) where
-    answered : replyAfter cs (Query x) ≡ cond (encloses (o .start) (o .letters) (x .col) (x .row)) Inside Outside
+    answered : replyAfter cs (Query x) ≡ cond (encloses o (x .col) (x .row)) Inside Outside
     unfolding asked
     answered = query-reply ∙ ap (asked x) last ∙ rw (not-bad-cell x col row)
 
     -- It is "inside" exactly when that outline encloses the cell, and else "outside" (contract 8.4)
-    pub query-inside : (replyAfter cs (Query x) ≡ Inside) ↔ (encloses (o .start) (o .letters) (x .col) (x .row) ≡ true)
-    query-inside = rw answered (says-inside (encloses (o .start) (o .letters) (x .col) (x .row)))
+    pub query-inside : (replyAfter cs (Query x) ≡ Inside) ↔ (encloses o (x .col) (x .row) ≡ true)
+    query-inside = rw answered (says-inside (encloses o (x .col) (x .row)))
 
-    pub query-outside : (replyAfter cs (Query x) ≡ Outside) ↔ (encloses (o .start) (o .letters) (x .col) (x .row) ≡ false)
-    query-outside = rw answered (says-outside (encloses (o .start) (o .letters) (x .col) (x .row)))
+    pub query-outside : (replyAfter cs (Query x) ≡ Outside) ↔ (encloses o (x .col) (x .row) ≡ false)
+    query-outside = rw answered (says-outside (encloses o (x .col) (x .row)))
 
 module _ (cs : List Call) (o : Outline) (draft : drafted (bookAfter fresh cs) ≡ some o) where
   -- The reply of a close is that of the draft's verdict
@@ -241,15 +241,15 @@ module _ (cs : List Call) (o : Outline) (draft : drafted (bookAfter fresh cs) �
   close-number = rw close-reply (closed-number (equalsWork o (atWork (bookAfter fresh cs))) (verdictOf o))
 
   -- Of a draft that reaches the dent test: it has number 9 exactly when some cell is in the hull of the enclosed cells and not enclosed (contract 8.4)
-  pub close-nine-missing : Reaches (o .start) (o .letters) →
-      (replyFields (replyAfter cs Close) .number ≡ 9) ↔ ((x : Point) × Missing (o .start) (o .letters) x)
+  pub close-nine-missing : Reaches o →
+      (replyFields (replyAfter cs Close) .number ≡ 9) ↔ ((x : Point) × Missing (encloses o) x)
   close-nine-missing r = rw close-number (nine-iff-missing o r)
 
   close-cell : CellNamed o (replyFields (replyAfter cs Close))
   close-cell = rw close-reply (closed-named o (equalsWork o (atWork (bookAfter fresh cs))) (verdictOf o) (verdict-named o))
 
   -- And the cell named is the lowest of them, leftmost in its row
-  pub close-names-lowest : (k p l : ℕ) (x : Point) → replyAfter cs Close ≡ WasRefused (Dent k p l x) → LowestMissing (o .start) (o .letters) x
+  pub close-names-lowest : (k p l : ℕ) (x : Point) → replyAfter cs Close ≡ WasRefused (Dent k p l x) → LowestMissing (encloses o) x
   unfolding replyFields
   close-names-lowest k p l x e =
       let named : CellNamed o (replyFields (WasRefused (Dent k p l x))) = rw e at close-cell in named .missing refl

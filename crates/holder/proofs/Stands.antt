@@ -41,9 +41,9 @@ pub record Working (w : Work) (o : Outline) : Type 0 where
   pub taken : w .taken ≡ true
   pub outline : outlineOf (w .kept) ≡ o
   pub anchor : w .anchor ≡ reading o .start
-  pub edges : workEdges w ≡ edges (reading o .start) (reading o .letters)
-  pub reaches : Reaches (o .start) (o .letters)
-  pub undented : dentPiece (reading o .start) (reading o .letters) ≡ 4
+  pub edges : workEdges w ≡ edges (reading o)
+  pub reaches : Reaches o
+  pub undented : dentPiece (reading o) ≡ 4
 
 abbrev pub StandsForWork : Work → Option Outline → Type 0
 StandsForWork w none = w .taken ≡ false

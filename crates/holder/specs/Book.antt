@@ -102,7 +102,7 @@ closes b (some d) =
 -- Contract 7.8: 12 if nothing is at work; 11; else "inside" exactly if what is at work encloses the cell
 unfoldable pub asked : Point → Option Outline → Reply
 asked x none = NothingAtWork
-asked x (some o) = cond (badCell x) (WasRefused Cell) (cond (encloses (o .start) (o .letters) (x .col) (x .row)) Inside Outside)
+asked x (some o) = cond (badCell x) (WasRefused Cell) (cond (encloses o (x .col) (x .row)) Inside Outside)
 
 -- Contract 7.3 to 7.8; a clear is 7.6
 unfoldable pub answer : Book → Call → Answer

@@ -14,7 +14,9 @@ use lib.Dec.{ltb, eqb, leb·suc-suc, leb·suc-zero, eqb·suc-suc, eqb·suc-zero}
 use borrow.Author.Tests.{eqb-true, eqb-false, lt-ltb, le-ltb, eq-eqb, ne-eqb}
 use Rattle.base.proofs.BelowLaws.{and-left, and-right}
 use Rattle.chart.specs.declared.Point.{Point}
-use Rattle.lattice.specs.Chart.{step, leaves, walk, cornerAt}
+use Rattle.chart.specs.Outline.{Outline, outline}
+use Rattle.chart.specs.Limits.{shortest}
+use Rattle.lattice.specs.Chart.{step, leaves, walk, cornerAt, size, Closed, letterAt}
 use Rattle.lattice.specs.Enclosed.{count, upAlong, downAlong, ups, downs}
 use Rattle.lattice.proofs.WalkLaws.{point, point-eq, step-right, step-up, step-left, step-down, corner-zero, corner-suc, corner-all, Walked, corner-injective}
 
@@ -34,28 +36,28 @@ falls C R p a = eqb a 3 && eqb (p .row) R && ltb (p .col) C
 unfoldable pub letterFrom : ℕ → Point → Point → ℕ → Bool
 letterFrom a q p b = eqb b a && eqb (p .row) (q .row) && eqb (p .col) (q .col)
 
-unfoldable pub upsTo : Point → List ℕ → ℕ → ℕ → ℕ
-upsTo s w C R = tally (rises C R) s w
+unfoldable pub upsTo : Outline → ℕ → ℕ → ℕ
+upsTo o C R = tally (rises C R) (o .start) (o .letters)
 
-unfoldable pub downsTo : Point → List ℕ → ℕ → ℕ → ℕ
-downsTo s w C R = tally (falls C R) s w
+unfoldable pub downsTo : Outline → ℕ → ℕ → ℕ
+downsTo o C R = tally (falls C R) (o .start) (o .letters)
 
 -- How many letters a leave the corner q
-unfoldable pub lettersAt : Point → List ℕ → ℕ → Point → ℕ
-lettersAt s w a q = tally (letterFrom a q) s w
+unfoldable pub lettersAt : Outline → ℕ → Point → ℕ
+lettersAt o a q = tally (letterFrom a q) (o .start) (o .letters)
 
 -- Those along one side: the vertical side of column x that reaches row R from below, the horizontal side from (x, y) to (x + 1, y)
-unfoldable pub upsAt : Point → List ℕ → ℕ → ℕ → ℕ
-upsAt s w x R = tally (λ p a. eqb a 1 && eqb (suc (p .row)) R && eqb (p .col) x) s w
+unfoldable pub upsAt : Outline → ℕ → ℕ → ℕ
+upsAt o x R = tally (λ p a. eqb a 1 && eqb (suc (p .row)) R && eqb (p .col) x) (o .start) (o .letters)
 
-unfoldable pub downsAt : Point → List ℕ → ℕ → ℕ → ℕ
-downsAt s w x R = lettersAt s w 3 (point x R)
+unfoldable pub downsAt : Outline → ℕ → ℕ → ℕ
+downsAt o x R = lettersAt o 3 (point x R)
 
-unfoldable pub rightsAt : Point → List ℕ → ℕ → ℕ → ℕ
-rightsAt s w x y = lettersAt s w 0 (point x y)
+unfoldable pub rightsAt : Outline → ℕ → ℕ → ℕ
+rightsAt o x y = lettersAt o 0 (point x y)
 
-unfoldable pub leftsAt : Point → List ℕ → ℕ → ℕ → ℕ
-leftsAt s w x y = lettersAt s w 2 (point (suc x) y)
+unfoldable pub leftsAt : Outline → ℕ → ℕ → ℕ
+leftsAt o x y = lettersAt o 2 (point (suc x) y)
 
 -- Laws of tallies, each by induction on the letters
 
@@ -78,31 +80,31 @@ tally-append f p [] v = omega arith
 tally-append f p (a ∷ u) v = omega (arith, tally-append f (step p a) u v)
 
 -- No place passes, some place passes, at most one does
-pub tally-none : (f : Point → ℕ → Bool) (p : Point) (w : List ℕ) → ((i : ℕ) → i < length w → f (cornerAt p w i) (getD w i 0) ≡ false) → tally f p w ≡ 0
+pub tally-none : (f : Point → ℕ → Bool) (p : Point) (w : List ℕ) → ((i : ℕ) → i < length w → f (cornerAt (outline p w) i) (getD w i 0) ≡ false) → tally f p w ≡ 0
 unfolding tally cornerAt walk count
 tally-none f p [] h = refl
 tally-none f p (a ∷ w) h = rw (h 0 (omega arith)) (omega (arith, tally-none f (step p a) w (λ i l. h (suc i) (omega arith))))
 
-pub tally-some : (f : Point → ℕ → Bool) (p : Point) (w : List ℕ) (i : ℕ) → i < length w → f (cornerAt p w i) (getD w i 0) ≡ true → 1 ≤ tally f p w
+pub tally-some : (f : Point → ℕ → Bool) (p : Point) (w : List ℕ) (i : ℕ) → i < length w → f (cornerAt (outline p w) i) (getD w i 0) ≡ true → 1 ≤ tally f p w
 unfolding tally cornerAt walk count
 tally-some f p [] i l e = absurd (omega arith)
 tally-some f p (a ∷ w) zero l e = rw e (omega arith)
 tally-some f p (a ∷ w) (suc i) l e = omega (arith, tally-some f (step p a) w i (omega arith) e)
 
-pub tally-found : (f : Point → ℕ → Bool) (p : Point) (w : List ℕ) → 1 ≤ tally f p w → (i : ℕ) × (i < length w) × (f (cornerAt p w i) (getD w i 0) ≡ true)
+pub tally-found : (f : Point → ℕ → Bool) (p : Point) (w : List ℕ) → 1 ≤ tally f p w → (i : ℕ) × (i < length w) × (f (cornerAt (outline p w) i) (getD w i 0) ≡ true)
 unfolding tally cornerAt walk count
 tally-found f p [] h = absurd (omega arith)
 tally-found f p (a ∷ w) h = go (f p a) refl (tally-found f (step p a) w)
   where
     go : (b : Bool) → f p a ≡ b
-        → (1 ≤ tally f (step p a) w → (i : ℕ) × (i < length w) × (f (cornerAt (step p a) w i) (getD w i 0) ≡ true))
-        → (i : ℕ) × (i < length (a ∷ w)) × (f (cornerAt p (a ∷ w) i) (getD (a ∷ w) i 0) ≡ true)
+        → (1 ≤ tally f (step p a) w → (i : ℕ) × (i < length w) × (f (cornerAt (outline (step p a) w) i) (getD w i 0) ≡ true))
+        → (i : ℕ) × (i < length (a ∷ w)) × (f (cornerAt (outline p (a ∷ w)) i) (getD (a ∷ w) i 0) ≡ true)
     go true e rest = (0, omega arith, e)
     go false e rest = let (i, l, t) = rest (omega (arith, rw e at h)) in (suc i, omega arith, t)
 
 pub tally-once :
     (f : Point → ℕ → Bool) (p : Point) (w : List ℕ)
-    → ((i j : ℕ) → i < j → j < length w → f (cornerAt p w i) (getD w i 0) ≡ true → f (cornerAt p w j) (getD w j 0) ≡ true → ⊥)
+    → ((i j : ℕ) → i < j → j < length w → f (cornerAt (outline p w) i) (getD w i 0) ≡ true → f (cornerAt (outline p w) j) (getD w j 0) ≡ true → ⊥)
     → tally f p w ≤ 1
 unfolding tally cornerAt walk count
 tally-once f p [] h = omega arith
@@ -117,12 +119,12 @@ tally-once f p (a ∷ w) h = go (f p a) refl (tally-once f (step p a) w (λ i j 
     go false e rest = rw e (omega arith)
 
 -- The counts of the enclosed cells are these, at the cell's shifted column and row
-pub ups-to : (s : Point) (w : List ℕ) (c r : ℕ) → ups s w c r ≡ upsTo s w (suc c) (suc r)
+pub ups-to : (s : Point) (w : List ℕ) (c r : ℕ) → ups s w c r ≡ upsTo (outline s w) (suc c) (suc r)
 unfolding ups upsTo tally rises upAlong
 ups-to s [] c r = refl
 ups-to s (a ∷ w) c r = rw (eqb·suc-suc, leb·suc-suc, ups-to (step s a) w c r)
 
-pub downs-to : (s : Point) (w : List ℕ) (c r : ℕ) → downs s w c r ≡ downsTo s w (suc c) (suc r)
+pub downs-to : (s : Point) (w : List ℕ) (c r : ℕ) → downs s w c r ≡ downsTo (outline s w) (suc c) (suc r)
 unfolding downs downsTo tally falls downAlong
 downs-to s [] c r = refl
 downs-to s (a ∷ w) c r = rw (leb·suc-suc, downs-to (step s a) w c r)
@@ -159,38 +161,38 @@ tested a k y R t e =
     )
 
 -- No letter leaves the chart
-abbrev pub Stays : Point → List ℕ → Type 0
-Stays s w = (i : ℕ) → i < length w → leaves (cornerAt s w i) (getD w i 0) ≡ false
+abbrev pub Stays : Outline → Type 0
+Stays o = (i : ℕ) → i < size o → leaves (cornerAt o i) (letterAt o i) ≡ false
 
-module _ (s : Point) (w : List ℕ) where
+module _ (o : Outline) where
   -- Across a vertical side
-  pub ups-jump-vertical : (C R : ℕ) → upsTo s w (suc C) R ≡ upsTo s w C R + upsAt s w C R
+  pub ups-jump-vertical : (C R : ℕ) → upsTo o (suc C) R ≡ upsTo o C R + upsAt o C R
   unfolding upsTo upsAt rises
   ups-jump-vertical C R =
-      tally-add (rises (suc C) R) (rises C R) _ (λ p a. count-split (eqb a 1 && eqb (suc (p .row)) R) (p .col) C) s w
+      tally-add (rises (suc C) R) (rises C R) _ (λ p a. count-split (eqb a 1 && eqb (suc (p .row)) R) (p .col) C) (o .start) (o .letters)
 
-  pub downs-jump-vertical : (C R : ℕ) → downsTo s w (suc C) R ≡ downsTo s w C R + downsAt s w C R
+  pub downs-jump-vertical : (C R : ℕ) → downsTo o (suc C) R ≡ downsTo o C R + downsAt o C R
   unfolding downsTo downsAt lettersAt letterFrom falls
   downs-jump-vertical C R =
-      tally-add (falls (suc C) R) (falls C R) _ (λ p a. count-split (eqb a 3 && eqb (p .row) R) (p .col) C) s w
+      tally-add (falls (suc C) R) (falls C R) _ (λ p a. count-split (eqb a 3 && eqb (p .row) R) (p .col) C) (o .start) (o .letters)
 
   -- Off the chart there is nothing to count
-  pub ups-column-zero : (R : ℕ) → upsTo s w 0 R ≡ 0
+  pub ups-column-zero : (R : ℕ) → upsTo o 0 R ≡ 0
   unfolding upsTo rises
-  ups-column-zero R = tally-none (rises 0 R) s w (λ i l. and-false (eqb (getD w i 0) 1 && eqb (suc (cornerAt s w i .row)) R) _ (leb·suc-zero (cornerAt s w i .col)))
+  ups-column-zero R = tally-none (rises 0 R) (o .start) (o .letters) (λ i l. and-false (eqb (letterAt o i) 1 && eqb (suc (cornerAt o i .row)) R) _ (leb·suc-zero (cornerAt o i .col)))
 
-  pub downs-column-zero : (R : ℕ) → downsTo s w 0 R ≡ 0
+  pub downs-column-zero : (R : ℕ) → downsTo o 0 R ≡ 0
   unfolding downsTo falls
-  downs-column-zero R = tally-none (falls 0 R) s w (λ i l. and-false (eqb (getD w i 0) 3 && eqb (cornerAt s w i .row) R) _ (leb·suc-zero (cornerAt s w i .col)))
+  downs-column-zero R = tally-none (falls 0 R) (o .start) (o .letters) (λ i l. and-false (eqb (letterAt o i) 3 && eqb (cornerAt o i .row) R) _ (leb·suc-zero (cornerAt o i .col)))
 
-  pub ups-row-zero : (C : ℕ) → upsTo s w C 0 ≡ 0
+  pub ups-row-zero : (C : ℕ) → upsTo o C 0 ≡ 0
   unfolding upsTo rises
   ups-row-zero C =
-      tally-none (rises C 0) s w (λ i l. ap (λ (b : Bool). b && ltb (cornerAt s w i .col) C) (and-false (eqb (getD w i 0) 1) _ (eqb·suc-zero (cornerAt s w i .row))))
+      tally-none (rises C 0) (o .start) (o .letters) (λ i l. ap (λ (b : Bool). b && ltb (cornerAt o i .col) C) (and-false (eqb (letterAt o i) 1) _ (eqb·suc-zero (cornerAt o i .row))))
 
-  pub downs-row-zero : Stays s w → (C : ℕ) → downsTo s w C 0 ≡ 0
+  pub downs-row-zero : Stays o → (C : ℕ) → downsTo o C 0 ≡ 0
   unfolding downsTo falls leaves
-  downs-row-zero h C = tally-none (falls C 0) s w (λ i l. not-down (cornerAt s w i) (getD w i 0) (h i l))
+  downs-row-zero h C = tally-none (falls C 0) (o .start) (o .letters) (λ i l. not-down (cornerAt o i) (letterAt o i) (h i l))
     where
       not-down : (p : Point) (a : ℕ) → leaves p a ≡ false → falls C 0 p a ≡ false
       not-down p a e = go (falls C 0 p a) refl
@@ -207,15 +209,15 @@ module _ (s : Point) (w : List ℕ) where
 inBand : ℕ → ℕ → Point → ℕ
 inBand x R p = count (eqb (p .row) R && ltb (p .col) (suc x))
 
-abbrev enters : Point → List ℕ → ℕ → ℕ → ℕ
-enters s w x R = downsTo s w (suc x) (suc R) + upsTo s w (suc x) R + leftsAt s w x R
+abbrev enters : Outline → ℕ → ℕ → ℕ
+enters o x R = downsTo o (suc x) (suc R) + upsTo o (suc x) R + leftsAt o x R
 
-abbrev exits : Point → List ℕ → ℕ → ℕ → ℕ
-exits s w x R = upsTo s w (suc x) (suc R) + downsTo s w (suc x) R + rightsAt s w x R
+abbrev exits : Outline → ℕ → ℕ → ℕ
+exits o x R = upsTo o (suc x) (suc R) + downsTo o (suc x) R + rightsAt o x R
 
 module _ (x R : ℕ) where
   abbrev Passes : Point → ℕ → Type 0
-  Passes p a = inBand x R p + enters p (a ∷ []) x R ≡ inBand x R (step p a) + exits p (a ∷ []) x R
+  Passes p a = inBand x R p + enters (outline p (a ∷ [])) x R ≡ inBand x R (step p a) + exits (outline p (a ∷ [])) x R
 
   band-left : (c r : ℕ) → leaves (point c r) 2 ≡ false → Passes (point c r) 2
   unfolding upsTo downsTo leftsAt rightsAt lettersAt tally rises falls letterFrom leaves step inBand count
@@ -240,15 +242,15 @@ module _ (x R : ℕ) where
       no-letter : (a k : ℕ) → k < 4 → eqb (suc (suc (suc (suc a)))) k ≡ false
       no-letter a k l = ne-eqb (suc (suc (suc (suc a)))) k (omega arith)
 
-  band-walk : (p : Point) (w : List ℕ) → Stays p w → inBand x R p + enters p w x R ≡ inBand x R (walk p w) + exits p w x R
+  band-walk : (p : Point) (w : List ℕ) → Stays (outline p w) → inBand x R p + enters (outline p w) x R ≡ inBand x R (walk p w) + exits (outline p w) x R
   unfolding upsTo downsTo leftsAt rightsAt lettersAt tally walk cornerAt
   band-walk p [] h = omega arith
   band-walk p (a ∷ w) h = omega (arith, band-step p a (h 0 (omega arith)), band-walk (step p a) w (λ i l. h (suc i) (omega arith)))
 
 pub jump-horizontal :
-    (s : Point) (w : List ℕ) → Stays s w → walk s w ≡ s → (x R : ℕ)
-    → upsTo s w (suc x) (suc R) + downsTo s w (suc x) R + rightsAt s w x R ≡ downsTo s w (suc x) (suc R) + upsTo s w (suc x) R + leftsAt s w x R
-jump-horizontal s w h c x R = omega (arith, band-walk x R s w h, ap (inBand x R) c)
+    (o : Outline) → Stays o → Closed o → (x R : ℕ)
+    → upsTo o (suc x) (suc R) + downsTo o (suc x) R + rightsAt o x R ≡ downsTo o (suc x) (suc R) + upsTo o (suc x) R + leftsAt o x R
+jump-horizontal o h c x R = omega (arith, band-walk x R (o .start) (o .letters) h, ap (inBand x R) c)
 
 -- Letters that leave one corner: a count of at least 1 is a place
 
@@ -263,159 +265,159 @@ unfolding letterFrom
 from-letter a q p b e d =
     rw (eq-eqb b a e, eq-eqb (p .row) (q .row) (ap (λ (x : Point). x .row) d), eq-eqb (p .col) (q .col) (ap (λ (x : Point). x .col) d))
 
-module _ (s : Point) (w : List ℕ) where
-  pub letters-found : (a : ℕ) (q : Point) → 1 ≤ lettersAt s w a q → (i : ℕ) × (i < length w) × (getD w i 0 ≡ a) × (cornerAt s w i ≡ q)
+module _ (o : Outline) where
+  pub letters-found : (a : ℕ) (q : Point) → 1 ≤ lettersAt o a q → (i : ℕ) × (i < size o) × (letterAt o i ≡ a) × (cornerAt o i ≡ q)
   unfolding lettersAt
   letters-found a q h =
-      let (i, l, e) = tally-found (letterFrom a q) s w h in
-      let t = letter-from a q (cornerAt s w i) (getD w i 0) e in
+      let (i, l, e) = tally-found (letterFrom a q) (o .start) (o .letters) h in
+      let t = letter-from a q (cornerAt o i) (letterAt o i) e in
       (i, l, t .0, t .1)
 
-  pub letters-none : (a : ℕ) (q : Point) → ((i : ℕ) → i < length w → getD w i 0 ≡ a → cornerAt s w i ≡ q → ⊥) → lettersAt s w a q ≡ 0
+  pub letters-none : (a : ℕ) (q : Point) → ((i : ℕ) → i < size o → letterAt o i ≡ a → cornerAt o i ≡ q → ⊥) → lettersAt o a q ≡ 0
   letters-none a q h =
-      elim (decLe 1 (lettersAt s w a q))
+      elim (decLe 1 (lettersAt o a q))
       [ yes m ↦ let (i, l, e, d) = letters-found a q m in absurd (h i l e d) | no m ↦ omega arith ]
 
-  pub letters-some : (i : ℕ) → i < length w → 1 ≤ lettersAt s w (getD w i 0) (cornerAt s w i)
+  pub letters-some : (i : ℕ) → i < size o → 1 ≤ lettersAt o (letterAt o i) (cornerAt o i)
   unfolding lettersAt
   letters-some i l =
-      tally-some (letterFrom (getD w i 0) (cornerAt s w i)) s w i l (from-letter (getD w i 0) (cornerAt s w i) (cornerAt s w i) (getD w i 0) refl refl)
+      tally-some (letterFrom (letterAt o i) (cornerAt o i)) (o .start) (o .letters) i l (from-letter (letterAt o i) (cornerAt o i) (cornerAt o i) (letterAt o i) refl refl)
 
   -- Ups along a side leave its lower end
-  pub ups-at-letters : (x y : ℕ) → upsAt s w x (suc y) ≡ lettersAt s w 1 (point x y)
+  pub ups-at-letters : (x y : ℕ) → upsAt o x (suc y) ≡ lettersAt o 1 (point x y)
   unfolding upsAt lettersAt letterFrom
-  ups-at-letters x y = tally-same _ (letterFrom 1 (point x y)) (λ p a. rw eqb·suc-suc) s w
+  ups-at-letters x y = tally-same _ (letterFrom 1 (point x y)) (λ p a. rw eqb·suc-suc) (o .start) (o .letters)
 
-  pub ups-at-zero : (x : ℕ) → upsAt s w x 0 ≡ 0
-  ups-at-zero x = omega (arith, ups-jump-vertical s w x 0, ups-row-zero s w (suc x))
+  pub ups-at-zero : (x : ℕ) → upsAt o x 0 ≡ 0
+  ups-at-zero x = omega (arith, ups-jump-vertical o x 0, ups-row-zero o (suc x))
 
 -- A side with a count is used by a letter at some place; a side that no letter uses has none
 
-module _ (s : Point) (w : List ℕ) where
-  pub ups-found : (x R : ℕ) → 1 ≤ upsAt s w x R → (i : ℕ) × (i < length w) × (getD w i 0 ≡ 1) × (cornerAt s w i ≡ point x (R - 1)) × (0 < R)
-  ups-found x zero h = absurd (omega (arith, ups-at-zero s w x))
+module _ (o : Outline) where
+  pub ups-found : (x R : ℕ) → 1 ≤ upsAt o x R → (i : ℕ) × (i < size o) × (letterAt o i ≡ 1) × (cornerAt o i ≡ point x (R - 1)) × (0 < R)
+  ups-found x zero h = absurd (omega (arith, ups-at-zero o x))
   ups-found x (suc y) h =
-      let (i, l, e, d) = letters-found s w 1 (point x y) (rw ups-at-letters at h) in (i, l, e, d ∙ ap (point x) (omega arith), omega arith)
+      let (i, l, e, d) = letters-found o 1 (point x y) (rw ups-at-letters at h) in (i, l, e, d ∙ ap (point x) (omega arith), omega arith)
 
-  pub downs-found : (x R : ℕ) → 1 ≤ downsAt s w x R → (i : ℕ) × (i < length w) × (getD w i 0 ≡ 3) × (cornerAt s w i ≡ point x R)
+  pub downs-found : (x R : ℕ) → 1 ≤ downsAt o x R → (i : ℕ) × (i < size o) × (letterAt o i ≡ 3) × (cornerAt o i ≡ point x R)
   unfolding downsAt
-  downs-found x R = letters-found s w 3 (point x R)
+  downs-found x R = letters-found o 3 (point x R)
 
-  pub rights-found : (x y : ℕ) → 1 ≤ rightsAt s w x y → (i : ℕ) × (i < length w) × (getD w i 0 ≡ 0) × (cornerAt s w i ≡ point x y)
+  pub rights-found : (x y : ℕ) → 1 ≤ rightsAt o x y → (i : ℕ) × (i < size o) × (letterAt o i ≡ 0) × (cornerAt o i ≡ point x y)
   unfolding rightsAt
-  rights-found x y = letters-found s w 0 (point x y)
+  rights-found x y = letters-found o 0 (point x y)
 
-  pub lefts-found : (x y : ℕ) → 1 ≤ leftsAt s w x y → (i : ℕ) × (i < length w) × (getD w i 0 ≡ 2) × (cornerAt s w i ≡ point (suc x) y)
+  pub lefts-found : (x y : ℕ) → 1 ≤ leftsAt o x y → (i : ℕ) × (i < size o) × (letterAt o i ≡ 2) × (cornerAt o i ≡ point (suc x) y)
   unfolding leftsAt
-  lefts-found x y = letters-found s w 2 (point (suc x) y)
+  lefts-found x y = letters-found o 2 (point (suc x) y)
 
-  pub ups-none : (x y : ℕ) → ((i : ℕ) → i < length w → getD w i 0 ≡ 1 → cornerAt s w i ≡ point x y → ⊥) → upsAt s w x (suc y) ≡ 0
-  ups-none x y h = ups-at-letters s w x y ∙ letters-none s w 1 (point x y) h
+  pub ups-none : (x y : ℕ) → ((i : ℕ) → i < size o → letterAt o i ≡ 1 → cornerAt o i ≡ point x y → ⊥) → upsAt o x (suc y) ≡ 0
+  ups-none x y h = ups-at-letters o x y ∙ letters-none o 1 (point x y) h
 
-  pub downs-none : (x R : ℕ) → ((i : ℕ) → i < length w → getD w i 0 ≡ 3 → cornerAt s w i ≡ point x R → ⊥) → downsAt s w x R ≡ 0
+  pub downs-none : (x R : ℕ) → ((i : ℕ) → i < size o → letterAt o i ≡ 3 → cornerAt o i ≡ point x R → ⊥) → downsAt o x R ≡ 0
   unfolding downsAt
-  downs-none x R = letters-none s w 3 (point x R)
+  downs-none x R = letters-none o 3 (point x R)
 
-  pub rights-none : (x y : ℕ) → ((i : ℕ) → i < length w → getD w i 0 ≡ 0 → cornerAt s w i ≡ point x y → ⊥) → rightsAt s w x y ≡ 0
+  pub rights-none : (x y : ℕ) → ((i : ℕ) → i < size o → letterAt o i ≡ 0 → cornerAt o i ≡ point x y → ⊥) → rightsAt o x y ≡ 0
   unfolding rightsAt
-  rights-none x y = letters-none s w 0 (point x y)
+  rights-none x y = letters-none o 0 (point x y)
 
-  pub lefts-none : (x y : ℕ) → ((i : ℕ) → i < length w → getD w i 0 ≡ 2 → cornerAt s w i ≡ point (suc x) y → ⊥) → leftsAt s w x y ≡ 0
+  pub lefts-none : (x y : ℕ) → ((i : ℕ) → i < size o → letterAt o i ≡ 2 → cornerAt o i ≡ point (suc x) y → ⊥) → leftsAt o x y ≡ 0
   unfolding leftsAt
-  lefts-none x y = letters-none s w 2 (point (suc x) y)
+  lefts-none x y = letters-none o 2 (point (suc x) y)
 
 -- Each side is used at most once: two letters along it, one way or both, would meet a corner twice
 
-module _ (s : Point) (w : List ℕ) (t : Walked s w) where
+module _ (o : Outline) (t : Walked o) where
   -- The place at whose corner the letter at place i arrives: the next, or the first after the last
-  pub next : (i : ℕ) → i < length w → (j : ℕ) × (j < length w) × (cornerAt s w (suc i) ≡ cornerAt s w j) × ((suc i ≡ j) ⊎ (suc i ≡ length w + j))
+  pub next : (i : ℕ) → i < size o → (j : ℕ) × (j < size o) × (cornerAt o (suc i) ≡ cornerAt o j) × ((suc i ≡ j) ⊎ (suc i ≡ size o + j))
   next i l =
-      elim (decLt (suc i) (length w)) [
+      elim (decLt (suc i) (size o)) [
         | yes m ↦ (suc i, m, refl, inl refl)
         | no m ↦ (
           0,
           omega (arith, t .long),
-          ap (cornerAt s w) (omega arith) ∙ corner-all s w ∙ t .closed ∙ sym (corner-zero s w),
+          ap (cornerAt o) (omega arith) ∙ corner-all o ∙ t .closed ∙ sym (corner-zero o),
           inr (omega arith),
         )
       ]
 
   -- Only one letter arrives at a corner
-  pub arrival-injective : (i j : ℕ) → i < length w → j < length w → cornerAt s w (suc i) ≡ cornerAt s w (suc j) → i ≡ j
+  pub arrival-injective : (i j : ℕ) → i < size o → j < size o → cornerAt o (suc i) ≡ cornerAt o (suc j) → i ≡ j
   arrival-injective i j l m e =
       let (i′, a, p, u) = next i l in
       let (j′, b, q, v) = next j m in
-      let d : i′ ≡ j′ = corner-injective s w t i′ j′ a b (sym p ∙ e ∙ q) in
+      let d : i′ ≡ j′ = corner-injective o t i′ j′ a b (sym p ∙ e ∙ q) in
       elim u [
         | inl f ↦ elim v [ inl g ↦ omega arith | inr g ↦ omega arith ]
         | inr f ↦ elim v [ inl g ↦ omega arith | inr g ↦ omega arith ]
       ]
 
   -- No letter goes back to the corner that the letter before it left
-  pub no-return : (i j : ℕ) → i < length w → j < length w → cornerAt s w (suc i) ≡ cornerAt s w j → cornerAt s w (suc j) ≡ cornerAt s w i → ⊥
+  pub no-return : (i j : ℕ) → i < size o → j < size o → cornerAt o (suc i) ≡ cornerAt o j → cornerAt o (suc j) ≡ cornerAt o i → ⊥
   no-return i j l m e f =
       let (i′, a, p, u) = next i l in
       let (j′, b, q, v) = next j m in
-      let c : i′ ≡ j = corner-injective s w t i′ j a m (sym p ∙ e) in
-      let d : j′ ≡ i = corner-injective s w t j′ i b l (sym q ∙ f) in
-      let n : 4 ≤ length w = t .long in
+      let c : i′ ≡ j = corner-injective o t i′ j a m (sym p ∙ e) in
+      let d : j′ ≡ i = corner-injective o t j′ i b l (sym q ∙ f) in
+      let n : shortest ≤ size o = t .long in
       elim u [
         | inl f ↦ elim v [ inl g ↦ omega arith | inr g ↦ omega arith ]
         | inr f ↦ elim v [ inl g ↦ omega arith | inr g ↦ omega arith ]
       ]
 
-  pub letters-once : (a : ℕ) (q : Point) → lettersAt s w a q ≤ 1
+  pub letters-once : (a : ℕ) (q : Point) → lettersAt o a q ≤ 1
   unfolding lettersAt
   letters-once a q =
-      tally-once (letterFrom a q) s w (λ i j l m e f.
-      t .distinct i j l m (letter-from a q (cornerAt s w i) (getD w i 0) e .1 ∙ sym (letter-from a q (cornerAt s w j) (getD w j 0) f .1)))
+      tally-once (letterFrom a q) (o .start) (o .letters) (λ i j l m e f.
+      t .distinct i j l m (letter-from a q (cornerAt o i) (letterAt o i) e .1 ∙ sym (letter-from a q (cornerAt o j) (letterAt o j) f .1)))
 
   -- The letter at place i is the only one of its kind to leave its corner
-  pub letters-one : (i : ℕ) → i < length w → lettersAt s w (getD w i 0) (cornerAt s w i) ≡ 1
-  letters-one i l = omega (arith, letters-some s w i l, letters-once (getD w i 0) (cornerAt s w i))
+  pub letters-one : (i : ℕ) → i < size o → lettersAt o (letterAt o i) (cornerAt o i) ≡ 1
+  letters-one i l = omega (arith, letters-some o i l, letters-once (letterAt o i) (cornerAt o i))
 
   -- A side from p to q is used by one letter, or by none
-  pub side-once : (a b : ℕ) (p q : Point) → step p a ≡ q → step q b ≡ p → lettersAt s w a p + lettersAt s w b q ≤ 1
+  pub side-once : (a b : ℕ) (p q : Point) → step p a ≡ q → step q b ≡ p → lettersAt o a p + lettersAt o b q ≤ 1
   side-once a b p q e f =
-      elim (decLe 1 (lettersAt s w a p)) [
+      elim (decLe 1 (lettersAt o a p)) [
         | yes h ↦
-            elim (decLe 1 (lettersAt s w b q)) [
+            elim (decLe 1 (lettersAt o b q)) [
               | yes k ↦
-                  let (i, l, c, d) = letters-found s w a p h in
-                  let (j, m, c′, d′) = letters-found s w b q k in
+                  let (i, l, c, d) = letters-found o a p h in
+                  let (j, m, c′, d′) = letters-found o b q k in
                   absurd (no-return i j l m
-                  (corner-suc s w i l ∙ (λ z. step (d z) (c z)) ∙ e ∙ sym d′)
-                  (corner-suc s w j m ∙ (λ z. step (d′ z) (c′ z)) ∙ f ∙ sym d))
+                  (corner-suc o i l ∙ (λ z. step (d z) (c z)) ∙ e ∙ sym d′)
+                  (corner-suc o j m ∙ (λ z. step (d′ z) (c′ z)) ∙ f ∙ sym d))
               | no k ↦ omega (arith, letters-once a p)
             ]
         | no h ↦ omega (arith, letters-once b q)
       ]
 
-  pub vertical-sides-once : (x R : ℕ) → upsAt s w x R + downsAt s w x R ≤ 1
+  pub vertical-sides-once : (x R : ℕ) → upsAt o x R + downsAt o x R ≤ 1
   unfolding downsAt
-  vertical-sides-once x zero = omega (arith, ups-at-zero s w x, letters-once 3 (point x 0))
+  vertical-sides-once x zero = omega (arith, ups-at-zero o x, letters-once 3 (point x 0))
   vertical-sides-once x (suc y) =
-      rw (ups-at-letters s w x y) (side-once 1 3 (point x y) (point x (suc y)) (step-up x y) (step-down x y))
+      rw (ups-at-letters o x y) (side-once 1 3 (point x y) (point x (suc y)) (step-up x y) (step-down x y))
 
-  pub horizontal-sides-once : (x y : ℕ) → rightsAt s w x y + leftsAt s w x y ≤ 1
+  pub horizontal-sides-once : (x y : ℕ) → rightsAt o x y + leftsAt o x y ≤ 1
   unfolding rightsAt leftsAt
   horizontal-sides-once x y = side-once 0 2 (point x y) (point (suc x) y) (step-right x y) (step-left x y)
 
   -- The side that the letter at place i runs along is used once
-  letter-one : (a : ℕ) (q : Point) (i : ℕ) → i < length w → getD w i 0 ≡ a → cornerAt s w i ≡ q → lettersAt s w a q ≡ 1
+  letter-one : (a : ℕ) (q : Point) (i : ℕ) → i < size o → letterAt o i ≡ a → cornerAt o i ≡ q → lettersAt o a q ≡ 1
   letter-one a q i l e d = rw (← e, ← d) (letters-one i l)
 
-  pub up-one : (x y i : ℕ) → i < length w → getD w i 0 ≡ 1 → cornerAt s w i ≡ point x y → upsAt s w x (suc y) ≡ 1
-  up-one x y i l e d = ups-at-letters s w x y ∙ letter-one 1 (point x y) i l e d
+  pub up-one : (x y i : ℕ) → i < size o → letterAt o i ≡ 1 → cornerAt o i ≡ point x y → upsAt o x (suc y) ≡ 1
+  up-one x y i l e d = ups-at-letters o x y ∙ letter-one 1 (point x y) i l e d
 
-  pub down-one : (x R i : ℕ) → i < length w → getD w i 0 ≡ 3 → cornerAt s w i ≡ point x R → downsAt s w x R ≡ 1
+  pub down-one : (x R i : ℕ) → i < size o → letterAt o i ≡ 3 → cornerAt o i ≡ point x R → downsAt o x R ≡ 1
   unfolding downsAt
   down-one x R = letter-one 3 (point x R)
 
-  pub right-one : (x y i : ℕ) → i < length w → getD w i 0 ≡ 0 → cornerAt s w i ≡ point x y → rightsAt s w x y ≡ 1
+  pub right-one : (x y i : ℕ) → i < size o → letterAt o i ≡ 0 → cornerAt o i ≡ point x y → rightsAt o x y ≡ 1
   unfolding rightsAt
   right-one x y = letter-one 0 (point x y)
 
-  pub left-one : (x y i : ℕ) → i < length w → getD w i 0 ≡ 2 → cornerAt s w i ≡ point (suc x) y → leftsAt s w x y ≡ 1
+  pub left-one : (x y i : ℕ) → i < size o → letterAt o i ≡ 2 → cornerAt o i ≡ point (suc x) y → leftsAt o x y ≡ 1
   unfolding leftsAt
   left-one x y = letter-one 2 (point (suc x) y)

@@ -4,15 +4,16 @@ use Prim.Native.Nat.{ℕ, zero, suc, _+_, _-_, _%_, _≤_, _<_}
 use mathlib.Core.Path.{_≡_, refl, sym, ap, _∙_, subst}
 use mathlib.Core.Bool.{Bool, false}
 use mathlib.Core.Logic.{_⊎_, inl, inr, _≢_}
-use mathlib.Core.List.{List, _++_}
+use mathlib.Core.List.{_++_}
 use native.Mathlib.Decide.{decLe, ℕ-discrete}
 use native.Mathlib.Omega.{arith}
-use lib.ListN.{length, take, drop, getD, take-append-drop}
+use lib.ListN.{take, drop, take-append-drop}
 use borrow.Author.Tests.{eqb-false}
 use Rattle.chart.specs.declared.Point.{Point}
-use Rattle.lattice.specs.Chart.{step, leaves, walk, cornerAt}
+use Rattle.chart.specs.Outline.{Outline}
+use Rattle.lattice.specs.Chart.{step, leaves, walk, cornerAt, size, Closed, letterAt, rotated}
 use Rattle.lattice.specs.Enclosed.{ups, downs, encloses}
-use Rattle.lattice.proofs.WalkLaws.{point, point-eq, step-right, step-up, step-left, step-down, corner-zero, corner-suc, corner-all, Walked, corner-injective, rotation, walk-append}
+use Rattle.lattice.proofs.WalkLaws.{point, point-eq, step-right, step-up, step-left, step-down, corner-zero, corner-suc, corner-all, Walked, corner-injective, walk-append}
 use Rattle.lattice.proofs.Jumps.{tally, rises, falls, tally-append, upsTo, downsTo, lettersAt, upsAt, downsAt, rightsAt, leftsAt, Stays, ups-to, downs-to, ups-jump-vertical, downs-jump-vertical, ups-column-zero, downs-column-zero, jump-horizontal, letters-none, letters-one, ups-at-letters, ups-found, downs-found, rights-found, lefts-found, next, arrival-injective, no-return}
 
 -- The four cells around a corner, counterclockwise: cell k lies between the sides that the letters k and k + 1 run along.
@@ -69,206 +70,206 @@ unfoldable pub cornerOf : Point → ℕ → Point
 cornerOf p a = rightOf (step p a) a
 
 -- How many letters arrive at q along the side that the letter k would leave it by
-rightsInto : Point → List ℕ → ℕ → ℕ → ℕ
-rightsInto s w zero y = 0
-rightsInto s w (suc x) y = rightsAt s w x y
+rightsInto : Outline → ℕ → ℕ → ℕ
+rightsInto o zero y = 0
+rightsInto o (suc x) y = rightsAt o x y
 
-backs : Point → List ℕ → Point → ℕ → ℕ
-backs s w q zero = leftsAt s w (q .col) (q .row)
-backs s w q (suc zero) = downsAt s w (q .col) (suc (q .row))
-backs s w q (suc (suc zero)) = rightsInto s w (q .col) (q .row)
-backs s w q (suc (suc (suc zero))) = upsAt s w (q .col) (q .row)
-backs s w q (suc (suc (suc (suc a)))) = 0
+backs : Outline → Point → ℕ → ℕ
+backs o q zero = leftsAt o (q .col) (q .row)
+backs o q (suc zero) = downsAt o (q .col) (suc (q .row))
+backs o q (suc (suc zero)) = rightsInto o (q .col) (q .row)
+backs o q (suc (suc (suc zero))) = upsAt o (q .col) (q .row)
+backs o q (suc (suc (suc (suc a)))) = 0
 
 -- Two cells have the same level: as many ups less downs; and one has a level one above the other's
-abbrev pub SameLevel : Point → List ℕ → Point → Point → Type 0
-SameLevel s w p q = upsTo s w (p .col) (p .row) + downsTo s w (q .col) (q .row) ≡ downsTo s w (p .col) (p .row) + upsTo s w (q .col) (q .row)
+abbrev pub SameLevel : Outline → Point → Point → Type 0
+SameLevel o p q = upsTo o (p .col) (p .row) + downsTo o (q .col) (q .row) ≡ downsTo o (p .col) (p .row) + upsTo o (q .col) (q .row)
 
-abbrev pub OneAbove : Point → List ℕ → Point → Point → Type 0
-OneAbove s w p q = upsTo s w (p .col) (p .row) + downsTo s w (q .col) (q .row) ≡ downsTo s w (p .col) (p .row) + upsTo s w (q .col) (q .row) + 1
+abbrev pub OneAbove : Outline → Point → Point → Type 0
+OneAbove o p q = upsTo o (p .col) (p .row) + downsTo o (q .col) (q .row) ≡ downsTo o (p .col) (p .row) + upsTo o (q .col) (q .row) + 1
 
-module _ (s : Point) (w : List ℕ) (h : Stays s w) (c : walk s w ≡ s) where
+module _ (o : Outline) (h : Stays o) (c : Closed o) where
   -- Across the side by which the letter k leaves the corner q
   abbrev Jump : Point → ℕ → Type 0
   Jump q k =
-      upsTo s w (rightOf q k .col) (rightOf q k .row) + downsTo s w (leftOf q k .col) (leftOf q k .row) + backs s w q k
-      ≡ downsTo s w (rightOf q k .col) (rightOf q k .row) + upsTo s w (leftOf q k .col) (leftOf q k .row) + lettersAt s w k q
+      upsTo o (rightOf q k .col) (rightOf q k .row) + downsTo o (leftOf q k .col) (leftOf q k .row) + backs o q k
+      ≡ downsTo o (rightOf q k .col) (rightOf q k .row) + upsTo o (leftOf q k .col) (leftOf q k .row) + lettersAt o k q
 
   jump-left : (x y : ℕ) → Jump (point x y) 2
   unfolding rightOf leftOf backs rightsInto leftsAt leaves
   jump-left zero y =
-      let e : lettersAt s w 2 (point 0 y) ≡ 0 = letters-none s w 2 (point 0 y) (λ i l e d. off i (h i l) e d) in
-      omega (arith, ups-column-zero s w y, ups-column-zero s w (suc y), downs-column-zero s w y, downs-column-zero s w (suc y))
+      let e : lettersAt o 2 (point 0 y) ≡ 0 = letters-none o 2 (point 0 y) (λ i l e d. off i (h i l) e d) in
+      omega (arith, ups-column-zero o y, ups-column-zero o (suc y), downs-column-zero o y, downs-column-zero o (suc y))
     where
-      off : (i : ℕ) → leaves (cornerAt s w i) (getD w i 0) ≡ false → getD w i 0 ≡ 2 → cornerAt s w i ≡ point 0 y → ⊥
+      off : (i : ℕ) → leaves (cornerAt o i) (letterAt o i) ≡ false → letterAt o i ≡ 2 → cornerAt o i ≡ point 0 y → ⊥
       off i f e d = let g : leaves (point 0 y) 2 ≡ false = rw (e, d) at f in let z : _≡_ {A = ℕ} 0 1 = cc in omega arith
-  jump-left (suc x) y = omega (arith, jump-horizontal s w h c x y)
+  jump-left (suc x) y = omega (arith, jump-horizontal o h c x y)
 
   jump : (q : Point) (k : ℕ) → k < 4 → Jump q k
   unfolding rightOf leftOf backs rightsAt downsAt
   jump q =
       letter-cases (Jump q)
-      (omega (arith, jump-horizontal s w h c (q .col) (q .row)))
-      (omega (arith, ups-jump-vertical s w (q .col) (suc (q .row)), downs-jump-vertical s w (q .col) (suc (q .row)), ups-at-letters s w (q .col) (q .row)))
+      (omega (arith, jump-horizontal o h c (q .col) (q .row)))
+      (omega (arith, ups-jump-vertical o (q .col) (suc (q .row)), downs-jump-vertical o (q .col) (suc (q .row)), ups-at-letters o (q .col) (q .row)))
       (jump-left (q .col) (q .row))
-      (omega (arith, ups-jump-vertical s w (q .col) (q .row), downs-jump-vertical s w (q .col) (q .row)))
+      (omega (arith, ups-jump-vertical o (q .col) (q .row), downs-jump-vertical o (q .col) (q .row)))
 
 -- A letter that arrives at q along the side that the letter k would leave it by
-record Back (s : Point) (w : List ℕ) (q : Point) (k i : ℕ) : Type 0 where
-  below : i < length w
-  letter : getD w i 0 ≡ opposite k
-  leaving : cornerAt s w i ≡ step q k
-  arriving : cornerAt s w (suc i) ≡ q
+record Back (o : Outline) (q : Point) (k i : ℕ) : Type 0 where
+  below : i < size o
+  letter : letterAt o i ≡ opposite k
+  leaving : cornerAt o i ≡ step q k
+  arriving : cornerAt o (suc i) ≡ q
 
-module _ (s : Point) (w : List ℕ) where
+module _ (o : Outline) where
   back : (q : Point) (k i a : ℕ) (p : Point)
-      → i < length w → getD w i 0 ≡ a → cornerAt s w i ≡ p → a ≡ opposite k → p ≡ step q k → step p a ≡ q → Back s w q k i
+      → i < size o → letterAt o i ≡ a → cornerAt o i ≡ p → a ≡ opposite k → p ≡ step q k → step p a ≡ q → Back o q k i
   back q k i a p l e d f g r =
       record {
         below = l;
         letter = e ∙ f;
         leaving = d ∙ g;
-        arriving = corner-suc s w i l ∙ (λ z. step (d z) (e z)) ∙ r;
+        arriving = corner-suc o i l ∙ (λ z. step (d z) (e z)) ∙ r;
       }
 
-  back-right : (x y : ℕ) → 1 ≤ rightsInto s w x y → (i : ℕ) × Back s w (point x y) 2 i
+  back-right : (x y : ℕ) → 1 ≤ rightsInto o x y → (i : ℕ) × Back o (point x y) 2 i
   unfolding rightsInto
   back-right zero y b = absurd (omega arith)
   back-right (suc x) y b =
-      let (i, l, e, d) = rights-found s w x y b in (i, back (point (suc x) y) 2 i 0 (point x y) l e d refl (sym (step-left x y)) (step-right x y))
+      let (i, l, e, d) = rights-found o x y b in (i, back (point (suc x) y) 2 i 0 (point x y) l e d refl (sym (step-left x y)) (step-right x y))
 
-  back-found : (q : Point) (k : ℕ) → k < 4 → 1 ≤ backs s w q k → (i : ℕ) × Back s w q k i
+  back-found : (q : Point) (k : ℕ) → k < 4 → 1 ≤ backs o q k → (i : ℕ) × Back o q k i
   unfolding backs step
   back-found q =
-      letter-cases (λ k. 1 ≤ backs s w q k → (i : ℕ) × Back s w q k i)
+      letter-cases (λ k. 1 ≤ backs o q k → (i : ℕ) × Back o q k i)
       (λ b.
-      let (i, l, e, d) = lefts-found s w (q .col) (q .row) b in
+      let (i, l, e, d) = lefts-found o (q .col) (q .row) b in
       (i, back q 0 i 2 (point (suc (q .col)) (q .row)) l e d refl (sym (step-right (q .col) (q .row))) (step-left (q .col) (q .row))))
       (λ b.
-      let (i, l, e, d) = downs-found s w (q .col) (suc (q .row)) b in
+      let (i, l, e, d) = downs-found o (q .col) (suc (q .row)) b in
       (i, back q 1 i 3 (point (q .col) (suc (q .row))) l e d refl (sym (step-up (q .col) (q .row))) (step-down (q .col) (q .row))))
       (back-right (q .col) (q .row))
       (λ b.
-      let (i, l, e, d, m) = ups-found s w (q .col) (q .row) b in
+      let (i, l, e, d, m) = ups-found o (q .col) (q .row) b in
       (i, back q 3 i 1 (point (q .col) (q .row - 1)) l e d refl refl (point-eq (point (q .col) (q .row - 1 + 1)) q refl (omega arith))))
 
-module _ (s : Point) (w : List ℕ) (t : Walked s w) where
+module _ (o : Outline) (t : Walked o) where
   abbrev corner : ℕ → Point
-  corner i = cornerAt s w i
+  corner i = cornerAt o i
 
   abbrev letter : ℕ → ℕ
-  letter i = getD w i 0
+  letter i = letterAt o i
 
   -- The letter at place i arrives at the corner from which the letter at place j leaves: the sides of two other directions are used by none
-  module _ (i j : ℕ) (l : i < length w) (m : j < length w) (e : cornerAt s w (suc i) ≡ cornerAt s w j) where
-    back-other : (k : ℕ) → k < 4 → k ≢ opposite (letter i) → backs s w (corner j) k ≡ 0
+  module _ (i j : ℕ) (l : i < size o) (m : j < size o) (e : cornerAt o (suc i) ≡ cornerAt o j) where
+    back-other : (k : ℕ) → k < 4 → k ≢ opposite (letter i) → backs o (corner j) k ≡ 0
     back-other k b n =
-        elim (decLe 1 (backs s w (corner j) k)) [
+        elim (decLe 1 (backs o (corner j) k)) [
           | yes a ↦
-              let (i′, r) = back-found s w (corner j) k b a in
-              let same : i′ ≡ i = arrival-injective s w t i′ i (r .below) l (r .arriving ∙ sym e) in
+              let (i′, r) = back-found o (corner j) k b a in
+              let same : i′ ≡ i = arrival-injective o t i′ i (r .below) l (r .arriving ∙ sym e) in
               let f : letter i ≡ opposite k = ap letter (sym same) ∙ r .letter in
               absurd (omega arith)
           | no a ↦ omega arith
         ]
 
-    letter-other : (k : ℕ) → k ≢ letter j → lettersAt s w k (corner j) ≡ 0
+    letter-other : (k : ℕ) → k ≢ letter j → lettersAt o k (corner j) ≡ 0
     letter-other k n =
-        letters-none s w k (corner j) (λ j′ l′ f d.
-        n (sym f ∙ ap letter (corner-injective s w t j′ j l′ m d)))
+        letters-none o k (corner j) (λ j′ l′ f d.
+        n (sym f ∙ ap letter (corner-injective o t j′ j l′ m d)))
 
-    across : (k : ℕ) → k < 4 → k ≢ letter j → k ≢ opposite (letter i) → SameLevel s w (rightOf (corner j) k) (leftOf (corner j) k)
-    across k b n o = omega (arith, jump s w (t .stays) (t .closed) (corner j) k b, back-other k b o, letter-other k n)
+    across : (k : ℕ) → k < 4 → k ≢ letter j → k ≢ opposite (letter i) → SameLevel o (rightOf (corner j) k) (leftOf (corner j) k)
+    across k b n m′ = omega (arith, jump o (t .stays) (t .closed) (corner j) k b, back-other k b m′, letter-other k n)
 
     -- No letter takes back the one before it
-    pub no-back : getD w j 0 ≢ opposite (getD w i 0)
+    pub no-back : letterAt o j ≢ opposite (letterAt o i)
     no-back f =
-        no-return s w t i j l m e
-        (corner-suc s w j m
+        no-return o t i j l m e
+        (corner-suc o j m
         ∙ ap (step (corner j)) f
-        ∙ ap (λ (q : Point). step q (opposite (letter i))) (sym e ∙ corner-suc s w i l)
+        ∙ ap (λ (q : Point). step q (opposite (letter i))) (sym e ∙ corner-suc o i l)
         ∙ step-back (corner i) (letter i) (t .letter i l) (t .stays i l))
 
     -- The cells on the right hand of the two letters are the same, or are two or three around the corner, with no side between them that is used
     right-seen : rightOf (corner i) (letter i) ≡ leftOf (corner j) (opposite (letter i))
     right-seen =
         right-arriving (corner i) (letter i) (t .letter i l) (t .stays i l)
-        ∙ ap (λ (q : Point). leftOf q (opposite (letter i))) (sym (corner-suc s w i l) ∙ e)
+        ∙ ap (λ (q : Point). leftOf q (opposite (letter i))) (sym (corner-suc o i l) ∙ e)
 
-    across-turn : (k : ℕ) → k < 4 → turn k ≢ letter j → turn k ≢ opposite (letter i) → SameLevel s w (leftOf (corner j) k) (leftOf (corner j) (turn k))
-    across-turn k b n o = rw (right-of-turn (corner j) k b (turn k) refl) at (across (turn k) (omega arith) n o)
+    across-turn : (k : ℕ) → k < 4 → turn k ≢ letter j → turn k ≢ opposite (letter i) → SameLevel o (leftOf (corner j) k) (leftOf (corner j) (turn k))
+    across-turn k b n m′ = rw (right-of-turn (corner j) k b (turn k) refl) at (across (turn k) (omega arith) n m′)
 
-    straight : letter i ≢ turn (letter j) → SameLevel s w (rightOf (corner i) (letter i)) (rightOf (corner j) (letter i))
+    straight : letter i ≢ turn (letter j) → SameLevel o (rightOf (corner i) (letter i)) (rightOf (corner j) (letter i))
     straight n =
-        let o = opposite (letter i) in
+        let behind = opposite (letter i) in
         let a : letter i < 4 = t .letter i l in
         let b : letter j < 4 = t .letter j m in
-        rw (right-seen, right-of-turn (corner j) (turn o) (omega arith) (letter i) (omega arith)) (across-turn o (omega arith) (omega arith) (omega arith))
+        rw (right-seen, right-of-turn (corner j) (turn behind) (omega arith) (letter i) (omega arith)) (across-turn behind (omega arith) (omega arith) (omega arith))
 
-    right-hand-next : SameLevel s w (rightOf (corner i) (letter i)) (rightOf (corner j) (letter j))
+    right-hand-next : SameLevel o (rightOf (corner i) (letter i)) (rightOf (corner j) (letter j))
     right-hand-next =
-        let o = opposite (letter i) in
+        let behind = opposite (letter i) in
         let a : letter i < 4 = t .letter i l in
         let b : letter j < 4 = t .letter j m in
-        elim (ℕ-discrete (letter j) (turn o)) [
-          | yes f ↦ rw (right-seen, right-of-turn (corner j) o (omega arith) (letter j) f) (omega arith)
+        elim (ℕ-discrete (letter j) (turn behind)) [
+          | yes f ↦ rw (right-seen, right-of-turn (corner j) behind (omega arith) (letter j) f) (omega arith)
           | no f ↦
               let ahead = straight (omega arith) in
               elim (ℕ-discrete (letter j) (letter i)) [
                 | yes g ↦ rw g ahead
                 | no g ↦
                     let b′ = no-back in
-                    let beside = across-turn (turn o) (omega arith) (omega arith) (omega arith) in
-                    rw (right-of-turn (corner j) (turn (turn o)) (omega arith) (letter j) (omega arith))
-                    (omega (arith, rw (right-of-turn (corner j) (turn o) (omega arith) (letter i) (omega arith)) at ahead))
+                    let beside = across-turn (turn behind) (omega arith) (omega arith) (omega arith) in
+                    rw (right-of-turn (corner j) (turn (turn behind)) (omega arith) (letter j) (omega arith))
+                    (omega (arith, rw (right-of-turn (corner j) (turn behind) (omega arith) (letter i) (omega arith)) at ahead))
               ]
         ]
 
-  from-start : (i : ℕ) → i < length w → SameLevel s w (rightOf (corner 0) (letter 0)) (rightOf (corner i) (letter i))
+  from-start : (i : ℕ) → i < size o → SameLevel o (rightOf (corner 0) (letter 0)) (rightOf (corner i) (letter i))
   from-start zero l = omega arith
   from-start (suc i) l = omega (arith, from-start i (omega arith), right-hand-next i (suc i) (omega arith) l refl)
 
   -- The cells on the right hand have one level
-  pub right-hand : (i j : ℕ) → i < length w → j < length w → SameLevel s w (rightOf (cornerAt s w i) (getD w i 0)) (rightOf (cornerAt s w j) (getD w j 0))
+  pub right-hand : (i j : ℕ) → i < size o → j < size o → SameLevel o (rightOf (cornerAt o i) (letterAt o i)) (rightOf (cornerAt o j) (letterAt o j))
   right-hand i j l m = omega (arith, from-start i l, from-start j m)
 
   -- The cell to the right of a letter is one level above the cell to its left
-  pub left-hand : (i : ℕ) → i < length w → OneAbove s w (rightOf (cornerAt s w i) (getD w i 0)) (leftOf (cornerAt s w i) (getD w i 0))
+  pub left-hand : (i : ℕ) → i < size o → OneAbove o (rightOf (cornerAt o i) (letterAt o i)) (leftOf (cornerAt o i) (letterAt o i))
   left-hand i l =
-      omega (arith, jump s w (t .stays) (t .closed) (corner i) (letter i) (t .letter i l), letters-one s w t i l, alone)
+      omega (arith, jump o (t .stays) (t .closed) (corner i) (letter i) (t .letter i l), letters-one o t i l, alone)
     where
-      alone : backs s w (corner i) (letter i) ≡ 0
+      alone : backs o (corner i) (letter i) ≡ 0
       alone =
-          elim (decLe 1 (backs s w (corner i) (letter i))) [
+          elim (decLe 1 (backs o (corner i) (letter i))) [
             | yes a ↦
-                let (j, r) = back-found s w (corner i) (letter i) (t .letter i l) a in
-                absurd (no-return s w t i j l (r .below) (corner-suc s w i l ∙ sym (r .leaving)) (r .arriving))
+                let (j, r) = back-found o (corner i) (letter i) (t .letter i l) a in
+                absurd (no-return o t i j l (r .below) (corner-suc o i l ∙ sym (r .leaving)) (r .arriving))
             | no a ↦ omega arith
           ]
 
   -- The cell inside a left turn has that level too. Here j is the place after i, or the first where i is the last
   pub left-turn :
-      (i j : ℕ) → i < length w → j < length w → cornerAt s w (suc i) ≡ cornerAt s w j → getD w j 0 ≡ turn (getD w i 0)
-      → SameLevel s w (rightOf (cornerAt s w i) (getD w i 0)) (cornerOf (cornerAt s w i) (getD w i 0))
+      (i j : ℕ) → i < size o → j < size o → cornerAt o (suc i) ≡ cornerAt o j → letterAt o j ≡ turn (letterAt o i)
+      → SameLevel o (rightOf (cornerAt o i) (letterAt o i)) (cornerOf (cornerAt o i) (letterAt o i))
   unfolding cornerOf
   left-turn i j l m e f =
       let a : letter i < 4 = t .letter i l in
-      rw (sym (corner-suc s w i l) ∙ e) (straight i j l m e (omega arith))
+      rw (sym (corner-suc o i l) ∙ e) (straight i j l m e (omega arith))
 
 -- A corner of the least column, and among those of the least row
-pub record Lowest (s : Point) (w : List ℕ) (k : ℕ) : Type 0 where
-  pub below : k < length w
-  pub least-col : (i : ℕ) → i < length w → cornerAt s w k .col ≤ cornerAt s w i .col
-  pub least-row : (i : ℕ) → i < length w → cornerAt s w i .col ≡ cornerAt s w k .col → cornerAt s w k .row ≤ cornerAt s w i .row
+pub record Lowest (o : Outline) (k : ℕ) : Type 0 where
+  pub below : k < size o
+  pub least-col : (i : ℕ) → i < size o → cornerAt o k .col ≤ cornerAt o i .col
+  pub least-row : (i : ℕ) → i < size o → cornerAt o i .col ≡ cornerAt o k .col → cornerAt o k .row ≤ cornerAt o i .row
 
-module _ (s : Point) (w : List ℕ) (t : Walked s w) where
+module _ (o : Outline) (t : Walked o) where
   -- The place before k, or the last where k is the first
-  pub place-before : (k : ℕ) → k < length w → (j : ℕ) × (j < length w) × (cornerAt s w (suc j) ≡ cornerAt s w k) × ((suc j ≡ k) ⊎ (suc j ≡ length w + k))
+  pub place-before : (k : ℕ) → k < size o → (j : ℕ) × (j < size o) × (cornerAt o (suc j) ≡ cornerAt o k) × ((suc j ≡ k) ⊎ (suc j ≡ size o + k))
   place-before zero l =
-      let n : suc (length w - 1) ≡ length w = omega arith in (
-        length w - 1,
+      let n : suc (size o - 1) ≡ size o = omega arith in (
+        size o - 1,
         omega arith,
-        ap (cornerAt s w) n ∙ corner-all s w ∙ t .closed ∙ sym (corner-zero s w),
+        ap (cornerAt o) n ∙ corner-all o ∙ t .closed ∙ sym (corner-zero o),
         inr (omega arith),
       )
   place-before (suc k) l = (k, omega arith, refl, inl refl)
@@ -293,130 +294,130 @@ arriving-step p =
     (λ c r. inl refl)
     (λ c r. inr refl)
 
-module _ (s : Point) (w : List ℕ) (t : Walked s w) (k : ℕ) (m : Lowest s w k) where
-  pub leaving-lowest : (getD w k 0 ≡ 0) ⊎ (getD w k 0 ≡ 1)
+module _ (o : Outline) (t : Walked o) (k : ℕ) (m : Lowest o k) where
+  pub leaving-lowest : (letterAt o k ≡ 0) ⊎ (letterAt o k ≡ 1)
   leaving-lowest =
-      let (j, l, e, _) = next s w t k (m .below) in
-      let d : cornerAt s w j ≡ step (cornerAt s w k) (getD w k 0) = sym e ∙ corner-suc s w k (m .below) in
-      leaving-step (cornerAt s w k) (getD w k 0) (t .letter k (m .below)) (t .stays k (m .below))
+      let (j, l, e, _) = next o t k (m .below) in
+      let d : cornerAt o j ≡ step (cornerAt o k) (letterAt o k) = sym e ∙ corner-suc o k (m .below) in
+      leaving-step (cornerAt o k) (letterAt o k) (t .letter k (m .below)) (t .stays k (m .below))
       (rw d at (m .least-col j l))
       (rw d at (m .least-row j l))
 
-  arriving : (j : ℕ) → j < length w → cornerAt s w (suc j) ≡ cornerAt s w k → (getD w j 0 ≡ 2) ⊎ (getD w j 0 ≡ 3)
+  arriving : (j : ℕ) → j < size o → cornerAt o (suc j) ≡ cornerAt o k → (letterAt o j ≡ 2) ⊎ (letterAt o j ≡ 3)
   arriving j l e =
-      let d : cornerAt s w k ≡ step (cornerAt s w j) (getD w j 0) = sym e ∙ corner-suc s w j l in
-      arriving-step (cornerAt s w j) (getD w j 0) (t .letter j l)
-      (subst (λ (p : Point). p .col ≤ cornerAt s w j .col) d (m .least-col j l))
-      (subst (λ (p : Point). cornerAt s w j .col ≡ p .col → p .row ≤ cornerAt s w j .row) d (m .least-row j l))
+      let d : cornerAt o k ≡ step (cornerAt o j) (letterAt o j) = sym e ∙ corner-suc o j l in
+      arriving-step (cornerAt o j) (letterAt o j) (t .letter j l)
+      (subst (λ (p : Point). p .col ≤ cornerAt o j .col) d (m .least-col j l))
+      (subst (λ (p : Point). cornerAt o j .col ≡ p .col → p .row ≤ cornerAt o j .row) d (m .least-row j l))
 
   -- The letter before: at the place j before k, or at the last where k is the first
-  pub arriving-up : (j : ℕ) → j < length w → cornerAt s w (suc j) ≡ cornerAt s w k → getD w k 0 ≡ 1 → getD w j 0 ≡ 2
+  pub arriving-up : (j : ℕ) → j < size o → cornerAt o (suc j) ≡ cornerAt o k → letterAt o k ≡ 1 → letterAt o j ≡ 2
   arriving-up j l e f =
-      elim (arriving j l e) [ inl g ↦ g | inr g ↦ absurd (no-back s w t j k l (m .below) e (f ∙ ap opposite (sym g))) ]
+      elim (arriving j l e) [ inl g ↦ g | inr g ↦ absurd (no-back o t j k l (m .below) e (f ∙ ap opposite (sym g))) ]
 
-  pub arriving-right : (j : ℕ) → j < length w → cornerAt s w (suc j) ≡ cornerAt s w k → getD w k 0 ≡ 0 → getD w j 0 ≡ 3
+  pub arriving-right : (j : ℕ) → j < size o → cornerAt o (suc j) ≡ cornerAt o k → letterAt o k ≡ 0 → letterAt o j ≡ 3
   arriving-right j l e f =
-      elim (arriving j l e) [ inl g ↦ absurd (no-back s w t j k l (m .below) e (f ∙ ap opposite (sym g))) | inr g ↦ g ]
+      elim (arriving j l e) [ inl g ↦ absurd (no-back o t j k l (m .below) e (f ∙ ap opposite (sym g))) | inr g ↦ g ]
 
   -- Nothing is counted left of the least column
-  ups-left : (C R : ℕ) → C ≤ cornerAt s w k .col → upsTo s w C R ≡ 0
-  ups-left zero R l = ups-column-zero s w R
-  ups-left (suc C) R l = omega (arith, ups-jump-vertical s w C R, ups-left C R (omega arith), none)
+  ups-left : (C R : ℕ) → C ≤ cornerAt o k .col → upsTo o C R ≡ 0
+  ups-left zero R l = ups-column-zero o R
+  ups-left (suc C) R l = omega (arith, ups-jump-vertical o C R, ups-left C R (omega arith), none)
     where
-      none : upsAt s w C R ≡ 0
+      none : upsAt o C R ≡ 0
       none =
-          elim (decLe 1 (upsAt s w C R)) [
-            | yes a ↦ let (i, b, e, d, _) = ups-found s w C R a in absurd (omega (arith, m .least-col i b, ap (λ (p : Point). p .col) d))
+          elim (decLe 1 (upsAt o C R)) [
+            | yes a ↦ let (i, b, e, d, _) = ups-found o C R a in absurd (omega (arith, m .least-col i b, ap (λ (p : Point). p .col) d))
             | no a ↦ omega arith
           ]
 
-  downs-left : (C R : ℕ) → C ≤ cornerAt s w k .col → downsTo s w C R ≡ 0
-  downs-left zero R l = downs-column-zero s w R
-  downs-left (suc C) R l = omega (arith, downs-jump-vertical s w C R, downs-left C R (omega arith), none)
+  downs-left : (C R : ℕ) → C ≤ cornerAt o k .col → downsTo o C R ≡ 0
+  downs-left zero R l = downs-column-zero o R
+  downs-left (suc C) R l = omega (arith, downs-jump-vertical o C R, downs-left C R (omega arith), none)
     where
-      none : downsAt s w C R ≡ 0
+      none : downsAt o C R ≡ 0
       none =
-          elim (decLe 1 (downsAt s w C R)) [
-            | yes a ↦ let (i, b, e, d) = downs-found s w C R a in absurd (omega (arith, m .least-col i b, ap (λ (p : Point). p .col) d))
+          elim (decLe 1 (downsAt o C R)) [
+            | yes a ↦ let (i, b, e, d) = downs-found o C R a in absurd (omega (arith, m .least-col i b, ap (λ (p : Point). p .col) d))
             | no a ↦ omega arith
           ]
 
-  module _ (up : getD w k 0 ≡ 1) where
+  module _ (up : letterAt o k ≡ 1) where
     -- Of a walk that leaves its lowest corner upwards, the cells on the right hand have level 1, and those on the left hand level 0
     pub clockwise-right :
-        (i : ℕ) → i < length w
-        → upsTo s w (rightOf (cornerAt s w i) (getD w i 0) .col) (rightOf (cornerAt s w i) (getD w i 0) .row)
-        ≡ downsTo s w (rightOf (cornerAt s w i) (getD w i 0) .col) (rightOf (cornerAt s w i) (getD w i 0) .row) + 1
+        (i : ℕ) → i < size o
+        → upsTo o (rightOf (cornerAt o i) (letterAt o i) .col) (rightOf (cornerAt o i) (letterAt o i) .row)
+        ≡ downsTo o (rightOf (cornerAt o i) (letterAt o i) .col) (rightOf (cornerAt o i) (letterAt o i) .row) + 1
     unfolding leftOf
     clockwise-right i l =
-        let p = cornerAt s w k in
+        let p = cornerAt o k in
         omega (
           arith,
-          right-hand s w t i k l (m .below),
-          subst (λ (a : ℕ). OneAbove s w (rightOf p (getD w k 0)) (leftOf p a)) up (left-hand s w t k (m .below)),
+          right-hand o t i k l (m .below),
+          subst (λ (a : ℕ). OneAbove o (rightOf p (letterAt o k)) (leftOf p a)) up (left-hand o t k (m .below)),
           ups-left (p .col) (suc (p .row)) (omega arith),
           downs-left (p .col) (suc (p .row)) (omega arith),
         )
 
     pub clockwise-left :
-        (i : ℕ) → i < length w
-        → upsTo s w (leftOf (cornerAt s w i) (getD w i 0) .col) (leftOf (cornerAt s w i) (getD w i 0) .row)
-        ≡ downsTo s w (leftOf (cornerAt s w i) (getD w i 0) .col) (leftOf (cornerAt s w i) (getD w i 0) .row)
-    clockwise-left i l = omega (arith, clockwise-right i l, left-hand s w t i l)
+        (i : ℕ) → i < size o
+        → upsTo o (leftOf (cornerAt o i) (letterAt o i) .col) (leftOf (cornerAt o i) (letterAt o i) .row)
+        ≡ downsTo o (leftOf (cornerAt o i) (letterAt o i) .col) (leftOf (cornerAt o i) (letterAt o i) .row)
+    clockwise-left i l = omega (arith, clockwise-right i l, left-hand o t i l)
 
     pub clockwise-left-turn :
-        (i j : ℕ) → i < length w → j < length w → cornerAt s w (suc i) ≡ cornerAt s w j → getD w j 0 ≡ turn (getD w i 0)
-        → upsTo s w (cornerOf (cornerAt s w i) (getD w i 0) .col) (cornerOf (cornerAt s w i) (getD w i 0) .row)
-        ≡ downsTo s w (cornerOf (cornerAt s w i) (getD w i 0) .col) (cornerOf (cornerAt s w i) (getD w i 0) .row) + 1
-    clockwise-left-turn i j l b e f = omega (arith, clockwise-right i l, left-turn s w t i j l b e f)
+        (i j : ℕ) → i < size o → j < size o → cornerAt o (suc i) ≡ cornerAt o j → letterAt o j ≡ turn (letterAt o i)
+        → upsTo o (cornerOf (cornerAt o i) (letterAt o i) .col) (cornerOf (cornerAt o i) (letterAt o i) .row)
+        ≡ downsTo o (cornerOf (cornerAt o i) (letterAt o i) .col) (cornerOf (cornerAt o i) (letterAt o i) .row) + 1
+    clockwise-left-turn i j l b e f = omega (arith, clockwise-right i l, left-turn o t i j l b e f)
 
     -- Every cell has level 0 or 1: along a row it changes only at a vertical side, and next to one it is that of a right or a left hand
-    pub level : (C R : ℕ) → (upsTo s w C R ≡ downsTo s w C R) ⊎ (upsTo s w C R ≡ downsTo s w C R + 1)
+    pub level : (C R : ℕ) → (upsTo o C R ≡ downsTo o C R) ⊎ (upsTo o C R ≡ downsTo o C R + 1)
     unfolding rightOf leftOf
-    level zero R = inl (ups-column-zero s w R ∙ sym (downs-column-zero s w R))
+    level zero R = inl (ups-column-zero o R ∙ sym (downs-column-zero o R))
     level (suc C) R =
-        elim (decLe 1 (upsAt s w C R)) [
+        elim (decLe 1 (upsAt o C R)) [
           | yes a ↦
-              let (i, b, e, d, c) = ups-found s w C R a in
-              let cell : rightOf (cornerAt s w i) (getD w i 0) ≡ point (suc C) R = (λ z. rightOf (d z) (e z)) ∙ ap (point (suc C)) (omega arith) in
+              let (i, b, e, d, c) = ups-found o C R a in
+              let cell : rightOf (cornerAt o i) (letterAt o i) ≡ point (suc C) R = (λ z. rightOf (d z) (e z)) ∙ ap (point (suc C)) (omega arith) in
               inr (rw cell at (clockwise-right i b))
           | no a ↦
-              elim (decLe 1 (downsAt s w C R)) [
+              elim (decLe 1 (downsAt o C R)) [
                 | yes a′ ↦
-                    let (i, b, e, d) = downs-found s w C R a′ in
-                    let cell : leftOf (cornerAt s w i) (getD w i 0) ≡ point (suc C) R = λ z. leftOf (d z) (e z) in
+                    let (i, b, e, d) = downs-found o C R a′ in
+                    let cell : leftOf (cornerAt o i) (letterAt o i) ≡ point (suc C) R = λ z. leftOf (d z) (e z) in
                     inl (rw cell at (clockwise-left i b))
                 | no a′ ↦
-                    let u = ups-jump-vertical s w C R in
-                    let v = downs-jump-vertical s w C R in
+                    let u = ups-jump-vertical o C R in
+                    let v = downs-jump-vertical o C R in
                     elim (level C R) [ inl f ↦ inl (omega arith) | inr f ↦ inr (omega arith) ]
               ]
         ]
 
 -- Counts over a closed walk do not depend on where it begins
 
-pub tally-rotation : (f : Point → ℕ → Bool) (s : Point) (w : List ℕ) (k : ℕ) → walk s w ≡ s → tally f (cornerAt s w k) (rotation k w) ≡ tally f s w
+pub tally-rotation : (f : Point → ℕ → Bool) (o : Outline) (k : ℕ) → Closed o → tally f (cornerAt o k) (rotated k o .letters) ≡ tally f (o .start) (o .letters)
 unfolding cornerAt
-tally-rotation f s w k c =
-    let p = walk s (take k w) in
-    let around : walk p (drop k w) ≡ s = sym (walk-append s (take k w) (drop k w)) ∙ ap (walk s) (take-append-drop k w) ∙ c in
+tally-rotation f o k c =
+    let p = walk (o .start) (take k (o .letters)) in
+    let around : walk p (drop k (o .letters)) ≡ o .start = sym (walk-append (o .start) (take k (o .letters)) (drop k (o .letters))) ∙ ap (walk (o .start)) (take-append-drop k (o .letters)) ∙ c in
     omega (
       arith,
-      tally-append f p (drop k w) (take k w),
-      ap (λ (q : Point). tally f q (take k w)) around,
-      tally-append f s (take k w) (drop k w),
-      ap (tally f s) (take-append-drop k w),
+      tally-append f p (drop k (o .letters)) (take k (o .letters)),
+      ap (λ (q : Point). tally f q (take k (o .letters))) around,
+      tally-append f (o .start) (take k (o .letters)) (drop k (o .letters)),
+      ap (tally f (o .start)) (take-append-drop k (o .letters)),
     )
 
-module _ (s : Point) (w : List ℕ) (k : ℕ) (e : walk s w ≡ s) (c r : ℕ) where
-  pub ups-rotation : ups (cornerAt s w k) (drop k w ++ take k w) c r ≡ ups s w c r
+module _ (o : Outline) (k : ℕ) (e : Closed o) (c r : ℕ) where
+  pub ups-rotation : ups (cornerAt o k) (drop k (o .letters) ++ take k (o .letters)) c r ≡ ups (o .start) (o .letters) c r
   unfolding upsTo
-  ups-rotation = ups-to (cornerAt s w k) (rotation k w) c r ∙ tally-rotation (rises (suc c) (suc r)) s w k e ∙ sym (ups-to s w c r)
+  ups-rotation = ups-to (cornerAt o k) (rotated k o .letters) c r ∙ tally-rotation (rises (suc c) (suc r)) o k e ∙ sym (ups-to (o .start) (o .letters) c r)
 
-  pub downs-rotation : downs (cornerAt s w k) (drop k w ++ take k w) c r ≡ downs s w c r
+  pub downs-rotation : downs (cornerAt o k) (drop k (o .letters) ++ take k (o .letters)) c r ≡ downs (o .start) (o .letters) c r
   unfolding downsTo
-  downs-rotation = downs-to (cornerAt s w k) (rotation k w) c r ∙ tally-rotation (falls (suc c) (suc r)) s w k e ∙ sym (downs-to s w c r)
+  downs-rotation = downs-to (cornerAt o k) (rotated k o .letters) c r ∙ tally-rotation (falls (suc c) (suc r)) o k e ∙ sym (downs-to (o .start) (o .letters) c r)
 
-  pub encloses-rotation : encloses (cornerAt s w k) (drop k w ++ take k w) c r ≡ encloses s w c r
+  pub encloses-rotation : encloses (rotated k o) c r ≡ encloses o c r
   unfolding encloses
   encloses-rotation = rw (ups-rotation, downs-rotation)

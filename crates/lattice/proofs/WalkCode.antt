@@ -2,8 +2,6 @@
 use Prim.Native.Nat.{ℕ, zero, suc, _+_, _-_, _<_, _≤_}
 use mathlib.Core.Path.{_≡_, refl, sym}
 use mathlib.Core.Bool.{Bool, true, false, cond, _&&_, _||_, or-false, and-eq-true-iff}
-use mathlib.Core.List.{List}
-use lib.ListN.{length, getD}
 use lib.Dec.{eqb, leb, ltb}
 use native.Mathlib.Nat.{add-zero, sub-zero}
 use native.Mathlib.Numerals.{add-one}
@@ -11,7 +9,8 @@ use native.Mathlib.Omega.{arith}
 use borrow.Author.Tests.{ltb-true, ltb-false, leb-false, lt-leb, eqb-true, eqb-false, ne-eqb}
 use Rattle.chart.specs.Limits.{side}
 use Rattle.chart.specs.declared.Point.{Point}
-use Rattle.lattice.specs.Chart.{step, leaves, stepped, cornerAt}
+use Rattle.chart.specs.Outline.{Outline}
+use Rattle.lattice.specs.Chart.{step, leaves, stepped, cornerAt, size, letterAt}
 use Rattle.lattice.specs.Refusals.{badStart, leavingPlace, Stays}
 use Rattle.lattice.proofs.WalkLaws.{or-left, or-right, first-absent, OnChart, step-on-chart, corner-zero, corner-suc}
 
@@ -38,7 +37,7 @@ inside-stays p a e =
     let cols = and-eq-true-iff (ltb 0 (p .col)) (ltb (p .col) side) .0 (low .0) in
     go a (ltb-true _ _ (cols .0)) (ltb-true _ _ (cols .1)) (ltb-true _ _ (low .1)) (ltb-true _ _ (rows .1))
   where
-    go : (a : ℕ) → 0 < p .col → p .col < 255 → 0 < p .row → p .row < 255 → leaves p a ≡ false
+    go : (a : ℕ) → 0 < p .col → p .col < side → 0 < p .row → p .row < side → leaves p a ≡ false
     go zero l r d u = lt-leb side (p .col) r
     go (suc zero) l r d u = lt-leb side (p .row) u
     go (suc (suc zero)) l r d u = ne-eqb (p .col) 0 (λ e. omega arith)
@@ -57,7 +56,7 @@ step-tests p (suc (suc (suc (suc a)))) =
     rw (high a 0 (omega arith), high a 1 (omega arith), high a 2 (omega arith), high a 3 (omega arith)) (simp (add-zero, sub-zero))
 
 -- One more at a letter that leaves room for it, or nothing more, fits
-pub one-more : {x : ℕ} (a k : ℕ) → x < 65536 → (a ≡ k → x < 255) → x + cond (eqb a k) 1 0 < 65536
+pub one-more : {x : ℕ} (a k : ℕ) → x < 65536 → (a ≡ k → x < side) → x + cond (eqb a k) 1 0 < 65536
 one-more {x = x} a k h room = go (eqb a k) refl
   where
     go : (b : Bool) → eqb a k ≡ b → x + cond b 1 0 < 65536
@@ -82,11 +81,11 @@ unfolding stepped
 stepped-staying p a e = rw e
 
 -- What a letter that stays on the chart says of the number that it changes
-pub stays-right : (p : Point) (a : ℕ) → leaves p a ≡ false → a ≡ 0 → p .col < 255
+pub stays-right : (p : Point) (a : ℕ) → leaves p a ≡ false → a ≡ 0 → p .col < side
 unfolding leaves
 stays-right p a e h = leb-false side (p .col) (rw h at e)
 
-pub stays-up : (p : Point) (a : ℕ) → leaves p a ≡ false → a ≡ 1 → p .row < 255
+pub stays-up : (p : Point) (a : ℕ) → leaves p a ≡ false → a ≡ 1 → p .row < side
 unfolding leaves
 stays-up p a e h = leb-false side (p .row) (rw h at e)
 
@@ -115,22 +114,22 @@ stepped-on-chart p a h = go (leaves p a) refl
     go true e = rw (stepped-leaving p a e) h
     go false e = rw (stepped-staying p a e) (step-on-chart p a e h)
 
-module _ (s : Point) (w : List ℕ) where
-  pub stays-at : Stays s w → (i : ℕ) → i < length w → leaves (cornerAt s w i) (getD w i 0) ≡ false
+module _ (o : Outline) where
+  pub stays-at : Stays o → (i : ℕ) → i < size o → leaves (cornerAt o i) (letterAt o i) ≡ false
   unfolding leavingPlace
-  stays-at t = first-absent (λ i. leaves (cornerAt s w i) (getD w i 0)) (length w) t
+  stays-at t = first-absent (λ i. leaves (cornerAt o i) (letterAt o i)) (size o) t
 
-  pub corner-next : (i : ℕ) (p q : Point) → i < length w → p ≡ cornerAt s w i → leaves (cornerAt s w i) (getD w i 0) ≡ false → q ≡ stepped p (getD w i 0) → q ≡ cornerAt s w (i + 1)
-  corner-next i p q l e h d = cc (stepped-staying (cornerAt s w i) (getD w i 0) h, corner-suc s w i l, add-one i)
+  pub corner-next : (i : ℕ) (p q : Point) → i < size o → p ≡ cornerAt o i → leaves (cornerAt o i) (letterAt o i) ≡ false → q ≡ stepped p (letterAt o i) → q ≡ cornerAt o (i + 1)
+  corner-next i p q l e h d = cc (stepped-staying (cornerAt o i) (letterAt o i) h, corner-suc o i l, add-one i)
 
   -- p is the corner at place i, where no letter leaves the chart
   pub record Walking (i : ℕ) (p : Point) : Type 0 where
-    pub le : i ≤ length w
-    pub corner : Stays s w → p ≡ cornerAt s w i
+    pub le : i ≤ size o
+    pub corner : Stays o → p ≡ cornerAt o i
 
-  pub walking-zero : Walking 0 s
-  walking-zero = record { le = omega arith; corner = λ t. sym (corner-zero s w) }
+  pub walking-zero : Walking 0 (o .start)
+  walking-zero = record { le = omega arith; corner = λ t. sym (corner-zero o) }
 
-  pub walking-more : (i : ℕ) (p q : Point) → Walking i p → i < length w → q ≡ stepped p (getD w i 0) → Walking (i + 1) q
+  pub walking-more : (i : ℕ) (p q : Point) → Walking i p → i < size o → q ≡ stepped p (letterAt o i) → Walking (i + 1) q
   walking-more i p q t l d =
       record { le = omega arith; corner = λ h. corner-next i p q l (t .corner h) (stays-at h i l) d }

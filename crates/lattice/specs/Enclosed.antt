@@ -1,9 +1,10 @@
--- The cells that an outline encloses (document 01, "Enclosed").
+-- The cells that an outline encloses (contract 2.1).
 use Prim.Native.Nat.{ℕ, suc, _+_}
 use mathlib.Core.Bool.{Bool, true, false, _&&_}
 use mathlib.Core.List.{List, [], _∷_}
 use lib.Dec.{leb, eqb}
 use Rattle.chart.specs.declared.Point.{Point}
+use Rattle.chart.specs.Outline.{Outline}
 use Rattle.lattice.specs.Chart.{step}
 
 unfoldable pub count : Bool → ℕ
@@ -17,7 +18,7 @@ upAlong p a r = eqb a 1 && eqb (p .row) r
 unfoldable pub downAlong : Point → ℕ → ℕ → Bool
 downAlong p a r = eqb a 3 && eqb (p .row) (suc r)
 
--- "among the letters that run along the height of row r at corner columns up to c": how many are ups, and how many downs
+-- Of the letters that run along the height of row r in corner columns up to c, how many are ups, and how many downs
 unfoldable pub ups : Point → List ℕ → ℕ → ℕ → ℕ
 ups p [] c r = 0
 ups p (a ∷ w) c r = count (upAlong p a r && leb (p .col) c) + ups (step p a) w c r
@@ -26,6 +27,6 @@ unfoldable pub downs : Point → List ℕ → ℕ → ℕ → ℕ
 downs p [] c r = 0
 downs p (a ∷ w) c r = count (downAlong p a r && leb (p .col) c) + downs (step p a) w c r
 
--- "Cell (c, r) is enclosed if .. ups minus downs is 1."
-unfoldable pub encloses : Point → List ℕ → ℕ → ℕ → Bool
-encloses s w c r = eqb (ups s w c r) (downs s w c r + 1)
+-- The cell (c, r) is enclosed if the ups are one more than the downs
+unfoldable pub encloses : Outline → ℕ → ℕ → Bool
+encloses o c r = eqb (ups (o .start) (o .letters) c r) (downs (o .start) (o .letters) c r + 1)

@@ -68,10 +68,10 @@ module _ (o : Outline) (j : Judged) (e : j ≡ judgedOf o) where
     taken : verdictOf o ≡ Taken n a
     taken = sym said ∙ h
 
-    edges-size : length (edges (reading o .start) (reading o .letters)) ≡ 2 * n
-    edges-size = edges-length (reading o .start) (reading o .letters) ∙ ap (λ (k : ℕ). 2 * k) (sym (taken-facts o n a taken .count))
+    edges-size : length (edges (reading o)) ≡ 2 * n
+    edges-size = edges-length (reading o) ∙ ap (λ (k : ℕ). 2 * k) (sym (taken-facts o n a taken .count))
 
-    first-numbers : take (2 * n) (j .numbers) ≡ edges (reading o .start) (reading o .letters)
+    first-numbers : take (2 * n) (j .numbers) ≡ edges (reading o)
     unfolding lentAfter
     first-numbers =
         ap (λ (x : Judged). take (2 * n) (x .numbers)) e ∙ ap (take (2 * n)) (judged-numbers o) ∙ rw taken (take-at _ _ (2 * n) edges-size)

@@ -7,6 +7,7 @@ ghost use mathlib.Core.Path.{_≡_};
 ghost use mathlib.Core.List.{_++_};
 ghost use lib.ListN.{length, take, drop};
 ghost use Rattle.chart.specs.Limits.{longestList};
+ghost use Rattle.chart.specs.Outline.{outline};
 ghost use Rattle.chart.specs.Fields.{verdictFields};
 ghost use Rattle.verdict.specs.Verdict.{testOf, testFields, edgesAfter};
 ghost use Rattle.verdict.specs.Named.{CellNamed};
@@ -43,10 +44,10 @@ fn lend(anchor: Point, list: &[i16], count: u16, edges: &mut [i16]) -> Verdict
 
 // Tests an outline. The lent list has the edges first where it is taken, and is left as it was where it is refused.
 pub fn test(start: Point, letters: &[u8], edges: &mut [i16]) -> Verdict
-    ensures verdict { λ r. ⌜ r ≡ testOf (record { start = start; letters = now (letters .entry) }) (length (now (edges .entry))) ⌝ }
-    ensures reply { λ r. ⌜ verdictFields r ≡ testFields (record { start = start; letters = now (letters .entry) }) (length (now (edges .entry))) ⌝ }
-    ensures edges { λ r. ⌜ now (edges .exit) ≡ edgesAfter (record { start = start; letters = now (letters .entry) }) (now (edges .entry)) ⌝ }
-    ensures cell { λ r. ⌜ CellNamed (record { start = start; letters = now (letters .entry) }) (verdictFields r) ⌝ }
+    ensures verdict { λ r. ⌜ r ≡ testOf (outline start (now (letters .entry))) (length (now (edges .entry))) ⌝ }
+    ensures reply { λ r. ⌜ verdictFields r ≡ testFields (outline start (now (letters .entry))) (length (now (edges .entry))) ⌝ }
+    ensures edges { λ r. ⌜ now (edges .exit) ≡ edgesAfter (outline start (now (letters .entry))) (now (edges .entry)) ⌝ }
+    ensures cell { λ r. ⌜ CellNamed (outline start (now (letters .entry))) (verdictFields r) ⌝ }
 {
     let judged = border::judge(start, letters);
     let verdict = judged.verdict;

@@ -1,17 +1,13 @@
 -- Sizes and order of integers, by their signs: what fits a machine's width, and what a least or a highest number is at most.
-use Prim.Native.Nat.{ℕ, zero, suc, _+_, _-_, _*_, _^_, _≤_, _<_}
-use native.Mathlib.Nat.{mul-le-mul}
+use Prim.Native.Nat.{ℕ, zero, suc, _+_, _-_, _≤_, _<_}
 use native.Mathlib.Decide.{decLe}
 use native.Mathlib.Omega.{arith}
 use mathlib.Core.Path.{_≡_, refl, sym, ap, _∙_}
 use mathlib.Core.Bool.{Bool, true, false, cond, _||_}
 use lib.Dec.{leb, ltb}
-use lib.IntN.{ℤ, pos, negsuc, negℤ, natAbs, subℕ, _+ℤ_, _-ℤ_, _*ℤ_}
-use lib.Signed.{mag, leZ, natAbs-le}
+use lib.IntN.{ℤ, pos, negsuc, subℕ}
+use lib.Signed.{leZ}
 use borrow.Author.Tests.{ltb-true, ltb-false, leb-true, leb-false, le-leb, lt-leb}
-use mir.Syntax.{Width, w16, w64}
-use mir.Val.{SFits, hbits, toZ, ofZ}
-use mir.ValLaws.{toZ-ofZ}
 use Rattle.convexity.specs.Inside.{notNegative, leℤ, minℤ, maxℤ}
 
 -- An integer is its part above 0 less its part below 0

@@ -1,5 +1,5 @@
 -- The loose query: refusals 10 and 11, then the rule of the edges (contract 6.2).
-use Prim.Native.Nat.{ℕ, _%_}
+use Prim.Native.Nat.{_%_}
 use mathlib.Core.Bool.{Bool, false, cond, _||_}
 use mathlib.Core.List.{List}
 use lib.ListN.{length}
@@ -8,7 +8,6 @@ use lib.IntN.{ℤ}
 use Rattle.chart.specs.Limits.{side, longestList}
 use Rattle.chart.specs.declared.Point.{Point}
 use Rattle.convexity.specs.Inside.{insideEdges}
-use Rattle.chart.specs.declared.Refusal.{Refusal}
 use Rattle.chart.specs.declared.Refusal.the-variants.{List as BadList, Cell}
 use Rattle.chart.specs.declared.Position.{Position}
 use Rattle.chart.specs.declared.Position.the-variants.{Inside, Outside, Refused}

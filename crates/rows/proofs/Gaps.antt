@@ -10,28 +10,18 @@ use lib.Dec.{leb}
 use borrow.Author.Tests.{leb-true, leb-false}
 use Rattle.chart.specs.Limits.{side}
 use Rattle.chart.specs.declared.Point.{Point}
-use Rattle.lattice.specs.Hull.{After}
+use Rattle.lattice.specs.Hull.{InHull, Missing, After, LowestMissing}
+use Rattle.rows.specs.Rows.{inRows}
 use Rattle.rows.specs.Search.{climb, lowestGap}
 use Rattle.lattice.proofs.WalkLaws.{point-eq}
-use Rattle.rows.proofs.Rows.{Rows, Within, HullOf, hull-above, hull-below, hull-cols}
+use Rattle.rows.proofs.Rows.{Rows, Within, open-outside, outside-open, hull-above, hull-below, hull-cols}
 use Rattle.rows.proofs.Side.{Left, climb-bottom}
 use Rattle.rows.proofs.Mirror.{Mirrored, mirror, mirrored-back, mirrored-rows, mirrored-hull}
 
--- The cell g is in the hull, and not in the block
-pub record Gap (lo hi : ℕ → ℕ) (b t : ℕ) (g : Point) : Type 0 where
-  pub hull : HullOf lo hi b t g
-  pub outside : Within lo hi b t g → ⊥
-
--- Every other such cell is in a higher row, or further right in the same row
-pub record Lowest (lo hi : ℕ → ℕ) (b t : ℕ) (g : Point) : Type 0 where
-  pub hull : HullOf lo hi b t g
-  pub outside : Within lo hi b t g → ⊥
-  pub lowest : (y : Point) → HullOf lo hi b t y → (Within lo hi b t y → ⊥) → (y ≡ g) ⊎ After g y
-
 -- No cell of the hull below row r is right of its row, and the cell next to row r on the right is in the hull
 record RightRow (lo hi : ℕ → ℕ) (b t r : ℕ) : Type 0 where
-  clear : (y : Point) → HullOf lo hi b t y → y .row < r → y .col < hi (y .row)
-  reach : r < t → HullOf lo hi b t (record { col = hi r; row = r })
+  clear : (y : Point) → InHull (inRows lo hi b t) y → y .row < r → y .col < hi (y .row)
+  reach : r < t → InHull (inRows lo hi b t) (record { col = hi r; row = r })
 
 -- In the same row or a higher one, and in the same row no further left, is the same or after
 same-or-after : (g y : Point) → g .row ≤ y .row → (y .row ≡ g .row → g .col ≤ y .col) → (y ≡ g) ⊎ After g y
@@ -64,9 +54,9 @@ module _ (lo hi : ℕ → ℕ) (b t : ℕ) (rows : Rows lo hi b t) where
             λ y h m.
             omega (
               arith,
-              l .clear (mirror y) (mirrored-hull mirrored rows h) (hull-above h) m,
+              l .clear (mirror y) (mirrored-hull mirrored rows h) (hull-above rows h) m,
               hull-cols rows h,
-              rows .fits (y .row) (hull-above h) (hull-below h),
+              rows .fits (y .row) (hull-above rows h) (hull-below rows h),
             );
         reach =
             λ m.
@@ -81,58 +71,51 @@ module _ (lo hi : ℕ → ℕ) (b t : ℕ) (rows : Rows lo hi b t) where
 
   module _ (g : Point) (r : ℕ) (left : Left lo hi b t b g) (right : RightRow lo hi b t r) where
     -- A cell of the hull below both rows is in the block
-    below-within : (y : Point) → HullOf lo hi b t y → y .row < g .row → y .row < r → Within lo hi b t y
+    below-within : (y : Point) → InHull (inRows lo hi b t) y → y .row < g .row → y .row < r → Within lo hi b t y
     below-within y h l m =
-        record { above = hull-above h; below = hull-below h; begun = left .clear y h (hull-above h) l; before = right .clear y h m }
+        record { above = hull-above rows h; below = hull-below rows h; begun = left .clear y h (hull-above rows h) l; before = right .clear y h m }
 
     -- The lower of both, the left one in the same row
-    lower-gap : (a : Bool) → leb (g .row) r ≡ a → cond a g (record { col = hi r; row = r }) .row < t → Gap lo hi b t (cond a g (record { col = hi r; row = r }))
-    lower-gap true e l = record { hull = left .reach l (g .col) (omega arith) (left .left l); outside = λ w. omega (arith, left .left l, w .begun) }
-    lower-gap false e l = record { hull = right .reach l; outside = λ w. omega (arith, w .before) }
+    lower-gap : (a : Bool) → leb (g .row) r ≡ a → cond a g (record { col = hi r; row = r }) .row < t → Missing (inRows lo hi b t) (cond a g (record { col = hi r; row = r }))
+    lower-gap true e l =
+        record { hull = left .reach l (g .col) (omega arith) (left .left l); open-cell = outside-open g (λ w. omega (arith, left .left l, w .begun)) }
+    lower-gap false e l = record { hull = right .reach l; open-cell = outside-open _ (λ w. omega (arith, w .before)) }
 
-    lower-first : (a : Bool) → leb (g .row) r ≡ a → (y : Point) → HullOf lo hi b t y → (Within lo hi b t y → ⊥) →
+    lower-first : (a : Bool) → leb (g .row) r ≡ a → (y : Point) → Missing (inRows lo hi b t) y →
         (y ≡ cond a g (record { col = hi r; row = r })) ⊎ After (cond a g (record { col = hi r; row = r })) y
-    lower-first true e y h o =
+    lower-first true e y k =
+        let h = k .hull in
         let l : g .row ≤ r = leb-true _ _ e in
         same-or-after g y
-        (elim (decLt (y .row) (g .row)) [ yes m ↦ absurd (o (below-within y h m (omega arith))) | no m ↦ omega arith ])
-        (λ d. left .furthest (omega (arith, hull-below h)) y h d)
-    lower-first false e y h o =
+        (elim (decLt (y .row) (g .row)) [ yes m ↦ absurd (open-outside y (k .open-cell) (below-within y h m (omega arith))) | no m ↦ omega arith ])
+        (λ d. left .furthest (omega (arith, hull-below rows h)) y h d)
+    lower-first false e y k =
+        let h = k .hull in
         let l : r < g .row = leb-false _ _ e in
         same-or-after (record { col = hi r; row = r }) y
-        (elim (decLt (y .row) r) [ yes m ↦ absurd (o (below-within y h (omega arith) m)) | no m ↦ omega arith ])
+        (elim (decLt (y .row) r) [ yes m ↦ absurd (open-outside y (k .open-cell) (below-within y h (omega arith) m)) | no m ↦ omega arith ])
         (λ d.
         elim (decLt (y .col) (hi r)) [
           | yes m ↦
-              absurd (o (record { above = hull-above h; below = hull-below h; begun = left .clear y h (hull-above h) (omega arith); before = rw d m }))
+              absurd (open-outside y (k .open-cell) (record { above = hull-above rows h; below = hull-below rows h; begun = left .clear y h (hull-above rows h) (omega arith); before = rw d m }))
           | no m ↦ omega arith
         ])
 
 -- What the search finds in a row of the block is a missing cell
-pub search-sound : {lo hi : ℕ → ℕ} {b t : ℕ} → Rows lo hi b t → lowestGap lo hi b t .row < t → Gap lo hi b t (lowestGap lo hi b t)
+pub search-sound : {lo hi : ℕ → ℕ} {b t : ℕ} → Rows lo hi b t → lowestGap lo hi b t .row < t → Missing (inRows lo hi b t) (lowestGap lo hi b t)
 unfolding lowestGap
 search-sound {lo} {hi} {b} {t} rows = lower-gap lo hi b t rows _ _ (climb-bottom lo hi b t rows) (climb-right lo hi b t rows) _ refl
 
 -- Every missing cell is the one found or after it
 pub search-first :
-    {lo hi : ℕ → ℕ} {b t : ℕ} →
-    Rows lo hi b t →
-    (y : Point) →
-    HullOf lo hi b t y →
-    (Within lo hi b t y → ⊥) →
-    (y ≡ lowestGap lo hi b t) ⊎ After (lowestGap lo hi b t) y
+    {lo hi : ℕ → ℕ} {b t : ℕ} → Rows lo hi b t → (y : Point) → Missing (inRows lo hi b t) y
+    → (y ≡ lowestGap lo hi b t) ⊎ After (lowestGap lo hi b t) y
 unfolding lowestGap
 search-first {lo} {hi} {b} {t} rows = lower-first lo hi b t rows _ _ (climb-bottom lo hi b t rows) (climb-right lo hi b t rows) _ refl
 
 -- Where a cell is missing, the search finds the lowest, leftmost in its row
 pub search-lowest :
-    {lo hi : ℕ → ℕ} {b t : ℕ} →
-    Rows lo hi b t →
-    (x : Point) →
-    HullOf lo hi b t x →
-    (Within lo hi b t x → ⊥) →
-    Lowest lo hi b t (lowestGap lo hi b t)
-search-lowest rows x h o =
+    {lo hi : ℕ → ℕ} {b t : ℕ} → Rows lo hi b t → (x : Point) → Missing (inRows lo hi b t) x → LowestMissing (inRows lo hi b t) (lowestGap lo hi b t)
+search-lowest rows x m =
     let l = search-first rows in
-    let s = search-sound rows (omega (arith, same-or-after-row _ _ (l x h o), hull-below h)) in
-    record { hull = s .hull; outside = s .outside; lowest = l }
+    record { missing = search-sound rows (omega (arith, same-or-after-row _ _ (l x m), hull-below rows (m .hull))); lowest = l }

@@ -4,9 +4,10 @@ use mathlib.Core.Path.{_≡_}
 use native.Mathlib.Omega.{arith}
 use Rattle.chart.specs.Limits.{side}
 use Rattle.chart.specs.declared.Point.{Point}
-use Rattle.lattice.specs.Hull.{InTriangle}
+use Rattle.lattice.specs.Hull.{InTriangle, InHull}
+use Rattle.rows.specs.Rows.{inRows}
 use Rattle.base.proofs.Mean.{mean-mirror}
-use Rattle.rows.proofs.Rows.{Rows, Within, HullOf, within-cols, hull-cols}
+use Rattle.rows.proofs.Rows.{Rows, Within, within-marked, marked-within, within-cols, hull-cols}
 
 abbrev pub mirror : Point → Point
 mirror x = record { col = side - suc (x .col); row = x .row }
@@ -47,15 +48,18 @@ triangle-mirror {x} {p} {q} {u} i j k l h =
     }
 
 pub mirrored-hull :
-    {lo hi lo′ hi′ : ℕ → ℕ} {b t : ℕ} {x : Point} → Mirrored lo hi lo′ hi′ b t → Rows lo hi b t → HullOf lo hi b t x → HullOf lo′ hi′ b t (mirror x)
-mirrored-hull m k h =
+    {lo hi lo′ hi′ : ℕ → ℕ} {b t : ℕ} {x : Point} → Mirrored lo hi lo′ hi′ b t → Rows lo hi b t → InHull (inRows lo hi b t) x
+    → InHull (inRows lo′ hi′ b t) (mirror x)
+mirrored-hull {lo} {hi} {b = b} {t = t} m k h =
+    let p : Within lo hi b t (h .p) = marked-within (h .p) (h .p-marked) in
+    let q : Within lo hi b t (h .q) = marked-within (h .q) (h .q-marked) in
+    let u : Within lo hi b t (h .t) = marked-within (h .t) (h .t-marked) in
     record {
       p = mirror (h .p);
       q = mirror (h .q);
-      u = mirror (h .u);
-      p-within = mirrored-within m (h .p-within);
-      q-within = mirrored-within m (h .q-within);
-      u-within = mirrored-within m (h .u-within);
-      triangle =
-          triangle-mirror (hull-cols k h) (within-cols k (h .p-within)) (within-cols k (h .q-within)) (within-cols k (h .u-within)) (h .triangle);
+      t = mirror (h .t);
+      p-marked = within-marked (mirror (h .p)) (mirrored-within m p);
+      q-marked = within-marked (mirror (h .q)) (mirrored-within m q);
+      t-marked = within-marked (mirror (h .t)) (mirrored-within m u);
+      triangle = triangle-mirror (hull-cols k h) (within-cols k p) (within-cols k q) (within-cols k u) (h .triangle);
     }

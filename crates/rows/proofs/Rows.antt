@@ -1,10 +1,15 @@
--- A block of cells given by its rows: rows b to t - 1, row r from column lo r up to but not including column hi r. Its hull is all the triangles of
--- its cells, so what holds of a triangle if it holds of the corners holds of the hull if it holds of the cells.
+-- A block of cells given by its rows. Its hull is all the triangles of its cells, so what holds of a triangle if it holds of the corners holds of the hull
+-- if it holds of the cells.
 use Prim.Native.Nat.{ℕ, pred, _≤_, _<_}
+use mathlib.Core.Path.{_≡_, refl, sym, _∙_}
+use mathlib.Core.Bool.{Bool, true, false, _&&_, and-eq-true-iff, true≢false}
 use native.Mathlib.Omega.{arith}
+use lib.Dec.{leb, ltb}
+use borrow.Author.Tests.{le-leb, lt-ltb, leb-true, ltb-true}
 use Rattle.chart.specs.Limits.{side}
 use Rattle.chart.specs.declared.Point.{Point}
-use Rattle.lattice.specs.Hull.{InTriangle}
+use Rattle.lattice.specs.Hull.{InHull}
+use Rattle.rows.specs.Rows.{inRows}
 use Rattle.rows.proofs.Line.{Right, right-beyond, right-mean, triangle-above, triangle-below, triangle-cols}
 
 pub record Rows (lo hi : ℕ → ℕ) (b t : ℕ) : Type 0 where
@@ -19,51 +24,76 @@ pub record Within (lo hi : ℕ → ℕ) (b t : ℕ) (x : Point) : Type 0 where
   pub begun : lo (x .row) ≤ x .col
   pub before : x .col < hi (x .row)
 
--- The cell x is in the hull of the block
-pub record HullOf (lo hi : ℕ → ℕ) (b t : ℕ) (x : Point) : Type 0 where
-  pub p : Point
-  pub q : Point
-  pub u : Point
-  pub p-within : Within lo hi b t p
-  pub q-within : Within lo hi b t q
-  pub u-within : Within lo hi b t u
-  pub triangle : InTriangle x p q u
+module _ {lo hi : ℕ → ℕ} {b t : ℕ} (x : Point) where
+  pub within-marked : Within lo hi b t x → inRows lo hi b t (x .col) (x .row) ≡ true
+  unfolding inRows
+  within-marked h =
+      let c = x .col in
+      let r = x .row in
+      rw (le-leb b r (h .above), lt-ltb r t (h .below), le-leb (lo r) c (h .begun), lt-ltb c (hi r) (h .before))
+
+  pub marked-within : inRows lo hi b t (x .col) (x .row) ≡ true → Within lo hi b t x
+  unfolding inRows
+  marked-within e =
+      let c = x .col in
+      let r = x .row in
+      let both = and-eq-true-iff (leb b r && ltb r t) (leb (lo r) c && ltb c (hi r)) .0 e in
+      let rows = and-eq-true-iff (leb b r) (ltb r t) .0 (both .0) in
+      let cols = and-eq-true-iff (leb (lo r) c) (ltb c (hi r)) .0 (both .1) in
+      record {
+        above = leb-true b r (rows .0);
+        below = ltb-true r t (rows .1);
+        begun = leb-true (lo r) c (cols .0);
+        before = ltb-true c (hi r) (cols .1);
+      }
+
+  pub open-outside : inRows lo hi b t (x .col) (x .row) ≡ false → Within lo hi b t x → ⊥
+  open-outside e h = true≢false (sym (within-marked h) ∙ e)
+
+  pub outside-open : (Within lo hi b t x → ⊥) → inRows lo hi b t (x .col) (x .row) ≡ false
+  outside-open h = go (inRows lo hi b t (x .col) (x .row)) refl
+    where
+      go : (a : Bool) → inRows lo hi b t (x .col) (x .row) ≡ a → inRows lo hi b t (x .col) (x .row) ≡ false
+      go true e = absurd (h (marked-within e))
+      go false e = e
 
 -- The first cell of a row
 abbrev pub begin : (ℕ → ℕ) → ℕ → Point
 begin lo r = record { col = lo r; row = r }
 
-pub begin-within : {lo hi : ℕ → ℕ} {b t : ℕ} → Rows lo hi b t → (r : ℕ) → b ≤ r → r < t → Within lo hi b t (begin lo r)
-begin-within k r h l = record { above = h; below = l; begun = omega arith; before = k .full r h l }
-
-pub hull-above : {lo hi : ℕ → ℕ} {b t : ℕ} {x : Point} → HullOf lo hi b t x → b ≤ x .row
-hull-above {b = b} h = triangle-above b (h .triangle) (h .p-within .above) (h .q-within .above) (h .u-within .above)
-
-pub hull-below : {lo hi : ℕ → ℕ} {b t : ℕ} {x : Point} → HullOf lo hi b t x → x .row < t
-hull-below {t = t} h =
-    let l = triangle-below (pred t) (h .triangle) (omega arith) (omega arith) (omega arith) in
-    omega arith
+pub begin-marked : {lo hi : ℕ → ℕ} {b t : ℕ} → Rows lo hi b t → (r : ℕ) → b ≤ r → r < t → inRows lo hi b t (lo r) r ≡ true
+begin-marked {lo} k r h l = within-marked (begin lo r) (record { above = h; below = l; begun = omega arith; before = k .full r h l })
 
 pub within-cols : {lo hi : ℕ → ℕ} {b t : ℕ} {x : Point} → Rows lo hi b t → Within lo hi b t x → x .col < side
 within-cols {x = x} k h = omega (arith, k .fits (x .row) (h .above) (h .below))
 
-pub hull-cols : {lo hi : ℕ → ℕ} {b t : ℕ} {x : Point} → Rows lo hi b t → HullOf lo hi b t x → x .col < side
-hull-cols k h =
-    let p = within-cols k (h .p-within) in
-    let q = within-cols k (h .q-within) in
-    let u = within-cols k (h .u-within) in
-    let l = triangle-cols (pred side) (h .triangle) (omega arith) (omega arith) (omega arith) in
-    omega arith
+module _ {lo hi : ℕ → ℕ} {b t : ℕ} {x : Point} (k : Rows lo hi b t) (h : InHull (inRows lo hi b t) x) where
+  first : Within lo hi b t (h .p)
+  first = marked-within (h .p) (h .p-marked)
 
--- A line that every row begins right of has the whole hull right of it
-pub hull-right :
-    {lo hi : ℕ → ℕ} {b t : ℕ} {p q x : Point} →
-    p .row ≤ q .row →
-    ((r : ℕ) → b ≤ r → r < t → Right p q (begin lo r)) →
-    HullOf lo hi b t x →
-    Right p q x
-hull-right {lo} {hi} {b} {t} {p} {q} l k h =
-    right-mean (h .triangle) (cell (h .p) (h .p-within)) (cell (h .q) (h .q-within)) (cell (h .u) (h .u-within))
-  where
-    cell : (y : Point) → Within lo hi b t y → Right p q y
-    cell y w = right-beyond (lo (y .row)) l (w .begun) (k (y .row) (w .above) (w .below))
+  second : Within lo hi b t (h .q)
+  second = marked-within (h .q) (h .q-marked)
+
+  third : Within lo hi b t (h .t)
+  third = marked-within (h .t) (h .t-marked)
+
+  pub hull-above : b ≤ x .row
+  hull-above = triangle-above b (h .triangle) (first .above) (second .above) (third .above)
+
+  pub hull-below : x .row < t
+  hull-below =
+      let l = triangle-below (pred t) (h .triangle) (omega (arith, first .below)) (omega (arith, second .below)) (omega (arith, third .below)) in
+      omega (arith, k .below)
+
+  pub hull-cols : x .col < side
+  hull-cols =
+      let l =
+      triangle-cols (pred side) (h .triangle) (omega (arith, within-cols k first)) (omega (arith, within-cols k second)) (omega (arith, within-cols k third)) in
+      omega arith
+
+  -- A line that every row begins right of has the whole hull right of it
+  pub hull-right : {p q : Point} → p .row ≤ q .row → ((r : ℕ) → b ≤ r → r < t → Right p q (begin lo r)) → Right p q x
+  hull-right {p} {q} l f = right-mean (h .triangle) (cell (h .p) first) (cell (h .q) second) (cell (h .t) third)
+    where
+      cell : (y : Point) → Within lo hi b t y → Right p q y
+      cell y w = right-beyond (lo (y .row)) l (w .begun) (f (y .row) (w .above) (w .below))

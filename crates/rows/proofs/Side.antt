@@ -12,9 +12,11 @@ use lib.Dec.{leb, ltb}
 use borrow.Author.Tests.{ltb-true, ltb-false, leb-true, leb-false}
 use Rattle.base.proofs.BelowLaws.{below-suc, first-le, first-found, first-before}
 use Rattle.chart.specs.declared.Point.{Point}
+use Rattle.lattice.specs.Hull.{InHull}
+use Rattle.rows.specs.Rows.{inRows}
 use Rattle.rows.specs.Search.{leans, furthest, crossing, gapRow, climb}
 use Rattle.rows.proofs.Line.{Right, right-trans, right-turn, right-start, right-end, right-cycle, right-of-start, right-of-end, right-in-triangle}
-use Rattle.rows.proofs.Rows.{Rows, HullOf, begin, begin-within, hull-right}
+use Rattle.rows.proofs.Rows.{Rows, begin, begin-marked, hull-right}
 
 -- Of rows i + 1 to k - 1, row j is one to which the line from row i leans furthest left
 record Furthest (lo : ℕ → ℕ) (i j k : ℕ) : Type 0 where
@@ -143,30 +145,30 @@ gapRow-gap lo i j l =
 -- What the climb from row i finds: the first cell, in the hull and left of its row, of the first row that has any; and a cell of row t where no
 -- row has
 pub record Left (lo hi : ℕ → ℕ) (b t i : ℕ) (g : Point) : Type 0 where
-  pub clear : (y : Point) → HullOf lo hi b t y → i ≤ y .row → y .row < g .row → lo (y .row) ≤ y .col
+  pub clear : (y : Point) → InHull (inRows lo hi b t) y → i ≤ y .row → y .row < g .row → lo (y .row) ≤ y .col
   pub left : g .row < t → g .col < lo (g .row)
-  pub reach : g .row < t → (c : ℕ) → g .col ≤ c → c < lo (g .row) → HullOf lo hi b t (record { col = c; row = g .row })
-  pub furthest : g .row < t → (y : Point) → HullOf lo hi b t y → y .row ≡ g .row → g .col ≤ y .col
+  pub reach : g .row < t → (c : ℕ) → g .col ≤ c → c < lo (g .row) → InHull (inRows lo hi b t) (record { col = c; row = g .row })
+  pub furthest : g .row < t → (y : Point) → InHull (inRows lo hi b t) y → y .row ≡ g .row → g .col ≤ y .col
 
 module _ (lo hi : ℕ → ℕ) (b t : ℕ) (rows : Rows lo hi b t) where
   -- No cell of the hull is left of row i
   abbrev Clear : ℕ → Type 0
-  Clear i = (y : Point) → HullOf lo hi b t y → y .row ≡ i → lo i ≤ y .col
+  Clear i = (y : Point) → InHull (inRows lo hi b t) y → y .row ≡ i → lo i ≤ y .col
 
   -- No cell of the hull is before the crossing in its row
-  edge-crossing : (i j : ℕ) → i < j → Edge lo b t i j → (y : Point) → HullOf lo hi b t y → i ≤ y .row → y .row ≤ j → crossing lo i j (y .row) ≤ y .col
-  edge-crossing i j l e y h m n = crossing-le lo i j (y .row) (y .col) l m n .1 (hull-right (omega arith) e h)
+  edge-crossing : (i j : ℕ) → i < j → Edge lo b t i j → (y : Point) → InHull (inRows lo hi b t) y → i ≤ y .row → y .row ≤ j → crossing lo i j (y .row) ≤ y .col
+  edge-crossing i j l e y h m n = crossing-le lo i j (y .row) (y .col) l m n .1 (hull-right rows h (omega arith) e)
 
   -- What is from the crossing on, and left of its row, is in the hull
-  crossing-reach : (i j r : ℕ) → i < r → r < j → b ≤ i → j < t → (c : ℕ) → crossing lo i j r ≤ c → c < lo r → HullOf lo hi b t (record { col = c; row = r })
+  crossing-reach : (i j r : ℕ) → i < r → r < j → b ≤ i → j < t → (c : ℕ) → crossing lo i j r ≤ c → c < lo r → InHull (inRows lo hi b t) (record { col = c; row = r })
   crossing-reach i j r l m h k c n o =
       record {
         p = begin lo i;
         q = begin lo j;
-        u = begin lo r;
-        p-within = begin-within rows i (omega arith) (omega arith);
-        q-within = begin-within rows j (omega arith) (omega arith);
-        u-within = begin-within rows r (omega arith) (omega arith);
+        t = begin lo r;
+        p-marked = begin-marked rows i (omega arith) (omega arith);
+        q-marked = begin-marked rows j (omega arith) (omega arith);
+        t-marked = begin-marked rows r (omega arith) (omega arith);
         triangle = right-in-triangle (omega arith) (omega arith) (omega arith) refl o (crossing-le lo i j r c (omega arith) (omega arith) (omega arith) .0 n);
       }
 
@@ -179,11 +181,11 @@ module _ (lo hi : ℕ → ℕ) (b t : ℕ) (rows : Rows lo hi b t) where
       elim (decLt (suc b) t) [
         | yes l ↦
             let f = furthest-furthest lo b t l in
-            right-of-start (f .above) e (hull-right (omega arith) (furthest-edge lo b t b _ bottom-corner f) h)
+            right-of-start (f .above) e (hull-right rows h (omega arith) (furthest-edge lo b t b _ bottom-corner f))
         | no l ↦
             let right : (r : ℕ) → b ≤ r → r < t → Right (begin lo b) (record { col = lo b; row = suc b }) (begin lo r)
             = λ r m n. let d : r ≡ b = omega arith in rw d right-start in
-            right-of-start {q = record { col = lo b; row = suc b }} (omega arith) e (hull-right (omega arith) right h)
+            right-of-start {q = record { col = lo b; row = suc b }} (omega arith) e (hull-right rows h (omega arith) right)
       ]
 
   -- The climb passes the edge from row i to row j, or stops at row r of it
@@ -192,7 +194,7 @@ module _ (lo hi : ℕ → ℕ) (b t : ℕ) (rows : Rows lo hi b t) where
       Left lo hi b t i (cond (ltb r j) (record { col = crossing lo i j r; row = r }) g)
   climb-edge i j r g h l e p c rest = go (ltb r j) refl
     where
-      clear : (y : Point) → HullOf lo hi b t y → i ≤ y .row → y .row < r → lo (y .row) ≤ y .col
+      clear : (y : Point) → InHull (inRows lo hi b t) y → i ≤ y .row → y .row < r → lo (y .row) ≤ y .col
       clear y k m n =
           elim (decLt i (y .row)) [
             | yes o ↦ le-trans (p .before (y .row) o n) (edge-crossing i j (omega arith) e y k m (omega arith))
@@ -210,7 +212,7 @@ module _ (lo hi : ℕ → ℕ) (b t : ℕ) (rows : Rows lo hi b t) where
           }
       go false d =
           let m : r ≡ j = omega (arith, ltb-false r j d) in
-          let n = rest (edge-corner lo b t i j (omega arith) e) (λ y k f. right-of-end {p = begin lo i} {q = begin lo j} (omega arith) f (hull-right (omega arith) e k)) in
+          let n = rest (edge-corner lo b t i j (omega arith) e) (λ y k f. right-of-end {p = begin lo i} {q = begin lo j} (omega arith) f (hull-right rows k (omega arith) e)) in
           record {
             clear =
                 λ y k o q. elim (decLt (y .row) j) [ yes s ↦ clear y k o (omega arith) | no s ↦ n .clear y k (omega arith) q ];

@@ -1,14 +1,18 @@
--- A list of numbers as a function of the row, and what the code keeps of the ends of the rows.
+-- A block of cells given by its rows; a list of numbers as a function of the row, and what the code keeps of the ends of the rows.
 use Prim.Native.Nat.{ℕ, _<_}
 use mathlib.Core.Path.{_≡_}
 use mathlib.Core.Bool.{Bool, cond, _&&_}
 use mathlib.Core.List.{List}
 use lib.ListN.{length, getD}
-use lib.Dec.{leb}
+use lib.Dec.{leb, ltb}
 use Rattle.chart.specs.Limits.{side}
-use Rattle.chart.specs.declared.Point.{Point}
+use Rattle.chart.specs.Outline.{Outline}
 use Rattle.lattice.specs.Enclosed.{upAlong, downAlong}
 use Rattle.rows.specs.Search.{keptColumn}
+
+-- The block of rows b to t - 1, row r from column lo r up to but not including column hi r, as a marking (specs/Hull.antt)
+unfoldable pub inRows : (ℕ → ℕ) → (ℕ → ℕ) → ℕ → ℕ → ℕ → ℕ → Bool
+inRows lo hi b t c r = (leb b r && ltb r t) && (leb (lo r) c && ltb c (hi r))
 
 -- The number at row r, and 0 past the last row
 abbrev pub rows : List ℕ → ℕ → ℕ
@@ -20,6 +24,6 @@ pub record Marked (test : ℕ → Bool) (c : ℕ) (l m : List ℕ) : Type 0 wher
   pub marked : (r : ℕ) → r < 256 → rows m r ≡ cond (test r && leb c side) c (rows l r)
 
 -- What lo and hi say of the rows: the columns of the last up and of the last down along each
-pub record RowEnds (s : Point) (w lo hi : List ℕ) : Type 0 where
-  pub lo-up : (r : ℕ) → r < 256 → rows lo r ≡ keptColumn upAlong s w r 0
-  pub hi-down : (r : ℕ) → r < 256 → rows hi r ≡ keptColumn downAlong s w r 0
+pub record RowEnds (o : Outline) (lo hi : List ℕ) : Type 0 where
+  pub lo-up : (r : ℕ) → r < 256 → rows lo r ≡ keptColumn upAlong (o .start) (o .letters) r 0
+  pub hi-down : (r : ℕ) → r < 256 → rows hi r ≡ keptColumn downAlong (o .start) (o .letters) r 0

@@ -7,6 +7,7 @@ use lib.Dec.{leb, ltb}
 use Rattle.base.specs.Below.{first}
 use Rattle.chart.specs.Limits.{side}
 use Rattle.chart.specs.declared.Point.{Point}
+use Rattle.chart.specs.Outline.{Outline}
 use Rattle.lattice.specs.Chart.{step, stepped}
 use Rattle.lattice.specs.Enclosed.{upAlong, downAlong}
 
@@ -55,8 +56,8 @@ lowestGap lo hi b t =
     cond (leb (left .row) right) left (record { col = hi right; row = right })
 
 -- The lowest missing cell, leftmost in its row, of an outline between the corner rows b and t
-unfoldable pub missingCell : Point → List ℕ → ℕ → ℕ → Point
-missingCell s w b t = lowestGap (λ r. upColumn s w r 0) (λ r. downColumn s w r 0) b t
+unfoldable pub missingCell : Outline → ℕ → ℕ → Point
+missingCell o b t = lowestGap (λ r. upColumn (o .start) (o .letters) r 0) (λ r. downColumn (o .start) (o .letters) r 0) b t
 
 -- ---- for walks of any kind
 
@@ -67,5 +68,5 @@ keptColumn along p (a ∷ w) r d = keptColumn along (stepped p a) w r (cond (alo
 
 -- The same search for every start, all letters and any two rows: s itself where the rows are none of the chart's in their order. For an outline
 -- it is the lowest missing cell (proofs/RowLaws.antt: `found-missing`)
-unfoldable pub foundCell : Point → List ℕ → ℕ → ℕ → Point
-foundCell s w b t = cond (ltb side t || ltb t b) s (lowestGap (λ r. keptColumn upAlong s w r 0) (λ r. keptColumn downAlong s w r 0) b t)
+unfoldable pub foundCell : Outline → ℕ → ℕ → Point
+foundCell o b t = cond (ltb side t || ltb t b) (o .start) (lowestGap (λ r. keptColumn upAlong (o .start) (o .letters) r 0) (λ r. keptColumn downAlong (o .start) (o .letters) r 0) b t)

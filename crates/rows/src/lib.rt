@@ -6,6 +6,7 @@ ghost use Prim.Native.Nat.{ℕ, suc, _+_, _-_, _<_, _≤_};
 ghost use mathlib.Core.Path.{_≡_};
 ghost use lib.ListN.{length};
 ghost use Rattle.chart.specs.Limits.{side};
+ghost use Rattle.chart.specs.Outline.{outline};
 ghost use Rattle.rows.specs.Search.{leans as leansOf, furthest as furthestOf, crossing as crossingOf, gapRow, climb as climbOf, lowestGap, foundCell};
 ghost use Rattle.lattice.specs.Enclosed.{upAlong, downAlong};
 ghost use Rattle.rows.specs.Rows.{rows, Marked, RowEnds};
@@ -47,7 +48,7 @@ fn mark_down(hi: &mut [u16; 256], p: Point, letter: u8)
 
 // The ends of the rows of an outline, by one pass over its letters.
 fn row_ends(s: Point, w: &[u8]) -> Ends
-    ensures { λ r. ⌜ RowEnds s (now (w .entry)) (r .lo) (r .hi) ⌝ }
+    ensures { λ r. ⌜ RowEnds (outline s (now (w .entry))) (r .lo) (r .hi) ⌝ }
 {
     let mut lo = [0u16; 256];
     let mut hi = [0u16; 256];
@@ -191,7 +192,7 @@ fn lowest_gap(ends: Ends, b: usize, t: usize) -> Point
 
 // The lowest missing cell, leftmost in its row, of an outline between the corner rows `bottom` and `top`; the start where these are no rows of the chart.
 pub fn missing_cell(s: Point, w: &[u8], bottom: u16, top: u16) -> Point
-    ensures { λ r. ⌜ r ≡ foundCell s (now (w .entry)) bottom top ⌝ }
+    ensures { λ r. ⌜ r ≡ foundCell (outline s (now (w .entry))) bottom top ⌝ }
 {
     if SIDE < top {
         return s;

@@ -9,15 +9,15 @@ use native.Mathlib.Omega.{arith}
 use lib.ListN.{length, getD, set, replicate, length-set, length-replicate, getD-replicate, List·getD-eq-default}
 use lib.Seq.{getD-set-same, getD-set-other}
 use lib.Dec.{ltb, eqb}
-use borrow.Author.Tests.{ltb-false, eq-eqb, ne-eqb}
+use borrow.Author.Tests.{eq-eqb, ne-eqb}
 use Rattle.base.specs.Below.{first, some}
 use Rattle.base.proofs.BelowLaws.{first-le, first-step, first-stop}
-use Rattle.chart.specs.Limits.{side}
 use Rattle.chart.specs.declared.Point.{Point}
-use Rattle.lattice.specs.Chart.{samePoint, leaves, stepped, walk, cornerAt}
+use Rattle.chart.specs.Outline.{Outline}
+use Rattle.lattice.specs.Chart.{samePoint, leaves, stepped, walk, cornerAt, size, letterAt}
 use Rattle.lattice.specs.Refusals.{leavingPlace, Stays, unclosed, meets, touchingPlace}
-use Rattle.lattice.proofs.WalkLaws.{point-eq, same-point-self, not-same-point, corner-zero, corner-suc, corner-all, first-absent, absent-first, or-left, or-right, OnChart, step-on-chart, corners-on-chart}
-use Rattle.lattice.proofs.WalkCode.{stepped-leaving, stepped-staying, stepped-on-chart, stays-at, corner-next, Walking}
+use Rattle.lattice.proofs.WalkLaws.{point-eq, same-point-self, not-same-point, corner-zero, corner-all, first-absent, absent-first, OnChart, corners-on-chart}
+use Rattle.lattice.proofs.WalkCode.{stepped-on-chart, stays-at, corner-next, Walking}
 
 pub first-zero : (f : ℕ → Bool) → first f 0 ≡ 0
 first-zero f = omega (arith, first-le f 0)
@@ -31,46 +31,46 @@ some-of f n i l e = go (ltb (first f n) n) refl
     go true h = h
     go false h = absurd (true≢false (sym e ∙ first-absent f n h i l))
 
-module _ (s : Point) (w : List ℕ) where
+module _ (o : Outline) where
   -- Refusal 4: no letter before place i leaves the chart, and p is the corner there
   pub record Staying (i : ℕ) (p : Point) : Type 0 where
-    pub le : i ≤ length w
-    pub none : first (λ j. leaves (cornerAt s w j) (getD w j 0)) i ≡ i
-    pub corner : p ≡ cornerAt s w i
+    pub le : i ≤ size o
+    pub none : first (λ j. leaves (cornerAt o j) (letterAt o j)) i ≡ i
+    pub corner : p ≡ cornerAt o i
 
-  pub staying-zero : Staying 0 s
-  staying-zero = record { le = omega arith; none = first-zero (λ j. leaves (cornerAt s w j) (getD w j 0)); corner = sym (corner-zero s w) }
+  pub staying-zero : Staying 0 (o .start)
+  staying-zero = record { le = omega arith; none = first-zero (λ j. leaves (cornerAt o j) (letterAt o j)); corner = sym (corner-zero o) }
 
-  pub staying-more : (i : ℕ) (p q : Point) → Staying i p → i < length w → leaves p (getD w i 0) ≡ false → q ≡ stepped p (getD w i 0) → Staying (i + 1) q
+  pub staying-more : (i : ℕ) (p q : Point) → Staying i p → i < size o → leaves p (letterAt o i) ≡ false → q ≡ stepped p (letterAt o i) → Staying (i + 1) q
   staying-more i p q t l e d =
-      let h : leaves (cornerAt s w i) (getD w i 0) ≡ false = rw (t .corner) at e in
+      let h : leaves (cornerAt o i) (letterAt o i) ≡ false = rw (t .corner) at e in
       record {
         le = omega arith;
-        none = first-step (λ j. leaves (cornerAt s w j) (getD w j 0)) i (t .none) h;
-        corner = corner-next s w i p q l (t .corner) h d;
+        none = first-step (λ j. leaves (cornerAt o j) (letterAt o j)) i (t .none) h;
+        corner = corner-next o i p q l (t .corner) h d;
       }
 
-  pub staying-found : (i : ℕ) (p : Point) → Staying i p → i < length w → leaves p (getD w i 0) ≡ true → i ≡ leavingPlace s w
+  pub staying-found : (i : ℕ) (p : Point) → Staying i p → i < size o → leaves p (letterAt o i) ≡ true → i ≡ leavingPlace o
   unfolding leavingPlace
   staying-found i p t l e =
-      sym (first-stop (λ j. leaves (cornerAt s w j) (getD w j 0)) (length w) i (t .none) (rw (t .corner) at e) l)
+      sym (first-stop (λ j. leaves (cornerAt o j) (letterAt o j)) (size o) i (t .none) (rw (t .corner) at e) l)
 
-  pub staying-end : (i : ℕ) (p : Point) → Staying i p → length w ≤ i → i ≡ leavingPlace s w
+  pub staying-end : (i : ℕ) (p : Point) → Staying i p → size o ≤ i → i ≡ leavingPlace o
   unfolding leavingPlace
-  staying-end i p t l = let e : i ≡ length w = omega (arith, t .le) in sym (t .none) ∙ ap (first (λ j. leaves (cornerAt s w j) (getD w j 0))) e
+  staying-end i p t l = let e : i ≡ size o = omega (arith, t .le) in sym (t .none) ∙ ap (first (λ j. leaves (cornerAt o j) (letterAt o j))) e
 
   -- Refusal 5
-  pub walking-end : (i : ℕ) (p : Point) → Walking s w i p → length w ≤ i → Stays s w → p ≡ walk s w
-  walking-end i p t l h = let e : i ≡ length w = omega (arith, t .le) in t .corner h ∙ ap (cornerAt s w) e ∙ corner-all s w
+  pub walking-end : (i : ℕ) (p : Point) → Walking o i p → size o ≤ i → Stays o → p ≡ walk (o .start) (o .letters)
+  walking-end i p t l h = let e : i ≡ size o = omega (arith, t .le) in t .corner h ∙ ap (cornerAt o) e ∙ corner-all o
 
   -- It is away from s by its column, or else by its row
-  pub away-col : (p : Point) → p ≡ walk s w → (p .col ≡ s .col → ⊥) → not (eqb (p .col) (s .col)) ≡ unclosed s w
+  pub away-col : (p : Point) → p ≡ walk (o .start) (o .letters) → (p .col ≡ o .start .col → ⊥) → not (eqb (p .col) (o .start .col)) ≡ unclosed o
   unfolding unclosed samePoint
-  away-col p d e = rw (← d, ne-eqb (p .col) (s .col) e)
+  away-col p d e = rw (← d, ne-eqb (p .col) (o .start .col) e)
 
-  pub away-row : (p : Point) → p ≡ walk s w → p .col ≡ s .col → not (eqb (p .row) (s .row)) ≡ unclosed s w
+  pub away-row : (p : Point) → p ≡ walk (o .start) (o .letters) → p .col ≡ o .start .col → not (eqb (p .row) (o .start .row)) ≡ unclosed o
   unfolding unclosed samePoint
-  away-row p d e = rw (← d, eq-eqb (p .col) (s .col) e)
+  away-row p d e = rw (← d, eq-eqb (p .col) (o .start .col) e)
 
 -- Refusal 6. The corners of the chart are numbered row by row
 abbrev pub numberOf : Point → ℕ
@@ -89,38 +89,38 @@ zeros-zero n k =
       | no h ↦ getD-replicate n k 0 0 (omega arith)
     ]
 
-module _ (s : Point) (w : List ℕ) where
+module _ (o : Outline) where
   -- The flags that are 1 are those of the corners up to place i
   pub record Marked (i : ℕ) (met : List ℕ) : Type 0 where
-    pub here : (j : ℕ) → j ≤ i → getD met (numberOf (cornerAt s w j)) 0 ≡ 1
-    pub only : (k : ℕ) → getD met k 0 ≡ 1 → (j : ℕ) × (j ≤ i) × (numberOf (cornerAt s w j) ≡ k)
+    pub here : (j : ℕ) → j ≤ i → getD met (numberOf (cornerAt o j)) 0 ≡ 1
+    pub only : (k : ℕ) → getD met k 0 ≡ 1 → (j : ℕ) × (j ≤ i) × (numberOf (cornerAt o j) ≡ k)
 
   -- p is the corner at place i, no letter before it met a corner, and the corners so far are marked
   pub record Passed (i : ℕ) (p : Point) (met : List ℕ) : Type 0 where
-    pub corner : p ≡ cornerAt s w i
-    pub none : first (meets s w) i ≡ i
+    pub corner : p ≡ cornerAt o i
+    pub none : first (meets o) i ≡ i
     pub marked : Marked i met
 
   pub record Touching (i : ℕ) (p : Point) (met : List ℕ) : Type 0 where
-    pub le : i ≤ length w - 1
+    pub le : i ≤ size o - 1
     pub size : length met ≡ 65536
-    pub start : OnChart s
+    pub start : OnChart (o .start)
     pub chart : OnChart p
-    pub passed : Stays s w → Passed i p met
+    pub passed : Stays o → Passed i p met
 
-  mark-zero : (met : List ℕ) → ((k : ℕ) → getD met k 0 ≡ 0) → numberOf s < length met → Marked 0 (set met (numberOf s) 1)
+  mark-zero : (met : List ℕ) → ((k : ℕ) → getD met k 0 ≡ 0) → numberOf (o .start) < length met → Marked 0 (set met (numberOf (o .start)) 1)
   mark-zero met z l =
-      let e : numberOf (cornerAt s w 0) ≡ numberOf s = ap numberOf (corner-zero s w) in
+      let e : numberOf (cornerAt o 0) ≡ numberOf (o .start) = ap numberOf (corner-zero o) in
       record {
-        here = λ j h. let o : j ≡ 0 = omega arith in rw (o, e) (getD-set-same met (numberOf s) 1 0 l);
+        here = λ j h. let f : j ≡ 0 = omega arith in rw (f, e) (getD-set-same met (numberOf (o .start)) 1 0 l);
         only = λ k h.
-            elim (ℕ-discrete k (numberOf s)) [
+            elim (ℕ-discrete k (numberOf (o .start))) [
               | yes d ↦ (0, omega arith, e ∙ sym d)
-              | no d ↦ absurd (omega (arith, getD-set-other met (numberOf s) k 1 0 d, z k))
+              | no d ↦ absurd (omega (arith, getD-set-other met (numberOf (o .start)) k 1 0 d, z k))
             ];
       }
 
-  mark-more : (i : ℕ) (q : Point) (met : List ℕ) → Marked i met → q ≡ cornerAt s w (i + 1) → numberOf q < length met → Marked (i + 1) (set met (numberOf q) 1)
+  mark-more : (i : ℕ) (q : Point) (met : List ℕ) → Marked i met → q ≡ cornerAt o (i + 1) → numberOf q < length met → Marked (i + 1) (set met (numberOf q) 1)
   mark-more i q met t e l =
       record {
         here = λ j h. at-corner j h;
@@ -133,48 +133,48 @@ module _ (s : Point) (w : List ℕ) where
             ];
       }
     where
-      at-corner : (j : ℕ) → j ≤ i + 1 → getD (set met (numberOf q) 1) (numberOf (cornerAt s w j)) 0 ≡ 1
+      at-corner : (j : ℕ) → j ≤ i + 1 → getD (set met (numberOf q) 1) (numberOf (cornerAt o j)) 0 ≡ 1
       at-corner j h =
-          elim (ℕ-discrete (numberOf (cornerAt s w j)) (numberOf q)) [
+          elim (ℕ-discrete (numberOf (cornerAt o j)) (numberOf q)) [
             | yes d ↦ rw d (getD-set-same met (numberOf q) 1 0 l)
-            | no d ↦ getD-set-other met (numberOf q) (numberOf (cornerAt s w j)) 1 0 d ∙ t .here j (earlier d)
+            | no d ↦ getD-set-other met (numberOf q) (numberOf (cornerAt o j)) 1 0 d ∙ t .here j (earlier d)
           ]
         where
-          earlier : (numberOf (cornerAt s w j) ≡ numberOf q → ⊥) → j ≤ i
+          earlier : (numberOf (cornerAt o j) ≡ numberOf q → ⊥) → j ≤ i
           earlier d =
               elim (decLe j i) [
                 | yes m ↦ m
-                | no m ↦ let z : j ≡ i + 1 = omega arith in absurd (d (ap numberOf (ap (cornerAt s w) z ∙ sym e)))
+                | no m ↦ let z : j ≡ i + 1 = omega arith in absurd (d (ap numberOf (ap (cornerAt o) z ∙ sym e)))
               ]
 
-  pub touching-zero : (met : List ℕ) → length met ≡ 65536 → ((k : ℕ) → getD met k 0 ≡ 0) → OnChart s → Touching 0 s (set met (numberOf s) 1)
+  pub touching-zero : (met : List ℕ) → length met ≡ 65536 → ((k : ℕ) → getD met k 0 ≡ 0) → OnChart (o .start) → Touching 0 (o .start) (set met (numberOf (o .start)) 1)
   touching-zero met e z h =
       record {
         le = omega arith;
-        size = length-set met (numberOf s) 1 ∙ e;
+        size = length-set met (numberOf (o .start)) 1 ∙ e;
         start = h;
         chart = h;
         passed = λ t.
-            record { corner = sym (corner-zero s w); none = first-zero (meets s w); marked = mark-zero met z (omega (arith, number-below s h)) };
+            record { corner = sym (corner-zero o); none = first-zero (meets o); marked = mark-zero met z (omega (arith, number-below (o .start) h)) };
       }
 
   -- The next corner, which a letter before the last reaches
-  next : (i : ℕ) (p q : Point) (met : List ℕ) → Touching i p met → i + 1 < length w → q ≡ stepped p (getD w i 0) → Stays s w → q ≡ cornerAt s w (i + 1)
-  next i p q met t l d h = corner-next s w i p q (omega arith) (t .passed h .corner) (stays-at s w h i (omega arith)) d
+  next : (i : ℕ) (p q : Point) (met : List ℕ) → Touching i p met → i + 1 < size o → q ≡ stepped p (letterAt o i) → Stays o → q ≡ cornerAt o (i + 1)
+  next i p q met t l d h = corner-next o i p q (omega arith) (t .passed h .corner) (stays-at o h i (omega arith)) d
 
-  on-chart : (j : ℕ) → j ≤ length w → OnChart s → Stays s w → OnChart (cornerAt s w j)
-  on-chart j l c h = corners-on-chart s w c (stays-at s w h) j l
+  on-chart : (j : ℕ) → j ≤ size o → OnChart (o .start) → Stays o → OnChart (cornerAt o j)
+  on-chart j l c h = corners-on-chart o c (stays-at o h) j l
 
-  pub touching-found : (i : ℕ) (p q : Point) (met : List ℕ) → Touching i p met → i + 1 < length w → q ≡ stepped p (getD w i 0) → getD met (numberOf q) 0 ≡ 1 → Stays s w → i ≡ touchingPlace s w
+  pub touching-found : (i : ℕ) (p q : Point) (met : List ℕ) → Touching i p met → i + 1 < size o → q ≡ stepped p (letterAt o i) → getD met (numberOf q) 0 ≡ 1 → Stays o → i ≡ touchingPlace o
   unfolding touchingPlace meets
   touching-found i p q met t l d e h =
       let f = t .passed h in
       let (j, m, k) = f .marked .only (numberOf q) e in
-      let a : q ≡ cornerAt s w (i + 1) = next i p q met t l d h in
-      let b : cornerAt s w j ≡ cornerAt s w (suc i) = number-injective (cornerAt s w j) (cornerAt s w (suc i)) (on-chart j (omega arith) (t .start) h) (on-chart (suc i) (omega arith) (t .start) h) (k ∙ ap numberOf (a ∙ ap (cornerAt s w) (add-one i))) in
-      sym (first-stop (meets s w) (length w - 1) i (f .none) (some-of (λ j. samePoint (cornerAt s w j) (cornerAt s w (suc i))) (suc i) j (omega arith) (same-point-self (cornerAt s w j) (cornerAt s w (suc i)) b)) (omega arith))
+      let a : q ≡ cornerAt o (i + 1) = next i p q met t l d h in
+      let b : cornerAt o j ≡ cornerAt o (suc i) = number-injective (cornerAt o j) (cornerAt o (suc i)) (on-chart j (omega arith) (t .start) h) (on-chart (suc i) (omega arith) (t .start) h) (k ∙ ap numberOf (a ∙ ap (cornerAt o) (add-one i))) in
+      sym (first-stop (meets o) (size o - 1) i (f .none) (some-of (λ j. samePoint (cornerAt o j) (cornerAt o (suc i))) (suc i) j (omega arith) (same-point-self (cornerAt o j) (cornerAt o (suc i)) b)) (omega arith))
 
-  pub touching-more : (i : ℕ) (p q : Point) (met : List ℕ) → Touching i p met → i + 1 < length w → q ≡ stepped p (getD w i 0) → (getD met (numberOf q) 0 ≡ 1 → ⊥) → Touching (i + 1) q (set met (numberOf q) 1)
+  pub touching-more : (i : ℕ) (p q : Point) (met : List ℕ) → Touching i p met → i + 1 < size o → q ≡ stepped p (letterAt o i) → (getD met (numberOf q) 0 ≡ 1 → ⊥) → Touching (i + 1) q (set met (numberOf q) 1)
   unfolding meets some
   touching-more i p q met t l d e =
       record {
@@ -186,24 +186,24 @@ module _ (s : Point) (w : List ℕ) where
       }
     where
       c : OnChart q
-      c = rw d (stepped-on-chart p (getD w i 0) (t .chart))
+      c = rw d (stepped-on-chart p (letterAt o i) (t .chart))
 
-      new : Stays s w → meets s w i ≡ false
+      new : Stays o → meets o i ≡ false
       new h =
-          absent-first (λ j. samePoint (cornerAt s w j) (cornerAt s w (suc i))) (suc i) λ j m.
-          not-same-point (cornerAt s w j) (cornerAt s w (suc i)) λ b.
-          e (ap (λ (x : Point). getD met (numberOf x) 0) (next i p q met t l d h ∙ ap (cornerAt s w) (add-one i) ∙ sym b) ∙ t .passed h .marked .here j (omega arith))
+          absent-first (λ j. samePoint (cornerAt o j) (cornerAt o (suc i))) (suc i) λ j m.
+          not-same-point (cornerAt o j) (cornerAt o (suc i)) λ b.
+          e (ap (λ (x : Point). getD met (numberOf x) 0) (next i p q met t l d h ∙ ap (cornerAt o) (add-one i) ∙ sym b) ∙ t .passed h .marked .here j (omega arith))
 
-      further : Stays s w → Passed (i + 1) q (set met (numberOf q) 1)
+      further : Stays o → Passed (i + 1) q (set met (numberOf q) 1)
       further h =
           record {
             corner = next i p q met t l d h;
-            none = first-step (meets s w) i (t .passed h .none) (new h);
+            none = first-step (meets o) i (t .passed h .none) (new h);
             marked = mark-more i q met (t .passed h .marked) (next i p q met t l d h) (omega (arith, number-below q c, t .size));
           }
 
-  pub touching-end : (i : ℕ) (p : Point) (met : List ℕ) → Touching i p met → length w ≤ i + 1 → Stays s w → i ≡ touchingPlace s w
+  pub touching-end : (i : ℕ) (p : Point) (met : List ℕ) → Touching i p met → size o ≤ i + 1 → Stays o → i ≡ touchingPlace o
   unfolding touchingPlace
   touching-end i p met t l h =
-      let e : i ≡ length w - 1 = omega (arith, t .le) in
-      sym (t .passed h .none) ∙ ap (first (meets s w)) e
+      let e : i ≡ size o - 1 = omega (arith, t .le) in
+      sym (t .passed h .none) ∙ ap (first (meets o)) e

@@ -1,17 +1,18 @@
 -- One law for each of the refusals 1 to 6, and one for an outline that passes them: the definition is a list of tests, and the first that holds decides.
 use Prim.Native.Nat.{ℕ, _-_, _≤_, _<_}
 use native.Mathlib.Omega.{arith}
-use mathlib.Core.Path.{_≡_, refl, sym, ap, _∙_}
-use mathlib.Core.Bool.{Bool, true, false, cond, _||_}
+use mathlib.Core.Path.{_≡_, refl, ap, _∙_}
+use mathlib.Core.Bool.{Bool, true, false, _||_}
 use mathlib.Core.List.{List}
 use lib.ListN.{length}
 use lib.Dec.{ltb}
 use borrow.Author.Tests.{lt-ltb, le-ltb, ltb-false}
 use Rattle.chart.specs.Limits.{longest}
-use Rattle.chart.specs.declared.Point.{Point}
 use Rattle.lattice.specs.Refusals.{badCount, badStart, letterPlace, leavingPlace, unclosed, touchingPlace, Simple}
 use Rattle.chart.specs.declared.Refusal.{Refusal}
 use Rattle.chart.specs.declared.Refusal.the-variants.{Count, Start, Letter, Leaves, Unclosed, Touches}
+use Rattle.chart.specs.Outline.{Outline}
+use Rattle.lattice.specs.Chart.{size}
 use Rattle.survey.specs.declared.Surveyed.the-variants.{Passed, Refused as Stopped}
 use Rattle.survey.specs.Survey.{surveyOf}
 
@@ -38,59 +39,59 @@ found {i} {p} {n} e h = lt-ltb p n (omega arith)
 pub none-found : {i p n : ℕ} → i ≡ p → n ≤ i → ltb p n ≡ false
 none-found {i} {p} {n} e h = le-ltb p n (omega arith)
 
-module _ (s : Point) (w : List ℕ) where
-  pub survey-count : badCount w ≡ true → Stopped Count ≡ surveyOf s w
+module _ (o : Outline) where
+  pub survey-count : badCount (o .letters) ≡ true → Stopped Count ≡ surveyOf o
   unfolding surveyOf
   survey-count a = rw a
 
-  module _ (a : badCount w ≡ false) where
-    pub survey-start : badStart s ≡ true → Stopped Start ≡ surveyOf s w
+  module _ (a : badCount (o .letters) ≡ false) where
+    pub survey-start : badStart (o .start) ≡ true → Stopped Start ≡ surveyOf o
     unfolding surveyOf
     survey-start b = rw (a, b)
 
-    module _ (b : badStart s ≡ false) where
-      pub survey-letter : ltb (letterPlace w) (length w) ≡ true → Stopped (Letter (letterPlace w)) ≡ surveyOf s w
+    module _ (b : badStart (o .start) ≡ false) where
+      pub survey-letter : ltb (letterPlace (o .letters)) (size o) ≡ true → Stopped (Letter (letterPlace (o .letters))) ≡ surveyOf o
       unfolding surveyOf
       survey-letter c = rw (a, b, c)
 
-      pub survey-letter-at : {i : ℕ} → i ≡ letterPlace w → i < length w → Stopped (Letter i) ≡ surveyOf s w
+      pub survey-letter-at : {i : ℕ} → i ≡ letterPlace (o .letters) → i < size o → Stopped (Letter i) ≡ surveyOf o
       survey-letter-at e h = ap (λ (i : ℕ). Stopped (Letter i)) e ∙ survey-letter (found e h)
 
-      module _ (c : ltb (letterPlace w) (length w) ≡ false) where
-        pub survey-leaves : ltb (leavingPlace s w) (length w) ≡ true → Stopped (Leaves (leavingPlace s w)) ≡ surveyOf s w
+      module _ (c : ltb (letterPlace (o .letters)) (size o) ≡ false) where
+        pub survey-leaves : ltb (leavingPlace o) (size o) ≡ true → Stopped (Leaves (leavingPlace o)) ≡ surveyOf o
         unfolding surveyOf
         survey-leaves d = rw (a, b, c, d)
 
-        pub survey-leaves-at : {i : ℕ} → i ≡ leavingPlace s w → i < length w → Stopped (Leaves i) ≡ surveyOf s w
+        pub survey-leaves-at : {i : ℕ} → i ≡ leavingPlace o → i < size o → Stopped (Leaves i) ≡ surveyOf o
         survey-leaves-at e h = ap (λ (i : ℕ). Stopped (Leaves i)) e ∙ survey-leaves (found e h)
 
-        module _ (d : ltb (leavingPlace s w) (length w) ≡ false) where
-          pub survey-unclosed : unclosed s w ≡ true → Stopped Unclosed ≡ surveyOf s w
+        module _ (d : ltb (leavingPlace o) (size o) ≡ false) where
+          pub survey-unclosed : unclosed o ≡ true → Stopped Unclosed ≡ surveyOf o
           unfolding surveyOf
           survey-unclosed e = rw (a, b, c, d, e)
 
-          pub survey-touches : unclosed s w ≡ false → ltb (touchingPlace s w) (length w - 1) ≡ true → Stopped (Touches (touchingPlace s w)) ≡ surveyOf s w
+          pub survey-touches : unclosed o ≡ false → ltb (touchingPlace o) (size o - 1) ≡ true → Stopped (Touches (touchingPlace o)) ≡ surveyOf o
           unfolding surveyOf
           survey-touches e f = rw (a, b, c, d, e, f)
 
-          pub survey-touches-at : unclosed s w ≡ false → {i : ℕ} → i ≡ touchingPlace s w → i < length w - 1 → Stopped (Touches i) ≡ surveyOf s w
+          pub survey-touches-at : unclosed o ≡ false → {i : ℕ} → i ≡ touchingPlace o → i < size o - 1 → Stopped (Touches i) ≡ surveyOf o
           survey-touches-at c e h = ap (λ (i : ℕ). Stopped (Touches i)) e ∙ survey-touches c (found e h)
 
-  pub survey-passed : Simple s w → Passed ≡ surveyOf s w
+  pub survey-passed : Simple o → Passed ≡ surveyOf o
   unfolding surveyOf
   survey-passed h = rw (h .counted, h .started, h .lettered, h .stays, h .closed, h .simple)
 
   -- A test that would stop the outline fails where it passes
-  fails : {f : Refusal} (b : Bool) → surveyOf s w ≡ Passed → (b ≡ true → Stopped f ≡ surveyOf s w) → b ≡ false
+  fails : {f : Refusal} (b : Bool) → surveyOf o ≡ Passed → (b ≡ true → Stopped f ≡ surveyOf o) → b ≡ false
   fails true p k = let e = k refl in let z : _≡_ {A = ℕ} 0 1 = cc in absurd (omega arith)
   fails false p k = refl
 
-  pub survey-simple : surveyOf s w ≡ Passed → Simple s w
+  pub survey-simple : surveyOf o ≡ Passed → Simple o
   survey-simple p =
-      let a = fails (badCount w) p survey-count in
-      let b = fails (badStart s) p (survey-start a) in
-      let c = fails (ltb (letterPlace w) (length w)) p (survey-letter a b) in
-      let d = fails (ltb (leavingPlace s w) (length w)) p (survey-leaves a b c) in
-      let e = fails (unclosed s w) p (survey-unclosed a b c d) in
-      let f = fails (ltb (touchingPlace s w) (length w - 1)) p (survey-touches a b c d e) in
+      let a = fails (badCount (o .letters)) p survey-count in
+      let b = fails (badStart (o .start)) p (survey-start a) in
+      let c = fails (ltb (letterPlace (o .letters)) (size o)) p (survey-letter a b) in
+      let d = fails (ltb (leavingPlace o) (size o)) p (survey-leaves a b c) in
+      let e = fails (unclosed o) p (survey-unclosed a b c d) in
+      let f = fails (ltb (touchingPlace o) (size o - 1)) p (survey-touches a b c d e) in
       record { counted = a; started = b; lettered = c; stays = d; closed = e; simple = f }

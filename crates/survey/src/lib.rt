@@ -2,6 +2,7 @@
 use chart::Point;
 use chart::Refusal;
 ghost use mathlib.Core.Path.{_≡_};
+ghost use Rattle.chart.specs.Outline.{outline};
 ghost use Rattle.survey.specs.Survey.{surveyOf};
 
 pub mod checks;
@@ -14,7 +15,7 @@ pub enum Surveyed {
 
 // The first of refusals 1 to 6 that applies (contract 5).
 pub fn survey(start: Point, letters: &[u8]) -> Surveyed
-    ensures { λ r. ⌜ r ≡ surveyOf start (now (letters .entry)) ⌝ }
+    ensures { λ r. ⌜ r ≡ surveyOf (outline start (now (letters .entry))) ⌝ }
 {
     if checks::bad_count(letters) {
         return Surveyed::Refused(Refusal::Count);

@@ -26,10 +26,10 @@ use Rattle.verdict.proofs.VerdictLaws.{pastEight, reaches-of, dented-or
 
 module _ (o : Outline) where
   -- An outline that reaches the dent test is refused there exactly when some cell is in the hull of its enclosed cells and not enclosed
-  pub nine-iff-missing : Reaches (o .start) (o .letters) → (verdictFields (verdictOf o) .number ≡ 9) ↔ ((x : Point) × Missing (o .start) (o .letters) x)
+  pub nine-iff-missing : Reaches o → (verdictFields (verdictOf o) .number ≡ 9) ↔ ((x : Point) × Missing (encloses o) x)
   nine-iff-missing r =
       let nine = nine-iff-dented o in
-      let dent = dented-iff-missing (o .start) (o .letters) r in
+      let dent = dented-iff-missing o r in
       (λ e. dent .0 (nine .0 e .dented), λ x. nine .1 (record { reaches = r; dented = dent .1 x }))
 
   -- The cell of the reply: the lowest missing one where a dent is refused, and the anchor where the outline is taken
@@ -37,18 +37,18 @@ module _ (o : Outline) where
   unfolding pastEight dentOf dentIn cellFound
   verdict-named = record { anchor = anchor; missing = missing }
     where
-      anchor : verdictFields (verdictOf o) .number ≡ 0 → IsAnchor (o .start) (o .letters) (cellOf (verdictFields (verdictOf o)))
+      anchor : verdictFields (verdictOf o) .number ≡ 0 → IsAnchor o (cellOf (verdictFields (verdictOf o)))
       anchor e =
-          let r : Reaches (o .start) (o .letters) = reaches-of o (rw e) in
+          let r : Reaches o = reaches-of o (rw e) in
           ⊎-elim
           (λ h. absurd (omega (arith, e, nine-of-dented o (record { reaches = r; dented = h }))))
-          (λ u. rw (verdict-taken o r u) (west-anchor (o .start) (o .letters) r))
-          (dented-or-not (reading o .start) (reading o .letters))
+          (λ u. rw (verdict-taken o r u) (west-anchor o r))
+          (dented-or-not (reading o))
 
-      missing : verdictFields (verdictOf o) .number ≡ 9 → LowestMissing (o .start) (o .letters) (cellOf (verdictFields (verdictOf o)))
+      missing : verdictFields (verdictOf o) .number ≡ 9 → LowestMissing (encloses o) (cellOf (verdictFields (verdictOf o)))
       missing e =
           let d : Dented o = dented-of-nine o e in
-          rw (verdict-dented o d) (named-lowest (o .start) (o .letters) (d .reaches) (d .dented))
+          rw (verdict-dented o d) (named-lowest o (d .reaches) (d .dented))
 
   -- So does the reply of a test: 10 names no cell
   pub test-named : (m : ℕ) → CellNamed o (testFields o m)
@@ -68,9 +68,9 @@ module _ (o : Outline) where
 
   -- A taken outline's anchor and edges, as they stand in the lent list, answer for its cells
   pub taken-answers : (lent : List ℤ) (n : ℕ) (a : Point) → testOf o (length lent) ≡ Taken n a → (x : Point) → x .col < side → x .row < side
-      → insideEdges a (take (2 * n) (edgesAfter o lent)) x ≡ encloses (o .start) (o .letters) (x .col) (x .row)
+      → insideEdges a (take (2 * n) (edgesAfter o lent)) x ≡ encloses o (x .col) (x .row)
   taken-answers lent n a e x i j =
       let f : TakenFacts o n a = taken-facts o n a (roomy o (length lent) n a e .said) in
       ap (λ (es : List ℤ). insideEdges a es x) (edges-first o lent n a e) ∙
-      (ap (λ (b : Point). insideEdges b (edges (reading o .start) (reading o .letters)) x) (f .anchor) ∙
-      edges-answer-sent (o .start) (o .letters) (f .reaches) (f .undented) x i j)
+      (ap (λ (b : Point). insideEdges b (edges (reading o)) x) (f .anchor) ∙
+      edges-answer-sent o (f .reaches) (f .undented) x i j)

@@ -21,12 +21,13 @@ use Rattle.chart.specs.declared.Point.{Point}
 use Rattle.chart.specs.declared.Refusal.the-variants.{Dent}
 use Rattle.chart.specs.declared.Verdict.the-variants.{Taken, Refused}
 use Rattle.chart.specs.Outline.{Outline}
+use Rattle.lattice.specs.Enclosed.{encloses}
 use Rattle.lattice.specs.Hull.{LowestMissing}
 use Rattle.convexity.specs.Frame.{frameOf}
 use Rattle.convexity.specs.Cut.{reading}
 use Rattle.convexity.specs.Pieces.{Reaches, word, factors, dentAt, dentLength, dentPiece, edgesOf, edges, edgeCount, IsAnchor}
 use Rattle.convexity.proofs.Smooth.{dent-first}
-use Rattle.convexity.proofs.Theorem.{lowest-unique}
+use Rattle.lattice.proofs.HullLaws.{lowest-unique}
 use Rattle.convexity.proofs.Sent.{named-lowest, west-anchor}
 use Rattle.verdict.specs.Verdict.{placeSent, cellFound, dentIn, verdictOf}
 use Rattle.verdict.specs.Dents.{dentOf}
@@ -98,86 +99,83 @@ module _ (f : Factor) (fs : List Factor) (d : ¬ Christoffel (f .word)) where
 
 -- ---- the pieces of a turn
 
--- Piece k of the letters t from s on has a dent
-abbrev dentedAt : Point → List ℕ → ℕ → Bool
-dentedAt s t k = ltb 0 (dentLength (factors s t k))
+-- Piece k of a turn has a dent
+abbrev dentedAt : Outline → ℕ → Bool
+dentedAt o k = ltb 0 (dentLength (factors o k))
 
 module _ (o : Outline) where
-  abbrev s : Point
-  s = reading o .start
-
-  abbrev t : List ℕ
-  t = reading o .letters
+  abbrev t : Outline
+  t = reading o
 
   -- The computed factors are the factors
-  factors-are : (k : ℕ) (fs : List Factor) → Factoring (pieceWord o k) fs → factors s t k ≡ fs
+  factors-are : (k : ℕ) (fs : List Factor) → Factoring (pieceWord o k) fs → factors t k ≡ fs
   unfolding factors
-  factors-are k fs f = factors-of (word s t k) fs f
+  factors-are k fs f = factors-of (word t k) fs f
 
-  factors-factor : (k : ℕ) → Factoring (pieceWord o k) (factors s t k)
+  factors-factor : (k : ℕ) → Factoring (pieceWord o k) (factors t k)
   unfolding factors
-  factors-factor k = factors-exist (word s t k)
+  factors-factor k = factors-exist (word t k)
 
-  smooth-undented : (k : ℕ) → Smooth o k → dentedAt s t k ≡ false
+  smooth-undented : (k : ℕ) → Smooth o k → dentedAt t k ≡ false
   smooth-undented k h =
-      le-ltb 0 (dentLength (factors s t k)) (omega (arith, ap dentLength (factors-are k (h .factors) (h .factoring)), dent-none (h .factors) (h .christoffel)))
+      le-ltb 0 (dentLength (factors t k)) (omega (arith, ap dentLength (factors-are k (h .factors) (h .factoring)), dent-none (h .factors) (h .christoffel)))
 
-  undented-smooth : (k : ℕ) → dentedAt s t k ≡ false → Smooth o k
+  undented-smooth : (k : ℕ) → dentedAt t k ≡ false → Smooth o k
   undented-smooth k e =
       record {
-        factors = factors s t k;
+        factors = factors t k;
         factoring = factors-factor k;
         christoffel =
-            all-christoffel (factors s t k) (factors-factor k .falling) (omega (arith, ltb-false 0 (dentLength (factors s t k)) e));
+            all-christoffel (factors t k) (factors-factor k .falling) (omega (arith, ltb-false 0 (dentLength (factors t k)) e));
       }
 
   -- ---- taken
 
-  smooth-none : ((k : ℕ) → k < 4 → Smooth o k) → dentPiece s t ≡ 4
+  smooth-none : ((k : ℕ) → k < 4 → Smooth o k) → dentPiece t ≡ 4
   unfolding dentPiece
-  smooth-none h = first-none (dentedAt s t) 4 (λ k l. smooth-undented k (h k l))
+  smooth-none h = first-none (dentedAt t) 4 (λ k l. smooth-undented k (h k l))
 
-  none-smooth : dentPiece s t ≡ 4 → (k : ℕ) → k < 4 → Smooth o k
+  none-smooth : dentPiece t ≡ 4 → (k : ℕ) → k < 4 → Smooth o k
   unfolding dentPiece
-  none-smooth e k l = undented-smooth k (first-none-at (dentedAt s t) 4 e k l)
+  none-smooth e k l = undented-smooth k (first-none-at (dentedAt t) 4 e k l)
 
-  module _ (r : Reaches (o .start) (o .letters)) where
+  module _ (r : Reaches o) where
     -- An outline that meets none of 1 to 8 is taken exactly if every factor of every piece is a Christoffel word
     pub taken-iff-christoffel : ((n : ℕ) × (a : Point) × (verdictOf o ≡ Taken n a)) ↔ ((k : ℕ) → k < 4 → Smooth o k)
     taken-iff-christoffel = (
       λ v. none-smooth (taken-facts o (v .0) (v .1) (v .2) .undented),
-      λ h. (edgeCount s t, s, verdict-taken o r (smooth-none h)),
+      λ h. (edgeCount t, t .start, verdict-taken o r (smooth-none h)),
     )
 
     -- ---- refused by 9
 
     -- The fields of 9 with a dent in piece k
-    dent-named : (k : ℕ) → dentPiece s t ≡ k
-        → dentOf o ≡ Dent (k + 1) (placeSent o (pieceCut o k + 1 + dentAt (factors s t k))) (dentLength (factors s t k)) (cellFound (reading o))
+    dent-named : (k : ℕ) → dentPiece t ≡ k
+        → dentOf o ≡ Dent (k + 1) (placeSent o (pieceCut o k + 1 + dentAt (factors t k))) (dentLength (factors t k)) (cellFound (reading o))
     unfolding dentOf dentIn
     dent-named k e = rw (e, add-one k)
 
-    cell-lowest : dentPiece s t < 4 → LowestMissing (o .start) (o .letters) (cellFound (reading o))
+    cell-lowest : dentPiece t < 4 → LowestMissing (encloses o) (cellFound (reading o))
     unfolding cellFound
-    cell-lowest d = named-lowest (o .start) (o .letters) r d
+    cell-lowest d = named-lowest o r d
 
     nine-of-first-dent : (p i l : ℕ) (x : Point) → FirstDent o p i l x → verdictOf o ≡ Refused (Dent p i l x)
     unfolding dentPiece
     nine-of-first-dent p i l x h =
         let k : ℕ = h .k in
-        let e : factors s t k ≡ h .before ++ h .dent ∷ h .after = factors-are k _ (h .factoring) in
-        let size : dentLength (factors s t k) ≡ length (h .dent .word) =
+        let e : factors t k ≡ h .before ++ h .dent ∷ h .after = factors-are k _ (h .factoring) in
+        let size : dentLength (factors t k) ≡ length (h .dent .word) =
         ap dentLength e ∙ dent-length (h .dent) (h .after) (h .dented) (h .before) (h .smooth) in
-        let at : dentAt (factors s t k) ≡ length (written (h .before)) =
+        let at : dentAt (factors t k) ≡ length (written (h .before)) =
         ap dentAt e ∙ dent-at (h .dent) (h .after) (h .dented) (h .before) (h .smooth) in
         let some : 0 < length (h .dent .word) = dent-some (h .before) (h .factoring .falling) in
-        let first : dentPiece s t ≡ k =
-        first-is (dentedAt s t) 4 k (h .below) (λ j l. smooth-undented j (h .earlier j l)) (lt-ltb 0 (dentLength (factors s t k)) (omega arith)) in
-        let d : dentPiece s t < 4 = omega (arith, h .below) in
+        let first : dentPiece t ≡ k =
+        first-is (dentedAt t) 4 k (h .below) (λ j l. smooth-undented j (h .earlier j l)) (lt-ltb 0 (dentLength (factors t k)) (omega arith)) in
+        let d : dentPiece t < 4 = omega (arith, h .below) in
         let piece : k + 1 ≡ p = sym (h .piece) in
-        let place : placeSent o (pieceCut o k + 1 + dentAt (factors s t k)) ≡ i =
+        let place : placeSent o (pieceCut o k + 1 + dentAt (factors t k)) ≡ i =
         ap (λ (n : ℕ). placeSent o (pieceCut o k + 1 + n)) at ∙ sym (h .place) in
-        let copy : dentLength (factors s t k) ≡ l = size ∙ sym (h .copy) in
+        let copy : dentLength (factors t k) ≡ l = size ∙ sym (h .copy) in
         let cell : cellFound (reading o) ≡ x = lowest-unique (cell-lowest d) (h .cell) in
         verdict-dented o (record { reaches = r; dented = d }) ∙ ap Refused (dent-named k first ∙ λ j. Dent (piece j) (place j) (copy j) (cell j))
       where
@@ -187,24 +185,24 @@ module _ (o : Outline) where
 
     first-dent-of-nine : (p i l : ℕ) (x : Point) → verdictOf o ≡ Refused (Dent p i l x) → FirstDent o p i l x
     unfolding dentPiece
-    first-dent-of-nine p i l x e = ⊎-elim dented undented (dented-or-not s t)
+    first-dent-of-nine p i l x e = ⊎-elim dented undented (dented-or-not t)
       where
-        undented : dentPiece s t ≡ 4 → FirstDent o p i l x
+        undented : dentPiece t ≡ 4 → FirstDent o p i l x
         undented u = let v = verdict-taken o r u in let z : _≡_ {A = ℕ} 0 1 = cc in absurd (omega arith)
 
-        dented : dentPiece s t < 4 → FirstDent o p i l x
+        dented : dentPiece t < 4 → FirstDent o p i l x
         dented d =
-            let k : ℕ = dentPiece s t in
-            let f : Split (factors s t k) =
-            split (factors s t k) (ltb-true 0 (dentLength (factors s t k)) (first-found (dentedAt s t) 4 d)) in
+            let k : ℕ = dentPiece t in
+            let f : Split (factors t k) =
+            split (factors t k) (ltb-true 0 (dentLength (factors t k)) (first-found (dentedAt t) 4 d)) in
             let said = sym (ap Refused (dent-named k refl)) ∙ sym (verdict-dented o (record { reaches = r; dented = d })) ∙ e in
-            let place : placeSent o (pieceCut o k + 1 + dentAt (factors s t k)) ≡ i = cc in
-            let copy : dentLength (factors s t k) ≡ l = cc in
+            let place : placeSent o (pieceCut o k + 1 + dentAt (factors t k)) ≡ i = cc in
+            let copy : dentLength (factors t k) ≡ l = cc in
             let cell : cellFound (reading o) ≡ x = cc in
             record {
               k = k;
               below = d;
-              earlier = λ j h. undented-smooth j (first-before (dentedAt s t) 4 j h);
+              earlier = λ j h. undented-smooth j (first-before (dentedAt t) 4 j h);
               before = f .before;
               dent = f .dent;
               after = f .after;
@@ -216,7 +214,7 @@ module _ (o : Outline) where
                   sym place ∙
                   ap (λ (n : ℕ). placeSent o (pieceCut o k + 1 + n)) (ap dentAt (f .whole) ∙ dent-at (f .dent) (f .after) (f .dented) (f .before) (f .smooth));
               copy = sym copy ∙ ap dentLength (f .whole) ∙ dent-length (f .dent) (f .after) (f .dented) (f .before) (f .smooth);
-              cell = subst (λ (y : Point). LowestMissing (o .start) (o .letters) y) cell (cell-lowest d);
+              cell = subst (λ (y : Point). LowestMissing (encloses o) y) cell (cell-lowest d);
             }
 
     -- An outline that meets none of 1 to 8 is refused by 9, with these fields, exactly if they are those of its first factor that is no Christoffel word
@@ -237,13 +235,13 @@ module _ (o : Outline) where
         factors-are 3 (fs 3) (h 3 (omega arith)),
       )
 
-  pub taken-anchor : (n : ℕ) (a : Point) → verdictOf o ≡ Taken n a → IsAnchor (o .start) (o .letters) a
+  pub taken-anchor : (n : ℕ) (a : Point) → verdictOf o ≡ Taken n a → IsAnchor o a
   taken-anchor n a e =
       let f : TakenFacts o n a = taken-facts o n a e in
-      subst (λ (b : Point). IsAnchor (o .start) (o .letters) b) (sym (f .anchor)) (west-anchor (o .start) (o .letters) (f .reaches))
+      subst (λ (b : Point). IsAnchor o b) (sym (f .anchor)) (west-anchor o (f .reaches))
 
   pub edges-of-factors : (fs : ℕ → List Factor) → FactorsOf o fs
-      → edges (reading o .start) (reading o .letters) ≡
+      → edges (reading o) ≡
       edgesOf (frameOf 0) (fs 0) ++ (edgesOf (frameOf 1) (fs 1) ++ (edgesOf (frameOf 2) (fs 2) ++ edgesOf (frameOf 3) (fs 3)))
   unfolding edges
   edges-of-factors fs h =
@@ -256,10 +254,10 @@ module _ (o : Outline) where
 
   -- ---- the rule whole
 
-  pub by-the-rule : Reaches (o .start) (o .letters) → ByTheRule o
+  pub by-the-rule : Reaches o → ByTheRule o
   by-the-rule r =
       record {
-        factored = λ k. (factors s t k, factors-factor k);
+        factored = λ k. (factors t k, factors-factor k);
         one-way = λ k. factors-unique (pieceWord o k);
         taken = taken-iff-christoffel r;
         nine = nine-iff-first-dent r;

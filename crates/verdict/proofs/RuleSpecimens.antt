@@ -2,13 +2,12 @@
 -- word of each piece is one factor, its earlier letter and then its later, which is a Christoffel word.
 use Prim.Native.Nat.{ℕ, zero, suc, _<_}
 use native.Mathlib.Omega.{arith}
-use mathlib.Core.Path.{_≡_, refl}
+use mathlib.Core.Path.{refl}
 use mathlib.Core.Bool.{true, false}
 use mathlib.Core.List.{List, [], _∷_}
 use Rattle.words.specs.Lyndon.{Factor, Factoring}
 use Rattle.words.proofs.Factors.{factors-exist}
 use Rattle.words.proofs.Christoffel.{christoffel-iff}
-use Rattle.chart.specs.declared.Point.{Point}
 use Rattle.chart.specs.Outline.{Outline}
 use Rattle.convexity.specs.Pieces.{Reaches}
 use Rattle.verdict.specs.Rule.{pieceWord, none, more, Smooth, FirstDent}
@@ -18,7 +17,7 @@ use Rattle.verdict.proofs.Rule.{nine-iff-first-dent}
 abbrev pub h6 : Outline
 h6 = record { start = record { col = 0; row = 0 }; letters = 1 ∷ 1 ∷ 1 ∷ 0 ∷ 3 ∷ 3 ∷ 0 ∷ 0 ∷ 3 ∷ 2 ∷ 2 ∷ 2 ∷ [] }
 
-pub h6-reaches : Reaches (h6 .start) (h6 .letters)
+pub h6-reaches : Reaches h6
 unfolding computes
 h6-reaches =
     record {

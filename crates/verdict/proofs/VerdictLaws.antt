@@ -4,7 +4,7 @@ use Prim.Native.Nat.{ℕ, _-_, _*_, _≤_, _<_}
 use native.Mathlib.Omega.{arith}
 use native.Mathlib.Decide.{decLt}
 use mathlib.Core.Path.{_≡_, refl, sym, ap, _∙_}
-use mathlib.Core.Logic.{_⊎_, inl, inr, ⊎-elim, _≢_, _↔_}
+use mathlib.Core.Logic.{_⊎_, inl, inr, ⊎-elim, _↔_}
 use mathlib.Core.Bool.{Bool, true, false, not, cond, _||_, true≢false}
 use mathlib.Core.List.{List, _++_}
 use lib.ListN.{length, take, drop, length-append, length-drop}
@@ -15,21 +15,22 @@ use borrow.Author.Tests.{lt-ltb, le-ltb, not-false}
 use Rattle.base.proofs.BelowLaws.{first-le}
 use Rattle.chart.specs.declared.Point.{Point}
 use Rattle.chart.specs.declared.Refusal.{Refusal}
-use Rattle.chart.specs.declared.Refusal.the-variants.{Count, Start, Letter, Leaves, Unclosed, Touches, Anticlockwise, Dent, Room}
+use Rattle.chart.specs.declared.Refusal.the-variants.{Count, Start, Letter, Leaves, Unclosed, Touches, Anticlockwise, Room}
 use Rattle.chart.specs.declared.Verdict.{Verdict}
 use Rattle.chart.specs.declared.Verdict.the-variants.{Taken, Refused}
 use Rattle.chart.specs.Outline.{Outline}
-use Rattle.chart.specs.Fields.{verdictFields, refusalFields, numbered, placed, accepted}
-use Rattle.lattice.specs.Refusals.{badCount, badStart, letterPlace, leavingPlace, unclosed, touchingPlace, Simple}
+use Rattle.chart.specs.Fields.{verdictFields}
+use Rattle.lattice.specs.Chart.{size}
+use Rattle.lattice.specs.Refusals.{badCount, badStart, letterPlace, leavingPlace, unclosed, touchingPlace}
 use Rattle.survey.specs.declared.Surveyed.{Surveyed}
-use Rattle.survey.specs.declared.Surveyed.the-variants.{Passed, Refused as Stopped}
+use Rattle.survey.specs.declared.Surveyed.the-variants.{Refused as Stopped}
 use Rattle.survey.specs.Survey.{surveyOf}
 use Rattle.survey.proofs.SurveyLaws.{survey-passed}
 use Rattle.convexity.specs.Cut.{reading, clockwise}
-use Rattle.convexity.specs.Pieces.{strayPiece, factors, dentLength, dentPiece, edges, edgeCount, Reaches}
+use Rattle.convexity.specs.Pieces.{backStepPiece, factors, dentLength, dentPiece, edges, edgeCount, Reaches}
 use Rattle.convexity.proofs.Bounds.{edges-length}
 use Rattle.convexity.proofs.Sent.{edges-fit}
-use Rattle.verdict.specs.Verdict.{placeSent, backStepIn, cellFound, dentIn, turnVerdict, readingVerdict, afterSurvey, verdictOf, withRoom, testOf, lentAfter, edgesAfter}
+use Rattle.verdict.specs.Verdict.{placeSent, backStepIn, dentIn, turnVerdict, readingVerdict, afterSurvey, verdictOf, withRoom, testOf, lentAfter, edgesAfter}
 use Rattle.verdict.specs.Dents.{Dented, dentOf}
 
 -- ---- refusals 1 to 8
@@ -62,103 +63,97 @@ survey-link true f c v e rest = inr (record { refusal = f; early = e; answer = r
 survey-link false f c v e rest = rest refl
 
 -- A turn has a piece with a dent, or none of its factors is other than a Christoffel word
-pub dented-or-not : (s : Point) (t : List ℕ) → (dentPiece s t < 4) ⊎ (dentPiece s t ≡ 4)
+pub dented-or-not : (o : Outline) → (dentPiece o < 4) ⊎ (dentPiece o ≡ 4)
 unfolding dentPiece
-dented-or-not s t =
-    elim (decLt (dentPiece s t) 4) [
+dented-or-not o =
+    elim (decLt (dentPiece o) 4) [
       | yes h ↦ inl h
-      | no h ↦ inr (omega (arith, first-le (λ k. ltb 0 (dentLength (factors s t k))) 4))
+      | no h ↦ inr (omega (arith, first-le (λ k. ltb 0 (dentLength (factors o k))) 4))
     ]
 
 module _ (o : Outline) where
-  abbrev s : Point
-  s = o .start
-
-  abbrev w : List ℕ
-  w = o .letters
-
   -- The pieces' edges, their count, and the first piece with a dent, all of the reading
   abbrev count : ℕ
-  count = edgeCount (reading o .start) (reading o .letters)
+  count = edgeCount (reading o)
 
   abbrev dent : ℕ
-  dent = dentPiece (reading o .start) (reading o .letters)
+  dent = dentPiece (reading o)
 
   -- None of 1 to 8 applies, or one of them is the answer
-  pub reaches-or-early : Reaches (o .start) (o .letters) ⊎ Early (verdictOf o)
+  pub reaches-or-early : Reaches o ⊎ Early (verdictOf o)
   unfolding verdictOf surveyOf afterSurvey readingVerdict turnVerdict backStepIn
   reaches-or-early =
-      survey-link (badCount w) Count _ _ (unfold numbers in refl) λ counted.
-      survey-link (badStart s) Start _ _ (unfold numbers in refl) λ started.
-      survey-link (ltb (letterPlace w) (length w)) (Letter (letterPlace w)) _ _ (unfold numbers in refl) λ lettered.
-      survey-link (ltb (leavingPlace s w) (length w)) (Leaves (leavingPlace s w)) _ _ (unfold numbers in refl) λ stays.
-      survey-link (unclosed s w) Unclosed _ _ (unfold numbers in refl) λ closed.
-      survey-link (ltb (touchingPlace s w) (length w - 1)) (Touches (touchingPlace s w)) _ _ (unfold numbers in refl) λ simple.
-      link (not (clockwise (reading o .letters))) Anticlockwise _ (unfold numbers in refl) λ right.
-      link (ltb (strayPiece (reading o .start) (reading o .letters)) 4) (backStepIn (placeSent o) (reading o) (strayPiece (reading o .start) (reading o .letters))) _
+      survey-link (badCount (o .letters)) Count _ _ (unfold numbers in refl) λ counted.
+      survey-link (badStart (o .start)) Start _ _ (unfold numbers in refl) λ started.
+      survey-link (ltb (letterPlace (o .letters)) (size o)) (Letter (letterPlace (o .letters))) _ _ (unfold numbers in refl) λ lettered.
+      survey-link (ltb (leavingPlace o) (size o)) (Leaves (leavingPlace o)) _ _ (unfold numbers in refl) λ stays.
+      survey-link (unclosed o) Unclosed _ _ (unfold numbers in refl) λ closed.
+      survey-link (ltb (touchingPlace o) (size o - 1)) (Touches (touchingPlace o)) _ _ (unfold numbers in refl) λ simple.
+      link (not (clockwise (reading o))) Anticlockwise _ (unfold numbers in refl) λ right.
+      link (ltb (backStepPiece (reading o)) 4) (backStepIn (placeSent o) (reading o) (backStepPiece (reading o))) _
       (unfold numbers in refl) λ straight.
       inl (record {
         simple = record { counted = counted; started = started; lettered = lettered; stays = stays; closed = closed; simple = simple };
-        clockwise = not-false (clockwise (reading o .letters)) right;
+        clockwise = not-false (clockwise (reading o)) right;
         straight = straight;
       })
 
   -- An answer past number 8 is the answer of an outline to which none of 1 to 8 applies
-  pub reaches-of : pastEight (verdictOf o) ≡ true → Reaches (o .start) (o .letters)
+  pub reaches-of : pastEight (verdictOf o) ≡ true → Reaches o
   reaches-of h = ⊎-elim (λ r. r) (λ e. absurd (true≢false (sym h ∙ ap pastEight (e .answer) ∙ e .early))) reaches-or-early
 
   -- Past 1 to 8 the dent decides
-  verdict-past-eight : Reaches (o .start) (o .letters) → verdictOf o ≡ cond (ltb dent 4) (Refused (dentOf o)) (Taken count (reading o .start))
+  verdict-past-eight : Reaches o → verdictOf o ≡ cond (ltb dent 4) (Refused (dentOf o)) (Taken count (reading o .start))
   unfolding verdictOf readingVerdict turnVerdict dentOf afterSurvey
-  verdict-past-eight r = rw (← survey-passed s w (r .simple), r .clockwise, r .straight)
+  verdict-past-eight r = rw (← survey-passed o (r .simple), r .clockwise, r .straight)
 
   pub verdict-dented : Dented o → verdictOf o ≡ Refused (dentOf o)
   verdict-dented d = verdict-past-eight (d .reaches) ∙ rw (lt-ltb dent 4 (d .dented))
 
-  pub verdict-taken : Reaches (o .start) (o .letters) → dentPiece (reading o .start) (reading o .letters) ≡ 4
-      → verdictOf o ≡ Taken (edgeCount (reading o .start) (reading o .letters)) (reading o .start)
-  verdict-taken r u = verdict-past-eight r ∙ rw (u)
+  pub verdict-taken : Reaches o → dentPiece (reading o) ≡ 4
+      → verdictOf o ≡ Taken (edgeCount (reading o)) (reading o .start)
+  verdict-taken r u = verdict-past-eight r ∙ rw u
 
   -- What "taken" tells of an outline
   pub record TakenFacts (n : ℕ) (a : Point) : Type 0 where
-    pub reaches : Reaches (o .start) (o .letters)
-    pub undented : dentPiece (reading o .start) (reading o .letters) ≡ 4
-    pub count : n ≡ edgeCount (reading o .start) (reading o .letters)
+    pub reaches : Reaches o
+    pub undented : dentPiece (reading o) ≡ 4
+    pub count : n ≡ edgeCount (reading o)
     pub anchor : a ≡ reading o .start
 
   pub taken-facts : (n : ℕ) (a : Point) → verdictOf o ≡ Taken n a → TakenFacts n a
-  taken-facts n a e = ⊎-elim dented undented (dented-or-not (reading o .start) (reading o .letters))
+  taken-facts n a e = ⊎-elim dented undented (dented-or-not (reading o))
     where
-      reach : Reaches (o .start) (o .letters)
+      reach : Reaches o
       reach = reaches-of (ap pastEight e ∙ unfold numbers in refl)
 
-      dented : dentPiece (reading o .start) (reading o .letters) < 4 → TakenFacts n a
+      dented : dentPiece (reading o) < 4 → TakenFacts n a
       dented h =
           let x : verdictOf o ≡ Refused (dentOf o) = verdict-dented (record { reaches = reach; dented = h }) in
           let z : _≡_ {A = ℕ} 0 1 = cc in
           absurd (omega arith)
 
-      undented : dentPiece (reading o .start) (reading o .letters) ≡ 4 → TakenFacts n a
+      undented : dentPiece (reading o) ≡ 4 → TakenFacts n a
       undented u =
-          let same : verdictOf o ≡ Taken (edgeCount (reading o .start) (reading o .letters)) (reading o .start) = verdict-taken reach u in
+          let same : verdictOf o ≡ Taken (edgeCount (reading o)) (reading o .start) = verdict-taken reach u in
           record { reaches = reach; undented = u; count = cc; anchor = cc }
 
   -- The holder has room for the edges of every outline that is taken
   pub taken-fits : (n : ℕ) (a : Point) → verdictOf o ≡ Taken n a → 2 * n ≤ 2032
   taken-fits n a e =
       let f : TakenFacts n a = taken-facts n a e in
-      let fit = edges-fit (o .start) (o .letters) (f .reaches) in
+      let fit = edges-fit o (f .reaches) in
       omega (arith, f .count)
 
   -- Number 9 is the answer exactly for a dented outline
   pub dented-of-nine : verdictFields (verdictOf o) .number ≡ 9 → Dented o
   unfolding numbers
-  dented-of-nine nine = ⊎-elim (λ h. record { reaches = reach; dented = h }) undented (dented-or-not (reading o .start) (reading o .letters))
+  dented-of-nine nine = ⊎-elim (λ h. record { reaches = reach; dented = h }) undented (dented-or-not (reading o))
     where
-      reach : Reaches (o .start) (o .letters)
+      reach : Reaches o
       reach = reaches-of (rw nine)
 
-      undented : dentPiece (reading o .start) (reading o .letters) ≡ 4 → Dented o
+      undented : dentPiece (reading o) ≡ 4 → Dented o
       undented u =
           let e = ap (λ (x : Verdict). verdictFields x .number) (verdict-taken reach u) in absurd (omega (arith, e, nine))
 
@@ -218,7 +213,7 @@ module _ (o : Outline) where
   -- ---- the lent list afterwards
 
   pub edges-after : (lent : List ℤ) (n : ℕ) (a : Point) → testOf o (length lent) ≡ Taken n a →
-      edgesAfter o lent ≡ edges (reading o .start) (reading o .letters) ++ drop (length (edges (reading o .start) (reading o .letters))) lent
+      edgesAfter o lent ≡ edges (reading o) ++ drop (length (edges (reading o))) lent
   unfolding edgesAfter lentAfter
   edges-after lent n a e = rw e
 
@@ -227,13 +222,11 @@ module _ (o : Outline) where
   edges-refused lent f e = rw e
 
   pub edges-first : (lent : List ℤ) (n : ℕ) (a : Point) → testOf o (length lent) ≡ Taken n a
-      → take (2 * n) (edgesAfter o lent) ≡ edges (reading o .start) (reading o .letters)
+      → take (2 * n) (edgesAfter o lent) ≡ edges (reading o)
   edges-first lent n a e =
       let k : TakenFacts n a = taken-facts n a (roomy (length lent) n a e .said) in
-      let t : List ℕ = reading o .letters in
-      let u : Point = reading o .start in
       ap (take (2 * n)) (edges-after lent n a e) ∙
-      take-at (edges u t) (drop (length (edges u t)) lent) (2 * n) (edges-length u t ∙ ap (λ (j : ℕ). 2 * j) (sym (k .count)))
+      take-at (edges (reading o)) (drop (length (edges (reading o))) lent) (2 * n) (edges-length (reading o) ∙ ap (λ (j : ℕ). 2 * j) (sym (k .count)))
 
   -- The lent list is as long as before
   pub edges-after-length : (lent : List ℤ) → length (edgesAfter o lent) ≡ length lent

@@ -8,8 +8,8 @@ use Rattle.verdict.specs.Verdict.{placeSent, dentIn}
 
 -- None of 1 to 8 applies, and a factor is no Christoffel word
 pub record Dented (o : Outline) : Type 0 where
-  pub reaches : Reaches (o .start) (o .letters)
-  pub dented : dentPiece (reading o .start) (reading o .letters) < 4
+  pub reaches : Reaches o
+  pub dented : dentPiece (reading o) < 4
 
 unfoldable pub dentOf : Outline → Refusal
-dentOf o = dentIn (placeSent o) (reading o) (dentPiece (reading o .start) (reading o .letters))
+dentOf o = dentIn (placeSent o) (reading o) (dentPiece (reading o))

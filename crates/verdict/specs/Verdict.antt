@@ -13,44 +13,39 @@ use Rattle.chart.specs.declared.Verdict.{Verdict}
 use Rattle.chart.specs.declared.Verdict.the-variants.{Taken, Refused}
 use Rattle.chart.specs.Outline.{Outline}
 use Rattle.chart.specs.Fields.{verdictFields}
-use Rattle.lattice.specs.Chart.{cornerAt}
+use Rattle.lattice.specs.Chart.{cornerAt, size}
 use Rattle.survey.specs.declared.Surveyed.{Surveyed}
 use Rattle.survey.specs.declared.Surveyed.the-variants.{Passed, Refused as Stopped}
 use Rattle.survey.specs.Survey.{surveyOf}
 use Rattle.rows.specs.Search.{missingCell}
 use Rattle.convexity.specs.Cut.{cornerPlace, westPlace, reading, clockwise, cut}
-use Rattle.convexity.specs.Pieces.{strayAt, strayPiece, factors, dentAt, dentLength, dentPiece, sent, edges, edgeCount}
+use Rattle.convexity.specs.Pieces.{backStepAt, backStepPiece, factors, dentAt, dentLength, dentPiece, sent, edges, edgeCount}
 
 -- A place in letters from W on, as an index in the list as sent (contract 5.3)
 unfoldable pub placeSent : Outline → ℕ → ℕ
-placeSent o i = sent (length (o .letters)) (westPlace (o .start) (o .letters)) i
+placeSent o i = sent (size o) (westPlace o) i
 
 -- 8, in piece k of a turn t from W: the first letter that is none of the piece's two
 unfoldable pub backStepIn : (ℕ → ℕ) → Outline → ℕ → Refusal
-backStepIn place t k = BackStep (suc k) (place (cut (t .start) (t .letters) k + strayAt (t .start) (t .letters) k))
+backStepIn place t k = BackStep (suc k) (place (cut t k + backStepAt t k))
 
 -- The cell that 9 names, found between the rows of S and N. It is the lowest missing one (proofs/Cells.antt)
 unfoldable pub cellFound : Outline → Point
-cellFound t =
-    missingCell (t .start) (t .letters) (cornerAt (t .start) (t .letters) (cornerPlace (t .start) (t .letters) 3) .row)
-    (cornerAt (t .start) (t .letters) (cornerPlace (t .start) (t .letters) 1) .row)
+cellFound t = missingCell t (cornerAt t (cornerPlace t 3) .row) (cornerAt t (cornerPlace t 1) .row)
 
 -- 9, in piece k: the first factor that is no Christoffel word, by its first letter and its length
 unfoldable pub dentIn : (ℕ → ℕ) → Outline → ℕ → Refusal
-dentIn place t k =
-    Dent (suc k) (place (cut (t .start) (t .letters) k + 1 + dentAt (factors (t .start) (t .letters) k))) (dentLength (factors (t .start) (t .letters) k))
-    (cellFound t)
+dentIn place t k = Dent (suc k) (place (cut t k + 1 + dentAt (factors t k))) (dentLength (factors t k)) (cellFound t)
 
 -- 8 and 9 of a turn from W, or taken: the count of edges, and the anchor, which is the cell at W
 unfoldable pub turnVerdict : (ℕ → ℕ) → Outline → Verdict
 turnVerdict place t =
-    cond (ltb (strayPiece (t .start) (t .letters)) 4) (Refused (backStepIn place t (strayPiece (t .start) (t .letters))))
-    (cond (ltb (dentPiece (t .start) (t .letters)) 4) (Refused (dentIn place t (dentPiece (t .start) (t .letters))))
-    (Taken (edgeCount (t .start) (t .letters)) (t .start)))
+    cond (ltb (backStepPiece t) 4) (Refused (backStepIn place t (backStepPiece t)))
+    (cond (ltb (dentPiece t) 4) (Refused (dentIn place t (dentPiece t))) (Taken (edgeCount t) (t .start)))
 
 -- 7 to 9 of an outline, or taken
 unfoldable pub readingVerdict : Outline → Verdict
-readingVerdict o = cond (not (clockwise (reading o .letters))) (Refused Anticlockwise) (turnVerdict (placeSent o) (reading o))
+readingVerdict o = cond (not (clockwise (reading o))) (Refused Anticlockwise) (turnVerdict (placeSent o) (reading o))
 
 -- What 1 to 6 say, or else what is said further on
 unfoldable pub afterSurvey : Surveyed → Verdict → Verdict
@@ -59,7 +54,7 @@ afterSurvey (Stopped f) v = Refused f
 
 -- 1 to 9, or taken: what a close asks, in the holder and in the plain book
 unfoldable pub verdictOf : Outline → Verdict
-verdictOf o = afterSurvey (surveyOf (o .start) (o .letters)) (readingVerdict o)
+verdictOf o = afterSurvey (surveyOf o) (readingVerdict o)
 
 -- 10: a taken outline needs room for two numbers an edge in a lent list of m
 unfoldable pub withRoom : ℕ → Verdict → Verdict
@@ -80,4 +75,4 @@ lentAfter (Taken n a) es lent = es ++ drop (length es) lent
 lentAfter (Refused f) es lent = lent
 
 unfoldable pub edgesAfter : Outline → List ℤ → List ℤ
-edgesAfter o lent = lentAfter (testOf o (length lent)) (edges (reading o .start) (reading o .letters)) lent
+edgesAfter o lent = lentAfter (testOf o (length lent)) (edges (reading o)) lent

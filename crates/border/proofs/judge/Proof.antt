@@ -19,7 +19,7 @@ enum-told : tie.Need-enum-told
 enum-told c = search needs
 
 read-requires : tie.Need-read-requires
-read-requires c κs = survey-simple _ _ (sym (c .before .before .survey .ensures) ∙ c .enum-told .given .1)
+read-requires c κs = survey-simple _ (sym (c .before .before .survey .ensures) ∙ c .enum-told .given .1)
 
 returns : tie.Need-returns
 returns c =

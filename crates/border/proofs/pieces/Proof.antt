@@ -40,7 +40,7 @@ enum-told c = search needs
 edges-requires : tie.Need-edges-requires
 edges-requires c κs =
     let start = c .before .before .before .before in
-    (start .pre, none-straight (start .pre) (found (c .before .before) (c .enum-told .given .1) _ _ (start .pre .ready .laid)))
+    (start .pre, none-straight (start .pre) (found (c .before .before) (c .enum-told .given .1) _ (start .pre .ready .laid)))
 
 returns : tie.Need-returns
 returns c =

@@ -2,6 +2,7 @@
 use mathlib.Core.Path.{sym}
 use lib.Seq.{length-take-le}
 use borrow.Author.Needs.{needs}
+use Rattle.chart.specs.Outline.{outline}
 use Rattle.border.proofs.JudgedLaws.{Copied, letters-fit, copied-back, copied-ready, copied-judged}
 use Rattle.border.proofs.read.Statement.{statement}
 use Rattle.border.proofs.read.Tie as tie
@@ -24,7 +25,7 @@ array-read-if1 c = search needs
 -- The letters from W on are in the buffer
 copied : (c : tie.After-fill-turn)
     → let a = c .before .before .before .before .before .args in
-    Copied (a .start) (a .letters .now) (c .before .before .before .corner-place .result) (c .before .before .corner-at .result) (c .fill-turn .last .1 .1 .0)
+    Copied (outline (a .start) (a .letters .now)) (c .before .before .before .corner-place .result) (c .before .before .corner-at .result) (c .fill-turn .last .1 .1 .0)
 copied c =
     record {
       simple = c .before .before .before .before .before .pre;

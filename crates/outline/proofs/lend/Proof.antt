@@ -1,5 +1,4 @@
 -- A list too short is left alone, and any other has the numbers copied to its front.
-use native.Mathlib.Omega.{arith}
 use borrow.Author.Needs.{needs}
 use Rattle.outline.proofs.TestLaws.{lent-short, lent-taken}
 use Rattle.outline.proofs.lend.Statement.{statement}

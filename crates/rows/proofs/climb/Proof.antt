@@ -1,4 +1,4 @@
--- `search::climb` meets its contract. The loop's invariant: the climb from row `i` is the climb from row `b`; each edge ends in a higher row.
+-- The loop's invariant: the climb from row `i` is the climb from row `b`; each edge ends in a higher row.
 use Prim.Native.Nat.{_-_, _≤_}
 use mathlib.Core.Path.{_≡_, refl, sym, _∙_}
 use native.Mathlib.Omega.{arith}

@@ -1,4 +1,4 @@
--- `search::crossing` meets its contract: each product is of a number of 16 bits and a count of rows, and the mean of two such numbers is one.
+-- Each product is of a number of 16 bits and a count of rows, and the mean of two such numbers is one.
 use Prim.Native.Nat.{_-_, _*_, _≤_}
 use mathlib.Core.Path.{refl}
 use denote.Ref.{now}

@@ -1,11 +1,11 @@
--- `search::furthest` meets its contract. The loop's invariant: the row found so far, with the rows from `k` on, leads to the furthest of all.
+-- The loop's invariant: the row found so far, with the rows from `k` on, leads to the furthest of all.
 use Prim.Native.Nat.{_-_, _≤_, _<_}
 use mathlib.Core.Path.{_≡_, sym, _∙_}
 use mathlib.Core.Bool.{true, false}
 use mathlib.Core.Logic.{⊎-elim}
 use denote.Ref.{now}
 use native.Mathlib.Omega.{arith}
-use Rattle.rows.specs.Search.{leans, furthest}
+use Rattle.rows.specs.Search.{furthest}
 use Rattle.rows.specs.Rows.{rows}
 use Rattle.rows.proofs.SearchLaws.{edgeEnd, edge-start, furthest-end, furthest-next}
 use Rattle.rows.proofs.furthest.Statement.{statement}

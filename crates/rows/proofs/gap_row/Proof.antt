@@ -1,4 +1,4 @@
--- `search::gap_row` meets its contract. The loop's invariant: no row passed begins right of the line.
+-- The loop's invariant: no row passed begins right of the line.
 use Prim.Native.Nat.{_-_, _≤_, _<_}
 use mathlib.Core.Path.{_≡_, sym}
 use native.Mathlib.Omega.{arith}

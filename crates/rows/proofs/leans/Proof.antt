@@ -1,4 +1,4 @@
--- `search::leans` meets its contract: each product is of a number of 16 bits and a count of rows, so no sum of two wraps.
+-- Each product is of a number of 16 bits and a count of rows, so no sum of two wraps.
 use Prim.Native.Nat.{_-_, _*_, _≤_}
 use borrow.Author.Needs.{needs}
 use native.Mathlib.Omega.{arith}

@@ -1,4 +1,4 @@
--- `search::lowest_gap` meets its contract: the climb up the mirror image finds the gap at the right side.
+-- The climb up the mirror image finds the gap at the right side.
 use native.Mathlib.Omega.{arith}
 use Rattle.rows.specs.Rows.{rows}
 use Rattle.rows.proofs.SearchLaws.{lowestGap-left, lowestGap-right}

@@ -1,4 +1,4 @@
--- `search::mark_down` meets its contract: it stores at the one row along which the letter runs down, or there is none on the chart.
+-- It stores at the one row along which the letter runs down, or there is none on the chart.
 use Prim.Native.Nat.{_-_}
 use native.Mathlib.Omega.{arith}
 use denote.Ref.{now}

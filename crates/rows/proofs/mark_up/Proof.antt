@@ -1,4 +1,4 @@
--- `search::mark_up` meets its contract: it stores at the one row along which the letter runs up, or there is none on the chart.
+-- It stores at the one row along which the letter runs up, or there is none on the chart.
 use native.Mathlib.Omega.{arith}
 use denote.Ref.{now}
 use mathlib.Core.Logic.{⊎-elim}

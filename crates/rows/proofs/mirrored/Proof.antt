@@ -1,4 +1,4 @@
--- `search::mirrored` meets its contract. The loop's invariant: every row passed has its mirror image.
+-- The loop's invariant: every row passed has its mirror image.
 use Prim.Native.Nat.{ℕ, _-_, _≤_, _<_}
 use mathlib.Core.Path.{_≡_, refl, _∙_}
 use mathlib.Core.Logic.{inl, inr}

@@ -8,14 +8,15 @@ use Rattle.rows.specs.Search.{keptColumn}
 use Rattle.rows.proofs.SearchLaws.{lowestGap-same}
 use Rattle.rows.proofs.RowLaws.{found-high, found-below, found-gap}
 use borrow.Author.Needs.{needs}
+use Rattle.chart.specs.Outline.{outline}
 use Rattle.rows.proofs.missing_cell.Statement.{statement}
 use Rattle.rows.proofs.missing_cell.Tie as tie
 
 returns : tie.Need-returns
-returns c = found-high _ _ _ _ (omega arith)
+returns c = found-high _ _ _ (omega arith)
 
 returns-2 : tie.Need-returns-2
-returns-2 c = found-below _ _ _ _ (omega arith)
+returns-2 c = found-below _ _ _ (omega arith)
 
 row-ends-requires : tie.Need-row-ends-requires
 row-ends-requires c κs = search needs
@@ -35,7 +36,7 @@ returns-3 c =
     let ends = c .before .before .before .row-ends in
     let b = c .before .before .wide in
     let t = c .before .wide2 in
-    c .lowest-gap .ensures ∙ rw (b .ensures .0, t .ensures .0, found-gap (args .s) (now (args .w)) (args .bottom) (args .top) (omega arith) (omega arith))
+    c .lowest-gap .ensures ∙ rw (b .ensures .0, t .ensures .0, found-gap (outline (args .s) (now (args .w))) (args .bottom) (args .top) (omega arith) (omega arith))
     (lowestGap-same
     (rows (ends .result .lo))
     (rows (ends .result .hi))

@@ -1,20 +1,21 @@
--- `search::row_ends` meets its contract. The loop's invariant: the columns kept so far and the letters that are left give the ends of the rows.
+-- The loop's invariant: the columns kept so far and the letters that are left give the ends of the rows.
 use Prim.Native.Nat.{_-_}
 use native.Mathlib.Omega.{arith}
 use denote.Ref.{now}
 use lib.ListN.{length}
+use Rattle.chart.specs.Outline.{outline}
 use Rattle.rows.proofs.RowLaws.{Marks, marks-start, marks-next, marks-end}
 use Rattle.rows.proofs.row_ends.Statement.{statement}
 use Rattle.rows.proofs.row_ends.Tie as tie
 
 abbrev Inv-loop : tie.InvT-loop
-Inv-loop w lo₀ hi₀ p₀ i₀ lo hi p i = Marks p₀ w i p lo hi
+Inv-loop w lo₀ hi₀ p₀ i₀ lo hi p i = Marks (outline p₀ w) i p lo hi
 
 abbrev μ-loop : tie.MeasureT-loop
 μ-loop w lo₀ hi₀ p₀ i₀ lo hi p i = length w - i
 
 loop-holds : tie.Need-loop-holds Inv-loop μ-loop
-loop-holds c = marks-start (c .before .args .s) (now (c .before .args .w))
+loop-holds c = marks-start (outline (c .before .args .s) (now (c .before .args .w)))
 
 shared-slice-read-letter : tie.Need-shared-slice-read-letter Inv-loop μ-loop
 shared-slice-read-letter c = omega arith
@@ -41,8 +42,7 @@ loop-again c =
     let up = c .before .before .before .mark-up in
     let down = c .before .mark-down in
     marks-next
-    (args .s)
-    (now (args .w))
+    (outline (args .s) (now (args .w)))
     (turn .i)
     (turn .p)
     (c .step .result)
@@ -60,7 +60,7 @@ returns : tie.Need-returns Inv-loop μ-loop
 returns c =
     let args = c .before .before .before .args in
     let turn = c .before .loop in
-    marks-end (args .s) (now (args .w)) (turn .i) (turn .p) (turn .lo) (turn .hi) (omega arith) (turn .inv)
+    marks-end (outline (args .s) (now (args .w))) (turn .i) (turn .p) (turn .lo) (turn .hi) (omega arith) (turn .inv)
 
 pub row-ends-spec : {M : Type 1} → statement M
 row-ends-spec =

@@ -1,13 +1,12 @@
 -- Each check is that of its definition, and each return cites the law of its refusal.
-use Prim.Native.Nat.{_-_, _<_}
 use native.Mathlib.Omega.{arith}
-use mathlib.Core.Path.{_≡_, sym, ap, _∙_}
-use mathlib.Core.Bool.{true, false}
+use mathlib.Core.Path.{_≡_, sym, _∙_}
+use mathlib.Core.Bool.{false}
 use lib.ListN.{length}
 use lib.Dec.{ltb}
 use borrow.Author.Needs.{needs}
+use Rattle.chart.specs.Outline.{outline}
 use Rattle.lattice.specs.Refusals.{badCount, badStart, letterPlace, leavingPlace, unclosed, touchingPlace}
-use Rattle.survey.specs.Survey.{surveyOf}
 use Rattle.survey.proofs.SurveyLaws.{counted-short, counted-long, none-found, survey-count, survey-start, survey-letter-at, survey-leaves-at, survey-unclosed, survey-touches-at, survey-passed}
 use Rattle.survey.proofs.survey.Statement.{statement}
 use Rattle.survey.proofs.survey.Tie as tie
@@ -25,23 +24,23 @@ started c = sym (c .before .bad-start .ensures) ∙ c .if2 .left
 lettered : (c : tie.Else3) → ltb (letterPlace (c .before .before .before .before .before .before .before .args .letters .now)) (length (c .before .before .before .before .before .before .before .args .letters .now)) ≡ false
 lettered c = none-found (c .before .letter-place .ensures) (c .if3 .left)
 
-stays : (c : tie.Else4) → ltb (leavingPlace (c .before .before .before .before .before .before .before .before .before .args .start) (c .before .before .before .before .before .before .before .before .before .args .letters .now)) (length (c .before .before .before .before .before .before .before .before .before .args .letters .now)) ≡ false
+stays : (c : tie.Else4) → ltb (leavingPlace (outline (c .before .before .before .before .before .before .before .before .before .args .start) (c .before .before .before .before .before .before .before .before .before .args .letters .now))) (length (c .before .before .before .before .before .before .before .before .before .args .letters .now)) ≡ false
 stays c = none-found (c .before .leaving-place .ensures) (c .if4 .left)
 
-closed : (c : tie.Else5) → unclosed (c .before .before .before .before .before .before .before .before .before .before .before .args .start) (c .before .before .before .before .before .before .before .before .before .before .before .args .letters .now) ≡ false
+closed : (c : tie.Else5) → unclosed (outline (c .before .before .before .before .before .before .before .before .before .before .before .args .start) (c .before .before .before .before .before .before .before .before .before .before .before .args .letters .now)) ≡ false
 closed c = sym (c .before .unclosed .ensures (stays (c .before .before))) ∙ c .if5 .left
 
-touched : (c : tie.After-touching-place) → c .touching-place .result ≡ touchingPlace (c .before .before .before .before .before .before .before .before .before .before .before .before .args .start) (c .before .before .before .before .before .before .before .before .before .before .before .before .args .letters .now)
+touched : (c : tie.After-touching-place) → c .touching-place .result ≡ touchingPlace (outline (c .before .before .before .before .before .before .before .before .before .before .before .before .args .start) (c .before .before .before .before .before .before .before .before .before .before .before .before .args .letters .now))
 touched c = c .touching-place .ensures (started (c .before .before .before .before .before .before .before)) (stays (c .before .before .before))
 
 returns : tie.Need-returns
-returns c = survey-count _ _ (sym (c .before .bad-count .ensures) ∙ c .if1 .taken)
+returns c = survey-count _ (sym (c .before .bad-count .ensures) ∙ c .if1 .taken)
 
 bad-start-requires : tie.Need-bad-start-requires
 bad-start-requires c κs = search needs
 
 returns-2 : tie.Need-returns-2
-returns-2 c = survey-start _ _ (counted (c .before .before)) (sym (c .before .bad-start .ensures) ∙ c .if2 .taken)
+returns-2 c = survey-start _ (counted (c .before .before)) (sym (c .before .bad-start .ensures) ∙ c .if2 .taken)
 
 letter-place-requires : tie.Need-letter-place-requires
 letter-place-requires c κs = search needs
@@ -51,7 +50,7 @@ cast-t12 c = omega (arith, counted-short _ (counted (c .before .before .before .
 
 returns-3 : tie.Need-returns-3
 returns-3 c =
-    survey-letter-at _ _ (counted (c .before .before .before .before)) (started (c .before .before)) (c .before .letter-place .ensures) (c .if3 .taken)
+    survey-letter-at _ (counted (c .before .before .before .before)) (started (c .before .before)) (c .before .letter-place .ensures) (c .if3 .taken)
 
 leaving-place-requires : tie.Need-leaving-place-requires
 leaving-place-requires c κs = search needs
@@ -61,14 +60,14 @@ cast-t14 c = omega (arith, counted-short _ (counted (c .before .before .before .
 
 returns-4 : tie.Need-returns-4
 returns-4 c =
-    survey-leaves-at _ _ (counted (c .before .before .before .before .before .before)) (started (c .before .before .before .before)) (lettered (c .before .before)) (c .before .leaving-place .ensures) (c .if4 .taken)
+    survey-leaves-at _ (counted (c .before .before .before .before .before .before)) (started (c .before .before .before .before)) (lettered (c .before .before)) (c .before .leaving-place .ensures) (c .if4 .taken)
 
 unclosed-requires : tie.Need-unclosed-requires
 unclosed-requires c κs = search needs
 
 returns-5 : tie.Need-returns-5
 returns-5 c =
-    survey-unclosed _ _ (counted (c .before .before .before .before .before .before .before .before)) (started (c .before .before .before .before .before .before)) (lettered (c .before .before .before .before)) (stays (c .before .before))
+    survey-unclosed _ (counted (c .before .before .before .before .before .before .before .before)) (started (c .before .before .before .before .before .before)) (lettered (c .before .before .before .before)) (stays (c .before .before))
     (sym (c .before .unclosed .ensures (stays (c .before .before))) ∙ c .if5 .taken)
 
 touching-place-requires : tie.Need-touching-place-requires
@@ -82,11 +81,11 @@ cast-t19 c = omega (arith, counted-short _ (counted (c .before .before .before .
 
 returns-6 : tie.Need-returns-6
 returns-6 c =
-    survey-touches-at _ _ (counted (c .before .before .before .before .before .before .before .before .before .before)) (started (c .before .before .before .before .before .before .before .before)) (lettered (c .before .before .before .before .before .before)) (stays (c .before .before .before .before)) (closed (c .before .before)) (touched (c .before)) (c .if6 .taken)
+    survey-touches-at _ (counted (c .before .before .before .before .before .before .before .before .before .before)) (started (c .before .before .before .before .before .before .before .before)) (lettered (c .before .before .before .before .before .before)) (stays (c .before .before .before .before)) (closed (c .before .before)) (touched (c .before)) (c .if6 .taken)
 
 returns-7 : tie.Need-returns-7
 returns-7 c =
-    survey-passed _ _
+    survey-passed _
     (record {
       counted = counted (c .before .before .before .before .before .before .before .before .before .before);
       started = started (c .before .before .before .before .before .before .before .before);

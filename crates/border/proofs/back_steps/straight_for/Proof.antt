@@ -1,10 +1,10 @@
--- `straight_for` meets its contract: no letter passed is a back-step, and the search stops at the first that is.
+-- No letter passed is a back-step, and the search stops at the first that is.
 use Prim.Native.Nat.{_-_}
 use mathlib.Core.Logic.{⊎-elim}
 use lib.ListN.{length}
 use borrow.Author.Needs.{needs}
 use borrow.Author.Tests.{eqb-true, eqb-false, not-true, not-false}
-use Rattle.border.proofs.BackStepLaws.{stray-other, stray-earlier, stray-later, Passed, passed-start, passed-next, passed-stop, passed-end}
+use Rattle.border.proofs.BackStepLaws.{back-step-other, no-back-step-earlier, no-back-step-later, Passed, passed-start, passed-next, passed-stop, passed-end}
 use Rattle.border.proofs.back_steps.straight_for.Statement.{statement}
 use Rattle.border.proofs.back_steps.straight_for.Tie as tie
 
@@ -28,7 +28,7 @@ returns c =
     let turn = c .before .before .before .before .before in
     let f = turn .before .before .pair-at .ensures in
     passed-stop (turn .before .loop .inv) (turn .loop-test .taken)
-    (stray-other f _ (c .before .before .if1 .taken) (eqb-false _ _ (not-true _ (c .if2 .taken))))
+    (back-step-other f _ (c .before .before .if1 .taken) (eqb-false _ _ (not-true _ (c .if2 .taken))))
 
 add-i : tie.Need-add-i Inv-loop μ-loop
 add-i c = search needs
@@ -41,7 +41,7 @@ loop-again c =
     let turn = c .before .before .before in
     let f = turn .before .before .pair-at .ensures in
     passed-next (turn .before .loop .inv) (turn .loop-test .taken)
-    (⊎-elim (λ w. stray-later f _ (w .0 .taken) (eqb-true _ _ (not-false _ (w .2 .left)))) (λ w. stray-earlier f _ (w .left)) (c .if1 .came))
+    (⊎-elim (λ w. no-back-step-later f _ (w .0 .taken) (eqb-true _ _ (not-false _ (w .2 .left)))) (λ w. no-back-step-earlier f _ (w .left)) (c .if1 .came))
 
 returns-2 : tie.Need-returns-2 Inv-loop μ-loop
 returns-2 c = passed-end (c .before .loop .inv) (c .loop-test .left)

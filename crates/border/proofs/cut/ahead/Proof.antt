@@ -1,5 +1,4 @@
--- `outline::cut::ahead` meets its contract: on the way past the end, n - a + b is b + n - a.
--- Assumes nothing.
+-- On the way past the end, n - a + b is b + n - a.
 use mathlib.Core.Path.{sym}
 use borrow.Author.Needs.{needs}
 use Rattle.border.proofs.CutLaws.{ahead-on, ahead-round}

@@ -1,5 +1,4 @@
--- `outline::cut::along` meets its contract: each arm of the match is a clause of the definition.
--- Assumes nothing.
+-- Each arm of the match is a clause of the definition.
 use native.Mathlib.Omega.{arith}
 use mathlib.Core.Path.{sym, _∙_}
 use borrow.Author.Needs.{needs}

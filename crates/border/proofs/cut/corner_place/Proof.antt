@@ -1,15 +1,15 @@
--- `outline::cut::corner_place` meets its contract: the loop keeps the first corner of those passed, by its rank, with its place, and the corner reached.
--- Assumes nothing.
+-- The loop keeps the first corner of those passed, by its rank, with its place, and the corner reached.
 use Prim.Native.Nat.{_-_}
 use mathlib.Core.Logic.{⊎-elim}
 use lib.ListN.{length}
 use borrow.Author.Needs.{needs}
+use Rattle.chart.specs.Outline.{outline}
 use Rattle.border.proofs.CutCode.{Ranking, ranking-start, ranking-first, ranking-later, scanned-end}
 use Rattle.border.proofs.cut.corner_place.Statement.{statement}
 use Rattle.border.proofs.cut.corner_place.Tie as tie
 
 abbrev Inv-loop : tie.InvT-loop
-Inv-loop w k f place₀ least₀ p₀ i₀ place least p i = Ranking p₀ w k f place least p i
+Inv-loop w k f place₀ least₀ p₀ i₀ place least p i = Ranking (outline p₀ w) k f place least p i
 
 abbrev μ-loop : tie.MeasureT-loop
 μ-loop w k f place₀ least₀ p₀ i₀ place least p i = length w - i
@@ -21,7 +21,7 @@ rank-requires : tie.Need-rank-requires Inv-loop μ-loop
 rank-requires c κs = search needs
 
 loop-holds : tie.Need-loop-holds Inv-loop μ-loop
-loop-holds c = ranking-start _ _ _ (c .rank .ensures)
+loop-holds c = ranking-start _ _ (c .rank .ensures)
 
 rank-requires-2 : tie.Need-rank-requires-2 Inv-loop μ-loop
 rank-requires-2 c κs = search needs

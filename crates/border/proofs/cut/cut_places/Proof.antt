@@ -1,4 +1,4 @@
--- `outline::cut::cut_places` meets its contract: the loop adds, piece by piece, how many letters lead on to the piece's last corner.
+-- The loop adds, piece by piece, how many letters lead on to the piece's last corner.
 use Prim.Native.Nat.{ℕ, suc, _-_, _≤_}
 use native.Mathlib.Nat.{mul-le-mul-right}
 use native.Mathlib.Omega.{arith}
@@ -9,6 +9,7 @@ use lib.ListN.{length}
 use borrow.Author.Needs.{needs}
 use Rattle.lattice.specs.Refusals.{Stays}
 use Rattle.chart.specs.declared.Point.{Point}
+use Rattle.chart.specs.Outline.{outline}
 use Rattle.convexity.specs.Cut.{cutCorner}
 use Rattle.border.proofs.CutLaws.{ahead-le}
 use Rattle.border.proofs.CutCode.{Cutting, cutting-start, cutting-next, cutting-end, no-cuts, corner-next, corner-last}
@@ -16,7 +17,7 @@ use Rattle.border.proofs.cut.cut_places.Statement.{statement}
 use Rattle.border.proofs.cut.cut_places.Tie as tie
 
 abbrev Inv-loop : tie.InvT-loop
-Inv-loop s t at₀ n sum₀ from₀ k₀ at sum from k = Cutting s t at sum from k
+Inv-loop s t at₀ n sum₀ from₀ k₀ at sum from k = Cutting (outline s t) at sum from k
 
 abbrev μ-loop : tie.MeasureT-loop
 μ-loop s t at₀ n sum₀ from₀ k₀ at sum from k = 4 - k
@@ -35,16 +36,16 @@ module _ (c : tie.Joined2 Inv-loop μ-loop) where
   to-within : c .if2 .to ≤ length letters - 1
   to-within = ⊎-elim (λ w. omega (arith, w .2, w .1 .ensures .within)) (λ w. omega (arith, w .1)) (c .if2 .came)
 
-  to-corner : Stays start letters → c .if2 .to ≡ cutCorner start letters (suc k)
+  to-corner : Stays (outline start letters) → c .if2 .to ≡ cutCorner (outline start letters) (suc k)
   to-corner e =
-      ⊎-elim (λ w. w .2 ∙ corner-next start letters k (w .0 .taken) (w .1 .ensures) e)
-      (λ w. w .1 ∙ corner-last start letters k (w .0 .left)) (c .if2 .came)
+      ⊎-elim (λ w. w .2 ∙ corner-next (outline start letters) k (w .0 .taken) (w .1 .ensures) e)
+      (λ w. w .1 ∙ corner-last (outline start letters) k (w .0 .left)) (c .if2 .came)
 
 returns : tie.Need-returns Inv-loop μ-loop
-returns c = no-cuts _ _ (search needs)
+returns c = no-cuts _ (search needs)
 
 loop-holds : tie.Need-loop-holds Inv-loop μ-loop
-loop-holds c = cutting-start _ _
+loop-holds c = cutting-start _
 
 add-corner-place : tie.Need-add-corner-place Inv-loop μ-loop
 add-corner-place c = search needs

@@ -1,5 +1,4 @@
--- `outline::cut::fill_rounds` meets its contract: each letter stored is the one a round before it, which is right already.
--- Assumes nothing.
+-- Each letter stored is the one a round before it, which is right already.
 use Prim.Native.Nat.{_-_, _≤_}
 use native.Mathlib.Omega.{arith}
 use mathlib.Core.Logic.{⊎-elim}

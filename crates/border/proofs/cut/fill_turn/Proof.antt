@@ -1,5 +1,4 @@
--- `outline::cut::fill_turn` meets its contract: the loop stores, one letter a turn, the letters from a place on, past the list's end to its beginning.
--- Assumes nothing.
+-- The loop stores, one letter a turn, the letters from a place on, past the list's end to its beginning.
 use Prim.Native.Nat.{_-_}
 use native.Mathlib.Omega.{arith}
 use mathlib.Core.Logic.{⊎-elim}

@@ -1,5 +1,4 @@
--- `outline::cut::sent` meets its contract: past the guards the sum fits, and else a premise fails.
--- Assumes nothing.
+-- Past the guards the sum fits, and else a premise fails.
 use Prim.Native.Nat.{_+_}
 use native.Mathlib.Nat.{mod-lt}
 use native.Mathlib.Omega.{arith}

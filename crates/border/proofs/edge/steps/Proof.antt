@@ -8,6 +8,7 @@ use mir.Val.{SFits, toZ, ofZ}
 use mir.ValLaws.{toZ-pos, toZ-ofZ}
 use borrow.Author.Needs.{needs}
 use Rattle.base.proofs.Sizes.{fits-size, size-sum, size-product-le}
+use Rattle.chart.specs.Limits.{longest}
 use Rattle.border.proofs.edge.steps.Statement.{statement}
 use Rattle.border.proofs.edge.steps.Tie as tie
 
@@ -18,10 +19,10 @@ module _ (s : tie.Start) where
   abbrev rise : ℤ
   rise = pos (s .args .rise) *ℤ s .args .later
 
-  run-size : natAbs run ≤ 2048
+  run-size : natAbs run ≤ longest
   run-size = size-product-le (pos (s .args .run)) (s .args .earlier) (s .pre .run-le) (s .pre .earlier-le)
 
-  rise-size : natAbs rise ≤ 2048
+  rise-size : natAbs rise ≤ longest
   rise-size = size-product-le (pos (s .args .rise)) (s .args .later) (s .pre .rise-le) (s .pre .later-le)
 
   run-fits : SFits w16 run

@@ -1,5 +1,4 @@
--- `outline::frame::pair_at` meets its contract: each row of the table is a clause of `frameOf`, whose last holds from 3 on.
--- Assumes nothing.
+-- Each row of the table is a clause of `frameOf`, whose last holds from 3 on.
 use Prim.Native.Nat.{ℕ, zero, suc, _≤_, _<_}
 use native.Mathlib.Omega.{arith}
 use mathlib.Core.Path.{_≡_, refl}

@@ -1,5 +1,4 @@
--- `lattice::walk::leaves` meets its contract: away from the border no letter leaves the chart, and else one of the four tests is the definition's clause for the letter, and the other three are false.
--- Assumes nothing.
+-- Away from the border no letter leaves the chart, and else one of the four tests is the definition's clause for the letter, and the other three are false.
 use mathlib.Core.Path.{sym}
 use Rattle.lattice.proofs.WalkCode.{inside-stays, leaves-tests}
 use Rattle.lattice.proofs.walk.leaves.Statement.{statement}

@@ -1,5 +1,4 @@
--- `lattice::walk::one_at` meets its contract: the branch's test is the definition's.
--- Assumes nothing.
+-- The branch's test is the definition's.
 use borrow.Author.Tests.{eq-eqb, ne-eqb}
 use Rattle.lattice.proofs.walk.one_at.Statement.{statement}
 use Rattle.lattice.proofs.walk.one_at.Tie as tie

@@ -1,6 +1,5 @@
--- `lattice::walk::step` meets its contract: where `leaves` is true the corner stays, and else each number changes by what the letter adds and takes away,
+-- Where `leaves` is true the corner stays, and else each number changes by what the letter adds and takes away,
 -- which is one step within 0 to 255 or nothing.
--- Assumes nothing.
 use mathlib.Core.Path.{_≡_, sym, _∙_}
 use mathlib.Core.Bool.{false}
 use borrow.Author.Needs.{needs}

@@ -1,5 +1,4 @@
--- `lattice::checks::bad_start` meets its contract: the two tests are those of the definition.
--- Assumes nothing.
+-- The two tests are those of the definition.
 use borrow.Author.Tests.{lt-ltb, le-ltb}
 use Rattle.lattice.specs.Refusals.{badStart}
 use Rattle.survey.proofs.checks.bad_start.Statement.{statement}

@@ -1,5 +1,4 @@
--- `lattice::checks::letter_place` meets its contract. The loop's invariant: no letter before place `i` is above 3. The measure is what is left of the letters.
--- Assumes nothing.
+-- The loop's invariant: no letter before place `i` is above 3. The measure is what is left of the letters.
 use Prim.Native.Nat.{ℕ, _≤_, _-_}
 use mathlib.Core.Path.{_≡_, sym, ap, _∙_}
 use mathlib.Core.Bool.{Bool}

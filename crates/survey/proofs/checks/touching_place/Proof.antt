@@ -1,12 +1,12 @@
--- `lattice::checks::touching_place` meets its contract. The loop's invariant: the corner in hand is on the chart, and where no letter leaves the chart it is
+-- The loop's invariant: the corner in hand is on the chart, and where no letter leaves the chart it is
 -- the walk's, no letter so far met a corner, and the flags that are set are those of the corners so far. The measure is what is left of the letters.
--- Assumes nothing.
 use Prim.Native.Nat.{_-_, _<_}
 use mathlib.Core.Path.{sym, _∙_}
 use mathlib.Core.Bool.{true≢false}
 use native.Mathlib.Omega.{arith}
 use lib.ListN.{length}
 use borrow.Author.Needs.{needs}
+use Rattle.chart.specs.Outline.{outline}
 use Rattle.lattice.proofs.WalkLaws.{OnChart}
 use Rattle.lattice.proofs.WalkCode.{stepped-on-chart, start-on-chart}
 use Rattle.survey.proofs.CheckLaws.{Touching, touching-zero, touching-more, touching-found, touching-end, number-below}
@@ -14,7 +14,7 @@ use Rattle.survey.proofs.checks.touching_place.Statement.{statement}
 use Rattle.survey.proofs.checks.touching_place.Tie as tie
 
 abbrev Inv-loop : tie.InvT-loop
-Inv-loop w met₀ start p₀ i₀ met p i = Touching p₀ w i p met
+Inv-loop w met₀ start p₀ i₀ met p i = Touching (outline p₀ w) i p met
 
 abbrev μ-loop : tie.MeasureT-loop
 μ-loop w met₀ start p₀ i₀ met p i = length w - i
@@ -44,7 +44,7 @@ array-write-met c = rw (c .number .ensures) (number-below _ (start (c .before .b
 
 loop-holds : tie.Need-loop-holds Inv-loop μ-loop
 loop-holds c =
-    rw (c .number .ensures) (touching-zero _ _ (c .before .unmarked .result) (c .before .unmarked .ensures .0) (c .before .unmarked .ensures .1) (start (c .before .before)))
+    rw (c .number .ensures) (touching-zero _ (c .before .unmarked .result) (c .before .unmarked .ensures .0) (c .before .unmarked .ensures .1) (start (c .before .before)))
 
 add-loop : tie.Need-add-loop Inv-loop μ-loop
 add-loop c = omega (arith, c .loop .inv .le)
@@ -63,7 +63,7 @@ array-read-if2 c = reached c
 
 returns-2 : tie.Need-returns-2 Inv-loop μ-loop
 returns-2 c = λ a h.
-    touching-found _ _ _ _ _ _ (c .before .before .before .before .before .loop .inv) (c .before .before .before .before .loop-test .taken) (c .before .before .step .ensures) (rw (c .before .number2 .ensures) at (c .if2 .taken)) h
+    touching-found _ _ _ _ _ (c .before .before .before .before .before .loop .inv) (c .before .before .before .before .loop-test .taken) (c .before .before .step .ensures) (rw (c .before .number2 .ensures) at (c .if2 .taken)) h
 
 array-write-met-2 : tie.Need-array-write-met-2 Inv-loop μ-loop
 array-write-met-2 c = reached (c .before)
@@ -77,10 +77,10 @@ loop-less c = omega (arith, c .before .before .before .before .loop-test .taken)
 loop-again : tie.Need-loop-again Inv-loop μ-loop
 loop-again c =
     rw (c .before .number2 .ensures)
-    (touching-more _ _ _ _ _ _ (c .before .before .before .before .before .loop .inv) (c .before .before .before .before .loop-test .taken) (c .before .before .step .ensures) (rw (c .before .number2 .ensures) at (c .if2 .left)))
+    (touching-more _ _ _ _ _ (c .before .before .before .before .before .loop .inv) (c .before .before .before .before .loop-test .taken) (c .before .before .step .ensures) (rw (c .before .number2 .ensures) at (c .if2 .left)))
 
 returns-3 : tie.Need-returns-3 Inv-loop μ-loop
-returns-3 c = λ a h. touching-end _ _ _ _ _ (c .before .loop .inv) (c .loop-test .left) h
+returns-3 c = λ a h. touching-end _ _ _ _ (c .before .loop .inv) (c .loop-test .left) h
 
 pub touching-place-spec : {M : Type 1} → statement M
 touching-place-spec =

@@ -1,5 +1,4 @@
--- `lattice::checks::unmarked` meets its contract: a repeat of 0 has the length of its count, and 0 at each index.
--- Assumes nothing.
+-- A repeat of 0 has the length of its count, and 0 at each index.
 use Prim.Native.Nat.{ℕ}
 use lib.ListN.{length-replicate}
 use Rattle.survey.proofs.CheckLaws.{zeros-zero}
