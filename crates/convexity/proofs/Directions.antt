@@ -76,7 +76,7 @@ data After (n e l k e′ l′ : ℕ) : Type 0 where
   later-frame : n ≤ k → After n e l k e′ l′
   same-frame : n ≡ suc k → l′ * e < l * e′ → After n e l k e′ l′
 
-slope-trans : (e l a b c d : ℕ) → b * e < l * a → d * a < b * c → d * e < l * c
+pub slope-trans : (e l a b c d : ℕ) → b * e < l * a → d * a < b * c → d * e < l * c
 slope-trans e l a b c d h k =
     ⊎-elim (λ z. absurd (omega (arith, ap (λ (n : ℕ). b * n) z)))
     (λ z. lt-of-mul-lt-mul-left a (omega (arith, mul-lt-mul-of-pos-right {k = c} h z, mul-le-mul-right e k)))

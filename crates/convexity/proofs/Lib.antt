@@ -1,4 +1,4 @@
--- One piece in its frame; the four pieces in a ring; the theorem and the four corners; back-steps; the reading and the same block; the edges' directions; the letters from the edges.
+-- One piece in its frame; the four pieces in a ring; the theorem and the four corners; back-steps; the reading and the same block; the edges' directions and their number; the letters from the edges.
 pub mod Frame
 pub mod Ring
 pub mod Quadrant
@@ -24,6 +24,7 @@ pub mod BackSteps
 pub mod Reading
 pub mod SameBlock
 pub mod Directions
+pub mod EdgeBound
 pub mod FromEdges
 pub mod Border
 pub mod Writing

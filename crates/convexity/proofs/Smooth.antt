@@ -44,9 +44,12 @@ edges-fall (f ∷ g ∷ fs) (then p l r) e =
     let rest = edges-fall (g ∷ fs) r (d .1) in
     (edge f p (d .0), slope-of-less (f .word) (g .word) (d .0) (dent-first g fs (falling-head r) (d .1) .0) l, rest)
 
--- No piece is dented: the edges of each fall
+-- No piece is dented
+pub smooth-piece : (o : Outline) → dentPiece o ≡ 4 → (k : ℕ) → k < 4 → dentLength (factors o k) ≡ 0
+unfolding dentPiece
+smooth-piece o e k l = omega (arith, ltb-false 0 (dentLength (factors o k)) (first-none-at (λ k. ltb 0 (dentLength (factors o k))) 4 e k l))
+
+-- So the edges of each fall
 pub smooth-edges : (o : Outline) → dentPiece o ≡ 4 → (k : ℕ) → k < 4 → EdgesFall (factors o k)
-unfolding dentPiece factors
-smooth-edges o e k l =
-    let none-here = ltb-false 0 (dentLength (factors o k)) (first-none-at (λ k. ltb 0 (dentLength (factors o k))) 4 e k l) in
-    edges-fall (factors o k) (factors-exist (word o k) .falling) (omega arith)
+unfolding factors
+smooth-edges o e k l = edges-fall (factors o k) (factors-exist (word o k) .falling) (smooth-piece o e k l)
