@@ -12,14 +12,14 @@ use lib.ListN.{length, getD, set, replicate, length-set, getD-replicate}
 use lib.Seq.{getD-set-same, getD-set-other}
 use lib.Dec.{ltb, eqb}
 use borrow.Author.Tests.{ltb-true, ltb-false, lt-ltb, le-ltb, eqb-true, eqb-false}
-use Rattle.base.proofs.BelowLaws.{below-suc, first-before}
+use Rattle.base.proofs.BelowLaws.{below-suc}
 use Rattle.chart.specs.Limits.{side, longest}
 use Rattle.chart.specs.declared.Point.{Point}
 use Rattle.chart.specs.Outline.{Outline}
-use Rattle.lattice.specs.Chart.{leaves, stepped, cornerAt, size, letterAt}
-use Rattle.lattice.specs.Refusals.{leavingPlace, Stays}
-use Rattle.lattice.proofs.WalkLaws.{corner-zero, corner-suc}
-use Rattle.lattice.proofs.WalkCode.{stepped-staying}
+use Rattle.lattice.specs.Chart.{stepped, cornerAt, size, letterAt}
+use Rattle.lattice.specs.Refusals.{Stays}
+use Rattle.lattice.proofs.WalkLaws.{corner-zero}
+use Rattle.lattice.proofs.WalkCode.{stays-at, corner-next as corner-reached}
 use Rattle.convexity.specs.Frame.{Frame, frameOf, along}
 use Rattle.convexity.specs.Cut.{before, least, cornerPlace, ahead, cutCorner, cut}
 use Rattle.border.specs.declared.frame.Pair.{Pair}
@@ -58,19 +58,6 @@ unfolding before
 before-ranks p q {r = r} h hp hq =
     digits-order (along (r .earlier) p) (along (r .earlier) q) (along (r .later) p) (along (r .later) q) hp hq ∙ rw (h .earlier, h .later)
 
--- No letter of a walk that stays on the chart leaves it
-pub stays-at : (o : Outline) → Stays o → (i : ℕ) → i < size o → leaves (cornerAt o i) (letterAt o i) ≡ false
-unfolding leavingPlace
-stays-at o t i l =
-    first-before (λ i. leaves (cornerAt o i) (letterAt o i)) (size o) i (omega (arith, ltb-false (leavingPlace o) (size o) t))
-
--- The corner that the next letter reaches
-pub step-reached : (o : Outline) (i : ℕ) {p q : Point} → Stays o → i < size o → p ≡ cornerAt o i → q ≡ stepped p (letterAt o i)
-    → q ≡ cornerAt o (i + 1)
-step-reached o i t l reached step =
-    step ∙ ap (λ (x : Point). stepped x (letterAt o i)) reached ∙ stepped-staying (cornerAt o i) (letterAt o i) (stays-at o t i l)
-    ∙ sym (corner-suc o i l) ∙ ap (cornerAt o) (sym (add-one i))
-
 -- The order of the places of a walk by their corners, in the frame of piece k
 abbrev pub placesBefore : Outline → ℕ → ℕ → ℕ → Bool
 placesBefore o k i j = before (frameOf k) (cornerAt o i) (cornerAt o j)
@@ -97,7 +84,7 @@ scanned-start o k =
 module _ {o : Outline} {k place : ℕ} {corner p q : Point} {i : ℕ} (h : Scanned o k place corner p i) (l : i < size o)
     (step : q ≡ stepped p (letterAt o i)) where
   next-reached : Stays o → q ≡ cornerAt o (i + 1)
-  next-reached t = step-reached o i t l (h .reached t) step
+  next-reached t = corner-reached o i p q l (h .reached t) (stays-at o t i l) step
 
   comes : Stays o → (b : Bool) → b ≡ before (frameOf k) p corner
       → least (placesBefore o k) (i + 1) ≡ cond b i place
@@ -106,8 +93,8 @@ module _ {o : Outline} {k place : ℕ} {corner p q : Point} {i : ℕ} (h : Scann
       let f = h .reached t in
       let g = h .best t in
       let d = h .held t in
-      let o : before (frameOf k) (cornerAt o i) (cornerAt o (least (placesBefore o k) i)) ≡ b = cc in
-      rw add-one (cc)
+      let z : before (frameOf k) (cornerAt o i) (cornerAt o (least (placesBefore o k) i)) ≡ b = cc in
+      rw add-one cc
 
   -- The corner reached comes before the first so far, and is the first from now on
   pub scanned-first : true ≡ before (frameOf k) p corner → Scanned o k i p q (i + 1)

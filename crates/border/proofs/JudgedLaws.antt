@@ -3,8 +3,8 @@ use Prim.Native.Nat.{ℕ, _*_, _≤_, _<_}
 use native.Mathlib.Omega.{arith}
 use mathlib.Core.Path.{_≡_, refl, sym, ap, _∙_}
 use mathlib.Core.Bool.{false}
-use mathlib.Core.List.{List, _++_}
-use lib.ListN.{length, getD, take, drop}
+use mathlib.Core.List.{List}
+use lib.ListN.{length, getD, take}
 use lib.Seq.{getD-take, length-take-le}
 use lib.IntN.{ℤ}
 use lib.Dec.{eqb}
@@ -15,12 +15,12 @@ use Rattle.chart.specs.declared.Refusal.{Refusal}
 use Rattle.chart.specs.declared.Refusal.the-variants.{Anticlockwise}
 use Rattle.chart.specs.declared.Verdict.the-variants.{Refused}
 use Rattle.chart.specs.Outline.{Outline, outline}
-use Rattle.lattice.specs.Chart.{cornerAt, size, letterAt}
+use Rattle.lattice.specs.Chart.{cornerAt, size, letterAt, rotation}
 use Rattle.lattice.specs.Refusals.{Simple, Stays}
-use Rattle.lattice.proofs.WalkLaws.{Walked, walked}
+use Rattle.lattice.proofs.WalkLaws.{Walked, walked, outline-eq}
 use Rattle.survey.specs.declared.Surveyed.the-variants.{Passed, Refused as Stopped}
 use Rattle.survey.specs.Survey.{surveyOf}
-use Rattle.convexity.specs.Cut.{westPlace, west, turn, reading, clockwise}
+use Rattle.convexity.specs.Cut.{westPlace, turn, reading, clockwise}
 use Rattle.convexity.specs.Pieces.{edges}
 use Rattle.verdict.specs.Verdict.{placeSent, readingVerdict, afterSurvey, verdictOf, lentAfter}
 use Rattle.border.specs.declared.Judged.{Judged}
@@ -35,7 +35,7 @@ pub record Copied (o : Outline) (v : ℕ) (p : Point) (buffer : List ℕ) : Type
   pub simple : Simple o
   pub place : CornerFound o 0 v
   pub corner : Stays o → p ≡ cornerAt o v
-  pub letters : v ≤ size o → size o ≤ 4 * longest → take (size o) buffer ≡ drop v (o .letters) ++ take v (o .letters)
+  pub letters : v ≤ size o → size o ≤ 4 * longest → take (size o) buffer ≡ rotation v (o .letters)
   pub sized : length buffer ≡ 4 * longest
 
 module _ {o : Outline} {v : ℕ} {p : Point} {buffer : List ℕ} (h : Copied o v p buffer) where
@@ -52,20 +52,17 @@ module _ {o : Outline} {v : ℕ} {p : Point} {buffer : List ℕ} (h : Copied o v
   unfolding westPlace
   place-is = h .place .place (h .simple .stays)
 
-  west-is : p ≡ west o
-  unfolding turn
-  west-is = h .corner (h .simple .stays) ∙ ap (cornerAt o) place-is
-
-  turn-is : take (size o) buffer ≡ turn o .letters
+  turn-is : outline p (take (size o) buffer) ≡ turn o
   unfolding turn
   turn-is =
-      h .letters (omega (arith, place-lt)) (omega (arith, letters-walked .short)) ∙ ap (λ (i : ℕ). drop i (o .letters) ++ take i (o .letters)) place-is
+      outline-eq (outline p (take (size o) buffer)) (turn o) (h .corner (h .simple .stays) ∙ ap (cornerAt o) place-is)
+      (h .letters (omega (arith, place-lt)) (omega (arith, letters-walked .short)) ∙ ap (λ (i : ℕ). rotation i (o .letters)) place-is)
 
   turn-length : size (turn o) ≡ size o
-  turn-length = sym (ap length turn-is) ∙ length-take-le (size o) buffer letters-fit
+  turn-length = ap size (sym turn-is) ∙ length-take-le (size o) buffer letters-fit
 
   first-letter : letterAt (turn o) 0 ≡ getD buffer 0 0
-  first-letter = sym (ap (λ (t : List ℕ). getD t 0 0) turn-is) ∙ getD-take (size o) buffer 0 0 (omega (arith, letters-walked .long))
+  first-letter = ap (λ (v : Outline). letterAt v 0) (sym turn-is) ∙ getD-take (size o) buffer 0 0 (omega (arith, letters-walked .long))
 
   -- 7
   pub copied-back : (getD buffer 0 0 ≡ 1 → ⊥) → {r : Judged} → ((es : List ℤ) → r ≡ judgedAs (Refused Anticlockwise) es) → r ≡ judgedReading o
@@ -76,31 +73,31 @@ module _ {o : Outline} {v : ℕ} {p : Point} {buffer : List ℕ} (h : Copied o v
 
   module _ (one : getD buffer 0 0 ≡ 1) {at after : List ℕ} (cuts : CutsOf (outline p (take (size o) buffer)) at) (rounded : Rounded buffer (size o) (getD at 4 0) after)
       (kept : length after ≡ length buffer) where
-    turn-after : take (size o) after ≡ turn o .letters
-    turn-after = rounded .same ∙ turn-is
+    turn-after : outline p (take (size o) after) ≡ turn o
+    turn-after = ap (outline p) (rounded .same) ∙ turn-is
 
     ready : Ready v (reading o) after at
     unfolding clockwise
     ready =
         let f = from-west o (h .simple) in
-        let c : CutsOf (reading o) at = rw (west-is, turn-is) at cuts in
+        let c : CutsOf (reading o) at = rw turn-is at cuts in
         record {
           turn = f;
           place = omega (arith, place-lt, turn-length);
           clockwise = eq-eqb (letterAt (turn o) 0) 1 (first-letter ∙ one);
           laid =
-              laid-of {before = buffer} (f .simple .stays) (omega (arith, turn-length, letters-walked .long)) (omega (arith, turn-length, letters-walked .short)) c (rw turn-length turn-is)
+              laid-of {before = buffer} (f .simple .stays) (omega (arith, turn-length, letters-walked .long)) (omega (arith, turn-length, letters-walked .short)) c (rw turn-length (ap (λ (v : Outline). v .letters) turn-is))
               (omega (arith, c .small, h .sized)) (rw turn-length rounded) kept;
           sized = omega (arith, kept, h .sized);
         }
 
     pub copied-ready : Turning v p (size o) after at
-    copied-ready = record { within = omega (arith, kept, letters-fit); ready = rw (west-is, turn-after) ready }
+    copied-ready = record { within = omega (arith, kept, letters-fit); ready = rw turn-after ready }
 
     -- 8 and 9, or taken
     pub copied-judged : {r : Judged} → r ≡ judgedTurn v (outline p (take (size o) after)) → r ≡ judgedReading o
     unfolding judgedReading readingVerdict judgedTurn placeSent
-    copied-judged e = e ∙ rw (place-is, west-is, turn-after, turn-length, ready .clockwise)
+    copied-judged e = e ∙ rw (place-is, ap size turn-after ∙ turn-length, turn-after, ready .clockwise)
 
 -- ---- the judgement
 

@@ -101,7 +101,7 @@ module _ {v : ℕ} {o : Outline} {cuts : List ℕ} (h : Straight v o cuts) where
   dent-named k i l m e b u f = rw (cell-found b u f, place-sent (h .turn) (h .place) m e)
 
   -- There is room for its edges
-  pub count-bounded : edgeCount o ≤ 1016
+  pub count-bounded : 2 * edgeCount o ≤ longestList
   count-bounded = edges-bounded o straight-clear
 
 -- ---- the answers
@@ -171,7 +171,7 @@ module _ {v : ℕ} {s : Point} {n : ℕ} {buffer cuts : List ℕ} (h : Turning v
       room : 2 * edgeCount t ≤ length zeros
       room = rw (length-replicate longestList (pos 0)) (omega (arith, count-bounded straight-of-turning))
 
-      pub count-le : m ≤ 1016
+      pub count-le : 2 * m ≤ longestList
       count-le = omega (arith, found .count room, count-bounded straight-of-turning)
 
       pub edges-judged : record { verdict = Taken m s; numbers = after } ≡ judgedTurn v t

@@ -1,6 +1,6 @@
 -- At most 1,016 edges: along each of the four directions the ring leaves at most 254 letters to two neighbouring words, and a factor has at
 -- least one letter.
-use Prim.Native.Nat.{ℕ, _+_, _*_, _≤_, _<_, zero-le}
+use Prim.Native.Nat.{ℕ, _+_, _-_, _*_, _≤_, _<_, zero-le}
 use native.Mathlib.Nat.{mul-pos}
 use native.Mathlib.Omega.{arith}
 use mathlib.Core.Path.{_≡_, refl, subst}
@@ -12,6 +12,7 @@ use Rattle.words.specs.Lyndon.{Factor, Falling, none, last, then, Proper, writt
 use Rattle.words.proofs.Counts.{earliers-laters, length-copies}
 use Rattle.words.proofs.Factors.{factors-exist}
 use Rattle.chart.specs.Outline.{Outline}
+use Rattle.chart.specs.Limits.{side, longestList}
 use Rattle.convexity.specs.Frame.{Frame}
 use Rattle.convexity.specs.Pieces.{word, factors, edgesOf, edges, edgeCount}
 use Rattle.convexity.proofs.Ring.{next, next-lt}
@@ -40,10 +41,10 @@ unfolding factors
 piece-count o k = rw earliers-laters (factors-count (word o k))
 
 -- Two neighbouring words share the chart's 255 corner lines in the direction of the first one's earlier letter
-pub neighbours : (o : Outline) → Shape o → (k : ℕ) → k < 4 → earliers (word o k) + laters (word o (next k)) ≤ 254
+pub neighbours : (o : Outline) → Shape o → (k : ℕ) → k < 4 → earliers (word o k) + laters (word o (next k)) ≤ side - 1
 neighbours o h k l = omega (arith, h .next-later k l, h .next-earlier (next k) (next-lt k))
 
-pub edges-bounded : (o : Outline) → NoBackStep o → edgeCount o ≤ 1016
+pub edges-bounded : (o : Outline) → NoBackStep o → 2 * edgeCount o ≤ longestList
 unfolding edgeCount
 edges-bounded o c =
     let share = neighbours o (shape o c) in

@@ -18,6 +18,7 @@ use Rattle.words.proofs.Factors.{falling-head, falling-tail, factors-exist}
 use Rattle.words.proofs.Dent.{Above}
 use Rattle.words.proofs.Criterion.{christoffel-or-above}
 use Rattle.chart.specs.declared.Point.{Point}
+use Rattle.chart.specs.Limits.{side}
 use Rattle.chart.specs.Outline.{Outline}
 use Rattle.lattice.specs.Enclosed.{encloses}
 use Rattle.lattice.specs.Hull
@@ -77,13 +78,13 @@ dented-word w h =
 -- ---- means in a frame
 
 module _ (a b c P P₁ P₂ P₃ Q Q₁ Q₂ Q₃ : ℕ) (some : 0 < a + b + c)
-    (p : P ≤ 254) (p₁ : P₁ ≤ 254) (p₂ : P₂ ≤ 254) (p₃ : P₃ ≤ 254) (q : Q ≤ 254) (q₁ : Q₁ ≤ 254) (q₂ : Q₂ ≤ 254) (q₃ : Q₃ ≤ 254)
+    (p : P ≤ side - 1) (p₁ : P₁ ≤ side - 1) (p₂ : P₂ ≤ side - 1) (p₃ : P₃ ≤ side - 1) (q : Q ≤ side - 1) (q₁ : Q₁ ≤ side - 1) (q₂ : Q₂ ≤ side - 1) (q₃ : Q₃ ≤ side - 1)
     (across : (a + b + c) * P ≡ a * P₁ + b * P₂ + c * P₃) (up : (a + b + c) * Q ≡ a * Q₁ + b * Q₂ + c * Q₃) where
-  P-flipped : (a + b + c) * (254 - P) ≡ a * (254 - P₁) + b * (254 - P₂) + c * (254 - P₃)
-  P-flipped = mean-mirror 254 a b c P P₁ P₂ P₃ _ _ _ _ (omega arith) (omega arith) (omega arith) (omega arith) across
+  P-flipped : (a + b + c) * (side - 1 - P) ≡ a * (side - 1 - P₁) + b * (side - 1 - P₂) + c * (side - 1 - P₃)
+  P-flipped = mean-mirror (side - 1) a b c P P₁ P₂ P₃ _ _ _ _ (omega arith) (omega arith) (omega arith) (omega arith) across
 
-  Q-flipped : (a + b + c) * (254 - Q) ≡ a * (254 - Q₁) + b * (254 - Q₂) + c * (254 - Q₃)
-  Q-flipped = mean-mirror 254 a b c Q Q₁ Q₂ Q₃ _ _ _ _ (omega arith) (omega arith) (omega arith) (omega arith) up
+  Q-flipped : (a + b + c) * (side - 1 - Q) ≡ a * (side - 1 - Q₁) + b * (side - 1 - Q₂) + c * (side - 1 - Q₃)
+  Q-flipped = mean-mirror (side - 1) a b c Q Q₁ Q₂ Q₃ _ _ _ _ (omega arith) (omega arith) (omega arith) (omega arith) up
 
   -- A mean of points in a frame is that mean of the cells
   cell-triangle : (k : ℕ) → Hull.InTriangle (cellOf k P Q) (cellOf k P₁ Q₁) (cellOf k P₂ Q₂) (cellOf k P₃ Q₃)
@@ -113,12 +114,12 @@ module _ (o : Outline) (straight : NoBackStep o) where
     abbrev cell : Point
     cell = cellOf k P Q
 
-    across-on-chart : P ≤ 254
+    across-on-chart : P ≤ side - 1
     across-on-chart =
         let m = mean-at-most (v .a) (v .b) (v .c) _ _ _ _ (earliers w) (v .some) (v .across) (earliers-take-le (v .i) w) (earliers-take-le (v .j) w) (earliers-take-le (v .k) w) in
         omega (arith, across-le o straight k h)
 
-    up-on-chart : Q ≤ 254
+    up-on-chart : Q ≤ side - 1
     up-on-chart =
         let m = mean-at-most (v .a) (v .b) (v .c) _ _ _ _ (laters w) (v .some) (v .up) (laters-take-le (v .i) w) (laters-take-le (v .j) w) (laters-take-le (v .k) w) in
         omega (arith, up-le o straight k h)
@@ -139,10 +140,10 @@ module _ (o : Outline) (straight : NoBackStep o) where
               (omega (arith, v .across)) (omega (arith, v .up)) k;
         }
       where
-        on-path-across : (i : ℕ) → startE o k + earliers (take i w) ≤ 254
+        on-path-across : (i : ℕ) → startE o k + earliers (take i w) ≤ side - 1
         on-path-across = path-across-le o straight k h
 
-        on-path-up : (i : ℕ) → startL o k + laters (take i w) ≤ 254
+        on-path-up : (i : ℕ) → startL o k + laters (take i w) ≤ side - 1
         on-path-up = path-up-le o straight k h
 
     cell-open : encloses o (cell .col) (cell .row) ≡ false

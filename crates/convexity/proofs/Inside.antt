@@ -207,14 +207,14 @@ module _ (o : Outline) where
   module _ (g : Shape o) (x : Point) (x-col : x .col < side) (x-row : x .row < side) where
     -- No vertex of piece j lies less far along the earlier letter of any frame than the first cell of that frame's piece
     none-before :
-        (j : ℕ) → j < 4 → {v w : ℤ} → Passed j 254 (startE o j) (startL o j) (earliers (word o j)) (laters (word o j)) v w
+        (j : ℕ) → j < 4 → {v w : ℤ} → Passed j (side - 1) (startE o j) (startL o j) (earliers (word o j)) (laters (word o j)) v w
         → (k : ℕ) → k < 4 → spans k x [] v w ≡ true → startE o k ≤ cellE k x
     none-before j h {v} {w} i =
         let a = next-lt j in
         let b = next-lt (next j) in
         let here = i .lies in
-        let after = lies-next j {q′ = 254 - i .q} (omega (arith, g .next-earlier j h)) here in
-        let across = lies-next (next j) {q′ = 254 - i .p} (omega (arith, g .next-later j h, g .next-earlier (next j) a)) after in
+        let after = lies-next j {q′ = side - 1 - i .q} (omega (arith, g .next-earlier j h)) here in
+        let across = lies-next (next j) {q′ = side - 1 - i .p} (omega (arith, g .next-later j h, g .next-earlier (next j) a)) after in
         let back = lies-next (next (next j)) {q′ = i .q} (omega (arith, g .next-earlier j h)) across in
         all-round (λ k. spans k x [] v w ≡ true → startE o k ≤ cellE k x) j h
         (λ m. omega (arith, placed-spans j x x-col x-row here .0 m))

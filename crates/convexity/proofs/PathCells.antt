@@ -35,28 +35,28 @@ cellOf (suc zero) P Q = point Q (side - 1 - P)
 cellOf (suc (suc zero)) P Q = point (side - 1 - P) (side - 1 - Q)
 cellOf (suc (suc (suc k))) P Q = point (side - 1 - Q) P
 
-pub cellE-cellOf : (k P Q : ℕ) → P ≤ 254 → cellE k (cellOf k P Q) ≡ P
+pub cellE-cellOf : (k P Q : ℕ) → P ≤ side - 1 → cellE k (cellOf k P Q) ≡ P
 unfolding cellE cellAlong frameOf cellOf
 cellE-cellOf zero P Q h = refl
 cellE-cellOf (suc zero) P Q h = omega arith
 cellE-cellOf (suc (suc zero)) P Q h = omega arith
 cellE-cellOf (suc (suc (suc k))) P Q h = refl
 
-pub cellL-cellOf : (k P Q : ℕ) → Q ≤ 254 → cellL k (cellOf k P Q) ≡ Q
+pub cellL-cellOf : (k P Q : ℕ) → Q ≤ side - 1 → cellL k (cellOf k P Q) ≡ Q
 unfolding cellL cellAlong frameOf cellOf
 cellL-cellOf zero P Q h = refl
 cellL-cellOf (suc zero) P Q h = refl
 cellL-cellOf (suc (suc zero)) P Q h = omega arith
 cellL-cellOf (suc (suc (suc k))) P Q h = omega arith
 
-pub col-cellOf : (k P Q : ℕ) → P ≤ 254 → Q ≤ 254 → cellOf k P Q .col ≤ 254
+pub col-cellOf : (k P Q : ℕ) → P ≤ side - 1 → Q ≤ side - 1 → cellOf k P Q .col ≤ side - 1
 unfolding cellOf
 col-cellOf zero P Q h l = h
 col-cellOf (suc zero) P Q h l = l
 col-cellOf (suc (suc zero)) P Q h l = omega arith
 col-cellOf (suc (suc (suc k))) P Q h l = omega arith
 
-pub row-cellOf : (k P Q : ℕ) → P ≤ 254 → Q ≤ 254 → cellOf k P Q .row ≤ 254
+pub row-cellOf : (k P Q : ℕ) → P ≤ side - 1 → Q ≤ side - 1 → cellOf k P Q .row ≤ side - 1
 unfolding cellOf
 row-cellOf zero P Q h l = l
 row-cellOf (suc zero) P Q h l = omega arith
@@ -66,7 +66,7 @@ row-cellOf (suc (suc (suc k))) P Q h l = h
 -- ---- cells beside a letter of a frame
 
 -- The later letter that leaves (P, Q) has the cell (P, Q) on its right hand
-pub right-later : (k : ℕ) (p : Point) (P Q : ℕ) → CornerIn k p P Q → P ≤ 254 → Q ≤ 254 → rightOf p (frameOf k .later) ≡ shifted (cellOf k P Q)
+pub right-later : (k : ℕ) (p : Point) (P Q : ℕ) → CornerIn k p P Q → P ≤ side - 1 → Q ≤ side - 1 → rightOf p (frameOf k .later) ≡ shifted (cellOf k P Q)
 unfolding frameOf along cellOf rightOf leftOf
 right-later zero p P Q c h l = point-eq (shifted p) (shifted (point P Q)) (ap suc (c .across)) (ap suc (c .up))
 right-later (suc zero) p P Q c h l =
@@ -77,7 +77,7 @@ right-later (suc (suc (suc k))) p P Q c h l =
     point-eq (point (p .col) (suc (p .row))) (shifted (point (side - 1 - Q) P)) (omega arith) (ap suc (c .across))
 
 -- The earlier letter that leaves (P, Q + 1) has it there too; where an earlier letter arrives and the walk turns left, it is the cell inside that turn
-pub right-earlier : (k : ℕ) (p : Point) (P Q : ℕ) → CornerIn k p P (suc Q) → P ≤ 254 → Q ≤ 254 → rightOf p (frameOf k .earlier) ≡ shifted (cellOf k P Q)
+pub right-earlier : (k : ℕ) (p : Point) (P Q : ℕ) → CornerIn k p P (suc Q) → P ≤ side - 1 → Q ≤ side - 1 → rightOf p (frameOf k .earlier) ≡ shifted (cellOf k P Q)
 unfolding frameOf along cellOf rightOf leftOf
 right-earlier zero p P Q c h l = point-eq (point (suc (p .col)) (p .row)) (shifted (point P Q)) (ap suc (c .across)) (c .up)
 right-earlier (suc zero) p P Q c h l = point-eq p (shifted (point Q (side - 1 - P))) (c .up) (omega arith)
@@ -106,10 +106,10 @@ pathCell o k i = cellOf k (pathE o k i) (pathL o k i)
 
 module _ (o : Outline) (c : NoBackStep o) where
   -- The frame bounds of a piece
-  pub across-le : (k : ℕ) → k < 4 → startE o k + earliers (word o k) ≤ 254
+  pub across-le : (k : ℕ) → k < 4 → startE o k + earliers (word o k) ≤ side - 1
   across-le k h = omega (arith, shape o c .next-later k h, shape o c .next-earlier (next k) (next-lt k))
 
-  pub up-le : (k : ℕ) → k < 4 → startL o k + laters (word o k) ≤ 254
+  pub up-le : (k : ℕ) → k < 4 → startL o k + laters (word o k) ≤ side - 1
   up-le k h = omega (arith, shape o c .next-earlier k h)
 
   module _ (k : ℕ) (h : k < 4) where
@@ -133,10 +133,10 @@ module _ (o : Outline) (c : NoBackStep o) where
               absurd (omega arith)
         ]
 
-    pub path-across-le : (i : ℕ) → pathE o k i ≤ 254
+    pub path-across-le : (i : ℕ) → pathE o k i ≤ side - 1
     path-across-le i = omega (arith, across-le k h, earliers-take-le i (word o k))
 
-    pub path-up-le : (i : ℕ) → pathL o k i ≤ 254
+    pub path-up-le : (i : ℕ) → pathL o k i ≤ side - 1
     path-up-le i = omega (arith, up-le k h, laters-take-le i (word o k))
 
     pub path-enclosed : (i : ℕ) → i ≤ length (word o k) → encloses o (pathCell o k i .col) (pathCell o k i .row) ≡ true

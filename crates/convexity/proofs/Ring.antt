@@ -1,6 +1,6 @@
 -- The four frames in a ring: each is the one before it, turned by a quarter. Its later letter is the earlier one of the frame before, and its earlier letter
 -- goes back along the later one of the frame before. So one law about a piece and the next serves all four.
-use Prim.Native.Nat.{ℕ, zero, suc, _+_, _<_}
+use Prim.Native.Nat.{ℕ, zero, suc, _+_, _-_, _<_}
 use native.Mathlib.Omega.{arith}
 use mathlib.Core.Path.{_≡_, refl, sym, ap, _∙_}
 use mathlib.Core.Logic.{_≢_}
@@ -122,7 +122,7 @@ cell-turned (suc zero) x = refl
 cell-turned (suc (suc zero)) x = refl
 cell-turned (suc (suc (suc k))) x = refl
 
-pub cell-next : (k : ℕ) (x : Point) → x .col < side → x .row < side → cellE (next k) x + cellL k x ≡ 254
+pub cell-next : (k : ℕ) (x : Point) → x .col < side → x .row < side → cellE (next k) x + cellL k x ≡ side - 1
 unfolding cellE cellL cellAlong frameOf
 cell-next zero x c r = omega arith
 cell-next (suc zero) x c r = omega arith

@@ -117,8 +117,8 @@ module _ (o : Outline) (c : NoBackStep o) where
     up : Crossing o 3 r
     up = crossing o c 3 (omega arith) r (omega (arith, bottom-start)) (omega (arith, top-start))
 
-    down : Crossing o 1 (254 - r)
-    down = crossing o c 1 (omega arith) (254 - r) (omega (arith, top-start)) (omega (arith, bottom-start, top-start))
+    down : Crossing o 1 (side - 1 - r)
+    down = crossing o c 1 (omega arith) (side - 1 - r) (omega (arith, top-start)) (omega (arith, bottom-start, top-start))
 
     abbrev upCol : ℕ
     upCol = cornerAt o (up .place) .col

@@ -1,11 +1,11 @@
 -- The convexity theorem for an outline as sent: its turn from W has the same enclosed cells, because the counts of a closed walk do not depend on where it begins.
-use Prim.Native.Nat.{ℕ, _≤_, _<_}
+use Prim.Native.Nat.{ℕ, _*_, _≤_, _<_}
 use mathlib.Core.Path.{_≡_, _∙_, sym, ap, subst₂}
 use mathlib.Core.Logic.{_↔_}
 use lib.Dec.{lit<}
 use Rattle.chart.specs.declared.Point.{Point}
 use Rattle.chart.specs.Outline.{Outline}
-use Rattle.chart.specs.Limits.{side}
+use Rattle.chart.specs.Limits.{side, longestList}
 use Rattle.lattice.specs.Chart.{cornerAt}
 use Rattle.lattice.specs.Enclosed.{encloses}
 use Rattle.lattice.specs.Hull.{Missing, LowestMissing}
@@ -71,6 +71,6 @@ module _ (o : Outline) where
           lowest = λ r l. sym (encloses-turn (h .simple) _ r) ∙ a .lowest r l;
         }
 
-    -- A list of 1,016 edges has room for every outline
-    pub edges-fit : edgeCount (reading o) ≤ 1016
+    -- The longest list has room for the edges of every outline
+    pub edges-fit : 2 * edgeCount (reading o) ≤ longestList
     edges-fit = edges-bounded (reading o) (clear-of h)

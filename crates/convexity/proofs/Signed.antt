@@ -118,7 +118,7 @@ pub record Lies (k o p q : ℕ) (x y : ℤ) : Type 0 where
 
 -- A cell, on the chart or off it, counts from the last column and row; a step counts from 0
 abbrev pub Placed : ℕ → ℕ → ℕ → ℤ → ℤ → Type 0
-Placed k p q x y = Lies k 254 p q x y
+Placed k p q x y = Lies k (side - 1) p q x y
 
 pub placed-cell : (k : ℕ) (x : Point) → x .col < side → x .row < side → Placed k (cellE k x) (cellL k x) (pos (x .col)) (pos (x .row))
 unfolding Counted cellE cellL cellAlong frameOf

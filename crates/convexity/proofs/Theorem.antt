@@ -1,7 +1,7 @@
 -- The convexity theorem. Enclosed is under four paths, inside is four rows of sides, and without a dent these are the same in each frame (E1). A mean of
 -- cells keeps every side, so without a dent no hull cell is missing, and with one a point above a path is (E2). The rows' ends then lead to the
 -- lowest missing cell (E3).
-use Prim.Native.Nat.{ℕ, zero, suc, _+_, _*_, _≤_, _<_, suc-le-suc}
+use Prim.Native.Nat.{ℕ, zero, suc, _+_, _-_, _*_, _≤_, _<_, suc-le-suc}
 use native.Mathlib.Omega.{arith}
 use native.Mathlib.Decide.{decLt}
 use mathlib.Core.Path.{_≡_, refl, sym, _∙_, subst}
@@ -56,9 +56,9 @@ unfolding cellAlong CellOnChart
 along-mean zero v xs ps qs us = v .cols
 along-mean (suc zero) v xs ps qs us = v .rows
 along-mean (suc (suc zero)) v xs ps qs us =
-    mean-mirror 254 (v .a) (v .b) (v .c) _ _ _ _ _ _ _ _ (omega arith) (omega arith) (omega arith) (omega arith) (v .cols)
+    mean-mirror (side - 1) (v .a) (v .b) (v .c) _ _ _ _ _ _ _ _ (omega arith) (omega arith) (omega arith) (omega arith) (v .cols)
 along-mean (suc (suc (suc l))) v xs ps qs us =
-    mean-mirror 254 (v .a) (v .b) (v .c) _ _ _ _ _ _ _ _ (omega arith) (omega arith) (omega arith) (omega arith) (v .rows)
+    mean-mirror (side - 1) (v .a) (v .b) (v .c) _ _ _ _ _ _ _ _ (omega arith) (omega arith) (omega arith) (omega arith) (v .rows)
 
 module _ (o : Outline) (straight : NoBackStep o) where
   abbrev formed : Shape o
@@ -129,8 +129,8 @@ module _ (o : Outline) (straight : NoBackStep o) where
       let p = enclosed-sides smooth (h .p) (h .p-marked) in
       let q = enclosed-sides smooth (h .q) (h .q-marked) in
       let u = enclosed-sides smooth (h .t) (h .t-marked) in
-      let xc : x .col < side = suc-le-suc (triangle-cols 254 v (omega arith) (omega arith) (omega arith)) in
-      let xr : x .row < side = suc-le-suc (triangle-below 254 v (omega arith) (omega arith) (omega arith)) in
+      let xc : x .col < side = suc-le-suc (triangle-cols (side - 1) v (omega arith) (omega arith) (omega arith)) in
+      let xr : x .row < side = suc-le-suc (triangle-below (side - 1) v (omega arith) (omega arith) (omega arith)) in
       enclosed-iff o straight x xc xr .1
       (all-under-iff-sides smooth x xc xr .1 (sides-all-mean v (xc, xr) (p .0) (q .0) (u .0) (p .1) (q .1) (u .1)))
 

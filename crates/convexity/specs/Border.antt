@@ -4,7 +4,7 @@ use mathlib.Core.List.{List}
 use lib.IntN.{ℤ}
 use Rattle.chart.specs.declared.Point.{Point}
 use Rattle.chart.specs.Outline.{Outline}
-use Rattle.convexity.specs.Cut.{west, reading}
+use Rattle.convexity.specs.Cut.{reading}
 use Rattle.convexity.specs.Pieces.{Reaches, dentPiece, edges}
 
 -- The outline reaches the dent test and is not dented; its anchor is a, the cell at W, and its edges are es

@@ -314,10 +314,6 @@ module _ (o : Outline) where
   pub ups-none : (x y : ℕ) → ((i : ℕ) → i < size o → letterAt o i ≡ 1 → cornerAt o i ≡ point x y → ⊥) → upsAt o x (suc y) ≡ 0
   ups-none x y h = ups-at-letters o x y ∙ letters-none o 1 (point x y) h
 
-  pub downs-none : (x R : ℕ) → ((i : ℕ) → i < size o → letterAt o i ≡ 3 → cornerAt o i ≡ point x R → ⊥) → downsAt o x R ≡ 0
-  unfolding downsAt
-  downs-none x R = letters-none o 3 (point x R)
-
   pub rights-none : (x y : ℕ) → ((i : ℕ) → i < size o → letterAt o i ≡ 0 → cornerAt o i ≡ point x y → ⊥) → rightsAt o x y ≡ 0
   unfolding rightsAt
   rights-none x y = letters-none o 0 (point x y)
@@ -402,22 +398,3 @@ module _ (o : Outline) (t : Walked o) where
   pub horizontal-sides-once : (x y : ℕ) → rightsAt o x y + leftsAt o x y ≤ 1
   unfolding rightsAt leftsAt
   horizontal-sides-once x y = side-once 0 2 (point x y) (point (suc x) y) (step-right x y) (step-left x y)
-
-  -- The side that the letter at place i runs along is used once
-  letter-one : (a : ℕ) (q : Point) (i : ℕ) → i < size o → letterAt o i ≡ a → cornerAt o i ≡ q → lettersAt o a q ≡ 1
-  letter-one a q i l e d = rw (← e, ← d) (letters-one i l)
-
-  pub up-one : (x y i : ℕ) → i < size o → letterAt o i ≡ 1 → cornerAt o i ≡ point x y → upsAt o x (suc y) ≡ 1
-  up-one x y i l e d = ups-at-letters o x y ∙ letter-one 1 (point x y) i l e d
-
-  pub down-one : (x R i : ℕ) → i < size o → letterAt o i ≡ 3 → cornerAt o i ≡ point x R → downsAt o x R ≡ 1
-  unfolding downsAt
-  down-one x R = letter-one 3 (point x R)
-
-  pub right-one : (x y i : ℕ) → i < size o → letterAt o i ≡ 0 → cornerAt o i ≡ point x y → rightsAt o x y ≡ 1
-  unfolding rightsAt
-  right-one x y = letter-one 0 (point x y)
-
-  pub left-one : (x y i : ℕ) → i < size o → letterAt o i ≡ 2 → cornerAt o i ≡ point (suc x) y → leftsAt o x y ≡ 1
-  unfolding leftsAt
-  left-one x y = letter-one 2 (point (suc x) y)

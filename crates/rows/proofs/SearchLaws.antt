@@ -18,7 +18,7 @@ use Rattle.lattice.proofs.WalkLaws.{point}
 pub product-small : (a d : ℕ) → a < 65536 → d < 256 → a * d ≤ 16711425
 product-small a d h k =
     let x : a ≤ 65535 = omega arith in
-    let y : d ≤ 255 = omega arith in
+    let y : d ≤ side = omega arith in
     mul-le-mul x y
 
 -- A mean of two numbers, rounded up, is below what bounds both

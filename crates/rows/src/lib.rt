@@ -87,7 +87,7 @@ fn leans(lo: &[u16; 256], i: usize, j: usize, k: usize) -> bool
 
 // Of the rows from `i + 1` to `t - 1`, the one to which the line from row `i` leans furthest left, the last among equals.
 fn furthest(lo: &[u16; 256], i: usize, t: usize) -> usize
-    requires { ⌜ (i + 1 < t) × (t ≤ 255) ⌝ }
+    requires { ⌜ (i + 1 < t) × (t ≤ side) ⌝ }
     ensures { λ r. ⌜ (r ≡ furthestOf (rows (now (lo .entry))) i (suc i) (suc (suc i)) (t - suc (suc i))) × (i < r) × (r < t) ⌝ }
 {
     let mut j = i + 1;
@@ -129,7 +129,7 @@ fn gap_row(lo: &[u16; 256], i: usize, j: usize) -> usize
 
 // Up the left side of the hull from row `b`: the first column of the first row that begins right of that side, or a cell of row `t` where there is none.
 fn climb(lo: &[u16; 256], t: usize, b: usize) -> Point
-    requires { ⌜ (b ≤ t) × (t ≤ 255) ⌝ }
+    requires { ⌜ (b ≤ t) × (t ≤ side) ⌝ }
     ensures { λ r. ⌜ (r ≡ climbOf (rows (now (lo .entry))) t b (t - b)) × (r .row ≤ t) ⌝ }
 {
     let mut i = b;
@@ -172,7 +172,7 @@ fn mirrored(hi: &[u16; 256]) -> [u16; 256]
 
 // The lower of the gaps at the left side and at the right side of rows `b` to `t - 1`; the left one in the same row.
 fn lowest_gap(ends: Ends, b: usize, t: usize) -> Point
-    requires { ⌜ (b ≤ t) × (t ≤ 255) ⌝ }
+    requires { ⌜ (b ≤ t) × (t ≤ side) ⌝ }
     ensures { λ r. ⌜ r ≡ lowestGap (rows (ends .lo)) (rows (ends .hi)) b t ⌝ }
 {
     let lo = ends.lo;

@@ -14,6 +14,7 @@ use lib.IntN.{ℤ}
 use borrow.Author.Tests.{lt-ltb, le-ltb, not-false}
 use Rattle.base.proofs.BelowLaws.{first-le}
 use Rattle.chart.specs.declared.Point.{Point}
+use Rattle.chart.specs.Limits.{longestList}
 use Rattle.chart.specs.declared.Refusal.{Refusal}
 use Rattle.chart.specs.declared.Refusal.the-variants.{Count, Start, Letter, Leaves, Unclosed, Touches, Anticlockwise, Room}
 use Rattle.chart.specs.declared.Verdict.{Verdict}
@@ -139,7 +140,7 @@ module _ (o : Outline) where
           record { reaches = reach; undented = u; count = cc; anchor = cc }
 
   -- The holder has room for the edges of every outline that is taken
-  pub taken-fits : (n : ℕ) (a : Point) → verdictOf o ≡ Taken n a → 2 * n ≤ 2032
+  pub taken-fits : (n : ℕ) (a : Point) → verdictOf o ≡ Taken n a → 2 * n ≤ longestList
   taken-fits n a e =
       let f : TakenFacts n a = taken-facts n a e in
       let fit = edges-fit o (f .reaches) in

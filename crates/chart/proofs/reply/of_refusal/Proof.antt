@@ -1,5 +1,5 @@
 -- Each arm writes the fields that the definition gives for its case.
-use mathlib.Core.Path.{_≡_, sym, ap}
+use mathlib.Core.Path.{sym, ap}
 use Rattle.chart.specs.Fields.{refusalFields}
 use borrow.Author.Needs.{needs}
 use Rattle.chart.proofs.reply.of_refusal.Statement.{statement}

@@ -1,5 +1,5 @@
 -- Each arm writes the fields that the definition gives for its case.
-use mathlib.Core.Path.{_≡_, _∙_, sym, ap}
+use mathlib.Core.Path.{_∙_, sym, ap}
 use Rattle.chart.specs.Fields.{verdictFields}
 use borrow.Author.Needs.{needs}
 use Rattle.chart.proofs.reply.of_verdict.Statement.{statement}
