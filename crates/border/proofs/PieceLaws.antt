@@ -10,7 +10,7 @@ use lib.Seq.{length-take-le}
 use lib.IntN.{ℤ, pos}
 use lib.Dec.{ltb}
 use borrow.Author.Tests.{lt-ltb}
-use Rattle.chart.specs.Limits.{side, longest, longestList}
+use Rattle.chart.specs.Limits.{side, longest, mostNumbers}
 use Rattle.chart.specs.declared.Point.{Point}
 use Rattle.chart.specs.Outline.{Outline, outline}
 use Rattle.chart.specs.declared.Refusal.{Refusal}
@@ -27,7 +27,8 @@ use Rattle.convexity.specs.Pieces.{backStepPiece, dentPiece, sent, edges, edgeC
 use Rattle.convexity.proofs.Quadrant.{NoBackStep}
 use Rattle.convexity.proofs.Extreme.{cornerPlace-lt, cornerPlace-first, not-before-earlier, turn-of}
 use Rattle.convexity.proofs.Shape.{straight-of, shape}
-use Rattle.convexity.proofs.Bounds.{edges-bounded, edges-length}
+use Rattle.convexity.proofs.Bounds.{edges-length}
+use Rattle.convexity.proofs.EdgeBound.{edges-at-most-100}
 use Rattle.verdict.specs.Verdict.{backStepIn, cellFound, dentIn, turnVerdict, lentAfter}
 use Rattle.border.specs.declared.Judged.{Judged}
 use Rattle.border.specs.Cutting.{Laid, SentTo}
@@ -101,8 +102,8 @@ module _ {v : ℕ} {o : Outline} {cuts : List ℕ} (h : Straight v o cuts) where
   dent-named k i l m e b u f = rw (cell-found b u f, place-sent (h .turn) (h .place) m e)
 
   -- There is room for its edges
-  pub count-bounded : 2 * edgeCount o ≤ longestList
-  count-bounded = edges-bounded o straight-clear
+  pub count-bounded : dentPiece o ≡ 4 → 2 * edgeCount o ≤ mostNumbers
+  count-bounded smooth = edges-at-most-100 o straight-clear smooth
 
 -- ---- the answers
 
@@ -169,10 +170,10 @@ module _ {v : ℕ} {s : Point} {n : ℕ} {buffer cuts : List ℕ} (h : Turning v
       found = e t (turn-walked (h .ready .turn) .short) (h .ready .laid)
 
       room : 2 * edgeCount t ≤ length zeros
-      room = rw (length-replicate longestList (pos 0)) (omega (arith, count-bounded straight-of-turning))
+      room = rw (length-replicate mostNumbers (pos 0)) (omega (arith, count-bounded straight-of-turning (found .none)))
 
-      pub count-le : 2 * m ≤ longestList
-      count-le = omega (arith, found .count room, count-bounded straight-of-turning)
+      pub count-le : 2 * m ≤ mostNumbers
+      count-le = omega (arith, found .count room, count-bounded straight-of-turning (found .none))
 
       pub edges-judged : record { verdict = Taken m s; numbers = after } ≡ judgedTurn v t
       edges-judged =

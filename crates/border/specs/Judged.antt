@@ -3,7 +3,7 @@ use Prim.Native.Nat.{ℕ}
 use mathlib.Core.List.{List}
 use lib.ListN.{replicate}
 use lib.IntN.{ℤ, pos}
-use Rattle.chart.specs.Limits.{longestList}
+use Rattle.chart.specs.Limits.{mostNumbers}
 use Rattle.chart.specs.declared.Verdict.{Verdict}
 use Rattle.chart.specs.Outline.{Outline}
 use Rattle.lattice.specs.Chart.{size}
@@ -13,7 +13,7 @@ use Rattle.verdict.specs.Verdict.{turnVerdict, readingVerdict, verdictOf, lentA
 use Rattle.border.specs.declared.Judged.{Judged}
 
 abbrev pub zeros : List ℤ
-zeros = replicate longestList (pos 0)
+zeros = replicate mostNumbers (pos 0)
 
 unfoldable pub judgedAs : Verdict → List ℤ → Judged
 judgedAs v es = record { verdict = v; numbers = lentAfter v es zeros }

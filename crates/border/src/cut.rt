@@ -16,7 +16,7 @@ ghost use Rattle.convexity.specs.Cut.{ahead as aheadOf};
 ghost use Rattle.border.specs.Cutting.{CornerFound, Turned, Rounded, CutsOf, SentTo};
 
 // A buffer that holds the letters as often round as four pieces can reach.
-pub(crate) const ROUNDS: usize = 8192;
+pub(crate) const ROUNDS: usize = 4 * LONGEST;
 
 // How far a number of a corner is from the chart's far border.
 fn short_of_side(x: u16) -> u16

@@ -3,7 +3,7 @@ use crate::back_steps::BackStep;
 use crate::cut::ROUNDS;
 use crate::cut::Turn;
 use crate::dents::Factored;
-use chart::LONGEST_LIST;
+use chart::MOST_NUMBERS;
 use chart::Point;
 use chart::Refusal;
 use chart::Verdict;
@@ -31,7 +31,7 @@ mod frame;
 // What is said of an outline by refusals 1 to 9, and its edges, two numbers an edge and then zeros: all zeros where it is refused.
 pub struct Judged {
     pub verdict: Verdict,
-    pub numbers: [i16; LONGEST_LIST],
+    pub numbers: [i16; MOST_NUMBERS],
 }
 
 fn refused(why: Refusal) -> Judged
@@ -39,7 +39,7 @@ fn refused(why: Refusal) -> Judged
 {
     Judged {
         verdict: Verdict::Refused(why),
-        numbers: [0; LONGEST_LIST],
+        numbers: [0; MOST_NUMBERS],
     }
 }
 
@@ -67,7 +67,7 @@ fn edges(turn: Turn, buffer: &[u8]) -> Judged
     requires { ⌜ ltb (backStepPiece (outline (turn .west) (take (turn .count) (now buffer)))) 4 ≡ false ⌝ }
     ensures { λ r. ⌜ r ≡ judgedTurn (turn .place) (outline (turn .west) (take (turn .count) (now (buffer .entry)))) ⌝ }
 {
-    let mut numbers = [0i16; LONGEST_LIST];
+    let mut numbers = [0i16; MOST_NUMBERS];
     let factored = dents::read(turn, buffer, &mut numbers);
     let count = turn.count;
     let anchor = turn.west;

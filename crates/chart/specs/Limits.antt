@@ -10,8 +10,12 @@ abbrev pub shortest : ℕ
 shortest = 4
 
 abbrev pub longest : ℕ
-longest = 2048
+longest = 612
 
--- The longest list of edges: two numbers for each of 1,016
+-- Room for the edges of every outline that is taken: two numbers for each of 100
+abbrev pub mostNumbers : ℕ
+mostNumbers = 200
+
+-- The longest list of a loose query
 abbrev pub longestList : ℕ
 longestList = 2032

@@ -13,14 +13,17 @@ pub const SIDE: u16 = 255;
 // An outline has at least and at most this many letters.
 pub const SHORTEST: usize = 4;
 
-pub const LONGEST: usize = 2048;
+pub const LONGEST: usize = 612;
 
-// The longest list of edges: two numbers for each of 1,016.
+// Room for the edges of every outline that is taken: two numbers for each of 100.
+pub const MOST_NUMBERS: usize = 200;
+
+// The longest list of a loose query.
 pub const LONGEST_LIST: usize = 2032;
 
 // Why an input is turned back: refusals 1 to 11, each with the fields that it names (contract 5).
 pub enum Refusal {
-    // 1. Fewer than 4 or more than 2,048 letters.
+    // 1. Fewer than 4 or more than 612 letters.
     Count,
     // 2. The start corner is off the chart.
     Start,

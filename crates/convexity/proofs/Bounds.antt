@@ -44,22 +44,6 @@ piece-count o k = rw earliers-laters (factors-count (word o k))
 pub neighbours : (o : Outline) → Shape o → (k : ℕ) → k < 4 → earliers (word o k) + laters (word o (next k)) ≤ side - 1
 neighbours o h k l = omega (arith, h .next-later k l, h .next-earlier (next k) (next-lt k))
 
-pub edges-bounded : (o : Outline) → NoBackStep o → 2 * edgeCount o ≤ longestList
-unfolding edgeCount
-edges-bounded o c =
-    let share = neighbours o (shape o c) in
-    omega (
-      arith,
-      share 0 (lit< tt),
-      share 1 (lit< tt),
-      share 2 (lit< tt),
-      share 3 (lit< tt),
-      piece-count o 0,
-      piece-count o 1,
-      piece-count o 2,
-      piece-count o 3,
-    )
-
 -- Two numbers an edge
 edges-of-length : (f : Frame) (fs : List Factor) → length (edgesOf f fs) ≡ 2 * length fs
 unfolding edgesOf

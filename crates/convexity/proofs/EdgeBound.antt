@@ -17,9 +17,10 @@ use Rattle.words.specs.Christoffel.{Christoffel, coprime}
 use Rattle.words.proofs.Counts.{earliers-laters, length-copies}
 use Rattle.words.proofs.Christoffel.{coprime-iff, christoffel-floors}
 use Rattle.words.proofs.Factors.{factors-exist, falling-head, falling-tail}
+use Rattle.chart.specs.Limits.{mostNumbers}
 use Rattle.chart.specs.Outline.{Outline}
 use Rattle.convexity.specs.Frame.{frameOf}
-use Rattle.convexity.specs.Cut.{westPlace, turn, reading}
+use Rattle.convexity.specs.Cut.{reading}
 use Rattle.convexity.specs.Pieces.{Reaches, piece, word, factors, edgeCount, dentLength, dentPiece}
 use Rattle.convexity.proofs.Frame.{Falls, EdgesFall}
 use Rattle.convexity.proofs.Quadrant.{NoBackStep}
@@ -187,14 +188,10 @@ module _ (o : Outline) (straight : NoBackStep o) where
     edges-and-letters =
         omega (arith, letters-of-words, piece-edges 0 (lit< tt), piece-edges 1 (lit< tt), piece-edges 2 (lit< tt), piece-edges 3 (lit< tt))
 
-pub edges-at-most-100 : (o : Outline) → NoBackStep o → dentPiece o ≡ 4 → length (o .letters) ≤ 612 → edgeCount o ≤ 100
-edges-at-most-100 o straight smooth h = omega (arith, edges-and-letters o straight smooth)
+-- At most 100 edges, of the longest outlines too
+pub edges-at-most-100 : (o : Outline) → NoBackStep o → dentPiece o ≡ 4 → 2 * edgeCount o ≤ mostNumbers
+edges-at-most-100 o straight smooth = omega (arith, edges-and-letters o straight smooth, straight .turn .walked .short)
 
--- The same for an outline as sent: its turn from W has as many letters
-module _ (o : Outline) where
-  length-turn : length (reading o .letters) ≡ length (o .letters)
-  unfolding turn
-  length-turn = let i = westPlace o in simp length-append (omega (arith, simp length-append at (ap length (take-append-drop i (o .letters)))))
-
-  pub edges-at-most-100-sent : Reaches o → dentPiece (reading o) ≡ 4 → length (o .letters) ≤ 612 → edgeCount (reading o) ≤ 100
-  edges-at-most-100-sent h smooth l = edges-at-most-100 (reading o) (clear-of o h) smooth (omega (arith, length-turn))
+-- The same for an outline as sent: the holder has room for the edges of every outline that is taken
+pub edges-fit : (o : Outline) → Reaches o → dentPiece (reading o) ≡ 4 → 2 * edgeCount (reading o) ≤ mostNumbers
+edges-fit o h smooth = edges-at-most-100 (reading o) (clear-of o h) smooth

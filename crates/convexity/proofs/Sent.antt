@@ -5,7 +5,7 @@ use mathlib.Core.Logic.{_↔_}
 use lib.Dec.{lit<}
 use Rattle.chart.specs.declared.Point.{Point}
 use Rattle.chart.specs.Outline.{Outline}
-use Rattle.chart.specs.Limits.{side, longestList}
+use Rattle.chart.specs.Limits.{side}
 use Rattle.lattice.specs.Chart.{cornerAt}
 use Rattle.lattice.specs.Enclosed.{encloses}
 use Rattle.lattice.specs.Hull.{Missing, LowestMissing}
@@ -14,14 +14,13 @@ use Rattle.rows.specs.Search.{missingCell}
 use Rattle.lattice.proofs.WalkLaws.{walked}
 use Rattle.lattice.proofs.RightHand.{encloses-rotation}
 use Rattle.convexity.specs.Cut.{west, turn, westPlace, cornerPlace, cutCorner, reading}
-use Rattle.convexity.specs.Pieces.{Reaches, IsAnchor, dentPiece, edges, edgeCount}
+use Rattle.convexity.specs.Pieces.{Reaches, IsAnchor, dentPiece, edges}
 use Rattle.convexity.specs.Inside.{insideEdges}
 use Rattle.lattice.proofs.HullLaws.{missing-same, lowest-same}
 use Rattle.convexity.proofs.Quadrant.{NoBackStep}
 use Rattle.convexity.proofs.Extreme.{turn-of}
 use Rattle.convexity.proofs.Shape.{shape, straight-of}
 use Rattle.convexity.proofs.Levels.{leaves-upwards, anchor-lowest}
-use Rattle.convexity.proofs.Bounds.{edges-bounded}
 use Rattle.convexity.proofs.Theorem.{edges-answer, dent-iff-missing, search-finds}
 
 module _ (o : Outline) where
@@ -70,7 +69,3 @@ module _ (o : Outline) where
           leftmost = λ c r l. sym (encloses-turn (h .simple) c r) ∙ a .leftmost c r l;
           lowest = λ r l. sym (encloses-turn (h .simple) _ r) ∙ a .lowest r l;
         }
-
-    -- The longest list has room for the edges of every outline
-    pub edges-fit : 2 * edgeCount (reading o) ≤ longestList
-    edges-fit = edges-bounded (reading o) (clear-of h)

@@ -12,7 +12,7 @@ use lib.Seq.{take-at}
 use lib.Dec.{leb}
 use lib.IntN.{ℤ, pos}
 use borrow.Author.Tests.{leb-false, lt-leb}
-use Rattle.chart.specs.Limits.{side, longestList}
+use Rattle.chart.specs.Limits.{side, mostNumbers, longestList}
 use Rattle.chart.specs.Outline.{Outline}
 use Rattle.chart.specs.Fields.{verdictFields}
 use Rattle.chart.specs.declared.Point.{Point}
@@ -60,21 +60,21 @@ same-outline d w o (some v) k l = rw (k .outline, l .outline, l .taken)
 
 -- The numbers of an outline's edges, with zeros behind them
 abbrev pub listed : Outline → Verdict → List ℤ
-listed o v = lentAfter v (edges (reading o)) (replicate longestList (pos 0))
+listed o v = lentAfter v (edges (reading o)) (replicate mostNumbers (pos 0))
 
 -- An outline that was taken is at work with its edges
 taken-working : (k : Kept) (o : Outline) (n : ℕ) (a : Point) → outlineOf k ≡ o → verdictOf o ≡ Taken n a → Working (replaced k a (listed o (Taken n a)) n) o
 unfolding replaced workEdges lentAfter
 taken-working k o n a kept e =
     let f : TakenFacts o n a = taken-facts o n a e in
-    let all : min (2 * n) longestList ≡ 2 * n = omega (arith, taken-fits o n a e) in
+    let all : min (2 * n) mostNumbers ≡ 2 * n = omega (arith, taken-fits o n a e) in
     let es : List ℤ = edges (reading o) in
     let size : length es ≡ 2 * n = edges-length (reading o) ∙ ap (λ (j : ℕ). 2 * j) (sym (f .count)) in
     record {
       taken = refl;
       outline = kept;
       anchor = f .anchor;
-      edges = rw all (take-at es (drop (length es) (replicate longestList (pos 0))) (2 * n) size);
+      edges = rw all (take-at es (drop (length es) (replicate mostNumbers (pos 0))) (2 * n) size);
       reaches = f .reaches;
       undented = f .undented;
     }
@@ -126,7 +126,7 @@ cond-same false r e = e refl
 -- The list of edges at work is no longer than there is space for
 work-short : (w : Work) → length (workEdges w) ≤ longestList
 unfolding workEdges
-work-short w = omega (arith, length-take (min (2 * w .edges) longestList) (w .numbers))
+work-short w = omega (arith, length-take (min (2 * w .edges) mostNumbers) (w .numbers))
 
 -- The edges at work answer for the outline at work
 work-answers : (w : Work) (x : Point) (o : Option Outline) → StandsForWork w o → located w x ≡ asked x o

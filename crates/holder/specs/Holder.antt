@@ -6,7 +6,7 @@ use mathlib.Core.List.{List}
 use lib.ListN.{take, set, replicate}
 use lib.Dec.{leb, ltb}
 use lib.IntN.{ℤ, pos}
-use Rattle.chart.specs.Limits.{longest, longestList}
+use Rattle.chart.specs.Limits.{longest, mostNumbers}
 use Rattle.chart.specs.Outline.{Outline}
 use Rattle.chart.specs.declared.Point.{Point}
 use Rattle.chart.specs.declared.Refusal.the-variants.{Start, Letter, Cell}
@@ -35,7 +35,7 @@ outlineOf k = record { start = k .start; letters = take (min (k .count) longest)
 
 -- The numbers of the edges at work
 unfoldable pub workEdges : Work → List ℤ
-workEdges w = take (min (2 * w .edges) longestList) (w .numbers)
+workEdges w = take (min (2 * w .edges) mostNumbers) (w .numbers)
 
 -- Nothing kept; nothing drafted; nothing at work
 unfoldable pub noneKept : Kept
@@ -46,7 +46,7 @@ noDraft = record { begun = false; kept = noneKept }
 
 unfoldable pub noWork : Work
 noWork =
-    record { taken = false; kept = noneKept; anchor = record { col = 0; row = 0 }; numbers = replicate longestList (pos 0); edges = 0 }
+    record { taken = false; kept = noneKept; anchor = record { col = 0; row = 0 }; numbers = replicate mostNumbers (pos 0); edges = 0 }
 
 unfoldable pub freshHolder : Holder
 freshHolder = record { draft = noDraft; work = noWork }

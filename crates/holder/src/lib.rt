@@ -1,6 +1,6 @@
 // The holder: a draft, what is at work, and the calls on them (contract 7).
 use chart::LONGEST;
-use chart::LONGEST_LIST;
+use chart::MOST_NUMBERS;
 use chart::Point;
 use chart::Refusal;
 use chart::Verdict;
@@ -34,7 +34,7 @@ pub struct Work {
     pub taken: bool,
     pub kept: Kept,
     pub anchor: Point,
-    pub numbers: [i16; LONGEST_LIST],
+    pub numbers: [i16; MOST_NUMBERS],
     pub edges: usize,
 }
 

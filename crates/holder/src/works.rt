@@ -2,7 +2,7 @@
 use crate::Kept;
 use crate::Reply;
 use crate::Work;
-use chart::LONGEST_LIST;
+use chart::MOST_NUMBERS;
 use chart::Point;
 use chart::Refusal;
 use polygon::bad_cell;
@@ -10,24 +10,24 @@ use polygon::inside;
 ghost use mathlib.Core.Path.{_≡_};
 ghost use Prim.Native.Nat.{_*_, min};
 ghost use lib.ListN.{take};
-ghost use Rattle.chart.specs.Limits.{longestList};
+ghost use Rattle.chart.specs.Limits.{mostNumbers};
 ghost use Rattle.polygon.specs.Loose.{insideList};
 ghost use Rattle.holder.specs.Holder.{noWork, workEdges, replaced, removed, hasOutline, located};
 
 // How many numbers stand for this many edges: no more than there is space for.
 fn number_count(edges: usize) -> usize
-    ensures { λ r. ⌜ r ≡ min (2 * edges) longestList ⌝ }
+    ensures { λ r. ⌜ r ≡ min (2 * edges) mostNumbers ⌝ }
 {
-    if edges < LONGEST_LIST / 2 {
+    if edges < MOST_NUMBERS / 2 {
         2 * edges
     } else {
-        LONGEST_LIST
+        MOST_NUMBERS
     }
 }
 
 // The numbers of the edges, of those that there is space for.
-fn first(numbers: &[i16; LONGEST_LIST], edges: usize) -> &[i16]
-    ensures { λ r. ⌜ now r ≡ take (min (2 * edges) longestList) (now (numbers .entry)) ⌝ }
+fn first(numbers: &[i16; MOST_NUMBERS], edges: usize) -> &[i16]
+    ensures { λ r. ⌜ now r ≡ take (min (2 * edges) mostNumbers) (now (numbers .entry)) ⌝ }
 {
     let n = number_count(edges);
     let all = &numbers[..];
@@ -43,7 +43,7 @@ impl Work {
             taken: false,
             kept,
             anchor: Point { col: 0, row: 0 },
-            numbers: [0; LONGEST_LIST],
+            numbers: [0; MOST_NUMBERS],
             edges: 0,
         }
     }
@@ -53,7 +53,7 @@ impl Work {
         mut self,
         kept: Kept,
         anchor: Point,
-        numbers: [i16; LONGEST_LIST],
+        numbers: [i16; MOST_NUMBERS],
         edges: u16,
     ) -> Self
         ensures { λ r. ⌜ r ≡ replaced kept anchor numbers edges ⌝ }

@@ -7,7 +7,7 @@ use lib.ListN.{length, take, drop, length-take}
 use lib.Seq.{length-take-le, take-at}
 use lib.IntN.{ℤ}
 use borrow.Author.Tests.{lt-ltb, le-ltb}
-use Rattle.chart.specs.Limits.{longestList}
+use Rattle.chart.specs.Limits.{mostNumbers}
 use Rattle.chart.specs.declared.Point.{Point}
 use Rattle.chart.specs.declared.Refusal.{Refusal}
 use Rattle.chart.specs.declared.Refusal.the-variants.{Room}
@@ -77,7 +77,7 @@ module _ (o : Outline) (j : Judged) (e : j ≡ judgedOf o) where
         ap (λ (x : Judged). take (2 * n) (x .numbers)) e ∙ ap (take (2 * n)) (judged-numbers o) ∙ rw taken (take-at _ _ (2 * n) edges-size)
 
     -- The list has its numbers, and they are no more than there can be
-    pub taken-room : (2 * n ≤ longestList) × (2 * n ≤ length (j .numbers))
+    pub taken-room : (2 * n ≤ mostNumbers) × (2 * n ≤ length (j .numbers))
     taken-room =
         let size : min (2 * n) (length (j .numbers)) ≡ 2 * n = sym (length-take (2 * n) (j .numbers)) ∙ ap length first-numbers ∙ edges-size in
         (taken-fits o n a taken, omega arith)

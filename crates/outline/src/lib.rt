@@ -6,7 +6,7 @@ ghost use Prim.Native.Nat.{_*_, _≤_};
 ghost use mathlib.Core.Path.{_≡_};
 ghost use mathlib.Core.List.{_++_};
 ghost use lib.ListN.{length, take, drop};
-ghost use Rattle.chart.specs.Limits.{longestList};
+ghost use Rattle.chart.specs.Limits.{mostNumbers};
 ghost use Rattle.chart.specs.Outline.{outline};
 ghost use Rattle.chart.specs.Fields.{verdictFields};
 ghost use Rattle.verdict.specs.Verdict.{testOf, testFields, edgesAfter};
@@ -28,7 +28,7 @@ fn copy_edges(list: &[i16], n: usize, edges: &mut [i16])
 
 // Refusal 10, or the outline is taken: the numbers of the first `count` edges of a list are lent.
 fn lend(anchor: Point, list: &[i16], count: u16, edges: &mut [i16]) -> Verdict
-    requires { ⌜ (2 * count ≤ longestList) × (2 * count ≤ length (now list)) ⌝ }
+    requires { ⌜ (2 * count ≤ mostNumbers) × (2 * count ≤ length (now list)) ⌝ }
     ensures { λ r. ⌜ Lent anchor (take (2 * count) (now (list .entry))) count (now (edges .entry)) (now (edges .exit)) r ⌝ }
 {
     let n = 2 * (count as usize);

@@ -14,7 +14,7 @@ use lib.IntN.{ℤ}
 use borrow.Author.Tests.{lt-ltb, le-ltb, not-false}
 use Rattle.base.proofs.BelowLaws.{first-le}
 use Rattle.chart.specs.declared.Point.{Point}
-use Rattle.chart.specs.Limits.{longestList}
+use Rattle.chart.specs.Limits.{mostNumbers}
 use Rattle.chart.specs.declared.Refusal.{Refusal}
 use Rattle.chart.specs.declared.Refusal.the-variants.{Count, Start, Letter, Leaves, Unclosed, Touches, Anticlockwise, Room}
 use Rattle.chart.specs.declared.Verdict.{Verdict}
@@ -30,7 +30,7 @@ use Rattle.survey.proofs.SurveyLaws.{survey-passed}
 use Rattle.convexity.specs.Cut.{reading, clockwise}
 use Rattle.convexity.specs.Pieces.{backStepPiece, factors, dentLength, dentPiece, edges, edgeCount, Reaches}
 use Rattle.convexity.proofs.Bounds.{edges-length}
-use Rattle.convexity.proofs.Sent.{edges-fit}
+use Rattle.convexity.proofs.EdgeBound.{edges-fit}
 use Rattle.verdict.specs.Verdict.{placeSent, backStepIn, dentIn, turnVerdict, readingVerdict, afterSurvey, verdictOf, withRoom, testOf, lentAfter, edgesAfter}
 use Rattle.verdict.specs.Dents.{Dented, dentOf}
 
@@ -140,10 +140,10 @@ module _ (o : Outline) where
           record { reaches = reach; undented = u; count = cc; anchor = cc }
 
   -- The holder has room for the edges of every outline that is taken
-  pub taken-fits : (n : ℕ) (a : Point) → verdictOf o ≡ Taken n a → 2 * n ≤ longestList
+  pub taken-fits : (n : ℕ) (a : Point) → verdictOf o ≡ Taken n a → 2 * n ≤ mostNumbers
   taken-fits n a e =
       let f : TakenFacts n a = taken-facts n a e in
-      let fit = edges-fit o (f .reaches) in
+      let fit = edges-fit o (f .reaches) (f .undented) in
       omega (arith, f .count)
 
   -- Number 9 is the answer exactly for a dented outline
