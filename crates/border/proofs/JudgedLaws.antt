@@ -52,28 +52,28 @@ module _ {o : Outline} {v : ℕ} {p : Point} {buffer : List ℕ} (h : Copied o v
   unfolding westPlace
   place-is = h .place .place (h .simple .stays)
 
-  turn-is : outline p (take (size o) buffer) ≡ turn o
+  turn-is : outline p (take (size o) buffer) ≡ reading o
   unfolding turn
   turn-is =
-      outline-eq (outline p (take (size o) buffer)) (turn o) (h .corner (h .simple .stays) ∙ ap (cornerAt o) place-is)
+      outline-eq (outline p (take (size o) buffer)) (reading o) (h .corner (h .simple .stays) ∙ ap (cornerAt o) place-is)
       (h .letters (omega (arith, place-lt)) (omega (arith, letters-walked .short)) ∙ ap (λ (i : ℕ). rotation i (o .letters)) place-is)
 
-  turn-length : size (turn o) ≡ size o
+  turn-length : size (reading o) ≡ size o
   turn-length = ap size (sym turn-is) ∙ length-take-le (size o) buffer letters-fit
 
-  first-letter : letterAt (turn o) 0 ≡ getD buffer 0 0
+  first-letter : letterAt (reading o) 0 ≡ getD buffer 0 0
   first-letter = ap (λ (v : Outline). letterAt v 0) (sym turn-is) ∙ getD-take (size o) buffer 0 0 (omega (arith, letters-walked .long))
 
   -- 7
   pub copied-back : (getD buffer 0 0 ≡ 1 → ⊥) → {r : Judged} → ((es : List ℤ) → r ≡ judgedAs (Refused Anticlockwise) es) → r ≡ judgedReading o
   unfolding judgedReading readingVerdict clockwise
   copied-back k e =
-      let back : eqb (letterAt (turn o) 0) 1 ≡ false = ne-eqb (letterAt (turn o) 0) 1 (λ f. k (sym first-letter ∙ f)) in
+      let back : eqb (letterAt (reading o) 0) 1 ≡ false = ne-eqb (letterAt (reading o) 0) 1 (λ f. k (sym first-letter ∙ f)) in
       e (edges (reading o)) ∙ rw back
 
   module _ (one : getD buffer 0 0 ≡ 1) {at after : List ℕ} (cuts : CutsOf (outline p (take (size o) buffer)) at) (rounded : Rounded buffer (size o) (getD at 4 0) after)
       (kept : length after ≡ length buffer) where
-    turn-after : outline p (take (size o) after) ≡ turn o
+    turn-after : outline p (take (size o) after) ≡ reading o
     turn-after = ap (outline p) (rounded .same) ∙ turn-is
 
     ready : Ready v (reading o) after at
@@ -84,7 +84,7 @@ module _ {o : Outline} {v : ℕ} {p : Point} {buffer : List ℕ} (h : Copied o v
         record {
           turn = f;
           place = omega (arith, place-lt, turn-length);
-          clockwise = eq-eqb (letterAt (turn o) 0) 1 (first-letter ∙ one);
+          clockwise = eq-eqb (letterAt (reading o) 0) 1 (first-letter ∙ one);
           laid =
               laid-of {before = buffer} (f .simple .stays) (omega (arith, turn-length, letters-walked .long)) (omega (arith, turn-length, letters-walked .short)) c (rw turn-length (ap (λ (v : Outline). v .letters) turn-is))
               (omega (arith, c .small, h .sized)) (rw turn-length rounded) kept;

@@ -141,7 +141,7 @@ module _ (o : Outline) (h : Turn o) (up : letterAt o 0 ≡ 1) where
   abbrev place : ℕ → ℕ
   place k = cutCorner o k
 
-  place-lt : (k : ℕ) → k < 4 → place k < (size o)
+  place-lt : (k : ℕ) → k < 4 → place k < size o
   place-lt k l = corner-first o h k l .below
 
   -- What holds of the corner at every place holds at the end, which is W again
@@ -288,10 +288,10 @@ module _ (o : Outline) (h : Turn o) (up : letterAt o 0 ≡ 1) where
     cuts zero l = omega (arith, cut-zero o, corner-west o)
     cuts (suc k) l = cut-on o k (cuts k (omega arith)) (omega (arith, rise k (omega arith)))
 
-    round : cut o 4 ≡ (size o)
+    round : cut o 4 ≡ size o
     round = cut-round o cuts rise (place-lt 3 (omega arith))
 
-    fits : (k : ℕ) → k < 4 → cut o (suc k) ≤ (size o)
+    fits : (k : ℕ) → k < 4 → cut o (suc k) ≤ size o
     fits = cuts-fit o cuts rise (place-lt 3 (omega arith))
 
     -- In each piece, the two letters that are not its own

@@ -63,31 +63,31 @@ simple-turn o h =
 -- ---- the letters written back are the outline
 
 module _ {o : Outline} {a : Point} {es : List ℤ} (h : HasEdges o a es) where
-  -- A taken outline's turn is the anchor with the letters that its edges write
-  pub border-turn : turn o ≡ outline a (lettersFrom es)
-  border-turn = outline-eq (turn o) (outline a (lettersFrom es)) (h .anchor) (sent-from-edges o (h .reaches) (h .smooth) ∙ ap lettersFrom (h .edged))
+  -- A taken outline's reading is the anchor with the letters that its edges write
+  pub border-reading : reading o ≡ outline a (lettersFrom es)
+  border-reading = outline-eq (reading o) (outline a (lettersFrom es)) (h .anchor) (sent-from-edges o (h .reaches) (h .smooth) ∙ ap lettersFrom (h .edged))
 
   -- The anchor is the lowest enclosed cell of the leftmost column
   pub border-anchor : IsAnchor o a
   border-anchor = subst (IsAnchor o) (h .anchor) (west-anchor o (h .reaches))
 
-  -- And that turn has this anchor and these edges
+  -- And that outline has this anchor and these edges
   pub border-has : HasEdges (outline a (lettersFrom es)) a es
   border-has =
       let r = h .reaches in
-      subst (λ (v : Outline). HasEdges v (v .start) es) border-turn
+      subst (λ (v : Outline). HasEdges v (v .start) es) border-reading
       (has-self (reading o) (turn-of o (r .simple)) es (simple-turn o (r .simple)) (r .clockwise) (r .straight) (h .smooth) (h .edged))
 
   -- It encloses the same cells
   pub border-encloses : (c r : ℕ) → encloses (outline a (lettersFrom es)) c r ≡ encloses o c r
-  border-encloses c r = ap (λ (v : Outline). encloses v c r) (sym border-turn) ∙ encloses-turn o (h .reaches .simple) c r
+  border-encloses c r = ap (λ (v : Outline). encloses v c r) (sym border-reading) ∙ encloses-turn o (h .reaches .simple) c r
 
 -- Refusal 17: some taken outline has this anchor and these edges exactly if the letters written back from the anchor's corner are one
 pub border-iff : (a : Point) (es : List ℤ) → ((o : Outline) × HasEdges o a es) ↔ HasEdges (outline a (lettersFrom es)) a es
 border-iff a es = (λ h. border-has (h .1), λ h. (outline a (lettersFrom es), h))
 
--- Two taken outlines with the same anchor and edges have the same turn, and enclose the same cells
+-- Two taken outlines with the same anchor and edges have the same reading, and enclose the same cells
 pub border-unique :
     {o o′ : Outline} {a : Point} {es : List ℤ} → HasEdges o a es → HasEdges o′ a es
-    → (turn o ≡ turn o′) × ((c r : ℕ) → encloses o c r ≡ encloses o′ c r)
-border-unique h k = (border-turn h ∙ sym (border-turn k), λ c r. sym (border-encloses h c r) ∙ border-encloses k c r)
+    → (reading o ≡ reading o′) × ((c r : ℕ) → encloses o c r ≡ encloses o′ c r)
+border-unique h k = (border-reading h ∙ sym (border-reading k), λ c r. sym (border-encloses h c r) ∙ border-encloses k c r)

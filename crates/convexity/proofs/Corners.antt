@@ -164,7 +164,7 @@ module _ (o : Outline) (simple : Simple o) where
   -- The reading leaves the same corners as the walk as sent
   record Back (j : ℕ) : Type 0 where
     place : ℕ
-    below : place < size (turn o)
+    below : place < size (reading o)
     corner : cornerAt (reading o) place ≡ cornerAt o j
 
   back-at : (i j : ℕ) → i < size o → j < size o → (k + i ≡ j) ⊎ (k + i ≡ size o + j) → Back j

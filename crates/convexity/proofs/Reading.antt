@@ -18,8 +18,8 @@ use Rattle.chart.specs.Outline.{Outline, outline}
 use Rattle.lattice.specs.Chart.{step, leaves, walk, cornerAt, size, letterAt, rotated, rotation, Closed}
 use Rattle.lattice.specs.Enclosed.{count, upAlong, downAlong, ups, downs, encloses}
 use Rattle.lattice.specs.Refusals.{Simple}
-use Rattle.lattice.proofs.WalkLaws.{Walked, OnChart, walked, simple-of-walked, point, point-eq, walk-append, corner-zero, corner-suc, corner-all, corner-injective, length-rotation, letter-rotation-before, outline-eq}
-use Rattle.lattice.proofs.Jumps.{tally, tally-append, Stays}
+use Rattle.lattice.proofs.WalkLaws.{Walked, OnChart, walked, simple-of-walked, point, point-eq, walk-append, corner-zero, corner-suc, corner-all, corner-injective, length-rotation, letter-rotation-before, outline-eq, NeverLeaves}
+use Rattle.lattice.proofs.Jumps.{tally, tally-append}
 use Rattle.lattice.proofs.RightHand.{Lowest, place-before, leaving-lowest, arriving-up, arriving-right}
 use Rattle.convexity.specs.Frame.{frameOf, along}
 use Rattle.convexity.specs.Cut.{before, westPlace, west, turn, clockwise}
@@ -261,7 +261,7 @@ down-back p (suc (suc (suc (suc a)))) c r l e = absurd (omega arith)
 -- Letters that can be taken back, one by one: each is a letter and stays on the chart
 record Kept (o : Outline) : Type 0 where
   letter : (i : ℕ) → i < size o → letterAt o i < 4
-  stays : Stays o
+  stays : NeverLeaves o
 
 kept-rest : (p : Point) (a : ℕ) (w : List ℕ) → Kept (outline p (a ∷ w)) → Kept (outline (step p a) w)
 unfolding cornerAt walk

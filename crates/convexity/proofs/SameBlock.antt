@@ -235,7 +235,7 @@ module _ (o o′ : Outline) (h : Simple o) (h′ : Simple o′)
 
 -- The same anchor and the same edges
 abbrev pub SameEdges : Outline → Outline → Type 0
-SameEdges o o′ = (west o ≡ west o′) × (edges (reading o) ≡ edges (reading o′))
+SameEdges o o′ = (reading o .start ≡ reading o′ .start) × (edges (reading o) ≡ edges (reading o′))
 
 module _ (o o′ : Outline) (h : Reaches o) (h′ : Reaches o′)
     (d : dentPiece (reading o) ≡ 4) (d′ : dentPiece (reading o′) ≡ 4) where

@@ -13,7 +13,7 @@ use Rattle.lattice.specs.Refusals.{Simple}
 use Rattle.rows.specs.Search.{missingCell}
 use Rattle.lattice.proofs.WalkLaws.{walked}
 use Rattle.lattice.proofs.RightHand.{encloses-rotation}
-use Rattle.convexity.specs.Cut.{west, turn, westPlace, cornerPlace, cutCorner, reading}
+use Rattle.convexity.specs.Cut.{turn, westPlace, cornerPlace, cutCorner, reading}
 use Rattle.convexity.specs.Pieces.{Reaches, IsAnchor, dentPiece, edges}
 use Rattle.convexity.specs.Inside.{insideEdges}
 use Rattle.lattice.proofs.HullLaws.{missing-same, lowest-same}
@@ -36,7 +36,7 @@ module _ (o : Outline) where
   module _ (h : Reaches o) where
     -- E1: the edges answer for the block
     pub edges-answer-sent : dentPiece (reading o) ≡ 4 → (x : Point) → x .col < side → x .row < side
-        → insideEdges (west o) (edges (reading o)) x ≡ encloses o (x .col) (x .row)
+        → insideEdges (reading o .start) (edges (reading o)) x ≡ encloses o (x .col) (x .row)
     edges-answer-sent smooth x c r = edges-answer (reading o) (clear-of h) smooth x c r ∙ encloses-turn (h .simple) (x .col) (x .row)
 
     -- E2: an outline that reaches the dent test is dented exactly when some cell is in the hull of its enclosed cells and not enclosed
@@ -61,7 +61,7 @@ module _ (o : Outline) where
         (lowest-same (encloses-turn (h .simple)) (search-finds (reading o) (clear-of h) d))
 
     -- The cell at W is the lowest enclosed cell of the leftmost column
-    pub west-anchor : IsAnchor o (west o)
+    pub west-anchor : IsAnchor o (reading o .start)
     west-anchor =
         let a = anchor-lowest (reading o) (turn-of o (h .simple)) (leaves-upwards (reading o) (h .clockwise)) in
         record {

@@ -18,7 +18,7 @@ use Rattle.chart.specs.Outline.{Outline, outline}
 use Rattle.chart.specs.Limits.{shortest}
 use Rattle.lattice.specs.Chart.{step, leaves, walk, cornerAt, size, Closed, letterAt}
 use Rattle.lattice.specs.Enclosed.{count, upAlong, downAlong, ups, downs}
-use Rattle.lattice.proofs.WalkLaws.{point, point-eq, step-right, step-up, step-left, step-down, corner-zero, corner-suc, corner-all, Walked, corner-injective}
+use Rattle.lattice.proofs.WalkLaws.{point, point-eq, step-right, step-up, step-left, step-down, corner-zero, corner-suc, corner-all, Walked, corner-injective, NeverLeaves}
 
 -- How many letters, of those that begin at p, pass a test of the corner that they leave and of themselves
 unfoldable pub tally : (Point → ℕ → Bool) → Point → List ℕ → ℕ
@@ -160,10 +160,6 @@ tested a k y R t e =
       and-right (eqb a k && eqb y R) t e,
     )
 
--- No letter leaves the chart
-abbrev pub Stays : Outline → Type 0
-Stays o = (i : ℕ) → i < size o → leaves (cornerAt o i) (letterAt o i) ≡ false
-
 module _ (o : Outline) where
   -- Across a vertical side
   pub ups-jump-vertical : (C R : ℕ) → upsTo o (suc C) R ≡ upsTo o C R + upsAt o C R
@@ -190,7 +186,7 @@ module _ (o : Outline) where
   ups-row-zero C =
       tally-none (rises C 0) (o .start) (o .letters) (λ i l. ap (λ (b : Bool). b && ltb (cornerAt o i .col) C) (and-false (eqb (letterAt o i) 1) _ (eqb·suc-zero (cornerAt o i .row))))
 
-  pub downs-row-zero : Stays o → (C : ℕ) → downsTo o C 0 ≡ 0
+  pub downs-row-zero : NeverLeaves o → (C : ℕ) → downsTo o C 0 ≡ 0
   unfolding downsTo falls leaves
   downs-row-zero h C = tally-none (falls C 0) (o .start) (o .letters) (λ i l. not-down (cornerAt o i) (letterAt o i) (h i l))
     where
@@ -242,13 +238,13 @@ module _ (x R : ℕ) where
       no-letter : (a k : ℕ) → k < 4 → eqb (suc (suc (suc (suc a)))) k ≡ false
       no-letter a k l = ne-eqb (suc (suc (suc (suc a)))) k (omega arith)
 
-  band-walk : (p : Point) (w : List ℕ) → Stays (outline p w) → inBand x R p + enters (outline p w) x R ≡ inBand x R (walk p w) + exits (outline p w) x R
+  band-walk : (p : Point) (w : List ℕ) → NeverLeaves (outline p w) → inBand x R p + enters (outline p w) x R ≡ inBand x R (walk p w) + exits (outline p w) x R
   unfolding upsTo downsTo leftsAt rightsAt lettersAt tally walk cornerAt
   band-walk p [] h = omega arith
   band-walk p (a ∷ w) h = omega (arith, band-step p a (h 0 (omega arith)), band-walk (step p a) w (λ i l. h (suc i) (omega arith)))
 
 pub jump-horizontal :
-    (o : Outline) → Stays o → Closed o → (x R : ℕ)
+    (o : Outline) → NeverLeaves o → Closed o → (x R : ℕ)
     → upsTo o (suc x) (suc R) + downsTo o (suc x) R + rightsAt o x R ≡ downsTo o (suc x) (suc R) + upsTo o (suc x) R + leftsAt o x R
 jump-horizontal o h c x R = omega (arith, band-walk x R (o .start) (o .letters) h, ap (inBand x R) c)
 

@@ -13,8 +13,8 @@ use Rattle.chart.specs.declared.Point.{Point}
 use Rattle.chart.specs.Outline.{Outline}
 use Rattle.lattice.specs.Chart.{step, leaves, walk, cornerAt, size, Closed, letterAt, rotated}
 use Rattle.lattice.specs.Enclosed.{ups, downs, encloses}
-use Rattle.lattice.proofs.WalkLaws.{point, point-eq, step-right, step-up, step-left, step-down, corner-zero, corner-suc, corner-all, Walked, corner-injective, walk-append}
-use Rattle.lattice.proofs.Jumps.{tally, rises, falls, tally-append, upsTo, downsTo, lettersAt, upsAt, downsAt, rightsAt, leftsAt, Stays, ups-to, downs-to, ups-jump-vertical, downs-jump-vertical, ups-column-zero, downs-column-zero, jump-horizontal, letters-none, letters-one, ups-at-letters, ups-found, downs-found, rights-found, lefts-found, next, arrival-injective, no-return}
+use Rattle.lattice.proofs.WalkLaws.{point, point-eq, step-right, step-up, step-left, step-down, corner-zero, corner-suc, corner-all, Walked, corner-injective, walk-append, NeverLeaves}
+use Rattle.lattice.proofs.Jumps.{tally, rises, falls, tally-append, upsTo, downsTo, lettersAt, upsAt, downsAt, rightsAt, leftsAt, ups-to, downs-to, ups-jump-vertical, downs-jump-vertical, ups-column-zero, downs-column-zero, jump-horizontal, letters-none, letters-one, ups-at-letters, ups-found, downs-found, rights-found, lefts-found, next, arrival-injective, no-return}
 
 -- The four cells around a corner, counterclockwise: cell k lies between the sides that the letters k and k + 1 run along.
 -- So it is to the left of the letter k and to the right of the letter k + 1
@@ -88,7 +88,7 @@ SameLevel o p q = upsTo o (p .col) (p .row) + downsTo o (q .col) (q .row) ≡ do
 abbrev pub OneAbove : Outline → Point → Point → Type 0
 OneAbove o p q = upsTo o (p .col) (p .row) + downsTo o (q .col) (q .row) ≡ downsTo o (p .col) (p .row) + upsTo o (q .col) (q .row) + 1
 
-module _ (o : Outline) (h : Stays o) (c : Closed o) where
+module _ (o : Outline) (h : NeverLeaves o) (c : Closed o) where
   -- Across the side by which the letter k leaves the corner q
   abbrev Jump : Point → ℕ → Type 0
   Jump q k =

@@ -12,7 +12,7 @@ use Rattle.chart.specs.declared.Point.{Point}
 use Rattle.chart.specs.Outline.{Outline}
 use Rattle.lattice.specs.Chart.{step, leaves, stepped, cornerAt, size, letterAt}
 use Rattle.lattice.specs.Refusals.{badStart, leavingPlace, Stays}
-use Rattle.lattice.proofs.WalkLaws.{or-left, or-right, first-absent, OnChart, step-on-chart, corner-zero, corner-suc}
+use Rattle.lattice.proofs.WalkLaws.{or-left, or-right, first-absent, OnChart, step-on-chart, corner-zero, corner-suc, NeverLeaves}
 
 -- A letter above 3 is none of the four
 high : (a k : ℕ) → k ≤ 3 → eqb (suc (suc (suc (suc a)))) k ≡ false
@@ -115,7 +115,7 @@ stepped-on-chart p a h = go (leaves p a) refl
     go false e = rw (stepped-staying p a e) (step-on-chart p a e h)
 
 module _ (o : Outline) where
-  pub stays-at : Stays o → (i : ℕ) → i < size o → leaves (cornerAt o i) (letterAt o i) ≡ false
+  pub stays-at : Stays o → NeverLeaves o
   unfolding leavingPlace
   stays-at t = first-absent (λ i. leaves (cornerAt o i) (letterAt o i)) (size o) t
 

@@ -57,7 +57,7 @@ fn taken(s: Script) -> Script {
     let s = s.outline(0, 0, b"10003222")
         .query(2, 0)
         .query(3, 0)
-        .query(254, 0)
+        .query(152, 0)
         .query(1, 1);
     let s = s.outline(0, 1, b"101030323212")
         .query(1, 0)
@@ -109,23 +109,23 @@ fn dents(s: Script) -> Script {
     s.query(10, 20).outline(5, 5, b"110100332322").query(5, 6)
 }
 
-// The whole chart, and a draft that is full.
+// The largest square that can be sent, and a draft that is full.
 fn long(s: Script) -> Script {
     let s = s.begin(0, 0)
-        .times(255, 1)
-        .times(255, 0)
-        .times(255, 3)
-        .times(255, 2)
+        .times(153, 1)
+        .times(153, 0)
+        .times(153, 3)
+        .times(153, 2)
         .close();
-    let s = s.query(0, 0).query(254, 254).query(255, 254).query(100, 7);
+    let s = s.query(0, 0).query(152, 152).query(255, 254).query(100, 7);
     let s = s.begin(0, 0)
-        .times(2048, 1)
+        .times(612, 1)
         .add(1)
         .add(9)
-        .query(254, 0)
+        .query(152, 0)
         .close()
         .add(1);
-    s.clear().query(254, 0)
+    s.clear().query(152, 0)
 }
 
 fn script() -> Script {

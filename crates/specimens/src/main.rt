@@ -1,7 +1,7 @@
 // Runs every specimen through the test, asks loose queries of two of them, and writes a line for each.
 use chart::Fields;
 use chart::LONGEST;
-use chart::LONGEST_LIST;
+use chart::MOST_NUMBERS;
 use chart::Point;
 use chart::reply;
 use libc::STDOUT_FILENO;
@@ -70,7 +70,7 @@ fn write_fields(fields: Fields) {
 
 // Tests an outline, and writes its line.
 fn write_test(name: &[u8], start: Point, letters: &[u8]) {
-    let mut edges = [0i16; LONGEST_LIST];
+    let mut edges = [0i16; MOST_NUMBERS];
     let fields = reply::of_verdict(outline::test(start, letters, &mut edges));
     io::write_all(STDOUT_FILENO, name);
     io::write_all(STDOUT_FILENO, b":");
@@ -101,11 +101,20 @@ fn write_specimen(name: &[u8], col: u16, row: u16, digits: &[u8]) {
     write_test(name, Point { col, row }, &letters[..n]);
 }
 
-// The longest list of letters that is no refusal 1, and one letter more.
+// The longest list of letters that is no refusal 1, one letter more, and far more.
 fn write_longest() {
     let start = Point { col: 0, row: 0 };
-    write_test(b"2,048 letters 1", start, &[1u8; LONGEST]);
-    write_test(b"2,049 letters 1", start, &[1u8; LONGEST + 1]);
+    write_test(b"612 letters 1", start, &[1u8; LONGEST]);
+    write_test(b"613 letters 1", start, &[1u8; LONGEST + 1]);
+    write_test(b"2,048 letters 1", start, &[1u8; 2048]);
+}
+
+// An outline of 604 letters with as many edges as any has.
+fn write_most_edges() {
+    let digits = b"1101111111011111101111101111011101101110110101101101011010101101001010101001010100101001001010010001001000100001000100001000001000000100000001000000001003000000030000003000003000030003003000300303003003030030303003033030303033030303303033033030330333033033303333033303333033333033333303333333033333333033233333332333333233333233332333233233323323233233232332323233232232323232232323223232232232322322232232223222232223222232222232222223222222232222222232212222222122222212222212222122212212221221212212212122121212212112121212112121211212112112121121112112111211112111211112111112111111211111112111111112";
+    let mut letters = [0u8; LONGEST];
+    let n = read_letters(digits, &mut letters);
+    write_test(b"604 letters", Point { col: 0, row: 81 }, &letters[..n]);
 }
 
 // The word of a loose query's answer, or the number of its refusal.
@@ -160,6 +169,7 @@ fn write_tests() {
     write_specimen(b"H12", 0, 1, b"1033");
     write_specimen(b"start (256, 0), 7777", 256, 0, b"7777");
     write_longest();
+    write_most_edges();
 }
 
 // H2 and H3: cells inside, cells outside, and H2 far across the chart.

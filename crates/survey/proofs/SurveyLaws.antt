@@ -8,7 +8,7 @@ use lib.ListN.{length}
 use lib.Dec.{ltb}
 use borrow.Author.Tests.{lt-ltb, le-ltb, ltb-false}
 use Rattle.chart.specs.Limits.{longest}
-use Rattle.lattice.specs.Refusals.{badCount, badStart, letterPlace, leavingPlace, unclosed, touchingPlace, Simple}
+use Rattle.lattice.specs.Refusals.{badCount, badStart, letterPlace, leavingPlace, Stays, unclosed, touchingPlace, Simple}
 use Rattle.lattice.proofs.WalkLaws.{or-left, or-right}
 use Rattle.chart.specs.declared.Refusal.{Refusal}
 use Rattle.chart.specs.declared.Refusal.the-variants.{Count, Start, Letter, Leaves, Unclosed, Touches}
@@ -58,7 +58,7 @@ module _ (o : Outline) where
         pub survey-leaves-at : {i : ℕ} → i ≡ leavingPlace o → i < size o → Stopped (Leaves i) ≡ surveyOf o
         survey-leaves-at e h = ap (λ (i : ℕ). Stopped (Leaves i)) e ∙ survey-leaves (found e h)
 
-        module _ (d : ltb (leavingPlace o) (size o) ≡ false) where
+        module _ (d : Stays o) where
           pub survey-unclosed : unclosed o ≡ true → Stopped Unclosed ≡ surveyOf o
           unfolding surveyOf
           survey-unclosed e = rw (a, b, c, d, e)

@@ -8,9 +8,8 @@ ghost use mathlib.Core.Path.{_≡_};
 ghost use mathlib.Core.Bool.{false};
 ghost use Prim.Native.Nat.{ℕ, _+_, _*_};
 ghost use lib.ListN.{length, getD};
-ghost use lib.Dec.{ltb};
 ghost use Rattle.chart.specs.Outline.{outline};
-ghost use Rattle.lattice.specs.Refusals.{badCount, badStart, letterPlace, leavingPlace, unclosed as ends-away, touchingPlace};
+ghost use Rattle.lattice.specs.Refusals.{badCount, badStart, letterPlace, leavingPlace, Stays, unclosed as ends-away, touchingPlace};
 
 // 1. Too few or too many letters.
 pub(crate) fn bad_count(w: &[u8]) -> bool
@@ -58,7 +57,7 @@ pub(crate) fn leaving_place(s: Point, w: &[u8]) -> usize
 
 // 5. The walk, which stays on the chart, ends away from its start.
 pub(crate) fn unclosed(s: Point, w: &[u8]) -> bool
-    ensures { λ r. ⌜ (ltb (leavingPlace (outline s (now (w .entry)))) (length (now (w .entry))) ≡ false → r ≡ ends-away (outline s (now (w .entry)))) ⌝ }
+    ensures { λ r. ⌜ (Stays (outline s (now (w .entry))) → r ≡ ends-away (outline s (now (w .entry)))) ⌝ }
 {
     let mut p = s;
     let mut i = 0;
@@ -85,7 +84,7 @@ fn unmarked() -> [u8; 65536]
 
 // 6. The place of the first letter, the last left out, that reaches a corner already met.
 pub(crate) fn touching_place(s: Point, w: &[u8]) -> usize
-    ensures { λ r. ⌜ (badStart s ≡ false → ltb (leavingPlace (outline s (now (w .entry)))) (length (now (w .entry))) ≡ false → r ≡ touchingPlace (outline s (now (w .entry)))) ⌝ }
+    ensures { λ r. ⌜ (badStart s ≡ false → Stays (outline s (now (w .entry))) → r ≡ touchingPlace (outline s (now (w .entry)))) ⌝ }
 {
     if bad_start(s) {
         return 0;

@@ -6,7 +6,7 @@ use lib.ListN.{length}
 use lib.Dec.{ltb}
 use borrow.Author.Needs.{needs}
 use Rattle.chart.specs.Outline.{outline}
-use Rattle.lattice.specs.Refusals.{badCount, badStart, letterPlace, leavingPlace, unclosed, touchingPlace}
+use Rattle.lattice.specs.Refusals.{badCount, badStart, letterPlace, Stays, unclosed, touchingPlace}
 use Rattle.survey.proofs.SurveyLaws.{counted-short, counted-long, none-found, survey-count, survey-start, survey-letter-at, survey-leaves-at, survey-unclosed, survey-touches-at, survey-passed}
 use Rattle.survey.proofs.survey.Statement.{statement}
 use Rattle.survey.proofs.survey.Tie as tie
@@ -24,7 +24,7 @@ started c = sym (c .before .bad-start .ensures) ∙ c .if2 .left
 lettered : (c : tie.Else3) → ltb (letterPlace (c .before .before .before .before .before .before .before .args .letters .now)) (length (c .before .before .before .before .before .before .before .args .letters .now)) ≡ false
 lettered c = none-found (c .before .letter-place .ensures) (c .if3 .left)
 
-stays : (c : tie.Else4) → ltb (leavingPlace (outline (c .before .before .before .before .before .before .before .before .before .args .start) (c .before .before .before .before .before .before .before .before .before .args .letters .now))) (length (c .before .before .before .before .before .before .before .before .before .args .letters .now)) ≡ false
+stays : (c : tie.Else4) → Stays (outline (c .before .before .before .before .before .before .before .before .before .args .start) (c .before .before .before .before .before .before .before .before .before .args .letters .now))
 stays c = none-found (c .before .leaving-place .ensures) (c .if4 .left)
 
 closed : (c : tie.Else5) → unclosed (outline (c .before .before .before .before .before .before .before .before .before .before .before .args .start) (c .before .before .before .before .before .before .before .before .before .before .before .args .letters .now)) ≡ false
