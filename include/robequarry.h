@@ -9,6 +9,8 @@
  * Lists are passed as pointer and length. Each pointer must be good for its length, and not null where the length is 0; no list
  * that is written may overlap another. Nothing else is asked: every input has a reply.
  *
+ * Each call says about how many bytes of stack it needs; `cargo run --release --bin stack` in host/ measures it.
+ *
  * A reply is seven numbers, in this order. Those that a reply does not name are 0.
  *
  *   0 number   0, or the number of the refusal
@@ -19,25 +21,27 @@
  *   5 column   of a cell
  *   6 row
  *
- * Refusals, and the fields that each names. The first that applies is given, in this order, 12 to 15 before the others.
+ * Refusals, each with the fields that it names. Of several that apply, the first is given in the order 12 to 15, then 1 to 11.
  *
- *    1  fewer than 4 or more than 2,048 letters
- *    2  start corner above 255 in either number
- *    3  a letter above 3: place (in an add: the count of letters already in the draft)
- *    4  a letter reaches a corner off the chart: place
- *    5  the walk ends away from its start
- *    6  a letter other than the last reaches a corner already met: place
- *    7  anticlockwise
- *    8  a back-step: piece and place
- *    9  a dent: piece, place and length of the first factor's first copy that is no Christoffel word; column and row of the
- *       lowest missing cell, leftmost in its row
- *   10  test: a lent list shorter than two numbers an edge: place is the count of edges;
- *       loose query: an odd list or one above 2,032 numbers
- *   11  a cell number above 254
- *   12  query with nothing at work
- *   13  add, close or drop without a draft
- *   14  begin with a draft open
- *   15  add with 2,048 letters in the draft
+ *    1  there are fewer than 4 or more than RQ_LETTERS letters
+ *    2  a number of the start is above 255
+ *    3  a letter is above 3: place of the first such; in an add, the count of letters in the draft
+ *    4  a letter steps off the chart's corners: place of the first such
+ *    5  the walk does not end where it started
+ *    6  a letter that is not the last reaches a corner at which the walk has been: place of the first such
+ *    7  the outline is not clockwise
+ *    8  a piece has a back-step: piece and place of the first
+ *    9  the outline is dented: piece, place and length of one copy of the first factor that is no Christoffel word; column and
+ *       row of the lowest missing cell, the leftmost of its row
+ *   10  test: `edges` has no room for two numbers of each edge: place, the count of edges;
+ *       loose query: the list has an odd count of numbers, or more than RQ_NUMBERS
+ *   11  a cell number is above 254
+ *   12  query: nothing is at work
+ *   13  add, close, drop: there is no draft
+ *   14  begin: a draft is open
+ *   15  add: the draft has RQ_LETTERS letters
+ *
+ * The words used here (piece, back-step, factor, missing) are those of docs/CONTRACT.md, clauses 2 and 3.
  */
 #ifndef ROBEQUARRY_H
 #define ROBEQUARRY_H
@@ -51,10 +55,11 @@ extern "C" {
 #endif
 
 enum {
-    RQ_REPLY = 7,      /* numbers of a reply */
-    RQ_CALL = 5,       /* bytes of a call in a script */
-    RQ_LETTERS = 2048, /* most letters of an outline */
-    RQ_NUMBERS = 2032  /* most numbers of a loose query's list: room for any taken outline's edges */
+    RQ_REPLY = 7,     /* numbers of a reply */
+    RQ_CALL = 5,      /* bytes of a call in a script */
+    RQ_LETTERS = 612, /* most letters of an outline, and of a draft */
+    RQ_EDGES = 200,   /* numbers that the edges of any taken outline need at most */
+    RQ_NUMBERS = 2032 /* most numbers of a loose query's list */
 };
 
 enum { RQ_NO_WORD = 0, RQ_INSIDE = 1, RQ_OUTSIDE = 2, RQ_TAKEN = 3, RQ_SAME = 4 };
@@ -66,27 +71,31 @@ enum { RQ_NO_WORD = 0, RQ_INSIDE = 1, RQ_OUTSIDE = 2, RQ_TAKEN = 3, RQ_SAME = 4 
  * The edges of the hull, clockwise from the anchor, stand first in `edges`, columns then rows for each; the rest of its m numbers
  * is unaltered. Refused by 1 to 10: `edges` is unaltered. The word is always 0.
  *
- * False, with nothing altered, if k is below 7. Else true; the reply is the first seven of `reply`, the rest is unaltered.
+ * False, with nothing altered, if k is below RQ_REPLY. Else true; the reply stands first in `reply`, the rest is unaltered.
+ *
+ * Stack: about 72,100 bytes.
  */
 bool rq_test(uint16_t col, uint16_t row, const uint8_t *letters, size_t n, int16_t *edges, size_t m, uint16_t *reply, size_t k);
 
 /*
  * Asks whether the cell (col, row) is inside the m / 2 edges that lead round from the anchor.
  *
- * From the anchor each edge (dx, dy) leaves a corner cell (x, y). The word is "inside" if dy (col - x) - dx (row - y) is at least 0
- * for every edge and the cell is within the lowest and highest columns and rows met by the walk, anchor and last edge's end
- * included; else "outside". With anchor and edges of a taken outline, the cells inside are those that it encloses. Refused by 10,
- * then 11 (anchor or cell).
+ * The first edge leaves the anchor, and each other one the cell at which the one before it ends. The word is "inside" if no edge
+ * (dx, dy), leaving a cell (x, y), has dy (col - x) - dx (row - y) below 0, and the cell lies between the lowest and the highest
+ * column, and between the lowest and the highest row, of the anchor and the cells that the edges reach; else "outside". With anchor
+ * and edges of a taken outline, the cells inside are those that it encloses. Refused by 10, then 11 (anchor or cell).
  *
- * False, with nothing altered, if k is below 7. Else true; the reply is the first seven of `reply`, the rest is unaltered.
+ * False, with nothing altered, if k is below RQ_REPLY. Else true; the reply stands first in `reply`, the rest is unaltered.
+ *
+ * Stack: about 60 bytes.
  */
 bool rq_loose_query(uint16_t anchor_col, uint16_t anchor_row, const int16_t *edges, size_t m, uint16_t col, uint16_t row,
                     uint16_t *reply, size_t k);
 
 /*
- * Runs a script of calls from a fresh holder, which has no draft and nothing at work, and writes a reply of seven numbers for each.
+ * Runs a script of calls from a fresh holder, which has no draft and nothing at work, and writes a reply for each.
  *
- * A call is five bytes: the call, then two numbers of 16 bits, low byte first. Bytes that are not named are ignored.
+ * A call has RQ_CALL bytes: its number, then two numbers of 16 bits, low byte first. Bytes that are not named are ignored.
  *
  *   0 begin   a start corner; opens a draft without letters
  *   1 add     a letter, the second byte; puts it at the draft's end
@@ -96,8 +105,10 @@ bool rq_loose_query(uint16_t anchor_col, uint16_t anchor_row, const int16_t *edg
  *             equal those that were at work, else "taken", with the fields of a taken test
  *   5 query   a cell; the word is "inside" if the outline at work encloses it, else "outside"
  *
- * The run stops at a call above 5, at a call that is cut by the script's end, or where the k numbers of `replies` have no room for
- * one more. Returns how many replies were written; what stands behind them is unaltered.
+ * The run ends before a call with a number above 5, before one that the script's end cuts, and before one whose reply has no room in
+ * the k numbers of `replies`. Returns how many replies were written; what stands behind them is unaltered.
+ *
+ * Stack: about 117,300 bytes.
  */
 size_t rq_replay(const uint8_t *script, size_t n, uint16_t *replies, size_t k);
 

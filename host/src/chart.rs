@@ -1,6 +1,6 @@
 use std::fmt;
 
-/// A corner of the chart: column and row from 0 to 255.
+/// A corner of the chart: column and row from 0 to [`LAST_CORNER`](crate::limits::LAST_CORNER).
 ///
 /// Any two numbers make one; a test turns back a start that is off the chart.
 #[derive(Clone, Copy, Debug, PartialEq, Eq, Hash)]
@@ -9,7 +9,8 @@ pub struct Corner {
     pub row: u16,
 }
 
-/// A cell of the chart: column and row from 0 to 254. Its lower left corner has the same two numbers.
+/// A cell of the chart: column and row from 0 to [`LAST_CELL`](crate::limits::LAST_CELL). Its lower left corner has the same two
+/// numbers.
 ///
 /// Any two numbers make one; a query turns back a cell that is off the chart.
 #[derive(Clone, Copy, Debug, PartialEq, Eq, Hash)]

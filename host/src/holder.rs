@@ -1,22 +1,6 @@
-use crate::raw::{self, Fields};
-use crate::{Cell, Corner, Refusal, Taken};
-
-/// A call on a holder.
-#[derive(Clone, Copy, Debug, PartialEq, Eq, Hash)]
-pub enum Call {
-    /// Opens a draft without letters.
-    Begin(Corner),
-    /// Puts a letter at the draft's end.
-    Add(u8),
-    /// Discards the draft.
-    Drop,
-    /// Removes what is at work.
-    Clear,
-    /// Tests the draft and ends it. If it is taken, it replaces what is at work.
-    Close,
-    /// Asks whether what is at work encloses a cell.
-    Query(Cell),
-}
+use crate::codec::{Call, Fields, INSIDE, OUTSIDE, SAME, TAKEN};
+use crate::limits::REPLY;
+use crate::{raw, Cell, Corner, Refusal, Taken};
 
 /// What a call that was not turned back answers.
 #[derive(Clone, Copy, Debug, PartialEq, Eq, Hash)]
@@ -35,23 +19,6 @@ pub enum Answer {
 
 /// What a call answers.
 pub type Reply = Result<Answer, Refusal>;
-
-impl Call {
-    /// The call as the library reads it.
-    fn bytes(self) -> [u8; raw::CALL] {
-        let (call, first, second) = match self {
-            Call::Begin(start) => (0, start.col, start.row),
-            Call::Add(letter) => (1, u16::from(letter), 0),
-            Call::Drop => (2, 0, 0),
-            Call::Clear => (3, 0, 0),
-            Call::Close => (4, 0, 0),
-            Call::Query(cell) => (5, cell.col, cell.row),
-        };
-        let [a, b] = first.to_le_bytes();
-        let [c, d] = second.to_le_bytes();
-        [call, a, b, c, d]
-    }
-}
 
 /// A draft, letter by letter, and the outline at work.
 ///
@@ -100,7 +67,7 @@ impl Holder {
         self.call(Call::Add(letter)).map(drop)
     }
 
-    /// Discards the draft: the paper's drop.
+    /// Discards the draft: the drop of contract 7.5.
     pub fn drop_draft(&mut self) -> Result<(), Refusal> {
         self.call(Call::Drop).map(drop)
     }
@@ -137,11 +104,10 @@ impl Holder {
     /// What the library replies to these calls after the kept ones.
     fn replies(&self, calls: &[Call]) -> Vec<Reply> {
         let kept = self.work.len() + self.draft.len();
-        let all = self.work.iter().chain(&self.draft).chain(calls);
-        let script: Vec<u8> = all.flat_map(|call| call.bytes()).collect();
-        let mut numbers = vec![0; (kept + calls.len()) * raw::REPLY];
+        let script = Call::script(self.work.iter().chain(&self.draft).chain(calls).copied());
+        let mut numbers = vec![0; (kept + calls.len()) * REPLY];
         raw::replay(&script, &mut numbers);
-        numbers.chunks_exact(raw::REPLY).skip(kept).map(reply).collect()
+        Fields::each(&numbers).skip(kept).map(reply).collect()
     }
 
     /// Keeps a call, or forgets calls, as its reply says.
@@ -161,18 +127,16 @@ impl Holder {
 }
 
 /// One reply of the library.
-fn reply(numbers: &[u16]) -> Reply {
-    let numbers: [u16; raw::REPLY] = numbers.try_into().expect("a reply has seven numbers");
-    let fields = Fields::from(numbers);
+fn reply(fields: Fields) -> Reply {
     if let Some(refusal) = Refusal::of(fields) {
         return Err(refusal);
     }
     let taken = Taken::of(fields);
     Ok(match fields.word {
-        raw::INSIDE => Answer::Inside,
-        raw::OUTSIDE => Answer::Outside,
-        raw::TAKEN => Answer::Taken(taken),
-        raw::SAME => Answer::Same(taken),
+        INSIDE => Answer::Inside,
+        OUTSIDE => Answer::Outside,
+        TAKEN => Answer::Taken(taken),
+        SAME => Answer::Same(taken),
         _ => Answer::Done,
     })
 }

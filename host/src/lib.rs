@@ -21,23 +21,20 @@
 //! ```
 //!
 //! A [`Holder`] keeps a draft, letter by letter, and the outline at work. [`raw`] has the library's three functions as they
-//! are, on plain lists of numbers.
+//! are, on plain lists of numbers; [`codec`] reads and writes these, and [`limits`] names what bounds them.
 //!
 //! The answers are proved; this crate, which turns lists of numbers into types, is not.
 
 mod chart;
+pub mod codec;
 mod holder;
+pub mod limits;
 mod outline;
 pub mod raw;
 mod refusal;
 
 pub use chart::{Cell, Corner};
-pub use holder::{Answer, Call, Holder, Reply};
+pub use codec::Call;
+pub use holder::{Answer, Holder, Reply};
 pub use outline::{Edges, Outline, Taken, Verdict};
 pub use refusal::Refusal;
-
-/// An outline has at most this many letters.
-pub const LONGEST: usize = 2048;
-
-/// A loose query's list has at most this many numbers, which is room for any taken outline's edges.
-pub const LONGEST_LIST: usize = 2032;

@@ -1,5 +1,6 @@
-use crate::raw::{self, Fields};
-use crate::{Cell, Corner, Refusal, LONGEST_LIST};
+use crate::codec::{Fields, INSIDE};
+use crate::limits::{MOST_NUMBERS, REPLY};
+use crate::{raw, Cell, Corner, Refusal};
 
 /// An outline: a start corner and letters, 0 right, 1 up, 2 left, 3 down. Any bytes make one; [`Outline::test`] judges it.
 #[derive(Clone, Debug, PartialEq, Eq, Hash)]
@@ -33,7 +34,7 @@ impl Outline {
 
     /// Tests the outline, with room for every edge.
     pub fn test(&self) -> Verdict {
-        let mut list = [0; LONGEST_LIST];
+        let mut list = [0; MOST_NUMBERS];
         let taken = self.test_into(&mut list)?;
         Ok(Edges::new(taken.anchor, &list[..2 * taken.edges]))
     }
@@ -41,7 +42,7 @@ impl Outline {
     /// Tests the outline and writes its edges into a lent list, columns then rows. What stands behind them is unaltered, as is
     /// the whole list if the outline is turned back.
     pub fn test_into(&self, list: &mut [i16]) -> Result<Taken, Refusal> {
-        let mut reply = [0; raw::REPLY];
+        let mut reply = [0; REPLY];
         raw::test(self.start.col, self.start.row, &self.letters, list, &mut reply);
         let fields = Fields::from(reply);
         match Refusal::of(fields) {
@@ -84,12 +85,12 @@ impl Edges {
 
     /// Whether the cell is inside: the loose query. For edges of a taken outline these are the cells that it encloses.
     pub fn contains(&self, cell: Cell) -> Result<bool, Refusal> {
-        let mut reply = [0; raw::REPLY];
+        let mut reply = [0; REPLY];
         raw::loose_query(self.anchor.col, self.anchor.row, &self.numbers, cell.col, cell.row, &mut reply);
         let fields = Fields::from(reply);
         match Refusal::of_loose_query(fields) {
             Some(refusal) => Err(refusal),
-            None => Ok(fields.word == raw::INSIDE),
+            None => Ok(fields.word == INSIDE),
         }
     }
 }

@@ -1,19 +1,7 @@
 //! The library's three functions as they are, with a list for each pointer and length.
 //!
-//! None of them asks anything of its numbers: every input is answered. A reply is seven numbers, in [`Fields`]' order.
-
-/// A reply has this many numbers.
-pub const REPLY: usize = 7;
-
-/// A call of a script has this many bytes.
-pub const CALL: usize = 5;
-
-/// The words of a reply.
-pub const NO_WORD: u16 = 0;
-pub const INSIDE: u16 = 1;
-pub const OUTSIDE: u16 = 2;
-pub const TAKEN: u16 = 3;
-pub const SAME: u16 = 4;
+//! None of them asks anything of its numbers: every input is answered. [`codec`](crate::codec) reads replies and writes scripts;
+//! [`limits`](crate::limits) has their lengths.
 
 mod library {
     extern "C" {
@@ -45,7 +33,8 @@ mod library {
 
 /// Tests an outline. If it is taken, its edges stand first in `edges`, two numbers an edge.
 ///
-/// False, with nothing altered, if `reply` has fewer than seven numbers.
+/// False, with nothing altered, if `reply` has no room for a reply.
+#[inline]
 pub fn test(col: u16, row: u16, letters: &[u8], edges: &mut [i16], reply: &mut [u16]) -> bool {
     // SAFETY: each pointer comes with the length of its own slice, and no two slices overlap.
     unsafe {
@@ -64,7 +53,8 @@ pub fn test(col: u16, row: u16, letters: &[u8], edges: &mut [i16], reply: &mut [
 
 /// Whether a cell is inside the edges that lead round from an anchor.
 ///
-/// False, with nothing altered, if `reply` has fewer than seven numbers.
+/// False, with nothing altered, if `reply` has no room for a reply.
+#[inline]
 pub fn loose_query(anchor_col: u16, anchor_row: u16, edges: &[i16], col: u16, row: u16, reply: &mut [u16]) -> bool {
     // SAFETY: each pointer comes with the length of its own slice, and no two slices overlap.
     unsafe {
@@ -83,30 +73,9 @@ pub fn loose_query(anchor_col: u16, anchor_row: u16, edges: &[i16], col: u16, ro
 
 /// Runs a script of calls from a fresh holder and writes a reply for each. The result is how many replies were written.
 ///
-/// A call has five bytes: the call (0 begin, 1 add, 2 drop, 3 clear, 4 close, 5 query), then two numbers of 16 bits, low byte
-/// first: a begin's start, a query's cell. An add's letter is its second byte. The other bytes are ignored. The run stops at
-/// a call above 5, at a cut call, or where `replies` has no room for one more.
+/// The run stops before a call that is cut or that is none, and where `replies` has no room for one more.
+#[inline]
 pub fn replay(script: &[u8], replies: &mut [u16]) -> usize {
     // SAFETY: each pointer comes with the length of its own slice, and the slices do not overlap.
     unsafe { library::rq_replay(script.as_ptr(), script.len(), replies.as_mut_ptr(), replies.len()) }
-}
-
-/// A reply, with a name for each of its seven numbers. A field that the reply does not name is 0.
-#[derive(Clone, Copy, Debug, Default, PartialEq, Eq)]
-pub struct Fields {
-    /// 0, or the refusal's number.
-    pub number: u16,
-    /// [`NO_WORD`], [`INSIDE`], [`OUTSIDE`], [`TAKEN`] or [`SAME`]; a test's is none.
-    pub word: u16,
-    pub place: u16,
-    pub piece: u16,
-    pub length: u16,
-    pub col: u16,
-    pub row: u16,
-}
-
-impl From<[u16; REPLY]> for Fields {
-    fn from([number, word, place, piece, length, col, row]: [u16; REPLY]) -> Self {
-        Fields { number, word, place, piece, length, col, row }
-    }
 }

@@ -1,7 +1,8 @@
 use std::error::Error;
 use std::fmt;
 
-use crate::raw::Fields;
+use crate::codec::Fields;
+use crate::limits::{LAST_CELL, LAST_CORNER, LAST_LETTER, LAST_REFUSAL, LONGEST, LONGEST_LIST, SHORTEST};
 use crate::Cell;
 
 /// Why a call was turned back. A place is a letter's index in the list as sent, from 0; pieces are numbered 1 to 4.
@@ -9,21 +10,21 @@ use crate::Cell;
 pub enum Refusal {
     /// 1: too few or too many letters.
     Count,
-    /// 2: the start corner is off the chart.
+    /// 2: the start is off the chart.
     Start,
-    /// 3: a letter above 3. In an add, the place is the count of letters already in the draft.
+    /// 3: a byte that is no letter. In an add, the place is the count of letters in the draft.
     Letter { place: usize },
-    /// 4: a letter reaches a corner off the chart.
+    /// 4: a letter steps off the chart.
     Leaves { place: usize },
     /// 5: the walk is not closed.
     Unclosed,
     /// 6: the walk meets a corner twice.
     Touches { place: usize },
-    /// 7: the outline runs anticlockwise.
+    /// 7: the outline is not clockwise.
     Anticlockwise,
     /// 8: a letter that is none of its piece's two.
     BackStep { piece: u16, place: usize },
-    /// 9: a factor that is no Christoffel word: place and length of its first copy, and the lowest missing cell, leftmost in its row.
+    /// 9: a factor that is no Christoffel word: place and length of one copy, and the lowest missing cell.
     Dent { piece: u16, place: usize, length: usize, missing: Cell },
     /// 10, of a test: the lent list has no room for this many edges.
     Room { edges: usize },
@@ -31,9 +32,9 @@ pub enum Refusal {
     List,
     /// 11: a cell off the chart.
     Cell,
-    /// 12: nothing at work.
+    /// 12: nothing is at work.
     NothingAtWork,
-    /// 13: no draft.
+    /// 13: there is no draft.
     NoDraft,
     /// 14: a draft is open already.
     DraftOpen,
@@ -42,7 +43,7 @@ pub enum Refusal {
 }
 
 impl Refusal {
-    /// The refusal's number in the paper, 1 to 15.
+    /// The refusal's number (contract 5.2).
     pub fn number(self) -> u16 {
         match self {
             Refusal::Count => 1,
@@ -88,7 +89,7 @@ impl Refusal {
             13 => Refusal::NoDraft,
             14 => Refusal::DraftOpen,
             15 => Refusal::DraftFull,
-            other => unreachable!("the library replies with numbers 0 to 15, not {other}"),
+            other => unreachable!("the library's last refusal is {LAST_REFUSAL}, not {other}"),
         };
         Some(refusal)
     }
@@ -105,26 +106,26 @@ impl Refusal {
 impl fmt::Display for Refusal {
     fn fmt(&self, f: &mut fmt::Formatter<'_>) -> fmt::Result {
         match self {
-            Refusal::Count => write!(f, "fewer than 4 or more than 2,048 letters"),
-            Refusal::Start => write!(f, "start corner above 255 in either number"),
-            Refusal::Letter { place } => write!(f, "a letter above 3: place {place}"),
-            Refusal::Leaves { place } => write!(f, "a letter reaches a corner off the chart: place {place}"),
-            Refusal::Unclosed => write!(f, "the walk ends away from its start"),
+            Refusal::Count => write!(f, "fewer than {SHORTEST} or more than {LONGEST} letters"),
+            Refusal::Start => write!(f, "a number of the start is above {LAST_CORNER}"),
+            Refusal::Letter { place } => write!(f, "the letter at place {place} is above {LAST_LETTER}"),
+            Refusal::Leaves { place } => write!(f, "the letter at place {place} steps off the chart"),
+            Refusal::Unclosed => write!(f, "the walk does not end where it started"),
             Refusal::Touches { place } => {
-                write!(f, "a letter other than the last reaches a corner already met: place {place}")
+                write!(f, "the letter at place {place} reaches a corner at which the walk has been")
             }
-            Refusal::Anticlockwise => write!(f, "anticlockwise"),
-            Refusal::BackStep { piece, place } => write!(f, "a back-step: piece {piece}, place {place}"),
+            Refusal::Anticlockwise => write!(f, "the outline is not clockwise"),
+            Refusal::BackStep { piece, place } => write!(f, "piece {piece} has a back-step at place {place}"),
             Refusal::Dent { piece, place, length, missing } => {
-                write!(f, "a dent: piece {piece}, place {place}, length {length}, missing cell {missing}")
+                write!(f, "piece {piece} has a dent at place {place}, of length {length}; cell {missing} is missing")
             }
-            Refusal::Room { edges } => write!(f, "a lent list shorter than two numbers an edge: {edges} edges"),
-            Refusal::List => write!(f, "an odd list or one above 2,032 numbers"),
-            Refusal::Cell => write!(f, "a cell number above 254"),
-            Refusal::NothingAtWork => write!(f, "query with nothing at work"),
-            Refusal::NoDraft => write!(f, "add, close or drop without a draft"),
-            Refusal::DraftOpen => write!(f, "begin with a draft open"),
-            Refusal::DraftFull => write!(f, "add with 2,048 letters in the draft"),
+            Refusal::Room { edges } => write!(f, "the lent list has no room for {edges} edges"),
+            Refusal::List => write!(f, "the list has an odd count of numbers, or more than {LONGEST_LIST}"),
+            Refusal::Cell => write!(f, "a cell number is above {LAST_CELL}"),
+            Refusal::NothingAtWork => write!(f, "nothing is at work"),
+            Refusal::NoDraft => write!(f, "there is no draft"),
+            Refusal::DraftOpen => write!(f, "a draft is open"),
+            Refusal::DraftFull => write!(f, "the draft has {LONGEST} letters"),
         }
     }
 }

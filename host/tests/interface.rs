@@ -1,5 +1,6 @@
 //! The safe interface's own part: lists as types, the holder's kept calls, the refusals' words.
 
+use robequarry::limits::{LAST_CORNER, LONGEST, LONGEST_LIST, REPLY};
 use robequarry::{raw, Answer, Call, Cell, Corner, Edges, Holder, Refusal, Taken};
 
 const BAR: [u8; 8] = [1, 0, 0, 0, 3, 2, 2, 2];
@@ -16,11 +17,11 @@ fn draw(holder: &mut Holder, start: (u16, u16), letters: &[u8]) -> robequarry::R
 #[test]
 fn reply_list_without_room() {
     let mut edges = [9; 4];
-    for room in 0..raw::REPLY {
+    for room in 0..REPLY {
         let mut reply = vec![5; room];
         assert!(!raw::test(0, 0, &BAR, &mut edges, &mut reply));
         assert!(!raw::loose_query(0, 0, &edges, 0, 0, &mut reply));
-        assert_eq!(raw::replay(&[3, 0, 0, 0, 0], &mut reply), 0);
+        assert_eq!(raw::replay(&Call::Clear.bytes(), &mut reply), 0);
         assert_eq!((edges, reply), ([9; 4], vec![5; room]));
     }
     let mut reply = [5; 9];
@@ -34,8 +35,8 @@ fn loose_queries() {
     assert_eq!(Edges::new(anchor, []).contains(anchor), Ok(true));
     assert_eq!(Edges::new(anchor, []).contains(Cell::new(3, 5)), Ok(false));
     assert_eq!(Edges::new(anchor, [1, 0, 2]).contains(anchor), Err(Refusal::List));
-    assert_eq!(Edges::new(anchor, [0; 2034]).contains(Cell::new(255, 0)), Err(Refusal::List));
-    assert_eq!(Edges::new(anchor, [0; 2032]).contains(Cell::new(255, 0)), Err(Refusal::Cell));
+    assert_eq!(Edges::new(anchor, [0; LONGEST_LIST + 2]).contains(Cell::new(255, 0)), Err(Refusal::List));
+    assert_eq!(Edges::new(anchor, [0; LONGEST_LIST]).contains(Cell::new(255, 0)), Err(Refusal::Cell));
     assert_eq!(Edges::new(Cell::new(0, 255), []).contains(anchor), Err(Refusal::Cell));
 }
 
@@ -82,19 +83,19 @@ fn holder_keeps_draft_and_work() {
 fn full_draft() {
     let mut holder = Holder::new();
     holder.begin(Corner::new(0, 0)).unwrap();
-    let replies = holder.run(&[Call::Add(1); 2048]);
+    let replies = holder.run(&[Call::Add(1); LONGEST]);
     assert!(replies.iter().all(|reply| *reply == Ok(Answer::Done)));
     assert_eq!(holder.add(1), Err(Refusal::DraftFull));
     assert_eq!(holder.add(9), Err(Refusal::DraftFull));
-    assert_eq!(holder.close(), Err(Refusal::Leaves { place: 255 }));
+    assert_eq!(holder.close(), Err(Refusal::Leaves { place: usize::from(LAST_CORNER) }));
 }
 
 #[test]
-fn refusals_in_the_papers_words() {
+fn refusals_in_words() {
     let dent = Refusal::Dent { piece: 2, place: 4, length: 4, missing: Cell::new(1, 1) };
-    assert_eq!(dent.to_string(), "a dent: piece 2, place 4, length 4, missing cell (1, 1)");
-    assert_eq!(Refusal::Count.to_string(), "fewer than 4 or more than 2,048 letters");
+    assert_eq!(dent.to_string(), "piece 2 has a dent at place 4, of length 4; cell (1, 1) is missing");
+    assert_eq!(Refusal::Count.to_string(), "fewer than 4 or more than 612 letters");
     assert_eq!(Refusal::List.number(), 10);
     let error: Box<dyn std::error::Error> = Box::new(Refusal::NoDraft);
-    assert_eq!(error.to_string(), "add, close or drop without a draft");
+    assert_eq!(error.to_string(), "there is no draft");
 }

@@ -1,5 +1,9 @@
-/* Three specimens of document 01 through the C interface. The status is the number of the line that failed, or 0. */
+/* Three specimens of contract 9 through the C interface. The status is the number of the line that failed, or 0. */
 #include "robequarry.h"
+
+/* The header's limits are those of the Rust interface, which the compiler is given. */
+_Static_assert(RQ_REPLY == REPLY && RQ_CALL == CALL, "numbers of a reply, bytes of a call");
+_Static_assert(RQ_LETTERS == LONGEST && RQ_EDGES == MOST_NUMBERS && RQ_NUMBERS == LONGEST_LIST, "letters of an outline, numbers of its edges and of a loose list");
 
 #define EXPECT(fact) \
     do { \
@@ -9,9 +13,9 @@
 int main(void) {
     /* H3: a plus, taken with four edges. */
     const uint8_t plus[] = {1, 0, 1, 0, 3, 0, 3, 2, 3, 2, 1, 2};
-    int16_t edges[RQ_NUMBERS];
+    int16_t edges[RQ_EDGES];
     uint16_t reply[RQ_REPLY];
-    EXPECT(rq_test(0, 1, plus, sizeof plus, edges, RQ_NUMBERS, reply, RQ_REPLY));
+    EXPECT(rq_test(0, 1, plus, sizeof plus, edges, RQ_EDGES, reply, RQ_REPLY));
     EXPECT(reply[0] == 0 && reply[1] == RQ_NO_WORD && reply[2] == 4 && reply[5] == 0 && reply[6] == 1);
     EXPECT(edges[0] == 1 && edges[1] == 1 && edges[6] == -1 && edges[7] == 1);
 
@@ -22,7 +26,7 @@ int main(void) {
 
     /* H6: a dent, with the missing cell (1, 1). */
     const uint8_t dented[] = {1, 1, 1, 0, 3, 3, 0, 0, 3, 2, 2, 2};
-    EXPECT(rq_test(0, 0, dented, sizeof dented, edges, RQ_NUMBERS, reply, RQ_REPLY));
+    EXPECT(rq_test(0, 0, dented, sizeof dented, edges, RQ_EDGES, reply, RQ_REPLY));
     EXPECT(reply[0] == 9 && reply[2] == 4 && reply[3] == 2 && reply[4] == 4 && reply[5] == 1 && reply[6] == 1);
 
     /* H1 through the holder: begin, four adds, close, query; the last call is cut. */

@@ -1,4 +1,4 @@
-//! Document 01's specimen outlines, through the safe interface.
+//! The specimens of contract 9, through the safe interface.
 
 use robequarry::{Cell, Corner, Outline, Refusal};
 
@@ -41,8 +41,9 @@ fn refused_specimens() {
     refused((0, 1), "1033", Refusal::Unclosed, 5);
     refused((256, 0), "7777", Refusal::Start, 2);
     refused((255, 0), "1037", Refusal::Letter { place: 3 }, 3);
-    refused((0, 0), &"1".repeat(2048), Refusal::Leaves { place: 255 }, 4);
-    refused((0, 0), &"1".repeat(2049), Refusal::Count, 1);
+    refused((0, 0), &"1".repeat(612), Refusal::Leaves { place: 255 }, 4);
+    refused((0, 0), &"1".repeat(613), Refusal::Count, 1);
+    refused((0, 0), &"1".repeat(2048), Refusal::Count, 1);
 }
 
 #[test]

@@ -22,6 +22,11 @@ pub and-right : (a b : Bool) → (a && b) ≡ true → b ≡ true
 and-right true b h = h
 and-right false b h = let z : _≡_ {A = ℕ} 0 1 = cc in absurd (omega arith)
 
+-- A test that cannot hold fails
+pub not-held : (b : Bool) → (b ≡ true → ⊥) → b ≡ false
+not-held true h = absurd (h refl)
+not-held false h = refl
+
 pub every-at : (f : ℕ → Bool) (n : ℕ) → every f n ≡ true → (i : ℕ) → i < n → f i ≡ true
 unfolding every
 every-at f zero h i l = absurd (omega arith)

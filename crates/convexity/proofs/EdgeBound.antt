@@ -7,7 +7,7 @@ use mathlib.Core.Path.{_≡_, refl, ap, _∙_}
 use mathlib.Core.Logic.{inl, inr}
 use mathlib.Core.Bool.{Bool, true, false, cond}
 use mathlib.Core.List.{List, [], _∷_, _++_, map, List·Memᴰ, List·Memᴰ·head, List·Memᴰ·tail, List·Memᴰ·cases-cons, List·Memᴰ·not-nil, Memᴰ·append-left, Memᴰ·append-right, Memᴰ·cast}
-use lib.ListN.{length, length-append, take-append-drop}
+use lib.ListN.{length, length-append}
 use lib.Dec.{lit<}
 use Rattle.base.specs.Below.{every}
 use Rattle.base.proofs.Weights.{sumOf, Distinct, none, more, mapped, weighs-at-most-grid}

@@ -14,7 +14,7 @@ use Rattle.convexity.specs.Pieces.{piece, word, backStepPiece}
 use Rattle.convexity.specs.Quadrant.{spell, startE, startL}
 use Rattle.convexity.proofs.Ring.{next}
 
--- A walk t from s that passes refusals 1 to 6 and begins at W, the first corner of piece 1
+-- A walk that passes refusals 1 to 6 and begins at W, the first corner of piece 1
 pub record Turn (o : Outline) : Type 0 where
   pub walked : Walked o
   pub west : (i : ℕ) → i < size o → before (frameOf 0) (cornerAt o i) (o .start) ≡ false

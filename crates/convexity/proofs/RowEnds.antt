@@ -9,6 +9,7 @@ use mathlib.Core.List.{List, [], _∷_}
 use lib.ListN.{length, getD}
 use lib.Dec.{leb, eqb}
 use borrow.Author.Tests.{eqb-true, eq-eqb, leb-true, leb-false}
+use Rattle.base.proofs.BelowLaws.{not-held}
 use Rattle.chart.specs.declared.Point.{Point}
 use Rattle.chart.specs.Outline.{Outline, outline}
 use Rattle.chart.specs.Limits.{side}
@@ -77,11 +78,8 @@ down-column-last p (a ∷ w) r d = down-column-last (step p a) w r (cond (downAl
 
 finds-of : (f : Point → ℕ → Bool) (o : Outline) (u : ℕ) → u < size o → f (cornerAt o u) (letterAt o u) ≡ true
     → ((i : ℕ) → i < size o → f (cornerAt o i) (letterAt o i) ≡ true → i ≡ u) → Finds f o u
-finds-of f o u l e only = record { below = l; found = e; others = λ i m n. go i m n (f (cornerAt o i) (letterAt o i)) refl }
-  where
-    go : (i : ℕ) → i < size o → i ≢ u → (b : Bool) → f (cornerAt o i) (letterAt o i) ≡ b → f (cornerAt o i) (letterAt o i) ≡ false
-    go i m n true d = absurd (n (only i m d))
-    go i m n false d = d
+finds-of f o u l e only =
+    record { below = l; found = e; others = λ i m n. not-held (f (cornerAt o i) (letterAt o i)) (λ d. n (only i m d)) }
 
 -- The sum is 1 where the up is counted and the down is not
 sum-iff : (m n c : ℕ) → (eqb (count (leb m c)) (count (leb n c) + 1) ≡ true) ↔ ((m ≤ c) × (c < n))

@@ -1,5 +1,5 @@
 -- The convexity theorem for an outline as sent: its turn from W has the same enclosed cells, because the counts of a closed walk do not depend on where it begins.
-use Prim.Native.Nat.{ℕ, _*_, _≤_, _<_}
+use Prim.Native.Nat.{ℕ, _<_}
 use mathlib.Core.Path.{_≡_, _∙_, sym, ap, subst₂}
 use mathlib.Core.Logic.{_↔_}
 use lib.Dec.{lit<}

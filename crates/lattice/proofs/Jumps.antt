@@ -12,7 +12,7 @@ use native.Mathlib.Omega.{arith}
 use lib.ListN.{length, getD}
 use lib.Dec.{ltb, eqb, leb·suc-suc, leb·suc-zero, eqb·suc-suc, eqb·suc-zero}
 use borrow.Author.Tests.{eqb-true, eqb-false, lt-ltb, le-ltb, eq-eqb, ne-eqb}
-use Rattle.base.proofs.BelowLaws.{and-left, and-right}
+use Rattle.base.proofs.BelowLaws.{and-left, and-right, not-held}
 use Rattle.chart.specs.declared.Point.{Point}
 use Rattle.chart.specs.Outline.{Outline, outline}
 use Rattle.chart.specs.Limits.{shortest}
@@ -191,13 +191,10 @@ module _ (o : Outline) where
   downs-row-zero h C = tally-none (falls C 0) (o .start) (o .letters) (λ i l. not-down (cornerAt o i) (letterAt o i) (h i l))
     where
       not-down : (p : Point) (a : ℕ) → leaves p a ≡ false → falls C 0 p a ≡ false
-      not-down p a e = go (falls C 0 p a) refl
-        where
-          go : (b : Bool) → falls C 0 p a ≡ b → falls C 0 p a ≡ false
-          go false d = d
-          go true d =
-              let t = tested a 3 (p .row) 0 (ltb (p .col) C) d in
-              absurd (eqb-false (p .row) 0 (subst (λ (b : ℕ). leaves p b ≡ false) (t .0) e) (t .1))
+      not-down p a e =
+          not-held (falls C 0 p a) λ d.
+          let t = tested a 3 (p .row) 0 (ltb (p .col) C) d in
+          eqb-false (p .row) 0 (subst (λ (b : ℕ). leaves p b ≡ false) (t .0) e) (t .1)
 
 -- Across a horizontal side
 

@@ -7,7 +7,7 @@ use Rattle.chart.specs.declared.Point.{Point}
 use Rattle.lattice.specs.Hull.{InTriangle, InHull}
 use Rattle.rows.specs.Rows.{inRows}
 use Rattle.base.proofs.Mean.{mean-mirror}
-use Rattle.rows.proofs.Rows.{Rows, Within, within-marked, marked-within, within-cols, hull-cols}
+use Rattle.rows.proofs.Rows.{Rows, Within, within-marked, within-cols, p-within, q-within, t-within, hull-cols}
 
 abbrev pub mirror : Point → Point
 mirror x = record { col = side - suc (x .col); row = x .row }
@@ -50,16 +50,14 @@ triangle-mirror {x} {p} {q} {u} i j k l h =
 pub mirrored-hull :
     {lo hi lo′ hi′ : ℕ → ℕ} {b t : ℕ} {x : Point} → Mirrored lo hi lo′ hi′ b t → Rows lo hi b t → InHull (inRows lo hi b t) x
     → InHull (inRows lo′ hi′ b t) (mirror x)
-mirrored-hull {lo} {hi} {b = b} {t = t} m k h =
-    let p : Within lo hi b t (h .p) = marked-within (h .p) (h .p-marked) in
-    let q : Within lo hi b t (h .q) = marked-within (h .q) (h .q-marked) in
-    let u : Within lo hi b t (h .t) = marked-within (h .t) (h .t-marked) in
+mirrored-hull m k h =
     record {
       p = mirror (h .p);
       q = mirror (h .q);
       t = mirror (h .t);
-      p-marked = within-marked (mirror (h .p)) (mirrored-within m p);
-      q-marked = within-marked (mirror (h .q)) (mirrored-within m q);
-      t-marked = within-marked (mirror (h .t)) (mirrored-within m u);
-      triangle = triangle-mirror (hull-cols k h) (within-cols k p) (within-cols k q) (within-cols k u) (h .triangle);
+      p-marked = within-marked (mirror (h .p)) (mirrored-within m (p-within k h));
+      q-marked = within-marked (mirror (h .q)) (mirrored-within m (q-within k h));
+      t-marked = within-marked (mirror (h .t)) (mirrored-within m (t-within k h));
+      triangle =
+          triangle-mirror (hull-cols k h) (within-cols k (p-within k h)) (within-cols k (q-within k h)) (within-cols k (t-within k h)) (h .triangle);
     }

@@ -1,11 +1,12 @@
 -- A block of cells given by its rows. Its hull is all the triangles of its cells, so what holds of a triangle if it holds of the corners holds of the hull
 -- if it holds of the cells.
 use Prim.Native.Nat.{ℕ, pred, _≤_, _<_}
-use mathlib.Core.Path.{_≡_, refl, sym, _∙_}
-use mathlib.Core.Bool.{Bool, true, false, _&&_, and-eq-true-iff, true≢false}
+use mathlib.Core.Path.{_≡_, sym, _∙_}
+use mathlib.Core.Bool.{true, false, _&&_, and-eq-true-iff, true≢false}
 use native.Mathlib.Omega.{arith}
 use lib.Dec.{leb, ltb}
 use borrow.Author.Tests.{le-leb, lt-ltb, leb-true, ltb-true}
+use Rattle.base.proofs.BelowLaws.{not-held}
 use Rattle.chart.specs.Limits.{side}
 use Rattle.chart.specs.declared.Point.{Point}
 use Rattle.lattice.specs.Hull.{InHull}
@@ -51,11 +52,7 @@ module _ {lo hi : ℕ → ℕ} {b t : ℕ} (x : Point) where
   open-outside e h = true≢false (sym (within-marked h) ∙ e)
 
   pub outside-open : (Within lo hi b t x → ⊥) → inRows lo hi b t (x .col) (x .row) ≡ false
-  outside-open h = go (inRows lo hi b t (x .col) (x .row)) refl
-    where
-      go : (a : Bool) → inRows lo hi b t (x .col) (x .row) ≡ a → inRows lo hi b t (x .col) (x .row) ≡ false
-      go true e = absurd (h (marked-within e))
-      go false e = e
+  outside-open h = not-held (inRows lo hi b t (x .col) (x .row)) (λ e. h (marked-within e))
 
 -- The first cell of a row
 abbrev pub begin : (ℕ → ℕ) → ℕ → Point
@@ -68,32 +65,33 @@ pub within-cols : {lo hi : ℕ → ℕ} {b t : ℕ} {x : Point} → Rows lo hi b
 within-cols {x = x} k h = omega (arith, k .fits (x .row) (h .above) (h .below))
 
 module _ {lo hi : ℕ → ℕ} {b t : ℕ} {x : Point} (k : Rows lo hi b t) (h : InHull (inRows lo hi b t) x) where
-  first : Within lo hi b t (h .p)
-  first = marked-within (h .p) (h .p-marked)
+  -- The three cells of its triangle
+  pub p-within : Within lo hi b t (h .p)
+  p-within = marked-within (h .p) (h .p-marked)
 
-  second : Within lo hi b t (h .q)
-  second = marked-within (h .q) (h .q-marked)
+  pub q-within : Within lo hi b t (h .q)
+  q-within = marked-within (h .q) (h .q-marked)
 
-  third : Within lo hi b t (h .t)
-  third = marked-within (h .t) (h .t-marked)
+  pub t-within : Within lo hi b t (h .t)
+  t-within = marked-within (h .t) (h .t-marked)
 
   pub hull-above : b ≤ x .row
-  hull-above = triangle-above b (h .triangle) (first .above) (second .above) (third .above)
+  hull-above = triangle-above b (h .triangle) (p-within .above) (q-within .above) (t-within .above)
 
   pub hull-below : x .row < t
   hull-below =
-      let l = triangle-below (pred t) (h .triangle) (omega (arith, first .below)) (omega (arith, second .below)) (omega (arith, third .below)) in
+      let l = triangle-below (pred t) (h .triangle) (omega (arith, p-within .below)) (omega (arith, q-within .below)) (omega (arith, t-within .below)) in
       omega (arith, k .below)
 
   pub hull-cols : x .col < side
   hull-cols =
       let l =
-      triangle-cols (pred side) (h .triangle) (omega (arith, within-cols k first)) (omega (arith, within-cols k second)) (omega (arith, within-cols k third)) in
+      triangle-cols (pred side) (h .triangle) (omega (arith, within-cols k p-within)) (omega (arith, within-cols k q-within)) (omega (arith, within-cols k t-within)) in
       omega arith
 
   -- A line that every row begins right of has the whole hull right of it
   pub hull-right : {p q : Point} → p .row ≤ q .row → ((r : ℕ) → b ≤ r → r < t → Right p q (begin lo r)) → Right p q x
-  hull-right {p} {q} l f = right-mean (h .triangle) (cell (h .p) first) (cell (h .q) second) (cell (h .t) third)
+  hull-right {p} {q} l f = right-mean (h .triangle) (cell (h .p) p-within) (cell (h .q) q-within) (cell (h .t) t-within)
     where
       cell : (y : Point) → Within lo hi b t y → Right p q y
       cell y w = right-beyond (lo (y .row)) l (w .begun) (f (y .row) (w .above) (w .below))

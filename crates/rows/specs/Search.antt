@@ -66,7 +66,7 @@ unfoldable pub keptColumn : (Point → ℕ → ℕ → Bool) → Point → List 
 keptColumn along p [] r d = d
 keptColumn along p (a ∷ w) r d = keptColumn along (stepped p a) w r (cond (along p a r && leb (p .col) side) (p .col) d)
 
--- The same search for every start, all letters and any two rows: s itself where the rows are none of the chart's in their order. For an outline
+-- The same search for every start, all letters and any two rows: the start itself where the rows are none of the chart's in their order. For an outline
 -- it is the lowest missing cell (proofs/RowLaws.antt: `found-missing`)
 unfoldable pub foundCell : Outline → ℕ → ℕ → Point
 foundCell o b t = cond (ltb side t || ltb t b) (o .start) (lowestGap (λ r. keptColumn upAlong (o .start) (o .letters) r 0) (λ r. keptColumn downAlong (o .start) (o .letters) r 0) b t)

@@ -63,7 +63,7 @@ module _ (o : Outline) where
   pub walking-end : (i : ℕ) (p : Point) → Walking o i p → size o ≤ i → Stays o → p ≡ walk (o .start) (o .letters)
   walking-end i p t l h = let e : i ≡ size o = omega (arith, t .le) in t .corner h ∙ ap (cornerAt o) e ∙ corner-all o
 
-  -- It is away from s by its column, or else by its row
+  -- It is away from the start by its column, or else by its row
   pub away-col : (p : Point) → p ≡ walk (o .start) (o .letters) → (p .col ≡ o .start .col → ⊥) → not (eqb (p .col) (o .start .col)) ≡ unclosed o
   unfolding unclosed samePoint
   away-col p d e = rw (← d, ne-eqb (p .col) (o .start .col) e)

@@ -1,4 +1,4 @@
--- Refusals 1 to 6 of an outline, its start s and its letters w: the first that applies (contract 5.1).
+-- Refusals 1 to 6 of an outline: the first that applies (contract 5.1).
 use Prim.Native.Nat.{_-_}
 use mathlib.Core.Bool.{cond}
 use lib.Dec.{ltb}

@@ -10,7 +10,7 @@ use mathlib.Core.List.{List, [], _∷_, _++_}
 use lib.ListN.{length, length-append}
 use lib.Dec.{ltb}
 use borrow.Author.Tests.{lt-ltb, le-ltb, ltb-true, ltb-false}
-use Rattle.base.proofs.BelowLaws.{first-found, first-before, first-none, first-is, first-none-at}
+use Rattle.base.proofs.BelowLaws.{first-found, first-before, first-none, first-is, first-none-at, not-held}
 use Rattle.words.specs.Word.{Word}
 use Rattle.words.specs.Lyndon.{Factor, Falling, Factoring, written}
 use Rattle.words.specs.Christoffel.{Christoffel, christoffel}
@@ -37,11 +37,7 @@ use Rattle.verdict.proofs.VerdictLaws.{dented-or-not, TakenFacts, taken
 -- ---- dents in a list of factors
 
 no-christoffel : (w : Word) → ¬ Christoffel w → christoffel w ≡ false
-no-christoffel w h = go (christoffel w) refl
-  where
-    go : (b : Bool) → christoffel w ≡ b → b ≡ false
-    go true e = absurd (h (christoffel-iff w .0 e))
-    go false e = refl
+no-christoffel w h = not-held (christoffel w) (λ e. h (christoffel-iff w .0 e))
 
 not-christoffel : (w : Word) → christoffel w ≡ false → ¬ Christoffel w
 not-christoffel w e c = false≢true (sym e ∙ christoffel-iff w .1 c)

@@ -7,7 +7,7 @@ use mathlib.Core.Path.{_≡_, refl, sym, ap, _∙_}
 use mathlib.Core.Logic.{_⊎_, inl, inr, ⊎-elim, _↔_}
 use mathlib.Core.Bool.{Bool, true, false, not, cond, _||_, true≢false}
 use mathlib.Core.List.{List, _++_}
-use lib.ListN.{length, take, drop, length-append, length-drop}
+use lib.ListN.{length, take, drop}
 use lib.Seq.{take-at}
 use lib.Dec.{ltb, eqb}
 use lib.IntN.{ℤ}
@@ -199,18 +199,6 @@ module _ (o : Outline) where
                 record { said = cc; room = omega arith }
           ]
 
-  pub nine-roomless : (m : ℕ) → (verdictFields (testOf o m) .number ≡ 9) ↔ (verdictFields (verdictOf o) .number ≡ 9)
-  unfolding numbers
-  nine-roomless m = go (verdictOf o) refl
-    where
-      go : (v : Verdict) → verdictOf o ≡ v → (verdictFields (testOf o m) .number ≡ 9) ↔ (verdictFields (verdictOf o) .number ≡ 9)
-      go (Refused f) x = rw (test-refused m f x, x) (λ e. e, λ e. e)
-      go (Taken k b) x =
-          elim (decLt m (2 * k)) [
-            | yes h ↦ rw (test-short m k b x h, x) (λ e. absurd (omega (arith, e)), λ e. absurd (omega (arith, e)))
-            | no h ↦ rw (test-taken m k b x (omega arith), x) (λ e. e, λ e. e)
-          ]
-
   -- ---- the lent list afterwards
 
   pub edges-after : (lent : List ℤ) (n : ℕ) (a : Point) → testOf o (length lent) ≡ Taken n a →
@@ -228,14 +216,3 @@ module _ (o : Outline) where
       let k : TakenFacts n a = taken-facts n a (roomy (length lent) n a e .said) in
       ap (take (2 * n)) (edges-after lent n a e) ∙
       take-at (edges (reading o)) (drop (length (edges (reading o))) lent) (2 * n) (edges-length (reading o) ∙ ap (λ (j : ℕ). 2 * j) (sym (k .count)))
-
-  -- The lent list is as long as before
-  pub edges-after-length : (lent : List ℤ) → length (edgesAfter o lent) ≡ length lent
-  edges-after-length lent = go (testOf o (length lent)) refl
-    where
-      go : (v : Verdict) → testOf o (length lent) ≡ v → length (edgesAfter o lent) ≡ length lent
-      go (Refused f) e = ap (length {A = ℤ}) (edges-refused lent f e)
-      go (Taken n a) e =
-          let r : Roomy (length lent) n a = roomy (length lent) n a e in
-          let k : TakenFacts n a = taken-facts n a (r .said) in
-          rw (edges-after lent n a e) (simp (length-append, length-drop, edges-length) (omega (arith, r .room, k .count)))

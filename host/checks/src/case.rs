@@ -3,8 +3,10 @@
 use std::fmt::{self, Write as _};
 use std::str::FromStr;
 
+use robequarry::limits::{LAST_LETTER, REPLY};
+
 use crate::engine::Engine;
-use crate::{Outline, Point};
+use crate::{Fields, Outline, Point};
 
 /// An input. `lent` and `room` are the lengths of the list for edges and of the list for replies.
 #[derive(Clone, Debug, PartialEq)]
@@ -46,13 +48,20 @@ impl Case {
     }
 }
 
+impl Outcome {
+    /// The replies that were written.
+    pub fn fields(&self) -> impl Iterator<Item = Fields> + '_ {
+        Fields::each(&self.replies).take(self.returned)
+    }
+}
+
 /// In short: what was written, and what was altered behind it.
 impl fmt::Display for Outcome {
     fn fmt(&self, f: &mut fmt::Formatter<'_>) -> fmt::Result {
-        let written = 7 * self.returned;
+        let written = REPLY * self.returned;
         let (replies, rest) = self.replies.split_at(written.min(self.replies.len()));
         write!(f, "returned {}, replies", self.returned)?;
-        for reply in replies.chunks(7) {
+        for reply in replies.chunks(REPLY) {
             write!(f, " {reply:?}")?;
         }
         let edges = self.edges.iter().enumerate().rposition(|(i, &edge)| edge != filler(i) as i16);
@@ -67,7 +76,7 @@ fn bytes_as_text(bytes: &[u8]) -> String {
     if bytes.is_empty() {
         return "-".to_string();
     }
-    if bytes.iter().all(|&byte| byte < 4) {
+    if bytes.iter().all(|&byte| byte <= LAST_LETTER) {
         return bytes.iter().map(|&byte| char::from(b'0' + byte)).collect();
     }
     let mut text = "x".to_string();

@@ -1,5 +1,7 @@
 //! One face for whatever answers the calls: the library's own, on plain lists of numbers.
 
+use robequarry::limits::REPLY;
+
 use crate::{plain, reference, Fields, Point};
 
 pub trait Engine {
@@ -15,7 +17,7 @@ pub trait Engine {
 /// The proved library.
 pub struct Library;
 
-/// Document 01 as written.
+/// The contract as written.
 pub struct Reference;
 
 /// The library's algorithm in plain Rust.
@@ -78,9 +80,5 @@ impl Engine for Plain {
 /// Writes an answer where the reply list has room for it; else nothing is done.
 #[inline]
 fn answer(reply: &mut [u16], call: impl FnOnce() -> Fields) -> bool {
-    let Some(room) = reply.first_chunk_mut::<7>() else {
-        return false;
-    };
-    *room = call().numbers();
-    true
+    reply.len() >= REPLY && call().write(reply)
 }

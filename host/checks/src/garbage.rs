@@ -1,5 +1,7 @@
 //! Letter lists and edge lists that nobody should send.
 
+use robequarry::limits::{LAST_CORNER, LAST_LETTER, LONGEST, LONGEST_LIST, REPLY, SHORTEST};
+
 use crate::case::Case;
 use crate::draw::{reversed, Shape};
 use crate::random::Random;
@@ -15,17 +17,17 @@ pub fn any_outline(random: &mut Random) -> Outline {
 pub fn lent(random: &mut Random) -> usize {
     match random.below(4) {
         0 => random.below(48),
-        1 => random.from_to(2030, 2100),
-        _ => 2032,
+        1 => random.from_to(LONGEST_LIST - 2, LONGEST_LIST + 68),
+        _ => LONGEST_LIST,
     }
 }
 
 /// The length of a reply list: most often just enough.
 pub fn room(random: &mut Random) -> usize {
     match random.below(12) {
-        0 => random.below(7),
-        1 => random.from_to(8, 20),
-        _ => 7,
+        0 => random.below(REPLY),
+        1 => random.from_to(REPLY + 1, 20),
+        _ => REPLY,
     }
 }
 
@@ -37,7 +39,7 @@ pub fn spoilt_test(random: &mut Random) -> Case {
         2 => any_length(random),
         3 => one_way(random),
         4 => reversed(&any_outline(random)),
-        5 => Outline { start: odd_start(random), ..any_outline(random) },
+        5 => Outline { start: random.odd_point(), ..any_outline(random) },
         6 => near_the_border(random),
         7 => twice(random),
         _ => damaged(random),
@@ -45,44 +47,37 @@ pub fn spoilt_test(random: &mut Random) -> Case {
     Case::Test { outline, lent: lent(random), room: room(random) }
 }
 
-fn start(random: &mut Random) -> Point {
-    Point::new(random.below(256) as u16, random.below(256) as u16)
-}
-
-fn odd_start(random: &mut Random) -> Point {
-    Point::new(random.odd_number(), random.odd_number())
-}
-
 fn any_bytes(random: &mut Random) -> Outline {
     let largest = [4, 5, 16, 255][random.below(4)];
     let count = random.below(40);
-    Outline { start: odd_start(random), letters: (0..count).map(|_| random.from_to(0, largest) as u8).collect() }
+    Outline { start: random.odd_point(), letters: (0..count).map(|_| random.from_to(0, largest) as u8).collect() }
 }
 
 /// Steps in any direction: the walk soon touches itself or stays open.
 fn any_letters(random: &mut Random) -> Outline {
     let count = random.from_to(2, 14);
-    Outline { start: start(random), letters: (0..count).map(|_| random.below(4) as u8).collect() }
+    Outline { start: random.corner(), letters: (0..count).map(|_| random.letter()).collect() }
 }
 
 /// A list of a length near a limit, also those of 8, 12 and 16 bits.
 fn any_length(random: &mut Random) -> Outline {
-    let limits = [0, 3, 4, 255, 256, 2047, 2048, 2049, 4096, 65_535, 65_540];
+    let limits = [0, SHORTEST - 1, SHORTEST, 255, 256, LONGEST - 1, LONGEST, LONGEST + 1, 4096, 65_535, 65_540];
     let limit = limits[random.below(limits.len())];
     let round = [[1, 0, 3, 2], [1, 1, 3, 3], [0, 2, 0, 2], [1, 1, 1, 1]][random.below(4)];
-    Outline { start: start(random), letters: round.into_iter().cycle().take(limit).collect() }
+    Outline { start: random.corner(), letters: round.into_iter().cycle().take(limit).collect() }
 }
 
 /// Straight on until the chart ends, or not quite.
 fn one_way(random: &mut Random) -> Outline {
-    let letter = random.below(4) as u8;
-    Outline { start: start(random), letters: vec![letter; random.from_to(1, 300)] }
+    let letter = random.letter();
+    Outline { start: random.corner(), letters: vec![letter; random.from_to(1, 300)] }
 }
 
 /// An outline moved so that it may leave the chart.
 fn near_the_border(random: &mut Random) -> Outline {
     let outline = any_outline(random);
-    let edge = |random: &mut Random| if random.once_in(2) { random.below(6) } else { random.from_to(250, 255) };
+    let last = usize::from(LAST_CORNER);
+    let edge = |random: &mut Random| if random.once_in(2) { random.below(6) } else { random.from_to(last - 5, last) };
     let start = Point::new(edge(random) as u16, edge(random) as u16);
     Outline { start, ..outline }
 }
@@ -101,19 +96,19 @@ fn damaged(random: &mut Random) -> Outline {
     let letters = &mut outline.letters;
     let place = random.below(letters.len());
     match random.below(6) {
-        0 => letters[place] = random.below(4) as u8,
+        0 => letters[place] = random.letter(),
         1 => drop(letters.remove(place)),
-        2 => letters.insert(place, random.below(4) as u8),
+        2 => letters.insert(place, random.letter()),
         3 => letters.swap(place, random.below(place + 1)),
         4 => letters.truncate(place),
-        _ => letters[place] = [4, 5, 7, 128, 131, 255][random.below(6)],
+        _ => letters[place] = [LAST_LETTER + 1, 5, 7, 128, 131, u8::MAX][random.below(6)],
     }
     outline
 }
 
 /// A loose query with any list.
 pub fn loose(random: &mut Random) -> Case {
-    let longest = [6, 6, 40, 2032, 2040, 70_000][random.below(6)];
+    let longest = [6, 6, 40, LONGEST_LIST, LONGEST_LIST + 8, 70_000][random.below(6)];
     let count = random.from_to(0, longest);
     let count = if random.once_in(8) { count } else { count / 2 * 2 };
     let reach = [1, 3, 60, 32_767][random.below(4)];
@@ -125,7 +120,7 @@ pub fn loose(random: &mut Random) -> Case {
 /// values of more than 32 bits.
 pub fn round_walk(random: &mut Random) -> Case {
     let reach = [2, 5, 60, 32_767][random.below(4)];
-    let times = [1, 1, 3, 254][random.below(4)];
+    let times = [1, 1, 3, LONGEST_LIST / 8][random.below(4)];
     let mut any = || random.below(reach + 1) as i16;
     let (a, b, c, d) = (any(), any(), any(), any());
     let mut edges: Vec<i16> = [[a, b], [c, -d], [-a, -b], [-c, d]].iter().flat_map(|side| side.repeat(times)).collect();
@@ -146,7 +141,7 @@ pub fn round_walk(random: &mut Random) -> Case {
 /// A cell, mostly on the chart.
 pub fn cell(random: &mut Random) -> Point {
     if random.once_in(10) {
-        return Point::new(random.odd_number(), random.odd_number());
+        return random.odd_point();
     }
-    Point::new(random.below(255) as u16, random.below(255) as u16)
+    random.cell()
 }

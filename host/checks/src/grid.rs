@@ -1,5 +1,7 @@
 //! A set of cells, and the border of its part.
 
+use robequarry::limits::SIDE;
+
 use crate::random::Random;
 
 /// A set of cells within a frame of columns and rows from 0. Nothing outside of the frame is in the set.
@@ -34,6 +36,11 @@ impl Grid {
             grid.put(col, row, rule(col, row));
         }
         grid
+    }
+
+    /// The cells of the chart for which a rule holds.
+    pub fn of_chart(rule: impl Fn(i32, i32) -> bool) -> Self {
+        Grid::of(i32::from(SIDE), i32::from(SIDE), rule)
     }
 
     fn within(&self, col: i32, row: i32) -> bool {

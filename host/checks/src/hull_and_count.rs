@@ -1,5 +1,10 @@
 //! The usual way to test convexity, the benchmark's second rival: the hull of the cells by a monotone chain, the lattice points
-//! in it by Pick's theorem, and whether they are as many as the cells.
+//! in it by Pick's theorem, and whether they are as many as the cells. Every cell lies in the hull, so they are more exactly if the
+//! hull holds a cell that is not marked.
+//!
+//! It decides what the test decides, whether the outline is taken, and no more: it finds no place, no missing cell and no edges of
+//! factors. The hull of all cells is the form in which the test is mostly written. The hull of the border cells alone is the
+//! same hull from fewer cells; it needs their count from elsewhere, which is the area within the walk.
 
 use crate::{plain, Point};
 

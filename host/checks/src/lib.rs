@@ -1,10 +1,12 @@
 //! Differential tests and benchmarks of the proved library.
 //!
-//! - [`mod@reference`] is document 01 once more, in the plainest Rust: every definition as written, nothing clever.
+//! - [`mod@reference`] is docs/CONTRACT.md once more, in the plainest Rust: every definition as written, nothing clever.
 //! - [`plain`] is the library's algorithm in plain Rust: the benchmark's first rival. It is held to the reference too.
 //! - [`hull_and_count`] is the usual way to test convexity: the benchmark's second rival.
 //! - [`engine`] gives all of them, and the library, one face; [`case`] is one input for it, which can be written as a line.
+//!   Limits, and replies and calls as numbers, are those of the crate `robequarry`.
 //! - [`walks`], [`draw`], [`garbage`] and [`scripts`] make the inputs, from the numbers of [`random`].
+//! - [`timing`] and [`stack`] measure; [`report`] prints what was timed, and [`tally`] what was reached.
 
 pub mod case;
 pub mod draw;
@@ -13,15 +15,19 @@ pub mod garbage;
 pub mod grid;
 pub mod hull_and_count;
 pub mod plain;
+pub mod point;
 pub mod random;
 pub mod reference;
 pub mod reply;
+pub mod report;
 pub mod scripts;
+pub mod stack;
 pub mod tally;
 pub mod timing;
 pub mod walks;
 
-pub use reply::{Fields, Point, INSIDE, OUTSIDE, SAME, TAKEN};
+pub use point::Point;
+pub use robequarry::codec::Fields;
 
 /// A start corner and letters.
 #[derive(Clone, Debug, PartialEq, Eq)]

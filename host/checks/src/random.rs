@@ -1,5 +1,9 @@
 //! Random numbers from a seed (splitmix64): the same seed gives the same run.
 
+use robequarry::limits::{LAST_CELL, LAST_CORNER, LAST_LETTER, SIDE};
+
+use crate::Point;
+
 pub struct Random {
     state: u64,
 }
@@ -39,12 +43,36 @@ impl Random {
     }
 
     /// A number of 16 bits: most often near the limits of the chart, sometimes any.
-    pub fn odd_number(&mut self) -> u16 {
+    fn odd_number(&mut self) -> u16 {
         match self.below(4) {
             0 => self.below(8) as u16,
-            1 => self.from_to(250, 260) as u16,
+            1 => self.from_to(usize::from(SIDE) - 5, usize::from(SIDE) + 5) as u16,
             2 => [511, 512, 32_767, 32_768, 65_280, 65_535][self.below(6)],
             _ => self.any() as u16,
         }
+    }
+
+    /// Any letter.
+    pub fn letter(&mut self) -> u8 {
+        self.from_to(0, usize::from(LAST_LETTER)) as u8
+    }
+
+    /// Any corner of the chart.
+    pub fn corner(&mut self) -> Point {
+        self.point(LAST_CORNER)
+    }
+
+    /// Any cell of the chart.
+    pub fn cell(&mut self) -> Point {
+        self.point(LAST_CELL)
+    }
+
+    /// Two numbers of 16 bits, most often near the limits of the chart.
+    pub fn odd_point(&mut self) -> Point {
+        Point::new(self.odd_number(), self.odd_number())
+    }
+
+    fn point(&mut self, last: u16) -> Point {
+        Point::new(self.from_to(0, usize::from(last)) as u16, self.from_to(0, usize::from(last)) as u16)
     }
 }

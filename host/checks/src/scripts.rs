@@ -1,5 +1,8 @@
 //! Random scripts of calls for the holder.
 
+use robequarry::limits::{CALL, LONGEST, REPLY};
+use robequarry::Call;
+
 use crate::case::Case;
 use crate::draw::rotated;
 use crate::garbage::{any_outline, cell};
@@ -24,11 +27,11 @@ pub fn script(random: &mut Random) -> Case {
     if random.once_in(4) {
         bytes.truncate(random.from_to(bytes.len() - bytes.len().min(9), bytes.len()));
     }
-    let calls = bytes.len() / 5;
+    let calls = bytes.len() / CALL;
     let room = match random.below(5) {
-        0 => random.below(7 * calls + 8),
-        1 => 7 * calls,
-        _ => 7 * calls + random.below(30),
+        0 => random.below(REPLY * calls + REPLY + 1),
+        1 => REPLY * calls,
+        _ => REPLY * calls + random.below(30),
     };
     Case::Script { bytes, room }
 }
@@ -51,37 +54,38 @@ impl Script<'_> {
     }
 
     /// One call. Bytes that the call does not read are anything.
-    fn call(&mut self, call: u8, numbers: Option<Point>) {
-        let any = Point::new(self.random.any() as u16, self.random.any() as u16);
-        let Point { col, row } = numbers.unwrap_or(any);
-        self.bytes.push(call);
-        self.bytes.extend(col.to_le_bytes());
-        self.bytes.extend(row.to_le_bytes());
+    fn call(&mut self, call: Call) {
+        let any = self.any_call();
+        self.bytes.extend(call.bytes_over(any));
+    }
+
+    /// As many bytes as a call has.
+    fn any_call(&mut self) -> [u8; CALL] {
+        std::array::from_fn(|_| self.random.any() as u8)
     }
 
     fn begin(&mut self, start: Point) {
-        self.call(0, Some(start));
+        self.call(Call::Begin(start.into()));
     }
 
     fn add(&mut self, letter: u8) {
-        let any = self.random.any() as u16;
-        self.call(1, Some(Point::new(any << 8 | u16::from(letter), any)));
+        self.call(Call::Add(letter));
     }
 
     fn drop_draft(&mut self) {
-        self.call(2, None);
+        self.call(Call::Drop);
     }
 
     fn clear(&mut self) {
-        self.call(3, None);
+        self.call(Call::Clear);
     }
 
     fn close(&mut self) {
-        self.call(4, None);
+        self.call(Call::Close);
     }
 
     fn query(&mut self, cell: Point) {
-        self.call(5, Some(cell));
+        self.call(Call::Query(cell.into()));
     }
 
     /// A new outline, one of those drawn before, or such a one from another corner.
@@ -159,14 +163,14 @@ impl Script<'_> {
 
     /// A start that may be off the chart, and a few letters.
     fn begin_anywhere(&mut self) {
-        let start = Point::new(self.random.odd_number(), self.random.odd_number());
+        let start = self.random.odd_point();
         self.begin(start);
         self.adds();
     }
 
     fn adds(&mut self) {
         for _ in 0..self.random.below(6) {
-            let letter = if self.random.once_in(8) { self.random.any() as u8 } else { self.random.below(4) as u8 };
+            let letter = if self.random.once_in(8) { self.random.any() as u8 } else { self.random.letter() };
             self.add(letter);
         }
     }
@@ -174,9 +178,9 @@ impl Script<'_> {
     /// More letters than a draft holds.
     fn overfill(&mut self) {
         self.drop_draft();
-        let start = Point::new(self.random.below(255) as u16, self.random.below(255) as u16);
+        let start = self.random.corner();
         self.begin(start);
-        let count = self.random.from_to(2040, 2052);
+        let count = self.random.from_to(LONGEST - 8, LONGEST + 4);
         for i in 0..count {
             self.add([1, 0, 3, 2][i % 4]);
         }
@@ -185,8 +189,9 @@ impl Script<'_> {
     }
 
     fn unknown(&mut self) {
-        let call = [6, 7, 128, 255][self.random.below(4)];
-        self.call(call, None);
+        let mut bytes = self.any_call();
+        bytes[0] = [6, 7, 128, 255][self.random.below(4)];
+        self.bytes.extend(bytes);
     }
 
     fn any_bytes(&mut self) {

@@ -1,18 +1,25 @@
 //! Counts of what the inputs reached.
 
+use robequarry::codec::SAME;
+use robequarry::limits::LAST_REFUSAL;
+
 use crate::case::{Case, Outcome};
+use crate::Fields;
+
+const NUMBERS: usize = LAST_REFUSAL as usize + 1;
+const WORDS: usize = SAME as usize + 1;
 
 /// How often each number and each word was replied.
 #[derive(Clone, Default)]
 pub struct Replies {
-    pub numbers: [u64; 16],
-    pub words: [u64; 5],
+    pub numbers: [u64; NUMBERS],
+    pub words: [u64; WORDS],
 }
 
 impl Replies {
-    fn count(&mut self, reply: &[u16]) {
-        self.numbers[usize::from(reply[0])] += 1;
-        self.words[usize::from(reply[1])] += 1;
+    fn count(&mut self, reply: Fields) {
+        self.numbers[usize::from(reply.number)] += 1;
+        self.words[usize::from(reply.word)] += 1;
     }
 }
 
@@ -36,14 +43,14 @@ impl Tally {
             Case::Loose { .. } => &mut self.loose_queries,
             Case::Script { .. } => &mut self.calls,
         };
-        for reply in outcome.replies.chunks_exact(7).take(outcome.returned) {
+        for reply in outcome.fields() {
             replies.count(reply);
         }
-        match case {
-            _ if outcome.returned == 0 => self.no_room += 1,
-            Case::Test { outline, .. } if outcome.replies[0] == 0 => {
+        match (case, outcome.fields().next()) {
+            (_, None) => self.no_room += 1,
+            (Case::Test { outline, .. }, Some(Fields { number: 0, place: edges, .. })) => {
                 self.longest_taken = self.longest_taken.max(outline.letters.len());
-                self.most_edges = self.most_edges.max(outcome.replies[2]);
+                self.most_edges = self.most_edges.max(edges);
             }
             _ => {}
         }
@@ -58,7 +65,7 @@ impl Tally {
             ("calls of scripts", &self.calls, &[0, 1, 2, 3, 4, 5, 6, 7, 8, 9, 11, 12, 13, 14, 15], &[0, 1, 2, 3, 4]),
         ];
         println!("{:>16} {:>14} {:>14} {:>16}", "number", "tests", "loose queries", "calls of scripts");
-        for number in 0..16 {
+        for number in 0..NUMBERS {
             let counts = reached.map(|(_, replies, numbers, _)| cell(replies.numbers[number], numbers.contains(&number)));
             println!("{number:>16} {:>14} {:>14} {:>16}", counts[0], counts[1], counts[2]);
         }

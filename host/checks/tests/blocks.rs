@@ -1,16 +1,18 @@
-//! Every outline in a small block: the library against document 01, and document 01 against itself.
+//! Every outline in a small block: the library against the reference, and the reference against itself.
 
+use robequarry::codec::INSIDE;
+use robequarry::limits::{LAST_CORNER, LAST_REFUSAL, REPLY};
 use robequarry_checks::case::Case;
 use robequarry_checks::engine::{Engine, Library, Plain, Reference};
 use robequarry_checks::reference::calls::{loose_query, test};
 use robequarry_checks::reference::cells::Enclosed;
 use robequarry_checks::walks::{cycles, outlines};
-use robequarry_checks::{Point, INSIDE};
+use robequarry_checks::Point;
 
 #[test]
 fn every_outline_of_3_by_3() {
-    for outline in outlines(3, Point::new(0, 252)) {
-        let case = Case::Test { outline, lent: 40, room: 8 };
+    for outline in outlines(3, Point::new(0, LAST_CORNER - 3)) {
+        let case = Case::Test { outline, lent: 40, room: REPLY + 1 };
         let expected = case.run(&Reference);
         for engine in [&Library as &dyn Engine, &Plain] {
             assert_eq!(case.run(engine), expected, "{}: {case}", engine.name());
@@ -22,7 +24,7 @@ fn every_outline_of_3_by_3() {
 #[test]
 fn counts_of_4_by_4() {
     assert_eq!(cycles(4).len(), 9_349);
-    let mut counts = [0; 16];
+    let mut counts = [0; LAST_REFUSAL as usize + 1];
     for outline in outlines(4, Point::new(0, 0)) {
         counts[usize::from(test(outline.start, &outline.letters).reply.number)] += 1;
     }

@@ -1,107 +1,184 @@
-//! The proved library against (a) its algorithm in plain Rust and (b) hull-and-count, all in one run and as ratios.
+//! The proved library against its rivals. All figures are of one run, and each ratio is of calls that took turns.
 //!
-//! (b) is run twice: over all enclosed cells, and over the cells at the border alone, which have the same hull. It looks at refusals
-//! 1 to 7 as (a) does, so that all rivals judge any list of letters.
+//!     bench            a table, and then the same rows as lines
+//!     bench --lines    the lines alone
+//!
+//! A line has six fields, set apart by tabs: `bench`, a name, a count of letters, the library's nanoseconds a call, and the name and
+//! the value of a ratio, or `-` and `-`. The ratios:
+//!
+//! - `library/plain`: to the library's algorithm in plain Rust
+//! - `cells/library` and `border/library`: how many times as long hull-and-count takes, with the hull of all enclosed cells, and
+//!   with the hull of the border cells alone
+//! - `refusal/taking`: of the library, to the outlines of the same length that were flipped
+//! - `600/150` and the like: of the library, to outlines of fewer letters
 
+use std::env;
 use std::hint::black_box;
+use std::process::exit;
 
-use robequarry::{Call, Cell, Corner, Edges, Holder};
+use robequarry::limits::{CALL, LONGEST_LIST, REPLY, SIDE};
+use robequarry::{Call, Edges, Holder};
 use robequarry_checks::draw::{reversed, round_outline, with_a_cell_flipped};
 use robequarry_checks::engine::{Engine, Library, Plain};
 use robequarry_checks::hull_and_count::{is_convex, Of};
 use robequarry_checks::random::Random;
+use robequarry_checks::report::{Goal, Ratio, Report, Row};
 use robequarry_checks::timing::race;
-use robequarry_checks::{Fields, Outline, Point};
+use robequarry_checks::{plain, Fields, Outline, Point};
 
 const SEED: u64 = 1;
 
 /// How many outlines of a kind take turns, so that no rival learns one by heart.
 const SET: usize = 16;
 
+/// Letters of the outlines that are tested.
+const LENGTHS: [usize; 4] = [100, 150, 250, 600];
+
+/// Letters of the lists that are no outlines.
+const SPOILT_LENGTHS: [usize; 2] = [250, 600];
+
+/// Letters of the outline that is drawn and queried.
+const DRAWN: usize = 600;
+
+const PLAIN_GOAL: Goal = Goal::AtMost(1.1);
+const HULL_GOAL: Goal = Goal::AtLeast(10.0);
+const REFUSAL_GOAL: Goal = Goal::AtMost(3.0);
+/// For four times the letters.
+const GROWTH_GOAL: Goal = Goal::AtMost(4.4);
+
 fn main() {
-    println!("bench: seed {SEED}");
-    let mut random = Random::new(SEED);
-    let mut goals = Goals::default();
-    outlines(&mut random, &mut goals);
-    spoilt_lists(&mut random, &mut goals);
-    queries(&mut random);
-    goals.print();
-}
-
-/// Taken ellipses, and the same with one cell flipped.
-fn outlines(random: &mut Random, goals: &mut Goals) {
-    println!();
-    println!("Nanoseconds a test, and the proved library's ratio to each rival (of (b): how many times faster it is)");
-    println!(
-        "{:<38} {:>8} {:>8} {:>6} {:>10} {:>6} {:>10} {:>6}",
-        "", "proved", "(a)", "ratio", "(b) cells", "times", "(b) border", "times"
-    );
-    let mut takings = Vec::new();
-    for letters in [100, 250, 300, 1000] {
-        let taken: Vec<Outline> = (0..SET).map(|_| taken(random, letters)).collect();
-        let name = format!("taken, {letters} letters");
-        let times = Times::of(&taken);
-        times.print(&name);
-        goals.same_algorithm(&name, &times);
-        goals.hull_and_count(&name, &times);
-
-        for (where_, tries) in [("", 1), (" high up", 40)] {
-            let name = format!("one cell flipped{where_}, {letters} letters");
-            let dented: Vec<Outline> = taken.iter().map(|outline| dented(random, outline, tries)).collect();
-            let times = Times::of(&dented);
-            times.print(&name);
-            goals.same_algorithm(&name, &times);
-            goals.at_most(format!("{name}: refusal 9 to a taking"), library_ratio(&dented, &taken), 3.0);
+    let arguments: Vec<String> = env::args().skip(1).collect();
+    let lines_only = match arguments.iter().map(String::as_str).collect::<Vec<_>>()[..] {
+        [] => false,
+        ["--lines"] => true,
+        _ => {
+            eprintln!("bench [--lines]");
+            exit(2);
         }
-        takings.push(taken);
-    }
-    goals.at_most("growth from 250 to 1,000 letters".to_string(), library_ratio(&takings[3], &takings[1]), 4.4);
+    };
+    let mut random = Random::new(SEED);
+    let mut bench = Bench { report: Report::new(lines_only) };
+    bench.outlines(&mut random);
+    bench.spoilt_lists(&mut random);
+    bench.calls(&mut random);
+    bench.report.end();
 }
 
-/// Lists that are no outlines, of 1,000 letters.
-fn spoilt_lists(random: &mut Random, goals: &mut Goals) {
-    let middle = Point::new(128, 128);
-    let mut kinds: [(&str, Vec<Outline>); 4] = [
-        ("garbage: any bytes", Vec::new()),
-        ("garbage: any letters", Vec::new()),
-        ("a letter short of closing", Vec::new()),
-        ("anticlockwise", Vec::new()),
-    ];
-    for _ in 0..SET {
-        kinds[0].1.push(Outline { start: middle, letters: (0..1000).map(|_| random.any() as u8).collect() });
-        kinds[1].1.push(Outline { start: middle, letters: (0..1000).map(|_| random.below(4) as u8).collect() });
-        let mut short = taken(random, 1000);
-        short.letters.pop();
-        kinds[2].1.push(short);
-        kinds[3].1.push(reversed(&taken(random, 1000)));
+/// Lists of letters of one kind.
+struct Set {
+    name: &'static str,
+    /// The letters of each list; a flipped cell may have put in or taken out two.
+    letters: usize,
+    lists: Vec<Outline>,
+}
+
+impl Set {
+    fn new(name: &'static str, letters: usize, mut list: impl FnMut() -> Outline) -> Self {
+        Set { name, letters, lists: (0..SET).map(|_| list()).collect() }
     }
-    for (name, set) in &kinds {
-        let times = Times::of(set);
-        times.print_without_hull(name);
-        goals.same_algorithm(name, &times);
+
+    /// The same outlines with one cell flipped.
+    fn flipped(&self, name: &'static str, random: &mut Random, tries: usize) -> Self {
+        Set { name, letters: self.letters, lists: self.lists.iter().map(|outline| dented(random, outline, tries)).collect() }
     }
 }
 
-/// Queries, adds and a close.
-fn queries(random: &mut Random) {
-    let outline = taken(random, 1000);
-    let cells: Vec<Point> = (0..1024).map(|_| Point::new(random.below(255) as u16, random.below(255) as u16)).collect();
-    let queries: Vec<u8> = cells.iter().flat_map(|cell| call(5, cell.col, cell.row)).collect();
-    let begun = call(0, outline.start.col, outline.start.row).to_vec();
-    let adds = outline.letters.iter().flat_map(|&letter| call(1, u16::from(letter), 0)).collect();
-    let drawn = [begun.clone(), adds].concat();
-    let closed = [drawn.clone(), call(4, 0, 0).to_vec()].concat();
-    let asked = [closed.clone(), queries].concat();
+struct Bench {
+    report: Report,
+}
 
-    println!();
-    println!("{:<44} {:>8} {:>8} {:>6}", "Nanoseconds, of an outline of 1,000 letters", "proved", "(a)", "ratio");
-    print_pair("a loose query", loose_query(&outline, &cells));
-    print_pair("a query through the holder", each_more(&closed, &asked, cells.len()));
-    print_pair("an add", each_more(&begun, &drawn, outline.letters.len()));
-    print_pair("begin, 1,000 adds and a close", race_replays(&closed));
-    let [contains, query] = through_the_wrapper(&outline, &cells);
-    println!("{:<44} {contains:>8.1}", "Edges::contains");
-    println!("{:<44} {query:>8.1}", "Holder::query, which replays the drawing");
+impl Bench {
+    /// Taken ellipses, and the same with one cell flipped: any, or one that leaves a missing cell high up.
+    fn outlines(&mut self, random: &mut Random) {
+        let takings = LENGTHS.map(|letters| Set::new("taken", letters, || taken(random, letters)));
+        for taken in &takings {
+            self.against_plain_and_hulls(taken, Some(HULL_GOAL));
+            for (name, tries) in [("one cell flipped", 1), ("one cell flipped high up", 40)] {
+                let flipped = taken.flipped(name, random, tries);
+                self.against_plain_and_hulls(&flipped, None);
+                self.against_itself(&flipped, taken, "refusal/taking".to_string(), REFUSAL_GOAL);
+            }
+        }
+        for (few, many) in [(150, 600)] {
+            let of = |letters| takings.iter().find(|set| set.letters == letters).expect("one of the lengths");
+            self.against_itself(of(many), of(few), format!("{many}/{few}"), GROWTH_GOAL);
+        }
+    }
+
+    /// Lists that are no outlines.
+    fn spoilt_lists(&mut self, random: &mut Random) {
+        let start = Point::new(SIDE / 2, SIDE / 2);
+        for letters in SPOILT_LENGTHS {
+            self.against_plain(&Set::new("anticlockwise", letters, || reversed(&taken(random, letters))));
+            self.against_plain(&Set::new("one letter short", letters, || {
+                let mut outline = taken(random, letters);
+                outline.letters.pop();
+                outline
+            }));
+            self.against_plain(&Set::new("any letters", letters, || Outline {
+                start,
+                letters: (0..letters).map(|_| random.letter()).collect(),
+            }));
+            self.against_plain(&Set::new("any bytes", letters, || Outline {
+                start,
+                letters: (0..letters).map(|_| random.any() as u8).collect(),
+            }));
+        }
+    }
+
+    /// Queries, adds and a close, of one outline.
+    fn calls(&mut self, random: &mut Random) {
+        let outline = taken(random, DRAWN);
+        let cells: Vec<Point> = (0..1024).map(|_| random.cell()).collect();
+        let begun = Call::Begin(outline.start.into()).bytes().to_vec();
+        let adds = Call::script(outline.letters.iter().map(|&letter| Call::Add(letter)));
+        let drawn = [&begun[..], &adds].concat();
+        let closed = [&drawn[..], &Call::Close.bytes()].concat();
+        let queries = Call::script(cells.iter().map(|&cell| Call::Query(cell.into())));
+        let asked = [&closed[..], &queries].concat();
+
+        self.add_pair("loose query", DRAWN, loose_query(&outline, &cells), None);
+        self.add_pair("query in a replay", DRAWN, each_more(&closed, &asked, cells.len()), None);
+        self.add_pair("add in a replay", DRAWN, each_more(&begun, &drawn, outline.letters.len()), None);
+        self.add_pair("begin, adds and close", DRAWN, race_replays(&closed), None);
+        let [contains, query] = through_the_wrapper(&outline, &cells);
+        self.report.add(Row { name: "Edges::contains", letters: DRAWN, nanoseconds: contains, ratio: None });
+        self.report.add(Row { name: "Holder::query", letters: DRAWN, nanoseconds: query, ratio: None });
+    }
+
+    /// Races all rivals over a set of outlines.
+    fn against_plain_and_hulls(&mut self, set: &Set, hull_goal: Option<Goal>) {
+        let [library, plain, cells, border] = race_of([
+            &mut test_by(&Library, set),
+            &mut test_by(&Plain, set),
+            &mut hull_by(Of::Enclosed, set),
+            &mut hull_by(Of::Border, set),
+        ]);
+        self.add_pair(set.name, set.letters, [library, plain], Some(PLAIN_GOAL));
+        for (name, time) in [("cells/library", cells), ("border/library", border)] {
+            self.add(set.name, set.letters, library, Ratio::new(name, time / library, hull_goal));
+        }
+    }
+
+    /// Races the library and its algorithm in plain Rust over a set of lists.
+    fn against_plain(&mut self, set: &Set) {
+        let pair = race_of([&mut test_by(&Library, set), &mut test_by(&Plain, set)]);
+        self.add_pair(set.name, set.letters, pair, Some(PLAIN_GOAL));
+    }
+
+    /// Races the library over a set of outlines and over another.
+    fn against_itself(&mut self, set: &Set, other: &Set, ratio: String, goal: Goal) {
+        let [time, other_time] = race_of([&mut test_by(&Library, set), &mut test_by(&Library, other)]);
+        self.add(set.name, set.letters, time, Ratio::new(ratio, time / other_time, Some(goal)));
+    }
+
+    fn add(&mut self, name: &'static str, letters: usize, nanoseconds: f64, ratio: Ratio) {
+        self.report.add(Row { name, letters, nanoseconds, ratio: Some(ratio) });
+    }
+
+    fn add_pair(&mut self, name: &'static str, letters: usize, [library, plain]: Pair, goal: Option<Goal>) {
+        self.add(name, letters, library, Ratio::new("library/plain", library / plain, goal));
+    }
 }
 
 /// A taken ellipse with this many letters.
@@ -122,54 +199,17 @@ fn dented(random: &mut Random, outline: &Outline, tries: usize) -> Outline {
 }
 
 fn tested(outline: &Outline) -> Fields {
-    robequarry_checks::plain::test(outline.start, &outline.letters, &mut [0; 2032])
+    plain::test(outline.start, &outline.letters, &mut [0; LONGEST_LIST])
 }
 
-/// Nanoseconds a test: the library, (a), and (b) over all enclosed cells and over those at the border.
-struct Times {
-    library: f64,
-    plain: f64,
-    cells: f64,
-    border: f64,
+fn race_of<const N: usize>(mut rivals: [&mut dyn FnMut(); N]) -> [f64; N] {
+    race(&mut rivals).try_into().expect("a time for each rival")
 }
 
-impl Times {
-    /// Races all rivals over a set of outlines, which take turns.
-    fn of(set: &[Outline]) -> Self {
-        let times = race(&mut [
-            &mut test_by(&Library, set),
-            &mut test_by(&Plain, set),
-            &mut hull_by(Of::Enclosed, set),
-            &mut hull_by(Of::Border, set),
-        ]);
-        Times { library: times[0], plain: times[1], cells: times[2], border: times[3] }
-    }
-
-    fn print(&self, name: &str) {
-        let Times { library, plain, cells, border } = self;
-        println!(
-            "{name:<38} {library:>8.0} {plain:>8.0} {:>6.2} {cells:>10.0} {:>6.1} {border:>10.0} {:>6.1}",
-            library / plain,
-            cells / library,
-            border / library
-        );
-    }
-
-    fn print_without_hull(&self, name: &str) {
-        println!("{name:<38} {:>8.0} {:>8.0} {:>6.2}", self.library, self.plain, self.library / self.plain);
-    }
-}
-
-/// How many times as long as the second set the first one takes the library.
-fn library_ratio(set: &[Outline], other: &[Outline]) -> f64 {
-    let times = race(&mut [&mut test_by(&Library, set), &mut test_by(&Library, other)]);
-    times[0] / times[1]
-}
-
-fn test_by<'a>(engine: &'a dyn Engine, set: &'a [Outline]) -> impl FnMut() + 'a {
-    let mut turns = set.iter().cycle();
-    let mut edges = [0; 2032];
-    let mut reply = [0; 7];
+fn test_by<'a>(engine: &'a dyn Engine, set: &'a Set) -> impl FnMut() + 'a {
+    let mut turns = set.lists.iter().cycle();
+    let mut edges = [0; LONGEST_LIST];
+    let mut reply = [0; REPLY];
     move || {
         let outline = turns.next().expect("the set is not empty");
         engine.test(black_box(outline.start), black_box(&outline.letters), &mut edges, &mut reply);
@@ -177,33 +217,30 @@ fn test_by<'a>(engine: &'a dyn Engine, set: &'a [Outline]) -> impl FnMut() + 'a 
     }
 }
 
-fn hull_by(of: Of, set: &[Outline]) -> impl FnMut() + '_ {
-    let mut turns = set.iter().cycle();
+fn hull_by(of: Of, set: &Set) -> impl FnMut() + '_ {
+    let mut turns = set.lists.iter().cycle();
     move || {
         let outline = turns.next().expect("the set is not empty");
         black_box(is_convex(black_box(outline.start), black_box(&outline.letters), of));
     }
 }
 
-/// Nanoseconds of the library and of (a).
+/// Nanoseconds of the library, and of its algorithm in plain Rust.
 type Pair = [f64; 2];
 
-fn print_pair(name: &str, [library, plain]: Pair) {
-    println!("{name:<44} {library:>8.1} {plain:>8.1} {:>6.2}", library / plain);
-}
-
 fn loose_query(outline: &Outline, cells: &[Point]) -> Pair {
-    let mut list = [0; 2032];
-    let reply = robequarry_checks::plain::test(outline.start, &outline.letters, &mut list);
+    let mut list = [0; LONGEST_LIST];
+    let reply = plain::test(outline.start, &outline.letters, &mut list);
     let edges = &list[..2 * usize::from(reply.place)];
     let anchor = Point::new(reply.col, reply.row);
-    let times = race(&mut [&mut query_by(&Library, anchor, edges, cells), &mut query_by(&Plain, anchor, edges, cells)]);
-    [times[0], times[1]]
+    let mut library = query_by(&Library, anchor, edges, cells);
+    let mut plain = query_by(&Plain, anchor, edges, cells);
+    race_of([&mut library, &mut plain])
 }
 
 fn query_by<'a>(engine: &'a dyn Engine, anchor: Point, edges: &'a [i16], cells: &'a [Point]) -> impl FnMut() + 'a {
     let mut turns = cells.iter().cycle();
-    let mut reply = [0; 7];
+    let mut reply = [0; REPLY];
     move || {
         let cell = *turns.next().expect("there are cells");
         engine.loose_query(anchor, black_box(edges), black_box(cell), &mut reply);
@@ -211,14 +248,8 @@ fn query_by<'a>(engine: &'a dyn Engine, anchor: Point, edges: &'a [i16], cells: 
     }
 }
 
-/// A call as a script has it.
-fn call(call: u8, first: u16, second: u16) -> [u8; 5] {
-    let ([a, b], [c, d]) = (first.to_le_bytes(), second.to_le_bytes());
-    [call, a, b, c, d]
-}
-
 fn replay_by<'a>(engine: &'a dyn Engine, script: &'a [u8]) -> impl FnMut() + 'a {
-    let mut replies = vec![0; script.len() / 5 * 7];
+    let mut replies = vec![0; script.len() / CALL * REPLY];
     move || {
         engine.replay(black_box(script), &mut replies);
         black_box(&replies);
@@ -226,13 +257,12 @@ fn replay_by<'a>(engine: &'a dyn Engine, script: &'a [u8]) -> impl FnMut() + 'a 
 }
 
 fn race_replays(script: &[u8]) -> Pair {
-    let times = race(&mut [&mut replay_by(&Library, script), &mut replay_by(&Plain, script)]);
-    [times[0], times[1]]
+    race_of([&mut replay_by(&Library, script), &mut replay_by(&Plain, script)])
 }
 
 /// Nanoseconds of each of the `count` calls by which a longer script goes on after a shorter one.
 fn each_more(shorter: &[u8], longer: &[u8], count: usize) -> Pair {
-    let times = race(&mut [
+    let times = race_of([
         &mut replay_by(&Library, longer),
         &mut replay_by(&Library, shorter),
         &mut replay_by(&Plain, longer),
@@ -243,61 +273,19 @@ fn each_more(shorter: &[u8], longer: &[u8], count: usize) -> Pair {
 
 /// A query by the edges, and one through the Rust holder.
 fn through_the_wrapper(outline: &Outline, cells: &[Point]) -> [f64; 2] {
-    let start = Corner::new(outline.start.col, outline.start.row);
+    let start = outline.start.into();
     let edges: Edges = robequarry::Outline::new(start, &outline.letters[..]).test().expect("the outline is taken");
     let mut holder = Holder::new();
     holder.begin(start).expect("there is no draft");
     holder.run(&outline.letters.iter().map(|&letter| Call::Add(letter)).collect::<Vec<_>>());
     holder.close().expect("the outline is taken");
-    let mut turns = cells.iter().cycle().map(|cell| Cell::new(cell.col, cell.row));
+    let mut turns = cells.iter().cycle();
     let mut other_turns = turns.clone();
     let mut contains = || {
-        let _ = black_box(edges.contains(turns.next().expect("there are cells")));
+        let _ = black_box(edges.contains((*turns.next().expect("there are cells")).into()));
     };
     let mut query = || {
-        let _ = black_box(holder.query(other_turns.next().expect("there are cells")));
+        let _ = black_box(holder.query((*other_turns.next().expect("there are cells")).into()));
     };
-    let times = race(&mut [&mut contains, &mut query]);
-    [times[0], times[1]]
-}
-
-/// A figure and the goal for it.
-struct Goal {
-    what: String,
-    figure: f64,
-    limit: f64,
-    at_most: bool,
-}
-
-#[derive(Default)]
-struct Goals {
-    goals: Vec<Goal>,
-}
-
-impl Goals {
-    fn at_most(&mut self, what: String, figure: f64, limit: f64) {
-        self.goals.push(Goal { what, figure, limit, at_most: true });
-    }
-
-    fn at_least(&mut self, what: String, figure: f64, limit: f64) {
-        self.goals.push(Goal { what, figure, limit, at_most: false });
-    }
-
-    fn same_algorithm(&mut self, name: &str, times: &Times) {
-        self.at_most(format!("{name}: proved to (a)"), times.library / times.plain, 1.1);
-    }
-
-    fn hull_and_count(&mut self, name: &str, times: &Times) {
-        self.at_least(format!("{name}: (b) cells to proved"), times.cells / times.library, 10.0);
-        self.at_least(format!("{name}: (b) border to proved"), times.border / times.library, 10.0);
-    }
-
-    fn print(&self) {
-        println!();
-        println!("{:<64} {:>6}", "Goals", "ratio");
-        for Goal { what, figure, limit, at_most } in &self.goals {
-            let (bound, met) = if *at_most { ("at most", figure <= limit) } else { ("at least", figure >= limit) };
-            println!("{what:<64} {figure:>6.2}  {bound:>8} {limit:<4} {}", if met { "met" } else { "MISSED" });
-        }
-    }
+    race_of([&mut contains, &mut query])
 }

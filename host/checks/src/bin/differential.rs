@@ -1,4 +1,4 @@
-//! The proved library, and its algorithm in plain Rust, against document 01 as written.
+//! The proved library, and its algorithm in plain Rust, against the contract as written (docs/CONTRACT.md).
 //!
 //!     differential               the whole run
 //!     differential SEED          the same from another seed
@@ -9,6 +9,8 @@ use std::io::{read_to_string, stdin};
 use std::process::exit;
 use std::time::Instant;
 
+use robequarry::codec::INSIDE;
+use robequarry::limits::{LAST_CELL, LAST_CORNER, LAST_REFUSAL, LONGEST_LIST, REPLY, SIDE};
 use robequarry_checks::case::Case;
 use robequarry_checks::draw::{rotated, Shape};
 use robequarry_checks::engine::{Engine, Library, Plain, Reference};
@@ -48,7 +50,7 @@ fn replay(line: &str) {
         exit(2);
     });
     let expected = case.run(&Reference);
-    println!("document 01: {expected}");
+    println!("{}: {expected}", Reference.name());
     let mut agree = true;
     for engine in ENGINES {
         let outcome = case.run(engine);
@@ -107,7 +109,7 @@ impl Run {
         for engine in ENGINES {
             let outcome = case.run(engine);
             if outcome != expected {
-                println!("document 01: {expected}");
+                println!("{}: {expected}", Reference.name());
                 println!("{}: {outcome}", engine.name());
                 println!("again: cargo run --release --bin differential -- replay {case}");
                 exit(1);
@@ -115,18 +117,20 @@ impl Run {
         }
         self.tally.count(case, &expected);
         self.compared += 1;
-        (expected.returned > 0).then(|| expected.replies[0])
+        let first = expected.fields().next();
+        first.map(|reply| reply.number)
     }
 
     /// A test with room for every edge.
     fn compare_test(&mut self, outline: Outline) -> u16 {
-        self.compare(&Case::Test { outline, lent: 2032, room: 7 }).expect("there is room for the reply")
+        self.compare(&Case::Test { outline, lent: LONGEST_LIST, room: REPLY }).expect("there is room for the reply")
     }
 }
 
 /// In the middle of the chart, and in two of its corners.
 fn every_outline_of_3_by_3(run: &mut Run) {
-    for at in [Point::new(0, 0), Point::new(120, 77), Point::new(252, 252)] {
+    let last = LAST_CORNER - 3;
+    for at in [Point::new(0, 0), Point::new(120, 77), Point::new(last, last)] {
         for outline in walks::outlines(3, at) {
             run.compare_test(outline);
         }
@@ -134,7 +138,7 @@ fn every_outline_of_3_by_3(run: &mut Run) {
 }
 
 fn every_outline_of_4_by_4(run: &mut Run) {
-    let mut counts = [0; 16];
+    let mut counts = [0; LAST_REFUSAL as usize + 1];
     for outline in walks::outlines(4, Point::new(0, 0)) {
         counts[usize::from(run.compare_test(outline))] += 1;
     }
@@ -174,7 +178,8 @@ fn drawings(run: &mut Run, shape: Shape, random: &mut Random) {
     }
 }
 
-/// What document 01 says of every outline that reaches back-steps and dents.
+/// Contract 8.4: an outline that is past refusal 8 is dented exactly if a cell is missing; and one is missing where there is a
+/// back-step.
 fn dented_exactly_if_a_cell_is_missing(outline: &Outline, number: Option<u16>) {
     let missing = || Enclosed::of(outline.start, &outline.letters).missing();
     let holds = match number {
@@ -183,7 +188,7 @@ fn dented_exactly_if_a_cell_is_missing(outline: &Outline, number: Option<u16>) {
         _ => true,
     };
     if !holds {
-        println!("the reference contradicts document 01: {number:?} {outline:?}");
+        println!("the reference contradicts contract 8.4: {number:?} {outline:?}");
         exit(1);
     }
 }
@@ -195,13 +200,14 @@ fn cells_against_edges(run: &mut Run, outline: &Outline, random: &mut Random) {
     let anchor = Point::new(tested.reply.col, tested.reply.row);
     let enclosed = Enclosed::of(outline.start, &outline.letters);
     for _ in 0..4 {
-        let reach = [3, 20, 255][random.below(3)];
-        let mut near = |x: u16| (usize::from(x) + random.below(2 * reach)).saturating_sub(reach).min(254) as u16;
+        let reach = [3, 20, usize::from(SIDE)][random.below(3)];
+        let mut near =
+            |x: u16| (usize::from(x) + random.below(2 * reach)).saturating_sub(reach).min(usize::from(LAST_CELL)) as u16;
         let cell = Point::new(near(anchor.col), near(anchor.row));
-        run.compare(&Case::Loose { anchor, edges: edges.clone(), cell, room: 7 });
-        let inside = robequarry_checks::reference::calls::loose_query(anchor, &edges, cell).word == 1;
+        run.compare(&Case::Loose { anchor, edges: edges.clone(), cell, room: REPLY });
+        let inside = robequarry_checks::reference::calls::loose_query(anchor, &edges, cell).word == INSIDE;
         if inside != enclosed.has((i32::from(cell.col), i32::from(cell.row))) {
-            println!("the reference contradicts document 01: {cell:?} {outline:?}");
+            println!("the reference contradicts contract 8.4: {cell:?} {outline:?}");
             exit(1);
         }
     }

@@ -1,5 +1,7 @@
 //! Random closed walks that are made by their letters.
 
+use robequarry::limits::{LONGEST, SIDE};
+
 use crate::random::Random;
 
 /// A rectangle whose four corners are cut off by words over the pieces' letters.
@@ -50,16 +52,16 @@ fn falling_slopes(random: &mut Random, length: usize) -> Vec<bool> {
     letters.take(length).collect()
 }
 
-/// A comb whose border has 2,048 letters, or two more or less; it may lie on its side.
+/// A comb whose border has as many letters as an outline may have, or a few more or less; it may lie on its side.
 pub fn comb(random: &mut Random) -> Vec<u8> {
     let teeth = random.from_to(20, 120);
-    let letters = [2044, 2046, 2048, 2048, 2048, 2050][random.below(6)];
+    let letters = [LONGEST - 4, LONGEST - 2, LONGEST, LONGEST, LONGEST, LONGEST + 2][random.below(6)];
     // A base of one row, twice as wide as its teeth less one, and teeth above it: each of their cells adds two letters.
     let mut left = letters / 2 - (2 * teeth - 1) - 1;
     let mut heights = vec![0; teeth];
     while left > 0 {
         let tooth = random.below(teeth);
-        let more = random.from_to(1, left).min(253 - heights[tooth]).min(20);
+        let more = random.from_to(1, left).min(usize::from(SIDE) - 2 - heights[tooth]).min(20);
         heights[tooth] += more;
         left -= more;
     }

@@ -3,6 +3,8 @@
 mod cells;
 mod letters;
 
+use robequarry::limits::{LAST_CELL, LAST_CORNER, LONGEST, SIDE};
+
 use crate::grid::{Grid, Pinch};
 use crate::random::Random;
 use crate::reference::cells::Enclosed;
@@ -48,13 +50,18 @@ impl Shape {
             Shape::RowsAndColumns => "rows and columns without gaps",
             Shape::Words => "four words round a rectangle",
             Shape::Growth => "grown simple sets",
-            Shape::Comb => "combs of about 2,048 letters",
+            Shape::Comb => "combs near the longest outline",
         }
     }
 
     /// An outline somewhere on the chart, clockwise from anywhere on its border.
     pub fn draw(self, random: &mut Random) -> Outline {
         let side = side(random);
+        self.draw_in(random, side)
+    }
+
+    /// An outline somewhere on the chart, of cells within a frame of this side. A comb has its own.
+    pub fn draw_in(self, random: &mut Random, side: i32) -> Outline {
         let letters = match self {
             Shape::Words => letters::four_words(random, side),
             Shape::Comb => letters::comb(random),
@@ -90,13 +97,14 @@ impl Shape {
     }
 }
 
-/// A side of the frame: most are small, some as wide as the chart.
+/// A side of the frame: most are small, some reach the longest outlines, few are as wide as the chart.
 fn side(random: &mut Random) -> i32 {
     let (least, most) = match random.below(200) {
         0..=119 => (1, 12),
         120..=179 => (4, 32),
-        180..=196 => (16, 90),
-        _ => (160, 255),
+        180..=194 => (16, 90),
+        195..=198 => (90, LONGEST / 4),
+        _ => (LONGEST / 4, usize::from(SIDE)),
     };
     random.from_to(least, most) as i32
 }
@@ -153,24 +161,32 @@ fn extremes(letters: &[u8], forth: u8) -> (i32, i32) {
 
 /// A start from which the extremes stay on the chart, or at its border if it is too narrow.
 fn shift(random: &mut Random, (low, high): (i32, i32)) -> u16 {
-    let (least, most) = (-low, 255 - high);
+    let last = i32::from(LAST_CORNER);
+    let (least, most) = (-low, last - high);
     let shift = match random.below(6) {
         0 => least,
         1 => most,
         _ if least < most => random.from_to(least as usize, most as usize) as i32,
         _ => least,
     };
-    shift.clamp(0, 255) as u16
+    shift.clamp(0, last) as u16
+}
+
+/// The outline of all cells of the chart, from its lower left corner.
+pub fn whole_chart() -> Outline {
+    let (_, letters) = Grid::of_chart(|_, _| true).trace(Pinch::Part).expect("there are cells");
+    Outline { start: Point::new(0, 0), letters }
 }
 
 /// An upright ellipse in the middle of the chart with this many letters; begun anywhere.
 pub fn round_outline(random: &mut Random, letters: usize) -> Outline {
     let half = letters as f64 / 8.0;
+    let middle = f64::from(LAST_CELL) / 2.0;
     loop {
-        let longer = (random.fraction() * 0.3 * half).min(127.4 - half);
+        let longer = (random.fraction() * 0.3 * half).min(middle + 0.4 - half);
         let (a, b) = (half + longer, half - longer);
-        let (x, y) = (126.6 + random.fraction() * 0.8, 126.6 + random.fraction() * 0.8);
-        let grid = Grid::of(255, 255, |col, row| ((f64::from(col) - x) / a).hypot((f64::from(row) - y) / b) <= 1.0);
+        let (x, y) = (middle - 0.4 + random.fraction() * 0.8, middle - 0.4 + random.fraction() * 0.8);
+        let grid = Grid::of_chart(|col, row| ((f64::from(col) - x) / a).hypot((f64::from(row) - y) / b) <= 1.0);
         let Some(((col, row), traced)) = grid.trace(Pinch::Part) else {
             continue;
         };
@@ -185,7 +201,7 @@ pub fn round_outline(random: &mut Random, letters: usize) -> Outline {
 /// The outline of the same cells but for one at the border, which is put in or taken out and leaves the border a simple one.
 pub fn with_a_cell_flipped(random: &mut Random, outline: &Outline) -> Outline {
     let enclosed = Enclosed::of(outline.start, &outline.letters);
-    let mut grid = Grid::of(255, 255, |col, row| enclosed.has((col, row)));
+    let mut grid = Grid::of_chart(|col, row| enclosed.has((col, row)));
     grid.flip(random, 1, true);
     let ((col, row), letters) = grid.trace(Pinch::Part).expect("a simple flip empties no set");
     let outline = Outline { start: Point::new(col as u16, row as u16), letters };

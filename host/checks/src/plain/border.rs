@@ -1,6 +1,8 @@
 //! The border read once round from W, and its four pieces.
 
-use super::chart::{step, LONGEST};
+use robequarry::limits::{LAST_CORNER, LONGEST};
+
+use super::chart::{step, WIDTH};
 use crate::Point;
 
 /// The two letters of a piece.
@@ -20,6 +22,8 @@ pub const PAIRS: [Pair; 4] = [
 /// The columns and rows of a letter's step.
 pub const COLS: [i16; 4] = [1, 0, -1, 0];
 pub const ROWS: [i16; 4] = [0, 1, 0, -1];
+
+const LAST: u32 = LAST_CORNER as u32;
 
 /// The letters of an outline past refusal 6, from W on.
 pub struct Turn {
@@ -65,9 +69,9 @@ impl Turn {
         let (mut north, mut east, mut south) = ((0, 0), (0, 0), (0, 0));
         for (place, &letter) in self.letters().iter().enumerate() {
             let (col, row) = at;
-            keep_largest(&mut north, row << 8 | (255 - col), place);
-            keep_largest(&mut east, col << 8 | row, place);
-            keep_largest(&mut south, (255 - row) << 8 | col, place);
+            keep_largest(&mut north, key(row, LAST - col), place);
+            keep_largest(&mut east, key(col, row), place);
+            keep_largest(&mut south, key(LAST - row, col), place);
             at = step(at, letter);
         }
         [0, north.1, east.1, south.1, self.count]
@@ -79,13 +83,19 @@ fn west(start: Point, letters: &[u8]) -> (Point, usize) {
     let mut at = (u32::from(start.col), u32::from(start.row));
     let mut least = (u32::MAX, 0);
     for (place, &letter) in letters.iter().enumerate() {
-        let key = at.0 << 8 | at.1;
+        let key = key(at.0, at.1);
         if key < least.0 {
             least = (key, place);
         }
         at = step(at, letter);
     }
-    (Point::new((least.0 >> 8) as u16, (least.0 & 255) as u16), least.1)
+    (Point::new((least.0 / WIDTH as u32) as u16, (least.0 % WIDTH as u32) as u16), least.1)
+}
+
+/// A key by which corners are ordered: by their first number, then by their second.
+#[inline]
+fn key(first: u32, second: u32) -> u32 {
+    first * WIDTH as u32 + second
 }
 
 /// Keeps the larger of two keys, with its place.

@@ -1,12 +1,17 @@
 //! The lowest missing cell of an outline past refusal 8, from the ends of its rows.
 
-use super::chart::step;
+use robequarry::limits::LAST_CORNER;
+
+use super::chart::{step, WIDTH};
 use crate::Point;
+
+/// A column for each row, the corners' last row included.
+type Columns = [i32; WIDTH];
 
 /// For each row from `bottom` up to, not including, `top`: its first column, and the column after its last.
 struct Rows {
-    first: [i32; 256],
-    past: [i32; 256],
+    first: Columns,
+    past: Columns,
     bottom: usize,
     top: usize,
 }
@@ -15,7 +20,7 @@ struct Rows {
 pub fn missing_cell(west: Point, letters: &[u8]) -> Point {
     let rows = Rows::new(west, letters);
     let left = climb(&rows.first, rows.bottom, rows.top);
-    let mirrored = rows.past.map(|col| 255 - col);
+    let mirrored = rows.past.map(|col| i32::from(LAST_CORNER) - col);
     let right = climb(&mirrored, rows.bottom, rows.top);
     match (left, right) {
         (Some((col, row)), Some((_, other))) if row <= other => Point::new(col as u16, row as u16),
@@ -28,13 +33,13 @@ pub fn missing_cell(west: Point, letters: &[u8]) -> Point {
 
 impl Rows {
     fn new(west: Point, letters: &[u8]) -> Self {
-        let mut rows = Rows { first: [0; 256], past: [0; 256], bottom: 255, top: 0 };
+        let mut rows = Rows { first: [0; WIDTH], past: [0; WIDTH], bottom: usize::from(LAST_CORNER), top: 0 };
         let mut at = (u32::from(west.col), u32::from(west.row));
         for &letter in letters {
             let next = step(at, letter);
             match letter {
-                1 => rows.first[(at.1 & 255) as usize] = at.0 as i32,
-                3 => rows.past[(next.1 & 255) as usize] = at.0 as i32,
+                1 => rows.first[at.1 as usize % WIDTH] = at.0 as i32,
+                3 => rows.past[next.1 as usize % WIDTH] = at.0 as i32,
                 _ => {}
             }
             rows.bottom = rows.bottom.min(next.1 as usize);
@@ -46,7 +51,7 @@ impl Rows {
 }
 
 /// Up the left side of the hull: the leftmost cell in the hull of the first row that begins right of it.
-fn climb(first: &[i32; 256], bottom: usize, top: usize) -> Option<(i32, usize)> {
+fn climb(first: &Columns, bottom: usize, top: usize) -> Option<(i32, usize)> {
     let mut i = bottom;
     while i + 1 < top {
         let j = furthest_left(first, i, top);
@@ -60,7 +65,7 @@ fn climb(first: &[i32; 256], bottom: usize, top: usize) -> Option<(i32, usize)> 
 }
 
 /// The row above `i` to which the line from row `i` leans furthest left, the last among equals.
-fn furthest_left(first: &[i32; 256], i: usize, top: usize) -> usize {
+fn furthest_left(first: &Columns, i: usize, top: usize) -> usize {
     let mut j = i + 1;
     for k in i + 2..top {
         let (near, far) = ((j - i) as i32, (k - i) as i32);
@@ -72,7 +77,7 @@ fn furthest_left(first: &[i32; 256], i: usize, top: usize) -> usize {
 }
 
 /// The first column of a row that is not left of the line from row `i` to row `j`.
-fn crossing(first: &[i32; 256], i: usize, j: usize, row: usize) -> i32 {
+fn crossing(first: &Columns, i: usize, j: usize, row: usize) -> i32 {
     let (below, above, height) = ((row - i) as i32, (j - row) as i32, (j - i) as i32);
     (above * first[i] + below * first[j] + height - 1) / height
 }

@@ -1,20 +1,24 @@
 //! The loose query.
 
-use super::test::LONGEST_LIST;
-use crate::{Fields, Point, INSIDE, OUTSIDE};
+use robequarry::codec::{INSIDE, OUTSIDE};
+use robequarry::limits::{LAST_CELL, LONGEST_LIST};
+
+use crate::reply::{numbered, said};
+use crate::{Fields, Point};
 
 pub fn loose_query(anchor: Point, edges: &[i16], cell: Point) -> Fields {
     if edges.len() % 2 == 1 || edges.len() > LONGEST_LIST {
-        return Fields::numbered(10);
+        return numbered(10);
     }
     if is_off_chart(anchor) || is_off_chart(cell) {
-        return Fields::numbered(11);
+        return numbered(11);
     }
-    Fields::said(if is_inside(anchor, edges, cell) { INSIDE } else { OUTSIDE })
+    said(if is_inside(anchor, edges, cell) { INSIDE } else { OUTSIDE })
 }
 
+/// Whether a cell is none of the chart's.
 pub fn is_off_chart(cell: Point) -> bool {
-    cell.col > 254 || cell.row > 254
+    cell.col > LAST_CELL || cell.row > LAST_CELL
 }
 
 /// On the right of every edge, or on it, and within the extremes of the walk.

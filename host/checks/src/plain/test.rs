@@ -1,17 +1,17 @@
 //! The test.
 
+use robequarry::limits::MOST_NUMBERS;
+
 use super::border::{first_stray, Pair, Turn, COLS, PAIRS, ROWS};
 use super::chart;
 use super::climb::missing_cell;
 use super::words::{first_factor, is_christoffel};
+use crate::reply::{numbered, placed, taken};
 use crate::{Fields, Point};
-
-/// Room for the edges of any taken outline.
-pub const LONGEST_LIST: usize = 2032;
 
 /// Edges, two numbers each.
 pub struct Edges {
-    pub numbers: [i16; LONGEST_LIST],
+    pub numbers: [i16; MOST_NUMBERS],
     pub count: usize,
 }
 
@@ -23,17 +23,17 @@ struct Dent {
 
 /// The test with a lent list for edges.
 pub fn test(start: Point, letters: &[u8], lent: &mut [i16]) -> Fields {
-    let mut edges = Edges { numbers: [0; LONGEST_LIST], count: 0 };
+    let mut edges = Edges { numbers: [0; MOST_NUMBERS], count: 0 };
     let anchor = match find_edges(start, letters, &mut edges) {
         Ok(anchor) => anchor,
         Err(refusal) => return refusal,
     };
     let numbers = &edges.numbers[..2 * edges.count];
     if lent.len() < numbers.len() {
-        return Fields::placed(10, edges.count);
+        return placed(10, edges.count);
     }
     lent[..numbers.len()].copy_from_slice(numbers);
-    Fields::taken(edges.count, anchor)
+    taken(edges.count, anchor)
 }
 
 /// The edges of an outline, from the anchor that it gives, or the first of refusals 1 to 9.
@@ -43,12 +43,12 @@ pub fn find_edges(start: Point, letters: &[u8], edges: &mut Edges) -> Result<Poi
     }
     let turn = Turn::new(start, letters);
     if !turn.is_clockwise() {
-        return Err(Fields::numbered(7));
+        return Err(numbered(7));
     }
     let cut = turn.cut_places();
     for (k, &pair) in PAIRS.iter().enumerate() {
         if let Some(i) = first_stray(&turn.letters()[cut[k]..cut[k + 1]], pair) {
-            return Err(Fields { piece: k as u16 + 1, ..Fields::placed(8, turn.sent(cut[k] + i)) });
+            return Err(Fields { piece: k as u16 + 1, ..placed(8, turn.sent(cut[k] + i)) });
         }
     }
     for (k, &pair) in PAIRS.iter().enumerate() {
@@ -60,7 +60,7 @@ pub fn find_edges(start: Point, letters: &[u8], edges: &mut Edges) -> Result<Poi
                 length: dent.length as u16,
                 col: missing.col,
                 row: missing.row,
-                ..Fields::placed(9, turn.sent(word + dent.at))
+                ..placed(9, turn.sent(word + dent.at))
             });
         }
     }

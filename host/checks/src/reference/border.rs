@@ -1,10 +1,10 @@
-//! "From border to edges": cut, two letters, factors, dents, edges.
+//! From the border to the edges (contract 3.1 to 3.12).
 
 use super::walk::{corners, step, Corner};
 use super::words::{factors, is_christoffel};
 use crate::Point;
 
-/// "The pieces differ only in their ordered letters: 0 before 1; 3 before 0; 2 before 3; 1 before 2."
+/// The earlier and the later letter of each piece (contract 3.4).
 const LETTERS: [[u8; 2]; 4] = [[0, 1], [3, 0], [2, 3], [1, 2]];
 
 /// One of the four pieces: its two letters, and the letters of the list from one cut place on to the next.
@@ -18,29 +18,29 @@ pub struct Piece<'a> {
     count: usize,
 }
 
-/// The places whose letters leave W, N, E and S. The walk passes refusals 1 to 6.
+/// The places whose letters leave W, N, E and S (contract 3.1). The walk passes refusals 1 to 6.
 fn cut_places(start: Point, letters: &[u8]) -> [usize; 4] {
     let mut met = corners(start, letters);
     met.pop();
     let place = |key: fn(&Corner) -> (i32, i32)| (0..met.len()).min_by_key(|&i| key(&met[i])).expect("a walk has a corner");
     [
-        // W is the lowest corner on the outline's leftmost column,
+        // W: least column, then least row.
         place(|&(col, row)| (col, row)),
-        // N the leftmost corner on its top row,
+        // N: greatest row, then least column.
         place(|&(col, row)| (-row, col)),
-        // E the highest corner on its rightmost column,
+        // E: greatest column, then greatest row.
         place(|&(col, row)| (-col, -row)),
-        // S the rightmost corner on its bottom row.
+        // S: least row, then greatest column.
         place(|&(col, row)| (row, -col)),
     ]
 }
 
-/// "The outline is clockwise if the letter leaving W is 1."
+/// Contract 3.2.
 pub fn is_clockwise(start: Point, letters: &[u8]) -> bool {
     letters[cut_places(start, letters)[0]] == 1
 }
 
-/// "Walking on from W, past the list's end to its beginning where needed, the pieces are W to N, N to E, E to S, S to W."
+/// The four pieces (contract 3.3). Each is read on past the list's end where the next corner stands before it.
 pub fn pieces(start: Point, letters: &[u8]) -> [Piece<'_>; 4] {
     let cut = cut_places(start, letters);
     std::array::from_fn(|k| {
@@ -63,25 +63,25 @@ impl Piece<'_> {
         (self.from + i) % self.letters.len()
     }
 
-    /// "Any other letter in a piece is a back-step." The place of the first.
+    /// The place of the first back-step (contract 3.5).
     pub fn back_step(&self) -> Option<usize> {
         let strays = |place: &usize| ![self.earlier, self.later].contains(&self.letters[*place]);
         (0..self.count).map(|i| self.place(i)).find(strays)
     }
 
-    /// "The first letter of each piece is dropped; what remains .. may be empty."
+    /// Contract 3.6.
     fn word(&self) -> Vec<bool> {
         (1..self.count).map(|i| self.letters[self.place(i)] == self.later).collect()
     }
 
-    /// "An outline is dented if a factor is not one."
+    /// The first dent (contract 3.11).
     pub fn dent(&self) -> Option<Dent> {
         let word = self.word();
         let dented = factors(&word).into_iter().find(|factor| !is_christoffel(factor.copy));
         dented.map(|factor| Dent { place: self.place(1 + factor.at), length: factor.copy.len() })
     }
 
-    /// "Each factor times its repeats is one edge, columns then rows."
+    /// An edge for each factor (contract 3.12).
     pub fn edges(&self) -> Vec<(i32, i32)> {
         let (earlier, later) = (step(self.earlier), step(self.later));
         let word = self.word();

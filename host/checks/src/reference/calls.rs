@@ -1,9 +1,13 @@
-//! "Calls": the test and the loose query.
+//! The test and the loose query (contract 6).
+
+use robequarry::codec::{INSIDE, OUTSIDE};
+use robequarry::limits::{LAST_CELL, LONGEST_LIST};
 
 use super::border::{is_clockwise, pieces};
 use super::cells::Enclosed;
 use super::walk;
-use crate::{Fields, Point, INSIDE, OUTSIDE};
+use crate::reply::{numbered, placed, said, taken};
+use crate::{Fields, Point};
 
 /// What a test replies if the lent list is long enough, and the edges, which are none unless it is taken.
 pub struct Tested {
@@ -11,25 +15,25 @@ pub struct Tested {
     pub edges: Vec<(i32, i32)>,
 }
 
-/// The test, refusal 10 left out.
+/// The test (contract 6.1), refusal 10 left out.
 pub fn test(start: Point, letters: &[u8]) -> Tested {
     let refused = |reply| Tested { reply, edges: Vec::new() };
     // 1 to 6.
     if let Some(reply) = walk::refusal(start, letters) {
         return refused(reply);
     }
-    // 7. Anticlockwise.
+    // 7: the direction.
     if !is_clockwise(start, letters) {
-        return refused(Fields::numbered(7));
+        return refused(numbered(7));
     }
     let pieces = pieces(start, letters);
-    // 8. A back-step: piece and place, first along pieces 1 to 4.
+    // 8: the first back-step, piece after piece.
     for piece in &pieces {
         if let Some(place) = piece.back_step() {
-            return refused(Fields { piece: piece.number, ..Fields::placed(8, place) });
+            return refused(Fields { piece: piece.number, ..placed(8, place) });
         }
     }
-    // 9. A dent: piece, place and length of the first factor's first copy that is no Christoffel word, and the missing cell.
+    // 9: the first dent, piece after piece, and the lowest missing cell.
     let enclosed = Enclosed::of(start, letters);
     for piece in &pieces {
         if let Some(dent) = piece.dent() {
@@ -39,24 +43,22 @@ pub fn test(start: Point, letters: &[u8]) -> Tested {
                 length: dent.length as u16,
                 col: col as u16,
                 row: row as u16,
-                ..Fields::placed(9, dent.place)
+                ..placed(9, dent.place)
             });
         }
     }
-    // Taken: number 0, place the count of edges, piece and length 0, cell the anchor.
     let edges: Vec<(i32, i32)> = pieces.iter().flat_map(|piece| piece.edges()).collect();
     let (col, row) = enclosed.anchor();
-    Tested { reply: Fields::taken(edges.len(), Point::new(col as u16, row as u16)), edges }
+    Tested { reply: taken(edges.len(), Point::new(col as u16, row as u16)), edges }
 }
 
 /// The test with a lent list for edges, two numbers an edge.
 pub fn test_into(start: Point, letters: &[u8], lent: &mut [i16]) -> Fields {
     let tested = test(start, letters);
-    // 10. A lent list shorter than two numbers an edge; place is the count of edges.
+    // 10: room for two numbers of each edge.
     if lent.len() < 2 * tested.edges.len() {
-        return Fields::placed(10, tested.edges.len());
+        return placed(10, tested.edges.len());
     }
-    // The edges stand first in the list; the rest is unaltered.
     for (pair, &(cols, rows)) in lent.chunks_exact_mut(2).zip(&tested.edges) {
         pair[0] = i16::try_from(cols).expect("an edge fits the chart");
         pair[1] = i16::try_from(rows).expect("an edge fits the chart");
@@ -64,26 +66,25 @@ pub fn test_into(start: Point, letters: &[u8], lent: &mut [i16]) -> Fields {
     tested.reply
 }
 
-/// 11. A cell number above 254.
+/// Refusal 11, of one cell.
 pub fn off_chart(cell: Point) -> bool {
-    cell.col > 254 || cell.row > 254
+    cell.col > LAST_CELL || cell.row > LAST_CELL
 }
 
-/// The loose query.
+/// The loose query (contract 6.2).
 pub fn loose_query(anchor: Point, edges: &[i16], cell: Point) -> Fields {
-    // 10. An odd list or one above 2,032 numbers.
-    if edges.len() % 2 == 1 || edges.len() > 2032 {
-        return Fields::numbered(10);
+    // 10: the count of numbers.
+    if edges.len() % 2 == 1 || edges.len() > LONGEST_LIST {
+        return numbered(10);
     }
-    // 11. A cell number above 254 (anchor or cell).
+    // 11: the anchor and the cell.
     if off_chart(anchor) || off_chart(cell) {
-        return Fields::numbered(11);
+        return numbered(11);
     }
-    Fields::said(if is_inside(anchor, edges, cell) { INSIDE } else { OUTSIDE })
+    said(if is_inside(anchor, edges, cell) { INSIDE } else { OUTSIDE })
 }
 
-/// "From the anchor each edge (dx, dy) leaves a corner cell (x, y). Inside if dy·(c−x) − dx·(r−y) is at least 0 for every edge and
-/// (c, r) is within the lowest and highest columns and rows met by the walk, anchor and last edge's end included."
+/// Contract 3.15, with the side values of 3.14.
 fn is_inside(anchor: Point, edges: &[i16], cell: Point) -> bool {
     let (c, r) = (i64::from(cell.col), i64::from(cell.row));
     let (mut x, mut y) = (i64::from(anchor.col), i64::from(anchor.row));

@@ -1,4 +1,4 @@
-//! "Enclosed" and "Hull", and the missing cell.
+//! Enclosed cells, their hull and the missing cell (contract 2), and the anchor (contract 3.13).
 
 use super::walk::corners;
 use crate::Point;
@@ -6,7 +6,7 @@ use crate::Point;
 /// A cell, or the point at its centre.
 pub type Cell = (i32, i32);
 
-/// "Among the letters that run along the height of row r at corner columns up to c, ups minus downs."
+/// Of the steps along the height of the cell's row, up to its column, how many more go up than down.
 fn ups_minus_downs(start: Point, letters: &[u8], (col, row): Cell) -> i32 {
     let corners = corners(start, letters);
     let mut sum = 0;
@@ -22,7 +22,7 @@ fn ups_minus_downs(start: Point, letters: &[u8], (col, row): Cell) -> i32 {
     sum
 }
 
-/// "Cell (c, r) is enclosed if .. ups minus downs is 1."
+/// Whether the outline encloses a cell (contract 2.1).
 pub fn encloses(start: Point, letters: &[u8], cell: Cell) -> bool {
     ups_minus_downs(start, letters, cell) == 1
 }
@@ -83,13 +83,12 @@ impl Enclosed {
         self.frame().filter(|&cell| self.has(cell))
     }
 
-    /// "The anchor, the lowest enclosed cell of the leftmost column."
+    /// The anchor (contract 3.13): least column, then least row.
     pub fn anchor(&self) -> Cell {
         self.cells().min().expect("an outline past refusal 7 encloses a cell")
     }
 
-    /// "Of the cells in its hull that are not enclosed, every other than the one named lies in a higher row, or further right
-    /// in the same row."
+    /// The lowest missing cell (contract 2.4).
     pub fn missing(&self) -> Option<Cell> {
         let hull = Hull::of(self.cells().collect());
         self.frame().find(|&cell| !self.has(cell) && hull.has(cell))
@@ -153,7 +152,7 @@ fn half<'a>(points: impl Iterator<Item = &'a Cell>) -> Vec<Cell> {
 mod tests {
     use super::*;
 
-    /// The hull as the document has it: some three of the points, repeats allowed, whose triangle holds x.
+    /// Contract 2.2: some three of the points, repeats allowed, whose triangle holds x.
     fn in_some_triangle(points: &[Cell], x: Cell) -> bool {
         let each = || points.iter().copied();
         each().any(|p| each().any(|q| each().any(|r| in_triangle(p, q, r, x))))

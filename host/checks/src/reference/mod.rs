@@ -1,6 +1,6 @@
-//! Document 01, in the plainest Rust. Each item is one of its definitions, in its words and in its order; where it states a
-//! property, the property is searched for. It shares nothing with the library or with [`plain`](crate::plain) but the form of
-//! a reply.
+//! The contract (docs/CONTRACT.md), in the plainest Rust. Each item is one of its clauses; where a clause states a property, the
+//! property is searched for. It shares nothing with the library or with [`plain`](crate::plain) but the limits, and replies and
+//! calls as types.
 
 pub mod book;
 pub mod border;

@@ -1,6 +1,6 @@
-//! "Factors" and "Christoffel": words over two ordered letters, `false` the earlier and `true` the later.
+//! Words over two ordered letters (contract 3.7 to 3.10), `false` the earlier and `true` the later.
 
-/// "A word is smaller than another if it is a proper beginning of it or has the earlier letter at the first difference."
+/// Whether a word is smaller than another (contract 3.7).
 fn smaller<'a>(word: impl Iterator<Item = &'a bool>, other: impl Iterator<Item = &'a bool>) -> bool {
     let mut other = other;
     for letter in word {
@@ -13,7 +13,7 @@ fn smaller<'a>(word: impl Iterator<Item = &'a bool>, other: impl Iterator<Item =
     other.next().is_some()
 }
 
-/// "A Lyndon word is smaller than each of its proper rotations."
+/// Contract 3.8: the word against each of its other rotations.
 pub fn is_lyndon(word: &[bool]) -> bool {
     let rotation = |i: usize| word[i..].iter().chain(&word[..i]);
     !word.is_empty() && (1..word.len()).all(|i| smaller(word.iter(), rotation(i)))
@@ -27,7 +27,7 @@ pub struct Factor<'a> {
     pub times: usize,
 }
 
-/// "Each piece that isn't empty is written in the one way as strictly falling Lyndon words, each repeated one or more times."
+/// The factors of a word, from left to right (contract 3.9).
 pub fn factors(piece: &[bool]) -> Vec<Factor<'_>> {
     let mut found = falling(piece, 0, None).expect("every word has such a way");
     found.reverse();
@@ -62,8 +62,7 @@ fn greatest_common_divisor(a: usize, b: usize) -> usize {
     (1..=a.max(b)).rev().find(|d| a % d == 0 && b % d == 0).expect("1 divides both")
 }
 
-/// "Either single letter is one. A longer word of n letters, k of them the later letter, k and n sharing no divisor above 1, is
-/// one if for each i from 1 to n its letter i is the earlier exactly when i·k mod n exceeds (i−1)·k mod n."
+/// Contract 3.10.
 pub fn is_christoffel(word: &[bool]) -> bool {
     let n = word.len();
     if n == 1 {
@@ -83,7 +82,7 @@ mod tests {
     }
 
     #[test]
-    fn words_of_the_document() {
+    fn short_words() {
         assert!(is_lyndon(&word("001101")) && !is_christoffel(&word("001101")));
         assert!(is_lyndon(&word("00101")) && is_christoffel(&word("00101")));
         assert!(!is_lyndon(&word("0101")) && !is_lyndon(&word("11")) && is_lyndon(&word("1")));

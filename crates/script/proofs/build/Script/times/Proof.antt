@@ -1,7 +1,6 @@
 -- `Script::times` meets its contract: the count falls. Assumes nothing.
 use Prim.Native.Nat.{_≤_, _-_}
 use borrow.Author.Needs.{needs}
-use lib.ListN.{length}
 use Rattle.script.proofs.build.Script.times.Statement.{statement}
 use Rattle.script.proofs.build.Script.times.Tie as tie
 

@@ -1,0 +1,120 @@
+//! The inputs whose need of stack is measured, the same in each run.
+
+use robequarry::limits::{CALL, LAST_CORNER, LAST_LETTER, LONGEST, LONGEST_LIST, REPLY, SHORTEST, SIDE};
+use robequarry::Call;
+
+use crate::case::Case;
+use crate::draw::{reversed, round_outline, whole_chart, with_a_cell_flipped, Shape};
+use crate::random::Random;
+use crate::reference::calls;
+use crate::{garbage, scripts, Outline, Point};
+
+const SEED: u64 = 1;
+
+/// How many inputs of each kind are drawn, beside those that are made on purpose.
+const DRAWN: usize = 100;
+
+pub fn all() -> Vec<Case> {
+    let mut random = Random::new(SEED);
+    let outlines = outlines(&mut random);
+    let mut cases: Vec<Case> = outlines.iter().flat_map(tests).collect();
+    cases.extend(loose_queries(&outlines));
+    cases.extend(outlines.iter().map(draw_and_ask));
+    for _ in 0..DRAWN {
+        cases.push(garbage::spoilt_test(&mut random));
+        cases.push(garbage::loose(&mut random));
+        cases.push(garbage::round_walk(&mut random));
+        cases.push(scripts::script(&mut random));
+    }
+    cases
+}
+
+/// Outlines that are taken, dented or have a back-step, as long as there are; and one for each refusal before those.
+fn outlines(random: &mut Random) -> Vec<Outline> {
+    let mut outlines = vec![round_outline(random, 600)];
+    outlines.extend((0..8).map(|_| Shape::ManySided.draw_in(random, (LONGEST / 4) as i32)));
+    let dented: Vec<Outline> = outlines.iter().map(|outline| dented(random, outline)).collect();
+    outlines.extend(dented);
+    outlines.push(whole_chart());
+    outlines.extend((0..8).map(|_| Shape::Comb.draw(random)));
+
+    let round = round_outline(random, 600);
+    let of = |letters: Vec<u8>| Outline { start: round.start, letters };
+    // 1 to 7, in this order; 1 in both ways.
+    outlines.push(of(vec![1; SHORTEST - 1]));
+    outlines.push(of(vec![1; LONGEST + 1]));
+    outlines.push(Outline { start: Point::new(LAST_CORNER + 1, 0), ..round.clone() });
+    outlines.push(of([&round.letters[..], &[LAST_LETTER + 1]].concat()));
+    outlines.push(of(vec![1; LONGEST]));
+    outlines.push(of(round.letters[1..].to_vec()));
+    outlines.push(of(round.letters.repeat(2)));
+    outlines.push(reversed(&round));
+    outlines
+}
+
+/// The outline with one cell flipped, so that it is dented.
+fn dented(random: &mut Random, outline: &Outline) -> Outline {
+    loop {
+        let flipped = with_a_cell_flipped(random, outline);
+        if calls::test(flipped.start, &flipped.letters).reply.number == 9 {
+            return flipped;
+        }
+    }
+}
+
+/// A test with room for every edge, for no edge, and without room for the reply.
+fn tests(outline: &Outline) -> [Case; 3] {
+    let test = |lent, room| Case::Test { outline: outline.clone(), lent, room };
+    [test(LONGEST_LIST, REPLY), test(0, REPLY), test(LONGEST_LIST, REPLY - 1)]
+}
+
+/// The edges of each taken outline at its anchor, which walks all of them; the longest list; and those that are refused.
+fn loose_queries(outlines: &[Outline]) -> Vec<Case> {
+    let query = |anchor, edges, cell, room| Case::Loose { anchor, edges, cell, room };
+    let nowhere = Point::new(0, 0);
+    let mut cases = vec![
+        query(nowhere, vec![0; LONGEST_LIST], nowhere, REPLY),
+        query(nowhere, vec![i16::MAX; LONGEST_LIST], nowhere, REPLY),
+        query(nowhere, vec![0; LONGEST_LIST + 2], nowhere, REPLY),
+        query(nowhere, vec![0; LONGEST_LIST - 1], nowhere, REPLY),
+        query(nowhere, Vec::new(), Point::new(SIDE, 0), REPLY),
+        query(nowhere, Vec::new(), nowhere, REPLY - 1),
+    ];
+    for outline in outlines {
+        let tested = calls::test(outline.start, &outline.letters);
+        let anchor = Point::new(tested.reply.col, tested.reply.row);
+        let edges: Vec<i16> = tested.edges.iter().flat_map(|&(cols, rows)| [cols as i16, rows as i16]).collect();
+        cases.push(query(anchor, edges, anchor, REPLY));
+    }
+    cases
+}
+
+/// An outline drawn and closed twice, with queries after each close; once more, with a letter and a begin too many; and then the
+/// calls that take things away, each where there is something to take and where there is not.
+fn draw_and_ask(outline: &Outline) -> Case {
+    let adds = outline.letters.iter().map(|&letter| Call::Add(letter));
+    let begin = Call::Begin(outline.start.into());
+    let draw = || std::iter::once(begin).chain(adds.clone());
+    let asked = [Call::Query(outline.start.into()), Call::Query(Point::new(SIDE, SIDE).into())];
+    let once = || draw().chain([Call::Close]).chain(asked);
+    let more = [Call::Add(0), begin];
+    let away = [Call::Drop, Call::Clear, Call::Drop, Call::Close, Call::Add(0)];
+    let bytes = Call::script(once().chain(once()).chain(draw()).chain(more).chain(away).chain(asked));
+    let room = bytes.len() / CALL * REPLY;
+    Case::Script { bytes, room }
+}
+
+#[cfg(test)]
+mod tests {
+    use super::*;
+    use crate::engine::Plain;
+    use crate::tally::Tally;
+
+    /// Every number and every word that some input reaches is reached by one of these.
+    #[test]
+    fn every_reply_is_reached() {
+        let mut tally = Tally::default();
+        all().iter().for_each(|case| tally.count(case, &case.run(&Plain)));
+        assert_eq!(tally.report(), Vec::<String>::new());
+    }
+}

@@ -1,0 +1,37 @@
+//! The engine's limits, each named once. Clauses are those of docs/CONTRACT.md.
+
+/// The chart has this many columns of cells, and as many rows (contract 1.1).
+pub const SIDE: u16 = 255;
+
+/// The last column, and the last row, of a cell.
+pub const LAST_CELL: u16 = SIDE - 1;
+
+/// The last column, and the last row, of a corner (contract 1.2).
+pub const LAST_CORNER: u16 = SIDE;
+
+/// The last of the four letters, which are counted from 0 (contract 1.3).
+pub const LAST_LETTER: u8 = 3;
+
+/// An outline has at least this many letters (contract 1.4).
+pub const SHORTEST: usize = 4;
+
+/// An outline, and a draft, has at most this many letters (contract 1.4).
+pub const LONGEST: usize = 612;
+
+/// A taken outline has at most this many edges (contract 3.12).
+pub const MOST_EDGES: usize = 100;
+
+/// A list of this many numbers has room for the edges of any taken outline.
+pub const MOST_NUMBERS: usize = 2 * MOST_EDGES;
+
+/// A loose query's list has at most this many numbers (contract 5.2, refusal 10).
+pub const LONGEST_LIST: usize = 2032;
+
+/// The refusals are numbered from 1 to this (contract 5.2).
+pub const LAST_REFUSAL: u16 = 15;
+
+/// A reply has this many numbers (contract 4.1).
+pub const REPLY: usize = 7;
+
+/// A call of a script has this many bytes (contract 10.3).
+pub const CALL: usize = 5;
