@@ -1,4 +1,5 @@
-//! The proved library against its rivals. All figures are of one run, and each ratio is of calls that took turns.
+//! The proved library against its rivals. All figures are of one run. Rivals take turns; a time is the least of many, and a ratio
+//! the median of many.
 //!
 //!     bench            a table, and then the same rows as lines
 //!     bench --lines    the lines alone
@@ -23,12 +24,12 @@ use robequarry_checks::engine::{Engine, Library, Plain};
 use robequarry_checks::hull_and_count::{is_convex, Of};
 use robequarry_checks::random::Random;
 use robequarry_checks::report::{Goal, Ratio, Report, Row};
-use robequarry_checks::timing::race;
+use robequarry_checks::timing::{race, Race};
 use robequarry_checks::{plain, Fields, Outline, Point};
 
 const SEED: u64 = 1;
 
-/// How many outlines of a kind take turns, so that no rival learns one by heart.
+/// How many lists of a kind take turns, so that no rival learns one by heart.
 const SET: usize = 16;
 
 /// Letters of the outlines that are tested.
@@ -39,6 +40,9 @@ const SPOILT_LENGTHS: [usize; 2] = [250, 600];
 
 /// Letters of the outline that is drawn and queried.
 const DRAWN: usize = 600;
+
+/// The name of the ratio to the library's algorithm in plain Rust.
+const TO_PLAIN: &str = "library/plain";
 
 const PLAIN_GOAL: Goal = Goal::AtMost(1.1);
 const HULL_GOAL: Goal = Goal::AtLeast(10.0);
@@ -137,10 +141,10 @@ impl Bench {
         let queries = Call::script(cells.iter().map(|&cell| Call::Query(cell.into())));
         let asked = [&closed[..], &queries].concat();
 
-        self.add_pair("loose query", DRAWN, loose_query(&outline, &cells), None);
-        self.add_pair("query in a replay", DRAWN, each_more(&closed, &asked, cells.len()), None);
-        self.add_pair("add in a replay", DRAWN, each_more(&begun, &drawn, outline.letters.len()), None);
-        self.add_pair("begin, adds and close", DRAWN, race_replays(&closed), None);
+        self.add_call("loose query", loose_query(&outline, &cells));
+        self.add_call("query in a replay", each_more(&closed, &asked, cells.len()));
+        self.add_call("add in a replay", each_more(&begun, &drawn, outline.letters.len()));
+        self.add_call("begin, adds and close", race_replays(&closed));
         let [contains, query] = through_the_wrapper(&outline, &cells);
         self.report.add(Row { name: "Edges::contains", letters: DRAWN, nanoseconds: contains, ratio: None });
         self.report.add(Row { name: "Holder::query", letters: DRAWN, nanoseconds: query, ratio: None });
@@ -148,36 +152,39 @@ impl Bench {
 
     /// Races all rivals over a set of outlines.
     fn against_plain_and_hulls(&mut self, set: &Set, hull_goal: Option<Goal>) {
-        let [library, plain, cells, border] = race_of([
+        let race = race([
             &mut test_by(&Library, set),
             &mut test_by(&Plain, set),
             &mut hull_by(Of::Enclosed, set),
             &mut hull_by(Of::Border, set),
         ]);
-        self.add_pair(set.name, set.letters, [library, plain], Some(PLAIN_GOAL));
-        for (name, time) in [("cells/library", cells), ("border/library", border)] {
-            self.add(set.name, set.letters, library, Ratio::new(name, time / library, hull_goal));
-        }
+        self.add_set(set, &race, Ratio::new(TO_PLAIN, race.ratio(0, 1), Some(PLAIN_GOAL)));
+        self.add_set(set, &race, Ratio::new("cells/library", race.ratio(2, 0), hull_goal));
+        self.add_set(set, &race, Ratio::new("border/library", race.ratio(3, 0), hull_goal));
     }
 
     /// Races the library and its algorithm in plain Rust over a set of lists.
     fn against_plain(&mut self, set: &Set) {
-        let pair = race_of([&mut test_by(&Library, set), &mut test_by(&Plain, set)]);
-        self.add_pair(set.name, set.letters, pair, Some(PLAIN_GOAL));
+        let race = race([&mut test_by(&Library, set), &mut test_by(&Plain, set)]);
+        self.add_set(set, &race, Ratio::new(TO_PLAIN, race.ratio(0, 1), Some(PLAIN_GOAL)));
     }
 
     /// Races the library over a set of outlines and over another.
     fn against_itself(&mut self, set: &Set, other: &Set, ratio: String, goal: Goal) {
-        let [time, other_time] = race_of([&mut test_by(&Library, set), &mut test_by(&Library, other)]);
-        self.add(set.name, set.letters, time, Ratio::new(ratio, time / other_time, Some(goal)));
+        let race = race([&mut test_by(&Library, set), &mut test_by(&Library, other)]);
+        self.add_set(set, &race, Ratio::new(ratio, race.ratio(0, 1), Some(goal)));
     }
 
-    fn add(&mut self, name: &'static str, letters: usize, nanoseconds: f64, ratio: Ratio) {
-        self.report.add(Row { name, letters, nanoseconds, ratio: Some(ratio) });
+    /// Adds a ratio of a race whose first rival is the library over a set.
+    fn add_set<const N: usize>(&mut self, set: &Set, race: &Race<N>, ratio: Ratio) {
+        let nanoseconds = race.least(0);
+        self.report.add(Row { name: set.name, letters: set.letters, nanoseconds, ratio: Some(ratio) });
     }
 
-    fn add_pair(&mut self, name: &'static str, letters: usize, [library, plain]: Pair, goal: Option<Goal>) {
-        self.add(name, letters, library, Ratio::new("library/plain", library / plain, goal));
+    /// Adds a call of the library, and how many times as long as in plain Rust it takes.
+    fn add_call(&mut self, name: &'static str, (nanoseconds, ratio): Timed) {
+        let ratio = Some(Ratio::new(TO_PLAIN, ratio, None));
+        self.report.add(Row { name, letters: DRAWN, nanoseconds, ratio });
     }
 }
 
@@ -202,10 +209,6 @@ fn tested(outline: &Outline) -> Fields {
     plain::test(outline.start, &outline.letters, &mut [0; LONGEST_LIST])
 }
 
-fn race_of<const N: usize>(mut rivals: [&mut dyn FnMut(); N]) -> [f64; N] {
-    race(&mut rivals).try_into().expect("a time for each rival")
-}
-
 fn test_by<'a>(engine: &'a dyn Engine, set: &'a Set) -> impl FnMut() + 'a {
     let mut turns = set.lists.iter().cycle();
     let mut edges = [0; LONGEST_LIST];
@@ -225,17 +228,18 @@ fn hull_by(of: Of, set: &Set) -> impl FnMut() + '_ {
     }
 }
 
-/// Nanoseconds of the library, and of its algorithm in plain Rust.
-type Pair = [f64; 2];
+/// Nanoseconds of the library, and how many times as long as in plain Rust that is.
+type Timed = (f64, f64);
 
-fn loose_query(outline: &Outline, cells: &[Point]) -> Pair {
+fn loose_query(outline: &Outline, cells: &[Point]) -> Timed {
     let mut list = [0; LONGEST_LIST];
     let reply = plain::test(outline.start, &outline.letters, &mut list);
     let edges = &list[..2 * usize::from(reply.place)];
     let anchor = Point::new(reply.col, reply.row);
     let mut library = query_by(&Library, anchor, edges, cells);
     let mut plain = query_by(&Plain, anchor, edges, cells);
-    race_of([&mut library, &mut plain])
+    let race = race([&mut library, &mut plain]);
+    (race.least(0), race.ratio(0, 1))
 }
 
 fn query_by<'a>(engine: &'a dyn Engine, anchor: Point, edges: &'a [i16], cells: &'a [Point]) -> impl FnMut() + 'a {
@@ -256,19 +260,21 @@ fn replay_by<'a>(engine: &'a dyn Engine, script: &'a [u8]) -> impl FnMut() + 'a 
     }
 }
 
-fn race_replays(script: &[u8]) -> Pair {
-    race_of([&mut replay_by(&Library, script), &mut replay_by(&Plain, script)])
+fn race_replays(script: &[u8]) -> Timed {
+    let race = race([&mut replay_by(&Library, script), &mut replay_by(&Plain, script)]);
+    (race.least(0), race.ratio(0, 1))
 }
 
-/// Nanoseconds of each of the `count` calls by which a longer script goes on after a shorter one.
-fn each_more(shorter: &[u8], longer: &[u8], count: usize) -> Pair {
-    let times = race_of([
+/// Of each of the `count` calls by which a longer script goes on after a shorter one.
+fn each_more(shorter: &[u8], longer: &[u8], count: usize) -> Timed {
+    let race = race([
         &mut replay_by(&Library, longer),
         &mut replay_by(&Library, shorter),
         &mut replay_by(&Plain, longer),
         &mut replay_by(&Plain, shorter),
     ]);
-    [(times[0] - times[1]) / count as f64, (times[2] - times[3]) / count as f64]
+    let nanoseconds = (race.least(0) - race.least(1)) / count as f64;
+    (nanoseconds, race.median(|times| (times[0] - times[1]) / (times[2] - times[3])))
 }
 
 /// A query by the edges, and one through the Rust holder.
@@ -287,5 +293,6 @@ fn through_the_wrapper(outline: &Outline, cells: &[Point]) -> [f64; 2] {
     let mut query = || {
         let _ = black_box(holder.query((*other_turns.next().expect("there are cells")).into()));
     };
-    race_of([&mut contains, &mut query])
+    let race = race([&mut contains, &mut query]);
+    [race.least(0), race.least(1)]
 }
