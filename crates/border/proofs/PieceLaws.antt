@@ -24,7 +24,7 @@ use Rattle.rows.proofs.RowLaws.{found-missing}
 use Rattle.convexity.specs.Frame.{frameOf, along}
 use Rattle.convexity.specs.Cut.{cornerPlace, cutCorner, west, turn, clockwise, reading}
 use Rattle.convexity.specs.Pieces.{backStepPiece, dentPiece, sent, edges, edgeCount}
-use Rattle.convexity.proofs.Quadrant.{NoBackStep}
+use Rattle.convexity.proofs.StraightTurn.{NoBackStep}
 use Rattle.convexity.proofs.Extreme.{cornerPlace-lt, cornerPlace-first, not-before-earlier, turn-of}
 use Rattle.convexity.proofs.Shape.{straight-of, shape}
 use Rattle.convexity.proofs.Bounds.{edges-length}

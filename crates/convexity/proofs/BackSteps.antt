@@ -23,14 +23,14 @@ use Rattle.convexity.specs.Frame.{Frame, frameOf, along}
 use Rattle.convexity.specs.Cut.{clockwise, cutCorner, cut, reading}
 use Rattle.convexity.specs.Pieces.{piece, isBackStep, backStepAt, backStepPiece, factors, dentLength, dentPiece, Reaches}
 use Rattle.lattice.proofs.HullLaws.{missing-same}
-use Rattle.convexity.proofs.Quadrant.{Turn}
+use Rattle.convexity.proofs.StraightTurn.{Turn}
 use Rattle.convexity.proofs.Extreme.{not-before-earlier, Moved, earlier-on, later-on, earlier-back, later-back, Bend, by-later, by-earlier, on-chart, corner-round, moves, bend, turn-of}
 use Rattle.convexity.proofs.Shape.{straight-of}
 use Rattle.convexity.proofs.Cuts.{previous-pos, cut-zero, corner-west, cut-on, cut-round, cuts-fit, piece-length, piece-at, corner-first, corner-after}
 use Rattle.convexity.specs.Reading.{opposite}
 use Rattle.convexity.proofs.Ring.{next, next-lt, Apart, apart, turns, along-next}
 use Rattle.convexity.proofs.Levels.{LetterAt, leaves-upwards}
-use Rattle.convexity.proofs.Sent.{encloses-turn, dented-iff-missing}
+use Rattle.convexity.proofs.AsSent.{encloses-turn, dented-iff-missing}
 use Rattle.convexity.proofs.OneRun.{SomeMissing, twice, back-gap}
 
 -- ---- a frame's later letter, on and back

@@ -18,10 +18,10 @@ use Rattle.convexity.specs.Cut.{cornerPlace, westPlace, west, turn, cloc
 use Rattle.convexity.specs.Pieces.{IsAnchor, backStepPiece, dentPiece, edges}
 use Rattle.convexity.specs.FromEdges.{lettersFrom}
 use Rattle.convexity.specs.Border.{HasEdges}
-use Rattle.convexity.proofs.Quadrant.{Turn}
+use Rattle.convexity.proofs.StraightTurn.{Turn}
 use Rattle.convexity.proofs.Extreme.{cornerPlace-lt, cornerPlace-first, turn-of}
 use Rattle.convexity.proofs.Reading.{first-unique}
-use Rattle.convexity.proofs.Sent.{encloses-turn, west-anchor}
+use Rattle.convexity.proofs.AsSent.{encloses-turn, west-anchor}
 use Rattle.convexity.proofs.FromEdges.{sent-from-edges}
 
 -- ---- a turn's W is its start

@@ -7,12 +7,12 @@ use lib.IntN.{pos, negsuc}
 use Rattle.words.specs.Lyndon
 use Rattle.words.specs.Counted
 use Rattle.convexity.specs.Frame
-use Rattle.convexity.specs.Quadrant
+use Rattle.convexity.specs.InFrame
 use Rattle.convexity.specs.FromEdges
 
 -- A name that opens the definitions, for the rows that follow
 opened : Bool
-unfolding Lyndon.copies Counted.listed Counted.countedLetter Counted.christoffelWord Counted.dividesBoth Counted.commonUpTo Counted.common Counted.edgeWord Counted.edgesWord Frame.frameOf Quadrant.spell FromEdges.quadrantOf FromEdges.runIn FromEdges.riseIn FromEdges.sizesIn FromEdges.pieceFrom FromEdges.lettersFrom
+unfolding Lyndon.copies Counted.listed Counted.countedLetter Counted.christoffelWord Counted.dividesBoth Counted.commonUpTo Counted.common Counted.edgeWord Counted.edgesWord Frame.frameOf InFrame.spell FromEdges.quadrantOf FromEdges.runIn FromEdges.riseIn FromEdges.sizesIn FromEdges.pieceFrom FromEdges.lettersFrom
 opened = true
 
 -- No edge: one cell

@@ -19,7 +19,7 @@ use Rattle.convexity.specs.Cut.{cornerPlace, ahead, cutCorner, cut}
 use Rattle.convexity.specs.Pieces.{rounds, piece}
 use Rattle.convexity.specs.Reading.{opposite}
 use Rattle.convexity.proofs.Ring.{next, next-lt, below-four, Apart, apart, Turns, turns}
-use Rattle.convexity.proofs.Quadrant.{Turn}
+use Rattle.convexity.proofs.StraightTurn.{Turn}
 use Rattle.convexity.proofs.Levels.{turn-first, turn-lowest}
 use Rattle.convexity.proofs.Extreme.{FirstAt, first-at-cornerPlace, Bend, by-later, by-earlier, previous, corner-round, bend}
 

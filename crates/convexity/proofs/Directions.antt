@@ -20,12 +20,12 @@ use Rattle.convexity.specs.Frame.{frameOf}
 use Rattle.convexity.specs.Pieces.{Reaches, word, factors, edgesOf, edges, edgeCount, dentPiece}
 use Rattle.convexity.specs.Directions.{edgeCols, edgeRows, SameDirection}
 use Rattle.convexity.proofs.Frame.{run, rise, Falls, EdgesFall}
-use Rattle.convexity.proofs.Quadrant.{NoBackStep}
+use Rattle.convexity.proofs.StraightTurn.{NoBackStep}
 use Rattle.convexity.proofs.Shape.{shape}
 use Rattle.convexity.proofs.Smooth.{smooth-edges}
 use Rattle.convexity.proofs.Bounds.{edges-length}
 use Rattle.convexity.proofs.Signed.{up, down, Is, is-self, is-unique, is-neg, is-add, is-mul, le-iff, Counted, Lies, stepCols, stepRows, step-lies}
-use Rattle.convexity.proofs.Sent.{clear-of}
+use Rattle.convexity.proofs.AsSent.{clear-of}
 
 -- ---- two directions as differences of naturals
 

@@ -23,11 +23,11 @@ use Rattle.convexity.specs.Frame.{frameOf}
 use Rattle.convexity.specs.Cut.{reading}
 use Rattle.convexity.specs.Pieces.{Reaches, piece, word, factors, edgeCount, dentLength, dentPiece}
 use Rattle.convexity.proofs.Frame.{Falls, EdgesFall}
-use Rattle.convexity.proofs.Quadrant.{NoBackStep}
+use Rattle.convexity.proofs.StraightTurn.{NoBackStep}
 use Rattle.convexity.proofs.Shape.{shape, length-spell}
 use Rattle.convexity.proofs.Smooth.{dent-first, smooth-edges, smooth-piece}
 use Rattle.convexity.proofs.Directions.{EndsLater, first-rises, ends-later-rest, slope-trans}
-use Rattle.convexity.proofs.Sent.{clear-of}
+use Rattle.convexity.proofs.AsSent.{clear-of}
 
 -- ---- the grid of copies
 

@@ -17,7 +17,7 @@ use Rattle.lattice.proofs.WalkLaws.{Walked, OnChart, walked, rotated-walked, tu
 use Rattle.convexity.specs.Frame.{Frame, frameOf, along}
 use Rattle.convexity.specs.Cut.{before, least, cornerPlace, westPlace, west, turn}
 use Rattle.convexity.specs.Reading.{opposite}
-use Rattle.convexity.proofs.Quadrant.{Turn}
+use Rattle.convexity.proofs.StraightTurn.{Turn}
 
 -- ---- the least number below a bound
 

@@ -19,15 +19,15 @@ use Rattle.chart.specs.Outline.{Outline}
 use Rattle.convexity.specs.Frame.{frameOf}
 use Rattle.convexity.specs.Cut.{reading}
 use Rattle.convexity.specs.Pieces.{Reaches, piece, word, factors, dentLength, dentPiece, edgesOf, edges}
-use Rattle.convexity.specs.Quadrant.{spell}
+use Rattle.convexity.specs.InFrame.{spell}
 use Rattle.convexity.specs.FromEdges.{quadrantOf, runIn, riseIn, sizesIn, pieceFrom, lettersFrom, stepCount}
 use Rattle.convexity.proofs.Frame.{run, rise, EdgesFall}
-use Rattle.convexity.proofs.Quadrant.{NoBackStep}
+use Rattle.convexity.proofs.StraightTurn.{NoBackStep}
 use Rattle.convexity.proofs.Shape.{shape, length-spell}
 use Rattle.convexity.proofs.Smooth.{dent-first, smooth-edges}
 use Rattle.convexity.proofs.Signed.{Is, is-self, is-neg, is-unique, Counted, stepCols, stepRows, step-lies}
 use Rattle.convexity.proofs.Directions.{EndsLater, first-rises, ends-later-rest}
-use Rattle.convexity.proofs.Sent.{clear-of}
+use Rattle.convexity.proofs.AsSent.{clear-of}
 
 -- ---- a piece from the runs and rises of its edges
 

@@ -1,7 +1,7 @@
 -- One piece in its frame; the four pieces in a ring; the theorem and the four corners; back-steps; the reading and the same block; the edges' directions and their number; the letters from the edges.
 pub mod Frame
 pub mod Ring
-pub mod Quadrant
+pub mod StraightTurn
 pub mod Extreme
 pub mod Levels
 pub mod Cuts
@@ -17,7 +17,7 @@ pub mod Inside
 pub mod PathCells
 pub mod DentMissing
 pub mod Theorem
-pub mod Sent
+pub mod AsSent
 pub mod Corners
 pub mod OneRun
 pub mod BackSteps

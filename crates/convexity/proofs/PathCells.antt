@@ -20,9 +20,9 @@ use Rattle.lattice.proofs.RightHand.{leftOf, rightOf, cornerOf, turn, clockwise
 use Rattle.convexity.specs.Frame.{frameOf, along}
 use Rattle.convexity.specs.Cut.{cut}
 use Rattle.convexity.specs.Pieces.{word}
-use Rattle.convexity.specs.Quadrant.{cellAlong, startE, startL, cellE, cellL}
+use Rattle.convexity.specs.InFrame.{cellAlong, startE, startL, cellE, cellL}
 use Rattle.convexity.proofs.Ring.{next, next-lt}
-use Rattle.convexity.proofs.Quadrant.{NoBackStep}
+use Rattle.convexity.proofs.StraightTurn.{NoBackStep}
 use Rattle.convexity.proofs.Levels.{LetterAt, In, shifted, level-enclosed, leaves-upwards, turn-lowest, right-in}
 use Rattle.convexity.proofs.Shape.{shape, letterOf, CornerIn, place-lt, letter-in-piece, corner-in-piece}
 

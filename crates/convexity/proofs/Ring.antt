@@ -8,7 +8,7 @@ use Rattle.chart.specs.Limits.{side}
 use Rattle.chart.specs.declared.Point.{Point}
 use Rattle.lattice.proofs.WalkLaws.{OnChart}
 use Rattle.convexity.specs.Frame.{Frame, frameOf, along}
-use Rattle.convexity.specs.Quadrant.{cellAlong, cellE, cellL}
+use Rattle.convexity.specs.InFrame.{cellAlong, cellE, cellL}
 use Rattle.convexity.specs.Reading.{opposite}
 
 -- The piece after piece k. The first comes after the last

@@ -22,10 +22,10 @@ use Rattle.convexity.specs.Cut.{before, westPlace, west, turn, clockwise
 use Rattle.convexity.specs.Pieces.{Reaches, dentPiece, edges}
 use Rattle.convexity.specs.Inside.{insideEdges}
 use Rattle.convexity.specs.Reading.{rightHanded, reversed}
-use Rattle.convexity.proofs.Quadrant.{Turn}
+use Rattle.convexity.proofs.StraightTurn.{Turn}
 use Rattle.convexity.proofs.Extreme.{turn-of}
 use Rattle.convexity.proofs.Levels.{enclosed-level, level-enclosed, leaves-upwards, turn-lowest, left-of-anchor, below-anchor, anchor-lowest}
-use Rattle.convexity.proofs.Sent.{encloses-turn, edges-answer-sent}
+use Rattle.convexity.proofs.AsSent.{encloses-turn, edges-answer-sent}
 use Rattle.convexity.proofs.Reading.{first-unique, west-first, simple-reading, clockwise-reading, turn-reading}
 
 -- ---- a side is walked where the level jumps

@@ -24,9 +24,9 @@ use Rattle.lattice.proofs.HullLaws.{missing-same, lowest-same}
 use Rattle.rows.specs.Rows.{inRows}
 use Rattle.lattice.proofs.WalkLaws.{point}
 use Rattle.convexity.proofs.Frame.{Sides}
-use Rattle.convexity.specs.Quadrant.{startE, startL, cellE, cellL, cellAlong, UnderFrom}
+use Rattle.convexity.specs.InFrame.{startE, startL, cellE, cellL, cellAlong, UnderFrom}
 use Rattle.convexity.proofs.Ring.{next, next-lt, cell-next}
-use Rattle.convexity.proofs.Quadrant.{NoBackStep, Shape}
+use Rattle.convexity.proofs.StraightTurn.{NoBackStep, Shape}
 use Rattle.convexity.proofs.Shape.{shape}
 use Rattle.convexity.proofs.UnderLaws.{under-from-left, under-from-high}
 use Rattle.convexity.proofs.Crossings.{UnderPiece}

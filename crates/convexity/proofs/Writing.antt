@@ -12,7 +12,7 @@ use Rattle.words.specs.Word.{Word}
 use Rattle.words.specs.Counted.{listed, countedLetter, edgesWord}
 use Rattle.words.proofs.Counted.{edge-listed, edgesWord-append, edgesWord-one}
 use Rattle.convexity.specs.Frame.{frameOf}
-use Rattle.convexity.specs.Quadrant.{spell}
+use Rattle.convexity.specs.InFrame.{spell}
 use Rattle.convexity.specs.Directions.{edgeCols, edgeRows}
 use Rattle.convexity.specs.FromEdges.{quadrantOf, runIn, riseIn, sizesIn, pieceFrom}
 use Rattle.convexity.proofs.Shape.{spell-append}

@@ -6,6 +6,6 @@ pub mod Reading
 pub mod Pieces
 pub mod Inside
 pub mod Directions
-pub mod Quadrant
+pub mod InFrame
 pub mod FromEdges
 pub mod Border

@@ -77,7 +77,7 @@ edges o =
 unfoldable pub edgeCount : Outline → ℕ
 edgeCount o = length (factors o 0) + (length (factors o 1) + (length (factors o 2) + length (factors o 3)))
 
--- The anchor: the lowest enclosed cell of the leftmost column. It is the cell at W (proofs/Sent.antt: `west-anchor`)
+-- The anchor: the lowest enclosed cell of the leftmost column. It is the cell at W (proofs/AsSent.antt: `west-anchor`)
 pub record IsAnchor (o : Outline) (a : Point) : Type 0 where
   pub enclosed : encloses o (a .col) (a .row) ≡ true
   pub leftmost : (c r : ℕ) → c < a .col → encloses o c r ≡ false

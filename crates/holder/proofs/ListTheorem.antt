@@ -24,7 +24,7 @@ use Rattle.lattice.specs.Hull.{Missing, LowestMissing}
 use Rattle.convexity.specs.Cut.{reading}
 use Rattle.convexity.specs.Pieces.{edges, Reaches}
 use Rattle.convexity.proofs.Bounds.{edges-length}
-use Rattle.convexity.proofs.Sent.{edges-answer-sent}
+use Rattle.convexity.proofs.AsSent.{edges-answer-sent}
 use Rattle.verdict.specs.Verdict.{verdictOf, lentAfter}
 use Rattle.verdict.specs.Named.{CellNamed}
 use Rattle.verdict.proofs.VerdictLaws.{TakenFacts, taken-facts, taken-fits}
@@ -48,12 +48,12 @@ use Rattle.holder.specs.declared.Answered.{Answered}
 use Rattle.holder.specs.declared.Reply.{Reply}
 use Rattle.holder.specs.declared.Reply.the-variants.{Inside, Outside, Refused as WasRefused}
 use Rattle.holder.proofs.LastTaken.{work-last-taken}
-use Rattle.holder.proofs.Stands.{Drafted, StandsForDraft, Working, StandsForWork, Stands, Agrees, stands-fresh, agrees-true, agrees-false, begin-agrees, add-agrees, drop-agrees, clear-agrees}
+use Rattle.holder.proofs.Represents.{Drafted, RepresentsDraft, Working, RepresentsWork, Represents, Agrees, represents-fresh, agrees-true, agrees-false, begin-agrees, add-agrees, drop-agrees, clear-agrees}
 
 -- ---- close
 
 -- A draft equals what is at work in the holder exactly if it does in the book
-same-outline : (d : Draft) (w : Work) (o : Outline) (v : Option Outline) → Drafted d o → StandsForWork w v → hasOutline w (d .kept) ≡ equalsWork o v
+same-outline : (d : Draft) (w : Work) (o : Outline) (v : Option Outline) → Drafted d o → RepresentsWork w v → hasOutline w (d .kept) ≡ equalsWork o v
 unfolding hasOutline equalsWork
 same-outline d w o none k l = rw l
 same-outline d w o (some v) k l = rw (k .outline, l .outline, l .taken)
@@ -80,7 +80,7 @@ taken-working k o n a kept e =
     }
 
 -- By the verdict: the words "same" and "taken" go by the work on either side, and what is taken is at work
-closed-agrees : {h : Holder} {b : Book} → Stands h b → (o : Outline) → Drafted (draftOf h) o → (v : Verdict) → verdictOf o ≡ v →
+closed-agrees : {h : Holder} {b : Book} → Represents h b → (o : Outline) → Drafted (draftOf h) o → (v : Verdict) → verdictOf o ≡ v →
     Agrees (record { reply = closedReply (hasOutline (workOf h) (draftOf h .kept)) v; holder = holderAfterClose h (listed o v) v })
     (record { reply = closedReply (equalsWork o (atWork b)) v; next = putWork (putDraft b none) (workAfter (atWork b) o v) })
 unfolding closedReply holderAfterClose workAfter ended
@@ -129,7 +129,7 @@ unfolding workEdges
 work-short w = omega (arith, length-take (min (2 * w .edges) mostNumbers) (w .numbers))
 
 -- The edges at work answer for the outline at work
-work-answers : (w : Work) (x : Point) (o : Option Outline) → StandsForWork w o → located w x ≡ asked x o
+work-answers : (w : Work) (x : Point) (o : Option Outline) → RepresentsWork w o → located w x ≡ asked x o
 unfolding located asked
 work-answers w x none e = rw e
 work-answers w x (some o) k =
@@ -137,7 +137,7 @@ work-answers w x (some o) k =
     (cond-same (badCell x) (WasRefused Cell) λ e.
     rw (edges-answer-sent o (k .reaches) (k .undented) x (on-chart-cell x e .0) (on-chart-cell x e .1)))
 
-query-agrees : {h : Holder} {b : Book} → Stands h b → (x : Point) → Agrees (queryOf h x) (answer b (Query x))
+query-agrees : {h : Holder} {b : Book} → Represents h b → (x : Point) → Agrees (queryOf h x) (answer b (Query x))
 unfolding queryOf answer
 query-agrees {h} {b} k x = (work-answers (workOf h) x (atWork b) (k .work), k)
 
@@ -162,18 +162,18 @@ asked-nothing x (some o) = go (badCell x) (encloses o (x .col) (x .row))
 
 -- ---- the list theorem
 
-close-agrees : {h : Holder} {b : Book} → Stands h b → Agrees (closeOf h) (closes b (drafted b))
+close-agrees : {h : Holder} {b : Book} → Represents h b → Agrees (closeOf h) (closes b (drafted b))
 unfolding closeOf closes closedBy
 close-agrees {h} {b} k = go (drafted b) (k .draft)
   where
-    go : (o : Option Outline) → StandsForDraft (draftOf h) o → Agrees (closeOf h) (closes b o)
+    go : (o : Option Outline) → RepresentsDraft (draftOf h) o → Agrees (closeOf h) (closes b o)
     go none e = agrees-false (draftOf h .begun) _ _ e (refl, k)
     go (some o) d =
         agrees-true (draftOf h .begun) _ _ (d .begun)
         (rw (d .outline, judged-verdict o, judged-numbers o) (closed-agrees k o d (verdictOf o) refl))
 
 -- Every call replies as the book does, and its next holder stands for the next book
-call-agrees : {h : Holder} {b : Book} → Stands h b → (c : Call) → Agrees (answerOf h c) (answer b c)
+call-agrees : {h : Holder} {b : Book} → Represents h b → (c : Call) → Agrees (answerOf h c) (answer b c)
 unfolding answerOf answer
 call-agrees k (Begin s) = begin-agrees k s
 call-agrees k (Add a) = add-agrees k a
@@ -182,7 +182,7 @@ call-agrees k Clear = clear-agrees k
 call-agrees k Close = close-agrees k
 call-agrees k (Query x) = query-agrees k x
 
-handled-from : {h : Holder} {b : Book} → Stands h b → (cs : List Call) → handledFrom h cs ≡ repliesFrom b cs
+handled-from : {h : Holder} {b : Book} → Represents h b → (cs : List Call) → handledFrom h cs ≡ repliesFrom b cs
 unfolding handledFrom repliesFrom
 handled-from k [] = refl
 handled-from k (c ∷ cs) = cc (call-agrees k c .0, handled-from (call-agrees k c .1) cs)
@@ -190,24 +190,24 @@ handled-from k (c ∷ cs) = cc (call-agrees k c .0, handled-from (call-agrees k 
 -- For every list of calls, whatever their arguments, each reply of a fresh holder is the plain book's (contract 8.2)
 pub list-theorem : (cs : List Call) → handled cs ≡ replies cs
 unfolding handled replies
-list-theorem cs = handled-from stands-fresh cs
+list-theorem cs = handled-from represents-fresh cs
 
 -- ---- after a list of calls
 
-stands-from : {h : Holder} {b : Book} → Stands h b → (cs : List Call) → Stands (holderAfter h cs) (bookAfter b cs)
+represents-from : {h : Holder} {b : Book} → Represents h b → (cs : List Call) → Represents (holderAfter h cs) (bookAfter b cs)
 unfolding holderAfter bookAfter
-stands-from k [] = k
-stands-from k (c ∷ cs) = stands-from (call-agrees k c .1) cs
+represents-from k [] = k
+represents-from k (c ∷ cs) = represents-from (call-agrees k c .1) cs
 
 -- The reply of one more call
 reply-after : (cs : List Call) (c : Call) → replyAfter cs c ≡ answer (bookAfter fresh cs) c .reply
 unfolding replyAfter
-reply-after cs c = call-agrees (stands-from stands-fresh cs) c .0
+reply-after cs c = call-agrees (represents-from represents-fresh cs) c .0
 
 -- So the holder has at work the outline last taken, with its anchor and its edges (contract 8.3)
-pub holder-last-taken : (cs : List Call) → StandsForWork (workOf (holderAfter freshHolder cs)) (lastTaken cs)
+pub holder-last-taken : (cs : List Call) → RepresentsWork (workOf (holderAfter freshHolder cs)) (lastTaken cs)
 holder-last-taken cs =
-    subst (StandsForWork (workOf (holderAfter freshHolder cs))) (work-last-taken cs) (stands-from stands-fresh cs .work)
+    subst (RepresentsWork (workOf (holderAfter freshHolder cs))) (work-last-taken cs) (represents-from represents-fresh cs .work)
 
 module _ (cs : List Call) (x : Point) where
   -- The reply of a query is read off the outline last taken

@@ -107,15 +107,15 @@ listFrom-fresh script lent =
     ap (λ (t : List Reply). written t ++ drop (replyWidth * length cs) lent) (list-theorem cs)
 
 -- Where the loop of a replay stands after some calls: what is left of the script, replayed from this holder into what is left of the list, makes the whole
-pub record Stands (script lent : List ℕ) (h : Holder) (done : ℕ) (list : List ℕ) : Type 0 where
+pub record Underway (script lent : List ℕ) (h : Holder) (done : ℕ) (list : List ℕ) : Type 0 where
   pub bytes : callWidth * done ≤ length script
   pub numbers : replyWidth * done ≤ length list
   pub same-length : length list ≡ length lent
   pub count : length (callsRead script (length lent)) ≡ done + length (callsRead (drop (callWidth * done) script) (length list - replyWidth * done))
   pub whole : listFrom freshHolder script lent ≡ take (replyWidth * done) list ++ listFrom h (drop (callWidth * done) script) (drop (replyWidth * done) list)
 
-pub stands-first : (script lent : List ℕ) (h : Holder) → h ≡ freshHolder → Stands script lent h 0 lent
-stands-first script lent h e =
+pub underway-first : (script lent : List ℕ) (h : Holder) → h ≡ freshHolder → Underway script lent h 0 lent
+underway-first script lent h e =
     record {
       bytes = omega arith;
       numbers = omega arith;
@@ -124,7 +124,7 @@ stands-first script lent h e =
       whole = ap (λ (k : Holder). listFrom k script lent) (sym e);
     }
 
-module _ (script lent : List ℕ) (h : Holder) (done : ℕ) (list : List ℕ) (st : Stands script lent h done list) where
+module _ (script lent : List ℕ) (h : Holder) (done : ℕ) (list : List ℕ) (st : Underway script lent h done list) where
   -- The list after one more reply
   abbrev pub next : Call → List ℕ
   next x = take (replyWidth * done) list ++ replyAfter (replyFields (answerOf h x .reply)) (drop (replyWidth * done) list)
@@ -155,9 +155,9 @@ module _ (script lent : List ℕ) (h : Holder) (done : ℕ) (list : List ℕ) (s
     room : replyWidth ≤ length (drop (replyWidth * done) list)
     room = rw (length-drop (replyWidth * done) list) (omega arith)
 
-    stands-next : Stands script lent (answerOf h x .holder) (done + 1) (next x)
+    underway-next : Underway script lent (answerOf h x .holder) (done + 1) (next x)
     unfolding numbersOf
-    stands-next =
+    underway-next =
         let f = replyFields (answerOf h x .reply) in
         let n = numbersOf f in
         let a = take (replyWidth * done) list in
@@ -188,14 +188,14 @@ module _ (script lent : List ℕ) (h : Holder) (done : ℕ) (list : List ℕ) (s
         }
 
     -- The same of the list as the loop leaves it: the reply is written to the part from there on, and nothing is left after that part
-    pub stands-written : (r : Answered) (f : Fields) (part : List ℕ) → r ≡ answerOf h x → f ≡ replyFields (r .reply) →
+    pub underway-written : (r : Answered) (f : Fields) (part : List ℕ) → r ≡ answerOf h x → f ≡ replyFields (r .reply) →
         part ≡ replyAfter f (take (length list - replyWidth * done) (drop (replyWidth * done) list)) →
-        Stands script lent (r .holder) (done + 1)
+        Underway script lent (r .holder) (done + 1)
         (take (replyWidth * done) list ++ (part ++ drop (length list - replyWidth * done) (drop (replyWidth * done) list)))
-    stands-written r f part re fe pe =
+    underway-written r f part re fe pe =
         let l = drop (replyWidth * done) list in
         let ll : length l ≤ length list - replyWidth * done = rw (length-drop (replyWidth * done) list) (le-refl _) in
-        rw (drop-of-length-le l ll, append-nil part, pe, take-all (length list - replyWidth * done) l ll, fe, re) stands-next
+        rw (drop-of-length-le l ll, append-nil part, pe, take-all (length list - replyWidth * done) l ll, fe, re) underway-next
 
   -- Nothing is read of what is left: a number that is no call's, a call that is cut, or no room
   abbrev pub stopped : Type 0
@@ -221,11 +221,11 @@ module _ (script lent : List ℕ) (h : Holder) (done : ℕ) (list : List ℕ) (s
     pub has-room : replyWidth * done + replyWidth ≤ length list
     has-room = omega (arith, st .same-length)
 
-  pub stands-count : stopped → done ≡ length (callsRead script (length lent))
-  stands-count z = sym (st .count ∙ ap (λ (t : List Call). done + length t) z ∙ add-zero done)
+  pub underway-count : stopped → done ≡ length (callsRead script (length lent))
+  underway-count z = sym (st .count ∙ ap (λ (t : List Call). done + length t) z ∙ add-zero done)
 
-  pub stands-list : stopped → list ≡ repliesAfter script lent
-  stands-list z =
+  pub underway-list : stopped → list ≡ repliesAfter script lent
+  underway-list z =
       sym
       (sym (listFrom-fresh script lent) ∙ st .whole ∙ ap (λ (t : List ℕ). take (replyWidth * done) list ++ t)
       (listFrom-none h (drop (callWidth * done) script) (drop (replyWidth * done) list) (ap (callsRead (drop (callWidth * done) script)) (length-drop (replyWidth * done) list) ∙ z))

@@ -18,7 +18,7 @@ use Rattle.lattice.specs.Hull.{Missing, LowestMissing}
 use Rattle.convexity.specs.Cut.{reading}
 use Rattle.convexity.specs.Pieces.{Reaches, IsAnchor, edges}
 use Rattle.convexity.specs.Inside.{insideEdges}
-use Rattle.convexity.proofs.Sent.{edges-answer-sent, dented-iff-missing, named-lowest, west-anchor}
+use Rattle.convexity.proofs.AsSent.{edges-answer-sent, dented-iff-missing, named-lowest, west-anchor}
 use Rattle.verdict.specs.Verdict.{cellFound, dentIn, verdictOf, testOf, testFields, edgesAfter}
 use Rattle.verdict.specs.Dents.{Dented, dentOf}
 use Rattle.verdict.specs.Named.{cellOf, CellNamed}

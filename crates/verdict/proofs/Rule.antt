@@ -28,7 +28,7 @@ use Rattle.convexity.specs.Cut.{reading}
 use Rattle.convexity.specs.Pieces.{Reaches, word, factors, dentAt, dentLength, dentPiece, edgesOf, edges, edgeCount, IsAnchor}
 use Rattle.convexity.proofs.Smooth.{dent-first}
 use Rattle.lattice.proofs.HullLaws.{lowest-unique}
-use Rattle.convexity.proofs.Sent.{named-lowest, west-anchor}
+use Rattle.convexity.proofs.AsSent.{named-lowest, west-anchor}
 use Rattle.verdict.specs.Verdict.{placeSent, cellFound, dentIn, verdictOf}
 use Rattle.verdict.specs.Dents.{dentOf}
 use Rattle.verdict.specs.Rule.{pieceWord, pieceCut, AllChristoffel, none, more, Smooth, FirstDent, FactorsOf, ByTheRule}

@@ -4,12 +4,12 @@ use lib.ListN.{length}
 use native.Mathlib.Omega.{arith}
 use borrow.Author.Needs.{needs}
 use Rattle.replay.specs.Script.{callWidth, replyWidth}
-use Rattle.replay.proofs.ReplayLaws.{Stands, stands-first, stands-written, has-bytes, has-room, stops-at-none, stops-at-end, stands-count, stands-list}
+use Rattle.replay.proofs.ReplayLaws.{Underway, underway-first, underway-written, has-bytes, has-room, stops-at-none, stops-at-end, underway-count, underway-list}
 use Rattle.replay.proofs.replay.Statement.{statement}
 use Rattle.replay.proofs.replay.Tie as tie
 
 abbrev Inv-loop : tie.InvT-loop
-Inv-loop script replies₀ end holder₀ done₀ replies holder done = Stands script replies₀ holder done replies
+Inv-loop script replies₀ end holder₀ done₀ replies holder done = Underway script replies₀ holder done replies
 
 abbrev μ-loop : tie.MeasureT-loop
 μ-loop script replies₀ end holder₀ done₀ replies holder done = end - done
@@ -30,7 +30,7 @@ fresh-requires : tie.Need-fresh-requires Inv-loop μ-loop
 fresh-requires c κs = search needs
 
 loop-holds : tie.Need-loop-holds Inv-loop μ-loop
-loop-holds c = stands-first _ _ _ (c .fresh .ensures)
+loop-holds c = underway-first _ _ _ (c .fresh .ensures)
 
 mul-at : tie.Need-mul-at Inv-loop μ-loop
 mul-at c = omega (arith, bytes c)
@@ -79,7 +79,7 @@ returns c =
     let t = c .before .before .before .before .before .before .before .before in
     let st = t .before .loop .inv in
     let z = stops-at-none _ _ _ _ _ st (bytes t) _ (c .before .before .decode .ensures) (c .enum-told .given .1) in
-    (stands-count _ _ _ _ _ st z, stands-list _ _ _ _ _ st z)
+    (underway-count _ _ _ _ _ st z, underway-list _ _ _ _ _ st z)
 
 answer-requires : tie.Need-answer-requires Inv-loop μ-loop
 answer-requires c κs = search needs
@@ -114,7 +114,7 @@ loop-less c = omega (arith, c .before .before .before .before .before .before .b
 loop-again : tie.Need-loop-again Inv-loop μ-loop
 loop-again c =
     let t = c .before .before .before .before .before .before .before .before .before .before .before .before .before .before .before .before in
-    stands-written _ _ _ _ _ (t .before .loop .inv) _ (bytes t) (room t) _ (c .before .before .before .before .before .before .before .before .before .before .decode .ensures) (c .before .before .before .before .before .before .before .before .decoded .given .1) _ _ _ (c .before .before .before .before .before .before .answer .ensures) (c .before .before .before .before .before .of-reply .ensures) (c .before .before .before .write .ensures .1)
+    underway-written _ _ _ _ _ (t .before .loop .inv) _ (bytes t) (room t) _ (c .before .before .before .before .before .before .before .before .before .before .decode .ensures) (c .before .before .before .before .before .before .before .before .decoded .given .1) _ _ _ (c .before .before .before .before .before .before .answer .ensures) (c .before .before .before .before .before .of-reply .ensures) (c .before .before .before .write .ensures .1)
 
 same-length-2 : tie.Need-same-length-2 Inv-loop μ-loop
 same-length-2 c = c .before .loop .inv .same-length
@@ -123,7 +123,7 @@ returns-2 : tie.Need-returns-2 Inv-loop μ-loop
 returns-2 c =
     let st = c .before .loop .inv in
     let z = stops-at-end _ _ _ _ _ st _ (c .before .before .before .most .ensures) (c .loop-test .left) in
-    (stands-count _ _ _ _ _ st z, stands-list _ _ _ _ _ st z)
+    (underway-count _ _ _ _ _ st z, underway-list _ _ _ _ _ st z)
 
 pub replay-spec : {M : Type 1} → statement M
 replay-spec =

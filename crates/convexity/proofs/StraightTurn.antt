@@ -11,7 +11,7 @@ use Rattle.lattice.proofs.WalkLaws.{Walked}
 use Rattle.convexity.specs.Frame.{frameOf}
 use Rattle.convexity.specs.Cut.{before, cutCorner, cut, clockwise}
 use Rattle.convexity.specs.Pieces.{piece, word, backStepPiece}
-use Rattle.convexity.specs.Quadrant.{spell, startE, startL}
+use Rattle.convexity.specs.InFrame.{spell, startE, startL}
 use Rattle.convexity.proofs.Ring.{next}
 
 -- A walk that passes refusals 1 to 6 and begins at W, the first corner of piece 1

@@ -32,9 +32,9 @@ pub record Drafted (d : Draft) (o : Outline) : Type 0 where
   pub outline : outlineOf (d .kept) ≡ o
   pub fits : d .kept .count ≤ longest
 
-abbrev pub StandsForDraft : Draft → Option Outline → Type 0
-StandsForDraft d none = d .begun ≡ false
-StandsForDraft d (some o) = Drafted d o
+abbrev pub RepresentsDraft : Draft → Option Outline → Type 0
+RepresentsDraft d none = d .begun ≡ false
+RepresentsDraft d (some o) = Drafted d o
 
 -- A work that keeps this outline, which was taken, with its anchor and its edges
 pub record Working (w : Work) (o : Outline) : Type 0 where
@@ -45,22 +45,22 @@ pub record Working (w : Work) (o : Outline) : Type 0 where
   pub reaches : Reaches o
   pub undented : dentPiece (reading o) ≡ 4
 
-abbrev pub StandsForWork : Work → Option Outline → Type 0
-StandsForWork w none = w .taken ≡ false
-StandsForWork w (some o) = Working w o
+abbrev pub RepresentsWork : Work → Option Outline → Type 0
+RepresentsWork w none = w .taken ≡ false
+RepresentsWork w (some o) = Working w o
 
-pub record Stands (h : Holder) (b : Book) : Type 0 where
+pub record Represents (h : Holder) (b : Book) : Type 0 where
   pub space : length (draftOf h .kept .letters) ≡ longest
-  pub draft : StandsForDraft (draftOf h) (drafted b)
-  pub work : StandsForWork (workOf h) (atWork b)
+  pub draft : RepresentsDraft (draftOf h) (drafted b)
+  pub work : RepresentsWork (workOf h) (atWork b)
 
 -- A call's answer is the book's, and the next holder stands for the next book
 abbrev pub Agrees : Answered → Answer → Type 0
-Agrees a n = (a .reply ≡ n .reply) × Stands (a .holder) (n .next)
+Agrees a n = (a .reply ≡ n .reply) × Represents (a .holder) (n .next)
 
-pub stands-fresh : Stands freshHolder fresh
+pub represents-fresh : Represents freshHolder fresh
 unfolding freshHolder noDraft noWork noneKept fresh
-stands-fresh = record { space = length-replicate {A = ℕ} longest 0; draft = refl; work = refl }
+represents-fresh = record { space = length-replicate {A = ℕ} longest 0; draft = refl; work = refl }
 
 -- ---- tests: the holder's flag is known, or both sides test the same
 
@@ -78,11 +78,11 @@ agrees-either false k l = l refl
 
 -- ---- begin
 
-pub begin-agrees : {h : Holder} {b : Book} → Stands h b → (s : Point) → Agrees (beginOf h s) (begins b s (drafted b))
+pub begin-agrees : {h : Holder} {b : Book} → Represents h b → (s : Point) → Agrees (beginOf h s) (begins b s (drafted b))
 unfolding beginOf begins begunAt outlineOf
 begin-agrees {h} {b} k s = go (drafted b) (k .draft)
   where
-    go : (o : Option Outline) → StandsForDraft (draftOf h) o → Agrees (beginOf h s) (begins b s o)
+    go : (o : Option Outline) → RepresentsDraft (draftOf h) o → Agrees (beginOf h s) (begins b s o)
     go none e =
         agrees-false (draftOf h .begun) _ _ e
         (agrees-either (badStart s) (refl, k) λ on.
@@ -106,11 +106,11 @@ drafted-more d o a space k room =
     let then : min (d .kept .count + 1) longest ≡ suc (d .kept .count) = omega arith in
     rw (sym (k .outline), now, then, take-suc-set (d .kept .letters) (d .kept .count) a (omega arith))
 
-pub add-agrees : {h : Holder} {b : Book} → Stands h b → (a : ℕ) → Agrees (addOf h a) (adds b a (drafted b))
+pub add-agrees : {h : Holder} {b : Book} → Represents h b → (a : ℕ) → Agrees (addOf h a) (adds b a (drafted b))
 unfolding addOf adds lengthened
 add-agrees {h} {b} k a = go (drafted b) (k .draft)
   where
-    go : (o : Option Outline) → StandsForDraft (draftOf h) o → Agrees (addOf h a) (adds b a o)
+    go : (o : Option Outline) → RepresentsDraft (draftOf h) o → Agrees (addOf h a) (adds b a o)
     go none e = agrees-false (draftOf h .begun) _ _ e (refl, k)
     go (some o) d =
         let count : length (o .letters) ≡ draftOf h .kept .count = drafted-length (draftOf h) o (k .space) d in
@@ -133,16 +133,16 @@ add-agrees {h} {b} k a = go (drafted b) (k .draft)
 
 -- ---- drop
 
-pub drop-agrees : {h : Holder} {b : Book} → Stands h b → Agrees (dropOf h) (drops b (drafted b))
+pub drop-agrees : {h : Holder} {b : Book} → Represents h b → Agrees (dropOf h) (drops b (drafted b))
 unfolding dropOf drops ended
 drop-agrees {h} {b} k = go (drafted b) (k .draft)
   where
-    go : (o : Option Outline) → StandsForDraft (draftOf h) o → Agrees (dropOf h) (drops b o)
+    go : (o : Option Outline) → RepresentsDraft (draftOf h) o → Agrees (dropOf h) (drops b o)
     go none e = agrees-false (draftOf h .begun) _ _ e (refl, k)
     go (some o) d = agrees-true (draftOf h .begun) _ _ (d .begun) (refl, record { space = k .space; draft = refl; work = k .work })
 
 -- ---- clear
 
-pub clear-agrees : {h : Holder} {b : Book} → Stands h b → Agrees (clearOf h) (answer b Clear)
+pub clear-agrees : {h : Holder} {b : Book} → Represents h b → Agrees (clearOf h) (answer b Clear)
 unfolding clearOf answer removed
 clear-agrees k = (refl, record { space = k .space; draft = k .draft; work = refl })
