@@ -1,4 +1,4 @@
--- Where the border is cut: W, N, E and S, and the five cut places (contract 3.1 to 3.3; source 002, section 3.2).
+-- Where the border is cut: W, N, E and S, and the five cut places (contract 3.1 to 3.3).
 use Prim.Native.Nat.{ℕ, zero, suc, _+_, _-_}
 use mathlib.Core.Bool.{Bool, cond, _&&_, _||_}
 use lib.Dec.{leb, ltb, eqb}

@@ -1,4 +1,4 @@
--- Christoffel words by remainders (contract 3.10; source 000, section 3.2).
+-- Christoffel words by remainders (contract 3.10).
 use Prim.Native.Nat.{ℕ, suc, _+_, _-_, _*_, _%_, _<_, _≤_}
 use mathlib.Core.Path.{_≡_}
 use mathlib.Core.Logic.{_↔_}

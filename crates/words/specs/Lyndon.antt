@@ -1,4 +1,4 @@
--- Lyndon words, and a word written as strictly falling Lyndon words with repeats (contract 3.8 and 3.9; source 000, Theorem 2).
+-- Lyndon words, and a word written as strictly falling Lyndon words with repeats (contract 3.8 and 3.9; the theorem of Chen, Fox and Lyndon).
 use Prim.Native.Nat.{ℕ, zero, suc, _<_}
 use mathlib.Core.Path.{_≡_}
 use mathlib.Core.Bool.{Bool, true, false}

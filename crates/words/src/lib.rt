@@ -22,7 +22,7 @@ fn rank(letter: u8, later: u8) -> usize
     if letter == later { 1 } else { 0 }
 }
 
-// The first factor (contract 3.9) of what follows `from`, in one pass (source 000, Algorithm 1); all 0 where nothing follows.
+// The first factor (contract 3.9) of what follows `from`, in one pass (Duval); all 0 where nothing follows.
 pub fn first_factor(w: &[u8], from: usize, later: u8) -> Found
     ensures { λ r. ⌜ r ≡ firstOf (factorsOf (wordOf later (drop from (now (w .entry))))) ⌝ }
 {
@@ -73,7 +73,7 @@ fn next_remainder(rem: usize, k: usize, n: usize) -> usize
     if rem < left { rem + k } else { rem - left }
 }
 
-// Whether the letters follow the remainders of i·k by the length (source 000, Algorithm 2, over all letters).
+// Whether the letters follow the remainders of i·k by the length (Brlek, Lachaud, Provençal and Reutenauer, over all letters).
 fn follows_remainders(w: &[u8], k: usize, later: u8) -> bool
     requires { ⌜ (0 < length (now w)) × (k ≤ length (now w)) ⌝ }
     ensures { λ r. ⌜ r ≡ (coprime k (length (now (w .entry))) && remainders (wordOf later (now (w .entry))) k (length (now (w .entry)))) ⌝ }
