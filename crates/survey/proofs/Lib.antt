@@ -1,3 +1,4 @@
 -- The laws of each check; then the first that applies.
 pub mod CheckLaws
+pub mod TouchingLaws
 pub mod SurveyLaws

@@ -1,2 +1,3 @@
--- Refusals 1 to 6 as one answer.
+-- Refusals 1 to 6 as one answer; corners as numbers.
 pub mod Survey
+pub mod Numbers

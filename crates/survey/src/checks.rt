@@ -6,10 +6,9 @@ use chart::SIDE;
 use lattice::walk;
 ghost use mathlib.Core.Path.{_≡_};
 ghost use mathlib.Core.Bool.{false};
-ghost use Prim.Native.Nat.{ℕ, _+_, _*_};
-ghost use lib.ListN.{length, getD};
 ghost use Rattle.chart.specs.Outline.{outline};
 ghost use Rattle.lattice.specs.Refusals.{badCount, badStart, letterPlace, leavingPlace, Stays, unclosed as ends-away, touchingPlace};
+ghost use Rattle.survey.specs.Numbers.{numberOf, strideOf};
 
 // 1. Too few or too many letters.
 pub(crate) fn bad_count(w: &[u8]) -> bool
@@ -70,16 +69,22 @@ pub(crate) fn unclosed(s: Point, w: &[u8]) -> bool
 
 // The number of a corner: the chart's, row by row, are below 65,536.
 fn number(p: Point) -> usize
-    ensures { λ r. ⌜ r ≡ p .row * 256 + p .col ⌝ }
+    ensures { λ r. ⌜ r ≡ numberOf p ⌝ }
 {
     (p.row as usize) * 256 + (p.col as usize)
 }
 
-// A flag for each corner of the chart, none of them set.
-fn unmarked() -> [u8; 65536]
-    ensures { λ r. ⌜ (length r ≡ 65536) × ((k : ℕ) → getD r k 0 ≡ 0) ⌝ }
+// What a letter adds to the number of a corner, by sums modulo 65,536.
+fn stride(letter: u8) -> usize
+    ensures { λ r. ⌜ r ≡ strideOf letter ⌝ }
 {
-    [0; 65536]
+    match letter {
+        0 => 1,
+        1 => 256,
+        2 => 65535,
+        3 => 65280,
+        _ => 0,
+    }
 }
 
 // 6. The place of the first letter, the last left out, that reaches a corner already met.
@@ -89,18 +94,15 @@ pub(crate) fn touching_place(s: Point, w: &[u8]) -> usize
     if bad_start(s) {
         return 0;
     }
-    let mut met = unmarked();
-    let start = number(s);
-    met[start] = 1;
-    let mut p = s;
+    let mut met = flags::none();
+    let mut k = number(s);
+    flags::mark(&mut met, k);
     let mut i = 0;
     while i + 1 < w.len() {
-        p = walk::step(p, w[i]);
-        let k = number(p);
-        if met[k] == 1 {
+        k = (k + stride(w[i])) % 65536;
+        if flags::mark(&mut met, k) {
             return i;
         }
-        met[k] = 1;
         i += 1;
     }
     i

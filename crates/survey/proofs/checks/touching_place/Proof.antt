@@ -1,31 +1,26 @@
--- The loop's invariant: the corner in hand is on the chart, and where no letter leaves the chart it is
--- the walk's, no letter so far met a corner, and the flags that are set are those of the corners so far. The measure is what is left of the letters.
+-- The loop's invariant: the number in hand is below 65,536, and where no letter leaves the chart it is that of the walk's
+-- corner, no letter so far met a corner, and the set holds the corners so far. The measure is what is left of the letters.
 use Prim.Native.Nat.{_-_, _<_}
 use mathlib.Core.Path.{sym, _∙_}
 use mathlib.Core.Bool.{true≢false}
 use native.Mathlib.Omega.{arith}
-use lib.ListN.{length}
+use lib.ListN.{length, getD}
 use borrow.Author.Needs.{needs}
-use Rattle.chart.specs.Outline.{outline}
-use Rattle.lattice.proofs.WalkLaws.{OnChart}
-use Rattle.lattice.proofs.WalkCode.{stepped-on-chart, start-on-chart}
-use Rattle.survey.proofs.CheckLaws.{Touching, touching-zero, touching-more, touching-found, touching-end, number-below}
+use Rattle.lattice.proofs.WalkCode.{start-on-chart}
+use Rattle.survey.proofs.TouchingLaws.{Touching, touching-zero, touching-more, touching-found, touching-end, number-below, stride-below}
 use Rattle.survey.proofs.checks.touching_place.Statement.{statement}
 use Rattle.survey.proofs.checks.touching_place.Tie as tie
 
 abbrev Inv-loop : tie.InvT-loop
-Inv-loop w met₀ start p₀ i₀ met p i = Touching (outline p₀ w) i p met
+Inv-loop w met₀ k₀ i₀ met k i = Touching w k₀ i k met
 
 abbrev μ-loop : tie.MeasureT-loop
-μ-loop w met₀ start p₀ i₀ met p i = length w - i
+μ-loop w met₀ k₀ i₀ met k i = length w - i
 
--- Past the `if` the start is on the chart
-start : (c : tie.Else1 Inv-loop μ-loop) → OnChart (c .before .before .before .args .s)
-start c = start-on-chart _ (sym (c .before .bad-start .ensures) ∙ c .if1 .left)
-
--- So is the corner that a letter reaches, whose number is below 65,536
-reached : (c : tie.After-number2 Inv-loop μ-loop) → c .number2 .result < 65536
-reached c = rw (c .number2 .ensures) (number-below _ (rw (c .before .step .ensures) (stepped-on-chart _ _ (c .before .before .before .before .loop .inv .chart))))
+-- Past the `if` the start is on the chart, so its number is below 65,536
+start-below : (c : tie.After-number Inv-loop μ-loop) → c .number .result < 65536
+start-below c =
+    rw (c .number .ensures) (number-below _ (start-on-chart _ (sym (c .before .before .before .bad-start .ensures) ∙ c .before .before .if1 .left)))
 
 bad-start-requires : tie.Need-bad-start-requires Inv-loop μ-loop
 bad-start-requires c κs = search needs
@@ -33,54 +28,50 @@ bad-start-requires c κs = search needs
 returns : tie.Need-returns Inv-loop μ-loop
 returns c = λ a h. absurd (true≢false (sym (c .if1 .taken) ∙ c .before .bad-start .ensures ∙ a))
 
-unmarked-requires : tie.Need-unmarked-requires Inv-loop μ-loop
-unmarked-requires c κs = search needs
+none-requires : tie.Need-none-requires Inv-loop μ-loop
+none-requires c κs = search needs
 
 number-requires : tie.Need-number-requires Inv-loop μ-loop
 number-requires c κs = search needs
 
-array-write-met : tie.Need-array-write-met Inv-loop μ-loop
-array-write-met c = rw (c .number .ensures) (number-below _ (start (c .before .before)))
+mark-requires : tie.Need-mark-requires Inv-loop μ-loop
+mark-requires c κs = search needs
 
 loop-holds : tie.Need-loop-holds Inv-loop μ-loop
-loop-holds c =
-    rw (c .number .ensures) (touching-zero _ (c .before .unmarked .result) (c .before .unmarked .ensures .0) (c .before .unmarked .ensures .1) (start (c .before .before)))
+loop-holds c = rw (c .mark .ensures .1, c .before .before .before .none .ensures) (touching-zero _ _ (start-below (c .before .before)))
 
 add-loop : tie.Need-add-loop Inv-loop μ-loop
 add-loop c = omega (arith, c .loop .inv .le)
 
-shared-slice-read-step : tie.Need-shared-slice-read-step Inv-loop μ-loop
-shared-slice-read-step c = omega arith
+shared-slice-read-stride : tie.Need-shared-slice-read-stride Inv-loop μ-loop
+shared-slice-read-stride c = omega arith
 
-step-requires : tie.Need-step-requires Inv-loop μ-loop
-step-requires c κs = search needs
+stride-requires : tie.Need-stride-requires Inv-loop μ-loop
+stride-requires c κs = search needs
 
-number-requires-2 : tie.Need-number-requires-2 Inv-loop μ-loop
-number-requires-2 c κs = search needs
+add-k : tie.Need-add-k Inv-loop μ-loop
+add-k c = omega (arith, c .before .before .before .loop .inv .below, c .stride .ensures, stride-below (getD (c .before .before .before .before .before .before .before .before .before .before .before .args .w .now) (c .before .before .before .loop .i) 0))
 
-array-read-if2 : tie.Need-array-read-if2 Inv-loop μ-loop
-array-read-if2 c = reached c
+mark-requires-2 : tie.Need-mark-requires-2 Inv-loop μ-loop
+mark-requires-2 c κs = search needs
 
 returns-2 : tie.Need-returns-2 Inv-loop μ-loop
 returns-2 c = λ a h.
-    touching-found _ _ _ _ _ (c .before .before .before .before .before .loop .inv) (c .before .before .before .before .loop-test .taken) (c .before .before .step .ensures) (rw (c .before .number2 .ensures) at (c .if2 .taken)) h
-
-array-write-met-2 : tie.Need-array-write-met-2 Inv-loop μ-loop
-array-write-met-2 c = reached (c .before)
+    touching-found _ _ _ _ _ _ _ (c .before .before .before .before .before .before .loop .inv) (c .before .before .before .before .before .loop-test .taken) (c .before .before .before .stride .ensures) (c .before .mark2 .ensures .0) _ (c .if2 .taken) record { chart = start-on-chart _ a; number = c .before .before .before .before .before .before .before .before .before .number .ensures; stays = h }
 
 add-i : tie.Need-add-i Inv-loop μ-loop
-add-i c = omega (arith, c .before .before .before .before .loop-test .taken)
+add-i c = omega (arith, c .before .before .before .before .before .loop-test .taken)
 
 loop-less : tie.Need-loop-less Inv-loop μ-loop
-loop-less c = omega (arith, c .before .before .before .before .loop-test .taken)
+loop-less c = omega (arith, c .before .before .before .before .before .loop-test .taken)
 
 loop-again : tie.Need-loop-again Inv-loop μ-loop
 loop-again c =
-    rw (c .before .number2 .ensures)
-    (touching-more _ _ _ _ _ (c .before .before .before .before .before .loop .inv) (c .before .before .before .before .loop-test .taken) (c .before .before .step .ensures) (rw (c .before .number2 .ensures) at (c .if2 .left)))
+    rw (c .before .mark2 .ensures .1)
+    (touching-more _ _ _ _ _ _ _ (c .before .before .before .before .before .before .loop .inv) (c .before .before .before .before .before .loop-test .taken) (c .before .before .before .stride .ensures) (c .before .mark2 .ensures .0) (c .if2 .left))
 
 returns-3 : tie.Need-returns-3 Inv-loop μ-loop
-returns-3 c = λ a h. touching-end _ _ _ _ (c .before .loop .inv) (c .loop-test .left) h
+returns-3 c = λ a h. touching-end _ _ _ _ _ _ (c .before .loop .inv) (c .loop-test .left) record { chart = start-on-chart _ a; number = c .before .before .before .before .number .ensures; stays = h }
 
 pub touching-place-spec : {M : Type 1} → statement M
 touching-place-spec =
@@ -90,17 +81,16 @@ touching-place-spec =
     μ-loop
     bad-start-requires
     returns
-    unmarked-requires
+    none-requires
     number-requires
-    array-write-met
+    mark-requires
     loop-holds
     add-loop
-    shared-slice-read-step
-    step-requires
-    number-requires-2
-    array-read-if2
+    shared-slice-read-stride
+    stride-requires
+    add-k
+    mark-requires-2
     returns-2
-    array-write-met-2
     add-i
     loop-less
     loop-again

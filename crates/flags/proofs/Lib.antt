@@ -1,0 +1,2 @@
+-- The laws of the set.
+pub mod FlagLaws
