@@ -73,7 +73,7 @@ enum { RQ_NO_WORD = 0, RQ_INSIDE = 1, RQ_OUTSIDE = 2, RQ_TAKEN = 3, RQ_SAME = 4 
  *
  * False, with nothing altered, if k is below RQ_REPLY. Else true; the reply stands first in `reply`, the rest is unaltered.
  *
- * Stack: about 69,600 bytes.
+ * Stack: about 12,300 bytes.
  */
 bool rq_test(uint16_t col, uint16_t row, const uint8_t *letters, size_t n, int16_t *edges, size_t m, uint16_t *reply, size_t k);
 
@@ -108,7 +108,7 @@ bool rq_loose_query(uint16_t anchor_col, uint16_t anchor_row, const int16_t *edg
  * The run ends before a call with a number above 5, before one that the script's end cuts, and before one whose reply has no room in
  * the k numbers of `replies`. Returns how many replies were written; what stands behind them is unaltered.
  *
- * Stack: about 76,000 bytes.
+ * Stack: about 18,600 bytes.
  */
 size_t rq_replay(const uint8_t *script, size_t n, uint16_t *replies, size_t k);
 

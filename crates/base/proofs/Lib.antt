@@ -1,5 +1,6 @@
--- Laws of the tests below a bound; sizes of integers; weighted means; weights of lists without repeats.
+-- Laws of the tests below a bound; sizes and order of integers; weighted means; weights of lists without repeats.
 pub mod BelowLaws
 pub mod Sizes
+pub mod IntegerOrder
 pub mod Mean
 pub mod Weights

@@ -24,7 +24,8 @@ use Rattle.convexity.proofs.StraightTurn.{NoBackStep}
 use Rattle.convexity.proofs.Shape.{shape}
 use Rattle.convexity.proofs.Smooth.{smooth-edges}
 use Rattle.convexity.proofs.Bounds.{edges-length}
-use Rattle.convexity.proofs.Signed.{up, down, Is, is-self, is-unique, is-neg, is-add, is-mul, le-iff, Counted, Lies, stepCols, stepRows, step-lies}
+use Rattle.base.proofs.IntegerOrder.{up, down}
+use Rattle.convexity.proofs.Signed.{Is, is-self, is-unique, is-neg, is-add, is-mul, le-iff, Counted, Lies, stepCols, stepRows, step-lies}
 use Rattle.convexity.proofs.AsSent.{clear-of}
 
 -- ---- two directions as differences of naturals

@@ -9,6 +9,7 @@ use mathlib.Core.Logic.{_↔_, Iff·rfl, Iff·trans, Iff·and, _⊎_, inl, inr, 
 use mathlib.Core.Bool.{Bool, true, false, cond, and-eq-true-iff}
 use mathlib.Core.List.{List, [], _∷_, _++_}
 use lib.IntN.{ℤ, pos, _+ℤ_, +ℤ-assoc, +ℤ-idr}
+use lib.Signed.{leZ}
 use Rattle.words.specs.Word.{earliers, laters}
 use Rattle.words.specs.Lyndon.{Factor, copies, written}
 use Rattle.words.proofs.Factors.{factors-exist}
@@ -20,12 +21,13 @@ use Rattle.lattice.specs.Chart.{walk, cornerAt}
 use Rattle.convexity.specs.Frame.{Frame, frameOf, along}
 use Rattle.convexity.specs.Cut.{cut}
 use Rattle.convexity.specs.Pieces.{word, factors, edgesOf, edges}
-use Rattle.convexity.specs.Inside.{leℤ, minℤ, maxℤ, noneOutside, colSteps, rowSteps, lowestMet, highestMet, within, insideEdges}
+use Rattle.convexity.specs.Inside.{minℤ, maxℤ, noneOutside, colSteps, rowSteps, lowestMet, highestMet, within, insideEdges}
 use Rattle.convexity.proofs.Frame.{Sides, run, rise}
 use Rattle.convexity.specs.InFrame.{startOf, startE, startL, cellAlong, cellE, cellL}
 use Rattle.convexity.proofs.Ring.{next, next-lt, next-suc, next-round, below-four, all-round}
 use Rattle.convexity.proofs.StraightTurn.{Shape}
-use Rattle.convexity.proofs.Signed.{up, down, is-self, is-add, is-unique, le-iff, Counted, Lies, Placed, placed-cell, lies-next, stepCols, stepRows, step-lies, lies-step, reached, lies-end, lies-sides, none-outside-append, cols-append, rows-append, reached-append}
+use Rattle.base.proofs.IntegerOrder.{up, down}
+use Rattle.convexity.proofs.Signed.{is-self, is-add, is-unique, le-iff, Counted, Lies, Placed, placed-cell, lies-next, stepCols, stepRows, step-lies, lies-step, reached, lies-end, lies-sides, none-outside-append, cols-append, rows-append, reached-append}
 
 -- ---- the vertices of a walk
 
@@ -35,29 +37,29 @@ Meets P [] x y = P x y
 Meets P (dx ∷ []) x y = P x y
 Meets P (dx ∷ dy ∷ es) x y = P x y ⊎ Meets P es (x +ℤ dx) (y +ℤ dy)
 
-le-true : (a b : ℤ) → (leℤ a b ≡ true) ↔ (up a + down b ≤ up b + down a)
+le-true : (a b : ℤ) → (leZ a b ≡ true) ↔ (up a + down b ≤ up b + down a)
 le-true a b = le-iff (is-self a) (is-self b)
 
-le-false : (a b : ℤ) → leℤ a b ≡ false → up b + down a ≤ up a + down b
+le-false : (a b : ℤ) → leZ a b ≡ false → up b + down a ≤ up a + down b
 le-false a b e =
     elim (decLe (up a + down b) (up b + down a)) [
       | yes h ↦ absurd (let f = le-true a b .1 h in let z : _≡_ {A = ℕ} 0 1 = cc in omega arith)
       | no h ↦ omega arith
     ]
 
-min-iff : (a b c : ℤ) → (leℤ (minℤ a b) c ≡ true) ↔ ((leℤ a c ≡ true) ⊎ (leℤ b c ≡ true))
+min-iff : (a b c : ℤ) → (leZ (minℤ a b) c ≡ true) ↔ ((leZ a c ≡ true) ⊎ (leZ b c ≡ true))
 unfolding minℤ
-min-iff a b c = go (leℤ a b) refl
+min-iff a b c = go (leZ a b) refl
   where
-    go : (t : Bool) → leℤ a b ≡ t → (leℤ (cond t a b) c ≡ true) ↔ ((leℤ a c ≡ true) ⊎ (leℤ b c ≡ true))
+    go : (t : Bool) → leZ a b ≡ t → (leZ (cond t a b) c ≡ true) ↔ ((leZ a c ≡ true) ⊎ (leZ b c ≡ true))
     go true e = (inl, ⊎-elim (λ h. h) λ h. le-true a c .1 (omega (arith, le-true a b .0 e, le-true b c .0 h)))
     go false e = (inr, ⊎-elim (λ h. le-true b c .1 (omega (arith, le-false a b e, le-true a c .0 h))) λ h. h)
 
-max-iff : (a b c : ℤ) → (leℤ c (maxℤ a b) ≡ true) ↔ ((leℤ c a ≡ true) ⊎ (leℤ c b ≡ true))
+max-iff : (a b c : ℤ) → (leZ c (maxℤ a b) ≡ true) ↔ ((leZ c a ≡ true) ⊎ (leZ c b ≡ true))
 unfolding maxℤ
-max-iff a b c = go (leℤ a b) refl
+max-iff a b c = go (leZ a b) refl
   where
-    go : (t : Bool) → leℤ a b ≡ t → (leℤ c (cond t b a) ≡ true) ↔ ((leℤ c a ≡ true) ⊎ (leℤ c b ≡ true))
+    go : (t : Bool) → leZ a b ≡ t → (leZ c (cond t b a) ≡ true) ↔ ((leZ c a ≡ true) ⊎ (leZ c b ≡ true))
     go true e = (inr, ⊎-elim (λ h. le-true c b .1 (omega (arith, le-true a b .0 e, le-true c a .0 h))) λ h. h)
     go false e = (inl, ⊎-elim (λ h. h) λ h. le-true c a .1 (omega (arith, le-false a b e, le-true c b .0 h)))
 
@@ -73,10 +75,10 @@ or-assoc f = (
 -- The test of the walk's extreme along the earlier letter of frame k: its lowest column is at most that of the cell x, its highest row at least that of x,
 -- its highest column at least, its lowest row at most. With no edges it is a test of one vertex
 unfoldable spans : ℕ → Point → List ℤ → ℤ → ℤ → Bool
-spans zero x es v w = leℤ (lowestMet (colSteps es) v) (pos (x .col))
-spans (suc zero) x es v w = leℤ (pos (x .row)) (highestMet (rowSteps es) w)
-spans (suc (suc zero)) x es v w = leℤ (pos (x .col)) (highestMet (colSteps es) v)
-spans (suc (suc (suc k))) x es v w = leℤ (lowestMet (rowSteps es) w) (pos (x .row))
+spans zero x es v w = leZ (lowestMet (colSteps es) v) (pos (x .col))
+spans (suc zero) x es v w = leZ (pos (x .row)) (highestMet (rowSteps es) w)
+spans (suc (suc zero)) x es v w = leZ (pos (x .col)) (highestMet (colSteps es) v)
+spans (suc (suc (suc k))) x es v w = leZ (lowestMet (rowSteps es) w) (pos (x .row))
 
 -- What an edge more adds by one vertex, the walk has where some vertex has it
 meets-iff :

@@ -8,7 +8,9 @@ use mathlib.Core.Bool.{Bool, true, false, cond, _&&_, and-eq-true-iff, and-assoc
 use mathlib.Core.List.{List, [], _∷_, _++_}
 use lib.Dec.{ltb}
 use lib.IntN.{ℤ, pos, negsuc, negℤ, subℕ, _+ℤ_, _-ℤ_, _*ℤ_}
-use borrow.Author.Tests.{ltb-true, ltb-false}
+use borrow.Author.Tests.{ltb-true, ltb-false, leb-true, le-leb}
+use lib.Signed.{leZ}
+use Rattle.base.proofs.IntegerOrder.{up, down, le-parts}
 use Rattle.words.specs.Word.{Word, earliers, laters}
 use Rattle.words.specs.Lyndon.{Factor, copies, written}
 use Rattle.words.proofs.Counts.{earliers-append, laters-append, earliers-copies, laters-copies}
@@ -16,21 +18,12 @@ use Rattle.chart.specs.declared.Point.{Point}
 use Rattle.chart.specs.Limits.{side}
 use Rattle.convexity.specs.Frame.{Frame, frameOf}
 use Rattle.convexity.specs.Pieces.{edgesOf}
-use Rattle.convexity.specs.Inside.{notNegative, leℤ, sideValue, noneOutside, colSteps, rowSteps}
+use Rattle.convexity.specs.Inside.{notNegative, sideValue, noneOutside, colSteps, rowSteps}
 use Rattle.convexity.proofs.Frame.{Sides, run, rise}
 use Rattle.convexity.specs.InFrame.{cellAlong, cellE, cellL}
 use Rattle.convexity.proofs.Ring.{next}
 
 -- ---- integers as differences
-
--- An integer is its part above 0 less its part below 0
-abbrev pub up : ℤ → ℕ
-up (pos n) = n
-up (negsuc n) = 0
-
-abbrev pub down : ℤ → ℕ
-down (pos n) = 0
-down (negsuc n) = suc n
 
 -- z is a - b
 pub record Is (z : ℤ) (a b : ℕ) : Type 0 where
@@ -87,9 +80,11 @@ unfolding notNegative
 not-negative-iff {z = pos n} h = ((λ e. omega arith), λ l. refl)
 not-negative-iff {z = negsuc n} h = ((λ e. absurd (let w : _≡_ {A = ℕ} 0 1 = cc in omega arith)), λ l. absurd (omega arith))
 
-pub le-iff : {x y : ℤ} {a b c d : ℕ} → Is x a b → Is y c d → (leℤ x y ≡ true) ↔ (a + d ≤ c + b)
-unfolding leℤ
-le-iff h k = Iff·trans (not-negative-iff (is-minus k h)) ((λ l. omega arith), λ l. omega arith)
+pub le-iff : {x y : ℤ} {a b c d : ℕ} → Is x a b → Is y c d → (leZ x y ≡ true) ↔ (a + d ≤ c + b)
+le-iff {x} {y} h k = (
+  λ e. omega (arith, leb-true (up x + down y) (up y + down x) (sym (le-parts x y) ∙ e), h .eq, k .eq),
+  λ l. le-parts x y ∙ le-leb (up x + down y) (up y + down x) (omega (arith, h .eq, k .eq)),
+)
 
 -- The same for two integers at once
 is-add-both :

@@ -5,7 +5,7 @@ use mathlib.Core.Bool.{true}
 use mathlib.Core.List.{List}
 use lib.ListN.{getD}
 use lib.IntN.{ℤ, pos, _+ℤ_, _*ℤ_}
-use Rattle.convexity.specs.Inside.{leℤ}
+use lib.Signed.{leZ}
 
 -- The columns and the rows of edge i
 unfoldable pub edgeCols : List ℤ → ℕ → ℤ
@@ -17,4 +17,4 @@ edgeRows es i = getD es (2 * i + 1) (pos 0)
 -- (dx, dy) and (ex, ey) are parallel, and not opposite: their scalar product is above 0
 pub record SameDirection (dx dy ex ey : ℤ) : Type 0 where
   pub parallel : dx *ℤ ey ≡ dy *ℤ ex
-  pub forward : leℤ (pos 1) (dx *ℤ ex +ℤ dy *ℤ ey) ≡ true
+  pub forward : leZ (pos 1) (dx *ℤ ex +ℤ dy *ℤ ey) ≡ true

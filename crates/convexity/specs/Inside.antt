@@ -2,21 +2,18 @@
 use mathlib.Core.Bool.{Bool, true, false, cond, _&&_}
 use mathlib.Core.List.{List, [], _∷_}
 use lib.IntN.{ℤ, pos, negsuc, _+ℤ_, _-ℤ_, _*ℤ_}
+use lib.Signed.{leZ}
 use Rattle.chart.specs.declared.Point.{Point}
 
 unfoldable pub notNegative : ℤ → Bool
 notNegative (pos n) = true
 notNegative (negsuc n) = false
 
--- a ≤ b
-unfoldable pub leℤ : ℤ → ℤ → Bool
-leℤ a b = notNegative (b -ℤ a)
-
 unfoldable pub minℤ : ℤ → ℤ → ℤ
-minℤ a b = cond (leℤ a b) a b
+minℤ a b = cond (leZ a b) a b
 
 unfoldable pub maxℤ : ℤ → ℤ → ℤ
-maxℤ a b = cond (leℤ a b) b a
+maxℤ a b = cond (leZ a b) b a
 
 -- The side value of a cell for an edge (dx, dy) that leaves (x, y)
 unfoldable pub sideValue : ℤ → ℤ → ℤ → ℤ → ℤ → ℤ → ℤ
@@ -49,7 +46,7 @@ highestMet [] x = x
 highestMet (d ∷ ds) x = maxℤ x (highestMet ds (x +ℤ d))
 
 unfoldable pub within : List ℤ → ℤ → ℤ → Bool
-within ds x c = leℤ (lowestMet ds x) c && leℤ c (highestMet ds x)
+within ds x c = leZ (lowestMet ds x) c && leZ c (highestMet ds x)
 
 -- The rule of a loose query: anchor a, edges es, cell (c, r)
 unfoldable pub insideEdges : Point → List ℤ → Point → Bool

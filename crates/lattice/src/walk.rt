@@ -1,4 +1,4 @@
-// One step of a walk. Neither function branches on the letter, which a processor cannot foresee.
+// One step of a walk. Away from the chart's border, where nearly every letter stands, nothing branches on the letter: its step is a sum of comparisons.
 use chart::Point;
 use chart::SIDE;
 ghost use mathlib.Core.Path.{_≡_};

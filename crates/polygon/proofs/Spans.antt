@@ -9,9 +9,10 @@ use mathlib.Core.List.{List, [], _∷_}
 use lib.ListN.{length, drop, getD, length-drop}
 use lib.Seq.{drop-cons}
 use lib.IntN.{ℤ, pos, natAbs, _+ℤ_}
+use lib.Signed.{leZ}
 use Rattle.chart.specs.Limits.{longestList}
 use Rattle.chart.specs.declared.Point.{Point}
-use Rattle.convexity.specs.Inside.{notNegative, leℤ, sideValue, noneOutside, colSteps, rowSteps, lowestMet, highestMet, within, insideEdges}
+use Rattle.convexity.specs.Inside.{notNegative, sideValue, noneOutside, colSteps, rowSteps, lowestMet, highestMet, within, insideEdges}
 use Rattle.polygon.specs.declared.Span.{Span}
 use Rattle.polygon.specs.Span.{begun, stepped, spans}
 use Rattle.base.proofs.Sizes.{size-sum}
@@ -24,19 +25,19 @@ meets : (ℤ → Bool) → List ℤ → ℤ → Bool
 meets f [] x = false
 meets f (d ∷ ds) x = f (x +ℤ d) || meets f ds (x +ℤ d)
 
-lowest-meets : (ds : List ℤ) (x c : ℤ) → leℤ (lowestMet ds x) c ≡ (leℤ x c || meets (λ z. leℤ z c) ds x)
+lowest-meets : (ds : List ℤ) (x c : ℤ) → leZ (lowestMet ds x) c ≡ (leZ x c || meets (λ z. leZ z c) ds x)
 unfolding meets lowestMet
 lowest-meets [] x c = sym (or-false _)
-lowest-meets (d ∷ ds) x c = min-at-most x (lowestMet ds (x +ℤ d)) c ∙ ap (λ (b : Bool). leℤ x c || b) (lowest-meets ds (x +ℤ d) c)
+lowest-meets (d ∷ ds) x c = min-at-most x (lowestMet ds (x +ℤ d)) c ∙ ap (λ (b : Bool). leZ x c || b) (lowest-meets ds (x +ℤ d) c)
 
-highest-meets : (ds : List ℤ) (x c : ℤ) → leℤ c (highestMet ds x) ≡ (leℤ c x || meets (leℤ c) ds x)
+highest-meets : (ds : List ℤ) (x c : ℤ) → leZ c (highestMet ds x) ≡ (leZ c x || meets (leZ c) ds x)
 unfolding meets highestMet
 highest-meets [] x c = sym (or-false _)
-highest-meets (d ∷ ds) x c = max-at-least x (highestMet ds (x +ℤ d)) c ∙ ap (λ (b : Bool). leℤ c x || b) (highest-meets ds (x +ℤ d) c)
+highest-meets (d ∷ ds) x c = max-at-least x (highestMet ds (x +ℤ d)) c ∙ ap (λ (b : Bool). leZ c x || b) (highest-meets ds (x +ℤ d) c)
 
 -- c is within what was met and what is yet to be met
 withinFrom : Span → List ℤ → ℤ → Bool
-withinFrom p ds c = (leℤ (p .low) c || meets (λ z. leℤ z c) ds (p .at)) && (leℤ c (p .high) || meets (leℤ c) ds (p .at))
+withinFrom p ds c = (leZ (p .low) c || meets (λ z. leZ z c) ds (p .at)) && (leZ c (p .high) || meets (leZ c) ds (p .at))
 
 within-begun : (ds : List ℤ) (x c : ℤ) → within ds x c ≡ withinFrom (begun x) ds c
 unfolding within withinFrom begun

@@ -5,12 +5,12 @@ use mathlib.Core.List.{List·Memᴰ}
 use Rattle.chart.specs.Fields.{positionFields}
 use Rattle.chart.specs.Same.{sameFields}
 use Rattle.chart.proofs.Tables.{all, all-at, same-fields}
-use Rattle.convexity.specs.Inside.{notNegative, leℤ, minℤ, maxℤ, sideValue, noneOutside, colSteps, rowSteps, lowestMet, highestMet, within, insideEdges}
+use Rattle.convexity.specs.Inside.{notNegative, minℤ, maxℤ, sideValue, noneOutside, colSteps, rowSteps, lowestMet, highestMet, within, insideEdges}
 use Rattle.polygon.specs.Loose.{badList, badCell, looseOf}
 use Rattle.polygon.specs.Specimens.{Query, queries, answered}
 
 queried : all answered queries ≡ true
-unfolding all answered sameFields queries notNegative leℤ minℤ maxℤ sideValue noneOutside colSteps rowSteps lowestMet highestMet within insideEdges badList badCell looseOf
+unfolding all answered sameFields queries notNegative minℤ maxℤ sideValue noneOutside colSteps rowSteps lowestMet highestMet within insideEdges badList badCell looseOf
 queried = refl
 
 -- The loose queries of H2's and H3's edges, and their refusals

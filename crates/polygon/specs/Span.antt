@@ -1,7 +1,8 @@
 -- One coordinate of a walk of edges, step by step: where the walk stands, and the lowest and the highest number met so far.
 use mathlib.Core.Bool.{Bool, _&&_}
 use lib.IntN.{ℤ, _+ℤ_}
-use Rattle.convexity.specs.Inside.{leℤ, minℤ, maxℤ}
+use lib.Signed.{leZ}
+use Rattle.convexity.specs.Inside.{minℤ, maxℤ}
 use Rattle.polygon.specs.declared.Span.{Span}
 
 unfoldable pub begun : ℤ → Span
@@ -11,4 +12,4 @@ unfoldable pub stepped : Span → ℤ → Span
 stepped s d = record { at = s .at +ℤ d; low = minℤ (s .low) (s .at +ℤ d); high = maxℤ (s .high) (s .at +ℤ d) }
 
 unfoldable pub spans : Span → ℤ → Bool
-spans s c = leℤ (s .low) c && leℤ c (s .high)
+spans s c = leZ (s .low) c && leZ c (s .high)

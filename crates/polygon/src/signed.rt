@@ -1,9 +1,10 @@
 // Signed arithmetic with promises in whole numbers. Callers give the bounds; nothing wraps.
 ghost use mathlib.Core.Path.{_≡_};
 ghost use lib.IntN.{pos, _+ℤ_, _-ℤ_, _*ℤ_};
+ghost use lib.Signed.{leZ};
 ghost use mir.Syntax.{w16, w64};
 ghost use mir.Val.{SFits};
-ghost use Rattle.convexity.specs.Inside.{notNegative as notNegativeℤ, leℤ, minℤ, maxℤ};
+ghost use Rattle.convexity.specs.Inside.{notNegative as notNegativeℤ, minℤ, maxℤ};
 
 pub(crate) fn widen(x: i16) -> i64
     ensures { λ r. ⌜ r ≡ x ⌝ }
@@ -52,7 +53,7 @@ pub(crate) fn not_negative(a: i64) -> bool
 }
 
 pub(crate) fn at_most(a: i64, b: i64) -> bool
-    ensures { λ r. ⌜ r ≡ leℤ a b ⌝ }
+    ensures { λ r. ⌜ r ≡ leZ a b ⌝ }
 {
     a <= b
 }

@@ -2,9 +2,9 @@
 use borrow.Author.Needs.{needs}
 use mathlib.Core.Path.{_≡_, _∙_, sym}
 use lib.IntN.{pos}
+use lib.Signed.{leZ}
 use mir.Syntax.{w64}
 use mir.Val.{toZ, ofZ}
-use Rattle.convexity.specs.Inside.{leℤ}
 use Rattle.polygon.specs.Span.{spans}
 use Rattle.base.proofs.Sizes.{read-back}
 use Rattle.polygon.proofs.spanned.Statement.{statement}
@@ -14,14 +14,14 @@ use Rattle.polygon.proofs.spanned.Tie as tie
 cell-read : (c : tie.After-whole) → toZ w64 (ofZ w64 (c .whole .result)) ≡ pos (c .before .args .c)
 cell-read c = read-back (c .whole .result) (c .whole .ok) ∙ c .whole .ensures
 
-low-is : (c : tie.After-at-most) → c .at-most .result ≡ leℤ (c .before .before .before .args .s .low) (pos (c .before .before .before .args .c))
+low-is : (c : tie.After-at-most) → c .at-most .result ≡ leZ (c .before .before .before .args .s .low) (pos (c .before .before .before .args .c))
 low-is c =
     simp (read-back (c .before .before .before .args .s .low) (c .before .struct-told .given .1 .0 .1), cell-read (c .before .before)) at (c .at-most .ensures)
 
 high-is :
     (c : tie.After-at-most2)
     → c .at-most2 .result
-    ≡ leℤ (pos (c .before .before .before .before .before .before .args .c)) (c .before .before .before .before .before .before .args .s .high)
+    ≡ leZ (pos (c .before .before .before .before .before .before .args .c)) (c .before .before .before .before .before .before .args .s .high)
 high-is c =
     simp (
       read-back (c .before .before .before .before .before .before .args .s .high) (c .before .struct-told2 .given .1 .1 .0 .1),

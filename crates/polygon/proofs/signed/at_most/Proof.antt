@@ -1,12 +1,11 @@
--- The machine's order is the definition's.
+-- The machine's order is that of the integers that it reads back.
 use mir.Syntax.{w64}
 use mir.ValLaws.{toZ-ofZ}
-use Rattle.polygon.proofs.Integers.{le-machine}
 use Rattle.polygon.proofs.signed.at_most.Statement.{statement}
 use Rattle.polygon.proofs.signed.at_most.Tie as tie
 
 returns : tie.Need-returns
-returns c = simp (toZ-ofZ w64 (c .args .a) (c .fits .a), toZ-ofZ w64 (c .args .b) (c .fits .b)) (le-machine (c .args .a) (c .args .b))
+returns c = simp (toZ-ofZ w64 (c .args .a) (c .fits .a), toZ-ofZ w64 (c .args .b) (c .fits .b))
 
 pub at-most-spec : {M : Type 1} → statement M
 at-most-spec = tie.close (tie.spec returns)

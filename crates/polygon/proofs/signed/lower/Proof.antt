@@ -3,7 +3,7 @@ use borrow.Author.Needs.{needs}
 use mathlib.Core.Path.{_≡_, sym, _∙_}
 use mir.Syntax.{w64}
 use mir.ValLaws.{toZ-ofZ}
-use Rattle.convexity.specs.Inside.{leℤ}
+use lib.Signed.{leZ}
 use Rattle.polygon.proofs.Integers.{min-by}
 use Rattle.polygon.proofs.signed.lower.Statement.{statement}
 use Rattle.polygon.proofs.signed.lower.Tie as tie
@@ -12,7 +12,7 @@ at-most-requires : tie.Need-at-most-requires
 at-most-requires c κs = search needs
 
 -- The test, at the numbers themselves
-tested : (c : tie.After-at-most) → leℤ (c .before .args .a) (c .before .args .b) ≡ c .at-most .result
+tested : (c : tie.After-at-most) → leZ (c .before .args .a) (c .before .args .b) ≡ c .at-most .result
 tested c =
     sym (simp (toZ-ofZ w64 (c .before .args .a) (c .before .fits .a), toZ-ofZ w64 (c .before .args .b) (c .before .fits .b)) at (c .at-most .ensures))
 

@@ -1,0 +1,31 @@
+-- The order of integers, by their parts above and below 0: a is at most b exactly if a's upper part with b's lower one is at most b's upper part with a's lower one.
+use Prim.Native.Nat.{ℕ, suc, _+_, _≤_}
+use native.Mathlib.Decide.{decLe}
+use native.Mathlib.Omega.{arith}
+use mathlib.Core.Path.{_≡_, sym, _∙_}
+use lib.Dec.{leb}
+use lib.IntN.{ℤ, pos, negsuc}
+use lib.Signed.{leZ}
+use borrow.Author.Tests.{le-leb, lt-leb}
+
+-- An integer is its part above 0 less its part below 0
+abbrev pub up : ℤ → ℕ
+up (pos n) = n
+up (negsuc n) = 0
+
+abbrev pub down : ℤ → ℕ
+down (pos n) = 0
+down (negsuc n) = suc n
+
+same-test : (a b c d : ℕ) → (a ≤ b → c ≤ d) → (c ≤ d → a ≤ b) → leb a b ≡ leb c d
+same-test a b c d h k =
+    elim (decLe a b) [
+      | yes l ↦ le-leb a b l ∙ sym (le-leb c d (h l))
+      | no l ↦ lt-leb a b (omega arith) ∙ sym (lt-leb c d (let l′ : ¬ (c ≤ d) = λ m. l (k m) in omega arith))
+    ]
+
+pub le-parts : (a b : ℤ) → leZ a b ≡ leb (up a + down b) (up b + down a)
+le-parts (pos a) (pos b) = same-test a b (a + 0) (b + 0) (λ l. omega arith) (λ l. omega arith)
+le-parts (pos a) (negsuc b) = sym (lt-leb (a + suc b) (0 + 0) (omega arith))
+le-parts (negsuc a) (pos b) = sym (le-leb (0 + 0) (b + suc a) (omega arith))
+le-parts (negsuc a) (negsuc b) = same-test b a (0 + suc b) (0 + suc a) (λ l. omega arith) (λ l. omega arith)
