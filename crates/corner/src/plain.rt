@@ -1,4 +1,4 @@
-// Plain counting of cells: what document 01 defines, by trying every cell and every three cells. Nothing of the engine is used.
+// Plain counting of cells: the definitions of contract 2, by trying every cell and every three cells. Nothing of the engine is used.
 use crate::cells;
 use crate::cells::CELLS;
 use crate::cells::NONE;

@@ -1,4 +1,4 @@
--- `lines::run_end` meets its contract: the end only rises, up to the count. Assumes nothing.
+-- The end only rises, up to the count.
 use Prim.Native.Nat.{_≤_, _<_, _-_}
 use borrow.Author.Needs.{needs}
 use Rattle.script.proofs.lines.run_end.Statement.{statement}

@@ -1,4 +1,4 @@
--- `lines::same` meets its contract: the lists are equally long. Assumes nothing.
+-- The lists are equally long.
 use Prim.Native.Nat.{_≤_, _-_}
 use borrow.Author.Needs.{needs}
 use lib.ListN.{length}

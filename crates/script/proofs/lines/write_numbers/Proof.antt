@@ -1,4 +1,4 @@
--- `lines::write_numbers` meets its contract: every place read is within the list. Assumes nothing.
+-- Every place read is within the list.
 use Prim.Native.Nat.{_≤_, _-_}
 use borrow.Author.Needs.{needs}
 use lib.ListN.{length}

@@ -1,4 +1,4 @@
--- `lines::write_replies` meets its contract: a run of replies ends past its first and within the count. Assumes nothing.
+-- A run of replies ends past its first and within the count.
 use Prim.Native.Nat.{_≤_, _-_}
 use borrow.Author.Needs.{needs}
 use Rattle.script.proofs.lines.write_replies.Statement.{statement}

@@ -1,4 +1,4 @@
--- `Script::letters` meets its contract: every place read is within the word. Assumes nothing.
+-- Every place read is within the word.
 use Prim.Native.Nat.{_≤_, _-_}
 use borrow.Author.Needs.{needs}
 use lib.ListN.{length}

@@ -1,4 +1,4 @@
--- `Script::times` meets its contract: the count falls. Assumes nothing.
+-- The count falls.
 use Prim.Native.Nat.{_≤_, _-_}
 use borrow.Author.Needs.{needs}
 use Rattle.script.proofs.build.Script.times.Statement.{statement}
