@@ -5,7 +5,7 @@ use crate::codec::Fields;
 use crate::limits::{LAST_CELL, LAST_CORNER, LAST_LETTER, LAST_REFUSAL, LONGEST, LONGEST_LIST, SHORTEST};
 use crate::Cell;
 
-/// Why a call was turned back. A place is a letter's index in the list as sent, from 0; pieces are numbered 1 to 4.
+/// Why a call was turned back. A place counts the letters before it in the list as sent; pieces are numbered 1 to 4.
 #[derive(Clone, Copy, Debug, PartialEq, Eq, Hash)]
 pub enum Refusal {
     /// 1: too few or too many letters.

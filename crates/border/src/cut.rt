@@ -118,8 +118,8 @@ fn ahead(n: usize, a: usize, b: usize) -> usize
     if a <= b { b - a } else { n - a + b }
 }
 
-// An outline read from W on: the place of W's letter in the list as sent, the corner W, how many letters there are, and the five cut places, W counted at both
-// ends.
+// An outline read from W on: the place of W's letter in the list as sent, the corner W, how many letters there are, and the five cut
+// places, the last of which is W's again.
 pub(crate) struct Turn {
     pub(crate) place: usize,
     pub(crate) west: Point,
@@ -127,7 +127,7 @@ pub(crate) struct Turn {
     pub(crate) at: [usize; 5],
 }
 
-// The five cut places, W counted at both ends, indexed by piece.
+// The five cut places by piece, the last of which is W's again.
 pub(crate) struct Cuts {
     pub(crate) at: [usize; 5],
 }

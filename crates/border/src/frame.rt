@@ -12,7 +12,7 @@ pub(crate) struct Pair {
     pub(crate) later_rows: i16,
 }
 
-// Constant table of four letter pairs, with step vectors, indexed by piece number.
+// The ordered letters of pieces 1 to 4, with the step that each takes.
 const PAIRS: [Pair; 4] = [
     Pair {
         earlier: 0,

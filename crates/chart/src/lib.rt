@@ -31,13 +31,13 @@ pub enum Refusal {
     Letter {
         place: u16,
     },
-    // 4. A letter reaches a corner off the chart.
+    // 4. A letter steps off the chart's corners.
     Leaves {
         place: u16,
     },
-    // 5. The walk ends away from its start.
+    // 5. The walk does not come back to its start.
     Unclosed,
-    // 6. A letter other than the last reaches a corner already met.
+    // 6. A letter before the last leads to a corner where the walk has been.
     Touches {
         place: u16,
     },

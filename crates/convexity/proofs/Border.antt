@@ -67,7 +67,7 @@ module _ {o : Outline} {a : Point} {es : List ℤ} (h : HasEdges o a es) where
   pub border-reading : reading o ≡ outline a (lettersFrom es)
   border-reading = outline-eq (reading o) (outline a (lettersFrom es)) (h .anchor) (sent-from-edges o (h .reaches) (h .smooth) ∙ ap lettersFrom (h .edged))
 
-  -- The anchor is the lowest enclosed cell of the leftmost column
+  -- The anchor is that of contract 3.13
   pub border-anchor : IsAnchor o a
   border-anchor = subst (IsAnchor o) (h .anchor) (west-anchor o (h .reaches))
 

@@ -21,7 +21,7 @@ use Rattle.convexity.specs.Cut.{cut, clockwise, reading}
 unfoldable pub rounds : List ℕ → List ℕ
 rounds t = t ++ (t ++ (t ++ t))
 
--- Piece k: W to N, N to E, E to S, S to W
+-- Piece k, counted from 0: what is read between cut k and the next
 unfoldable pub piece : Outline → ℕ → List ℕ
 piece o k = take (cut o (suc k) - cut o k) (drop (cut o k) (rounds (o .letters)))
 
@@ -77,7 +77,7 @@ edges o =
 unfoldable pub edgeCount : Outline → ℕ
 edgeCount o = length (factors o 0) + (length (factors o 1) + (length (factors o 2) + length (factors o 3)))
 
--- The anchor: the lowest enclosed cell of the leftmost column. It is the cell at W (proofs/AsSent.antt: `west-anchor`)
+-- The anchor (contract 3.13). It is the cell at W (proofs/AsSent.antt: `west-anchor`)
 pub record IsAnchor (o : Outline) (a : Point) : Type 0 where
   pub enclosed : encloses o (a .col) (a .row) ≡ true
   pub leftmost : (c r : ℕ) → c < a .col → encloses o c r ≡ false

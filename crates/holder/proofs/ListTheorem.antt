@@ -254,16 +254,21 @@ module _ (cs : List Call) (o : Outline) (draft : drafted (bookAfter fresh cs) �
   close-names-lowest k p l x e =
       let named : CellNamed o (replyFields (WasRefused (Dent k p l x))) = rw e at close-cell in named .missing refl
 
--- The cell that a close names, for every holder with a draft
-close-named : (h : Holder) → draftOf h .begun ≡ true → CellNamed (outlineOf (draftOf h .kept)) (replyFields (closeOf h .reply))
-unfolding closeOf closedBy
-close-named h b =
-    let o : Outline = outlineOf (draftOf h .kept) in
-    let t : Bool = hasOutline (workOf h) (draftOf h .kept) in
-    let closed : CellNamed o (replyFields (closedReply t (judgedOf o .verdict))) = rw (judged-verdict o) (closed-named o t (verdictOf o) (verdict-named o)) in
-    rw b closed
+-- The cell that a close names, for every holder: without a draft it names none
+close-named : (h : Holder) → CellNamed (outlineOf (draftOf h .kept)) (replyFields (closeOf h .reply))
+unfolding closeOf closedBy replyFields
+close-named h = go (draftOf h .begun) refl
+  where
+    o : Outline
+    o = outlineOf (draftOf h .kept)
+
+    go : (b : Bool) → draftOf h .begun ≡ b → CellNamed o (replyFields (closeOf h .reply))
+    go true e =
+        let t : Bool = hasOutline (workOf h) (draftOf h .kept) in
+        let closed : CellNamed o (replyFields (closedReply t (judgedOf o .verdict))) = rw (judged-verdict o) (closed-named o t (verdictOf o) (verdict-named o)) in
+        rw e closed
+    go false e = rw e (record { anchor = λ z. absurd (omega (arith, z)); missing = λ z. absurd (omega (arith, z)) })
 
 -- A close's promise, from its answer alone
-pub close-promised : (h : Holder) (r : Answered) → r ≡ closeOf h →
-    (r ≡ closeOf h) × (draftOf h .begun ≡ true → CellNamed (outlineOf (draftOf h .kept)) (replyFields (r .reply)))
-close-promised h r e = (e, λ b. rw e (close-named h b))
+pub close-promised : (h : Holder) (r : Answered) → r ≡ closeOf h → (r ≡ closeOf h) × CellNamed (outlineOf (draftOf h .kept)) (replyFields (r .reply))
+close-promised h r e = (e, rw e (close-named h))

@@ -1,4 +1,4 @@
--- The plain book: the meaning of the holder, fed nothing but the calls and their arguments (contract 8).
+-- The plain book: what the holder means, kept from the calls alone (contract 8).
 use Prim.Native.Nat.{ℕ}
 use mathlib.Core.Bool.{Bool, true, false, cond, _&&_}
 use mathlib.Core.Option.{Option, none, some}
@@ -21,7 +21,7 @@ use Rattle.holder.specs.declared.Call.the-variants.{Begin, Add, Drop, Cl
 use Rattle.holder.specs.declared.Reply.{Reply}
 use Rattle.holder.specs.declared.Reply.the-variants.{Done, Inside, Outside, Taken as WasTaken, Same, Refused as WasRefused, NothingAtWork, NoDraft, DraftOpen, DraftFull}
 
--- A draft and a work, each none or an outline
+-- Its two entries. Either may be empty
 pub record Book : Type 0 where
   pub draft : Option Outline
   pub work : Option Outline
@@ -63,14 +63,14 @@ unfoldable pub equalsWork : Outline → Option Outline → Bool
 equalsWork o none = false
 equalsWork o (some v) = sameOutline o v
 
--- Contract 7.3: 14 if there is a draft; 2; else the draft is this start without letters
+-- Begin (contract 7.3). 14 and 2 are asked in this order; what is opened has no letters yet
 unfoldable pub begins : Book → Point → Option Outline → Answer
 begins b s (some d) = record { reply = DraftOpen; next = b }
 begins b s none =
     cond (badStart s) (record { reply = WasRefused Start; next = b })
     (record { reply = Done; next = putDraft b (some (record { start = s; letters = [] })) })
 
--- Contract 7.4: 13 if there is no draft; 15 if it has as many letters as it may; 3, at the place that the letter would have; else the letter goes to the draft's end
+-- Add (contract 7.4). 13, 15 and 3 are asked in this order; the place of 3 is where the letter would have stood
 unfoldable pub adds : Book → ℕ → Option Outline → Answer
 adds b a none = record { reply = NoDraft; next = b }
 adds b a (some d) =
@@ -78,7 +78,7 @@ adds b a (some d) =
     (cond (ltb 3 a) (record { reply = WasRefused (Letter (length (d .letters))); next = b })
     (record { reply = Done; next = putDraft b (some (record { start = d .start; letters = d .letters ++ (a ∷ []) })) }))
 
--- Contract 7.5: 13 if there is no draft; else there is none
+-- Drop (contract 7.5)
 unfoldable pub drops : Book → Option Outline → Answer
 drops b none = record { reply = NoDraft; next = b }
 drops b (some d) = record { reply = Done; next = putDraft b none }
@@ -93,13 +93,13 @@ unfoldable pub workAfter : Option Outline → Outline → Verdict → Option Out
 workAfter w d (Refused f) = w
 workAfter w d (Taken n a) = some d
 
--- Contract 7.7: 13 if there is no draft; else the first of 1 to 9 that applies to it, or taken. Either way there is no draft then
+-- Close (contract 7.7). What 1 to 9 say of the draft decides; the draft is over either way
 unfoldable pub closes : Book → Option Outline → Answer
 closes b none = record { reply = NoDraft; next = b }
 closes b (some d) =
     record { reply = closedReply (equalsWork d (atWork b)) (verdictOf d); next = putWork (putDraft b none) (workAfter (atWork b) d (verdictOf d)) }
 
--- Contract 7.8: 12 if nothing is at work; 11; else "inside" exactly if what is at work encloses the cell
+-- Query (contract 7.8). 12 and 11 are asked in this order; then the enclosed cells decide
 unfoldable pub asked : Point → Option Outline → Reply
 asked x none = NothingAtWork
 asked x (some o) = cond (badCell x) (WasRefused Cell) (cond (encloses o (x .col) (x .row)) Inside Outside)

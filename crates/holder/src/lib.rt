@@ -64,11 +64,11 @@ pub enum Reply {
     Same { edges: u16, anchor: Point },
     // Refusals 1 to 11.
     Refused(Refusal),
-    // 12. A query with nothing at work.
+    // 12. Asked of a holder with an empty work.
     NothingAtWork,
-    // 13. Add, close or drop without a draft.
+    // 13. No draft to add to, to close or to drop.
     NoDraft,
-    // 14. Begin with a draft open.
+    // 14. One draft is open already.
     DraftOpen,
     // 15. Add with as many letters in the draft as it may have.
     DraftFull,
@@ -217,7 +217,7 @@ impl Holder {
     // The cell that it names is the anchor of an outline that is taken, and the lowest missing one of a dented outline.
     pub fn close(self) -> Answered
         ensures answer { λ r. ⌜ r ≡ closeOf self ⌝ }
-        ensures named { λ r. ⌜ (draftOf self .begun ≡ true → CellNamed (outlineOf (draftOf self .kept)) (replyFields (r .reply))) ⌝ }
+        ensures named { λ r. ⌜ CellNamed (outlineOf (draftOf self .kept)) (replyFields (r .reply)) ⌝ }
     {
         let draft = self.drafted();
         if !draft.begun {

@@ -12,7 +12,7 @@ use Rattle.chart.specs.declared.Point.{Point}
 use Rattle.chart.specs.Outline.{Outline}
 use Rattle.lattice.specs.Chart.{step, leaves, stepped, cornerAt, size, letterAt}
 use Rattle.lattice.specs.Refusals.{badStart, leavingPlace, Stays}
-use Rattle.lattice.proofs.WalkLaws.{or-left, or-right, first-absent, OnChart, step-on-chart, corner-zero, corner-suc, NeverLeaves}
+use Rattle.lattice.proofs.WalkLaws.{or-left, or-right, first-absent, OnChart, corner-zero, corner-suc, NeverLeaves}
 
 -- A letter above 3 is none of the four
 high : (a k : ℕ) → k ≤ 3 → eqb (suc (suc (suc (suc a)))) k ≡ false
@@ -106,13 +106,6 @@ start-on-chart s e =
       col = ltb-false side (s .col) (or-left (ltb side (s .col)) (ltb side (s .row)) e);
       row = ltb-false side (s .row) (or-right (ltb side (s .col)) (ltb side (s .row)) e);
     }
-
-pub stepped-on-chart : (p : Point) (a : ℕ) → OnChart p → OnChart (stepped p a)
-stepped-on-chart p a h = go (leaves p a) refl
-  where
-    go : (b : Bool) → leaves p a ≡ b → OnChart (stepped p a)
-    go true e = rw (stepped-leaving p a e) h
-    go false e = rw (stepped-staying p a e) (step-on-chart p a e h)
 
 module _ (o : Outline) where
   pub stays-at : Stays o → NeverLeaves o

@@ -18,7 +18,7 @@ upAlong p a r = eqb a 1 && eqb (p .row) r
 unfoldable pub downAlong : Point → ℕ → ℕ → Bool
 downAlong p a r = eqb a 3 && eqb (p .row) (suc r)
 
--- Of the letters that run along the height of row r in corner columns up to c, how many are ups, and how many downs
+-- The ups, and the downs, along row r in corner columns 0 to c
 unfoldable pub ups : Point → List ℕ → ℕ → ℕ → ℕ
 ups p [] c r = 0
 ups p (a ∷ w) c r = count (upAlong p a r && leb (p .col) c) + ups (step p a) w c r

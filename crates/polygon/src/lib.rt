@@ -72,7 +72,7 @@ fn beside(dx: i16, dy: i16, cols: Span, rows: Span, cell: Point) -> bool
     signed::not_negative(signed::difference(across, up))
 }
 
-// The rule of the edges: side values, and the lowest and highest columns and rows met. No cell is inside a list that is too long.
+// The rule of the edges (contract 3.15): side values, and the walk's extremes. No cell is inside a list that is too long.
 pub fn inside(anchor: Point, edges: &[i16], cell: Point) -> bool
     ensures { λ b. ⌜ b ≡ insideList anchor (now (edges .entry)) cell ⌝ }
 {
@@ -95,14 +95,14 @@ pub fn inside(anchor: Point, edges: &[i16], cell: Point) -> bool
     spanned(cols, cell.col) && spanned(rows, cell.row)
 }
 
-// Refusal 10: an odd list, or one above 2,032 numbers.
+// 10, of a loose query: an odd count of numbers, or too many.
 pub fn bad_list(edges: &[i16]) -> bool
     ensures { λ b. ⌜ b ≡ badList (now (edges .entry)) ⌝ }
 {
     edges.len() % 2 == 1 || LONGEST_LIST < edges.len()
 }
 
-// Refusal 11: a cell number above 254.
+// 11: a number that is none of a cell's.
 pub fn bad_cell(x: Point) -> bool
     ensures { λ b. ⌜ b ≡ badCell x ⌝ }
 {

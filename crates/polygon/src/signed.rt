@@ -2,7 +2,7 @@
 ghost use mathlib.Core.Path.{_≡_};
 ghost use lib.IntN.{pos, _+ℤ_, _-ℤ_, _*ℤ_};
 ghost use lib.Signed.{leZ};
-ghost use mir.Syntax.{w16, w64};
+ghost use mir.Syntax.{w64};
 ghost use mir.Val.{SFits};
 ghost use Rattle.convexity.specs.Inside.{notNegative as notNegativeℤ, minℤ, maxℤ};
 
@@ -16,13 +16,6 @@ pub(crate) fn whole(n: u16) -> i64
     ensures { λ r. ⌜ r ≡ pos n ⌝ }
 {
     n as i64
-}
-
-pub(crate) fn narrow(x: i64) -> i16
-    requires { ⌜ SFits w16 x ⌝ }
-    ensures { λ r. ⌜ r ≡ x ⌝ }
-{
-    x as i16
 }
 
 pub(crate) fn sum(a: i64, b: i64) -> i64

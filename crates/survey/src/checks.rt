@@ -54,7 +54,7 @@ pub(crate) fn leaving_place(s: Point, w: &[u8]) -> usize
     i
 }
 
-// 5. The walk, which stays on the chart, ends away from its start.
+// 5. The walk, which stays on the chart, does not come back to its start.
 pub(crate) fn unclosed(s: Point, w: &[u8]) -> bool
     ensures { λ r. ⌜ (Stays (outline s (now (w .entry))) → r ≡ ends-away (outline s (now (w .entry)))) ⌝ }
 {

@@ -63,7 +63,7 @@ impl Turn {
         }
     }
 
-    /// The five cut places, W counted at both ends. The outline is clockwise, so they rise.
+    /// The five cut places, the last of which is W's again. The outline is clockwise, so they rise.
     pub fn cut_places(&self) -> [usize; 5] {
         let mut at = (u32::from(self.west.col), u32::from(self.west.row));
         let (mut north, mut east, mut south) = ((0, 0), (0, 0), (0, 0));

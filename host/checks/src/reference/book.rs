@@ -10,7 +10,7 @@ use super::walk::{is_bad_start, is_no_letter};
 use crate::reply::{numbered, placed, said};
 use crate::{Fields, Outline, Point};
 
-/// A draft and a work, each none or an outline.
+/// Two entries, either of which may be empty.
 #[derive(Default)]
 pub struct Book {
     draft: Option<Outline>,
