@@ -21,7 +21,8 @@
  *   5 column   of a cell
  *   6 row
  *
- * Refusals, each with the fields that it names. Of several that apply, the first is given in the order 12 to 15, then 1 to 11.
+ * Refusals, each with the fields that it names. Of several that apply, the first is given in the order 12 to 15, then 1 to 11. There
+ * is no refusal 7: an outline may run either way, and one that runs anticlockwise is read backward, each letter turned to its opposite.
  *
  *    1  there are fewer than 4 or more than RQ_LETTERS letters
  *    2  a number of the start is above 255
@@ -29,7 +30,6 @@
  *    4  a letter steps off the chart's corners: place of the first such
  *    5  the walk does not end where it started
  *    6  a letter that is not the last reaches a corner at which the walk has been: place of the first such
- *    7  the outline is not clockwise
  *    8  a piece has a back-step: piece and place of the first
  *    9  the outline is dented: piece, place and length of one copy of the first factor that is no Christoffel word; column and
  *       row of the lowest missing cell, the leftmost of its row

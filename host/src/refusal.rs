@@ -5,7 +5,8 @@ use crate::codec::Fields;
 use crate::limits::{LAST_CELL, LAST_CORNER, LAST_LETTER, LAST_REFUSAL, LONGEST, LONGEST_LIST, SHORTEST};
 use crate::Cell;
 
-/// Why a call was turned back. A place counts the letters before it in the list as sent; pieces are numbered 1 to 4.
+/// Why a call was turned back. A place counts the letters before it in the list as sent; pieces are numbered 1 to 4. There is no
+/// refusal 7.
 #[derive(Clone, Copy, Debug, PartialEq, Eq, Hash)]
 pub enum Refusal {
     /// 1: too few or too many letters.
@@ -20,8 +21,6 @@ pub enum Refusal {
     Unclosed,
     /// 6: the walk meets a corner twice.
     Touches { place: usize },
-    /// 7: the outline is not clockwise.
-    Anticlockwise,
     /// 8: a letter that is none of its piece's two.
     BackStep { piece: u16, place: usize },
     /// 9: a factor that is no Christoffel word: place and length of one copy, and the lowest missing cell.
@@ -52,7 +51,6 @@ impl Refusal {
             Refusal::Leaves { .. } => 4,
             Refusal::Unclosed => 5,
             Refusal::Touches { .. } => 6,
-            Refusal::Anticlockwise => 7,
             Refusal::BackStep { .. } => 8,
             Refusal::Dent { .. } => 9,
             Refusal::Room { .. } | Refusal::List => 10,
@@ -75,7 +73,6 @@ impl Refusal {
             4 => Refusal::Leaves { place },
             5 => Refusal::Unclosed,
             6 => Refusal::Touches { place },
-            7 => Refusal::Anticlockwise,
             8 => Refusal::BackStep { piece: fields.piece, place },
             9 => Refusal::Dent {
                 piece: fields.piece,
@@ -114,7 +111,6 @@ impl fmt::Display for Refusal {
             Refusal::Touches { place } => {
                 write!(f, "the letter at place {place} reaches a corner at which the walk has been")
             }
-            Refusal::Anticlockwise => write!(f, "the outline is not clockwise"),
             Refusal::BackStep { piece, place } => write!(f, "piece {piece} has a back-step at place {place}"),
             Refusal::Dent { piece, place, length, missing } => {
                 write!(f, "piece {piece} has a dent at place {place}, of length {length}; cell {missing} is missing")

@@ -27,6 +27,17 @@ fn taken_specimens() {
     taken((0, 1), "101030323212", (0, 1), &round);
     taken((1, 1), "210103032321", (0, 1), &round);
     taken((0, 0), "11030322", (0, 0), &[(0, 1), (1, -1), (-1, 0)]);
+    taken((0, 0), "0123", (0, 0), &[]);
+}
+
+#[test]
+fn drawn_backward() {
+    let round = [(1, 1), (1, -1), (-1, -1), (-1, 1)];
+    taken((0, 1), "030101212323", (0, 1), &round);
+    taken((1, 1), "301012123230", (0, 1), &round);
+    let dent = Refusal::Dent { piece: 2, place: 7, length: 4, missing: Cell::new(1, 1) };
+    refused((0, 0), "000122112333", dent, 9);
+    refused((0, 0), "000112321233", Refusal::BackStep { piece: 2, place: 6 }, 8);
 }
 
 #[test]
@@ -35,7 +46,6 @@ fn refused_specimens() {
     refused((0, 0), "111033003222", dent, 9);
     refused((0, 0), "110301033222", Refusal::BackStep { piece: 2, place: 5 }, 8);
     refused((0, 0), "1023", Refusal::Touches { place: 2 }, 6);
-    refused((0, 0), "0123", Refusal::Anticlockwise, 7);
     refused((0, 0), "103", Refusal::Count, 1);
     refused((255, 0), "1032", Refusal::Leaves { place: 1 }, 4);
     refused((0, 1), "1033", Refusal::Unclosed, 5);

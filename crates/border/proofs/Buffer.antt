@@ -4,14 +4,17 @@ use native.Mathlib.Numerals.{add-one}
 use native.Mathlib.Decide.{decLe}
 use native.Mathlib.Omega.{arith}
 use mathlib.Core.Path.{_≡_, refl, sym, ap, _∙_}
+use mathlib.Core.Bool.{Bool, true, false}
 use mathlib.Core.List.{List, [], _∷_, _++_, append-assoc}
 use lib.ListN.{length, getD, take, set, length-set, length-append, length-take, List·getD-append}
 use lib.Seq.{take-suc, take-suc-set, take-set-le, take-all, take-take, take-append-le, getD-take, getD-append-add, length-take-le}
 use Rattle.chart.specs.Outline.{outline}
 use Rattle.lattice.specs.Chart.{rotation}
 use Rattle.lattice.proofs.WalkLaws.{point, length-rotation, letter-rotation-before, letter-rotation-after}
+use Rattle.convexity.specs.Reading.{opposite}
 use Rattle.convexity.specs.Pieces.{rounds}
-use Rattle.border.specs.Cutting.{Turned, Rounded}
+use Rattle.convexity.proofs.Reading.{length-backward, letter-backward}
+use Rattle.border.specs.Cutting.{readTurn, Rounded}
 
 -- A letter stored behind i right ones
 store : (l r : List ℕ) (i a : ℕ) → i < length l → i < length r → a ≡ getD r i 0 → take i l ≡ take i r → take (i + 1) (set l i a) ≡ take (i + 1) r
@@ -20,38 +23,44 @@ store l r i a h k e t =
 
 -- ---- the turn
 
--- The first i letters of the buffer are those of w from a place on
-pub record Turning (w : List ℕ) (from : ℕ) (before buffer : List ℕ) (i : ℕ) : Type 0 where
+-- The letters from a place on, read forward or backward, are as many as were sent
+pub length-read : (forward : Bool) (from : ℕ) (w : List ℕ) → from ≤ length w → length (readTurn forward from w) ≡ length w
+unfolding readTurn
+length-read true from w h = length-rotation (outline (point 0 0) w) from h
+length-read false from w h = length-backward (rotation from w) ∙ length-rotation (outline (point 0 0) w) from h
+
+-- A letter on from a place, before the list's end and past it
+pub letter-before : (w : List ℕ) (from i : ℕ) → from ≤ length w → i < length w - from → getD w (from + i) 0 ≡ getD (rotation from w) i 0
+letter-before w from i k l = sym (letter-rotation-before (outline (point 0 0) w) from k i (omega arith))
+
+pub letter-past : (w : List ℕ) (from i : ℕ) → from ≤ length w → i < length w → length w - from ≤ i
+    → getD w (i - (length w - from)) 0 ≡ getD (rotation from w) i 0
+letter-past w from i k h l =
+    ap (λ (j : ℕ). getD w j 0) (omega arith) ∙ sym (letter-rotation-after (outline (point 0 0) w) from k i (omega arith) h)
+
+-- Backward, a letter is the opposite of the one as far from the other end
+pub letter-back : (w : List ℕ) (from i : ℕ) → from ≤ length w → i < length w
+    → opposite (getD (rotation from w) (length w - 1 - i) 0) ≡ getD (readTurn false from w) i 0
+unfolding readTurn
+letter-back w from i k l =
+    let n : length (rotation from w) ≡ length w = length-rotation (outline (point 0 0) w) from k in
+    ap (λ (j : ℕ). opposite (getD (rotation from w) j 0)) (omega arith) ∙ sym (letter-backward (rotation from w) i (omega arith))
+
+-- The first i letters of the buffer are those of r
+pub record Filling (r before buffer : List ℕ) (i : ℕ) : Type 0 where
   pub sized : length buffer ≡ length before
-  pub passed : i ≤ length w
-  pub letters : take i buffer ≡ take i (rotation from w)
+  pub letters : take i buffer ≡ take i r
 
-pub turning-start : (w : List ℕ) (from : ℕ) (before : List ℕ) → Turning w from before before 0
-turning-start w from before = record { sized = refl; passed = omega arith; letters = refl }
+pub filling-start : (r before : List ℕ) → Filling r before before 0
+filling-start r before = record { sized = refl; letters = refl }
 
-module _ {w : List ℕ} {from : ℕ} {before buffer : List ℕ} {i : ℕ} (t : Turning w from before buffer i) (k : from ≤ length w)
-    (room : length w ≤ length before) (h : i < length w) where
-  turning-store : (a : ℕ) → a ≡ getD (rotation from w) i 0 → Turning w from before (set buffer i a) (i + 1)
-  turning-store a e =
-      record {
-        sized = simp length-set (t .sized);
-        passed = omega arith;
-        letters = store buffer (rotation from w) i a (omega (arith, t .sized)) (omega (arith, length-rotation (outline (point 0 0) w) from k)) e (t .letters);
-      }
+pub filling-next : {r before buffer : List ℕ} {i : ℕ} → Filling r before buffer i → length r ≤ length before → i < length r → (a : ℕ) → a ≡ getD r i 0
+    → Filling r before (set buffer i a) (i + 1)
+filling-next {r} {before} {buffer} {i} f room h a e =
+    record { sized = simp length-set (f .sized); letters = store buffer r i a (omega (arith, f .sized)) h e (f .letters) }
 
-  -- The letter before the list's end, and past it
-  pub turning-on : i < length w - from → Turning w from before (set buffer i (getD w (from + i) 0)) (i + 1)
-  turning-on l = turning-store (getD w (from + i) 0) (sym (letter-rotation-before (outline (point 0 0) w) from k i (omega arith)))
-
-  pub turning-round : length w - from ≤ i → Turning w from before (set buffer i (getD w (i - (length w - from)) 0)) (i + 1)
-  turning-round l =
-      turning-store (getD w (i - (length w - from)) 0)
-      (ap (λ (j : ℕ). getD w j 0) (omega arith) ∙ sym (letter-rotation-after (outline (point 0 0) w) from k i (omega arith) h))
-
-pub turning-end : {w : List ℕ} {from : ℕ} {before buffer : List ℕ} {i : ℕ} → Turning w from before buffer i → length w ≤ i → Turned w from before buffer
-turning-end {w} {from} {buffer = buffer} {i} t l k room =
-    let e : i ≡ length w = omega (arith, t .passed) in
-    ap (λ (j : ℕ). take j buffer) (sym e) ∙ t .letters ∙ take-all i (rotation from w) (omega (arith, length-rotation (outline (point 0 0) w) from k))
+pub filling-end : {r before buffer : List ℕ} {i : ℕ} → Filling r before buffer i → length r ≡ i → take i buffer ≡ r
+filling-end {r} {i = i} f e = f .letters ∙ take-all i r (omega arith)
 
 -- ---- the rounds
 

@@ -1,113 +1,147 @@
--- The letters copied from W's place on are the turn, and the buffer read on to the last cut place holds its pieces.
-use Prim.Native.Nat.{ℕ, _*_, _≤_, _<_}
+-- The letters copied from W's place on, forward or backward, are the border, and the buffer read on to the last cut place holds its pieces.
+use Prim.Native.Nat.{ℕ, _-_, _*_, _≤_, _<_}
+use native.Mathlib.Decide.{decLt}
 use native.Mathlib.Omega.{arith}
 use mathlib.Core.Path.{_≡_, refl, sym, ap, _∙_}
-use mathlib.Core.Bool.{false}
+use mathlib.Core.Bool.{Bool, true, false, cond}
 use mathlib.Core.List.{List}
 use lib.ListN.{length, getD, take}
-use lib.Seq.{getD-take, length-take-le}
+use lib.Seq.{length-take-le}
 use lib.IntN.{ℤ}
 use lib.Dec.{eqb}
-use borrow.Author.Tests.{eq-eqb, ne-eqb}
+use borrow.Author.Tests.{ne-eqb}
 use Rattle.chart.specs.Limits.{longest}
 use Rattle.chart.specs.declared.Point.{Point}
 use Rattle.chart.specs.declared.Refusal.{Refusal}
-use Rattle.chart.specs.declared.Refusal.the-variants.{Anticlockwise}
 use Rattle.chart.specs.declared.Verdict.the-variants.{Refused}
 use Rattle.chart.specs.Outline.{Outline, outline}
-use Rattle.lattice.specs.Chart.{cornerAt, size, letterAt, rotation}
+use Rattle.lattice.specs.Chart.{cornerAt, size, letterAt}
 use Rattle.lattice.specs.Refusals.{Simple, Stays}
 use Rattle.lattice.proofs.WalkLaws.{Walked, walked, outline-eq}
 use Rattle.survey.specs.declared.Surveyed.the-variants.{Passed, Refused as Stopped}
 use Rattle.survey.specs.Survey.{surveyOf}
-use Rattle.convexity.specs.Cut.{westPlace, turn, reading, clockwise}
+use Rattle.convexity.specs.Cut.{westPlace, turn, clockwise}
+use Rattle.convexity.specs.Reading.{reversed, reading, border, sentFrom, placeSent}
 use Rattle.convexity.specs.Pieces.{edges}
-use Rattle.verdict.specs.Verdict.{placeSent, readingVerdict, afterSurvey, verdictOf, lentAfter}
+use Rattle.convexity.proofs.Reading.{leaving-west, west-first, west-place-first, west-place-later, reading-clockwise, reading-backward, length-reading, simple-reading, clockwise-reading, turn-reading}
+use Rattle.verdict.specs.Verdict.{turnVerdict, borderVerdict, afterSurvey, verdictOf, lentAfter}
 use Rattle.border.specs.declared.Judged.{Judged}
-use Rattle.border.specs.Cutting.{CornerFound, Rounded, CutsOf}
+use Rattle.border.specs.Cutting.{CornerFound, readTurn, readPlace, Rounded, CutsOf}
 use Rattle.border.specs.Turning.{Ready, Turning}
-use Rattle.border.specs.Judged.{zeros, judgedAs, judgedTurn, judgedReading, judgedOf}
+use Rattle.border.specs.Judged.{zeros, judgedAs, judgedTurn, judgedBorder, judgedOf}
 use Rattle.border.proofs.BackStepLaws.{laid-of}
 use Rattle.border.proofs.PieceLaws.{from-west}
 
--- What the code knows when the letters are copied: W's place v, the corner W, p, and the buffer
-pub record Copied (o : Outline) (v : ℕ) (p : Point) (buffer : List ℕ) : Type 0 where
+-- What the code knows when the letters are copied: W's place as sent, whether the letters are read forward, W's place v in what is read, the corner W, p, and
+-- the buffer
+pub record Copied (o : Outline) (found : ℕ) (forward : Bool) (v : ℕ) (p : Point) (buffer : List ℕ) : Type 0 where
   pub simple : Simple o
-  pub place : CornerFound o 0 v
-  pub corner : Stays o → p ≡ cornerAt o v
-  pub letters : v ≤ size o → size o ≤ 4 * longest → take (size o) buffer ≡ rotation v (o .letters)
+  pub found-at : CornerFound o 0 found
+  pub corner : Stays o → p ≡ cornerAt o found
+  pub way : forward ≡ eqb (letterAt o found) 1
+  pub place : v ≡ readPlace forward (size o) found
+  pub letters : found ≤ size o → size o ≤ 4 * longest → take (size o) buffer ≡ readTurn forward found (o .letters)
   pub sized : length buffer ≡ 4 * longest
 
-module _ {o : Outline} {v : ℕ} {p : Point} {buffer : List ℕ} (h : Copied o v p buffer) where
-  letters-walked : Walked o
-  letters-walked = walked o (h .simple)
+module _ {o : Outline} {found : ℕ} {forward : Bool} {v : ℕ} {p : Point} {buffer : List ℕ} (h : Copied o found forward v p buffer) where
+  d : Walked o
+  d = walked o (h .simple)
 
-  pub place-lt : v < size o
-  place-lt = omega (arith, h .place .within, letters-walked .long)
+  found-lt : found < size o
+  found-lt = omega (arith, h .found-at .within, d .long)
 
   pub letters-fit : size o ≤ length buffer
-  letters-fit = omega (arith, h .sized, letters-walked .short)
+  letters-fit = omega (arith, h .sized, d .short)
 
-  place-is : v ≡ westPlace o
+  found-is : found ≡ westPlace o
   unfolding westPlace
-  place-is = h .place .place (h .simple .stays)
+  found-is = h .found-at .place (h .simple .stays)
 
-  turn-is : outline p (take (size o) buffer) ≡ reading o
-  unfolding turn
-  turn-is =
-      outline-eq (outline p (take (size o) buffer)) (reading o) (h .corner (h .simple .stays) ∙ ap (cornerAt o) place-is)
-      (h .letters (omega (arith, place-lt)) (omega (arith, letters-walked .short)) ∙ ap (λ (i : ℕ). rotation i (o .letters)) place-is)
+  -- Clockwise is read forward
+  pub way-is : forward ≡ clockwise (turn o)
+  unfolding clockwise
+  way-is = h .way ∙ ap (λ (a : ℕ). eqb a 1) (ap (letterAt o) found-is ∙ sym (leaving-west o d))
 
-  turn-length : size (reading o) ≡ size o
-  turn-length = ap size (sym turn-is) ∙ length-take-le (size o) buffer letters-fit
+  -- W's letter stands at v in the reading
+  place-is : v ≡ westPlace (reading o)
+  unfolding readPlace
+  place-is = go forward way-is (h .place)
+    where
+      go : (b : Bool) → b ≡ clockwise (turn o) → v ≡ readPlace b (size o) found → v ≡ westPlace (reading o)
+      go true e q = q ∙ found-is ∙ ap westPlace (sym (reading-clockwise o (sym e)))
+      go false e q =
+          let back : westPlace (reversed o) ≡ westPlace (reading o) = ap westPlace (sym (reading-backward o (sym e))) in
+          elim (decLt 0 found) [
+            | yes l ↦
+                q ∙ rw (ne-eqb found 0 (omega arith)) (ap (λ (i : ℕ). size o - i) found-is ∙ sym (west-place-later o d (omega (arith, found-is))) ∙ back)
+            | no l ↦
+                let z : found ≡ 0 = omega arith in
+                q ∙ rw z (sym (west-place-first o d (sym found-is ∙ z)) ∙ back)
+          ]
 
-  first-letter : letterAt (reading o) 0 ≡ getD buffer 0 0
-  first-letter = ap (λ (v : Outline). letterAt v 0) (sym turn-is) ∙ getD-take (size o) buffer 0 0 (omega (arith, letters-walked .long))
+  -- The buffer holds the border
+  border-is : outline p (take (size o) buffer) ≡ border o
+  unfolding turn readTurn
+  border-is =
+      outline-eq (outline p (take (size o) buffer)) (readOutline forward) (h .corner (h .simple .stays) ∙ ap (cornerAt o) found-is ∙ same-start forward)
+      (h .letters (omega (arith, found-lt)) (omega (arith, d .short)) ∙ ap (λ (i : ℕ). readTurn forward i (o .letters)) found-is ∙ same-letters forward)
+      ∙ ap readOutline way-is ∙ sym (turn-reading o (h .simple))
+    where
+      readOutline : Bool → Outline
+      readOutline b = cond b (turn o) (reversed (turn o))
 
-  -- 7
-  pub copied-back : (getD buffer 0 0 ≡ 1 → ⊥) → {r : Judged} → ((es : List ℤ) → r ≡ judgedAs (Refused Anticlockwise) es) → r ≡ judgedReading o
-  unfolding judgedReading readingVerdict clockwise
-  copied-back k e =
-      let back : eqb (letterAt (reading o) 0) 1 ≡ false = ne-eqb (letterAt (reading o) 0) 1 (λ f. k (sym first-letter ∙ f)) in
-      e (edges (reading o)) ∙ rw back
+      same-start : (b : Bool) → cornerAt o (westPlace o) ≡ readOutline b .start
+      same-start true = refl
+      same-start false = refl
 
-  module _ (one : getD buffer 0 0 ≡ 1) {at after : List ℕ} (cuts : CutsOf (outline p (take (size o) buffer)) at) (rounded : Rounded buffer (size o) (getD at 4 0) after)
+      same-letters : (b : Bool) → readTurn b (westPlace o) (o .letters) ≡ readOutline b .letters
+      same-letters true = refl
+      same-letters false = refl
+
+  border-length : size (border o) ≡ size o
+  border-length = ap size (sym border-is) ∙ length-take-le (size o) buffer letters-fit
+
+  module _ {at after : List ℕ} (cuts : CutsOf (outline p (take (size o) buffer)) at) (rounded : Rounded buffer (size o) (getD at 4 0) after)
       (kept : length after ≡ length buffer) where
-    turn-after : outline p (take (size o) after) ≡ reading o
-    turn-after = ap (outline p) (rounded .same) ∙ turn-is
+    border-after : outline p (take (size o) after) ≡ border o
+    border-after = ap (outline p) (rounded .same) ∙ border-is
 
-    ready : Ready v (reading o) after at
-    unfolding clockwise
+    v-lt : v < size (border o)
+    v-lt = omega (arith, place-is, border-length, length-reading o, west-first (reading o) (walked (reading o) (simple-reading o (h .simple))) .below)
+
+    ready : Ready v (border o) after at
     ready =
         let f = from-west o (h .simple) in
-        let c : CutsOf (reading o) at = rw turn-is at cuts in
+        let c : CutsOf (border o) at = rw border-is at cuts in
         record {
           turn = f;
-          place = omega (arith, place-lt, turn-length);
-          clockwise = eq-eqb (letterAt (reading o) 0) 1 (first-letter ∙ one);
+          place = v-lt;
+          clockwise = clockwise-reading o (h .simple);
           laid =
-              laid-of {before = buffer} (f .simple .stays) (omega (arith, turn-length, letters-walked .long)) (omega (arith, turn-length, letters-walked .short)) c (rw turn-length (ap (λ (v : Outline). v .letters) turn-is))
-              (omega (arith, c .small, h .sized)) (rw turn-length rounded) kept;
+              laid-of {before = buffer} (f .simple .stays) (omega (arith, border-length, d .long)) (omega (arith, border-length, d .short)) c (rw border-length (ap (λ (v : Outline). v .letters) border-is))
+              (omega (arith, c .small, h .sized)) (rw border-length rounded) kept;
           sized = omega (arith, kept, h .sized);
         }
 
     pub copied-ready : Turning v p (size o) after at
-    copied-ready = record { within = omega (arith, kept, letters-fit); ready = rw turn-after ready }
+    copied-ready = record { within = omega (arith, kept, letters-fit); ready = rw border-after ready }
 
     -- 8 and 9, or taken
-    pub copied-judged : {r : Judged} → r ≡ judgedTurn v (outline p (take (size o) after)) → r ≡ judgedReading o
-    unfolding judgedReading readingVerdict judgedTurn placeSent
-    copied-judged e = e ∙ rw (place-is, ap size turn-after ∙ turn-length, turn-after, ready .clockwise)
+    pub copied-judged : {r : Judged} → r ≡ judgedTurn forward v (outline p (take (size o) after)) → r ≡ judgedBorder o
+    unfolding judgedTurn judgedBorder borderVerdict placeSent
+    copied-judged e =
+        e ∙ ap (judgedTurn forward v) border-after
+        ∙ λ z. judgedAs (turnVerdict (sentFrom (way-is z) (border-length z) (place-is z)) (border o)) (edges (border o))
 
 -- ---- the judgement
 
 module _ (o : Outline) where
   pub judged-stopped : {f : Refusal} → surveyOf o ≡ Stopped f → {r : Judged} → ((es : List ℤ) → r ≡ judgedAs (Refused f) es) → r ≡ judgedOf o
   unfolding judgedOf verdictOf afterSurvey
-  judged-stopped h e = e (edges (reading o)) ∙ rw h
+  judged-stopped h e = e (edges (border o)) ∙ rw h
 
-  pub judged-passed : surveyOf o ≡ Passed → {r : Judged} → r ≡ judgedReading o → r ≡ judgedOf o
-  unfolding judgedOf judgedReading verdictOf afterSurvey
+  pub judged-passed : surveyOf o ≡ Passed → {r : Judged} → r ≡ judgedBorder o → r ≡ judgedOf o
+  unfolding judgedOf judgedBorder verdictOf afterSurvey
   judged-passed h e = e ∙ rw h
 
   -- The two parts of a judgement
@@ -115,6 +149,6 @@ module _ (o : Outline) where
   unfolding judgedOf judgedAs
   judged-verdict = refl
 
-  pub judged-numbers : judgedOf o .numbers ≡ lentAfter (verdictOf o) (edges (reading o)) zeros
+  pub judged-numbers : judgedOf o .numbers ≡ lentAfter (verdictOf o) (edges (border o)) zeros
   unfolding judgedOf judgedAs
   judged-numbers = refl

@@ -3,7 +3,7 @@ use Prim.Native.Nat.{ℕ, _+_, _*_, _≤_, _<_}
 use native.Mathlib.Numerals.{add-one}
 use native.Mathlib.Omega.{arith}
 use mathlib.Core.Path.{_≡_, refl, sym, ap, _∙_}
-use mathlib.Core.Bool.{true, false}
+use mathlib.Core.Bool.{Bool, true, false}
 use mathlib.Core.List.{List, _++_}
 use lib.ListN.{length, getD, take, drop, length-replicate}
 use lib.Seq.{length-take-le}
@@ -22,11 +22,13 @@ use Rattle.lattice.proofs.WalkLaws.{Walked, walked, simple-of-walked}
 use Rattle.rows.specs.Search.{foundCell}
 use Rattle.rows.proofs.RowLaws.{found-missing}
 use Rattle.convexity.specs.Frame.{frameOf, along}
-use Rattle.convexity.specs.Cut.{cornerPlace, cutCorner, west, turn, clockwise, reading}
-use Rattle.convexity.specs.Pieces.{backStepPiece, dentPiece, sent, edges, edgeCount}
+use Rattle.convexity.specs.Cut.{cornerPlace, cutCorner, turn, clockwise}
+use Rattle.convexity.specs.Reading.{reading, border, sentFrom}
+use Rattle.convexity.specs.Pieces.{backStepPiece, dentPiece, edges, edgeCount}
 use Rattle.convexity.proofs.StraightTurn.{NoBackStep}
 use Rattle.convexity.proofs.Extreme.{cornerPlace-lt, cornerPlace-first, not-before-earlier, turn-of}
 use Rattle.convexity.proofs.Shape.{straight-of, shape}
+use Rattle.convexity.proofs.Reading.{simple-reading}
 use Rattle.convexity.proofs.Bounds.{edges-length}
 use Rattle.convexity.proofs.EdgeBound.{edges-at-most-100}
 use Rattle.verdict.specs.Verdict.{backStepIn, cellFound, dentIn, turnVerdict, lentAfter}
@@ -39,8 +41,9 @@ use Rattle.border.specs.Judged.{zeros, judgedAs, judgedTurn}
 
 -- ---- the turn
 
-pub from-west : (o : Outline) → Simple o → FromWest (reading o)
-from-west o h = let t = turn-of o h in record { simple = simple-of-walked (reading o) (t .walked); west = t .west }
+pub from-west : (o : Outline) → Simple o → FromWest (border o)
+from-west o h =
+    let t = turn-of (reading o) (simple-reading o h) in record { simple = simple-of-walked (border o) (t .walked); west = t .west }
 
 module _ {o : Outline} (h : FromWest o) where
   pub turn-walked : Walked o
@@ -60,7 +63,7 @@ module _ {o : Outline} (h : FromWest o) where
   top-le-side = turn-walked .row-le (cornerPlace o 1) (omega (arith, turn-walked .long, cornerPlace-lt o 1 (omega (arith, turn-walked .long))))
 
   -- A place from W on, as a place of the list as sent
-  place-sent : {v i r : ℕ} → v < size o → i ≤ 4 * longest → SentTo (size o) v i r → r ≡ sent (size o) v i
+  place-sent : {forward : Bool} {v i r : ℕ} → v < size o → i ≤ 4 * longest → SentTo forward (size o) v i r → r ≡ sentFrom forward (size o) v i
   place-sent l k e = e .place (omega (arith, turn-walked .long)) (omega (arith, turn-walked .short)) l k
 
 -- ---- a turn without back-steps
@@ -95,9 +98,9 @@ module _ {v : ℕ} {o : Outline} {cuts : List ℕ} (h : Straight v o cuts) where
       (found-missing o (h .turn .simple .started) (h .turn .simple .stays) (cornerAt o (cornerPlace o 3) .row) (cornerAt o (cornerPlace o 1) .row)
       (bottom-le-top (h .turn)) (top-le-side (h .turn)))
 
-  pub dent-named : (k i l : ℕ) {place : ℕ} {bottom top cell : Point} → i ≤ 4 * longest → SentTo (size o) v i place
+  pub dent-named : (k i l : ℕ) {forward : Bool} {place : ℕ} {bottom top cell : Point} → i ≤ 4 * longest → SentTo forward (size o) v i place
       → (Stays o → bottom ≡ cornerAt o (getD cuts 3 0)) → (Stays o → top ≡ cornerAt o (getD cuts 1 0)) → cell ≡ foundCell o (bottom .row) (top .row)
-      → Dent (k + 1) place l cell ≡ dentAs v o k i l
+      → Dent (k + 1) place l cell ≡ dentAs forward v o k i l
   unfolding dentAs
   dent-named k i l m e b u f = rw (cell-found b u f, place-sent (h .turn) (h .place) m e)
 
@@ -116,21 +119,21 @@ as-taken : (n : ℕ) (a : Point) (es : List ℤ) {after : List ℤ} → after �
 unfolding judgedAs lentAfter
 as-taken n a es e = ap (λ (l : List ℤ). record { verdict = Taken n a; numbers = l }) e
 
-module _ (v : ℕ) (o : Outline) where
-  turn-back-step : {k i : ℕ} → StepIs o k i → k < 4 → judgedAs (Refused (BackStep (k + 1) (sent (size o) v i))) (edges o) ≡ judgedTurn v o
+module _ (forward : Bool) (v : ℕ) (o : Outline) where
+  turn-back-step : {k i : ℕ} → StepIs o k i → k < 4 → judgedAs (Refused (BackStep (k + 1) (sentFrom forward (size o) v i))) (edges o) ≡ judgedTurn forward v o
   unfolding judgedTurn turnVerdict backStepIn
   turn-back-step {k} h l =
       let b : ltb (backStepPiece o) 4 ≡ true = lt-ltb (backStepPiece o) 4 (omega (arith, h .piece)) in
       rw (b, add-one k, h .at, h .piece)
 
   module _ (b : ltb (backStepPiece o) 4 ≡ false) where
-    turn-dent : {k i l : ℕ} → DentIs o k i l → k < 4 → judgedAs (Refused (dentAs v o k i l)) (edges o) ≡ judgedTurn v o
+    turn-dent : {k i l : ℕ} → DentIs o k i l → k < 4 → judgedAs (Refused (dentAs forward v o k i l)) (edges o) ≡ judgedTurn forward v o
     unfolding judgedTurn turnVerdict dentIn dentAs
     turn-dent {k} h l =
         let c : ltb (dentPiece o) 4 ≡ true = lt-ltb (dentPiece o) 4 (omega (arith, h .piece)) in
         rw (b, c, add-one k, h .at, h .size, h .piece)
 
-    turn-taken : dentPiece o ≡ 4 → judgedAs (Taken (edgeCount o) (o .start)) (edges o) ≡ judgedTurn v o
+    turn-taken : dentPiece o ≡ 4 → judgedAs (Taken (edgeCount o) (o .start)) (edges o) ≡ judgedTurn forward v o
     unfolding judgedTurn turnVerdict
     turn-taken c = rw (b, c)
 
@@ -144,12 +147,12 @@ module _ {v : ℕ} {s : Point} {n : ℕ} {buffer cuts : List ℕ} (h : Turning v
   turn-size = length-take-le n buffer (h .within)
 
   -- 8
-  pub step-judged : {k i place : ℕ} → FoundAt buffer cuts k i → SentTo n v i place → {r : Judged} → ((es : List ℤ) → r ≡ judgedAs (Refused (BackStep (k + 1) place)) es)
-      → r ≡ judgedTurn v t
-  step-judged {k} {i} {place} e p {r} q =
-      let d : place ≡ sent (size t) v i =
+  pub step-judged : {forward : Bool} {k i place : ℕ} → FoundAt buffer cuts k i → SentTo forward n v i place → {r : Judged} → ((es : List ℤ) → r ≡ judgedAs (Refused (BackStep (k + 1) place)) es)
+      → r ≡ judgedTurn forward v t
+  step-judged {forward} {k} {i} {place} e p {r} q =
+      let d : place ≡ sentFrom forward (size t) v i =
       place-sent (h .ready .turn) (h .ready .place) (omega (arith, e .at-le, h .ready .sized)) (rw turn-size p) in
-      q (edges t) ∙ rw d (turn-back-step v t (e .step t (h .ready .laid)) (e .piece-lt))
+      q (edges t) ∙ rw d (turn-back-step forward v t (e .step t (h .ready .laid)) (e .piece-lt))
 
   pub none-straight : backStepPiece t ≡ 4 → ltb (backStepPiece t) 4 ≡ false
   none-straight e = rw e
@@ -160,9 +163,10 @@ module _ {v : ℕ} {s : Point} {n : ℕ} {buffer cuts : List ℕ} (h : Turning v
         record { turn = h .ready .turn; place = h .ready .place; clockwise = h .ready .clockwise; straight = b; places = h .ready .laid .places }
 
     -- 9
-    pub dent-judged : {k i l : ℕ} → DentRead buffer cuts k i l → {r : Judged} → ((es : List ℤ) → r ≡ judgedAs (Refused (dentAs v t k i l)) es) → r ≡ judgedTurn v t
-    dent-judged e q =
-        q (edges t) ∙ turn-dent v t b (e .dent t (turn-walked (h .ready .turn) .short) (h .ready .laid)) (e .piece-lt)
+    pub dent-judged : (forward : Bool) {k i l : ℕ} → DentRead buffer cuts k i l → {r : Judged} → ((es : List ℤ) → r ≡ judgedAs (Refused (dentAs forward v t k i l)) es)
+        → r ≡ judgedTurn forward v t
+    dent-judged forward e q =
+        q (edges t) ∙ turn-dent forward v t b (e .dent t (turn-walked (h .ready .turn) .short) (h .ready .laid)) (e .piece-lt)
 
     -- Taken
     module _ {after : List ℤ} {m : ℕ} (e : (o : Outline) → size o ≤ longest → Laid o cuts buffer → EdgesAre o zeros after m) where
@@ -175,8 +179,8 @@ module _ {v : ℕ} {s : Point} {n : ℕ} {buffer cuts : List ℕ} (h : Turning v
       pub count-le : 2 * m ≤ mostNumbers
       count-le = omega (arith, found .count room, count-bounded straight-of-turning (found .none))
 
-      pub edges-judged : record { verdict = Taken m s; numbers = after } ≡ judgedTurn v t
-      edges-judged =
+      pub edges-judged : (forward : Bool) → record { verdict = Taken m s; numbers = after } ≡ judgedTurn forward v t
+      edges-judged forward =
           let size : length (edges t) ≡ 2 * m = edges-length t ∙ ap (λ (k : ℕ). 2 * k) (sym (found .count room)) in
           as-taken m s (edges t) (found .list room ∙ rw size) ∙
-          ap (λ (k : ℕ). judgedAs (Taken k s) (edges t)) (found .count room) ∙ turn-taken v t b (found .none)
+          ap (λ (k : ℕ). judgedAs (Taken k s) (edges t)) (found .count room) ∙ turn-taken forward v t b (found .none)

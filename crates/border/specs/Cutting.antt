@@ -1,15 +1,18 @@
 -- What the code of the cut promises, over the definitions of the crates lattice and convexity.
 use Prim.Native.Nat.{ℕ, suc, _-_, _*_, _≤_, _<_}
 use mathlib.Core.Path.{_≡_}
+use mathlib.Core.Bool.{Bool, cond}
 use mathlib.Core.List.{List}
 use lib.ListN.{length, getD, take}
+use lib.Dec.{eqb}
 use Rattle.chart.specs.Limits.{longest}
 use Rattle.chart.specs.Outline.{Outline}
 use Rattle.lattice.specs.Chart.{size, rotation}
 use Rattle.lattice.specs.Refusals.{Stays}
 use Rattle.convexity.specs.Frame.{Frame}
 use Rattle.convexity.specs.Cut.{cornerPlace, cut}
-use Rattle.convexity.specs.Pieces.{rounds, sent}
+use Rattle.convexity.specs.Reading.{backward, sentFrom}
+use Rattle.convexity.specs.Pieces.{rounds}
 use Rattle.border.specs.declared.frame.Pair.{Pair}
 
 -- A pair of letters in the code is a frame
@@ -26,9 +29,17 @@ pub record CornerFound (o : Outline) (k r : ℕ) : Type 0 where
   pub within : r ≤ size o - 1
   pub place : Stays o → r ≡ cornerPlace o k
 
--- A buffer's first letters are those of w from a place on, past the list's end to its beginning
-abbrev pub Turned : List ℕ → ℕ → List ℕ → List ℕ → Type 0
-Turned w from before after = from ≤ length w → length w ≤ length before → take (length w) after ≡ rotation from w
+-- The letters from a place on, past the list's end to its beginning; or the same walk backward, from that place's corner round to it
+unfoldable pub readTurn : Bool → ℕ → List ℕ → List ℕ
+readTurn forward from w = cond forward (rotation from w) (backward (rotation from w))
+
+-- A buffer's first letters are those of w, so read
+abbrev pub Turned : Bool → List ℕ → ℕ → List ℕ → List ℕ → Type 0
+Turned forward w from before after = from ≤ length w → length w ≤ length before → take (length w) after ≡ readTurn forward from w
+
+-- Where the letter that leaves a corner stands in n letters read backward, if the one that leaves it as sent stands at w; forward it stands at w too
+unfoldable pub readPlace : Bool → ℕ → ℕ → ℕ
+readPlace forward n w = cond forward w (cond (eqb w 0) 0 (n - w))
 
 -- A buffer's first n letters stay, and its letters up to end are those read on, past their end to their beginning
 pub record Rounded (before : List ℕ) (n end : ℕ) (after : List ℕ) : Type 0 where
@@ -50,6 +61,6 @@ pub record Laid (o : Outline) (at buffer : List ℕ) : Type 0 where
   pub letters : take (cut o 4) buffer ≡ take (cut o 4) (rounds (o .letters))
 
 -- A place from W on as a place of the list as sent
-pub record SentTo (n w i r : ℕ) : Type 0 where
+pub record SentTo (forward : Bool) (n w i r : ℕ) : Type 0 where
   pub within : r < longest
-  pub place : 0 < n → n ≤ longest → w < n → i ≤ 4 * longest → r ≡ sent n w i
+  pub place : 0 < n → n ≤ longest → w < n → i ≤ 4 * longest → r ≡ sentFrom forward n w i

@@ -6,14 +6,15 @@ use chart::SIDE;
 use lattice::walk;
 ghost use Prim.Native.Nat.{_+_, _*_, _-_, _<_, _≤_};
 ghost use mathlib.Core.Path.{_≡_};
-ghost use lib.ListN.{length};
+ghost use lib.ListN.{length, getD};
 ghost use Rattle.chart.specs.Limits.{side};
 ghost use Rattle.chart.specs.Outline.{outline};
 ghost use Rattle.convexity.specs.Frame.{along as alongOf};
-ghost use Rattle.lattice.specs.Chart.{cornerAt};
+ghost use Rattle.lattice.specs.Chart.{cornerAt, rotation};
 ghost use Rattle.lattice.specs.Refusals.{Stays};
 ghost use Rattle.convexity.specs.Cut.{ahead as aheadOf};
-ghost use Rattle.border.specs.Cutting.{CornerFound, Turned, Rounded, CutsOf, SentTo};
+ghost use Rattle.convexity.specs.Reading.{opposite as oppositeOf};
+ghost use Rattle.border.specs.Cutting.{CornerFound, readTurn, Turned, readPlace, Rounded, CutsOf, SentTo};
 
 // A buffer that holds the letters as often round as four pieces can reach.
 pub(crate) const ROUNDS: usize = 4 * LONGEST;
@@ -79,21 +80,63 @@ pub(crate) fn corner_at(s: Point, w: &[u8], place: usize) -> Point
     p
 }
 
-// Copies the letters from a place on, past the list's end to its beginning.
-pub(crate) fn fill_turn(w: &[u8], from: usize, turn: &mut [u8])
-    ensures { λ r. ⌜ Turned (now (w .entry)) from (now (turn .entry)) (now (turn .exit)) ⌝ }
+// The letter of the way back.
+fn opposite(letter: u8) -> u8
+    ensures { λ r. ⌜ r ≡ oppositeOf letter ⌝ }
+{
+    match letter {
+        0 => 2,
+        1 => 3,
+        2 => 0,
+        _ => 1,
+    }
+}
+
+// Letter i from a place on, past the list's end to its beginning.
+fn letter_on(w: &[u8], from: usize, i: usize) -> u8
+    requires { ⌜ (from ≤ length (now w)) × (i < length (now w)) ⌝ }
+    ensures { λ r. ⌜ r ≡ getD (rotation from (now (w .entry))) i 0 ⌝ }
+{
+    let rest = w.len() - from;
+    let at = if i < rest { from + i } else { i - rest };
+    w[at]
+}
+
+// Letter i of the letters from a place on, read forward or backward.
+fn letter_read(w: &[u8], from: usize, forward: bool, i: usize) -> u8
+    requires { ⌜ (from ≤ length (now w)) × (i < length (now w)) ⌝ }
+    ensures { λ r. ⌜ r ≡ getD (readTurn forward from (now (w .entry))) i 0 ⌝ }
+{
+    if forward {
+        return letter_on(w, from, i);
+    }
+    opposite(letter_on(w, from, w.len() - 1 - i))
+}
+
+// Copies the letters from a place on, past the list's end to its beginning, or the same walk backward.
+pub(crate) fn fill_turn(w: &[u8], from: usize, forward: bool, turn: &mut [u8])
+    ensures { λ r. ⌜ Turned forward (now (w .entry)) from (now (turn .entry)) (now (turn .exit)) ⌝ }
 {
     let n = w.len();
     if turn.len() < n || n < from {
         return;
     }
-    let rest = n - from;
     let mut i = 0;
     while i < n {
-        let at = if i < rest { from + i } else { i - rest };
-        turn[i] = w[at];
+        turn[i] = letter_read(w, from, forward, i);
         i += 1;
     }
+}
+
+// The place of the letter that leaves a corner in what is read, from its place in the list as sent.
+pub(crate) fn read_place(n: usize, w: usize, forward: bool) -> usize
+    requires { ⌜ w ≤ n ⌝ }
+    ensures { λ r. ⌜ r ≡ readPlace forward n w ⌝ }
+{
+    if forward {
+        return w;
+    }
+    if w == 0 { 0 } else { n - w }
 }
 
 // Reads the first n letters on past their end: each letter up to `end` is the one n before it.
@@ -118,9 +161,10 @@ fn ahead(n: usize, a: usize, b: usize) -> usize
     if a <= b { b - a } else { n - a + b }
 }
 
-// An outline read from W on: the place of W's letter in the list as sent, the corner W, how many letters there are, and the five cut
-// places, the last of which is W's again.
+// An outline read from W on: whether forward, the place of W's letter in what is read, the corner W, how many letters there are, and the
+// five cut places, the last of which is W's again.
 pub(crate) struct Turn {
+    pub(crate) forward: bool,
     pub(crate) place: usize,
     pub(crate) west: Point,
     pub(crate) count: usize,
@@ -156,12 +200,13 @@ pub(crate) fn cut_places(s: Point, t: &[u8]) -> Cuts
     Cuts { at }
 }
 
-// A place in letters from W on, as a place of the list as sent, of n letters, where W's letter stands at w.
-pub(crate) fn sent(n: usize, w: usize, i: usize) -> usize
-    ensures { λ r. ⌜ SentTo n w i r ⌝ }
+// A place in letters from W on, as a place of the list as sent, of n letters, where W's letter stands at w in what is read.
+pub(crate) fn sent(n: usize, w: usize, forward: bool, i: usize) -> usize
+    ensures { λ r. ⌜ SentTo forward n w i r ⌝ }
 {
     if LONGEST < n || n <= w || ROUNDS < i {
         return 0;
     }
-    (w + i) % n
+    let at = (w + i) % n;
+    if forward { at } else { n - 1 - at }
 }

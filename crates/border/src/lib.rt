@@ -1,4 +1,4 @@
-// The border of an outline, cut in four and read as edges: refusals 7 to 9 behind the survey's 1 to 6.
+// The border of an outline, cut in four and read as edges: refusals 8 and 9 behind the survey's 1 to 6.
 use crate::back_steps::BackStep;
 use crate::cut::ROUNDS;
 use crate::cut::Turn;
@@ -20,7 +20,7 @@ ghost use Rattle.chart.specs.Outline.{outline};
 ghost use Rattle.lattice.specs.Refusals.{Simple};
 ghost use Rattle.convexity.specs.Pieces.{backStepPiece};
 ghost use Rattle.border.specs.Turning.{Turning, Straight, dentAs};
-ghost use Rattle.border.specs.Judged.{judgedAs, judgedTurn, judgedReading, judgedOf};
+ghost use Rattle.border.specs.Judged.{judgedAs, judgedTurn, judgedBorder, judgedOf};
 
 mod back_steps;
 mod cut;
@@ -47,12 +47,12 @@ fn refused(why: Refusal) -> Judged
 fn dent(turn: Turn, letters: &[u8], piece: usize, at: usize, length: usize) -> Refusal
     requires { ⌜ Straight (turn .place) (outline (turn .west) (now letters)) (turn .at) ⌝ }
     requires { ⌜ (piece < 4) × (at ≤ 4 * longest) × (length ≤ 4 * longest) ⌝ }
-    ensures { λ r. ⌜ r ≡ dentAs (turn .place) (outline (turn .west) (now (letters .entry))) piece at length ⌝ }
+    ensures { λ r. ⌜ r ≡ dentAs (turn .forward) (turn .place) (outline (turn .west) (now (letters .entry))) piece at length ⌝ }
 {
     let cuts = turn.at;
     let bottom = cut::corner_at(turn.west, letters, cuts[3]).row;
     let top = cut::corner_at(turn.west, letters, cuts[1]).row;
-    let place = cut::sent(letters.len(), turn.place, at);
+    let place = cut::sent(letters.len(), turn.place, turn.forward, at);
     Refusal::Dent {
         piece: (piece + 1) as u16,
         place: place as u16,
@@ -65,7 +65,7 @@ fn dent(turn: Turn, letters: &[u8], piece: usize, at: usize, length: usize) -> R
 fn edges(turn: Turn, buffer: &[u8]) -> Judged
     requires { ⌜ Turning (turn .place) (turn .west) (turn .count) (now buffer) (turn .at) ⌝ }
     requires { ⌜ ltb (backStepPiece (outline (turn .west) (take (turn .count) (now buffer)))) 4 ≡ false ⌝ }
-    ensures { λ r. ⌜ r ≡ judgedTurn (turn .place) (outline (turn .west) (take (turn .count) (now (buffer .entry)))) ⌝ }
+    ensures { λ r. ⌜ r ≡ judgedTurn (turn .forward) (turn .place) (outline (turn .west) (take (turn .count) (now (buffer .entry)))) ⌝ }
 {
     let mut numbers = [0i16; MOST_NUMBERS];
     let factored = dents::read(turn, buffer, &mut numbers);
@@ -88,12 +88,12 @@ fn edges(turn: Turn, buffer: &[u8]) -> Judged
 // 8 and 9, of a clockwise turn, or the edges.
 fn pieces(turn: Turn, buffer: &[u8]) -> Judged
     requires { ⌜ Turning (turn .place) (turn .west) (turn .count) (now buffer) (turn .at) ⌝ }
-    ensures { λ r. ⌜ r ≡ judgedTurn (turn .place) (outline (turn .west) (take (turn .count) (now (buffer .entry)))) ⌝ }
+    ensures { λ r. ⌜ r ≡ judgedTurn (turn .forward) (turn .place) (outline (turn .west) (take (turn .count) (now (buffer .entry)))) ⌝ }
 {
     let found = back_steps::first(turn, buffer);
     match found {
         BackStep::At { piece, at } => {
-            let place = cut::sent(turn.count, turn.place, at);
+            let place = cut::sent(turn.count, turn.place, turn.forward, at);
             refused(Refusal::BackStep {
                 piece: (piece + 1) as u16,
                 place: place as u16,
@@ -103,23 +103,24 @@ fn pieces(turn: Turn, buffer: &[u8]) -> Judged
     }
 }
 
-// 7 to 9, of an outline that passes 1 to 6, or the edges: its letters are read once round from W on into a buffer.
+// 8 and 9, of an outline that passes 1 to 6, or the edges: its letters are read once round from W on into a buffer, clockwise.
 fn read(start: Point, letters: &[u8]) -> Judged
     requires { ⌜ Simple (outline start (now letters)) ⌝ }
-    ensures { λ r. ⌜ r ≡ judgedReading (outline start (now (letters .entry))) ⌝ }
+    ensures { λ r. ⌜ r ≡ judgedBorder (outline start (now (letters .entry))) ⌝ }
 {
     let count = letters.len();
-    let place = cut::corner_place(start, letters, 0);
-    let west = cut::corner_at(start, letters, place);
+    let found = cut::corner_place(start, letters, 0);
+    let west = cut::corner_at(start, letters, found);
+    // Clockwise, the letter that leaves W leads up.
+    let forward = letters[found] == 1;
+    let place = cut::read_place(count, found, forward);
     let mut buffer = [0u8; ROUNDS];
-    cut::fill_turn(letters, place, &mut buffer);
-    if buffer[0] != 1 {
-        return refused(Refusal::Anticlockwise);
-    }
+    cut::fill_turn(letters, found, forward, &mut buffer);
     let cuts = cut::cut_places(west, &buffer[..count]);
     let at = cuts.at;
     cut::fill_rounds(&mut buffer, count, at[4]);
     let turn = Turn {
+        forward,
         place,
         west,
         count,

@@ -7,7 +7,7 @@ use lib.Dec.{leb}
 use Rattle.chart.specs.declared.Point.{Point}
 use Rattle.chart.specs.declared.Fields.{Fields}
 use Rattle.chart.specs.declared.Refusal.{Refusal}
-use Rattle.chart.specs.declared.Refusal.the-variants.{Count, Start, Letter, Leaves, Unclosed, Touches, Anticlockwise, BackStep, Dent, Room, List as BadList, Cell}
+use Rattle.chart.specs.declared.Refusal.the-variants.{Count, Start, Letter, Leaves, Unclosed, Touches, BackStep, Dent, Room, List as BadList, Cell}
 use Rattle.chart.specs.declared.Verdict.{Verdict}
 use Rattle.chart.specs.declared.Verdict.the-variants.{Taken, Refused}
 use Rattle.chart.specs.declared.Position.{Position}
@@ -50,7 +50,6 @@ refusalFields (Letter p) = placed 3 p
 refusalFields (Leaves p) = placed 4 p
 refusalFields Unclosed = numbered 5
 refusalFields (Touches p) = placed 6 p
-refusalFields Anticlockwise = numbered 7
 refusalFields (BackStep k p) = record { number = 8; word = no-word; place = p; piece = k; length = 0; col = 0; row = 0 }
 refusalFields (Dent k p l x) = record { number = 9; word = no-word; place = p; piece = k; length = l; col = x .col; row = x .row }
 refusalFields (Room e) = placed 10 e

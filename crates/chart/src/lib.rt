@@ -21,7 +21,7 @@ pub const MOST_NUMBERS: usize = 200;
 // The longest list of a loose query.
 pub const LONGEST_LIST: usize = 2032;
 
-// Why an input is turned back: refusals 1 to 11, each with the fields that it names (contract 5).
+// Why an input is turned back, each refusal with the fields that it names (contract 5). There is no refusal 7.
 pub enum Refusal {
     // 1. Fewer than 4 or more than 612 letters.
     Count,
@@ -41,8 +41,6 @@ pub enum Refusal {
     Touches {
         place: u16,
     },
-    // 7. The outline runs anticlockwise.
-    Anticlockwise,
     // 8. A letter that is none of its piece's two.
     BackStep {
         piece: u16,

@@ -66,7 +66,6 @@ pub fn of_refusal(f: Refusal) -> Fields
         Refusal::Leaves { place } => placed(4, place),
         Refusal::Unclosed => numbered(5),
         Refusal::Touches { place } => placed(6, place),
-        Refusal::Anticlockwise => numbered(7),
         Refusal::BackStep { piece, place } => Fields {
             number: 8,
             word: 0,

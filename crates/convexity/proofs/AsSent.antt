@@ -1,4 +1,5 @@
--- The convexity theorem for an outline as sent: its turn from W has the same enclosed cells, because the counts of a closed walk do not depend on where it begins.
+-- The convexity theorem for an outline as sent, whichever way it was drawn: its reading is a clockwise outline past refusals 1 to 6, and the turn of the reading
+-- from W has the same enclosed cells, because the counts of a closed walk do not depend on where it begins.
 use Prim.Native.Nat.{ℕ, _<_}
 use mathlib.Core.Path.{_≡_, _∙_, sym, ap, subst₂}
 use mathlib.Core.Logic.{_↔_}
@@ -13,7 +14,8 @@ use Rattle.lattice.specs.Refusals.{Simple}
 use Rattle.rows.specs.Search.{missingCell}
 use Rattle.lattice.proofs.WalkLaws.{walked}
 use Rattle.lattice.proofs.RightHand.{encloses-rotation}
-use Rattle.convexity.specs.Cut.{turn, westPlace, cornerPlace, cutCorner, reading}
+use Rattle.convexity.specs.Cut.{turn, westPlace, cornerPlace, cutCorner}
+use Rattle.convexity.specs.Reading.{reading, block, border}
 use Rattle.convexity.specs.Pieces.{Reaches, IsAnchor, dentPiece, edges}
 use Rattle.convexity.specs.Inside.{insideEdges}
 use Rattle.lattice.proofs.HullLaws.{missing-same, lowest-same}
@@ -21,51 +23,63 @@ use Rattle.convexity.proofs.StraightTurn.{NoBackStep}
 use Rattle.convexity.proofs.Extreme.{turn-of}
 use Rattle.convexity.proofs.Shape.{shape, straight-of}
 use Rattle.convexity.proofs.Levels.{leaves-upwards, anchor-lowest}
+use Rattle.convexity.proofs.Reading.{simple-reading, clockwise-reading}
 use Rattle.convexity.proofs.Theorem.{edges-answer, dent-iff-missing, search-finds}
 
 module _ (o : Outline) where
   -- The same cells, from W on
-  pub encloses-turn : Simple o → (c r : ℕ) → encloses (reading o) c r ≡ encloses o c r
+  pub encloses-turn : Simple o → (c r : ℕ) → encloses (turn o) c r ≡ encloses o c r
   unfolding turn
   encloses-turn h c r = encloses-rotation o (westPlace o) (walked o h .closed) c r
 
-  pub clear-of : Reaches o → NoBackStep (reading o)
+module _ (o : Outline) where
+  -- The block is what the reading from W on encloses
+  pub block-turn : Simple o → (c r : ℕ) → encloses (border o) c r ≡ block o c r
+  block-turn h = encloses-turn (reading o) (simple-reading o h)
+
+  pub clear-of : Reaches o → NoBackStep (border o)
   clear-of h =
-      record { turn = turn-of o (h .simple); clockwise = h .clockwise; straight = straight-of (reading o) (h .straight) }
+      record {
+        turn = turn-of (reading o) (simple-reading o (h .simple));
+        clockwise = clockwise-reading o (h .simple);
+        straight = straight-of (border o) (h .straight);
+      }
 
   module _ (h : Reaches o) where
+    abbrev t : Outline
+    t = border o
+
     -- E1: the edges answer for the block
-    pub edges-answer-sent : dentPiece (reading o) ≡ 4 → (x : Point) → x .col < side → x .row < side
-        → insideEdges (reading o .start) (edges (reading o)) x ≡ encloses o (x .col) (x .row)
-    edges-answer-sent smooth x c r = edges-answer (reading o) (clear-of h) smooth x c r ∙ encloses-turn (h .simple) (x .col) (x .row)
+    pub edges-answer-sent : dentPiece t ≡ 4 → (x : Point) → x .col < side → x .row < side
+        → insideEdges (t .start) (edges t) x ≡ block o (x .col) (x .row)
+    edges-answer-sent smooth x c r = edges-answer t (clear-of h) smooth x c r ∙ block-turn (h .simple) (x .col) (x .row)
 
     -- E2: an outline that reaches the dent test is dented exactly when some cell is in the hull of its enclosed cells and not enclosed
-    pub dented-iff-missing : (dentPiece (reading o) < 4) ↔ ((x : Point) × Missing (encloses o) x)
+    pub dented-iff-missing : (dentPiece t < 4) ↔ ((x : Point) × Missing (block o) x)
     dented-iff-missing =
-        let e = dent-iff-missing (reading o) (clear-of h) in (
-          λ d. let (x, m) = e .0 d in (x, missing-same (encloses-turn (h .simple)) m),
-          λ m. e .1 (m .0, missing-same (λ c r. sym (encloses-turn (h .simple) c r)) (m .1)),
+        let e = dent-iff-missing t (clear-of h) in (
+          λ d. let (x, m) = e .0 d in (x, missing-same (block-turn (h .simple)) m),
+          λ m. e .1 (m .0, missing-same (λ c r. sym (block-turn (h .simple) c r)) (m .1)),
         )
 
     -- E3: and the cell that the search names is the lowest such cell, leftmost in its row
-    pub named-lowest : dentPiece (reading o) < 4
-        → LowestMissing (encloses o)
-        (missingCell (reading o) (cornerAt (reading o) (cornerPlace (reading o) 3) .row)
-        (cornerAt (reading o) (cornerPlace (reading o) 1) .row))
+    pub named-lowest : dentPiece t < 4
+        → LowestMissing (block o) (missingCell t (cornerAt t (cornerPlace t 3) .row) (cornerAt t (cornerPlace t 1) .row))
     unfolding cutCorner
     named-lowest d =
-        let f = shape (reading o) (clear-of h) in
-        subst₂ (λ (b t : ℕ). LowestMissing (encloses o) (missingCell (reading o) b t))
-        (ap (λ (i : ℕ). cornerAt (reading o) i .row) (f .corners 3 (lit< tt)))
-        (ap (λ (i : ℕ). cornerAt (reading o) i .row) (f .corners 1 (lit< tt)))
-        (lowest-same (encloses-turn (h .simple)) (search-finds (reading o) (clear-of h) d))
+        let f = shape t (clear-of h) in
+        subst₂ (λ (b u : ℕ). LowestMissing (block o) (missingCell t b u))
+        (ap (λ (i : ℕ). cornerAt t i .row) (f .corners 3 (lit< tt)))
+        (ap (λ (i : ℕ). cornerAt t i .row) (f .corners 1 (lit< tt)))
+        (lowest-same (block-turn (h .simple)) (search-finds t (clear-of h) d))
 
     -- The cell at W is the lowest enclosed cell of the leftmost column
-    pub west-anchor : IsAnchor o (reading o .start)
+    pub west-anchor : IsAnchor (block o) (t .start)
     west-anchor =
-        let a = anchor-lowest (reading o) (turn-of o (h .simple)) (leaves-upwards (reading o) (h .clockwise)) in
+        let simple = simple-reading o (h .simple) in
+        let a = anchor-lowest t (turn-of (reading o) simple) (leaves-upwards t (clockwise-reading o (h .simple))) in
         record {
-          enclosed = sym (encloses-turn (h .simple) _ _) ∙ a .enclosed;
-          leftmost = λ c r l. sym (encloses-turn (h .simple) c r) ∙ a .leftmost c r l;
-          lowest = λ r l. sym (encloses-turn (h .simple) _ r) ∙ a .lowest r l;
+          enclosed = sym (block-turn (h .simple) _ _) ∙ a .enclosed;
+          leftmost = λ c r l. sym (block-turn (h .simple) c r) ∙ a .leftmost c r l;
+          lowest = λ r l. sym (block-turn (h .simple) _ r) ∙ a .lowest r l;
         }

@@ -15,12 +15,12 @@ use Rattle.base.proofs.BelowLaws.{first-le, first-found}
 use Rattle.chart.specs.declared.Point.{Point}
 use Rattle.chart.specs.Outline.{Outline}
 use Rattle.lattice.specs.Chart.{step, cornerAt, size, letterAt}
-use Rattle.lattice.specs.Enclosed.{encloses}
 use Rattle.lattice.specs.Hull.{InHull, Missing}
 use Rattle.lattice.specs.Refusals.{Simple}
 use Rattle.lattice.proofs.WalkLaws.{Walked, corner-suc, or-left, or-right}
 use Rattle.convexity.specs.Frame.{Frame, frameOf, along}
-use Rattle.convexity.specs.Cut.{clockwise, cutCorner, cut, reading}
+use Rattle.convexity.specs.Cut.{cutCorner, cut}
+use Rattle.convexity.specs.Reading.{reading, block, border}
 use Rattle.convexity.specs.Pieces.{piece, isBackStep, backStepAt, backStepPiece, factors, dentLength, dentPiece, Reaches}
 use Rattle.lattice.proofs.HullLaws.{missing-same}
 use Rattle.convexity.proofs.StraightTurn.{Turn}
@@ -30,7 +30,8 @@ use Rattle.convexity.proofs.Cuts.{previous-pos, cut-zero, corner-west, 
 use Rattle.convexity.specs.Reading.{opposite}
 use Rattle.convexity.proofs.Ring.{next, next-lt, Apart, apart, turns, along-next}
 use Rattle.convexity.proofs.Levels.{LetterAt, leaves-upwards}
-use Rattle.convexity.proofs.AsSent.{encloses-turn, dented-iff-missing}
+use Rattle.convexity.proofs.Reading.{simple-reading, clockwise-reading}
+use Rattle.convexity.proofs.AsSent.{block-turn, dented-iff-missing}
 use Rattle.convexity.proofs.OneRun.{SomeMissing, twice, back-gap}
 
 -- ---- a frame's later letter, on and back
@@ -339,44 +340,44 @@ module _ (o : Outline) (h : Turn o) (up : letterAt o 0 ≡ 1) where
         | no a ↦ east-first (omega arith)
       ]
 
--- ---- an outline as sent, past refusals 1 to 6 and clockwise
+-- ---- an outline as sent, past refusals 1 to 6
 
-module _ (o : Outline) (h : Simple o) (c : clockwise (reading o) ≡ true) where
+module _ (o : Outline) (h : Simple o) where
   -- Every outline that refusal 8 turns back has a missing cell
-  pub back-step-missing-sent : backStepPiece (reading o) < 4 → (x : Point) × Missing (encloses o) x
+  pub back-step-missing-sent : backStepPiece (border o) < 4 → (x : Point) × Missing (block o) x
   back-step-missing-sent l =
-      let (x, m) = back-step-missing (reading o) (turn-of o h) (leaves-upwards (reading o) c) l in
-      (x, missing-same (encloses-turn o h) m)
+      let (x, m) = back-step-missing (border o) (turn-of (reading o) (simple-reading o h)) (leaves-upwards (border o) (clockwise-reading o h)) l in
+      (x, missing-same (block-turn o h) m)
 
   -- An outline with no missing cell has no back-step
-  pub full-straight : ((x : Point) → Missing (encloses o) x → ⊥) → ltb (backStepPiece (reading o)) 4 ≡ false
+  pub full-straight : ((x : Point) → Missing (block o) x → ⊥) → ltb (backStepPiece (border o)) 4 ≡ false
   full-straight full =
-      elim (decLt (backStepPiece (reading o)) 4) [
+      elim (decLt (backStepPiece (border o)) 4) [
         | yes l ↦ let (x, m) = back-step-missing-sent l in absurd (full x m)
-        | no l ↦ le-ltb (backStepPiece (reading o)) 4 (omega arith)
+        | no l ↦ le-ltb (backStepPiece (border o)) 4 (omega arith)
       ]
 
   -- The same where every hull cell is enclosed
-  pub hull-full-straight : ((x : Point) → InHull (encloses o) x → encloses o (x .col) (x .row) ≡ true) → ltb (backStepPiece (reading o)) 4 ≡ false
+  pub hull-full-straight : ((x : Point) → InHull (block o) x → block o (x .col) (x .row) ≡ true) → ltb (backStepPiece (border o)) 4 ≡ false
   hull-full-straight full = full-straight (λ x m. true≢false (sym (full x (m .hull)) ∙ m .open-cell))
 
-  -- So past refusals 1 to 7 an outline passes 8 and 9 exactly if no cell is missing
+  -- So past refusals 1 to 6 an outline passes 8 and 9 exactly if no cell is missing
   pub passes-iff-full :
-      ((backStepPiece (reading o) ≡ 4) × (dentPiece (reading o) ≡ 4)) ↔ ((x : Point) → Missing (encloses o) x → ⊥)
+      ((backStepPiece (border o) ≡ 4) × (dentPiece (border o) ≡ 4)) ↔ ((x : Point) → Missing (block o) x → ⊥)
   unfolding dentPiece
   passes-iff-full = (
     λ e x m. absurd (omega (arith, dented-iff-missing o (reaches (e .0)) .1 (x, m))),
     λ full.
-        let straight = straight-of (reading o) (full-straight full) in
+        let straight = straight-of (border o) (full-straight full) in
         (straight, smooth full straight),
   )
     where
-      reaches : backStepPiece (reading o) ≡ 4 → Reaches o
-      reaches e = record { simple = h; clockwise = c; straight = le-ltb (backStepPiece (reading o)) 4 (omega arith) }
+      reaches : backStepPiece (border o) ≡ 4 → Reaches o
+      reaches e = record { simple = h; straight = le-ltb (backStepPiece (border o)) 4 (omega arith) }
 
-      smooth : ((x : Point) → Missing (encloses o) x → ⊥) → backStepPiece (reading o) ≡ 4 → dentPiece (reading o) ≡ 4
+      smooth : ((x : Point) → Missing (block o) x → ⊥) → backStepPiece (border o) ≡ 4 → dentPiece (border o) ≡ 4
       smooth full e =
-          elim (decLt (dentPiece (reading o)) 4) [
+          elim (decLt (dentPiece (border o)) 4) [
             | yes l ↦ let (x, m) = dented-iff-missing o (reaches e) .0 l in absurd (full x m)
-            | no l ↦ omega (arith, first-le (λ k. ltb 0 (dentLength (factors (reading o) k))) 4)
+            | no l ↦ omega (arith, first-le (λ k. ltb 0 (dentLength (factors (border o) k))) 4)
           ]

@@ -14,14 +14,15 @@ use Rattle.lattice.specs.Chart.{cornerAt, size, rotation}
 use Rattle.lattice.specs.Refusals.{Simple}
 use Rattle.lattice.specs.Enclosed.{encloses}
 use Rattle.lattice.proofs.WalkLaws.{Walked, walked, corner-zero, corner-injective, rotated-simple, outline-eq}
-use Rattle.convexity.specs.Cut.{cornerPlace, westPlace, west, turn, clockwise, reading}
+use Rattle.convexity.specs.Cut.{cornerPlace, westPlace, west, turn, clockwise}
+use Rattle.convexity.specs.Reading.{reading, block, border}
 use Rattle.convexity.specs.Pieces.{IsAnchor, backStepPiece, dentPiece, edges}
 use Rattle.convexity.specs.FromEdges.{lettersFrom}
 use Rattle.convexity.specs.Border.{HasEdges}
 use Rattle.convexity.proofs.StraightTurn.{Turn}
-use Rattle.convexity.proofs.Extreme.{cornerPlace-lt, cornerPlace-first, turn-of}
-use Rattle.convexity.proofs.Reading.{first-unique}
-use Rattle.convexity.proofs.AsSent.{encloses-turn, west-anchor}
+use Rattle.convexity.proofs.Extreme.{cornerPlace-lt, cornerPlace-first, first-unique, on-chart, turn-of}
+use Rattle.convexity.proofs.Reading.{reading-clockwise, simple-reading, clockwise-reading}
+use Rattle.convexity.proofs.AsSent.{block-turn, west-anchor}
 use Rattle.convexity.proofs.FromEdges.{sent-from-edges}
 
 -- ---- a turn's W is its start
@@ -33,7 +34,7 @@ module _ (o : Outline) (h : Turn o) where
       let some : 0 < size o = omega (arith, h .walked .long) in
       let m : cornerPlace o 0 < size o = cornerPlace-lt o 0 some in
       corner-injective o (h .walked) (cornerPlace o 0) 0 m some
-      (first-unique (cornerAt o (cornerPlace o 0)) (cornerAt o 0) (rw (corner-zero o) (h .west (cornerPlace o 0) m)) (cornerPlace-first o 0 0 some))
+      (first-unique 0 (cornerAt o (cornerPlace o 0)) (cornerAt o 0) (on-chart o (h .walked) (cornerPlace o 0) (omega arith)) (on-chart o (h .walked) 0 (omega arith)) (rw (corner-zero o) (h .west (cornerPlace o 0) m)) (cornerPlace-first o 0 0 some))
 
   pub west-self : west o ≡ o .start
   unfolding turn
@@ -43,17 +44,21 @@ module _ (o : Outline) (h : Turn o) where
   unfolding turn
   turn-self = outline-eq (turn o) o west-self (ap (λ (i : ℕ). rotation i (o .letters)) west-start ∙ append-nil (o .letters))
 
+  -- A clockwise turn is the turn of its reading
+  reading-self : clockwise o ≡ true → border o ≡ o
+  reading-self round = ap turn (reading-clockwise o (rw turn-self round)) ∙ turn-self
+
   has-self :
       (es : List ℤ) → Simple o → clockwise o ≡ true → ltb (backStepPiece o) 4 ≡ false → dentPiece o ≡ 4 → edges o ≡ es → HasEdges o (o .start) es
   has-self es simple round straight smooth same =
       record {
-        reaches = record { simple = simple; clockwise = rw turn-self round; straight = rw turn-self straight };
-        smooth = rw turn-self smooth;
-        anchor = west-self;
-        edged = rw turn-self same;
+        reaches = record { simple = simple; straight = rw (reading-self round) straight };
+        smooth = rw (reading-self round) smooth;
+        anchor = ap (λ (v : Outline). v .start) (reading-self round);
+        edged = rw (reading-self round) same;
       }
 
-simple-turn : (o : Outline) → Simple o → Simple (reading o)
+simple-turn : (o : Outline) → Simple o → Simple (turn o)
 unfolding turn westPlace
 simple-turn o h =
     let d : Walked o = walked o h in
@@ -63,31 +68,32 @@ simple-turn o h =
 -- ---- the letters written back are the outline
 
 module _ {o : Outline} {a : Point} {es : List ℤ} (h : HasEdges o a es) where
-  -- A taken outline's reading is the anchor with the letters that its edges write
-  pub border-reading : reading o ≡ outline a (lettersFrom es)
-  border-reading = outline-eq (reading o) (outline a (lettersFrom es)) (h .anchor) (sent-from-edges o (h .reaches) (h .smooth) ∙ ap lettersFrom (h .edged))
+  -- A taken outline's reading from W on is the anchor with the letters that its edges write
+  pub border-reading : border o ≡ outline a (lettersFrom es)
+  border-reading = outline-eq (border o) (outline a (lettersFrom es)) (h .anchor) (sent-from-edges o (h .reaches) (h .smooth) ∙ ap lettersFrom (h .edged))
 
   -- The anchor is that of contract 3.13
-  pub border-anchor : IsAnchor o a
-  border-anchor = subst (IsAnchor o) (h .anchor) (west-anchor o (h .reaches))
+  pub border-anchor : IsAnchor (block o) a
+  border-anchor = subst (IsAnchor (block o)) (h .anchor) (west-anchor o (h .reaches))
 
   -- And that outline has this anchor and these edges
   pub border-has : HasEdges (outline a (lettersFrom es)) a es
   border-has =
       let r = h .reaches in
+      let simple = simple-reading o (r .simple) in
       subst (λ (v : Outline). HasEdges v (v .start) es) border-reading
-      (has-self (reading o) (turn-of o (r .simple)) es (simple-turn o (r .simple)) (r .clockwise) (r .straight) (h .smooth) (h .edged))
+      (has-self (border o) (turn-of (reading o) simple) es (simple-turn (reading o) simple) (clockwise-reading o (r .simple)) (r .straight) (h .smooth) (h .edged))
 
   -- It encloses the same cells
-  pub border-encloses : (c r : ℕ) → encloses (outline a (lettersFrom es)) c r ≡ encloses o c r
-  border-encloses c r = ap (λ (v : Outline). encloses v c r) (sym border-reading) ∙ encloses-turn o (h .reaches .simple) c r
+  pub border-encloses : (c r : ℕ) → encloses (outline a (lettersFrom es)) c r ≡ block o c r
+  border-encloses c r = ap (λ (v : Outline). encloses v c r) (sym border-reading) ∙ block-turn o (h .reaches .simple) c r
 
 -- Refusal 17: some taken outline has this anchor and these edges exactly if the letters written back from the anchor's corner are one
 pub border-iff : (a : Point) (es : List ℤ) → ((o : Outline) × HasEdges o a es) ↔ HasEdges (outline a (lettersFrom es)) a es
 border-iff a es = (λ h. border-has (h .1), λ h. (outline a (lettersFrom es), h))
 
--- Two taken outlines with the same anchor and edges have the same reading, and enclose the same cells
+-- Two taken outlines with the same anchor and edges have the same reading from W on, and enclose the same cells
 pub border-unique :
     {o o′ : Outline} {a : Point} {es : List ℤ} → HasEdges o a es → HasEdges o′ a es
-    → (reading o ≡ reading o′) × ((c r : ℕ) → encloses o c r ≡ encloses o′ c r)
+    → (border o ≡ border o′) × ((c r : ℕ) → block o c r ≡ block o′ c r)
 border-unique h k = (border-reading h ∙ sym (border-reading k), λ c r. sym (border-encloses h c r) ∙ border-encloses k c r)

@@ -1,21 +1,22 @@
 -- W, N, E and S are the corners that the contract describes: the first corner of a frame is the least far along its earlier letter, then along its later one,
 -- and in columns and rows this says left and low, high and left, right and high, low and right. Two such corners are as far along both letters, so they
 -- are one, which a walk that meets no corner twice leaves once.
-use Prim.Native.Nat.{ℕ, _+_, _-_, _≤_, _<_}
-use native.Mathlib.Decide.{decLt}
+use Prim.Native.Nat.{ℕ, _≤_, _<_}
 use native.Mathlib.Omega.{arith}
-use mathlib.Core.Path.{_≡_, refl, ap, _∙_}
-use mathlib.Core.Logic.{_↔_, _⊎_, inl, inr, ⊎-elim}
+use mathlib.Core.Path.{_≡_, refl, _∙_}
+use mathlib.Core.Logic.{_↔_}
 use Rattle.chart.specs.declared.Point.{Point}
 use Rattle.chart.specs.Outline.{Outline}
 use Rattle.chart.specs.Limits.{side}
-use Rattle.lattice.specs.Chart.{cornerAt, size}
+use Rattle.lattice.specs.Chart.{cornerAt, size, rotated}
 use Rattle.lattice.specs.Refusals.{Simple}
-use Rattle.lattice.proofs.WalkLaws.{Walked, walked, turned, length-rotation, corner-injective}
+use Rattle.lattice.proofs.WalkLaws.{Walked, walked, corner-injective, rotated-walked, rotated-corners}
 use Rattle.convexity.specs.Frame.{frameOf, along}
-use Rattle.convexity.specs.Cut.{cornerPlace, westPlace, west, turn, reading}
+use Rattle.convexity.specs.Cut.{cornerPlace, westPlace, turn}
+use Rattle.convexity.specs.Reading.{reversed, reading, border}
 use Rattle.convexity.specs.Corners.{OnWalk, IsWest, IsNorth, IsEast, IsSouth, OnlyAt, FourCorners}
-use Rattle.convexity.proofs.Extreme.{FirstAt, cornerPlace-lt, first-at-cornerPlace, not-before-earlier, not-before-later, on-chart, along-injective, turn-of}
+use Rattle.convexity.proofs.Extreme.{FirstAt, cornerPlace-lt, first-at-cornerPlace, not-before-earlier, not-before-later, on-chart, along-injective, turn-of, first-shared}
+use Rattle.convexity.proofs.Reading.{backward-corners, walked-backward, by-reading, simple-reading}
 
 module _ (o : Outline) where
   -- ---- one law for every frame
@@ -144,6 +145,12 @@ module _ (o : Outline) where
 
 -- ---- an outline that passes 1 to 6, and its reading from W
 
+turned-corner : (o : Outline) → Walked o → (k : ℕ) → cornerAt (turn o) (cornerPlace (turn o) k) ≡ cornerAt o (cornerPlace o k)
+unfolding turn westPlace
+turned-corner o d k =
+    let b : cornerPlace o 0 ≤ size o = omega (arith, cornerPlace-lt o 0 (omega (arith, d .long))) in
+    first-shared (rotated (cornerPlace o 0) o) o (rotated-walked o (cornerPlace o 0) b d) d (rotated-corners o (cornerPlace o 0) b (d .closed)) k
+
 module _ (o : Outline) (simple : Simple o) where
   abbrev d : Walked o
   d = walked o simple
@@ -151,52 +158,9 @@ module _ (o : Outline) (simple : Simple o) where
   pub four-corners : FourCorners o
   four-corners = walk-corners o d
 
-  pub four-corners-turn : FourCorners (reading o)
-  four-corners-turn = walk-corners (reading o) (turn-of o simple .walked)
+  pub four-corners-reading : FourCorners (border o)
+  four-corners-reading = walk-corners (border o) (turn-of (reading o) (simple-reading o simple) .walked)
 
-  abbrev k : ℕ
-  k = westPlace o
-
-  k-le : k ≤ size o
-  unfolding westPlace
-  k-le = omega (arith, cornerPlace-lt o 0 (omega (arith, d .long)))
-
-  -- The reading leaves the same corners as the walk as sent
-  record Back (j : ℕ) : Type 0 where
-    place : ℕ
-    below : place < size (reading o)
-    corner : cornerAt (reading o) place ≡ cornerAt o j
-
-  back-at : (i j : ℕ) → i < size o → j < size o → (k + i ≡ j) ⊎ (k + i ≡ size o + j) → Back j
-  unfolding turn
-  back-at i j l h p =
-      let (m, t) = turned o k k-le (d .closed) i l in
-      let below : m < size o = t .below in
-      let e : m ≡ j =
-      ⊎-elim (λ a. ⊎-elim (λ b. omega (arith, a, b, below)) (λ b. omega (arith, a, b, below)) p)
-      (λ a. ⊎-elim (λ b. omega (arith, a, b, below)) (λ b. omega (arith, a, b, below)) p) (t .place) in
-      record { place = i; below = omega (arith, length-rotation o k k-le); corner = t .corner ∙ ap (cornerAt o) e }
-
-  back : (j : ℕ) → j < size o → Back j
-  back j h =
-      elim (decLt j k) [
-        | yes l ↦ back-at (size o + j - k) j (omega (arith, k-le)) h (inr (omega (arith, k-le)))
-        | no l ↦ back-at (j - k) j (omega arith) h (inl (omega arith))
-      ]
-
-  -- So W, N, E and S of the reading are those of the outline
-  pub corner-turn : (n : ℕ) → cornerAt (reading o) (cornerPlace (reading o) n) ≡ cornerAt o (cornerPlace o n)
-  unfolding turn
-  corner-turn n =
-      let u : OnlyAt (reading o) (IsFirst (reading o) n) (cornerPlace (reading o) n) =
-      first-only (reading o) (turn-of o simple .walked) n in
-      let (j, t) = turned o k k-le (d .closed) (cornerPlace (reading o) n) (omega (arith, u .below, length-rotation o k k-le)) in
-      let f = rw (t .corner) at (u .here) in
-      t .corner ∙
-      ap (cornerAt o)
-      (first-only o d n .only j (t .below)
-      (record {
-        on-walk = on-walk-at o j (t .below);
-        earlier = λ i h. let b : Back i = back i h in rw (b .corner) at (f .earlier (b .place) (b .below));
-        later = λ i h e. let b : Back i = back i h in rw (b .corner) at (f .later (b .place) (b .below) (rw (b .corner) e));
-      }))
+  -- The reading from W on leaves the same corners, so its W, N, E and S are those of the outline
+  pub corner-reading : (k : ℕ) → cornerAt (border o) (cornerPlace (border o) k) ≡ cornerAt o (cornerPlace o k)
+  corner-reading k = turned-corner (reading o) (walked (reading o) (simple-reading o simple)) k ∙ by-reading o (λ v. cornerAt v (cornerPlace v k) ≡ cornerAt o (cornerPlace o k)) (λ _. refl) (λ _. first-shared (reversed o) o (walked-backward o d) d (backward-corners o d) k)

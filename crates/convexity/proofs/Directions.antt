@@ -15,7 +15,7 @@ use Rattle.words.specs.Lyndon.{Factor, copies, written}
 use Rattle.words.proofs.Counts.{laters-copies, length-copies, laters-next-later, laters-take-le}
 use Rattle.words.proofs.Factors.{factors-exist}
 use Rattle.chart.specs.Outline.{Outline}
-use Rattle.convexity.specs.Cut.{reading}
+use Rattle.convexity.specs.Reading.{border}
 use Rattle.convexity.specs.Frame.{frameOf}
 use Rattle.convexity.specs.Pieces.{Reaches, word, factors, edgesOf, edges, edgeCount, dentPiece}
 use Rattle.convexity.specs.Directions.{edgeCols, edgeRows, SameDirection}
@@ -235,21 +235,21 @@ module _ (o : Outline) (straight : NoBackStep o) (smooth : dentPiece o ≡ 4) wh
 
 module _ (o : Outline) where
   abbrev es : List ℤ
-  es = edges (reading o)
+  es = edges (border o)
 
-  module _ (h : Reaches o) (smooth : dentPiece (reading o) ≡ 4) where
+  module _ (h : Reaches o) (smooth : dentPiece (border o) ≡ 4) where
     sent-turning : Turning 0 0 0 es
-    sent-turning = edges-turning (reading o) (clear-of o h) smooth
+    sent-turning = edges-turning (border o) (clear-of o h) smooth
 
-    edge-within : (i : ℕ) → i < edgeCount (reading o) → 2 * i < length es
-    edge-within i l = omega (arith, edges-length (reading o))
+    edge-within : (i : ℕ) → i < edgeCount (border o) → 2 * i < length es
+    edge-within i l = omega (arith, edges-length (border o))
 
     -- No edge is (0, 0)
-    pub edge-not-nil : (i : ℕ) → i < edgeCount (reading o) → edgeCols es i ≡ pos 0 → edgeRows es i ≡ pos 0 → ⊥
+    pub edge-not-nil : (i : ℕ) → i < edgeCount (border o) → edgeCols es i ≡ pos 0 → edgeRows es i ≡ pos 0 → ⊥
     edge-not-nil i l = let p = turning-past sent-turning i (edge-within i l) in points-not-nil (p .frame) (p .points)
 
     -- No two edges share a direction
     pub directions-distinct :
-        (i j : ℕ) → i < j → j < edgeCount (reading o)
+        (i j : ℕ) → i < j → j < edgeCount (border o)
         → SameDirection (edgeCols es i) (edgeRows es i) (edgeCols es j) (edgeRows es j) → ⊥
     directions-distinct i j l m = turning-apart sent-turning i j l (edge-within j m)

@@ -20,7 +20,7 @@ use Rattle.words.proofs.Factors.{factors-exist, falling-head, falling-tail}
 use Rattle.chart.specs.Limits.{mostNumbers}
 use Rattle.chart.specs.Outline.{Outline}
 use Rattle.convexity.specs.Frame.{frameOf}
-use Rattle.convexity.specs.Cut.{reading}
+use Rattle.convexity.specs.Reading.{border}
 use Rattle.convexity.specs.Pieces.{Reaches, piece, word, factors, edgeCount, dentLength, dentPiece}
 use Rattle.convexity.proofs.Frame.{Falls, EdgesFall}
 use Rattle.convexity.proofs.StraightTurn.{NoBackStep}
@@ -193,5 +193,5 @@ pub edges-at-most-100 : (o : Outline) → NoBackStep o → dentPiece o ≡ 4 →
 edges-at-most-100 o straight smooth = omega (arith, edges-and-letters o straight smooth, straight .turn .walked .short)
 
 -- The same for an outline as sent: the holder has room for the edges of every outline that is taken
-pub edges-fit : (o : Outline) → Reaches o → dentPiece (reading o) ≡ 4 → 2 * edgeCount (reading o) ≤ mostNumbers
-edges-fit o h smooth = edges-at-most-100 (reading o) (clear-of o h) smooth
+pub edges-fit : (o : Outline) → Reaches o → dentPiece (border o) ≡ 4 → 2 * edgeCount (border o) ≤ mostNumbers
+edges-fit o h smooth = edges-at-most-100 (border o) (clear-of o h) smooth

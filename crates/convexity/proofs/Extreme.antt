@@ -2,7 +2,7 @@
 use Prim.Native.Nat.{ℕ, zero, suc, _+_, _-_, _≤_, _<_}
 use native.Mathlib.Decide.{decLt}
 use native.Mathlib.Omega.{arith}
-use mathlib.Core.Path.{_≡_, refl, sym, ap, _∙_}
+use mathlib.Core.Path.{_≡_, refl, sym, ap, _∙_, subst}
 use mathlib.Core.Logic.{_⊎_, inl, inr, _≢_}
 use mathlib.Core.Bool.{Bool, true, false, cond, _&&_, _||_}
 use lib.Dec.{ltb, eqb}
@@ -13,7 +13,7 @@ use Rattle.chart.specs.declared.Point.{Point}
 use Rattle.chart.specs.Outline.{Outline}
 use Rattle.lattice.specs.Chart.{step, leaves, cornerAt, size, letterAt}
 use Rattle.lattice.specs.Refusals.{Simple}
-use Rattle.lattice.proofs.WalkLaws.{Walked, OnChart, walked, rotated-walked, turned, length-rotation, point-eq, corner-zero, corner-suc, corner-all, corner-injective}
+use Rattle.lattice.proofs.WalkLaws.{Walked, OnChart, SameCorners, walked, rotated-walked, turned, length-rotation, point-eq, corner-zero, corner-suc, corner-all, corner-injective}
 use Rattle.convexity.specs.Frame.{Frame, frameOf, along}
 use Rattle.convexity.specs.Cut.{before, least, cornerPlace, westPlace, west, turn}
 use Rattle.convexity.specs.Reading.{opposite}
@@ -196,6 +196,25 @@ not-before-later f p q h e =
       | yes l ↦ let z : _≡_ {A = ℕ} 0 1 = cc (before-level f p q e l) in absurd (omega arith)
       | no l ↦ omega arith
     ]
+
+-- Two corners neither of which comes before the other are one
+pub first-unique : (k : ℕ) (p q : Point) → OnChart p → OnChart q → before (frameOf k) p q ≡ false → before (frameOf k) q p ≡ false → p ≡ q
+first-unique k p q c d g h =
+    let e : along (frameOf k .earlier) p ≡ along (frameOf k .earlier) q =
+    omega (arith, not-before-earlier (frameOf k) p q g, not-before-earlier (frameOf k) q p h) in
+    along-injective k p q c d e (omega (arith, not-before-later (frameOf k) p q g e, not-before-later (frameOf k) q p h (sym e)))
+
+-- Walks that leave the same corners have the same first corner of each piece
+pub first-shared : (o v : Outline) → Walked o → Walked v → SameCorners o v → (k : ℕ) → cornerAt o (cornerPlace o k) ≡ cornerAt v (cornerPlace v k)
+first-shared o v t u same k =
+    let f = first-at-cornerPlace o k (omega (arith, t .long)) in
+    let g = first-at-cornerPlace v k (omega (arith, u .long)) in
+    let (j, m, e) = same .there (cornerPlace o k) (f .below) in
+    let (i, l, d) = same .back (cornerPlace v k) (g .below) in
+    first-unique k (cornerAt o (cornerPlace o k)) (cornerAt v (cornerPlace v k))
+    (on-chart o t (cornerPlace o k) (omega (arith, f .below))) (on-chart v u (cornerPlace v k) (omega (arith, g .below)))
+    (subst (λ (p : Point). before (frameOf k) p (cornerAt v (cornerPlace v k)) ≡ false) e (g .none j m))
+    (subst (λ (p : Point). before (frameOf k) p (cornerAt o (cornerPlace o k)) ≡ false) d (f .none i l))
 
 -- How a walk may turn at the first corner of a frame: by the letter on which it comes, and the one on which it leaves
 pub data Bend (f : Frame) (a b : ℕ) : Type 0 where

@@ -17,7 +17,7 @@ use Rattle.words.proofs.Factors.{factors-exist, falling-head, falling-tail}
 use Rattle.words.proofs.Counted.{factor-edge, edge-length}
 use Rattle.chart.specs.Outline.{Outline}
 use Rattle.convexity.specs.Frame.{frameOf}
-use Rattle.convexity.specs.Cut.{reading}
+use Rattle.convexity.specs.Reading.{border}
 use Rattle.convexity.specs.Pieces.{Reaches, piece, word, factors, dentLength, dentPiece, edgesOf, edges}
 use Rattle.convexity.specs.InFrame.{spell}
 use Rattle.convexity.specs.FromEdges.{quadrantOf, runIn, riseIn, sizesIn, pieceFrom, lettersFrom, stepCount}
@@ -218,8 +218,8 @@ turn-unique {o} {o′} h h′ e e′ same = turn-from-edges o h e ∙ ap letters
 
 -- ---- outlines as sent
 
-pub sent-from-edges : (o : Outline) → Reaches o → dentPiece (reading o) ≡ 4 → reading o .letters ≡ lettersFrom (edges (reading o))
-sent-from-edges o h smooth = turn-from-edges (reading o) (clear-of o h) smooth
+pub sent-from-edges : (o : Outline) → Reaches o → dentPiece (border o) ≡ 4 → border o .letters ≡ lettersFrom (edges (border o))
+sent-from-edges o h smooth = turn-from-edges (border o) (clear-of o h) smooth
 
 -- ---- how many letters a list writes
 

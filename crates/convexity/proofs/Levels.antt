@@ -126,6 +126,6 @@ module _ (o : Outline) where
       up-marked i e = level-enclosed (cornerAt o i) (right-in 1 i e)
 
       -- The cell at W is the lowest enclosed cell of the leftmost column
-      pub anchor-lowest : IsAnchor o (o .start)
+      pub anchor-lowest : IsAnchor (encloses o) (o .start)
       anchor-lowest =
           record { enclosed = rw corner-zero at (up-marked 0 (turn-lowest .below, up)); leftmost = left-of-anchor; lowest = below-anchor }

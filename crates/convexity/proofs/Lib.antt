@@ -1,4 +1,4 @@
--- One piece in its frame; the four pieces in a ring; the theorem and the four corners; back-steps; the reading and the same block; the edges' directions and their number; the letters from the edges.
+-- One piece in its frame; the four pieces in a ring; the theorem, the reading and the four corners; back-steps; the same block; the edges' directions and their number; the letters from the edges.
 pub mod Frame
 pub mod Ring
 pub mod StraightTurn
@@ -17,11 +17,12 @@ pub mod Inside
 pub mod PathCells
 pub mod DentMissing
 pub mod Theorem
+pub mod Reading
+pub mod Places
 pub mod AsSent
 pub mod Corners
 pub mod OneRun
 pub mod BackSteps
-pub mod Reading
 pub mod SameBlock
 pub mod Directions
 pub mod EdgeBound

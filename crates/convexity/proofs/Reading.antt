@@ -18,14 +18,13 @@ use Rattle.chart.specs.Outline.{Outline, outline}
 use Rattle.lattice.specs.Chart.{step, leaves, walk, cornerAt, size, letterAt, rotated, rotation, Closed}
 use Rattle.lattice.specs.Enclosed.{count, upAlong, downAlong, ups, downs, encloses}
 use Rattle.lattice.specs.Refusals.{Simple}
-use Rattle.lattice.proofs.WalkLaws.{Walked, OnChart, walked, simple-of-walked, point, point-eq, walk-append, corner-zero, corner-suc, corner-all, corner-injective, length-rotation, letter-rotation-before, outline-eq, NeverLeaves}
+use Rattle.lattice.proofs.WalkLaws.{Walked, OnChart, SameCorners, walked, simple-of-walked, point, point-eq, walk-append, corner-zero, corner-suc, corner-all, corner-injective, length-rotation, letter-rotation-before, outline-eq, NeverLeaves}
 use Rattle.lattice.proofs.Jumps.{tally, tally-append}
 use Rattle.lattice.proofs.RightHand.{Lowest, place-before, leaving-lowest, arriving-up, arriving-right}
-use Rattle.convexity.specs.Frame.{frameOf, along}
-use Rattle.convexity.specs.Cut.{before, westPlace, west, turn, clockwise}
-use Rattle.convexity.specs.Reading.{opposite, backward, rightHanded, reversed}
+use Rattle.convexity.specs.Cut.{westPlace, west, turn, clockwise}
+use Rattle.convexity.specs.Reading.{opposite, backward, reading, reversed, border}
 use Rattle.convexity.proofs.Levels.{first-lowest, ups-tally, downs-tally}
-use Rattle.convexity.proofs.Extreme.{FirstAt, first-at-cornerPlace, not-before-earlier, not-before-later, on-chart}
+use Rattle.convexity.proofs.Extreme.{FirstAt, first-at-cornerPlace, first-shared, on-chart}
 
 -- ---- one letter back
 
@@ -43,6 +42,13 @@ opposite-twice (suc zero) l = refl
 opposite-twice (suc (suc zero)) l = refl
 opposite-twice (suc (suc (suc zero))) l = refl
 opposite-twice (suc (suc (suc (suc a)))) l = absurd (omega arith)
+
+pub opposite-high : (a : ℕ) → 2 < a → opposite a ≡ 1
+unfolding opposite
+opposite-high zero l = absurd (omega arith)
+opposite-high (suc zero) l = absurd (omega arith)
+opposite-high (suc (suc zero)) l = absurd (omega arith)
+opposite-high (suc (suc (suc a))) l = refl
 
 step-back : (p : Point) (a : ℕ) → a < 4 → leaves p a ≡ false → step (step p a) (opposite a) ≡ p
 unfolding leaves step opposite
@@ -146,23 +152,22 @@ module _ (o : Outline) (t : Walked o) where
           (sym (corner-backward j (omega arith)) ∙ sym e ∙ corner-backward (suc i) (omega arith))
 
   -- Backwards the walk leaves the same corners
-  place-backward : (i : ℕ) → i < size o → (j : ℕ) × (j < size o) × (cornerAt (reversed o) j ≡ cornerAt o i)
-  place-backward zero l = (0, omega arith, corner-zero (reversed o) ∙ sym (corner-zero o))
-  place-backward (suc i) l =
-      (size o - suc i, omega arith, corner-backward (size o - suc i) (omega arith) ∙ ap (cornerAt o) (omega arith))
+  pub backward-corners : SameCorners (reversed o) o
+  backward-corners = record { there = λ j l. sent j (omega (arith, length-backward (o .letters))); back = back }
+    where
+      n : length (backward (o .letters)) ≡ size o
+      n = length-backward (o .letters)
 
-  place-sent : (j : ℕ) → j < size o → (i : ℕ) × (i < size o) × (cornerAt o i ≡ cornerAt (reversed o) j)
-  place-sent zero l = (0, omega arith, corner-zero o ∙ sym (corner-zero (reversed o)))
-  place-sent (suc j) l = (size o - suc j, omega arith, sym (corner-backward (suc j) (omega arith)))
+      sent : (j : ℕ) → j < size o → (i : ℕ) × (i < size o) × (cornerAt o i ≡ cornerAt (reversed o) j)
+      sent zero l = (0, omega arith, corner-zero o ∙ sym (corner-zero (reversed o)))
+      sent (suc j) l = (size o - suc j, omega arith, sym (corner-backward (suc j) (omega arith)))
+
+      back : (i : ℕ) → i < size o → (j : ℕ) × (j < size (reversed o)) × (cornerAt (reversed o) j ≡ cornerAt o i)
+      back zero l = (0, omega (arith, n), corner-zero (reversed o) ∙ sym (corner-zero o))
+      back (suc i) l =
+          (size o - suc i, omega (arith, n), corner-backward (size o - suc i) (omega arith) ∙ ap (cornerAt o) (omega arith))
 
 -- ---- W
-
--- Two corners neither of which comes before the other are one
-pub first-unique : (p q : Point) → before (frameOf 0) p q ≡ false → before (frameOf 0) q p ≡ false → p ≡ q
-unfolding frameOf along
-first-unique p q h k =
-    let c : p .col ≡ q .col = omega (arith, not-before-earlier (frameOf 0) p q h, not-before-earlier (frameOf 0) q p k) in
-    point-eq p q c (omega (arith, not-before-later (frameOf 0) p q h c, not-before-later (frameOf 0) q p k (sym c)))
 
 pub west-first : (o : Outline) → Walked o → FirstAt o 0 (westPlace o)
 unfolding westPlace
@@ -172,7 +177,7 @@ west-lowest : (o : Outline) → Walked o → Lowest o (westPlace o)
 west-lowest o t = first-lowest o (westPlace o) (west-first o t)
 
 -- The letter that leaves W
-leaving-west : (o : Outline) → Walked o → letterAt (turn o) 0 ≡ letterAt o (westPlace o)
+pub leaving-west : (o : Outline) → Walked o → letterAt (turn o) 0 ≡ letterAt o (westPlace o)
 unfolding turn
 leaving-west o t =
     let k = westPlace o in
@@ -181,17 +186,8 @@ leaving-west o t =
 
 module _ (o : Outline) (t : Walked o) where
   west-same : west (reversed o) ≡ west o
-  unfolding turn
-  west-same =
-      let back = walked-backward o t in
-      let n : length (backward (o .letters)) ≡ size o = length-backward (o .letters) in
-      let f = west-first o t in
-      let g = west-first (reversed o) back in
-      let (j, l, e) = place-backward o t (westPlace o) (f .below) in
-      let (i, m, d) = place-sent o t (westPlace (reversed o)) (omega (arith, g .below)) in
-      first-unique (west (reversed o)) (west o)
-      (subst (λ (p : Point). before (frameOf 0) p (west o) ≡ false) d (f .none i m))
-      (subst (λ (p : Point). before (frameOf 0) p (west (reversed o)) ≡ false) e (g .none j (omega arith)))
+  unfolding turn westPlace
+  west-same = first-shared (reversed o) o (walked-backward o t) t (backward-corners o t) 0
 
   -- A corner of the walk backwards that is W stands at W's place there
   west-place-at : (i : ℕ) → i < size o → cornerAt (reversed o) i ≡ cornerAt o (westPlace o) → westPlace (reversed o) ≡ i
@@ -400,48 +396,48 @@ module _ (o : Outline) (h : Simple o) where
 
 -- ---- the reading
 
-pub reading-clockwise : (o : Outline) → clockwise (turn o) ≡ true → rightHanded o ≡ o
-unfolding rightHanded
+pub reading-clockwise : (o : Outline) → clockwise (turn o) ≡ true → reading o ≡ o
+unfolding reading
 reading-clockwise o e = rw e
 
-pub reading-backward : (o : Outline) → clockwise (turn o) ≡ false → rightHanded o ≡ reversed o
-unfolding rightHanded
+pub reading-backward : (o : Outline) → clockwise (turn o) ≡ false → reading o ≡ reversed o
+unfolding reading
 reading-backward o e = rw e
 
 -- What holds of the outline where it is clockwise, and of the reversed one where it is not, holds of the reading
-by-reading : (o : Outline) (P : Outline → Type 0) → (clockwise (turn o) ≡ true → P o) → (clockwise (turn o) ≡ false → P (reversed o)) → P (rightHanded o)
+pub by-reading : (o : Outline) (P : Outline → Type 0) → (clockwise (turn o) ≡ true → P o) → (clockwise (turn o) ≡ false → P (reversed o)) → P (reading o)
 by-reading o P on back = go (clockwise (turn o)) refl
   where
-    go : (b : Bool) → clockwise (turn o) ≡ b → P (rightHanded o)
+    go : (b : Bool) → clockwise (turn o) ≡ b → P (reading o)
     go true e = subst P (sym (reading-clockwise o e)) (on e)
     go false e = subst P (sym (reading-backward o e)) (back e)
 
-pub length-reading : (o : Outline) → size (rightHanded o) ≡ size o
+pub length-reading : (o : Outline) → size (reading o) ≡ size o
 length-reading o = by-reading o (λ v. size v ≡ size o) (λ e. refl) (λ e. length-backward (o .letters))
 
 module _ (o : Outline) (h : Simple o) where
   -- The reading passes refusals 1 to 7, with the same W
-  pub simple-reading : Simple (rightHanded o)
+  pub simple-reading : Simple (reading o)
   simple-reading = by-reading o Simple (λ e. h) (λ e. simple-backward o h)
 
-  pub west-reading : west (rightHanded o) ≡ west o
+  pub west-reading : west (reading o) ≡ west o
   west-reading = by-reading o (λ v. west v ≡ west o) (λ e. refl) (λ e. west-backward o h)
 
-  pub clockwise-reading : clockwise (turn (rightHanded o)) ≡ true
+  pub clockwise-reading : clockwise (border o) ≡ true
   clockwise-reading = by-reading o (λ v. clockwise (turn v) ≡ true) (λ e. e) (clockwise-backward o h)
 
   -- Its turn is the turn, forward or backward
-  pub turn-reading : turn (rightHanded o) ≡ cond (clockwise (turn o)) (turn o) (reversed (turn o))
+  pub turn-reading : border o ≡ cond (clockwise (turn o)) (turn o) (reversed (turn o))
   turn-reading =
       by-reading o (λ v. turn v ≡ cond (clockwise (turn o)) (turn o) (reversed (turn o))) (λ e. rw e) (λ e. rw e (turn-backward o h))
 
   -- Letters sent backwards have the same reading
-  pub reading-of-backward : rightHanded (reversed o) ≡ rightHanded o
+  pub reading-of-backward : reading (reversed o) ≡ reading o
   reading-of-backward =
-      by-reading o (λ v. rightHanded (reversed o) ≡ v)
+      by-reading o (λ v. reading (reversed o) ≡ v)
       (λ e. reading-backward (reversed o) (anticlockwise-backward o h e) ∙ ap (outline (o .start)) (backward-backward o h))
       (λ e. reading-clockwise (reversed o) (clockwise-backward o h e))
 
   -- The reading of a reading is that reading
-  pub reading-reading : rightHanded (rightHanded o) ≡ rightHanded o
-  reading-reading = reading-clockwise (rightHanded o) clockwise-reading
+  pub reading-reading : reading (reading o) ≡ reading o
+  reading-reading = reading-clockwise (reading o) clockwise-reading

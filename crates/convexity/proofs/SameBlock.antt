@@ -3,8 +3,8 @@
 use Prim.Native.Nat.{ℕ, zero, suc, _+_, _-_, _≤_, _<_}
 use native.Mathlib.Decide.{decLt}
 use native.Mathlib.Omega.{arith}
-use mathlib.Core.Path.{_≡_, refl, sym, ap, _∙_, subst}
-use mathlib.Core.Logic.{inl, inr, _↔_}
+use mathlib.Core.Path.{_≡_, refl, sym, ap, _∙_}
+use mathlib.Core.Logic.{inl, inr, _⊎_, _↔_}
 use mathlib.Core.Bool.{true, false, cond}
 use lib.Seq.{ext-getD}
 use borrow.Author.Tests.{leb-false, eqb-false, ne-eqb}
@@ -14,19 +14,18 @@ use Rattle.chart.specs.Outline.{Outline}
 use Rattle.lattice.specs.Chart.{step, leaves, cornerAt, size, Closed, letterAt, rotated}
 use Rattle.lattice.specs.Enclosed.{ups, downs, encloses}
 use Rattle.lattice.specs.Refusals.{Simple}
-use Rattle.lattice.proofs.WalkLaws.{Walked, walked, point, point-eq, corner-zero, corner-suc, corner-all, corner-injective, length-rotation, corner-rotation-before, corner-rotation-after, turned, rotated-walked, rotated-simple, outline-eq}
+use Rattle.lattice.proofs.WalkLaws.{Walked, walked, point, point-eq, corner-zero, corner-suc, corner-all, corner-injective, rotated-corners, rotated-walked, rotated-simple, outline-eq}
 use Rattle.lattice.proofs.Jumps.{rises, falls, upsTo, downsTo, upsAt, rightsAt, leftsAt, ups-to, downs-to, ups-jump-vertical, downs-jump-vertical, ups-column-zero, downs-column-zero, ups-row-zero, downs-row-zero, jump-horizontal, ups-found, downs-found, rights-found, lefts-found, ups-none, rights-none, lefts-none}
 use Rattle.lattice.proofs.RightHand.{leftOf, rightOf, OneAbove, left-hand, level, tally-rotation}
-use Rattle.convexity.specs.Frame.{frameOf}
-use Rattle.convexity.specs.Cut.{before, westPlace, west, turn, clockwise, reading}
+use Rattle.convexity.specs.Cut.{westPlace, west, turn, clockwise}
 use Rattle.convexity.specs.Pieces.{Reaches, dentPiece, edges}
 use Rattle.convexity.specs.Inside.{insideEdges}
-use Rattle.convexity.specs.Reading.{rightHanded, reversed}
+use Rattle.convexity.specs.Reading.{reading, reversed, block, border}
 use Rattle.convexity.proofs.StraightTurn.{Turn}
-use Rattle.convexity.proofs.Extreme.{turn-of}
+use Rattle.convexity.proofs.Extreme.{turn-of, first-shared}
 use Rattle.convexity.proofs.Levels.{enclosed-level, level-enclosed, leaves-upwards, turn-lowest, left-of-anchor, below-anchor, anchor-lowest}
-use Rattle.convexity.proofs.AsSent.{encloses-turn, edges-answer-sent}
-use Rattle.convexity.proofs.Reading.{first-unique, west-first, simple-reading, clockwise-reading, turn-reading}
+use Rattle.convexity.proofs.AsSent.{block-turn, edges-answer-sent}
+use Rattle.convexity.proofs.Reading.{simple-reading, clockwise-reading, turn-reading}
 
 -- ---- a side is walked where the level jumps
 
@@ -121,9 +120,9 @@ record UpTurn (o : Outline) : Type 0 where
   turn : Turn o
   up : letterAt o 0 ≡ 1
 
--- Two outlines enclose the same cells
-abbrev pub SameCells : Outline → Outline → Type 0
-SameCells o o′ = (c r : ℕ) → encloses o c r ≡ encloses o′ c r
+-- Two walks enclose the same cells
+abbrev SameEnclosed : Outline → Outline → Type 0
+SameEnclosed o o′ = (c r : ℕ) → encloses o c r ≡ encloses o′ c r
 
 module _ (o : Outline) (d : UpTurn o) where
   -- No enclosed cell comes before it
@@ -141,7 +140,7 @@ module _ (o : Outline) (d : UpTurn o) where
         | no l ↦ omega arith
       ]
 
-module _ (o o′ : Outline) (d : UpTurn o) (d′ : UpTurn o′) (same : SameCells o o′) where
+module _ (o o′ : Outline) (d : UpTurn o) (d′ : UpTurn o′) (same : SameEnclosed o o′) where
   -- The cell at W is the same
   same-start : o .start ≡ o′ .start
   same-start =
@@ -217,32 +216,48 @@ module _ (o : Outline) (t : Walked o) where
   unfolding encloses
   open-above c r h = ne-eqb (ups (o .start) (o .letters) c r) (downs (o .start) (o .letters) c r + 1) (omega (arith, ups-past (suc c) r h, ups-to (o .start) (o .letters) c r))
 
--- ---- outlines as sent, past refusals 1 to 6 and clockwise
+-- No cell off the chart is in a block
+open-off : (o : Outline) → Simple o → (c r : ℕ) → (side ≤ c) ⊎ (side ≤ r) → block o c r ≡ false
+open-off o h c r (inl a) = open-right (reading o) (walked (reading o) (simple-reading o h)) c r a
+open-off o h c r (inr a) = open-above (reading o) (walked (reading o) (simple-reading o h)) c r a
 
-up-turn : (o : Outline) → Simple o → clockwise (turn o) ≡ true → UpTurn (turn o)
-up-turn o h c = record { turn = turn-of o h; up = leaves-upwards (turn o) c }
+-- ---- outlines as sent, past refusals 1 to 6
 
-module _ (o o′ : Outline) (h : Simple o) (h′ : Simple o′)
-    (c : clockwise (turn o) ≡ true) (c′ : clockwise (turn o′) ≡ true) (same : SameCells o o′) where
-  same-cells : SameCells (turn o) (turn o′)
-  same-cells c r = encloses-turn o h c r ∙ same c r ∙ sym (encloses-turn o′ h′ c r)
+-- Two outlines mark the same block
+abbrev pub SameCells : Outline → Outline → Type 0
+SameCells o o′ = (c r : ℕ) → block o c r ≡ block o′ c r
 
-  -- Outlines of the same cells have the same turn: the same W, and the same letters from there on
-  pub same-turn : turn o ≡ turn o′
-  same-turn = same-turns (turn o) (turn o′) (up-turn o h c) (up-turn o′ h′ c′) same-cells
+up-turn : (o : Outline) → Simple o → UpTurn (border o)
+up-turn o h = record { turn = turn-of (reading o) (simple-reading o h); up = leaves-upwards (border o) (clockwise-reading o h) }
+
+module _ (o o′ : Outline) (h : Simple o) (h′ : Simple o′) where
+  turns-of-cells : SameCells o o′ → border o ≡ border o′
+  turns-of-cells same =
+      same-turns (border o) (border o′) (up-turn o h) (up-turn o′ h′)
+      (λ c r. block-turn o h c r ∙ same c r ∙ sym (block-turn o′ h′ c r))
+
+  cells-of-turns : border o ≡ border o′ → SameCells o o′
+  cells-of-turns e c r = sym (block-turn o h c r) ∙ ap (λ (v : Outline). encloses v c r) e ∙ block-turn o′ h′ c r
+
+  -- Outlines mark the same block exactly if their readings have the same W and the same letters from there on, whichever way and from wherever they were drawn
+  pub same-turn-iff : SameCells o o′ ↔ (border o ≡ border o′)
+  same-turn-iff = (turns-of-cells, cells-of-turns)
 
 -- ---- outlines past the test: their edges
 
 -- The same anchor and the same edges
 abbrev pub SameEdges : Outline → Outline → Type 0
-SameEdges o o′ = (reading o .start ≡ reading o′ .start) × (edges (reading o) ≡ edges (reading o′))
+SameEdges o o′ = (border o .start ≡ border o′ .start) × (edges (border o) ≡ edges (border o′))
 
 module _ (o o′ : Outline) (h : Reaches o) (h′ : Reaches o′)
-    (d : dentPiece (reading o) ≡ 4) (d′ : dentPiece (reading o′) ≡ 4) where
+    (d : dentPiece (border o) ≡ 4) (d′ : dentPiece (border o′) ≡ 4) where
   edges-of-cells : SameCells o o′ → SameEdges o o′
   edges-of-cells e =
-      let same = same-turn o o′ (h .simple) (h′ .simple) (h .clockwise) (h′ .clockwise) e in
+      let same = same-turn-iff o o′ (h .simple) (h′ .simple) .0 e in
       (ap (λ (v : Outline). v .start) same, ap edges same)
+
+  open-past : (c r : ℕ) → (side ≤ c) ⊎ (side ≤ r) → block o c r ≡ block o′ c r
+  open-past c r p = open-off o (h .simple) c r p ∙ sym (open-off o′ (h′ .simple) c r p)
 
   cells-of-edges : SameEdges o o′ → SameCells o o′
   cells-of-edges (p, q) c r =
@@ -253,26 +268,14 @@ module _ (o o′ : Outline) (h : Reaches o) (h′ : Reaches o′)
                   sym (edges-answer-sent o h d (point c r) a b)
                   ∙ (λ z. insideEdges (p z) (q z) (point c r))
                   ∙ edges-answer-sent o′ h′ d′ (point c r) a b
-              | no b ↦ open-above o (walked o (h .simple)) c r (omega arith) ∙ sym (open-above o′ (walked o′ (h′ .simple)) c r (omega arith))
+              | no b ↦ open-past c r (inr (omega arith))
             ]
-        | no a ↦ open-right o (walked o (h .simple)) c r (omega arith) ∙ sym (open-right o′ (walked o′ (h′ .simple)) c r (omega arith))
+        | no a ↦ open-past c r (inl (omega arith))
       ]
 
   -- Outlines past the test enclose the same cells exactly if they have the same anchor and the same edges
   pub same-cells-iff : SameCells o o′ ↔ SameEdges o o′
   same-cells-iff = (edges-of-cells, cells-of-edges)
-
--- ---- outlines past refusals 1 to 6, sent either way round
-
-module _ (o o′ : Outline) (h : Simple o) (h′ : Simple o′) where
-  -- Readings of the same cells have the same turn, and the other way round
-  pub same-reading : SameCells (rightHanded o) (rightHanded o′) ↔ (turn (rightHanded o) ≡ turn (rightHanded o′))
-  same-reading = (
-    same-turn (rightHanded o) (rightHanded o′) (simple-reading o h) (simple-reading o′ h′) (clockwise-reading o h) (clockwise-reading o′ h′),
-    λ e c r.
-        sym (encloses-turn (rightHanded o) (simple-reading o h) c r) ∙ ap (λ (v : Outline). encloses v c r) e
-        ∙ encloses-turn (rightHanded o′) (simple-reading o′ h′) c r,
-  )
 
 -- ---- and from any corner
 
@@ -290,29 +293,11 @@ unfolding turn
 levels-turn o e C R = omega (arith, ups-around o (westPlace o) e C R, downs-around o (westPlace o) e C R)
 
 module _ (o : Outline) (h : Simple o) (k : ℕ) (b : k ≤ size o) where
-  -- Each corner as sent is one of the rotation's
-  place-rotation : (j : ℕ) → j < size o → (i : ℕ) × (i < size o) × (cornerAt (rotated k o) i ≡ cornerAt o j)
-  place-rotation j l =
-      elim (decLt j k) [
-        | yes a ↦
-            let i : ℕ = size o + j - k in
-            (i, omega arith, corner-rotation-after o k b (walked o h .closed) i (omega arith) (omega arith) ∙ ap (cornerAt o) (omega arith))
-        | no a ↦ (j - k, omega arith, corner-rotation-before o k b (j - k) (omega arith) ∙ ap (cornerAt o) (omega arith))
-      ]
-
   pub west-rotation : west (rotated k o) ≡ west o
-  unfolding turn
+  unfolding turn westPlace
   west-rotation =
-      let v = rotated k o in
       let d = walked o h in
-      let n : size v ≡ size o = length-rotation o k b in
-      let f = west-first o d in
-      let g = west-first v (rotated-walked o k b d) in
-      let (i, l, e) = place-rotation (westPlace o) (f .below) in
-      let (j, m) = turned o k b (d .closed) (westPlace v) (omega (arith, g .below)) in
-      first-unique (west v) (west o)
-      (subst (λ (q : Point). before (frameOf 0) q (west o) ≡ false) (sym (m .corner)) (f .none j (m .below)))
-      (subst (λ (q : Point). before (frameOf 0) q (west v) ≡ false) e (g .none i (omega arith)))
+      first-shared (rotated k o) o (rotated-walked o k b d) d (rotated-corners o k b (d .closed)) 0
 
   pub turn-rotation : turn (rotated k o) ≡ turn o
   turn-rotation =
@@ -328,9 +313,8 @@ module _ (o : Outline) (h : Simple o) (k : ℕ) (b : k ≤ size o) where
         downs-around o k (d .closed) C R,
       ))
 
-  -- The reading encloses the same cells wherever the pen began
-  pub reading-rotation : SameCells (rightHanded (rotated k o)) (rightHanded o)
+  -- Wherever the pen began, the reading from W on is the same, and so is the block
+  pub reading-rotation : border (rotated k o) ≡ border o
   reading-rotation =
-      let h′ = rotated-simple o k b h in
-      same-reading (rotated k o) o h′ h .1
-      (turn-reading (rotated k o) h′ ∙ ap (λ (v : Outline). cond (clockwise v) v (reversed v)) turn-rotation ∙ sym (turn-reading o h))
+      turn-reading (rotated k o) (rotated-simple o k b h) ∙ ap (λ (v : Outline). cond (clockwise v) v (reversed v)) turn-rotation
+      ∙ sym (turn-reading o h)

@@ -4,12 +4,12 @@ use mathlib.Core.List.{List}
 use lib.IntN.{ℤ}
 use Rattle.chart.specs.declared.Point.{Point}
 use Rattle.chart.specs.Outline.{Outline}
-use Rattle.convexity.specs.Cut.{reading}
+use Rattle.convexity.specs.Reading.{border}
 use Rattle.convexity.specs.Pieces.{Reaches, dentPiece, edges}
 
 -- The outline reaches the dent test and is not dented; its anchor is a, the cell at W, and its edges are es
 pub record HasEdges (o : Outline) (a : Point) (es : List ℤ) : Type 0 where
   pub reaches : Reaches o
-  pub smooth : dentPiece (reading o) ≡ 4
-  pub anchor : reading o .start ≡ a
-  pub edged : edges (reading o) ≡ es
+  pub smooth : dentPiece (border o) ≡ 4
+  pub anchor : border o .start ≡ a
+  pub edged : edges (border o) ≡ es

@@ -1,5 +1,5 @@
--- Where the border is cut: W, N, E and S, and the five cut places (contract 3.1 to 3.3).
-use Prim.Native.Nat.{ℕ, zero, suc, _+_, _-_}
+-- W, whether a walk runs clockwise, and where the border is cut: W, N, E and S, and the five cut places (contract 2.1, 2.2 and 3.1 to 3.3).
+use Prim.Native.Nat.{ℕ, zero, suc, _+_, _-_, _%_}
 use mathlib.Core.Bool.{Bool, cond, _&&_, _||_}
 use lib.Dec.{leb, ltb, eqb}
 use Rattle.chart.specs.declared.Point.{Point}
@@ -32,13 +32,13 @@ turn o = rotated (westPlace o) o
 abbrev pub west : Outline → Point
 west o = turn o .start
 
--- The reading of an outline as sent, from which its pieces, factors and edges are taken
-abbrev pub reading : Outline → Outline
-reading o = turn o
-
 -- Clockwise: the letter that leaves W is 1. For a turn o
 unfoldable pub clockwise : Outline → Bool
 clockwise o = eqb (letterAt o 0) 1
+
+-- The index, in a list of n letters, of the letter that stands i letters on from place a, past the list's end to its beginning
+unfoldable pub around : ℕ → ℕ → ℕ → ℕ
+around n a i = (a + i) % n
 
 -- How many letters lead from place a on to place b, past the end of n letters where needed
 unfoldable pub ahead : ℕ → ℕ → ℕ → ℕ

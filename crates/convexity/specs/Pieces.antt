@@ -1,5 +1,5 @@
 -- The four pieces of a turn, their back-steps, factors, dents and edges (contract 3.3 to 3.13). Pieces are counted from 0 here.
-use Prim.Native.Nat.{ℕ, suc, _+_, _-_, _*_, _%_, _<_}
+use Prim.Native.Nat.{ℕ, suc, _+_, _-_, _*_, _<_}
 use mathlib.Core.Path.{_≡_}
 use mathlib.Core.Bool.{Bool, true, false, not, _||_}
 use mathlib.Core.List.{List, [], _∷_, _++_}
@@ -14,8 +14,8 @@ use Rattle.chart.specs.declared.Point.{Point}
 use Rattle.chart.specs.Outline.{Outline}
 use Rattle.convexity.specs.Frame.{Frame, frameOf}
 use Rattle.lattice.specs.Refusals.{Simple}
-use Rattle.lattice.specs.Enclosed.{encloses}
-use Rattle.convexity.specs.Cut.{cut, clockwise, reading}
+use Rattle.convexity.specs.Cut.{cut}
+use Rattle.convexity.specs.Reading.{border}
 
 -- The letters from W on, as often round as four pieces can reach
 unfoldable pub rounds : List ℕ → List ℕ
@@ -57,10 +57,6 @@ dentLength (f ∷ fs) = elim (christoffel (f .word)) [ true ↦ dentLength fs | 
 unfoldable pub dentPiece : Outline → ℕ
 dentPiece o = first (λ k. ltb 0 (dentLength (factors o k))) 4
 
--- A place in letters from W on, as an index in the list as sent, of n letters, where W's letter stands at w
-unfoldable pub sent : ℕ → ℕ → ℕ → ℕ
-sent n w i = (w + i) % n
-
 -- One edge for each factor with its repeats, columns then rows
 unfoldable pub edgesOf : Frame → List Factor → List ℤ
 edgesOf f [] = []
@@ -77,14 +73,13 @@ edges o =
 unfoldable pub edgeCount : Outline → ℕ
 edgeCount o = length (factors o 0) + (length (factors o 1) + (length (factors o 2) + length (factors o 3)))
 
--- The anchor (contract 3.13). It is the cell at W (proofs/AsSent.antt: `west-anchor`)
-pub record IsAnchor (o : Outline) (a : Point) : Type 0 where
-  pub enclosed : encloses o (a .col) (a .row) ≡ true
-  pub leftmost : (c r : ℕ) → c < a .col → encloses o c r ≡ false
-  pub lowest : (r : ℕ) → r < a .row → encloses o (a .col) r ≡ false
+-- The anchor of a set of cells: the lowest one of the leftmost column that has any (contract 3.13). A block's is the cell at W (proofs/AsSent.antt: `west-anchor`)
+pub record IsAnchor (marked : ℕ → ℕ → Bool) (a : Point) : Type 0 where
+  pub enclosed : marked (a .col) (a .row) ≡ true
+  pub leftmost : (c r : ℕ) → c < a .col → marked c r ≡ false
+  pub lowest : (r : ℕ) → r < a .row → marked (a .col) r ≡ false
 
 -- The outline reaches the dent test: none of 1 to 8 applies to it
 pub record Reaches (o : Outline) : Type 0 where
   pub simple : Simple o
-  pub clockwise : clockwise (reading o) ≡ true
-  pub straight : ltb (backStepPiece (reading o)) 4 ≡ false
+  pub straight : ltb (backStepPiece (border o)) 4 ≡ false

@@ -147,13 +147,57 @@ fn spell(corners: &[u16; CORNERS], n: usize, first: usize, letters: &mut [u8]) -
     i
 }
 
-// What the engine answers for an outline, and whether it agrees.
+// The same walk backward: its letters from the last to the first, each turned to its opposite. Answers how many there are.
+fn turn_back(letters: &[u8], back: &mut [u8]) -> usize
+    ensures { λ r. ⌜ Counts r (now (back .exit)) ⌝ }
+{
+    let n = letters.len();
+    let mut i = 0;
+    while i < n && i < back.len() {
+        back[i] = (letters[n - 1 - i] % 4 + 2) % 4;
+        i += 1;
+    }
+    i
+}
+
+// A letter that is named stands as far from the other end when the outline is drawn backward; a taken outline's place is the count of edges.
+fn places_agree(fields: Fields, back: Fields, n: usize) -> bool {
+    if fields.number == 0 {
+        return fields.place == back.place;
+    }
+    let sum = (fields.place as u64) + (back.place as u64) + 1;
+    sum == n as u64
+}
+
+// Drawn backward, the outline gets the same answer.
+fn twins_agree(fields: Fields, back: Fields, n: usize) -> bool {
+    fields.number == back.number
+        && fields.piece == back.piece
+        && fields.length == back.length
+        && fields.col == back.col
+        && fields.row == back.row
+        && places_agree(fields, back, n)
+}
+
+// The same edges in both lists.
+fn same_edges(a: &[i16; ROOM], b: &[i16; ROOM]) -> bool {
+    let mut k = 0;
+    while k < ROOM {
+        if a[k] != b[k] {
+            return false;
+        }
+        k += 1;
+    }
+    true
+}
+
+// What the engine answers for an outline, and whether that agrees with what was counted and with the answer for its twin.
 pub struct Answer {
     pub number: u16,
     pub agrees: bool,
 }
 
-// The outline of a closed walk from the corner at `first` on.
+// The outline of a closed walk from the corner at `first` on, and the same drawn backward.
 pub fn run(corners: &[u16; CORNERS], n: usize, first: usize, counted: Counted) -> Answer {
     let mut letters = [0u8; CORNERS];
     let count = spell(corners, n, first, &mut letters);
@@ -164,8 +208,14 @@ pub fn run(corners: &[u16; CORNERS], n: usize, first: usize, counted: Counted) -
     };
     let mut list = [0i16; ROOM];
     let fields = reply::of_verdict(outline::test(start, &letters[..count], &mut list));
+    let mut backward = [0u8; CORNERS];
+    let turned = turn_back(&letters[..count], &mut backward);
+    let mut twin = [0i16; ROOM];
+    let back = reply::of_verdict(outline::test(start, &backward[..turned], &mut twin));
     Answer {
         number: fields.number,
-        agrees: agrees(fields, &list, counted),
+        agrees: agrees(fields, &list, counted)
+            && twins_agree(fields, back, count)
+            && same_edges(&list, &twin),
     }
 }

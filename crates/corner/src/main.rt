@@ -1,4 +1,5 @@
-// Runs every outline in a 4 by 4 corner of the chart through the engine, compares it with plain counting of cells, and writes counts.
+// Runs every outline in a 4 by 4 corner of the chart, drawn either way, through the engine, compares it with plain counting of cells and with the same outline
+// drawn backward, and writes counts.
 mod cells;
 mod compare;
 mod plain;
@@ -20,7 +21,6 @@ struct Tally {
     walks: u64,
     outlines: u64,
     taken: u64,
-    anticlockwise: u64,
     back_steps: u64,
     dents: u64,
     mismatches: u64,
@@ -36,9 +36,6 @@ fn with_number(t: Tally, number: u16) -> Tally {
     match number {
         0 => {
             u.taken = more(t.taken);
-        }
-        7 => {
-            u.anticlockwise = more(t.anticlockwise);
         }
         8 => {
             u.back_steps = more(t.back_steps);
@@ -106,7 +103,6 @@ fn run_all() -> Tally {
         walks: 0,
         outlines: 0,
         taken: 0,
-        anticlockwise: 0,
         back_steps: 0,
         dents: 0,
         mismatches: 0,
@@ -131,7 +127,6 @@ fn main() {
     write_count(b"closed simple walks", t.walks);
     write_count(b"outlines", t.outlines);
     write_count(b"taken", t.taken);
-    write_count(b"refused by 7", t.anticlockwise);
     write_count(b"refused by 8", t.back_steps);
     write_count(b"refused by 9", t.dents);
     write_count(b"mismatches", t.mismatches);

@@ -26,7 +26,12 @@ fn one_if(b: bool) -> u64 {
     if b { 1 } else { 0 }
 }
 
-// Enclosed: ups minus downs is 1. A letter down is one up, walked the other way.
+// One of the two is one more than the other.
+fn one_apart(a: u64, b: u64) -> bool {
+    a == std::num::wrapping_add_u64(b, 1) || b == std::num::wrapping_add_u64(a, 1)
+}
+
+// Enclosed: clockwise, ups minus downs is 1; drawn the other way round, each letter down is one up, and downs minus ups is 1.
 fn encloses(corners: &[u16; CORNERS], n: usize, k: u16) -> bool {
     let mut ups = 0;
     let mut downs = 0;
@@ -38,7 +43,7 @@ fn encloses(corners: &[u16; CORNERS], n: usize, k: u16) -> bool {
         downs = std::num::wrapping_add_u64(downs, one_if(climbs(to, from, k)));
         i += 1;
     }
-    ups == std::num::wrapping_add_u64(downs, 1)
+    one_apart(ups, downs)
 }
 
 fn with_if(set: u32, k: u16, b: bool) -> u32 {
@@ -164,13 +169,6 @@ fn count_hull(set: u32) -> Counted {
 // A closed walk, whatever corner it starts from.
 pub fn count(corners: &[u16; CORNERS], n: usize) -> Counted {
     let set = enclosed(corners, n);
-    if set == 0 {
-        return Counted {
-            number: 7,
-            cells: 0,
-            cell: NONE,
-        };
-    }
     if has_gap(set) {
         return Counted {
             number: 8,

@@ -10,7 +10,7 @@ use Rattle.chart.specs.Limits.{longest}
 use Rattle.chart.specs.Outline.{Outline}
 use Rattle.chart.specs.Fields.{refusalFields}
 use Rattle.chart.specs.declared.Refusal.{Refusal}
-use Rattle.chart.specs.declared.Refusal.the-variants.{Count, Start, Letter, Leaves, Unclosed, Touches, Anticlockwise, BackStep, Dent, Room, List as BadList, Cell}
+use Rattle.chart.specs.declared.Refusal.the-variants.{Count, Start, Letter, Leaves, Unclosed, Touches, BackStep, Dent, Room, List as BadList, Cell}
 use Rattle.chart.specs.declared.Point.{Point}
 use Rattle.chart.specs.declared.Verdict.{Verdict}
 use Rattle.chart.specs.declared.Verdict.the-variants.{Taken, Refused}
@@ -30,7 +30,6 @@ refusal-numbered (Letter p) = refl
 refusal-numbered (Leaves p) = refl
 refusal-numbered Unclosed = refl
 refusal-numbered (Touches p) = refl
-refusal-numbered Anticlockwise = refl
 refusal-numbered (BackStep k p) = refl
 refusal-numbered (Dent k p l x) = refl
 refusal-numbered (Room n) = refl

@@ -19,9 +19,8 @@ use Rattle.chart.specs.declared.Point.{Point}
 use Rattle.chart.specs.declared.Refusal.the-variants.{Dent, Cell}
 use Rattle.chart.specs.declared.Verdict.{Verdict}
 use Rattle.chart.specs.declared.Verdict.the-variants.{Taken, Refused}
-use Rattle.lattice.specs.Enclosed.{encloses}
 use Rattle.lattice.specs.Hull.{Missing, LowestMissing}
-use Rattle.convexity.specs.Cut.{reading}
+use Rattle.convexity.specs.Reading.{border, block}
 use Rattle.convexity.specs.Pieces.{edges, Reaches}
 use Rattle.convexity.proofs.Bounds.{edges-length}
 use Rattle.convexity.proofs.AsSent.{edges-answer-sent}
@@ -60,7 +59,7 @@ same-outline d w o (some v) k l = rw (k .outline, l .outline, l .taken)
 
 -- The numbers of an outline's edges, with zeros behind them
 abbrev pub listed : Outline → Verdict → List ℤ
-listed o v = lentAfter v (edges (reading o)) (replicate mostNumbers (pos 0))
+listed o v = lentAfter v (edges (border o)) (replicate mostNumbers (pos 0))
 
 -- An outline that was taken is at work with its edges
 taken-working : (k : Kept) (o : Outline) (n : ℕ) (a : Point) → outlineOf k ≡ o → verdictOf o ≡ Taken n a → Working (replaced k a (listed o (Taken n a)) n) o
@@ -68,8 +67,8 @@ unfolding replaced workEdges lentAfter
 taken-working k o n a kept e =
     let f : TakenFacts o n a = taken-facts o n a e in
     let all : min (2 * n) mostNumbers ≡ 2 * n = omega (arith, taken-fits o n a e) in
-    let es : List ℤ = edges (reading o) in
-    let size : length es ≡ 2 * n = edges-length (reading o) ∙ ap (λ (j : ℕ). 2 * j) (sym (f .count)) in
+    let es : List ℤ = edges (border o) in
+    let size : length es ≡ 2 * n = edges-length (border o) ∙ ap (λ (j : ℕ). 2 * j) (sym (f .count)) in
     record {
       taken = refl;
       outline = kept;
@@ -153,7 +152,7 @@ says-outside false = (λ e. refl, λ e. refl)
 asked-nothing : (x : Point) (o : Option Outline) → (replyFields (asked x o) .number ≡ 12) ↔ (o ≡ none)
 unfolding asked replyFields
 asked-nothing x none = (λ e. refl, λ e. refl)
-asked-nothing x (some o) = go (badCell x) (encloses o (x .col) (x .row))
+asked-nothing x (some o) = go (badCell x) (block o (x .col) (x .row))
   where
     go : (t u : Bool) → (replyFields (cond t (WasRefused Cell) (cond u Inside Outside)) .number ≡ 12) ↔ (some o ≡ none)
     go true u = (λ e. absurd (omega (arith, e)), λ e. cc)
@@ -220,16 +219,16 @@ module _ (cs : List Call) (x : Point) where
   query-nothing = rw query-reply (asked-nothing x (lastTaken cs))
 
   module _ (o : Outline) (last : lastTaken cs ≡ some o) (col : x .col < side) (row : x .row < side) where
-    answered : replyAfter cs (Query x) ≡ cond (encloses o (x .col) (x .row)) Inside Outside
+    answered : replyAfter cs (Query x) ≡ cond (block o (x .col) (x .row)) Inside Outside
     unfolding asked
     answered = query-reply ∙ ap (asked x) last ∙ rw (not-bad-cell x col row)
 
     -- It is "inside" exactly when that outline encloses the cell, and else "outside" (contract 8.4)
-    pub query-inside : (replyAfter cs (Query x) ≡ Inside) ↔ (encloses o (x .col) (x .row) ≡ true)
-    query-inside = rw answered (says-inside (encloses o (x .col) (x .row)))
+    pub query-inside : (replyAfter cs (Query x) ≡ Inside) ↔ (block o (x .col) (x .row) ≡ true)
+    query-inside = rw answered (says-inside (block o (x .col) (x .row)))
 
-    pub query-outside : (replyAfter cs (Query x) ≡ Outside) ↔ (encloses o (x .col) (x .row) ≡ false)
-    query-outside = rw answered (says-outside (encloses o (x .col) (x .row)))
+    pub query-outside : (replyAfter cs (Query x) ≡ Outside) ↔ (block o (x .col) (x .row) ≡ false)
+    query-outside = rw answered (says-outside (block o (x .col) (x .row)))
 
 module _ (cs : List Call) (o : Outline) (draft : drafted (bookAfter fresh cs) ≡ some o) where
   -- The reply of a close is that of the draft's verdict
@@ -242,14 +241,14 @@ module _ (cs : List Call) (o : Outline) (draft : drafted (bookAfter fresh cs) �
 
   -- Of a draft that reaches the dent test: it has number 9 exactly when some cell is in the hull of the enclosed cells and not enclosed (contract 8.4)
   pub close-nine-missing : Reaches o →
-      (replyFields (replyAfter cs Close) .number ≡ 9) ↔ ((x : Point) × Missing (encloses o) x)
+      (replyFields (replyAfter cs Close) .number ≡ 9) ↔ ((x : Point) × Missing (block o) x)
   close-nine-missing r = rw close-number (nine-iff-missing o r)
 
   close-cell : CellNamed o (replyFields (replyAfter cs Close))
   close-cell = rw close-reply (closed-named o (equalsWork o (atWork (bookAfter fresh cs))) (verdictOf o) (verdict-named o))
 
   -- And the cell named is the lowest of them, leftmost in its row
-  pub close-names-lowest : (k p l : ℕ) (x : Point) → replyAfter cs Close ≡ WasRefused (Dent k p l x) → LowestMissing (encloses o) x
+  pub close-names-lowest : (k p l : ℕ) (x : Point) → replyAfter cs Close ≡ WasRefused (Dent k p l x) → LowestMissing (block o) x
   unfolding replyFields
   close-names-lowest k p l x e =
       let named : CellNamed o (replyFields (WasRefused (Dent k p l x))) = rw e at close-cell in named .missing refl

@@ -14,7 +14,7 @@ use Rattle.chart.specs.Limits.{longest}
 use Rattle.chart.specs.Outline.{Outline}
 use Rattle.chart.specs.declared.Point.{Point}
 use Rattle.lattice.specs.Refusals.{badStart}
-use Rattle.convexity.specs.Cut.{reading}
+use Rattle.convexity.specs.Reading.{border}
 use Rattle.convexity.specs.Pieces.{edges, dentPiece, Reaches}
 use Rattle.holder.specs.Book.{Book, drafted, atWork, fresh, Answer, begins, adds, drops, answer}
 use Rattle.holder.specs.Holder.{outlineOf, workEdges, noneKept, noDraft, noWork, freshHolder, draftOf, workOf, begunAt, lengthened, ended, removed, beginOf, addOf, dropOf, clearOf}
@@ -40,10 +40,10 @@ RepresentsDraft d (some o) = Drafted d o
 pub record Working (w : Work) (o : Outline) : Type 0 where
   pub taken : w .taken ≡ true
   pub outline : outlineOf (w .kept) ≡ o
-  pub anchor : w .anchor ≡ reading o .start
-  pub edges : workEdges w ≡ edges (reading o)
+  pub anchor : w .anchor ≡ border o .start
+  pub edges : workEdges w ≡ edges (border o)
   pub reaches : Reaches o
-  pub undented : dentPiece (reading o) ≡ 4
+  pub undented : dentPiece (border o) ≡ 4
 
 abbrev pub RepresentsWork : Work → Option Outline → Type 0
 RepresentsWork w none = w .taken ≡ false

@@ -13,7 +13,7 @@ use Rattle.chart.specs.declared.Verdict.{Verdict}
 use Rattle.chart.specs.declared.Verdict.the-variants.{Taken, Refused}
 use Rattle.lattice.specs.Chart.{samePoint}
 use Rattle.lattice.specs.Refusals.{badStart}
-use Rattle.lattice.specs.Enclosed.{encloses}
+use Rattle.convexity.specs.Reading.{block}
 use Rattle.verdict.specs.Verdict.{verdictOf}
 use Rattle.polygon.specs.Loose.{badCell}
 use Rattle.holder.specs.declared.Call.{Call}
@@ -102,7 +102,7 @@ closes b (some d) =
 -- Query (contract 7.8). 12 and 11 are asked in this order; then the enclosed cells decide
 unfoldable pub asked : Point → Option Outline → Reply
 asked x none = NothingAtWork
-asked x (some o) = cond (badCell x) (WasRefused Cell) (cond (encloses o (x .col) (x .row)) Inside Outside)
+asked x (some o) = cond (badCell x) (WasRefused Cell) (cond (block o (x .col) (x .row)) Inside Outside)
 
 -- Contract 7.3 to 7.8; a clear is 7.6
 unfoldable pub answer : Book → Call → Answer

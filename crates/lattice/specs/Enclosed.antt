@@ -1,4 +1,4 @@
--- The cells that an outline encloses (contract 2.1).
+-- The cells that a closed walk encloses, by ups and downs (contract 2.4). An outline's are those of its clockwise reading (`block`, convexity/specs/Reading).
 use Prim.Native.Nat.{ℕ, suc, _+_}
 use mathlib.Core.Bool.{Bool, true, false, _&&_}
 use mathlib.Core.List.{List, [], _∷_}

@@ -1,5 +1,5 @@
--- The hull of a set of cells, and the cells missing from it (contract 2.2 to 2.4). A set is given by its marking, a test of a cell's column and row; that
--- of an outline o is `encloses o`.
+-- The hull of a set of cells, and the cells missing from it (contract 2.5 to 2.7). A set is given by its marking, a test of a cell's column and row; that
+-- of a walk o is `encloses o`.
 use Prim.Native.Nat.{ℕ, _+_, _*_, _<_}
 use mathlib.Core.Path.{_≡_}
 use mathlib.Core.Logic.{_⊎_}

@@ -15,7 +15,7 @@ use Rattle.chart.specs.declared.Verdict.{Verdict}
 use Rattle.chart.specs.declared.Verdict.the-variants.{Taken, Refused}
 use Rattle.chart.specs.Outline.{Outline}
 use Rattle.chart.specs.Fields.{verdictFields}
-use Rattle.convexity.specs.Cut.{reading}
+use Rattle.convexity.specs.Reading.{border}
 use Rattle.convexity.specs.Pieces.{edges}
 use Rattle.convexity.proofs.Bounds.{edges-length}
 use Rattle.verdict.specs.Verdict.{verdictOf, withRoom, testOf, testFields, lentAfter, edgesAfter}
@@ -68,10 +68,10 @@ module _ (o : Outline) (j : Judged) (e : j ≡ judgedOf o) where
     taken : verdictOf o ≡ Taken n a
     taken = sym said ∙ h
 
-    edges-size : length (edges (reading o)) ≡ 2 * n
-    edges-size = edges-length (reading o) ∙ ap (λ (k : ℕ). 2 * k) (sym (taken-facts o n a taken .count))
+    edges-size : length (edges (border o)) ≡ 2 * n
+    edges-size = edges-length (border o) ∙ ap (λ (k : ℕ). 2 * k) (sym (taken-facts o n a taken .count))
 
-    first-numbers : take (2 * n) (j .numbers) ≡ edges (reading o)
+    first-numbers : take (2 * n) (j .numbers) ≡ edges (border o)
     unfolding lentAfter
     first-numbers =
         ap (λ (x : Judged). take (2 * n) (x .numbers)) e ∙ ap (take (2 * n)) (judged-numbers o) ∙ rw taken (take-at _ _ (2 * n) edges-size)

@@ -32,17 +32,28 @@ fn drafts(s: Script) -> Script {
     s.begin(255, 255).drop().begin(3, 4).close()
 }
 
-// Drafts that a close turns back: 1, 4, 5, 6, 7, 8 and 9.
+// Drafts that a close turns back: 1, 4, 5, 6, 8 and 9, the last two also drawn anticlockwise.
 fn refused(s: Script) -> Script {
     let s = s.outline(0, 0, b"103");
     let s = s.outline(255, 0, b"1032").outline(0, 0, b"2031");
     let s = s.outline(0, 1, b"1033").outline(0, 0, b"1031");
     let s = s.outline(0, 0, b"1023").outline(0, 0, b"10321032");
-    let s = s.outline(0, 0, b"0123");
     let s = s.outline(0, 0, b"110301033222")
+        .outline(0, 0, b"000112321233")
         .outline(3, 2, b"332123211000");
-    let s = s.outline(0, 0, b"111033003222");
+    let s = s.outline(0, 0, b"111033003222")
+        .outline(0, 0, b"000122112333");
     s.query(0, 0)
+}
+
+// Outlines drawn anticlockwise.
+fn backward(s: Script) -> Script {
+    let s = s.outline(0, 0, b"0123").query(0, 0).query(1, 0);
+    let s = s.outline(0, 1, b"030101212323")
+        .query(1, 1)
+        .query(0, 0)
+        .outline(0, 1, b"030101212323");
+    s.clear()
 }
 
 // Outlines taken, the same again, and cells asked.
@@ -132,6 +143,7 @@ fn script() -> Script {
     let s = without_draft(Script::new());
     let s = drafts(s);
     let s = refused(s);
+    let s = backward(s);
     let s = taken(s);
     let s = kept(s);
     let s = dents(s);

@@ -155,6 +155,14 @@ fn ask_h3(col: u16, row: u16) {
     write_query(b"H3", anchor, &edges, Point { col, row });
 }
 
+// Specimens drawn backward: the letter that is named stands as far from the other end.
+fn write_backward() {
+    write_specimen(b"H3 backward", 0, 1, b"030101212323");
+    write_specimen(b"H4 backward", 1, 1, b"301012123230");
+    write_specimen(b"H6 backward", 0, 0, b"000122112333");
+    write_specimen(b"H7 backward", 0, 0, b"000112321233");
+}
+
 fn write_tests() {
     write_specimen(b"H1", 0, 0, b"1032");
     write_specimen(b"H2", 0, 0, b"10003222");
@@ -171,6 +179,7 @@ fn write_tests() {
     write_specimen(b"start (256, 0), 7777", 256, 0, b"7777");
     write_longest();
     write_most_edges();
+    write_backward();
 }
 
 // H2 and H3: cells inside, cells outside, and H2 far across the chart.

@@ -13,9 +13,8 @@ use Rattle.chart.specs.declared.Verdict.{Verdict}
 use Rattle.chart.specs.declared.Verdict.the-variants.{Taken, Refused}
 use Rattle.chart.specs.Outline.{Outline}
 use Rattle.chart.specs.Fields.{verdictFields}
-use Rattle.lattice.specs.Enclosed.{encloses}
 use Rattle.lattice.specs.Hull.{Missing, LowestMissing}
-use Rattle.convexity.specs.Cut.{reading}
+use Rattle.convexity.specs.Reading.{border, block}
 use Rattle.convexity.specs.Pieces.{Reaches, IsAnchor, edges}
 use Rattle.convexity.specs.Inside.{insideEdges}
 use Rattle.convexity.proofs.AsSent.{edges-answer-sent, dented-iff-missing, named-lowest, west-anchor}
@@ -26,7 +25,7 @@ use Rattle.verdict.proofs.VerdictLaws.{pastEight, reaches-of, dented-or
 
 module _ (o : Outline) where
   -- An outline that reaches the dent test is refused there exactly when some cell is in the hull of its enclosed cells and not enclosed
-  pub nine-iff-missing : Reaches o → (verdictFields (verdictOf o) .number ≡ 9) ↔ ((x : Point) × Missing (encloses o) x)
+  pub nine-iff-missing : Reaches o → (verdictFields (verdictOf o) .number ≡ 9) ↔ ((x : Point) × Missing (block o) x)
   nine-iff-missing r =
       let nine = nine-iff-dented o in
       let dent = dented-iff-missing o r in
@@ -37,15 +36,15 @@ module _ (o : Outline) where
   unfolding pastEight dentOf dentIn cellFound
   verdict-named = record { anchor = anchor; missing = missing }
     where
-      anchor : verdictFields (verdictOf o) .number ≡ 0 → IsAnchor o (cellOf (verdictFields (verdictOf o)))
+      anchor : verdictFields (verdictOf o) .number ≡ 0 → IsAnchor (block o) (cellOf (verdictFields (verdictOf o)))
       anchor e =
           let r : Reaches o = reaches-of o (rw e) in
           ⊎-elim
           (λ h. absurd (omega (arith, e, nine-of-dented o (record { reaches = r; dented = h }))))
           (λ u. rw (verdict-taken o r u) (west-anchor o r))
-          (dented-or-not (reading o))
+          (dented-or-not (border o))
 
-      missing : verdictFields (verdictOf o) .number ≡ 9 → LowestMissing (encloses o) (cellOf (verdictFields (verdictOf o)))
+      missing : verdictFields (verdictOf o) .number ≡ 9 → LowestMissing (block o) (cellOf (verdictFields (verdictOf o)))
       missing e =
           let d : Dented o = dented-of-nine o e in
           rw (verdict-dented o d) (named-lowest o (d .reaches) (d .dented))
@@ -68,9 +67,9 @@ module _ (o : Outline) where
 
   -- A taken outline's anchor and edges, as they stand in the lent list, answer for its cells
   pub taken-answers : (lent : List ℤ) (n : ℕ) (a : Point) → testOf o (length lent) ≡ Taken n a → (x : Point) → x .col < side → x .row < side
-      → insideEdges a (take (2 * n) (edgesAfter o lent)) x ≡ encloses o (x .col) (x .row)
+      → insideEdges a (take (2 * n) (edgesAfter o lent)) x ≡ block o (x .col) (x .row)
   taken-answers lent n a e x i j =
       let f : TakenFacts o n a = taken-facts o n a (roomy o (length lent) n a e .said) in
       ap (λ (es : List ℤ). insideEdges a es x) (edges-first o lent n a e) ∙
-      (ap (λ (b : Point). insideEdges b (edges (reading o)) x) (f .anchor) ∙
+      (ap (λ (b : Point). insideEdges b (edges (border o)) x) (f .anchor) ∙
       edges-answer-sent o (f .reaches) (f .undented) x i j)

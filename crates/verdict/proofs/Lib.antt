@@ -3,5 +3,6 @@ pub mod Computes
 pub mod Specimens
 pub mod VerdictLaws
 pub mod Cells
+pub mod Drawn
 pub mod Rule
 pub mod RuleSpecimens

@@ -21,15 +21,14 @@ use Rattle.chart.specs.declared.Point.{Point}
 use Rattle.chart.specs.declared.Refusal.the-variants.{Dent}
 use Rattle.chart.specs.declared.Verdict.the-variants.{Taken, Refused}
 use Rattle.chart.specs.Outline.{Outline}
-use Rattle.lattice.specs.Enclosed.{encloses}
 use Rattle.lattice.specs.Hull.{LowestMissing}
 use Rattle.convexity.specs.Frame.{frameOf}
-use Rattle.convexity.specs.Cut.{reading}
+use Rattle.convexity.specs.Reading.{border, block, placeSent}
 use Rattle.convexity.specs.Pieces.{Reaches, word, factors, dentAt, dentLength, dentPiece, edgesOf, edges, edgeCount, IsAnchor}
 use Rattle.convexity.proofs.Smooth.{dent-first}
 use Rattle.lattice.proofs.HullLaws.{lowest-unique}
 use Rattle.convexity.proofs.AsSent.{named-lowest, west-anchor}
-use Rattle.verdict.specs.Verdict.{placeSent, cellFound, dentIn, verdictOf}
+use Rattle.verdict.specs.Verdict.{cellFound, dentIn, verdictOf}
 use Rattle.verdict.specs.Dents.{dentOf}
 use Rattle.verdict.specs.Rule.{pieceWord, pieceCut, AllChristoffel, none, more, Smooth, FirstDent, FactorsOf, ByTheRule}
 use Rattle.verdict.proofs.VerdictLaws.{dented-or-not, TakenFacts, taken-facts, verdict-dented, verdict-taken}
@@ -101,7 +100,7 @@ dentedAt o k = ltb 0 (dentLength (factors o k))
 
 module _ (o : Outline) where
   abbrev t : Outline
-  t = reading o
+  t = border o
 
   -- The computed factors are the factors
   factors-are : (k : ℕ) (fs : List Factor) → Factoring (pieceWord o k) fs → factors t k ≡ fs
@@ -147,11 +146,11 @@ module _ (o : Outline) where
 
     -- The fields of 9 with a dent in piece k
     dent-named : (k : ℕ) → dentPiece t ≡ k
-        → dentOf o ≡ Dent (k + 1) (placeSent o (pieceCut o k + 1 + dentAt (factors t k))) (dentLength (factors t k)) (cellFound (reading o))
+        → dentOf o ≡ Dent (k + 1) (placeSent o (pieceCut o k + 1 + dentAt (factors t k))) (dentLength (factors t k)) (cellFound (border o))
     unfolding dentOf dentIn
     dent-named k e = rw (e, add-one k)
 
-    cell-lowest : dentPiece t < 4 → LowestMissing (encloses o) (cellFound (reading o))
+    cell-lowest : dentPiece t < 4 → LowestMissing (block o) (cellFound (border o))
     unfolding cellFound
     cell-lowest d = named-lowest o r d
 
@@ -172,7 +171,7 @@ module _ (o : Outline) where
         let place : placeSent o (pieceCut o k + 1 + dentAt (factors t k)) ≡ i =
         ap (λ (n : ℕ). placeSent o (pieceCut o k + 1 + n)) at ∙ sym (h .place) in
         let copy : dentLength (factors t k) ≡ l = size ∙ sym (h .copy) in
-        let cell : cellFound (reading o) ≡ x = lowest-unique (cell-lowest d) (h .cell) in
+        let cell : cellFound (border o) ≡ x = lowest-unique (cell-lowest d) (h .cell) in
         verdict-dented o (record { reaches = r; dented = d }) ∙ ap Refused (dent-named k first ∙ λ j. Dent (piece j) (place j) (copy j) (cell j))
       where
         dent-some : (before : List Factor) → Falling (before ++ h .dent ∷ h .after) → 0 < length (h .dent .word)
@@ -194,7 +193,7 @@ module _ (o : Outline) where
             let said = sym (ap Refused (dent-named k refl)) ∙ sym (verdict-dented o (record { reaches = r; dented = d })) ∙ e in
             let place : placeSent o (pieceCut o k + 1 + dentAt (factors t k)) ≡ i = cc in
             let copy : dentLength (factors t k) ≡ l = cc in
-            let cell : cellFound (reading o) ≡ x = cc in
+            let cell : cellFound (border o) ≡ x = cc in
             record {
               k = k;
               below = d;
@@ -210,7 +209,7 @@ module _ (o : Outline) where
                   sym place ∙
                   ap (λ (n : ℕ). placeSent o (pieceCut o k + 1 + n)) (ap dentAt (f .whole) ∙ dent-at (f .dent) (f .after) (f .dented) (f .before) (f .smooth));
               copy = sym copy ∙ ap dentLength (f .whole) ∙ dent-length (f .dent) (f .after) (f .dented) (f .before) (f .smooth);
-              cell = subst (λ (y : Point). LowestMissing (encloses o) y) cell (cell-lowest d);
+              cell = subst (λ (y : Point). LowestMissing (block o) y) cell (cell-lowest d);
             }
 
     -- An outline that meets none of 1 to 8 is refused by 9, with these fields, exactly if they are those of its first factor that is no Christoffel word
@@ -231,13 +230,13 @@ module _ (o : Outline) where
         factors-are 3 (fs 3) (h 3 (omega arith)),
       )
 
-  pub taken-anchor : (n : ℕ) (a : Point) → verdictOf o ≡ Taken n a → IsAnchor o a
+  pub taken-anchor : (n : ℕ) (a : Point) → verdictOf o ≡ Taken n a → IsAnchor (block o) a
   taken-anchor n a e =
       let f : TakenFacts o n a = taken-facts o n a e in
-      subst (λ (b : Point). IsAnchor o b) (sym (f .anchor)) (west-anchor o (f .reaches))
+      subst (λ (b : Point). IsAnchor (block o) b) (sym (f .anchor)) (west-anchor o (f .reaches))
 
   pub edges-of-factors : (fs : ℕ → List Factor) → FactorsOf o fs
-      → edges (reading o) ≡
+      → edges (border o) ≡
       edgesOf (frameOf 0) (fs 0) ++ (edgesOf (frameOf 1) (fs 1) ++ (edgesOf (frameOf 2) (fs 2) ++ edgesOf (frameOf 3) (fs 3)))
   unfolding edges
   edges-of-factors fs h =

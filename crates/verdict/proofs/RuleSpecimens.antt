@@ -22,7 +22,6 @@ unfolding computes
 h6-reaches =
     record {
       simple = record { counted = refl; started = refl; lettered = refl; stays = refl; closed = refl; simple = refl };
-      clockwise = refl;
       straight = refl;
     }
 

@@ -5,18 +5,18 @@ use native.Mathlib.Omega.{arith}
 use native.Mathlib.Decide.{decLt}
 use mathlib.Core.Path.{_≡_, refl, sym, ap, _∙_}
 use mathlib.Core.Logic.{_⊎_, inl, inr, ⊎-elim, _↔_}
-use mathlib.Core.Bool.{Bool, true, false, not, cond, _||_, true≢false}
+use mathlib.Core.Bool.{Bool, true, false, cond, _||_, true≢false}
 use mathlib.Core.List.{List, _++_}
 use lib.ListN.{length, take, drop}
 use lib.Seq.{take-at}
 use lib.Dec.{ltb, eqb}
 use lib.IntN.{ℤ}
-use borrow.Author.Tests.{lt-ltb, le-ltb, not-false}
+use borrow.Author.Tests.{lt-ltb, le-ltb}
 use Rattle.base.proofs.BelowLaws.{first-le}
 use Rattle.chart.specs.declared.Point.{Point}
 use Rattle.chart.specs.Limits.{mostNumbers}
 use Rattle.chart.specs.declared.Refusal.{Refusal}
-use Rattle.chart.specs.declared.Refusal.the-variants.{Count, Start, Letter, Leaves, Unclosed, Touches, Anticlockwise, Room}
+use Rattle.chart.specs.declared.Refusal.the-variants.{Count, Start, Letter, Leaves, Unclosed, Touches, Room}
 use Rattle.chart.specs.declared.Verdict.{Verdict}
 use Rattle.chart.specs.declared.Verdict.the-variants.{Taken, Refused}
 use Rattle.chart.specs.Outline.{Outline}
@@ -27,11 +27,11 @@ use Rattle.survey.specs.declared.Surveyed.{Surveyed}
 use Rattle.survey.specs.declared.Surveyed.the-variants.{Refused as Stopped}
 use Rattle.survey.specs.Survey.{surveyOf}
 use Rattle.survey.proofs.SurveyLaws.{survey-passed}
-use Rattle.convexity.specs.Cut.{reading, clockwise}
+use Rattle.convexity.specs.Reading.{border, placeSent}
 use Rattle.convexity.specs.Pieces.{backStepPiece, factors, dentLength, dentPiece, edges, edgeCount, Reaches}
 use Rattle.convexity.proofs.Bounds.{edges-length}
 use Rattle.convexity.proofs.EdgeBound.{edges-fit}
-use Rattle.verdict.specs.Verdict.{placeSent, backStepIn, dentIn, turnVerdict, readingVerdict, afterSurvey, verdictOf, withRoom, testOf, lentAfter, edgesAfter}
+use Rattle.verdict.specs.Verdict.{backStepIn, dentIn, turnVerdict, borderVerdict, afterSurvey, verdictOf, withRoom, testOf, lentAfter, edgesAfter}
 use Rattle.verdict.specs.Dents.{Dented, dentOf}
 
 -- ---- refusals 1 to 8
@@ -73,16 +73,16 @@ dented-or-not o =
     ]
 
 module _ (o : Outline) where
-  -- The pieces' edges, their count, and the first piece with a dent, all of the reading
+  -- The pieces' edges, their count, and the first piece with a dent, all of the border
   abbrev count : ℕ
-  count = edgeCount (reading o)
+  count = edgeCount (border o)
 
   abbrev dent : ℕ
-  dent = dentPiece (reading o)
+  dent = dentPiece (border o)
 
   -- None of 1 to 8 applies, or one of them is the answer
   pub reaches-or-early : Reaches o ⊎ Early (verdictOf o)
-  unfolding verdictOf surveyOf afterSurvey readingVerdict turnVerdict backStepIn
+  unfolding verdictOf surveyOf afterSurvey borderVerdict turnVerdict backStepIn
   reaches-or-early =
       survey-link (badCount (o .letters)) Count _ _ (unfold numbers in refl) λ counted.
       survey-link (badStart (o .start)) Start _ _ (unfold numbers in refl) λ started.
@@ -90,12 +90,10 @@ module _ (o : Outline) where
       survey-link (ltb (leavingPlace o) (size o)) (Leaves (leavingPlace o)) _ _ (unfold numbers in refl) λ stays.
       survey-link (unclosed o) Unclosed _ _ (unfold numbers in refl) λ closed.
       survey-link (ltb (touchingPlace o) (size o - 1)) (Touches (touchingPlace o)) _ _ (unfold numbers in refl) λ simple.
-      link (not (clockwise (reading o))) Anticlockwise _ (unfold numbers in refl) λ right.
-      link (ltb (backStepPiece (reading o)) 4) (backStepIn (placeSent o) (reading o) (backStepPiece (reading o))) _
+      link (ltb (backStepPiece (border o)) 4) (backStepIn (placeSent o) (border o) (backStepPiece (border o))) _
       (unfold numbers in refl) λ straight.
       inl (record {
         simple = record { counted = counted; started = started; lettered = lettered; stays = stays; closed = closed; simple = simple };
-        clockwise = not-false (clockwise (reading o)) right;
         straight = straight;
       })
 
@@ -104,39 +102,39 @@ module _ (o : Outline) where
   reaches-of h = ⊎-elim (λ r. r) (λ e. absurd (true≢false (sym h ∙ ap pastEight (e .answer) ∙ e .early))) reaches-or-early
 
   -- Past 1 to 8 the dent decides
-  verdict-past-eight : Reaches o → verdictOf o ≡ cond (ltb dent 4) (Refused (dentOf o)) (Taken count (reading o .start))
-  unfolding verdictOf readingVerdict turnVerdict dentOf afterSurvey
-  verdict-past-eight r = rw (← survey-passed o (r .simple), r .clockwise, r .straight)
+  verdict-past-eight : Reaches o → verdictOf o ≡ cond (ltb dent 4) (Refused (dentOf o)) (Taken count (border o .start))
+  unfolding verdictOf borderVerdict turnVerdict dentOf afterSurvey
+  verdict-past-eight r = rw (← survey-passed o (r .simple), r .straight)
 
   pub verdict-dented : Dented o → verdictOf o ≡ Refused (dentOf o)
   verdict-dented d = verdict-past-eight (d .reaches) ∙ rw (lt-ltb dent 4 (d .dented))
 
-  pub verdict-taken : Reaches o → dentPiece (reading o) ≡ 4
-      → verdictOf o ≡ Taken (edgeCount (reading o)) (reading o .start)
+  pub verdict-taken : Reaches o → dentPiece (border o) ≡ 4
+      → verdictOf o ≡ Taken (edgeCount (border o)) (border o .start)
   verdict-taken r u = verdict-past-eight r ∙ rw u
 
   -- What "taken" tells of an outline
   pub record TakenFacts (n : ℕ) (a : Point) : Type 0 where
     pub reaches : Reaches o
-    pub undented : dentPiece (reading o) ≡ 4
-    pub count : n ≡ edgeCount (reading o)
-    pub anchor : a ≡ reading o .start
+    pub undented : dentPiece (border o) ≡ 4
+    pub count : n ≡ edgeCount (border o)
+    pub anchor : a ≡ border o .start
 
   pub taken-facts : (n : ℕ) (a : Point) → verdictOf o ≡ Taken n a → TakenFacts n a
-  taken-facts n a e = ⊎-elim dented undented (dented-or-not (reading o))
+  taken-facts n a e = ⊎-elim dented undented (dented-or-not (border o))
     where
       reach : Reaches o
       reach = reaches-of (ap pastEight e ∙ unfold numbers in refl)
 
-      dented : dentPiece (reading o) < 4 → TakenFacts n a
+      dented : dentPiece (border o) < 4 → TakenFacts n a
       dented h =
           let x : verdictOf o ≡ Refused (dentOf o) = verdict-dented (record { reaches = reach; dented = h }) in
           let z : _≡_ {A = ℕ} 0 1 = cc in
           absurd (omega arith)
 
-      undented : dentPiece (reading o) ≡ 4 → TakenFacts n a
+      undented : dentPiece (border o) ≡ 4 → TakenFacts n a
       undented u =
-          let same : verdictOf o ≡ Taken (edgeCount (reading o)) (reading o .start) = verdict-taken reach u in
+          let same : verdictOf o ≡ Taken (edgeCount (border o)) (border o .start) = verdict-taken reach u in
           record { reaches = reach; undented = u; count = cc; anchor = cc }
 
   -- The holder has room for the edges of every outline that is taken
@@ -149,12 +147,12 @@ module _ (o : Outline) where
   -- Number 9 is the answer exactly for a dented outline
   pub dented-of-nine : verdictFields (verdictOf o) .number ≡ 9 → Dented o
   unfolding numbers
-  dented-of-nine nine = ⊎-elim (λ h. record { reaches = reach; dented = h }) undented (dented-or-not (reading o))
+  dented-of-nine nine = ⊎-elim (λ h. record { reaches = reach; dented = h }) undented (dented-or-not (border o))
     where
       reach : Reaches o
       reach = reaches-of (rw nine)
 
-      undented : dentPiece (reading o) ≡ 4 → Dented o
+      undented : dentPiece (border o) ≡ 4 → Dented o
       undented u =
           let e = ap (λ (x : Verdict). verdictFields x .number) (verdict-taken reach u) in absurd (omega (arith, e, nine))
 
@@ -202,7 +200,7 @@ module _ (o : Outline) where
   -- ---- the lent list afterwards
 
   pub edges-after : (lent : List ℤ) (n : ℕ) (a : Point) → testOf o (length lent) ≡ Taken n a →
-      edgesAfter o lent ≡ edges (reading o) ++ drop (length (edges (reading o))) lent
+      edgesAfter o lent ≡ edges (border o) ++ drop (length (edges (border o))) lent
   unfolding edgesAfter lentAfter
   edges-after lent n a e = rw e
 
@@ -211,8 +209,8 @@ module _ (o : Outline) where
   edges-refused lent f e = rw e
 
   pub edges-first : (lent : List ℤ) (n : ℕ) (a : Point) → testOf o (length lent) ≡ Taken n a
-      → take (2 * n) (edgesAfter o lent) ≡ edges (reading o)
+      → take (2 * n) (edgesAfter o lent) ≡ edges (border o)
   edges-first lent n a e =
       let k : TakenFacts n a = taken-facts n a (roomy (length lent) n a e .said) in
       ap (take (2 * n)) (edges-after lent n a e) ∙
-      take-at (edges (reading o)) (drop (length (edges (reading o))) lent) (2 * n) (edges-length (reading o) ∙ ap (λ (j : ℕ). 2 * j) (sym (k .count)))
+      take-at (edges (border o)) (drop (length (edges (border o))) lent) (2 * n) (edges-length (border o) ∙ ap (λ (j : ℕ). 2 * j) (sym (k .count)))

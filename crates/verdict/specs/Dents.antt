@@ -2,14 +2,14 @@
 use Prim.Native.Nat.{_<_}
 use Rattle.chart.specs.declared.Refusal.{Refusal}
 use Rattle.chart.specs.Outline.{Outline}
-use Rattle.convexity.specs.Cut.{reading}
+use Rattle.convexity.specs.Reading.{border, placeSent}
 use Rattle.convexity.specs.Pieces.{dentPiece, Reaches}
-use Rattle.verdict.specs.Verdict.{placeSent, dentIn}
+use Rattle.verdict.specs.Verdict.{dentIn}
 
 -- None of 1 to 8 applies, and a factor is no Christoffel word
 pub record Dented (o : Outline) : Type 0 where
   pub reaches : Reaches o
-  pub dented : dentPiece (reading o) < 4
+  pub dented : dentPiece (border o) < 4
 
 unfoldable pub dentOf : Outline → Refusal
-dentOf o = dentIn (placeSent o) (reading o) (dentPiece (reading o))
+dentOf o = dentIn (placeSent o) (border o) (dentPiece (border o))

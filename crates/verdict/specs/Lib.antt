@@ -2,5 +2,6 @@
 pub mod Verdict
 pub mod Dents
 pub mod Named
+pub mod Drawn
 pub mod Rule
 pub mod Specimens

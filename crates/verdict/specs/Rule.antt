@@ -13,19 +13,19 @@ use Rattle.chart.specs.declared.Point.{Point}
 use Rattle.chart.specs.declared.Refusal.the-variants.{Dent}
 use Rattle.chart.specs.declared.Verdict.the-variants.{Taken, Refused}
 use Rattle.chart.specs.Outline.{Outline}
-use Rattle.lattice.specs.Enclosed.{encloses}
 use Rattle.lattice.specs.Hull.{LowestMissing}
 use Rattle.convexity.specs.Frame.{frameOf}
-use Rattle.convexity.specs.Cut.{reading, cut}
+use Rattle.convexity.specs.Cut.{cut}
+use Rattle.convexity.specs.Reading.{border, block, placeSent}
 use Rattle.convexity.specs.Pieces.{word, edgesOf, edges, IsAnchor}
-use Rattle.verdict.specs.Verdict.{placeSent, verdictOf}
+use Rattle.verdict.specs.Verdict.{verdictOf}
 
 -- The word of piece k on the reading from W, and the cut place at which the piece begins (contract 3.3 and 3.6)
 abbrev pub pieceWord : Outline → ℕ → Word
-pieceWord o k = word (reading o) k
+pieceWord o k = word (border o) k
 
 abbrev pub pieceCut : Outline → ℕ → ℕ
-pieceCut o k = cut (reading o) k
+pieceCut o k = cut (border o) k
 
 -- Every factor is a Christoffel word
 pub data AllChristoffel : List Factor → Type 0 where
@@ -53,7 +53,7 @@ pub record FirstDent (o : Outline) (p i l : ℕ) (x : Point) : Type 0 where
   pub piece : p ≡ k + 1
   pub place : i ≡ placeSent o (pieceCut o k + 1 + length (written before))
   pub copy : l ≡ length (dent .word)
-  pub cell : LowestMissing (encloses o) x
+  pub cell : LowestMissing (block o) x
 
 -- The factors of the four pieces
 abbrev pub FactorsOf : Outline → (ℕ → List Factor) → Type 0
@@ -70,7 +70,7 @@ pub record ByTheRule (o : Outline) : Type 0 where
   -- the fields of a taken outline, and its edges, one for each factor (contract 3.12, 3.13 and 6.1)
   pub count : (n : ℕ) (a : Point) → verdictOf o ≡ Taken n a → (fs : ℕ → List Factor) → FactorsOf o fs →
       n ≡ length (fs 0) + (length (fs 1) + (length (fs 2) + length (fs 3)))
-  pub anchor : (n : ℕ) (a : Point) → verdictOf o ≡ Taken n a → IsAnchor o a
+  pub anchor : (n : ℕ) (a : Point) → verdictOf o ≡ Taken n a → IsAnchor (block o) a
   pub edges : (fs : ℕ → List Factor) → FactorsOf o fs →
-      edges (reading o) ≡
+      edges (border o) ≡
       edgesOf (frameOf 0) (fs 0) ++ (edgesOf (frameOf 1) (fs 1) ++ (edgesOf (frameOf 2) (fs 2) ++ edgesOf (frameOf 3) (fs 3)))

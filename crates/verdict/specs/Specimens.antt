@@ -51,7 +51,7 @@ no-with : Point → List ℕ → Fields → Specimen
 no-with s w f = record { outline = record { start = s; letters = w }; fields = f; edges = [] }
 
 -- H1 to H12 in their order; the start above 255 with letters above 3; a walk that leaves the chart and does not close; a dent that only a
--- palindrome test would pass, the factor 001101
+-- palindrome test would pass, the factor 001101; H3, H4, H6 and H7 drawn backward
 unfoldable pub specimens : List Specimen
 unfolding at yes-with no-with
 specimens =
@@ -67,11 +67,19 @@ specimens =
     no-with (at 0 0) (1 ∷ 1 ∷ 0 ∷ 3 ∷ 0 ∷ 1 ∷ 0 ∷ 3 ∷ 3 ∷ 2 ∷ 2 ∷ 2 ∷ [])
     (record { number = 8; word = no-word; place = 5; piece = 2; length = 0; col = 0; row = 0 }) ∷
     no-with (at 0 0) (1 ∷ 0 ∷ 2 ∷ 3 ∷ []) (placed 6 2) ∷
-    no-with (at 0 0) (0 ∷ 1 ∷ 2 ∷ 3 ∷ []) (numbered 7) ∷
+    yes-with (at 0 0) (0 ∷ 1 ∷ 2 ∷ 3 ∷ []) 0 0 0 [] ∷
     no-with (at 0 0) (1 ∷ 0 ∷ 3 ∷ []) (numbered 1) ∷
     no-with (at 255 0) (1 ∷ 0 ∷ 3 ∷ 2 ∷ []) (placed 4 1) ∷
     no-with (at 0 1) (1 ∷ 0 ∷ 3 ∷ 3 ∷ []) (numbered 5) ∷
     no-with (at 256 0) (7 ∷ 7 ∷ 7 ∷ 7 ∷ []) (numbered 2) ∷
     no-with (at 255 0) (0 ∷ 0 ∷ 0 ∷ 0 ∷ []) (placed 4 0) ∷
     no-with (at 0 0) (1 ∷ 0 ∷ 0 ∷ 1 ∷ 1 ∷ 0 ∷ 1 ∷ 0 ∷ 3 ∷ 3 ∷ 3 ∷ 3 ∷ 2 ∷ 2 ∷ 2 ∷ 2 ∷ [])
-    (record { number = 9; word = no-word; place = 1; piece = 1; length = 6; col = 1; row = 1 }) ∷ []
+    (record { number = 9; word = no-word; place = 1; piece = 1; length = 6; col = 1; row = 1 }) ∷
+    yes-with (at 0 1) (0 ∷ 3 ∷ 0 ∷ 1 ∷ 0 ∷ 1 ∷ 2 ∷ 1 ∷ 2 ∷ 3 ∷ 2 ∷ 3 ∷ []) 4 0 1
+    (pos 1 ∷ pos 1 ∷ pos 1 ∷ negsuc 0 ∷ negsuc 0 ∷ negsuc 0 ∷ negsuc 0 ∷ pos 1 ∷ []) ∷
+    yes-with (at 1 1) (3 ∷ 0 ∷ 1 ∷ 0 ∷ 1 ∷ 2 ∷ 1 ∷ 2 ∷ 3 ∷ 2 ∷ 3 ∷ 0 ∷ []) 4 0 1
+    (pos 1 ∷ pos 1 ∷ pos 1 ∷ negsuc 0 ∷ negsuc 0 ∷ negsuc 0 ∷ negsuc 0 ∷ pos 1 ∷ []) ∷
+    no-with (at 0 0) (0 ∷ 0 ∷ 0 ∷ 1 ∷ 2 ∷ 2 ∷ 1 ∷ 1 ∷ 2 ∷ 3 ∷ 3 ∷ 3 ∷ [])
+    (record { number = 9; word = no-word; place = 7; piece = 2; length = 4; col = 1; row = 1 }) ∷
+    no-with (at 0 0) (0 ∷ 0 ∷ 0 ∷ 1 ∷ 1 ∷ 2 ∷ 3 ∷ 2 ∷ 1 ∷ 2 ∷ 3 ∷ 3 ∷ [])
+    (record { number = 8; word = no-word; place = 6; piece = 2; length = 0; col = 0; row = 0 }) ∷ []

@@ -1,6 +1,6 @@
 -- What is said of an outline: the first of refusals 1 to 9 that applies, or taken (contract 5); and the test, which asks for room on top (contract 6.1).
 use Prim.Native.Nat.{ℕ, suc, _+_, _*_}
-use mathlib.Core.Bool.{not, cond}
+use mathlib.Core.Bool.{cond}
 use mathlib.Core.List.{List, _++_}
 use lib.ListN.{length, drop}
 use lib.Dec.{ltb}
@@ -8,22 +8,19 @@ use lib.IntN.{ℤ}
 use Rattle.chart.specs.declared.Point.{Point}
 use Rattle.chart.specs.declared.Fields.{Fields}
 use Rattle.chart.specs.declared.Refusal.{Refusal}
-use Rattle.chart.specs.declared.Refusal.the-variants.{Anticlockwise, BackStep, Dent, Room}
+use Rattle.chart.specs.declared.Refusal.the-variants.{BackStep, Dent, Room}
 use Rattle.chart.specs.declared.Verdict.{Verdict}
 use Rattle.chart.specs.declared.Verdict.the-variants.{Taken, Refused}
 use Rattle.chart.specs.Outline.{Outline}
 use Rattle.chart.specs.Fields.{verdictFields}
-use Rattle.lattice.specs.Chart.{cornerAt, size}
+use Rattle.lattice.specs.Chart.{cornerAt}
 use Rattle.survey.specs.declared.Surveyed.{Surveyed}
 use Rattle.survey.specs.declared.Surveyed.the-variants.{Passed, Refused as Stopped}
 use Rattle.survey.specs.Survey.{surveyOf}
 use Rattle.rows.specs.Search.{missingCell}
-use Rattle.convexity.specs.Cut.{cornerPlace, westPlace, reading, clockwise, cut}
-use Rattle.convexity.specs.Pieces.{backStepAt, backStepPiece, factors, dentAt, dentLength, dentPiece, sent, edges, edgeCount}
-
--- A place in letters from W on, as an index in the list as sent (contract 5.3)
-unfoldable pub placeSent : Outline → ℕ → ℕ
-placeSent o i = sent (size o) (westPlace o) i
+use Rattle.convexity.specs.Cut.{cornerPlace, cut}
+use Rattle.convexity.specs.Reading.{border, placeSent}
+use Rattle.convexity.specs.Pieces.{backStepAt, backStepPiece, factors, dentAt, dentLength, dentPiece, edges, edgeCount}
 
 -- 8, in piece k of a turn t from W: the first letter that is none of the piece's two
 unfoldable pub backStepIn : (ℕ → ℕ) → Outline → ℕ → Refusal
@@ -43,9 +40,9 @@ turnVerdict place t =
     cond (ltb (backStepPiece t) 4) (Refused (backStepIn place t (backStepPiece t)))
     (cond (ltb (dentPiece t) 4) (Refused (dentIn place t (dentPiece t))) (Taken (edgeCount t) (t .start)))
 
--- 7 to 9 of an outline, or taken
-unfoldable pub readingVerdict : Outline → Verdict
-readingVerdict o = cond (not (clockwise (reading o))) (Refused Anticlockwise) (turnVerdict (placeSent o) (reading o))
+-- 8 and 9 of an outline, or taken: those of its border, with places in the list as sent
+unfoldable pub borderVerdict : Outline → Verdict
+borderVerdict o = turnVerdict (placeSent o) (border o)
 
 -- What 1 to 6 say, or else what is said further on
 unfoldable pub afterSurvey : Surveyed → Verdict → Verdict
@@ -54,7 +51,7 @@ afterSurvey (Stopped f) v = Refused f
 
 -- 1 to 9, or taken: what a close asks, in the holder and in the plain book
 unfoldable pub verdictOf : Outline → Verdict
-verdictOf o = afterSurvey (surveyOf o) (readingVerdict o)
+verdictOf o = afterSurvey (surveyOf o) (borderVerdict o)
 
 -- 10: a taken outline needs room for two numbers an edge in a lent list of m
 unfoldable pub withRoom : ℕ → Verdict → Verdict
@@ -75,4 +72,4 @@ lentAfter (Taken n a) es lent = es ++ drop (length es) lent
 lentAfter (Refused f) es lent = lent
 
 unfoldable pub edgesAfter : Outline → List ℤ → List ℤ
-edgesAfter o lent = lentAfter (testOf o (length lent)) (edges (reading o)) lent
+edgesAfter o lent = lentAfter (testOf o (length lent)) (edges (border o)) lent

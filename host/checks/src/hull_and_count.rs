@@ -16,25 +16,22 @@ type Cell = (i32, i32);
 pub enum Of {
     /// All enclosed cells.
     Enclosed,
-    /// Those on the right-hand side of the border, which have the same hull.
+    /// Those along the border, which have the same hull.
     Border,
 }
 
-/// Whether the outline is past refusals 1 to 7 and its hull holds no more cells than it encloses.
+/// Whether the outline is past refusals 1 to 6 and its hull holds no more cells than it encloses.
 pub fn is_convex(start: Point, letters: &[u8], of: Of) -> bool {
     if plain::walk_refusal(start, letters).is_some() {
         return false;
     }
-    // Clockwise: the enclosed cells are on the right hand, and the area counts them.
-    let count = -area(start, letters);
-    if count <= 0 {
-        return false;
-    }
+    // The area counts the enclosed cells, which are on the right hand of a clockwise walk and on the left hand of any other.
+    let area = area(start, letters);
     let cells = match of {
         Of::Enclosed => enclosed_cells(start, letters),
-        Of::Border => border_cells(start, letters),
+        Of::Border => border_cells(start, letters, area < 0),
     };
-    lattice_points(&hull(cells)) == count
+    lattice_points(&hull(cells)) == area.abs()
 }
 
 /// The area within a closed walk, above 0 if it runs anticlockwise.
@@ -67,18 +64,28 @@ fn steps(start: Point, letters: &[u8]) -> impl Iterator<Item = (i32, i32, u8)> +
     })
 }
 
-/// The cells to the right of each letter.
-fn border_cells(start: Point, letters: &[u8]) -> Vec<Cell> {
+/// The enclosed cell beside each letter: to its right, or to its left.
+fn border_cells(start: Point, letters: &[u8], clockwise: bool) -> Vec<Cell> {
     let right = |(row, col, letter)| match letter {
         0 => (row - 1, col),
         1 => (row, col),
         2 => (row, col - 1),
         _ => (row - 1, col - 1),
     };
-    steps(start, letters).map(right).collect()
+    let left = |(row, col, letter)| match letter {
+        0 => (row, col),
+        1 => (row, col - 1),
+        2 => (row - 1, col - 1),
+        _ => (row - 1, col),
+    };
+    if clockwise {
+        steps(start, letters).map(right).collect()
+    } else {
+        steps(start, letters).map(left).collect()
+    }
 }
 
-/// All enclosed cells, row by row: between an up and the next down.
+/// All enclosed cells, row by row: between a side and the next.
 fn enclosed_cells(start: Point, letters: &[u8]) -> Vec<Cell> {
     let mut ends: Vec<Cell> = Vec::with_capacity(letters.len());
     for (row, col, letter) in steps(start, letters) {

@@ -51,14 +51,14 @@ returns : tie.Need-returns
 returns c =
     let read = c .before .before .before .before .before .before .before .before in
     let start = read .before .before .before in
-    dent-judged (start .pre .0) (start .pre .1) (factored read (c .before .before .before .before .factored .given .1))
+    dent-judged (start .pre .0) (start .pre .1) _ (factored read (c .before .before .before .before .factored .given .1))
     (λ es. c .refused .ensures es ∙ ap (λ (f : Refusal). judgedAs (Refused f) es) (c .before .dent .ensures))
 
 returns-2 : tie.Need-returns-2
 returns-2 c =
     let read = c .before .before .before .before .before in
     let start = read .before .before .before in
-    edges-judged (start .pre .0) (start .pre .1) (factored read (c .before .factored2 .given .1))
+    edges-judged (start .pre .0) (start .pre .1) (factored read (c .before .factored2 .given .1)) _
 
 pub edges-spec : {M : Type 1} → statement M
 edges-spec =

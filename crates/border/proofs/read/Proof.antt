@@ -1,9 +1,14 @@
--- The buffer holds the turn from W and then its pieces, so the rest of the judgement is the turn's.
-use mathlib.Core.Path.{sym}
+-- The buffer holds the border and then its pieces, so the rest of the judgement is the border's.
+use Prim.Native.Nat.{_<_}
+use native.Mathlib.Omega.{arith}
+use mathlib.Core.Path.{refl, sym}
+use lib.ListN.{length, getD}
+use lib.Dec.{eqb}
 use lib.Seq.{length-take-le}
 use borrow.Author.Needs.{needs}
 use Rattle.chart.specs.Outline.{outline}
-use Rattle.border.proofs.JudgedLaws.{Copied, letters-fit, copied-back, copied-ready, copied-judged}
+use Rattle.lattice.proofs.WalkLaws.{walked}
+use Rattle.border.proofs.JudgedLaws.{Copied, letters-fit, copied-ready, copied-judged}
 use Rattle.border.proofs.read.Statement.{statement}
 use Rattle.border.proofs.read.Tie as tie
 
@@ -13,39 +18,47 @@ corner-place-requires c κs = search needs
 corner-at-requires : tie.Need-corner-at-requires
 corner-at-requires c κs = search needs
 
+-- W's letter is one of the list's
+found-lt : (c : tie.After-corner-place) → c .corner-place .result < length (c .before .before .args .letters .now)
+found-lt c =
+    let start = c .before .before in omega (arith, c .corner-place .ensures .within, walked (outline (start .args .start) (start .args .letters .now)) (start .pre) .long)
+
+shared-slice-read-forward : tie.Need-shared-slice-read-forward
+shared-slice-read-forward c = found-lt (c .before .before)
+
+read-place-requires : tie.Need-read-place-requires
+read-place-requires c κs = omega (arith, found-lt (c .before .before))
+
 slice-aggregate-fill-turn : tie.Need-slice-aggregate-fill-turn
 slice-aggregate-fill-turn c = search needs
 
 fill-turn-requires : tie.Need-fill-turn-requires
 fill-turn-requires c κs = search needs
 
-array-read-if1 : tie.Need-array-read-if1
-array-read-if1 c = search needs
-
--- The letters from W on are in the buffer
+-- The letters from W on, read clockwise, are in the buffer
 copied : (c : tie.After-fill-turn)
-    → let a = c .before .before .before .before .before .args in
-    Copied (outline (a .start) (a .letters .now)) (c .before .before .before .corner-place .result) (c .before .before .corner-at .result) (c .fill-turn .last .1 .1 .0)
+    → let west = c .before .before .before .before in
+    let start = west .before .before .before in
+    Copied (outline (start .args .start) (start .args .letters .now)) (west .before .corner-place .result) (eqb (getD (start .args .letters .now) (west .before .corner-place .result) 0) 1) (c .before .before .read-place .result) (west .corner-at .result)
+    (c .fill-turn .last .1 .1 .1 .0)
 copied c =
+    let place = c .before .before in
+    let west = place .before .before in
     record {
-      simple = c .before .before .before .before .before .pre;
-      place = c .before .before .before .corner-place .ensures;
-      corner = c .before .before .corner-at .ensures;
+      simple = west .before .before .before .pre;
+      found-at = west .before .corner-place .ensures;
+      corner = west .corner-at .ensures;
+      way = refl;
+      place = place .read-place .ensures;
       letters = c .fill-turn .ensures;
-      sized = c .fill-turn .kept .1 .1 .0;
+      sized = c .fill-turn .kept .1 .1 .1 .0;
     }
 
-refused-requires : tie.Need-refused-requires
-refused-requires c κs = search needs
-
-returns : tie.Need-returns
-returns c = copied-back (copied (c .before .before .before)) (c .before .if1 .taken) (c .refused .ensures)
-
 array-share-prefix-buffer : tie.Need-array-share-prefix-buffer
-array-share-prefix-buffer c = letters-fit (copied (c .before .before))
+array-share-prefix-buffer c = letters-fit (copied (c .before))
 
 slice-aggregate-cut-places : tie.Need-slice-aggregate-cut-places
-slice-aggregate-cut-places c = sym (length-take-le _ _ (letters-fit (copied (c .before .before .before))))
+slice-aggregate-cut-places c = sym (length-take-le _ _ (letters-fit (copied (c .before .before))))
 
 cut-places-requires : tie.Need-cut-places-requires
 cut-places-requires c κs = search needs
@@ -66,15 +79,13 @@ pieces-requires : tie.Need-pieces-requires
 pieces-requires c κs =
     let filled = c .before .before in
     let cuts = filled .before .before .before in
-    copied-ready (copied (cuts .before .before .before .before)) (cuts .before .before .if1 .left) (cuts .cut-places .ensures) (filled .fill-rounds .ensures)
-    (filled .fill-rounds .kept .0)
+    copied-ready (copied (cuts .before .before .before)) (cuts .cut-places .ensures) (filled .fill-rounds .ensures) (filled .fill-rounds .kept .0)
 
-returns-2 : tie.Need-returns-2
-returns-2 c =
+returns : tie.Need-returns
+returns c =
     let filled = c .before .before .before in
     let cuts = filled .before .before .before in
-    copied-judged (copied (cuts .before .before .before .before)) (cuts .before .before .if1 .left) (cuts .cut-places .ensures) (filled .fill-rounds .ensures)
-    (filled .fill-rounds .kept .0) (c .pieces .ensures)
+    copied-judged (copied (cuts .before .before .before)) (cuts .cut-places .ensures) (filled .fill-rounds .ensures) (filled .fill-rounds .kept .0) (c .pieces .ensures)
 
 pub read-spec : {M : Type 1} → statement M
 read-spec =
@@ -82,11 +93,10 @@ read-spec =
     (tie.spec
     corner-place-requires
     corner-at-requires
+    shared-slice-read-forward
+    read-place-requires
     slice-aggregate-fill-turn
     fill-turn-requires
-    array-read-if1
-    refused-requires
-    returns
     array-share-prefix-buffer
     slice-aggregate-cut-places
     cut-places-requires
@@ -95,4 +105,4 @@ read-spec =
     fill-rounds-requires
     slice-aggregate-pieces
     pieces-requires
-    returns-2)
+    returns)

@@ -142,7 +142,7 @@ fn every_outline_of_4_by_4(run: &mut Run) {
     for outline in walks::outlines(4, Point::new(0, 0)) {
         counts[usize::from(run.compare_test(outline))] += 1;
     }
-    let expected = [30_712, 0, 0, 0, 0, 0, 0, 163_272, 125_680, 6_880, 0, 0, 0, 0, 0, 0];
+    let expected = [61_424, 0, 0, 0, 0, 0, 0, 0, 251_360, 13_760, 0, 0, 0, 0, 0, 0];
     if counts != expected {
         println!("4 by 4: counts of numbers {counts:?}, not {expected:?}");
         exit(1);

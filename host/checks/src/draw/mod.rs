@@ -54,7 +54,7 @@ impl Shape {
         }
     }
 
-    /// An outline somewhere on the chart, clockwise from anywhere on its border.
+    /// An outline somewhere on the chart, from anywhere on its border, one way or the other.
     pub fn draw(self, random: &mut Random) -> Outline {
         let side = side(random);
         self.draw_in(random, side)
@@ -72,7 +72,12 @@ impl Shape {
         };
         let outline = put_on_chart(random, letters);
         let place = random.below(outline.letters.len());
-        rotated(&outline, place)
+        let outline = rotated(&outline, place);
+        if random.once_in(2) {
+            reversed(&outline)
+        } else {
+            outline
+        }
     }
 
     /// The cells of a shape that is drawn by its cells.

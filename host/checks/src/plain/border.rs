@@ -25,23 +25,33 @@ pub const ROWS: [i16; 4] = [0, 1, 0, -1];
 
 const LAST: u32 = LAST_CORNER as u32;
 
-/// The letters of an outline past refusal 6, from W on.
+/// The letters of an outline past refusal 6, read clockwise from W on.
 pub struct Turn {
     letters: [u8; LONGEST],
     count: usize,
     /// The corner W.
     pub west: Point,
-    /// The place of the letter that leaves W.
+    /// The place of the letter that leaves W, or, read backward, of the one that reaches it.
     west_place: usize,
+    backward: bool,
 }
 
 impl Turn {
     pub fn new(start: Point, letters: &[u8]) -> Self {
         let (west, west_place) = west(start, letters);
-        let mut turn = Turn { letters: [0; LONGEST], count: letters.len(), west, west_place };
+        let backward = letters[west_place] != 1;
+        let mut turn = Turn { letters: [0; LONGEST], count: letters.len(), west, west_place, backward };
         let (before, after) = letters.split_at(west_place);
-        turn.letters[..after.len()].copy_from_slice(after);
-        turn.letters[after.len()..letters.len()].copy_from_slice(before);
+        if backward {
+            let back = before.iter().rev().chain(after.iter().rev());
+            for (to, letter) in turn.letters.iter_mut().zip(back) {
+                *to = letter ^ 2;
+            }
+            turn.west_place = if west_place == 0 { letters.len() - 1 } else { west_place - 1 };
+        } else {
+            turn.letters[..after.len()].copy_from_slice(after);
+            turn.letters[after.len()..letters.len()].copy_from_slice(before);
+        }
         turn
     }
 
@@ -49,17 +59,14 @@ impl Turn {
         &self.letters[..self.count]
     }
 
-    pub fn is_clockwise(&self) -> bool {
-        self.letters[0] == 1
-    }
-
     /// A place in the list as sent.
     pub fn sent(&self, place: usize) -> usize {
-        let sent = self.west_place + place;
-        if sent < self.count {
-            sent
-        } else {
-            sent - self.count
+        let (west, count) = (self.west_place, self.count);
+        match self.backward {
+            false if west + place < count => west + place,
+            false => west + place - count,
+            true if place <= west => west - place,
+            true => west + count - place,
         }
     }
 

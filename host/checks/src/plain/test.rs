@@ -6,7 +6,7 @@ use super::border::{first_stray, Pair, Turn, COLS, PAIRS, ROWS};
 use super::chart;
 use super::climb::missing_cell;
 use super::words::{first_factor, is_christoffel};
-use crate::reply::{numbered, placed, taken};
+use crate::reply::{placed, taken};
 use crate::{Fields, Point};
 
 /// Edges, two numbers each.
@@ -42,9 +42,6 @@ pub fn find_edges(start: Point, letters: &[u8], edges: &mut Edges) -> Result<Poi
         return Err(refusal);
     }
     let turn = Turn::new(start, letters);
-    if !turn.is_clockwise() {
-        return Err(numbered(7));
-    }
     let cut = turn.cut_places();
     for (k, &pair) in PAIRS.iter().enumerate() {
         if let Some(i) = first_stray(&turn.letters()[cut[k]..cut[k + 1]], pair) {

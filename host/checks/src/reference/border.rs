@@ -1,4 +1,4 @@
-//! From the border to the edges (contract 3.1 to 3.12).
+//! The clockwise reading (contract 2.1 to 2.3), and from the border to the edges (contract 3.1 to 3.12).
 
 use super::walk::{corners, step, Corner};
 use super::words::{factors, is_christoffel};
@@ -35,9 +35,18 @@ fn cut_places(start: Point, letters: &[u8]) -> [usize; 4] {
     ]
 }
 
-/// Contract 3.2.
+/// Contract 2.2.
 pub fn is_clockwise(start: Point, letters: &[u8]) -> bool {
     letters[cut_places(start, letters)[0]] == 1
+}
+
+/// The letters of the clockwise reading (contract 2.3), from the same start.
+pub fn reading(start: Point, letters: &[u8]) -> Vec<u8> {
+    if is_clockwise(start, letters) {
+        return letters.to_vec();
+    }
+    let opposite = |letter: &u8| [2, 3, 0, 1][usize::from(*letter)];
+    letters.iter().rev().map(opposite).collect()
 }
 
 /// The four pieces (contract 3.3). Each is read on past the list's end where the next corner stands before it.
@@ -58,7 +67,7 @@ pub struct Dent {
 }
 
 impl Piece<'_> {
-    /// The place, in the list as sent, of the piece's letter i.
+    /// The place, in the reading, of the piece's letter i.
     fn place(&self, i: usize) -> usize {
         (self.from + i) % self.letters.len()
     }

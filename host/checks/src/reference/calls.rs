@@ -3,7 +3,7 @@
 use robequarry::codec::{INSIDE, OUTSIDE};
 use robequarry::limits::{LAST_CELL, LONGEST_LIST};
 
-use super::border::{is_clockwise, pieces};
+use super::border::{is_clockwise, pieces, reading};
 use super::cells::Enclosed;
 use super::walk;
 use crate::reply::{numbered, placed, said, taken};
@@ -22,15 +22,14 @@ pub fn test(start: Point, letters: &[u8]) -> Tested {
     if let Some(reply) = walk::refusal(start, letters) {
         return refused(reply);
     }
-    // 7: the direction.
-    if !is_clockwise(start, letters) {
-        return refused(numbered(7));
-    }
-    let pieces = pieces(start, letters);
+    // Everything else is about the clockwise reading; a place is that of the same letter in the list as sent.
+    let reading = reading(start, letters);
+    let sent = |place: usize| if is_clockwise(start, letters) { place } else { letters.len() - 1 - place };
+    let pieces = pieces(start, &reading);
     // 8: the first back-step, piece after piece.
     for piece in &pieces {
         if let Some(place) = piece.back_step() {
-            return refused(Fields { piece: piece.number, ..placed(8, place) });
+            return refused(Fields { piece: piece.number, ..placed(8, sent(place)) });
         }
     }
     // 9: the first dent, piece after piece, and the lowest missing cell.
@@ -43,7 +42,7 @@ pub fn test(start: Point, letters: &[u8]) -> Tested {
                 length: dent.length as u16,
                 col: col as u16,
                 row: row as u16,
-                ..placed(9, dent.place)
+                ..placed(9, sent(dent.place))
             });
         }
     }

@@ -1,5 +1,6 @@
-//! Enclosed cells, their hull and the missing cell (contract 2), and the anchor (contract 3.13).
+//! Enclosed cells, their hull and the missing cell (contract 2.4 to 2.7), and the anchor (contract 3.13).
 
+use super::border::reading;
 use super::walk::corners;
 use crate::Point;
 
@@ -22,12 +23,12 @@ fn ups_minus_downs(start: Point, letters: &[u8], (col, row): Cell) -> i32 {
     sum
 }
 
-/// Whether the outline encloses a cell (contract 2.1).
+/// Whether an outline past refusals 1 to 6 encloses a cell, by its clockwise reading (contract 2.4).
 pub fn encloses(start: Point, letters: &[u8], cell: Cell) -> bool {
-    ups_minus_downs(start, letters, cell) == 1
+    ups_minus_downs(start, &reading(start, letters), cell) == 1
 }
 
-/// All the enclosed cells of a walk, between its lowest and highest columns and rows: none lies elsewhere.
+/// All the enclosed cells of an outline past refusals 1 to 6, between its lowest and highest columns and rows: none lies elsewhere.
 pub struct Enclosed {
     left: i32,
     bottom: i32,
@@ -40,6 +41,7 @@ pub struct Enclosed {
 impl Enclosed {
     /// Counts each cell's row once for all its columns.
     pub fn of(start: Point, letters: &[u8]) -> Self {
+        let letters = &reading(start, letters)[..];
         let corners = corners(start, letters);
         let left = corners.iter().map(|c| c.0).min().unwrap_or(0);
         let right = corners.iter().map(|c| c.0).max().unwrap_or(0);
@@ -85,10 +87,10 @@ impl Enclosed {
 
     /// The anchor (contract 3.13): least column, then least row.
     pub fn anchor(&self) -> Cell {
-        self.cells().min().expect("an outline past refusal 7 encloses a cell")
+        self.cells().min().expect("a clockwise outline encloses a cell")
     }
 
-    /// The lowest missing cell (contract 2.4).
+    /// The lowest missing cell (contract 2.7).
     pub fn missing(&self) -> Option<Cell> {
         let hull = Hull::of(self.cells().collect());
         self.frame().find(|&cell| !self.has(cell) && hull.has(cell))
@@ -152,7 +154,7 @@ fn half<'a>(points: impl Iterator<Item = &'a Cell>) -> Vec<Cell> {
 mod tests {
     use super::*;
 
-    /// Contract 2.2: some three of the points, repeats allowed, whose triangle holds x.
+    /// Contract 2.5: some three of the points, repeats allowed, whose triangle holds x.
     fn in_some_triangle(points: &[Cell], x: Cell) -> bool {
         let each = || points.iter().copied();
         each().any(|p| each().any(|q| each().any(|r| in_triangle(p, q, r, x))))

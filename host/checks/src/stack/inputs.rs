@@ -40,7 +40,7 @@ fn outlines(random: &mut Random) -> Vec<Outline> {
 
     let round = round_outline(random, 600);
     let of = |letters: Vec<u8>| Outline { start: round.start, letters };
-    // 1 to 7, in this order; 1 in both ways.
+    // 1 to 6, in this order, 1 in both ways; and an outline that is read backward.
     outlines.push(of(vec![1; SHORTEST - 1]));
     outlines.push(of(vec![1; LONGEST + 1]));
     outlines.push(Outline { start: Point::new(LAST_CORNER + 1, 0), ..round.clone() });

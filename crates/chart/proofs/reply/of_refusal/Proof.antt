@@ -41,12 +41,6 @@ enum-known-f-3 c = search needs
 placed-requires-3 : tie.Need-placed-requires-3
 placed-requires-3 c κs = search needs
 
-enum-told-4 : tie.Need-enum-told-4
-enum-told-4 c = search needs
-
-numbered-requires-4 : tie.Need-numbered-requires-4
-numbered-requires-4 c κs = search needs
-
 enum-known-f-4 : tie.Need-enum-known-f-4
 enum-known-f-4 c = search needs
 
@@ -59,17 +53,17 @@ enum-known-f-6 c = search needs
 placed-requires-4 : tie.Need-placed-requires-4
 placed-requires-4 c κs = search needs
 
+enum-told-4 : tie.Need-enum-told-4
+enum-told-4 c = search needs
+
+numbered-requires-4 : tie.Need-numbered-requires-4
+numbered-requires-4 c κs = search needs
+
 enum-told-5 : tie.Need-enum-told-5
 enum-told-5 c = search needs
 
 numbered-requires-5 : tie.Need-numbered-requires-5
 numbered-requires-5 c κs = search needs
-
-enum-told-6 : tie.Need-enum-told-6
-enum-told-6 c = search needs
-
-numbered-requires-6 : tie.Need-numbered-requires-6
-numbered-requires-6 c κs = search needs
 
 returns : tie.Need-returns
 returns c = cc
@@ -93,19 +87,16 @@ returns-7 : tie.Need-returns-7
 returns-7 c = cc
 
 returns-8 : tie.Need-returns-8
-returns-8 c = cc
+returns-8 c = sym (ap refusalFields (c .before .f5 .given .1))
 
 returns-9 : tie.Need-returns-9
-returns-9 c = sym (ap refusalFields (c .before .f5 .given .1))
+returns-9 c = cc
 
 returns-10 : tie.Need-returns-10
 returns-10 c = cc
 
 returns-11 : tie.Need-returns-11
 returns-11 c = cc
-
-returns-12 : tie.Need-returns-12
-returns-12 c = cc
 
 pub of-refusal-spec : {M : Type 1} → statement M
 of-refusal-spec =
@@ -123,16 +114,14 @@ of-refusal-spec =
     numbered-requires-3
     enum-known-f-3
     placed-requires-3
-    enum-told-4
-    numbered-requires-4
     enum-known-f-4
     enum-known-f-5
     enum-known-f-6
     placed-requires-4
+    enum-told-4
+    numbered-requires-4
     enum-told-5
     numbered-requires-5
-    enum-told-6
-    numbered-requires-6
     returns
     returns-2
     returns-3
@@ -143,5 +132,4 @@ of-refusal-spec =
     returns-8
     returns-9
     returns-10
-    returns-11
-    returns-12)
+    returns-11)

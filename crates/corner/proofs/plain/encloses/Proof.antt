@@ -49,8 +49,8 @@ loop-less c = search needs
 loop-again : tie.Need-loop-again Inv-loop μ-loop
 loop-again c = search needs
 
-wrapping-add-u64-requires-3 : tie.Need-wrapping-add-u64-requires-3 Inv-loop μ-loop
-wrapping-add-u64-requires-3 c κs = search needs
+one-apart-requires : tie.Need-one-apart-requires Inv-loop μ-loop
+one-apart-requires c κs = search needs
 
 returns : tie.Need-returns Inv-loop μ-loop
 returns c = search needs
@@ -74,5 +74,5 @@ encloses-spec =
     add-i
     loop-less
     loop-again
-    wrapping-add-u64-requires-3
+    one-apart-requires
     returns)

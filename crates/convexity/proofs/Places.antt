@@ -1,0 +1,71 @@
+-- Where a letter of the reading stands in the list as sent. The turn begins at W and goes round, so its letter i is that many places past W's, modulo the count; and
+-- the reading backward has its letters as far from the other end, each turned to its opposite.
+use Prim.Native.Nat.{ℕ, suc, _+_, _-_, _≤_, _<_, _%_}
+use native.Mathlib.Nat.{mod-eq-of-lt, add-mod-left, add-mod-mod}
+use native.Mathlib.Omega.{arith}
+use mathlib.Core.Path.{_≡_, refl, sym, ap, _∙_}
+use mathlib.Core.Logic.{_⊎_, inl, inr}
+use mathlib.Core.Bool.{Bool, true, false, true≢false}
+use Rattle.chart.specs.Outline.{Outline}
+use Rattle.lattice.specs.Chart.{cornerAt, size, letterAt}
+use Rattle.lattice.specs.Refusals.{Simple}
+use Rattle.lattice.proofs.WalkLaws.{Walked, walked, Turned, turned}
+use Rattle.convexity.specs.Cut.{turn, westPlace, clockwise, around}
+use Rattle.convexity.specs.Reading.{opposite, reading, readFrom, sentFrom, placeSent, ReadAs}
+use Rattle.convexity.proofs.Reading.{letter-backward, corner-backward, west-first, reading-clockwise, reading-backward, simple-reading, length-reading}
+
+-- Past the end, a place goes on from the beginning
+around-place : (n k i j : ℕ) → j < n → (k + i ≡ j) ⊎ (k + i ≡ n + j) → around n k i ≡ j
+unfolding around
+around-place n k i j l (inl e) = rw e (mod-eq-of-lt l)
+around-place n k i j l (inr e) = rw e (add-mod-left n j ∙ mod-eq-of-lt l)
+
+-- Another time round leads to the same place
+pub place-round : (o : Outline) (i : ℕ) → placeSent o (i % size o) ≡ placeSent o i
+unfolding placeSent sentFrom around
+place-round o i = ap (readFrom (clockwise (turn o)) (size o)) (add-mod-mod (westPlace (reading o)) i (size o))
+
+module _ (o : Outline) (h : Simple o) where
+  abbrev v : Outline
+  v = reading o
+
+  d : Walked v
+  d = walked v (simple-reading o h)
+
+  west-le : westPlace v ≤ size v
+  west-le = omega (arith, west-first v d .below)
+
+  -- Letter i of the reading from W on is letter j of the reading
+  InReading : ℕ → ℕ → Type 0
+  InReading i j = Turned v (westPlace v) west-le i j
+
+  by-way : (i j : ℕ) → j < size o → InReading i j → (b : Bool) → clockwise (turn o) ≡ b → ReadAs o i (readFrom b (size o) j)
+  unfolding turn readFrom InReading
+  by-way i j m f true e =
+      record {
+        below = m;
+        forward = λ _. (f .letter ∙ ap (λ (u : Outline). letterAt u j) (reading-clockwise o e), f .corner ∙ ap (λ (u : Outline). cornerAt u j) (reading-clockwise o e));
+        back = λ g. absurd (true≢false (sym e ∙ g));
+      }
+  by-way i j m f false e =
+      record {
+        below = omega arith;
+        forward = λ g. absurd (true≢false (sym g ∙ e));
+        back = λ _. (
+          f .letter ∙ ap (λ (u : Outline). letterAt u j) (reading-backward o e) ∙ letter-backward (o .letters) j m
+              ∙ ap (λ (k : ℕ). opposite (letterAt o k)) (omega arith),
+          f .corner ∙ ap (λ (u : Outline). cornerAt u j) (reading-backward o e) ∙ corner-backward o (walked o h) j (omega arith)
+              ∙ ap (cornerAt o) (omega arith),
+        );
+      }
+
+  place-at : (i j : ℕ) → InReading i j → ReadAs o i (placeSent o i)
+  unfolding placeSent sentFrom InReading
+  place-at i j f =
+      let m : j < size o = omega (arith, f .below, length-reading o) in
+      let e : around (size o) (westPlace v) i ≡ j = around-place (size o) (westPlace v) i j m (rw (length-reading o) at (f .place)) in
+      rw e (by-way i j m f (clockwise (turn o)) refl)
+
+  pub place-read : (i : ℕ) → i < size o → ReadAs o i (placeSent o i)
+  unfolding InReading
+  place-read i l = let (j, f) = turned v (westPlace v) west-le (d .closed) i (omega (arith, length-reading o)) in place-at i j f

@@ -1,0 +1,53 @@
+-- A block gets one verdict from wherever and whichever way it is drawn: 8, 9 and a taking are read off the border, which is the block's own, and only the
+-- places off the list as sent.
+use Prim.Native.Nat.{ℕ}
+use native.Mathlib.Omega.{arith}
+use mathlib.Core.Path.{_≡_, refl, sym, ap, _∙_}
+use mathlib.Core.Bool.{Bool, true, false, cond}
+use lib.Dec.{ltb}
+use Rattle.chart.specs.declared.Verdict.{Verdict}
+use Rattle.chart.specs.declared.Verdict.the-variants.{Taken, Refused}
+use Rattle.chart.specs.Outline.{Outline}
+use Rattle.chart.specs.Fields.{verdictFields}
+use Rattle.lattice.specs.Refusals.{Simple}
+use Rattle.survey.proofs.SurveyLaws.{survey-passed}
+use Rattle.convexity.specs.Cut.{turn}
+use Rattle.convexity.specs.Reading.{reversed, reading, border, placeSent}
+use Rattle.convexity.specs.Pieces.{backStepPiece, dentPiece, edgeCount}
+use Rattle.convexity.proofs.Reading.{simple-backward, reading-of-backward}
+use Rattle.convexity.proofs.SameBlock.{SameCells, same-turn-iff}
+use Rattle.verdict.specs.Verdict.{backStepIn, dentIn, turnVerdict, borderVerdict, afterSurvey, verdictOf}
+use Rattle.verdict.specs.Drawn.{SameButPlace}
+
+-- Only the places come from the list as sent
+said-alike : (p q : ℕ → ℕ) (t : Outline) → SameButPlace (verdictFields (turnVerdict p t)) (verdictFields (turnVerdict q t))
+unfolding turnVerdict backStepIn dentIn
+said-alike p q t = go (ltb (backStepPiece t) 4) (ltb (dentPiece t) 4)
+  where
+    go :
+        (b d : Bool) →
+        SameButPlace
+        (verdictFields (cond b (Refused (backStepIn p t (backStepPiece t))) (cond d (Refused (dentIn p t (dentPiece t))) (Taken (edgeCount t) (t .start)))))
+        (verdictFields (cond b (Refused (backStepIn q t (backStepPiece t))) (cond d (Refused (dentIn q t (dentPiece t))) (Taken (edgeCount t) (t .start)))))
+    go true d = record { number = refl; word = refl; piece = refl; length = refl; col = refl; row = refl; edges = λ z. absurd (omega arith) }
+    go false true = record { number = refl; word = refl; piece = refl; length = refl; col = refl; row = refl; edges = λ z. absurd (omega arith) }
+    go false false = record { number = refl; word = refl; piece = refl; length = refl; col = refl; row = refl; edges = λ z. refl }
+
+-- Past 1 to 6 the border decides
+verdict-border : (o : Outline) → Simple o → verdictOf o ≡ turnVerdict (placeSent o) (border o)
+unfolding verdictOf afterSurvey borderVerdict
+verdict-border o h = rw (← survey-passed o h)
+
+same-border-verdict : (o v : Outline) → Simple o → Simple v → border o ≡ border v → SameButPlace (verdictFields (verdictOf o)) (verdictFields (verdictOf v))
+same-border-verdict o v h k e = rw (verdict-border o h, verdict-border v k, e) (said-alike (placeSent o) (placeSent v) (border v))
+
+-- Outlines past 1 to 6 of the same block get the same reply, places apart
+pub same-block-verdict : (o v : Outline) → Simple o → Simple v → SameCells o v → SameButPlace (verdictFields (verdictOf o)) (verdictFields (verdictOf v))
+same-block-verdict o v h k same = same-border-verdict o v h k (same-turn-iff o v h k .0 same)
+
+-- So does an outline drawn backward, and taken it has the same anchor and the same edges
+pub backward-border : (o : Outline) → Simple o → border (reversed o) ≡ border o
+backward-border o h = ap turn (reading-of-backward o h)
+
+pub backward-verdict : (o : Outline) → Simple o → SameButPlace (verdictFields (verdictOf (reversed o))) (verdictFields (verdictOf o))
+backward-verdict o h = same-border-verdict (reversed o) o (simple-backward o h) h (backward-border o h)
