@@ -7,7 +7,7 @@ use native.Mathlib.Decide.{decLt, ℕ-discrete}
 use native.Mathlib.Omega.{arith}
 use mathlib.Core.Path.{_≡_, sym, ap, _∙_, subst}
 use mathlib.Core.Logic.{_↔_, _⊎_, inl, inr, ⊎-elim, _≢_}
-use mathlib.Core.Bool.{true, false, true≢false, _||_}
+use mathlib.Core.Bool.{true, false, _||_}
 use lib.ListN.{length, getD}
 use lib.Dec.{ltb, eqb}
 use borrow.Author.Tests.{ltb-true, eqb-false, not-true, le-ltb}
@@ -15,7 +15,7 @@ use Rattle.base.proofs.BelowLaws.{first-le, first-found}
 use Rattle.chart.specs.declared.Point.{Point}
 use Rattle.chart.specs.Outline.{Outline}
 use Rattle.lattice.specs.Chart.{step, cornerAt, size, letterAt}
-use Rattle.lattice.specs.Hull.{InHull, Missing}
+use Rattle.lattice.specs.Hull.{Missing, Full}
 use Rattle.lattice.specs.Refusals.{Simple}
 use Rattle.lattice.proofs.WalkLaws.{Walked, corner-suc, or-left, or-right}
 use Rattle.convexity.specs.Frame.{Frame, frameOf, along}
@@ -350,20 +350,16 @@ module _ (o : Outline) (h : Simple o) where
       (x, missing-same (block-turn o h) m)
 
   -- An outline with no missing cell has no back-step
-  pub full-straight : ((x : Point) → Missing (block o) x → ⊥) → ltb (backStepPiece (border o)) 4 ≡ false
+  pub full-straight : Full (block o) → ltb (backStepPiece (border o)) 4 ≡ false
   full-straight full =
       elim (decLt (backStepPiece (border o)) 4) [
         | yes l ↦ let (x, m) = back-step-missing-sent l in absurd (full x m)
         | no l ↦ le-ltb (backStepPiece (border o)) 4 (omega arith)
       ]
 
-  -- The same where every hull cell is enclosed
-  pub hull-full-straight : ((x : Point) → InHull (block o) x → block o (x .col) (x .row) ≡ true) → ltb (backStepPiece (border o)) 4 ≡ false
-  hull-full-straight full = full-straight (λ x m. true≢false (sym (full x (m .hull)) ∙ m .open-cell))
-
   -- So past refusals 1 to 6 an outline passes 8 and 9 exactly if no cell is missing
   pub passes-iff-full :
-      ((backStepPiece (border o) ≡ 4) × (dentPiece (border o) ≡ 4)) ↔ ((x : Point) → Missing (block o) x → ⊥)
+      ((backStepPiece (border o) ≡ 4) × (dentPiece (border o) ≡ 4)) ↔ Full (block o)
   unfolding dentPiece
   passes-iff-full = (
     λ e x m. absurd (omega (arith, dented-iff-missing o (reaches (e .0)) .1 (x, m))),
@@ -375,7 +371,7 @@ module _ (o : Outline) (h : Simple o) where
       reaches : backStepPiece (border o) ≡ 4 → Reaches o
       reaches e = record { simple = h; straight = le-ltb (backStepPiece (border o)) 4 (omega arith) }
 
-      smooth : ((x : Point) → Missing (block o) x → ⊥) → backStepPiece (border o) ≡ 4 → dentPiece (border o) ≡ 4
+      smooth : Full (block o) → backStepPiece (border o) ≡ 4 → dentPiece (border o) ≡ 4
       smooth full e =
           elim (decLt (dentPiece (border o)) 4) [
             | yes l ↦ let (x, m) = dented-iff-missing o (reaches e) .0 l in absurd (full x m)

@@ -1,6 +1,6 @@
 -- Where a letter of the reading stands in the list as sent. The turn begins at W and goes round, so its letter i is that many places past W's, modulo the count; and
 -- the reading backward has its letters as far from the other end, each turned to its opposite.
-use Prim.Native.Nat.{ℕ, suc, _+_, _-_, _≤_, _<_, _%_}
+use Prim.Native.Nat.{ℕ, _+_, _-_, _≤_, _<_, _%_}
 use native.Mathlib.Nat.{mod-eq-of-lt, add-mod-left, add-mod-mod}
 use native.Mathlib.Omega.{arith}
 use mathlib.Core.Path.{_≡_, refl, sym, ap, _∙_}

@@ -19,7 +19,8 @@ use Rattle.chart.specs.declared.Point.{Point}
 use Rattle.chart.specs.declared.Refusal.the-variants.{Dent, Cell}
 use Rattle.chart.specs.declared.Verdict.{Verdict}
 use Rattle.chart.specs.declared.Verdict.the-variants.{Taken, Refused}
-use Rattle.lattice.specs.Hull.{Missing, LowestMissing}
+use Rattle.lattice.specs.Hull.{Missing, LowestMissing, Full}
+use Rattle.lattice.specs.Refusals.{Simple}
 use Rattle.convexity.specs.Reading.{border, block}
 use Rattle.convexity.specs.Pieces.{edges, Reaches}
 use Rattle.convexity.proofs.Bounds.{edges-length}
@@ -28,6 +29,7 @@ use Rattle.verdict.specs.Verdict.{verdictOf, lentAfter}
 use Rattle.verdict.specs.Named.{CellNamed}
 use Rattle.verdict.proofs.VerdictLaws.{TakenFacts, taken-facts, taken-fits}
 use Rattle.verdict.proofs.Cells.{nine-iff-missing, verdict-named}
+use Rattle.verdict.proofs.Full.{eight-missing, taken-iff-full}
 use Rattle.polygon.specs.Loose.{badCell}
 use Rattle.polygon.proofs.LooseCases.{inside-short}
 use Rattle.border.specs.Judged.{judgedOf}
@@ -243,6 +245,13 @@ module _ (cs : List Call) (o : Outline) (draft : drafted (bookAfter fresh cs) �
   pub close-nine-missing : Reaches o →
       (replyFields (replyAfter cs Close) .number ≡ 9) ↔ ((x : Point) × Missing (block o) x)
   close-nine-missing r = rw close-number (nine-iff-missing o r)
+
+  -- A draft that 8 turns back has a missing cell too; and one past 1 to 6 is taken exactly if no cell is missing (contract 8.5)
+  pub close-eight-missing : replyFields (replyAfter cs Close) .number ≡ 8 → (x : Point) × Missing (block o) x
+  close-eight-missing e = eight-missing o (sym close-number ∙ e)
+
+  pub close-taken-full : Simple o → (replyFields (replyAfter cs Close) .number ≡ 0) ↔ Full (block o)
+  close-taken-full h = rw close-number (taken-iff-full o h)
 
   close-cell : CellNamed o (replyFields (replyAfter cs Close))
   close-cell = rw close-reply (closed-named o (equalsWork o (atWork (bookAfter fresh cs))) (verdictOf o) (verdict-named o))

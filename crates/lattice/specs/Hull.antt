@@ -30,6 +30,10 @@ pub record Missing (marked : ℕ → ℕ → Bool) (x : Point) : Type 0 where
   pub hull : InHull marked x
   pub open-cell : marked (x .col) (x .row) ≡ false
 
+-- No cell is missing: the set holds every cell of its hull
+abbrev pub Full : (ℕ → ℕ → Bool) → Type 0
+Full marked = (x : Point) → Missing marked x → ⊥
+
 -- y lies in a higher row than x, or in the same row further right
 unfoldable pub After : Point → Point → Type 0
 After x y = (x .row < y .row) ⊎ ((x .row ≡ y .row) × (x .col < y .col))

@@ -9,9 +9,9 @@ use mathlib.Core.Bool.{Bool, true, false, cond, _||_, true≢false}
 use mathlib.Core.List.{List, _++_}
 use lib.ListN.{length, take, drop}
 use lib.Seq.{take-at}
-use lib.Dec.{ltb, eqb}
+use lib.Dec.{ltb, eqb, lit<, lit≤}
 use lib.IntN.{ℤ}
-use borrow.Author.Tests.{lt-ltb, le-ltb}
+use borrow.Author.Tests.{lt-ltb, le-ltb, ne-eqb}
 use Rattle.base.proofs.BelowLaws.{first-le}
 use Rattle.chart.specs.declared.Point.{Point}
 use Rattle.chart.specs.Limits.{mostNumbers}
@@ -20,9 +20,9 @@ use Rattle.chart.specs.declared.Refusal.the-variants.{Count, Start, Letter, Lea
 use Rattle.chart.specs.declared.Verdict.{Verdict}
 use Rattle.chart.specs.declared.Verdict.the-variants.{Taken, Refused}
 use Rattle.chart.specs.Outline.{Outline}
-use Rattle.chart.specs.Fields.{verdictFields}
+use Rattle.chart.specs.Fields.{refusalFields, verdictFields}
 use Rattle.lattice.specs.Chart.{size}
-use Rattle.lattice.specs.Refusals.{badCount, badStart, letterPlace, leavingPlace, unclosed, touchingPlace}
+use Rattle.lattice.specs.Refusals.{Simple, badCount, badStart, letterPlace, leavingPlace, unclosed, touchingPlace}
 use Rattle.survey.specs.declared.Surveyed.{Surveyed}
 use Rattle.survey.specs.declared.Surveyed.the-variants.{Refused as Stopped}
 use Rattle.survey.specs.Survey.{surveyOf}
@@ -45,23 +45,25 @@ numbers : Bool
 unfolding pastEight
 numbers = true
 
--- One of 1 to 8 is the answer
-pub record Early (v : Verdict) : Type 0 where
+-- One of the refusals up to n is the answer
+pub record Early (n : ℕ) (v : Verdict) : Type 0 where
   pub refusal : Refusal
-  pub early : pastEight (Refused refusal) ≡ false
+  pub some : 0 < refusalFields refusal .number
+  pub early : refusalFields refusal .number ≤ n
   pub answer : v ≡ Refused refusal
 
 -- One link of the chain of tests: it gives the answer, or it failed, and the answer is the rest's
-link : {R : Type 0} (b : Bool) (f : Refusal) (v : Verdict) → pastEight (Refused f) ≡ false → (b ≡ false → R ⊎ Early v) → R ⊎ Early (cond b (Refused f) v)
-link true f v e rest = inr (record { refusal = f; early = e; answer = refl })
-link false f v e rest = rest refl
+link : {R : Type 0} {n : ℕ} (b : Bool) (f : Refusal) (v : Verdict) → 0 < refusalFields f .number → refusalFields f .number ≤ n
+    → (b ≡ false → R ⊎ Early n v) → R ⊎ Early n (cond b (Refused f) v)
+link true f v s e rest = inr (record { refusal = f; some = s; early = e; answer = refl })
+link false f v s e rest = rest refl
 
 -- The same in the survey
-survey-link : {R : Type 0} (b : Bool) (f : Refusal) (c : Surveyed) (v : Verdict) → pastEight (Refused f) ≡ false → (b ≡ false → R ⊎ Early (afterSurvey c v)) →
-    R ⊎ Early (afterSurvey (cond b (Stopped f) c) v)
+survey-link : {R : Type 0} {n : ℕ} (b : Bool) (f : Refusal) (c : Surveyed) (v : Verdict) → 0 < refusalFields f .number → refusalFields f .number ≤ n
+    → (b ≡ false → R ⊎ Early n (afterSurvey c v)) → R ⊎ Early n (afterSurvey (cond b (Stopped f) c) v)
 unfolding afterSurvey
-survey-link true f c v e rest = inr (record { refusal = f; early = e; answer = refl })
-survey-link false f c v e rest = rest refl
+survey-link true f c v s e rest = inr (record { refusal = f; some = s; early = e; answer = refl })
+survey-link false f c v s e rest = rest refl
 
 -- A turn has a piece with a dent, or none of its factors is other than a Christoffel word
 pub dented-or-not : (o : Outline) → (dentPiece o < 4) ⊎ (dentPiece o ≡ 4)
@@ -80,26 +82,42 @@ module _ (o : Outline) where
   abbrev dent : ℕ
   dent = dentPiece (border o)
 
+  -- None of 1 to 6 applies, or one of them is the answer
+  pub simple-or-early : Simple o ⊎ Early 6 (verdictOf o)
+  unfolding verdictOf surveyOf afterSurvey
+  simple-or-early =
+      survey-link (badCount (o .letters)) Count _ _ (lit< tt) (lit≤ tt) λ counted.
+      survey-link (badStart (o .start)) Start _ _ (lit< tt) (lit≤ tt) λ started.
+      survey-link (ltb (letterPlace (o .letters)) (size o)) (Letter (letterPlace (o .letters))) _ _ (lit< tt) (lit≤ tt) λ lettered.
+      survey-link (ltb (leavingPlace o) (size o)) (Leaves (leavingPlace o)) _ _ (lit< tt) (lit≤ tt) λ stays.
+      survey-link (unclosed o) Unclosed _ _ (lit< tt) (lit≤ tt) λ closed.
+      survey-link (ltb (touchingPlace o) (size o - 1)) (Touches (touchingPlace o)) _ _ (lit< tt) (lit≤ tt) λ simple.
+      inl (record { counted = counted; started = started; lettered = lettered; stays = stays; closed = closed; simple = simple })
+
   -- None of 1 to 8 applies, or one of them is the answer
-  pub reaches-or-early : Reaches o ⊎ Early (verdictOf o)
-  unfolding verdictOf surveyOf afterSurvey borderVerdict turnVerdict backStepIn
+  pub reaches-or-early : Reaches o ⊎ Early 8 (verdictOf o)
+  unfolding verdictOf borderVerdict turnVerdict backStepIn afterSurvey
   reaches-or-early =
-      survey-link (badCount (o .letters)) Count _ _ (unfold numbers in refl) λ counted.
-      survey-link (badStart (o .start)) Start _ _ (unfold numbers in refl) λ started.
-      survey-link (ltb (letterPlace (o .letters)) (size o)) (Letter (letterPlace (o .letters))) _ _ (unfold numbers in refl) λ lettered.
-      survey-link (ltb (leavingPlace o) (size o)) (Leaves (leavingPlace o)) _ _ (unfold numbers in refl) λ stays.
-      survey-link (unclosed o) Unclosed _ _ (unfold numbers in refl) λ closed.
-      survey-link (ltb (touchingPlace o) (size o - 1)) (Touches (touchingPlace o)) _ _ (unfold numbers in refl) λ simple.
-      link (ltb (backStepPiece (border o)) 4) (backStepIn (placeSent o) (border o) (backStepPiece (border o))) _
-      (unfold numbers in refl) λ straight.
-      inl (record {
-        simple = record { counted = counted; started = started; lettered = lettered; stays = stays; closed = closed; simple = simple };
-        straight = straight;
-      })
+      ⊎-elim straight (λ e. inr (record { refusal = e .refusal; some = e .some; early = omega (arith, e .early); answer = e .answer }))
+      simple-or-early
+    where
+      straight : Simple o → Reaches o ⊎ Early 8 (verdictOf o)
+      straight h =
+          rw (← survey-passed o h)
+          (link (ltb (backStepPiece (border o)) 4) (backStepIn (placeSent o) (border o) (backStepPiece (border o))) _ (lit< tt) (lit≤ tt) λ s.
+          inl (record { simple = h; straight = s }))
 
   -- An answer past number 8 is the answer of an outline to which none of 1 to 8 applies
   pub reaches-of : pastEight (verdictOf o) ≡ true → Reaches o
-  reaches-of h = ⊎-elim (λ r. r) (λ e. absurd (true≢false (sym h ∙ ap pastEight (e .answer) ∙ e .early))) reaches-or-early
+  unfolding pastEight
+  reaches-of h = ⊎-elim (λ r. r) (λ e. absurd (early-not-past e)) reaches-or-early
+    where
+      early-not-past : Early 8 (verdictOf o) → ⊥
+      early-not-past e =
+          let n : ℕ = refusalFields (e .refusal) .number in
+          true≢false
+          (sym h ∙ ap pastEight (e .answer)
+          ∙ rw (ne-eqb n 0 (omega (arith, e .some)), le-ltb 8 n (e .early)))
 
   -- Past 1 to 8 the dent decides
   verdict-past-eight : Reaches o → verdictOf o ≡ cond (ltb dent 4) (Refused (dentOf o)) (Taken count (border o .start))

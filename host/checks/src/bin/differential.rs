@@ -123,7 +123,10 @@ impl Run {
 
     /// A test with room for every edge.
     fn compare_test(&mut self, outline: Outline) -> u16 {
-        self.compare(&Case::Test { outline, lent: LONGEST_LIST, room: REPLY }).expect("there is room for the reply")
+        let case = Case::Test { outline: outline.clone(), lent: LONGEST_LIST, room: REPLY };
+        let number = self.compare(&case).expect("there is room for the reply");
+        taken_exactly_if_no_cell_is_missing(&outline, number);
+        number
     }
 }
 
@@ -164,8 +167,8 @@ fn drawings(run: &mut Run, shape: Shape, random: &mut Random) {
         let outline = shape.draw(random);
         let (lent, room) = (garbage::lent(random), garbage::room(random));
         let number = run.compare(&Case::Test { outline: outline.clone(), lent, room });
-        if number.is_some() {
-            dented_exactly_if_a_cell_is_missing(&outline, number);
+        if let Some(number) = number {
+            taken_exactly_if_no_cell_is_missing(&outline, number);
         }
         if number == Some(0) {
             cells_against_edges(run, &outline, random);
@@ -178,17 +181,16 @@ fn drawings(run: &mut Run, shape: Shape, random: &mut Random) {
     }
 }
 
-/// Contract 8.4: an outline that is past refusal 8 is dented exactly if a cell is missing; and one is missing where there is a
-/// back-step.
-fn dented_exactly_if_a_cell_is_missing(outline: &Outline, number: Option<u16>) {
+/// Contract 8.4 and 8.5: past refusal 6, an outline is taken exactly if counting finds no missing cell.
+fn taken_exactly_if_no_cell_is_missing(outline: &Outline, number: u16) {
     let missing = || Enclosed::of(outline.start, &outline.letters).missing();
     let holds = match number {
-        Some(0 | 10) => missing().is_none(),
-        Some(8 | 9) => missing().is_some(),
+        0 | 10 => missing().is_none(),
+        8 | 9 => missing().is_some(),
         _ => true,
     };
     if !holds {
-        println!("the reference contradicts contract 8.4: {number:?} {outline:?}");
+        println!("the reply contradicts contract 8.5: {number} {outline:?}");
         exit(1);
     }
 }
