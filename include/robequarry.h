@@ -101,8 +101,8 @@ bool rq_loose_query(uint16_t anchor_col, uint16_t anchor_row, const int16_t *edg
  *   1 add     a letter, the second byte; puts it at the draft's end
  *   2 drop    discards the draft
  *   3 clear   removes what is at work; the draft is kept
- *   4 close   tests the draft and ends it. If it is taken, it replaces what is at work, and the word is "same" where start and letters
- *             equal those that were at work, else "taken", with the fields of a taken test
+ *   4 close   tests the draft and ends it. If it is taken, it replaces what is at work, and the word is "same" where it encloses the same
+ *             cells as what was at work, wherever and whichever way it was drawn, else "taken", with the fields of a taken test
  *   5 query   a cell; the word is "inside" if the outline at work encloses it, else "outside"
  *
  * The run ends before a call with a number above 5, before one that the script's end cuts, and before one whose reply has no room in

@@ -217,7 +217,7 @@ module _ (o : Outline) (t : Walked o) where
   open-above c r h = ne-eqb (ups (o .start) (o .letters) c r) (downs (o .start) (o .letters) c r + 1) (omega (arith, ups-past (suc c) r h, ups-to (o .start) (o .letters) c r))
 
 -- No cell off the chart is in a block
-open-off : (o : Outline) → Simple o → (c r : ℕ) → (side ≤ c) ⊎ (side ≤ r) → block o c r ≡ false
+pub open-off : (o : Outline) → Simple o → (c r : ℕ) → (side ≤ c) ⊎ (side ≤ r) → block o c r ≡ false
 open-off o h c r (inl a) = open-right (reading o) (walked (reading o) (simple-reading o h)) c r a
 open-off o h c r (inr a) = open-above (reading o) (walked (reading o) (simple-reading o h)) c r a
 

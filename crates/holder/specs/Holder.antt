@@ -1,52 +1,24 @@
 -- What each call does to the holder as it is kept: an equation for every value of the struct. That it is the plain book's answer is the list
--- theorem (proofs/ListTheorem.antt).
-use Prim.Native.Nat.{ℕ, _+_, _*_, min}
-use mathlib.Core.Bool.{Bool, true, false, cond, _&&_}
+-- theorem (crate agreement, proofs/ListTheorem.antt).
+use mathlib.Core.Bool.{cond}
 use mathlib.Core.List.{List}
-use lib.ListN.{take, set, replicate}
-use lib.Dec.{leb, ltb}
-use lib.IntN.{ℤ, pos}
-use Rattle.chart.specs.Limits.{longest, mostNumbers}
-use Rattle.chart.specs.Outline.{Outline}
+use lib.IntN.{ℤ}
 use Rattle.chart.specs.declared.Point.{Point}
-use Rattle.chart.specs.declared.Refusal.the-variants.{Start, Letter, Cell}
 use Rattle.chart.specs.declared.Verdict.{Verdict}
 use Rattle.chart.specs.declared.Verdict.the-variants.{Taken, Refused}
-use Rattle.lattice.specs.Refusals.{badStart}
-use Rattle.polygon.specs.Loose.{badCell, insideList}
 use Rattle.border.specs.declared.Judged.{Judged}
 use Rattle.border.specs.Judged.{judgedOf}
-use Rattle.holder.specs.Book.{sameOutline, closedReply}
-use Rattle.holder.specs.declared.Kept.{Kept}
-use Rattle.holder.specs.declared.Draft.{Draft}
-use Rattle.holder.specs.declared.Work.{Work}
+use Rattle.calls.specs.declared.Call.{Call}
+use Rattle.calls.specs.declared.Call.the-variants.{Begin, Add, Drop, Clear, Close, Query}
+use Rattle.calls.specs.declared.Reply.{Reply}
+use Rattle.calls.specs.declared.Reply.the-variants.{Done, Taken as WasTaken, Same, Refused as WasRefused, NoDraft}
+use Rattle.draft.specs.declared.Draft.{Draft}
+use Rattle.draft.specs.declared.Drafted.{Drafted}
+use Rattle.draft.specs.Draft.{outlineOf, noDraft, endOf, beginOf, addOf, dropOf}
+use Rattle.work.specs.declared.Work.{Work}
+use Rattle.work.specs.Work.{listed, noWork, replaced, removed, hasEdges, located}
 use Rattle.holder.specs.declared.Holder.{Holder}
 use Rattle.holder.specs.declared.Answered.{Answered}
-use Rattle.holder.specs.declared.Call.{Call}
-use Rattle.holder.specs.declared.Call.the-variants.{Begin, Add, Drop, Clear, Close, Query}
-use Rattle.holder.specs.declared.Reply.{Reply}
-use Rattle.holder.specs.declared.Reply.the-variants.{Done, Inside, Outside, Refused as WasRefused, NothingAtWork, NoDraft, DraftOpen, DraftFull}
-
--- ---- what is kept
-
--- The outline that a draft or a work keeps: no more letters than there is space for
-unfoldable pub outlineOf : Kept → Outline
-outlineOf k = record { start = k .start; letters = take (min (k .count) longest) (k .letters) }
-
--- The numbers of the edges at work
-unfoldable pub workEdges : Work → List ℤ
-workEdges w = take (min (2 * w .edges) mostNumbers) (w .numbers)
-
--- Nothing kept; nothing drafted; nothing at work
-unfoldable pub noneKept : Kept
-noneKept = record { start = record { col = 0; row = 0 }; letters = replicate longest 0; count = 0 }
-
-unfoldable pub noDraft : Draft
-noDraft = record { begun = false; kept = noneKept }
-
-unfoldable pub noWork : Work
-noWork =
-    record { taken = false; kept = noneKept; anchor = record { col = 0; row = 0 }; numbers = replicate mostNumbers (pos 0); edges = 0 }
 
 unfoldable pub freshHolder : Holder
 freshHolder = record { draft = noDraft; work = noWork }
@@ -64,80 +36,38 @@ workOf h = h .work
 abbrev pub withWork : Holder → Work → Holder
 withWork h w = record { draft = h .draft; work = w }
 
--- ---- drafts
+-- What a call on the draft answers, and the holder with the next draft
+abbrev pub drafting : Holder → Drafted → Answered
+drafting h a = record { reply = a .reply; holder = withDraft h (a .draft) }
 
--- Opened at a start, without letters; one letter more; ended, its letters left as they are
-unfoldable pub begunAt : Draft → Point → Draft
-begunAt d s = record { begun = true; kept = record { start = s; letters = d .kept .letters; count = 0 } }
+-- ---- close
 
-unfoldable pub lengthened : Kept → ℕ → Draft
-lengthened k a = record { begun = true; kept = record { start = k .start; letters = set (k .letters) (k .count) a; count = k .count + 1 } }
-
-unfoldable pub ended : Draft → Draft
-ended d = record { begun = false; kept = d .kept }
-
--- ---- works
-
--- The work that a taken outline becomes, with its anchor, its edges and their count; the work removed
-unfoldable pub replaced : Kept → Point → List ℤ → ℕ → Work
-replaced k a es n = record { taken = true; kept = k; anchor = a; numbers = es; edges = n }
-
-unfoldable pub removed : Work → Work
-removed w = record { taken = false; kept = w .kept; anchor = w .anchor; numbers = w .numbers; edges = w .edges }
-
--- This outline is at work
-unfoldable pub hasOutline : Work → Kept → Bool
-hasOutline w k = w .taken && sameOutline (outlineOf k) (outlineOf (w .kept))
-
--- 12, 11, or the answer of the edges at work
-unfoldable pub located : Work → Point → Reply
-located w x =
-    cond (w .taken)
-    (cond (badCell x) (WasRefused Cell) (cond (insideList (w .anchor) (workEdges w) x) Inside Outside)) NothingAtWork
-
--- ---- the calls
-
-unfoldable pub beginOf : Holder → Point → Answered
-beginOf h s =
-    cond (draftOf h .begun) (record { reply = DraftOpen; holder = h })
-    (cond (badStart s) (record { reply = WasRefused Start; holder = h })
-    (record { reply = Done; holder = withDraft h (begunAt (draftOf h) s) }))
-
-unfoldable pub addOf : Holder → ℕ → Answered
-addOf h a =
-    cond (draftOf h .begun)
-    (cond (leb longest (draftOf h .kept .count)) (record { reply = DraftFull; holder = h })
-    (cond (ltb 3 a) (record { reply = WasRefused (Letter (draftOf h .kept .count)); holder = h })
-    (record { reply = Done; holder = withDraft h (lengthened (draftOf h .kept) a) })))
-    (record { reply = NoDraft; holder = h })
-
-unfoldable pub dropOf : Holder → Answered
-dropOf h =
-    cond (draftOf h .begun) (record { reply = Done; holder = withDraft h (ended (draftOf h)) })
-    (record { reply = NoDraft; holder = h })
-
-unfoldable pub clearOf : Holder → Answered
-clearOf h = record { reply = Done; holder = withWork h (removed (workOf h)) }
+-- A draft that is taken has the word "same" where its anchor and its edges are at work
+unfoldable pub closedReply : Work → List ℤ → Verdict → Reply
+closedReply w es (Refused f) = WasRefused f
+closedReply w es (Taken n a) = cond (hasEdges w a (listed es n)) (Same n a) (WasTaken n a)
 
 -- A refusal leaves what is at work, and a draft that is taken replaces it, with the edges that were found
-unfoldable pub holderAfterClose : Holder → List ℤ → Verdict → Holder
-holderAfterClose h es (Refused f) = withDraft h (ended (draftOf h))
-holderAfterClose h es (Taken n a) = withWork (withDraft h (ended (draftOf h))) (replaced (draftOf h .kept) a es n)
+unfoldable pub workAfter : Work → List ℤ → Verdict → Work
+workAfter w es (Refused f) = w
+workAfter w es (Taken n a) = replaced a es n
 
 unfoldable pub closedBy : Holder → Judged → Answered
 closedBy h j =
-    record { reply = closedReply (hasOutline (workOf h) (draftOf h .kept)) (j .verdict); holder = holderAfterClose h (j .numbers) (j .verdict) }
+    record {
+      reply = closedReply (workOf h) (j .numbers) (j .verdict);
+      holder = withWork (withDraft h (endOf (draftOf h))) (workAfter (workOf h) (j .numbers) (j .verdict));
+    }
 
 unfoldable pub closeOf : Holder → Answered
-closeOf h = cond (draftOf h .begun) (closedBy h (judgedOf (outlineOf (draftOf h .kept)))) (record { reply = NoDraft; holder = h })
+closeOf h = cond (draftOf h .begun) (closedBy h (judgedOf (outlineOf (draftOf h)))) (record { reply = NoDraft; holder = h })
 
-unfoldable pub queryOf : Holder → Point → Answered
-queryOf h x = record { reply = located (workOf h) x; holder = h }
+-- ---- the calls
 
 unfoldable pub answerOf : Holder → Call → Answered
-answerOf h (Begin s) = beginOf h s
-answerOf h (Add a) = addOf h a
-answerOf h Drop = dropOf h
-answerOf h Clear = clearOf h
+answerOf h (Begin s) = drafting h (beginOf (draftOf h) s)
+answerOf h (Add a) = drafting h (addOf (draftOf h) a)
+answerOf h Drop = drafting h (dropOf (draftOf h))
+answerOf h Clear = record { reply = Done; holder = withWork h (removed (workOf h)) }
 answerOf h Close = closeOf h
-answerOf h (Query x) = queryOf h x
+answerOf h (Query x) = record { reply = located (workOf h) x; holder = h }

@@ -1,6 +1,3 @@
--- The holder's replies, its plain book, what it keeps, and lists of calls (contract 7 and 8).
-pub mod Replies
-pub mod Book
-pub mod LastTaken
+-- The holder as it is kept, and lists of calls on it (contract 7).
 pub mod Holder
 pub mod Run

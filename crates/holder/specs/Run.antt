@@ -1,9 +1,9 @@
--- Lists of calls on a holder, each call given the holder that the last one handed back (contract 7.2). The plain book's stand in specs/Book.antt.
+-- Lists of calls on a holder, each call given the holder that the last one handed back (contract 7.2). The plain book's stand in the crate book.
 use mathlib.Core.List.{List, [], _∷_}
 use Rattle.holder.specs.Holder.{freshHolder, answerOf}
-use Rattle.holder.specs.declared.Call.{Call}
+use Rattle.calls.specs.declared.Call.{Call}
 use Rattle.holder.specs.declared.Holder.{Holder}
-use Rattle.holder.specs.declared.Reply.{Reply}
+use Rattle.calls.specs.declared.Reply.{Reply}
 
 unfoldable pub handledFrom : Holder → List Call → List Reply
 handledFrom h [] = []

@@ -1,77 +1,21 @@
 // The holder: a draft, what is at work, and the calls on them (contract 7).
-use chart::LONGEST;
-use chart::MOST_NUMBERS;
+use calls::Call;
+use calls::Reply;
 use chart::Point;
-use chart::Refusal;
 use chart::Verdict;
-use survey::checks;
-ghost use mathlib.Core.Bool.{cond, true};
+use draft::Draft;
+use draft::Drafted;
+use work::Work;
+ghost use mathlib.Core.Bool.{cond};
 ghost use mathlib.Core.Path.{_≡_};
 ghost use Rattle.verdict.specs.Named.{CellNamed};
-ghost use Rattle.holder.specs.Replies.{replyFields};
-ghost use Rattle.holder.specs.Holder.{outlineOf, draftOf, withDraft, workOf, withWork, freshHolder, beginOf, addOf, dropOf, clearOf, closeOf, queryOf, answerOf};
-
-mod drafts;
-mod letters;
-mod works;
-pub mod written;
-
-// What a draft and a work share: a start, and as many letters as are counted.
-pub struct Kept {
-    pub start: Point,
-    pub letters: [u8; LONGEST],
-    pub count: usize,
-}
-
-// An outline in the making, if one was begun.
-pub struct Draft {
-    pub begun: bool,
-    pub kept: Kept,
-}
-
-// The outline last taken, if one was, with its anchor and its edges, two numbers an edge.
-pub struct Work {
-    pub taken: bool,
-    pub kept: Kept,
-    pub anchor: Point,
-    pub numbers: [i16; MOST_NUMBERS],
-    pub edges: usize,
-}
+ghost use Rattle.calls.specs.Replies.{replyFields};
+ghost use Rattle.draft.specs.Draft.{outlineOf};
+ghost use Rattle.holder.specs.Holder.{draftOf, withDraft, workOf, withWork, freshHolder, drafting, answerOf};
 
 pub struct Holder {
     pub draft: Draft,
     pub work: Work,
-}
-
-// A call on the holder, with its argument.
-pub enum Call {
-    Begin { start: Point },
-    Add { letter: u8 },
-    Drop,
-    Clear,
-    Close,
-    Query { cell: Point },
-}
-
-// What a call answers.
-pub enum Reply {
-    // Begin, add, drop or clear was done.
-    Done,
-    Inside,
-    Outside,
-    // A close took the draft: the count of edges, and the anchor.
-    Taken { edges: u16, anchor: Point },
-    Same { edges: u16, anchor: Point },
-    // Refusals 1 to 11.
-    Refused(Refusal),
-    // 12. Asked of a holder with an empty work.
-    NothingAtWork,
-    // 13. No draft to add to, to close or to drop.
-    NoDraft,
-    // 14. One draft is open already.
-    DraftOpen,
-    // 15. Add with as many letters in the draft as it may have.
-    DraftFull,
 }
 
 // A reply, and the next holder.
@@ -127,85 +71,45 @@ impl Holder {
         self.work = work;
         self
     }
+
+    // What a call on the draft answers, and the holder with the next draft.
+    fn redraft(self, drafted: Drafted) -> Answered
+        ensures { λ r. ⌜ r ≡ drafting self drafted ⌝ }
+    {
+        let draft = drafted.draft;
+        let reply = drafted.reply;
+        Answered {
+            reply,
+            holder: self.put_draft(draft),
+        }
+    }
 }
 
 // The calls.
 impl Holder {
     pub fn begin(self, start: Point) -> Answered
-        ensures { λ r. ⌜ r ≡ beginOf self start ⌝ }
+        ensures { λ r. ⌜ r ≡ answerOf self (Call.Begin start) ⌝ }
     {
         let draft = self.drafted();
-        if draft.begun {
-            return Answered {
-                reply: Reply::DraftOpen,
-                holder: self,
-            };
-        }
-        if checks::bad_start(start) {
-            return Answered {
-                reply: Reply::Refused(Refusal::Start),
-                holder: self,
-            };
-        }
-        let opened = draft.begin_at(start);
-        Answered {
-            reply: Reply::Done,
-            holder: self.put_draft(opened),
-        }
+        self.redraft(draft.begin(start))
     }
 
     pub fn add(self, letter: u8) -> Answered
-        ensures { λ r. ⌜ r ≡ addOf self letter ⌝ }
+        ensures { λ r. ⌜ r ≡ answerOf self (Call.Add letter) ⌝ }
     {
         let draft = self.drafted();
-        if !draft.begun {
-            return Answered {
-                reply: Reply::NoDraft,
-                holder: self,
-            };
-        }
-        let mut kept = draft.kept;
-        let count = kept.count;
-        if LONGEST <= count {
-            return Answered {
-                reply: Reply::DraftFull,
-                holder: self,
-            };
-        }
-        if 3 < letter {
-            return Answered {
-                reply: Reply::Refused(Refusal::Letter {
-                    place: count as u16,
-                }),
-                holder: self,
-            };
-        }
-        kept.letters[count] = letter;
-        kept.count = count + 1;
-        Answered {
-            reply: Reply::Done,
-            holder: self.put_draft(Draft { begun: true, kept }),
-        }
+        self.redraft(draft.add(letter))
     }
 
     pub fn drop(self) -> Answered
-        ensures { λ r. ⌜ r ≡ dropOf self ⌝ }
+        ensures { λ r. ⌜ r ≡ answerOf self Call.Drop ⌝ }
     {
         let draft = self.drafted();
-        if !draft.begun {
-            return Answered {
-                reply: Reply::NoDraft,
-                holder: self,
-            };
-        }
-        Answered {
-            reply: Reply::Done,
-            holder: self.put_draft(draft.end()),
-        }
+        self.redraft(draft.drop())
     }
 
     pub fn clear(self) -> Answered
-        ensures { λ r. ⌜ r ≡ clearOf self ⌝ }
+        ensures { λ r. ⌜ r ≡ answerOf self Call.Clear ⌝ }
     {
         let work = self.at_work();
         Answered {
@@ -216,8 +120,8 @@ impl Holder {
 
     // The cell that it names is the anchor of an outline that is taken, and the lowest missing one of a dented outline.
     pub fn close(self) -> Answered
-        ensures answer { λ r. ⌜ r ≡ closeOf self ⌝ }
-        ensures named { λ r. ⌜ CellNamed (outlineOf (draftOf self .kept)) (replyFields (r .reply)) ⌝ }
+        ensures answer { λ r. ⌜ r ≡ answerOf self Call.Close ⌝ }
+        ensures named { λ r. ⌜ CellNamed (outlineOf (draftOf self)) (replyFields (r .reply)) ⌝ }
     {
         let draft = self.drafted();
         if !draft.begun {
@@ -226,8 +130,7 @@ impl Holder {
                 holder: self,
             };
         }
-        let kept = draft.kept;
-        let judged = kept.judge();
+        let judged = draft.judge();
         let next = self.put_draft(draft.end());
         let verdict = judged.verdict;
         match verdict {
@@ -237,9 +140,9 @@ impl Holder {
             },
             Verdict::Taken { edges, anchor } => {
                 let work = self.at_work();
-                let same = work.has(kept);
                 let numbers = judged.numbers;
-                let taken = work.replace(kept, anchor, numbers, edges);
+                let same = work.has(anchor, numbers, edges);
+                let taken = work.replace(anchor, numbers, edges);
                 Answered {
                     reply: taken_reply(same, edges, anchor),
                     holder: next.put_work(taken),
@@ -248,9 +151,9 @@ impl Holder {
         }
     }
 
-    // Answers from the edges at work, not from the letters.
+    // Answers from the edges at work.
     pub fn query(self, cell: Point) -> Answered
-        ensures { λ r. ⌜ r ≡ queryOf self cell ⌝ }
+        ensures { λ r. ⌜ r ≡ answerOf self (Call.Query cell) ⌝ }
     {
         let work = self.at_work();
         Answered {

@@ -11,14 +11,14 @@ use lib.Seq.{take-nil, take-all, drop-drop, getD-drop, take-at, drop-at, length-
 use Rattle.chart.specs.declared.Fields.{Fields}
 use Rattle.chart.specs.Fields.{numbersOf, replyAfter}
 use Rattle.chart.proofs.ReplyLaws.{replyAfter-room}
-use Rattle.holder.specs.declared.Call.{Call}
-use Rattle.holder.specs.Replies.{replyFields}
+use Rattle.calls.specs.declared.Call.{Call}
+use Rattle.calls.specs.Replies.{replyFields}
 use Rattle.holder.specs.Run.{handled, handledFrom}
 use Rattle.holder.specs.Holder.{freshHolder, answerOf}
 use Rattle.holder.specs.declared.Holder.{Holder}
 use Rattle.holder.specs.declared.Answered.{Answered}
-use Rattle.holder.specs.declared.Reply.{Reply}
-use Rattle.holder.proofs.ListTheorem.{list-theorem}
+use Rattle.calls.specs.declared.Reply.{Reply}
+use Rattle.agreement.proofs.ListTheorem.{list-theorem}
 use Rattle.replay.specs.declared.Decoded.{Decoded}
 use Rattle.replay.specs.declared.Decoded.the-variants.{Call as Said, Nothing}
 use Rattle.replay.specs.Script.{callWidth, replyWidth, callOf, followed, callsIn, callsRead, written, repliesAfter}

@@ -4,11 +4,11 @@ use mathlib.Core.List.{List, [], _∷_, _++_}
 use lib.ListN.{length, take, drop}
 use Rattle.chart.specs.declared.Point.{Point}
 use Rattle.chart.specs.Fields.{numbersOf}
-use Rattle.holder.specs.declared.Call.{Call}
-use Rattle.holder.specs.declared.Call.the-variants.{Begin, Add, Drop, Clear, Close, Query}
-use Rattle.holder.specs.declared.Reply.{Reply}
-use Rattle.holder.specs.Replies.{replyFields}
-use Rattle.holder.specs.Book.{replies}
+use Rattle.calls.specs.declared.Call.{Call}
+use Rattle.calls.specs.declared.Call.the-variants.{Begin, Add, Drop, Clear, Close, Query}
+use Rattle.calls.specs.declared.Reply.{Reply}
+use Rattle.calls.specs.Replies.{replyFields}
+use Rattle.book.specs.Book.{replies}
 use Rattle.replay.specs.declared.Decoded.{Decoded}
 use Rattle.replay.specs.declared.Decoded.the-variants.{Call as Said, Nothing}
 

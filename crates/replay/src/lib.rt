@@ -1,9 +1,9 @@
 // A list of calls as bytes, run from a fresh holder (contract 10.3).
+use calls::Call;
+use calls::written::of_reply;
 use chart::Point;
 use chart::reply;
 use chart::reply::NUMBERS;
-use holder::Call;
-use holder::written::of_reply;
 ghost use mathlib.Core.Path.{_≡_};
 ghost use Prim.Native.Nat.{_/_, min};
 ghost use lib.ListN.{length};

@@ -75,8 +75,11 @@ fn taken(s: Script) -> Script {
         .query(0, 0)
         .query(1, 1)
         .query(2, 2);
+    // The same block from another start, the other way round, and elsewhere.
     let s = s.outline(1, 1, b"210103032321")
-        .outline(1, 1, b"210103032321")
+        .outline(0, 1, b"030101212323")
+        .query(0, 1)
+        .outline(1, 1, b"101030323212")
         .query(0, 1);
     s.outline(0, 0, b"11030322")
         .query(0, 1)

@@ -1,6 +1,6 @@
 -- Back-steps are dents too: an outline past 1 to 6 is refused by 8 or 9 exactly if a cell is missing, because a back-step leaves a missing cell, and past 8 so does a
 -- dent, and nothing else does.
-use Prim.Native.Nat.{ℕ, _*_, _≤_, _<_}
+use Prim.Native.Nat.{ℕ, _*_, _≤_}
 use native.Mathlib.Omega.{arith}
 use native.Mathlib.Decide.{decLt}
 use mathlib.Core.Path.{_≡_, refl, sym, ap, _∙_}
@@ -19,7 +19,7 @@ use Rattle.convexity.specs.Pieces.{Reaches, backStepPiece, dentPiece}
 use Rattle.convexity.proofs.Shape.{straight-of}
 use Rattle.convexity.proofs.BackSteps.{back-step-missing-sent, passes-iff-full}
 use Rattle.verdict.specs.Verdict.{verdictOf, testOf, testFields}
-use Rattle.verdict.proofs.VerdictLaws.{pastEight, Early, simple-or-early, reaches-of, dented-or-not, taken-facts, taken-fits, verdict-taken, nine-of-dented, test-refused, test-short, test-taken}
+use Rattle.verdict.proofs.VerdictLaws.{pastEight, simple-or-early, reaches-of, dented-or-not, taken-fits, verdict-taken, nine-of-dented, test-refused, test-short, test-taken}
 
 -- The number of an answer
 abbrev number : Verdict → ℕ

@@ -1,10 +1,10 @@
 -- The specimen outlines as one table (contract 9), and the test that a row passes. All rows are proved together (proofs/Specimens.antt).
 use Prim.Native.Nat.{ℕ}
-use mathlib.Core.Bool.{Bool, true, false, _&&_}
+use mathlib.Core.Bool.{Bool, _&&_}
 use mathlib.Core.List.{List, [], _∷_, _++_}
 use lib.ListN.{length, drop, replicate}
-use lib.Dec.{eqb}
 use lib.IntN.{ℤ, pos, negsuc}
+use Rattle.base.specs.Same.{sameℤs}
 use Rattle.chart.specs.declared.Point.{Point}
 use Rattle.chart.specs.Outline.{Outline}
 use Rattle.chart.specs.declared.Fields.{Fields}
@@ -21,18 +21,6 @@ pub record Specimen : Type 0 where
 -- A list lent for sixteen edges
 unfoldable pub lent : List ℤ
 lent = replicate 32 (pos 99)
-
-unfoldable pub sameℤ : ℤ → ℤ → Bool
-sameℤ (pos a) (pos b) = eqb a b
-sameℤ (pos a) (negsuc b) = false
-sameℤ (negsuc a) (pos b) = false
-sameℤ (negsuc a) (negsuc b) = eqb a b
-
-unfoldable pub sameℤs : List ℤ → List ℤ → Bool
-sameℤs [] [] = true
-sameℤs [] (b ∷ fs) = false
-sameℤs (a ∷ es) [] = false
-sameℤs (a ∷ es) (b ∷ fs) = sameℤ a b && sameℤs es fs
 
 -- The test replies the row's fields, and the lent list then has the row's edges first and is otherwise unaltered
 unfoldable pub right : Specimen → Bool

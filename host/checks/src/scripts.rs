@@ -4,7 +4,7 @@ use robequarry::limits::{CALL, LONGEST, REPLY};
 use robequarry::Call;
 
 use crate::case::Case;
-use crate::draw::rotated;
+use crate::draw::{reversed, rotated};
 use crate::garbage::{any_outline, cell};
 use crate::random::Random;
 use crate::{Outline, Point};
@@ -88,11 +88,16 @@ impl Script<'_> {
         self.call(Call::Query(cell.into()));
     }
 
-    /// A new outline, one of those drawn before, or such a one from another corner.
+    /// A new outline, one of those drawn before, or such a one from another corner, the other way round, or moved by a cell.
     fn outline(&mut self) -> Outline {
         if !self.drawn.is_empty() && self.random.once_in(2) {
             let again = self.drawn[self.random.below(self.drawn.len())].clone();
-            return if self.random.once_in(4) { rotated(&again, self.random.below(again.letters.len())) } else { again };
+            return match self.random.below(8) {
+                0 | 1 => rotated(&again, self.random.below(again.letters.len())),
+                2 | 3 => reversed(&again),
+                4 => Outline { start: Point::new(again.start.col, again.start.row ^ 1), ..again },
+                _ => again,
+            };
         }
         let outline = any_outline(self.random);
         self.drawn.push(outline.clone());

@@ -18,9 +18,6 @@ struct Draft {
 
 struct Work {
     taken: bool,
-    start: Point,
-    letters: [u8; LONGEST],
-    count: usize,
     anchor: Point,
     edges: Edges,
 }
@@ -36,7 +33,7 @@ impl Holder {
         let edges = Edges { numbers: [0; MOST_NUMBERS], count: 0 };
         Holder {
             draft: Draft { begun: false, start: nowhere, letters: [0; LONGEST], count: 0 },
-            work: Work { taken: false, start: nowhere, letters: [0; LONGEST], count: 0, anchor: nowhere, edges },
+            work: Work { taken: false, anchor: nowhere, edges },
         }
     }
 
@@ -94,11 +91,8 @@ impl Holder {
             Ok(anchor) => anchor,
             Err(refusal) => return refusal,
         };
-        let same = work.taken && draft.start == work.start && letters == &work.letters[..work.count];
+        let same = work.taken && anchor == work.anchor && edges.list() == work.edges.list();
         work.taken = true;
-        work.start = draft.start;
-        work.letters = draft.letters;
-        work.count = draft.count;
         work.anchor = anchor;
         work.edges = edges;
         Fields { word: if same { SAME } else { TAKEN }, ..taken(work.edges.count, anchor) }
@@ -112,7 +106,7 @@ impl Holder {
         if loose::is_off_chart(cell) {
             return numbered(11);
         }
-        let inside = loose::is_inside(work.anchor, &work.edges.numbers[..2 * work.edges.count], cell);
+        let inside = loose::is_inside(work.anchor, work.edges.list(), cell);
         said(if inside { INSIDE } else { OUTSIDE })
     }
 }

@@ -83,6 +83,11 @@ fn factor(word: &[u8], pair: Pair, edges: &mut Edges) -> Result<(), Dent> {
 }
 
 impl Edges {
+    /// The numbers of the edges.
+    pub fn list(&self) -> &[i16] {
+        &self.numbers[..2 * self.count]
+    }
+
     fn push(&mut self, cols: i16, rows: i16) {
         self.numbers[2 * self.count] = cols;
         self.numbers[2 * self.count + 1] = rows;

@@ -5,7 +5,7 @@ use robequarry::limits::{LONGEST, REPLY};
 use robequarry::Call;
 
 use super::calls;
-use super::cells::encloses;
+use super::cells::{encloses, Enclosed};
 use super::walk::{is_bad_start, is_no_letter};
 use crate::reply::{numbered, placed, said};
 use crate::{Fields, Outline, Point};
@@ -79,7 +79,8 @@ impl Book {
         if reply.number != 0 {
             return reply;
         }
-        let word = if self.work.as_ref() == Some(&draft) { SAME } else { TAKEN };
+        let same = self.work.as_ref().is_some_and(|work| encloses_the_same(work, &draft));
+        let word = if same { SAME } else { TAKEN };
         self.work = Some(draft);
         Fields { word, ..reply }
     }
@@ -95,6 +96,12 @@ impl Book {
         let inside = encloses(work.start, &work.letters, (i32::from(cell.col), i32::from(cell.row)));
         said(if inside { INSIDE } else { OUTSIDE })
     }
+}
+
+/// Whether two outlines past refusals 1 to 6 enclose the same cells.
+fn encloses_the_same(one: &Outline, other: &Outline) -> bool {
+    let cells = |outline: &Outline| Enclosed::of(outline.start, &outline.letters).cells().collect::<Vec<_>>();
+    cells(one) == cells(other)
 }
 
 /// The replies to a script (contract 10.3), as many as have room. The result is their count.

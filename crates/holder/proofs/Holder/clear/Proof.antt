@@ -1,5 +1,5 @@
 -- The work is read, removed and put back.
-use Rattle.holder.specs.Holder.{clearOf}
+use Rattle.holder.specs.Holder.{answerOf}
 use borrow.Author.Needs.{needs}
 use Rattle.holder.proofs.Holder.clear.Statement.{statement}
 use Rattle.holder.proofs.Holder.clear.Tie as tie
@@ -14,7 +14,7 @@ put-work-requires : tie.Need-put-work-requires
 put-work-requires c κs = search needs
 
 returns : tie.Need-returns
-unfolding clearOf
+unfolding answerOf
 returns c = rw (c .put-work .ensures, c .before .remove .ensures, c .before .before .at-work .ensures)
 
 pub clear-spec : {M : Type 1} → statement M

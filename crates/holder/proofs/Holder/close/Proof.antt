@@ -1,7 +1,6 @@
--- Each return is a case of the definition (CallLaws).
+-- Each return is a case of the definition (CloseLaws).
 use borrow.Author.Tests.{not-true, not-false}
-use Rattle.holder.proofs.ListTheorem.{close-promised}
-use Rattle.holder.proofs.CallLaws.{close-none, close-refused, close-taken}
+use Rattle.holder.proofs.CloseLaws.{close-none, close-refused, close-taken}
 use borrow.Author.Needs.{needs}
 use Rattle.holder.proofs.Holder.close.Statement.{statement}
 use Rattle.holder.proofs.Holder.close.Tie as tie
@@ -10,7 +9,7 @@ drafted-requires : tie.Need-drafted-requires
 drafted-requires c κs = search needs
 
 returns : tie.Need-returns
-returns c = close-promised _ _ (close-none _ _ (c .before .before .drafted .ensures) (not-true (c .before .before .drafted .result .begun) (c .if1 .taken)))
+returns c = close-none _ _ (c .before .before .drafted .ensures) (not-true (c .before .before .drafted .result .begun) (c .if1 .taken))
 
 judge-requires : tie.Need-judge-requires
 judge-requires c κs = search needs
@@ -45,19 +44,19 @@ put-work-requires c κs = search needs
 returns-2 : tie.Need-returns-2
 returns-2 c =
     let at = c .before .before .before in
-    let draft = at .before .before .before .before .before .before .drafted in
-    close-promised _ _
-    (close-refused _ _ (draft .ensures) (not-false (draft .result .begun) (at .before .before .before .before .if1 .left)) _ (at .before .before .judge .ensures) _
-    (rw (at .before .end .ensures) at (at .put-draft .ensures)) _ (c .before .verdict .given .1))
+    let draft = at .before .before .before .before .before .drafted in
+    close-refused _ _ (draft .ensures) (not-false (draft .result .begun) (at .before .before .before .if1 .left)) _ (at .before .before .judge .ensures) _
+    (rw (at .before .end .ensures) at (at .put-draft .ensures)) _ (c .before .verdict .given .1)
 
 returns-3 : tie.Need-returns-3
 returns-3 c =
-    let at = c .before .before .before .before .before .before .before .before .before in
-    let draft = at .before .before .before .before .before .before .drafted in
-    close-promised _ _
-    (close-taken _ _ (draft .ensures) (not-false (draft .result .begun) (at .before .before .before .before .if1 .left)) _ (at .before .before .judge .ensures) _
-    (rw (at .before .end .ensures) at (at .put-draft .ensures)) _ _ _ _ _ _ (c .before .before .before .before .before .before .before .verdict2 .given .1) (rw (c .before .before .before .before .before .at-work .ensures) at (c .before .before .before .before .has .ensures))
-    (c .before .taken-reply .ensures) (c .before .before .replace .ensures) (c .put-work .ensures))
+    let has = c .before .before .before in
+    let told = has .before .before .before in
+    let at = told .before .before .before in
+    let draft = at .before .before .before .before .before .drafted in
+    close-taken _ _ (draft .ensures) (not-false (draft .result .begun) (at .before .before .before .if1 .left)) _ (at .before .before .judge .ensures) _
+    (rw (at .before .end .ensures) at (at .put-draft .ensures)) _ _ _ _ _ _ (told .before .verdict2 .given .1) (rw (has .before .before .at-work .ensures) at (has .has .ensures))
+    (c .before .taken-reply .ensures) (c .before .before .replace .ensures) (c .put-work .ensures)
 
 pub close-spec : {M : Type 1} → statement M
 close-spec =

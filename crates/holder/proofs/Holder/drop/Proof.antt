@@ -1,26 +1,22 @@
--- Each return is a case of the definition (CallLaws).
-use borrow.Author.Tests.{not-true, not-false}
-use Rattle.holder.proofs.CallLaws.{drop-none, drop-done}
+-- The draft's own call, on the draft of the slot.
+use mathlib.Core.Path.{_∙_}
 use borrow.Author.Needs.{needs}
+use Rattle.holder.specs.Holder.{answerOf}
 use Rattle.holder.proofs.Holder.drop.Statement.{statement}
 use Rattle.holder.proofs.Holder.drop.Tie as tie
 
 drafted-requires : tie.Need-drafted-requires
 drafted-requires c κs = search needs
 
+drop-requires : tie.Need-drop-requires
+drop-requires c κs = search needs
+
+redraft-requires : tie.Need-redraft-requires
+redraft-requires c κs = search needs
+
 returns : tie.Need-returns
-returns c = drop-none _ _ (c .before .before .drafted .ensures) (not-true (c .before .before .drafted .result .begun) (c .if1 .taken))
-
-end-requires : tie.Need-end-requires
-end-requires c κs = search needs
-
-put-draft-requires : tie.Need-put-draft-requires
-put-draft-requires c κs = search needs
-
-returns-2 : tie.Need-returns-2
-returns-2 c =
-    let at = c .before .before in
-    drop-done _ _ (at .before .before .drafted .ensures) (not-false (at .before .before .drafted .result .begun) (at .if1 .left)) _ (rw (← c .before .end .ensures) (c .put-draft .ensures))
+unfolding answerOf
+returns c = c .redraft .ensures ∙ rw (c .before .drop .ensures, c .before .before .drafted .ensures)
 
 pub drop-spec : {M : Type 1} → statement M
-drop-spec = tie.close (tie.spec drafted-requires returns end-requires put-draft-requires returns-2)
+drop-spec = tie.close (tie.spec drafted-requires drop-requires redraft-requires returns)

@@ -1,5 +1,5 @@
 -- The work that the slot holds answers, and the holder goes back as it came.
-use Rattle.holder.specs.Holder.{queryOf}
+use Rattle.holder.specs.Holder.{answerOf}
 use borrow.Author.Needs.{needs}
 use Rattle.holder.proofs.Holder.query.Statement.{statement}
 use Rattle.holder.proofs.Holder.query.Tie as tie
@@ -11,7 +11,7 @@ locate-requires : tie.Need-locate-requires
 locate-requires c κs = search needs
 
 returns : tie.Need-returns
-unfolding queryOf
+unfolding answerOf
 returns c = rw (c .locate .ensures, c .before .at-work .ensures)
 
 pub query-spec : {M : Type 1} → statement M

@@ -1,0 +1,175 @@
+-- A work stands for the book's: its flag says whether there is one, and its anchor and its edges are those of the book's outline, which was taken. So the edges answer for the
+-- outline's cells, and two outlines that were taken enclose the same cells exactly if they have the same anchor and the same edges.
+use Prim.Native.Nat.{ℕ, _*_, _≤_, _<_, min}
+use native.Mathlib.Omega.{arith}
+use mathlib.Core.Path.{_≡_, refl, sym, ap, _∙_}
+use mathlib.Core.Bool.{Bool, true, false, cond, _&&_, _||_, true≢false, and-eq-true-iff}
+use mathlib.Core.Option.{Option, none, some}
+use mathlib.Core.List.{List}
+use lib.ListN.{length, take, drop, replicate, length-take}
+use lib.Seq.{take-at}
+use lib.Dec.{leb}
+use lib.IntN.{ℤ, pos}
+use borrow.Author.Tests.{leb-false, eqb-true, eq-eqb}
+use Rattle.base.specs.Same.{sameℤs}
+use Rattle.base.proofs.Same.{both-ways, same-ℤs-iff}
+use Rattle.chart.specs.Limits.{side, mostNumbers, longestList}
+use Rattle.chart.specs.Outline.{Outline}
+use Rattle.chart.specs.declared.Point.{Point}
+use Rattle.chart.specs.declared.Refusal.the-variants.{Cell}
+use Rattle.chart.specs.declared.Verdict.{Verdict}
+use Rattle.chart.specs.declared.Verdict.the-variants.{Taken, Refused}
+use Rattle.lattice.specs.Chart.{samePoint}
+use Rattle.lattice.proofs.WalkLaws.{point-eq}
+use Rattle.convexity.specs.Reading.{border, block}
+use Rattle.convexity.specs.Pieces.{edges, dentPiece, Reaches}
+use Rattle.convexity.proofs.Bounds.{edges-length}
+use Rattle.convexity.proofs.AsSent.{edges-answer-sent}
+use Rattle.convexity.proofs.SameBlock.{SameEdges, same-cells-iff}
+use Rattle.verdict.specs.Verdict.{verdictOf, lentAfter}
+use Rattle.verdict.proofs.VerdictLaws.{TakenFacts, taken-facts, taken-fits}
+use Rattle.polygon.specs.Loose.{badCell}
+use Rattle.polygon.proofs.LooseCases.{inside-short}
+use Rattle.calls.specs.declared.Reply.{Reply}
+use Rattle.calls.specs.declared.Reply.the-variants.{Taken as WasTaken, Same, Refused as WasRefused}
+use Rattle.book.specs.Book.{sameBlock, equalsWork, closedReply as closedInBook, workAfter as workInBook, asked}
+use Rattle.book.proofs.SameBlock.{same-block-iff}
+use Rattle.work.specs.declared.Work.{Work}
+use Rattle.work.specs.Work.{listed, workEdges, noWork, replaced, removed, hasEdges, located}
+use Rattle.holder.specs.Holder.{closedReply, workAfter}
+
+-- ---- the relation
+
+-- A work with the anchor and the edges of this outline, which was taken
+pub record Working (w : Work) (o : Outline) : Type 0 where
+  pub taken : w .taken ≡ true
+  pub anchor : w .anchor ≡ border o .start
+  pub edges : workEdges w ≡ edges (border o)
+  pub reaches : Reaches o
+  pub undented : dentPiece (border o) ≡ 4
+
+abbrev pub IsWork : Work → Option Outline → Type 0
+IsWork w none = w .taken ≡ false
+IsWork w (some o) = Working w o
+
+pub no-work-stands : IsWork noWork none
+unfolding noWork
+no-work-stands = refl
+
+pub removed-stands : (w : Work) → IsWork (removed w) none
+unfolding removed
+removed-stands w = refl
+
+-- ---- an outline that was taken
+
+-- The numbers of an outline's edges, with zeros behind them, as a judgement lists them
+abbrev pub numbersOf : Outline → Verdict → List ℤ
+numbersOf o v = lentAfter v (edges (border o)) (replicate mostNumbers (pos 0))
+
+module _ (o : Outline) (n : ℕ) (a : Point) (e : verdictOf o ≡ Taken n a) where
+  abbrev facts : TakenFacts o n a
+  facts = taken-facts o n a e
+
+  listed-edges : listed (numbersOf o (Taken n a)) n ≡ edges (border o)
+  unfolding listed lentAfter
+  listed-edges =
+      let all : min (2 * n) mostNumbers ≡ 2 * n = omega (arith, taken-fits o n a e) in
+      let es : List ℤ = edges (border o) in
+      let size : length es ≡ 2 * n = edges-length (border o) ∙ ap (λ (j : ℕ). 2 * j) (sym (facts .count)) in
+      rw all (take-at es (drop (length es) (replicate mostNumbers (pos 0))) (2 * n) size)
+
+  taken-working : Working (replaced a (numbersOf o (Taken n a)) n) o
+  unfolding replaced workEdges
+  taken-working =
+      record { taken = refl; anchor = facts .anchor; edges = listed-edges; reaches = facts .reaches; undented = facts .undented }
+
+-- ---- the same block
+
+same-point-true : (p q : Point) → samePoint p q ≡ true → p ≡ q
+unfolding samePoint
+same-point-true p q e = let both = and-eq-true-iff _ _ .0 e in point-eq p q (eqb-true (p .col) (q .col) (both .0)) (eqb-true (p .row) (q .row) (both .1))
+
+same-point-of : (p q : Point) → p ≡ q → samePoint p q ≡ true
+unfolding samePoint
+same-point-of p q e =
+    and-eq-true-iff _ _ .1 (eq-eqb (p .col) (q .col) (ap (λ (x : Point). x .col) e), eq-eqb (p .row) (q .row) (ap (λ (x : Point). x .row) e))
+
+-- With a taken outline's anchor and edges the comparison says whether it is the block at work
+module _ (w : Work) (v o : Outline) (k : Working w v) (n : ℕ) (a : Point) (e : verdictOf o ≡ Taken n a) where
+  abbrev es : List ℤ
+  es = listed (numbersOf o (Taken n a)) n
+
+  compared : (samePoint (w .anchor) a && sameℤs (workEdges w) es) ≡ sameBlock o v
+  compared = both-ways _ _ cells edged
+    where
+      f : TakenFacts o n a
+      f = facts o n a e
+
+      cells : (samePoint (w .anchor) a && sameℤs (workEdges w) es) ≡ true → sameBlock o v ≡ true
+      cells t =
+          let both = and-eq-true-iff (samePoint (w .anchor) a) (sameℤs (workEdges w) es) .0 t in
+          let p : border o .start ≡ border v .start = sym (f .anchor) ∙ sym (same-point-true (w .anchor) a (both .0)) ∙ k .anchor in
+          let q : edges (border o) ≡ edges (border v) = sym (listed-edges o n a e) ∙ sym (same-ℤs-iff (workEdges w) es .0 (both .1)) ∙ k .edges in
+          same-block-iff o v (f .reaches .simple) (k .reaches .simple) .1 (same-cells-iff o v (f .reaches) (k .reaches) (f .undented) (k .undented) .1 (p, q))
+
+      edged : sameBlock o v ≡ true → (samePoint (w .anchor) a && sameℤs (workEdges w) es) ≡ true
+      edged t =
+          let same : SameEdges o v =
+          same-cells-iff o v (f .reaches) (k .reaches) (f .undented) (k .undented) .0 (same-block-iff o v (f .reaches .simple) (k .reaches .simple) .0 t) in
+          and-eq-true-iff (samePoint (w .anchor) a) (sameℤs (workEdges w) es) .1 (
+            same-point-of (w .anchor) a (k .anchor ∙ sym (same .0) ∙ sym (f .anchor)),
+            same-ℤs-iff (workEdges w) es .1 (k .edges ∙ sym (same .1) ∙ sym (listed-edges o n a e)),
+          )
+
+flag-true : (t x : Bool) → t ≡ true → (t && x) ≡ x
+flag-true true x e = refl
+flag-true false x e = absurd (true≢false (sym e))
+
+flag-false : (t x : Bool) → t ≡ false → (t && x) ≡ false
+flag-false true x e = absurd (true≢false e)
+flag-false false x e = refl
+
+-- The words "same" and "taken" go by the edges in the holder and by the cells in the book
+same-work : (w : Work) (o : Outline) (n : ℕ) (a : Point) → verdictOf o ≡ Taken n a → (v : Option Outline) → IsWork w v
+    → hasEdges w a (listed (numbersOf o (Taken n a)) n) ≡ equalsWork o v
+unfolding hasEdges equalsWork
+same-work w o n a e none k = flag-false (w .taken) _ k
+same-work w o n a e (some v) k = flag-true (w .taken) _ (k .taken) ∙ compared w v o k n a e
+
+-- ---- close
+
+pub closed-agrees : (w : Work) (v : Option Outline) → IsWork w v → (o : Outline) (t : Verdict) → verdictOf o ≡ t
+    → (closedReply w (numbersOf o t) t ≡ closedInBook (equalsWork o v) t) × IsWork (workAfter w (numbersOf o t) t) (workInBook v o t)
+unfolding closedReply closedInBook workAfter workInBook
+closed-agrees w v k o (Refused f) e = (refl, k)
+closed-agrees w v k o (Taken n a) e = (ap (λ (s : Bool). cond s (Same n a) (WasTaken n a)) (same-work w o n a e v k), taken-working o n a e)
+
+-- ---- query
+
+-- A cell that passes refusal 11 is on the chart
+on-chart-cell : (x : Point) → badCell x ≡ false → (x .col < side) × (x .row < side)
+unfolding badCell
+on-chart-cell x e = go (leb side (x .col)) (leb side (x .row)) refl refl e
+  where
+    go : (a b : Bool) → leb side (x .col) ≡ a → leb side (x .row) ≡ b → (a || b) ≡ false → (x .col < side) × (x .row < side)
+    go true b p q z = absurd (true≢false z)
+    go false true p q z = absurd (true≢false z)
+    go false false p q z = (leb-false side (x .col) p, leb-false side (x .row) q)
+
+cond-same : (t : Bool) (r : Reply) {x y : Reply} → (t ≡ false → x ≡ y) → cond t r x ≡ cond t r y
+cond-same true r e = refl
+cond-same false r e = e refl
+
+-- The list of edges at work is no longer than there is space for
+work-short : (w : Work) → length (workEdges w) ≤ longestList
+unfolding workEdges listed
+work-short w = omega (arith, length-take (min (2 * w .edges) mostNumbers) (w .numbers))
+
+-- The edges at work answer for the outline at work
+pub located-asked : (w : Work) (x : Point) (o : Option Outline) → IsWork w o → located w x ≡ asked x o
+unfolding located asked
+located-asked w x none e = rw e
+located-asked w x (some o) k =
+    rw (inside-short (w .anchor) (workEdges w) x (work-short w), k .edges, k .anchor, k .taken)
+    (cond-same (badCell x) (WasRefused Cell) λ e.
+    rw (edges-answer-sent o (k .reaches) (k .undented) x (on-chart-cell x e .0) (on-chart-cell x e .1)))

@@ -1,0 +1,1 @@
+// The holder answers as the plain book does. Theorems, no code.

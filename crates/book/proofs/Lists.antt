@@ -1,0 +1,132 @@
+-- The plain book on some lists of calls: the checker computes the replies. A draft filled to the brim is too long to compute, so there one law, by
+-- induction over the count, says what n adds do.
+use Prim.Native.Nat.{ℕ, zero, suc, _+_, _≤_}
+use native.Mathlib.Omega.{arith}
+use mathlib.Core.Path.{_≡_, refl, ap, _∙_}
+use mathlib.Core.Bool.{Bool, true, false}
+use mathlib.Core.Option.{some}
+use mathlib.Core.List.{List, [], _∷_, _++_, map, append-assoc, append-nil}
+use lib.ListN.{length, replicate, length-append}
+use lib.Dec.{leb, lit≤}
+use borrow.Author.Tests.{lt-leb}
+use Rattle.chart.specs.Limits.{side, longest}
+use Rattle.chart.specs.Outline.{Outline}
+use Rattle.chart.specs.declared.Point.{Point}
+use Rattle.chart.specs.declared.Fields.{Fields}
+use Rattle.chart.specs.Fields.{numbered, placed, said, accepted, no-word, inside, outside, taken, same}
+use Rattle.chart.specs.declared.Verdict.the-variants.{Taken}
+use Rattle.lattice.specs.Refusals.{Simple}
+use Rattle.verdict.proofs.Computes.{computes}
+use Rattle.calls.specs.Replies.{replyFields}
+use Rattle.calls.specs.declared.Call.{Call}
+use Rattle.calls.specs.declared.Call.the-variants.{Begin, Add, Drop, Clear, Close, Query}
+use Rattle.polygon.specs.Loose.{badCell}
+use Rattle.book.specs.Book
+use Rattle.book.proofs.SameBlock.{same-border-iff}
+
+unfoldable pub at : ℕ → ℕ → Point
+at c r = record { col = c; row = r }
+
+-- Begin, add each letter, close
+unfoldable pub draw : Point → List ℕ → List Call
+draw s w = Begin s ∷ (map (λ a. Add a) w ++ (Close ∷ []))
+
+-- What a list of calls on a fresh book is replied, written out
+unfoldable pub replied : List Call → List Fields
+replied cs = map replyFields (Book.replies cs)
+
+-- The replies of n calls that were done, with no word
+unfoldable pub done : ℕ → List Fields
+done n = replicate n (said no-word)
+
+unfoldable pub H3 : List ℕ
+H3 = 1 ∷ 0 ∷ 1 ∷ 0 ∷ 3 ∷ 0 ∷ 3 ∷ 2 ∷ 3 ∷ 2 ∷ 1 ∷ 2 ∷ []
+
+unfoldable pub H4 : List ℕ
+H4 = 2 ∷ 1 ∷ 0 ∷ 1 ∷ 0 ∷ 3 ∷ 0 ∷ 3 ∷ 2 ∷ 3 ∷ 2 ∷ 1 ∷ []
+
+unfoldable pub H3-back : List ℕ
+H3-back = 0 ∷ 3 ∷ 0 ∷ 1 ∷ 0 ∷ 1 ∷ 2 ∷ 1 ∷ 2 ∷ 3 ∷ 2 ∷ 3 ∷ []
+
+unfoldable pub H6 : List ℕ
+H6 = 1 ∷ 1 ∷ 1 ∷ 0 ∷ 3 ∷ 3 ∷ 0 ∷ 0 ∷ 3 ∷ 2 ∷ 2 ∷ 2 ∷ []
+
+-- A name that opens the book, for the proofs that compute it
+opened : Bool
+unfolding at draw replied done H3 H4 H3-back H6 computes replyFields badCell Book.fresh Book.equalsWork Book.begins Book.adds Book.drops Book.closedReply Book.workAfter Book.closes Book.asked Book.answer Book.repliesFrom Book.replies
+opened = true
+
+-- The outlines of H3, of H4 and of H3 drawn backward are past 1 to 6 and have one border
+abbrev h3 : Outline
+h3 = record { start = at 0 1; letters = H3 }
+
+abbrev h4 : Outline
+h4 = record { start = at 1 1; letters = H4 }
+
+abbrev h3-back : Outline
+h3-back = record { start = at 0 1; letters = H3-back }
+
+simple-h3 : Simple h3
+unfolding opened
+simple-h3 = record { counted = refl; started = refl; lettered = refl; stays = refl; closed = refl; simple = refl }
+
+simple-h4 : Simple h4
+unfolding opened
+simple-h4 = record { counted = refl; started = refl; lettered = refl; stays = refl; closed = refl; simple = refl }
+
+simple-h3-back : Simple h3-back
+unfolding opened
+simple-h3-back = record { counted = refl; started = refl; lettered = refl; stays = refl; closed = refl; simple = refl }
+
+same-h4 : Book.sameBlock h4 h3 ≡ true
+unfolding opened
+same-h4 = same-border-iff h4 h3 simple-h4 simple-h3 .1 refl
+
+same-h3-back : Book.sameBlock h3-back h4 ≡ true
+unfolding opened
+same-h3-back = same-border-iff h3-back h4 simple-h3-back simple-h4 .1 refl
+
+-- What H3, then H4, then H3 drawn backward, and three queries are replied, by whether the blocks are the same
+by-words : Bool → Bool → List Fields
+by-words t u =
+    done 13 ++ (accepted taken 4 (at 0 1) ∷ (done 13 ++ (replyFields (Book.closedReply t (Taken 4 (at 0 1))) ∷
+    (done 13 ++ (replyFields (Book.closedReply u (Taken 4 (at 0 1))) ∷ said inside ∷ said outside ∷ numbered 11 ∷ [])))))
+
+-- H3, then H4, the same block from another start, and then H3 drawn backward: "same" both times
+pub taken-then-same : replied (draw (at 0 1) H3 ++ (draw (at 1 1) H4 ++ (draw (at 0 1) H3-back ++ (Query (at 1 2) ∷ Query (at 0 2) ∷ Query (at 0 side) ∷ []))))
+    ≡ done 13 ++ (accepted taken 4 (at 0 1) ∷ (done 13 ++ (accepted same 4 (at 0 1) ∷
+    (done 13 ++ (accepted same 4 (at 0 1) ∷ said inside ∷ said outside ∷ numbered 11 ∷ [])))))
+unfolding opened by-words
+taken-then-same = λ z. by-words (same-h4 z) (same-h3-back z)
+
+-- A clear between: nothing is at work, and H3 again is "taken". A refused close keeps what is at work and ends the draft
+pub clear-between : replied (draw (at 0 1) H3 ++ (Clear ∷ Query (at 1 1) ∷ (draw (at 0 1) H3 ++ (draw (at 0 0) H6 ++ (Close ∷ Query (at 1 1) ∷ [])))))
+    ≡ done 13 ++ (accepted taken 4 (at 0 1) ∷ said no-word ∷ numbered 12 ∷ (done 13 ++ (accepted taken 4 (at 0 1) ∷ (done 13 ++
+    (record { number = 9; word = no-word; place = 4; piece = 2; length = 4; col = 1; row = 1 } ∷ numbered 13 ∷ said inside ∷ [])))))
+unfolding opened
+clear-between = refl
+
+-- A book with this draft, and nothing at work
+drawn : Point → List ℕ → Book.Book
+drawn s w = Book.putDraft Book.fresh (some (record { start = s; letters = w }))
+
+-- n adds of a letter to a draft that has room for them
+adding : (n : ℕ) (s : Point) (w : List ℕ) (cs : List Call) → length w + n ≤ longest →
+    map replyFields (Book.repliesFrom (drawn s w) (replicate n (Add 1) ++ cs)) ≡ done n ++ map replyFields (Book.repliesFrom (drawn s (w ++ replicate n 1)) cs)
+unfolding drawn done replyFields Book.fresh Book.repliesFrom Book.answer Book.adds
+adding zero s w cs fits = rw append-nil
+adding (suc n) s w cs fits =
+    let room : leb longest (length w) ≡ false = lt-leb longest (length w) (omega arith) in
+    let rest = adding n s (w ++ (1 ∷ [])) cs (simp length-append (omega arith)) in
+    rw room (ap (λ (r : List Fields). said no-word ∷ r) (rest ∙ simp append-assoc))
+
+-- Every refusal by the state: 12, 13 three times, 14, and 15 with as many letters as a draft may have and not before; 2 and 3 in their places
+pub state-refusals : replied
+    (Query (at 0 side) ∷ Add 9 ∷ Close ∷ Drop ∷ Begin (at 0 (suc side)) ∷ Begin (at 0 0) ∷ Begin (at 0 (suc side)) ∷ Add 4 ∷
+    (replicate longest (Add 1) ++ (Add 9 ∷ Drop ∷ Drop ∷ [])))
+    ≡ numbered 12 ∷ numbered 13 ∷ numbered 13 ∷ numbered 13 ∷ numbered 2 ∷ said no-word ∷ numbered 14 ∷ placed 3 0 ∷
+    (done longest ++ (numbered 15 ∷ said no-word ∷ numbered 13 ∷ []))
+unfolding opened drawn
+state-refusals =
+    ap (λ (r : List Fields). numbered 12 ∷ numbered 13 ∷ numbered 13 ∷ numbered 13 ∷ numbered 2 ∷ said no-word ∷ numbered 14 ∷ placed 3 0 ∷ r)
+    (adding longest (at 0 0) [] (Add 9 ∷ Drop ∷ Drop ∷ []) (lit≤ tt))

@@ -1,0 +1,2 @@
+-- Replies written out.
+pub mod Replies

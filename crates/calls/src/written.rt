@@ -1,0 +1,23 @@
+// A reply written out: its number, its word and its fields (contract 4).
+use crate::Reply;
+use chart::Fields;
+use chart::reply;
+ghost use mathlib.Core.Path.{_≡_};
+ghost use Rattle.calls.specs.Replies.{replyFields};
+
+pub fn of_reply(r: Reply) -> Fields
+    ensures { λ f. ⌜ f ≡ replyFields r ⌝ }
+{
+    match r {
+        Reply::Done => reply::said(0),
+        Reply::Inside => reply::said(1),
+        Reply::Outside => reply::said(2),
+        Reply::Taken { edges, anchor } => reply::accepted(3, edges, anchor),
+        Reply::Same { edges, anchor } => reply::accepted(4, edges, anchor),
+        Reply::Refused(why) => reply::of_refusal(why),
+        Reply::NothingAtWork => reply::numbered(12),
+        Reply::NoDraft => reply::numbered(13),
+        Reply::DraftOpen => reply::numbered(14),
+        Reply::DraftFull => reply::numbered(15),
+    }
+}

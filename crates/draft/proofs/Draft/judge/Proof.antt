@@ -1,0 +1,19 @@
+-- The letters lent are those of the outline kept.
+use mathlib.Core.Path.{_∙_}
+use borrow.Author.Needs.{needs}
+use Rattle.draft.specs.Draft.{outlineOf}
+use Rattle.draft.proofs.Draft.judge.Statement.{statement}
+use Rattle.draft.proofs.Draft.judge.Tie as tie
+
+first-requires : tie.Need-first-requires
+first-requires c κs = search needs
+
+judge-requires : tie.Need-judge-requires
+judge-requires c κs = search needs
+
+returns : tie.Need-returns
+unfolding outlineOf
+returns c = c .judge .ensures ∙ rw (c .before .first .ensures)
+
+pub judge-spec : {M : Type 1} → statement M
+judge-spec = tie.close (tie.spec first-requires judge-requires returns)

@@ -1,0 +1,50 @@
+-- A draft as it is kept, and what begin, add and drop do to it: an equation for every value of the struct (contract 7.3 to 7.5).
+use Prim.Native.Nat.{ℕ, _+_, min}
+use mathlib.Core.Bool.{true, false, cond}
+use lib.ListN.{take, set, replicate}
+use lib.Dec.{leb, ltb}
+use Rattle.chart.specs.Limits.{longest}
+use Rattle.chart.specs.Outline.{Outline}
+use Rattle.chart.specs.declared.Point.{Point}
+use Rattle.chart.specs.declared.Refusal.the-variants.{Start, Letter}
+use Rattle.lattice.specs.Refusals.{badStart}
+use Rattle.calls.specs.declared.Reply.the-variants.{Done, Refused, NoDraft, DraftOpen, DraftFull}
+use Rattle.draft.specs.declared.Draft.{Draft}
+use Rattle.draft.specs.declared.Drafted.{Drafted}
+
+-- The outline that a draft keeps: no more letters than there is space for
+unfoldable pub outlineOf : Draft → Outline
+outlineOf d = record { start = d .start; letters = take (min (d .count) longest) (d .letters) }
+
+-- No draft
+unfoldable pub noDraft : Draft
+noDraft = record { begun = false; start = record { col = 0; row = 0 }; letters = replicate longest 0; count = 0 }
+
+-- The draft over; opened at a start, without letters; one letter longer
+unfoldable pub endOf : Draft → Draft
+endOf d = record { begun = false; start = d .start; letters = d .letters; count = d .count }
+
+unfoldable pub begunAt : Draft → Point → Draft
+begunAt d s = record { begun = true; start = s; letters = d .letters; count = 0 }
+
+unfoldable pub lengthened : Draft → ℕ → Draft
+lengthened d a = record { begun = d .begun; start = d .start; letters = set (d .letters) (d .count) a; count = d .count + 1 }
+
+-- ---- the calls
+
+unfoldable pub beginOf : Draft → Point → Drafted
+beginOf d s =
+    cond (d .begun) (record { reply = DraftOpen; draft = d })
+    (cond (badStart s) (record { reply = Refused Start; draft = d })
+    (record { reply = Done; draft = begunAt d s }))
+
+unfoldable pub addOf : Draft → ℕ → Drafted
+addOf d a =
+    cond (d .begun)
+    (cond (leb longest (d .count)) (record { reply = DraftFull; draft = d })
+    (cond (ltb 3 a) (record { reply = Refused (Letter (d .count)); draft = d })
+    (record { reply = Done; draft = lengthened d a })))
+    (record { reply = NoDraft; draft = d })
+
+unfoldable pub dropOf : Draft → Drafted
+dropOf d = cond (d .begun) (record { reply = Done; draft = endOf d }) (record { reply = NoDraft; draft = d })

@@ -1,0 +1,2 @@
+-- A draft as it is kept, and the calls on it.
+pub mod Draft

@@ -1,0 +1,12 @@
+-- The definition, field by field.
+use mathlib.Core.Path.{refl}
+use Rattle.work.specs.Work.{removed}
+use Rattle.work.proofs.Work.remove.Statement.{statement}
+use Rattle.work.proofs.Work.remove.Tie as tie
+
+returns : tie.Need-returns
+unfolding removed
+returns c = refl
+
+pub remove-spec : {M : Type 1} → statement M
+remove-spec = tie.close (tie.spec returns)

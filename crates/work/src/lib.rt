@@ -1,0 +1,144 @@
+// What is at work: the anchor and the edges of the outline last taken, and what is asked of them (contract 7.6 to 7.8).
+use calls::Reply;
+use chart::MOST_NUMBERS;
+use chart::Point;
+use chart::Refusal;
+use polygon::bad_cell;
+use polygon::inside;
+ghost use mathlib.Core.Path.{_≡_};
+ghost use Prim.Native.Nat.{_*_, min};
+ghost use lib.ListN.{take};
+ghost use Rattle.base.specs.Same.{sameℤ, sameℤs};
+ghost use Rattle.chart.specs.Limits.{mostNumbers};
+ghost use Rattle.lattice.specs.Chart.{samePoint};
+ghost use Rattle.polygon.specs.Loose.{insideList};
+ghost use Rattle.work.specs.Work.{noWork, listed, workEdges, replaced, removed, hasEdges, located};
+
+// The outline last taken, if one was: its anchor and its edges, two numbers an edge.
+pub struct Work {
+    pub taken: bool,
+    pub anchor: Point,
+    pub numbers: [i16; MOST_NUMBERS],
+    pub edges: usize,
+}
+
+// How many numbers stand for this many edges: no more than there is space for.
+fn number_count(edges: usize) -> usize
+    ensures { λ r. ⌜ r ≡ min (2 * edges) mostNumbers ⌝ }
+{
+    if edges < MOST_NUMBERS / 2 {
+        2 * edges
+    } else {
+        MOST_NUMBERS
+    }
+}
+
+// The numbers of the edges, of those that there is space for.
+fn first(numbers: &[i16; MOST_NUMBERS], edges: usize) -> &[i16]
+    ensures { λ r. ⌜ now r ≡ listed (now (numbers .entry)) edges ⌝ }
+{
+    let n = number_count(edges);
+    let all = &numbers[..];
+    &all[..n]
+}
+
+fn same_point(p: Point, q: Point) -> bool
+    ensures { λ r. ⌜ r ≡ samePoint p q ⌝ }
+{
+    p.col == q.col && p.row == q.row
+}
+
+fn same_number(a: i16, b: i16) -> bool
+    ensures { λ r. ⌜ r ≡ sameℤ a b ⌝ }
+{
+    a == b
+}
+
+fn same_numbers(a: &[i16], b: &[i16]) -> bool
+    ensures { λ r. ⌜ r ≡ sameℤs (now (a .entry)) (now (b .entry)) ⌝ }
+{
+    if a.len() != b.len() {
+        return false;
+    }
+    let mut i = 0;
+    while i < a.len() {
+        if !same_number(a[i], b[i]) {
+            return false;
+        }
+        i += 1;
+    }
+    true
+}
+
+impl Work {
+    pub fn none() -> Self
+        ensures { λ r. ⌜ r ≡ noWork ⌝ }
+    {
+        Work {
+            taken: false,
+            anchor: Point { col: 0, row: 0 },
+            numbers: [0; MOST_NUMBERS],
+            edges: 0,
+        }
+    }
+
+    // An outline that was taken replaces what is at work.
+    pub fn replace(mut self, anchor: Point, numbers: [i16; MOST_NUMBERS], edges: u16) -> Self
+        ensures { λ r. ⌜ r ≡ replaced anchor numbers edges ⌝ }
+    {
+        self.anchor = anchor;
+        self.numbers = numbers;
+        self.edges = edges as usize;
+        self.taken = true;
+        self
+    }
+
+    pub fn remove(mut self) -> Self
+        ensures { λ r. ⌜ r ≡ removed self ⌝ }
+    {
+        self.taken = false;
+        self
+    }
+
+    // The same block is at work: its anchor and its edges are these.
+    pub fn has(self, anchor: Point, numbers: [i16; MOST_NUMBERS], edges: u16) -> bool
+        ensures { λ r. ⌜ r ≡ hasEdges self anchor (listed numbers edges) ⌝ }
+    {
+        if !self.taken {
+            return false;
+        }
+        if !same_point(self.anchor, anchor) {
+            return false;
+        }
+        let n = self.edges;
+        let own = first(&self.numbers, n);
+        let other = first(&numbers, edges as usize);
+        same_numbers(own, other)
+    }
+
+    fn has_inside(self, cell: Point) -> bool
+        ensures { λ b. ⌜ b ≡ insideList (self .anchor) (workEdges self) cell ⌝ }
+    {
+        let anchor = self.anchor;
+        let edges = self.edges;
+        let list = first(&self.numbers, edges);
+        inside(anchor, list, cell)
+    }
+
+    // 12, 11, or where the cell lies.
+    pub fn locate(self, cell: Point) -> Reply
+        ensures { λ r. ⌜ r ≡ located self cell ⌝ }
+    {
+        if !self.taken {
+            return Reply::NothingAtWork;
+        }
+        if bad_cell(cell) {
+            return Reply::Refused(Refusal::Cell);
+        }
+        if self.has_inside(cell) {
+            Reply::Inside
+        } else {
+            Reply::Outside
+        }
+    }
+}
