@@ -3,8 +3,8 @@
 use Prim.Native.Nat.{ℕ}
 use mathlib.Core.Path.{_≡_, refl, sym, ap, _∙_, subst}
 use mathlib.Core.Logic.{_↔_}
-use mathlib.Core.Bool.{Bool, true, false, cond}
-use mathlib.Core.Option.{Option, none, some}
+use mathlib.Core.Bool.{Bool, true, false}
+use mathlib.Core.Option.{Option, some}
 use mathlib.Core.List.{List}
 use Rattle.chart.specs.Outline.{Outline}
 use Rattle.chart.specs.Fields.{verdictFields}
@@ -19,14 +19,14 @@ use Rattle.convexity.specs.Pieces.{Reaches}
 use Rattle.convexity.proofs.SameBlock.{SameCells}
 use Rattle.verdict.specs.Verdict.{verdictOf}
 use Rattle.verdict.specs.Named.{CellNamed}
-use Rattle.verdict.proofs.VerdictLaws.{TakenFacts, taken-facts}
+use Rattle.verdict.proofs.VerdictLaws.{taken-facts}
 use Rattle.verdict.proofs.Cells.{nine-iff-missing, verdict-named}
 use Rattle.verdict.proofs.Full.{eight-missing, taken-iff-full}
 use Rattle.calls.specs.Replies.{replyFields}
 use Rattle.calls.specs.declared.Call.{Call}
 use Rattle.calls.specs.declared.Call.the-variants.{Close}
 use Rattle.calls.specs.declared.Reply.{Reply}
-use Rattle.calls.specs.declared.Reply.the-variants.{Taken as WasTaken, Same, Refused as WasRefused}
+use Rattle.calls.specs.declared.Reply.the-variants.{Same, Refused as WasRefused}
 use Rattle.book.specs.Book.{drafted, atWork, fresh, equalsWork, closedReply, closes, answer, bookAfter}
 use Rattle.book.specs.LastTaken.{lastTaken}
 use Rattle.book.proofs.LastTaken.{work-last-taken}

@@ -1,6 +1,6 @@
 -- Every list of calls on a fresh holder gets the plain book's replies: the fresh holder stands for the fresh book, every call keeps that and replies as
 -- the book does, and the rest is induction over the list.
-use mathlib.Core.Path.{_≡_, refl, sym, ap, _∙_, subst}
+use mathlib.Core.Path.{_≡_, refl, sym, subst}
 use mathlib.Core.Bool.{Bool, true, false, cond, true≢false}
 use mathlib.Core.Option.{Option, none, some}
 use mathlib.Core.List.{List, [], _∷_}
@@ -13,12 +13,11 @@ use Rattle.calls.specs.declared.Call.the-variants.{Begin, Add, Drop, Clear, Clo
 use Rattle.book.specs.Book.{Book, drafted, atWork, fresh, Answer, closes, closing, answer, repliesFrom, replies, bookAfter}
 use Rattle.book.specs.LastTaken.{lastTaken}
 use Rattle.book.proofs.LastTaken.{work-last-taken}
-use Rattle.draft.specs.Draft.{outlineOf}
 use Rattle.holder.specs.declared.Holder.{Holder}
 use Rattle.holder.specs.declared.Answered.{Answered}
 use Rattle.holder.specs.Holder.{draftOf, workOf, freshHolder, closedBy, closeOf, answerOf}
 use Rattle.holder.specs.Run.{handledFrom, handled, holderAfter, replyAfter}
-use Rattle.agreement.proofs.Drafts.{Keeps, IsDraft, no-draft-stands, ended-stands, begin-agrees, add-agrees, drop-agrees}
+use Rattle.agreement.proofs.Drafts.{IsDraft, no-draft-stands, ended-stands, begin-agrees, add-agrees, drop-agrees}
 use Rattle.agreement.proofs.Works.{IsWork, no-work-stands, removed-stands, closed-agrees, located-asked}
 
 -- ---- the relation

@@ -12,7 +12,8 @@ use lib.Dec.{leb}
 use lib.IntN.{ℤ, pos}
 use borrow.Author.Tests.{leb-false, eqb-true, eq-eqb}
 use Rattle.base.specs.Same.{sameℤs}
-use Rattle.base.proofs.Same.{both-ways, same-ℤs-iff}
+use Rattle.base.proofs.BelowLaws.{same-test}
+use Rattle.base.proofs.Same.{same-ℤs-iff}
 use Rattle.chart.specs.Limits.{side, mostNumbers, longestList}
 use Rattle.chart.specs.Outline.{Outline}
 use Rattle.chart.specs.declared.Point.{Point}
@@ -100,7 +101,7 @@ module _ (w : Work) (v o : Outline) (k : Working w v) (n : ℕ) (a : Point) (e :
   es = listed (numbersOf o (Taken n a)) n
 
   compared : (samePoint (w .anchor) a && sameℤs (workEdges w) es) ≡ sameBlock o v
-  compared = both-ways _ _ cells edged
+  compared = same-test _ _ (cells, edged) (λ t. t, λ t. t)
     where
       f : TakenFacts o n a
       f = facts o n a e

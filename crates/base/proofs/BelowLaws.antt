@@ -1,8 +1,8 @@
 -- Laws of the tests below a bound, each by induction on the bound: the last number passes or fails, and the rest is the shorter bound.
 use Prim.Native.Nat.{ℕ, zero, suc, _+_, _≤_, _<_}
-use mathlib.Core.Path.{_≡_, refl}
+use mathlib.Core.Path.{_≡_, refl, sym}
 use mathlib.Core.Bool.{Bool, true, false, _&&_}
-use mathlib.Core.Logic.{_⊎_, inl, inr}
+use mathlib.Core.Logic.{_↔_, _⊎_, inl, inr}
 use native.Mathlib.Nat.{eq-or-lt-of-le, le-of-suc-le-suc}
 use native.Mathlib.Decide.{decLt}
 use native.Mathlib.Omega.{arith}
@@ -26,6 +26,12 @@ and-right false b h = let z : _≡_ {A = ℕ} 0 1 = cc in absurd (omega arith)
 pub not-held : (b : Bool) → (b ≡ true → ⊥) → b ≡ false
 not-held true h = absurd (h refl)
 not-held false h = refl
+
+-- Two tests that say the same are equal
+pub same-test : {P : Type 0} (a b : Bool) → (a ≡ true) ↔ P → (b ≡ true) ↔ P → a ≡ b
+same-test true b e f = sym (f .1 (e .0 refl))
+same-test false true e f = e .1 (f .0 refl)
+same-test false false e f = refl
 
 pub every-at : (f : ℕ → Bool) (n : ℕ) → every f n ≡ true → (i : ℕ) → i < n → f i ≡ true
 unfolding every

@@ -1,12 +1,14 @@
 -- The order of integers, by their parts above and below 0: a is at most b exactly if a's upper part with b's lower one is at most b's upper part with a's lower one.
-use Prim.Native.Nat.{ℕ, suc, _+_, _≤_}
+use Prim.Native.Nat.{ℕ, suc, _+_, _≤_, _<_}
 use native.Mathlib.Decide.{decLe}
 use native.Mathlib.Omega.{arith}
 use mathlib.Core.Path.{_≡_, sym, _∙_}
+use mathlib.Core.Logic.{_↔_}
+use mathlib.Core.Bool.{true, false}
 use lib.Dec.{leb}
 use lib.IntN.{ℤ, pos, negsuc}
 use lib.Signed.{leZ}
-use borrow.Author.Tests.{le-leb, lt-leb}
+use borrow.Author.Tests.{leb-true, leb-false, le-leb, lt-leb}
 
 -- An integer is its part above 0 less its part below 0
 abbrev pub up : ℤ → ℕ
@@ -29,3 +31,13 @@ le-parts (pos a) (pos b) = same-test a b (a + 0) (b + 0) (λ l. omega arith) (λ
 le-parts (pos a) (negsuc b) = sym (lt-leb (a + suc b) (0 + 0) (omega arith))
 le-parts (negsuc a) (pos b) = sym (le-leb (0 + 0) (b + suc a) (omega arith))
 le-parts (negsuc a) (negsuc b) = same-test b a (0 + suc b) (0 + suc a) (λ l. omega arith) (λ l. omega arith)
+
+-- a is at most b, in naturals
+abbrev pub AtMost : ℤ → ℤ → Type 0
+AtMost a b = up a + down b ≤ up b + down a
+
+pub at-most-iff : (a b : ℤ) → (leZ a b ≡ true) ↔ AtMost a b
+at-most-iff a b = ((λ e. leb-true _ _ (sym (le-parts a b) ∙ e)), λ l. le-parts a b ∙ le-leb (up a + down b) (up b + down a) l)
+
+pub not-at-most : (a b : ℤ) → leZ a b ≡ false → up b + down a < up a + down b
+not-at-most a b e = leb-false _ _ (sym (le-parts a b) ∙ e)

@@ -1,8 +1,11 @@
--- Laws of the tests below a bound and of the test of two lists; sizes and order of integers; prefixes of lists; weighted means; weights of lists without repeats.
+-- Laws of the tests below a bound, of a list's members and of two lists; prefixes of lists; sizes and order of integers, and integers as differences of naturals; weighted
+-- means; weights of lists without repeats.
 pub mod BelowLaws
+pub mod EachLaws
 pub mod Same
+pub mod Prefix
 pub mod Sizes
 pub mod IntegerOrder
-pub mod Prefix
+pub mod Differences
 pub mod Mean
 pub mod Weights

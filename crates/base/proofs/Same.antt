@@ -4,7 +4,7 @@ use native.Mathlib.Numerals.{add-one}
 use native.Mathlib.Omega.{arith}
 use mathlib.Core.Path.{_≡_, refl, sym, ap, _∙_, subst}
 use mathlib.Core.Logic.{_↔_}
-use mathlib.Core.Bool.{Bool, true, false, _&&_, false≢true, and-eq-true-iff}
+use mathlib.Core.Bool.{true, false, _&&_, false≢true, and-eq-true-iff}
 use mathlib.Core.List.{List, [], _∷_}
 use lib.ListN.{length, drop, getD}
 use lib.Seq.{drop-cons, drop-length}
@@ -15,12 +15,7 @@ use mir.Val.{SFits, toZ, ofZ}
 use mir.ValLaws.{toZ-ofZ}
 use borrow.Author.Tests.{eqb-true, eq-eqb}
 use Rattle.base.specs.Same.{sameℤ, sameℤs}
-
--- Two tests that pass together are one
-pub both-ways : (a b : Bool) → (a ≡ true → b ≡ true) → (b ≡ true → a ≡ true) → a ≡ b
-both-ways true b f g = sym (f refl)
-both-ways false true f g = g refl
-both-ways false false f g = refl
+use Rattle.base.proofs.BelowLaws.{same-test, not-held}
 
 pub same-ℤ : (a b : ℤ) → sameℤ a b ≡ true → a ≡ b
 unfolding sameℤ
@@ -54,7 +49,7 @@ same-ℤs-iff es fs = (same-ℤs es fs, λ e. subst (λ (l : List ℤ). sameℤs
 -- ---- from a place on: the numbers there, and the rest
 
 pub same-longer : (es fs : List ℤ) → (length es ≡ length fs → ⊥) → sameℤs es fs ≡ false
-same-longer es fs h = both-ways (sameℤs es fs) false (λ e. absurd (h (ap length (same-ℤs es fs e)))) (λ e. absurd (false≢true e))
+same-longer es fs h = not-held (sameℤs es fs) (λ e. h (ap length (same-ℤs es fs e)))
 
 module _ (es fs : List ℤ) (i : ℕ) (h : i < length es) (same : length es ≡ length fs) where
   same-drop : sameℤs (drop i es) (drop i fs) ≡ (sameℤ (getD es i (pos 0)) (getD fs i (pos 0)) && sameℤs (drop (i + 1) es) (drop (i + 1) fs))
@@ -77,8 +72,6 @@ same-end es fs i h e =
 
 pub same-bits : (w : Width) (a b : ℤ) → SFits w a → SFits w b → eqb (ofZ w a) (ofZ w b) ≡ sameℤ a b
 same-bits w a b f g =
-    both-ways (eqb (ofZ w a) (ofZ w b)) (sameℤ a b)
-    (λ e.
-    let same : a ≡ b = sym (toZ-ofZ w a f) ∙ ap (toZ w) (eqb-true (ofZ w a) (ofZ w b) e) ∙ toZ-ofZ w b g in
-    subst (λ (z : ℤ). sameℤ a z ≡ true) same (same-self a))
-    (λ e. eq-eqb (ofZ w a) (ofZ w b) (ap (ofZ w) (same-ℤ a b e)))
+    same-test {P = a ≡ b} (eqb (ofZ w a) (ofZ w b)) (sameℤ a b)
+    (λ e. sym (toZ-ofZ w a f) ∙ ap (toZ w) (eqb-true (ofZ w a) (ofZ w b) e) ∙ toZ-ofZ w b g, λ e. eq-eqb (ofZ w a) (ofZ w b) (ap (ofZ w) e))
+    (same-ℤ a b, λ e. subst (λ (z : ℤ). sameℤ a z ≡ true) e (same-self a))

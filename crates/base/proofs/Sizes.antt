@@ -2,7 +2,7 @@
 use Prim.Native.Nat.{ℕ, zero, suc, _+_, _-_, _*_, _^_, _≤_, _<_}
 use native.Mathlib.Nat.{mul-le-mul}
 use native.Mathlib.Omega.{arith}
-use mathlib.Core.Path.{_≡_, refl}
+use mathlib.Core.Path.{_≡_, refl, ap, _∙_}
 use mathlib.Core.Bool.{Bool, true, false, cond}
 use lib.Dec.{ltb}
 use lib.IntN.{ℤ, pos, negsuc, negℤ, natAbs, subℕ, _+ℤ_, _-ℤ_, _*ℤ_}
@@ -11,6 +11,7 @@ use borrow.Author.Tests.{ltb-true}
 use mir.Syntax.{Width, w16, w64}
 use mir.Val.{SFits, hbits, toZ, ofZ}
 use mir.ValLaws.{toZ-ofZ}
+use Rattle.base.proofs.Differences.{Is, is-self, is-unique, is-add, is-minus, is-mul}
 
 size-sub : (a b : ℕ) → natAbs (subℕ a b) ≤ a + b
 size-sub a b = go (ltb a b) refl
@@ -19,7 +20,7 @@ size-sub a b = go (ltb a b) refl
     go true e = omega (arith, ltb-true a b e)
     go false e = omega arith
 
-size-neg : (a : ℤ) → natAbs (negℤ a) ≡ natAbs a
+pub size-neg : (a : ℤ) → natAbs (negℤ a) ≡ natAbs a
 size-neg (pos zero) = refl
 size-neg (pos (suc a)) = refl
 size-neg (negsuc a) = refl
@@ -33,7 +34,7 @@ size-sum (negsuc a) (negsuc b) = omega arith
 pub size-difference : (a b : ℤ) → natAbs (a -ℤ b) ≤ natAbs a + natAbs b
 size-difference a b = omega (arith, size-sum a (negℤ b), size-neg b)
 
-size-product : (a b : ℤ) → natAbs (a *ℤ b) ≡ natAbs a * natAbs b
+pub size-product : (a b : ℤ) → natAbs (a *ℤ b) ≡ natAbs a * natAbs b
 size-product (pos a) (pos b) = refl
 size-product (pos a) (negsuc b) = size-neg (pos (a * suc b))
 size-product (negsuc a) (pos b) = size-neg (pos (suc a * b))
@@ -41,6 +42,41 @@ size-product (negsuc a) (negsuc b) = refl
 
 pub size-product-le : (a b : ℤ) {m n : ℕ} → natAbs a ≤ m → natAbs b ≤ n → natAbs (a *ℤ b) ≤ m * n
 size-product-le a b h k = rw (size-product a b) (mul-le-mul h k)
+
+-- The size of a - b is how far a and b lie apart
+pub size-parts : {z : ℤ} {a b : ℕ} → Is z a b → (a ≤ b + natAbs z) × (b ≤ a + natAbs z)
+size-parts {z = pos n} h = omega arith
+size-parts {z = negsuc n} h = omega arith
+
+pub size-at-most : {z : ℤ} {a b : ℕ} (k : ℕ) → Is z a b → a ≤ b + k → b ≤ a + k → natAbs z ≤ k
+size-at-most {z = pos n} k h l m = omega arith
+size-at-most {z = negsuc n} k h l m = omega arith
+
+-- By way of a third number
+pub size-triangle : (a b c : ℤ) → natAbs (a -ℤ c) ≤ natAbs (a -ℤ b) + natAbs (b -ℤ c)
+size-triangle a b c =
+    let e : a -ℤ c ≡ (a -ℤ b) +ℤ (b -ℤ c) =
+    is-unique (is-minus (is-self a) (is-self c)) (is-add (is-minus (is-self a) (is-self b)) (is-minus (is-self b) (is-self c))) (omega arith) in
+    rw e (size-sum (a -ℤ b) (b -ℤ c))
+
+pub size-back : (a b : ℤ) → natAbs a ≤ natAbs (a -ℤ b) + natAbs b
+size-back a b =
+    let e : a ≡ (a -ℤ b) +ℤ b = is-unique (is-self a) (is-add (is-minus (is-self a) (is-self b)) (is-self b)) (omega arith) in
+    omega (arith, size-sum (a -ℤ b) b, ap natAbs e)
+
+-- Two differences, and two products by one number, lie as far apart as their parts
+pub size-differences : (a b c d : ℤ) → natAbs ((a -ℤ b) -ℤ (c -ℤ d)) ≤ natAbs (a -ℤ c) + natAbs (b -ℤ d)
+size-differences a b c d =
+    let e : (a -ℤ b) -ℤ (c -ℤ d) ≡ (a -ℤ c) -ℤ (b -ℤ d) =
+    is-unique (is-minus (is-minus (is-self a) (is-self b)) (is-minus (is-self c) (is-self d)))
+    (is-minus (is-minus (is-self a) (is-self c)) (is-minus (is-self b) (is-self d))) (omega arith) in
+    rw e (size-difference (a -ℤ c) (b -ℤ d))
+
+pub size-products : (k a b : ℤ) → natAbs (k *ℤ a -ℤ k *ℤ b) ≡ natAbs k * natAbs (a -ℤ b)
+size-products k a b =
+    ap natAbs
+    (is-unique (is-minus (is-mul (is-self k) (is-self a)) (is-mul (is-self k) (is-self b))) (is-mul (is-self k) (is-minus (is-self a) (is-self b))) (omega arith))
+    ∙ size-product k (a -ℤ b)
 
 mag-size : (a : ℤ) → mag a ≤ natAbs a
 mag-size (pos a) = omega arith

@@ -1,25 +1,11 @@
--- A table is right if a test passes at each of its rows, and a test of replies passes only for equal ones.
+-- A test of replies passes only for equal ones: field by field.
 use Prim.Native.Nat.{ℕ}
-use mathlib.Core.Path.{_≡_, sym, subst}
-use mathlib.Core.Logic.{⊎-elim}
+use mathlib.Core.Path.{_≡_}
 use mathlib.Core.Bool.{Bool, true, _&&_, and-eq-true-iff}
-use mathlib.Core.List.{List, [], _∷_, List·Memᴰ, List·Memᴰ·cases-cons, List·Memᴰ·not-nil}
 use lib.Dec.{eqb}
 use borrow.Author.Tests.{eqb-true}
 use Rattle.chart.specs.declared.Fields.{Fields}
 use Rattle.chart.specs.Same.{sameFields}
-
--- A test passes at every element of a list
-unfoldable pub all : {A : Type 0} → (A → Bool) → List A → Bool
-all f [] = true
-all f (x ∷ xs) = f x && all f xs
-
-pub all-at : {A : Type 0} (f : A → Bool) (xs : List A) → all f xs ≡ true → (x : A) → List·Memᴰ x xs → f x ≡ true
-unfolding all
-all-at f [] e x m = absurd (List·Memᴰ·not-nil m)
-all-at {A} f (y ∷ xs) e x m =
-    let both = and-eq-true-iff (f y) (all f xs) .0 e in
-    ⊎-elim (λ (q : x ≡ y). subst (λ (z : A). f z ≡ true) (sym q) (both .0)) (λ n. all-at f xs (both .1) x n) (List·Memᴰ·cases-cons m)
 
 equal-and : {t : Bool} (a b : ℕ) → (eqb a b && t) ≡ true → (a ≡ b) × (t ≡ true)
 equal-and {t} a b e = let both = and-eq-true-iff (eqb a b) t .0 e in (eqb-true a b (both .0), both .1)

@@ -29,6 +29,9 @@ taken = 3
 abbrev pub same : ℕ
 same = 4
 
+abbrev pub undecided : ℕ
+undecided = 7
+
 -- A number alone; a number with a place
 abbrev pub numbered : ℕ → Fields
 numbered n = record { number = n; word = no-word; place = 0; piece = 0; length = 0; col = 0; row = 0 }

@@ -24,14 +24,11 @@ use Rattle.convexity.proofs.StraightTurn.{NoBackStep}
 use Rattle.convexity.proofs.Shape.{shape}
 use Rattle.convexity.proofs.Smooth.{smooth-edges}
 use Rattle.convexity.proofs.Bounds.{edges-length}
-use Rattle.base.proofs.IntegerOrder.{up, down}
-use Rattle.convexity.proofs.Signed.{Is, is-self, is-unique, is-neg, is-add, is-mul, le-iff, Counted, Lies, stepCols, stepRows, step-lies}
+use Rattle.base.proofs.Differences.{Is, is-self, is-eq, is-unique, is-neg, is-add, is-mul, le-iff}
+use Rattle.convexity.proofs.Signed.{Counted, Lies, stepCols, stepRows, step-lies}
 use Rattle.convexity.proofs.AsSent.{clear-of}
 
 -- ---- two directions as differences of naturals
-
-is-eq : {x y : ℤ} {a b c d : ℕ} → Is x a b → Is y c d → x ≡ y → a + d ≡ c + b
-is-eq h k e = omega (arith, ap up e, ap down e)
 
 module _
     {dx dy ex ey : ℤ} {a a′ b b′ c c′ d d′ : ℕ}

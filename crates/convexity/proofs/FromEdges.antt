@@ -25,7 +25,8 @@ use Rattle.convexity.proofs.Frame.{run, rise, EdgesFall}
 use Rattle.convexity.proofs.StraightTurn.{NoBackStep}
 use Rattle.convexity.proofs.Shape.{shape, length-spell}
 use Rattle.convexity.proofs.Smooth.{dent-first, smooth-edges}
-use Rattle.convexity.proofs.Signed.{Is, is-self, is-neg, is-unique, Counted, stepCols, stepRows, step-lies}
+use Rattle.base.proofs.Differences.{Is, is-self, is-neg, is-unique}
+use Rattle.convexity.proofs.Signed.{Counted, stepCols, stepRows, step-lies}
 use Rattle.convexity.proofs.Directions.{EndsLater, first-rises, ends-later-rest}
 use Rattle.convexity.proofs.AsSent.{clear-of}
 

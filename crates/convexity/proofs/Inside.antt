@@ -2,7 +2,6 @@
 -- piece's side values are read in its own frame.
 use Prim.Native.Nat.{ℕ, zero, suc, _+_, _-_, _≤_, _<_}
 use native.Mathlib.Nat.{le-refl}
-use native.Mathlib.Decide.{decLe}
 use native.Mathlib.Omega.{arith}
 use mathlib.Core.Path.{_≡_, refl, sym, ap, _∙_}
 use mathlib.Core.Logic.{_↔_, Iff·rfl, Iff·trans, Iff·and, _⊎_, inl, inr, ⊎-elim, ⊎-map}
@@ -26,8 +25,9 @@ use Rattle.convexity.proofs.Frame.{Sides, run, rise}
 use Rattle.convexity.specs.InFrame.{startOf, startE, startL, cellAlong, cellE, cellL}
 use Rattle.convexity.proofs.Ring.{next, next-lt, next-suc, next-round, below-four, all-round}
 use Rattle.convexity.proofs.StraightTurn.{Shape}
-use Rattle.base.proofs.IntegerOrder.{up, down}
-use Rattle.convexity.proofs.Signed.{is-self, is-add, is-unique, le-iff, Counted, Lies, Placed, placed-cell, lies-next, stepCols, stepRows, step-lies, lies-step, reached, lies-end, lies-sides, none-outside-append, cols-append, rows-append, reached-append}
+use Rattle.base.proofs.IntegerOrder.{up, down, at-most-iff, not-at-most}
+use Rattle.base.proofs.Differences.{Is, is-self, is-add, is-unique, le-iff}
+use Rattle.convexity.proofs.Signed.{Counted, Lies, Placed, placed-cell, lies-next, stepCols, stepRows, step-lies, lies-step, reached, lies-end, lies-sides, none-outside-append, cols-append, rows-append, reached-append}
 
 -- ---- the vertices of a walk
 
@@ -37,31 +37,21 @@ Meets P [] x y = P x y
 Meets P (dx ∷ []) x y = P x y
 Meets P (dx ∷ dy ∷ es) x y = P x y ⊎ Meets P es (x +ℤ dx) (y +ℤ dy)
 
-le-true : (a b : ℤ) → (leZ a b ≡ true) ↔ (up a + down b ≤ up b + down a)
-le-true a b = le-iff (is-self a) (is-self b)
-
-le-false : (a b : ℤ) → leZ a b ≡ false → up b + down a ≤ up a + down b
-le-false a b e =
-    elim (decLe (up a + down b) (up b + down a)) [
-      | yes h ↦ absurd (let f = le-true a b .1 h in let z : _≡_ {A = ℕ} 0 1 = cc in omega arith)
-      | no h ↦ omega arith
-    ]
-
 min-iff : (a b c : ℤ) → (leZ (minℤ a b) c ≡ true) ↔ ((leZ a c ≡ true) ⊎ (leZ b c ≡ true))
 unfolding minℤ
 min-iff a b c = go (leZ a b) refl
   where
     go : (t : Bool) → leZ a b ≡ t → (leZ (cond t a b) c ≡ true) ↔ ((leZ a c ≡ true) ⊎ (leZ b c ≡ true))
-    go true e = (inl, ⊎-elim (λ h. h) λ h. le-true a c .1 (omega (arith, le-true a b .0 e, le-true b c .0 h)))
-    go false e = (inr, ⊎-elim (λ h. le-true b c .1 (omega (arith, le-false a b e, le-true a c .0 h))) λ h. h)
+    go true e = (inl, ⊎-elim (λ h. h) λ h. at-most-iff a c .1 (omega (arith, at-most-iff a b .0 e, at-most-iff b c .0 h)))
+    go false e = (inr, ⊎-elim (λ h. at-most-iff b c .1 (omega (arith, not-at-most a b e, at-most-iff a c .0 h))) λ h. h)
 
 max-iff : (a b c : ℤ) → (leZ c (maxℤ a b) ≡ true) ↔ ((leZ c a ≡ true) ⊎ (leZ c b ≡ true))
 unfolding maxℤ
 max-iff a b c = go (leZ a b) refl
   where
     go : (t : Bool) → leZ a b ≡ t → (leZ c (cond t b a) ≡ true) ↔ ((leZ c a ≡ true) ⊎ (leZ c b ≡ true))
-    go true e = (inr, ⊎-elim (λ h. le-true c b .1 (omega (arith, le-true a b .0 e, le-true c a .0 h))) λ h. h)
-    go false e = (inl, ⊎-elim (λ h. h) λ h. le-true c a .1 (omega (arith, le-false a b e, le-true c b .0 h)))
+    go true e = (inr, ⊎-elim (λ h. at-most-iff c b .1 (omega (arith, at-most-iff a b .0 e, at-most-iff c a .0 h))) λ h. h)
+    go false e = (inl, ⊎-elim (λ h. h) λ h. at-most-iff c a .1 (omega (arith, not-at-most a b e, at-most-iff c b .0 h)))
 
 either : {A B C D : Type 0} → A ↔ (B ⊎ C) → C ↔ D → A ↔ (B ⊎ D)
 either f g = ((λ a. ⊎-map (λ b. b) (g .0) (f .0 a)), λ d. f .1 (⊎-map (λ b. b) (g .1) d))
@@ -314,3 +304,42 @@ module _ (o : Outline) where
   -- The edges sum to nil
   pub edges-close : Shape o → (total (colSteps (edges o)) ≡ pos 0) × (total (rowSteps (edges o)) ≡ pos 0)
   edges-close h = (total-nil _ _ (edges-return h .0), total-nil _ _ (edges-return h .1))
+
+-- ---- the walk of the edges stays on the chart
+
+-- (v, w) is a cell of the chart
+pub record IsCell (v w : ℤ) : Type 0 where
+  pub cell : Point
+  pub col-is : v ≡ pos (cell .col)
+  pub row-is : w ≡ pos (cell .row)
+  pub col-on : cell .col < side
+  pub row-on : cell .row < side
+
+placed-is-cell : (k : ℕ) {p q : ℕ} {v w : ℤ} → p < side → q < side → Placed k p q v w → IsCell v w
+unfolding Counted
+placed-is-cell k {p} {q} {v} {w} l m h = go k (h .counted)
+  where
+    cell : (c r : ℕ) → c < side → r < side → Is v c 0 → Is w r 0 → IsCell v w
+    cell c r i j x y =
+        record { cell = record { col = c; row = r }; col-is = is-unique x (is-self (pos c)) refl; row-is = is-unique y (is-self (pos r)) refl; col-on = i; row-on = j }
+
+    back : {z : ℤ} {n : ℕ} → n < side → Is z (side - 1) n → Is z (side - 1 - n) 0
+    back i x = record { eq = omega (arith, x .eq) }
+
+    go : (k : ℕ) → Counted k (side - 1) p q v w → IsCell v w
+    go zero c = cell p q l m (c .0) (c .1)
+    go (suc zero) c = cell q (side - 1 - p) m (omega arith) (c .0) (back l (c .1))
+    go (suc (suc zero)) c = cell (side - 1 - p) (side - 1 - q) (omega arith) (omega arith) (back l (c .0)) (back m (c .1))
+    go (suc (suc (suc k))) c = cell (side - 1 - q) p (omega arith) l (back m (c .0)) (c .1)
+
+-- A vertex of the walk is a cell of the chart
+pub vertex-is-cell :
+    (o : Outline) → Shape o → (P : ℤ → ℤ → Type 0) → Meets P (edges o) (pos (o .start .col)) (pos (o .start .row)) → (v : ℤ) × (w : ℤ) × IsCell v w × P v w
+vertex-is-cell o g P m =
+    ⊎-elim (passes 0 (omega arith)) (⊎-elim (passes 1 (omega arith)) (⊎-elim (passes 2 (omega arith)) (passes 3 (omega arith)))) (meets-edges o P .0 m)
+  where
+    passes : (j : ℕ) → j < 4 → MeetsPiece o P j → (v : ℤ) × (w : ℤ) × IsCell v w × P v w
+    passes j h =
+        meets-passed P _ j (factors o j) (first-placed o g j h) λ v w i p.
+        let i′ : Passed j (side - 1) (startE o j) (startL o j) (earliers (word o j)) (laters (word o j)) v w = rw whole-piece at i in
+        (v, w, placed-is-cell j (omega (arith, i′ .p-upto, g .next-later j h, g .next-earlier (next j) (next-lt j))) (omega (arith, i′ .q-upto, g .next-earlier j h)) (i′ .lies), p)

@@ -4,12 +4,12 @@
 use Prim.Native.Nat.{ℕ, zero, suc, _+_, _-_, _*_, _≤_, _<_, suc-le-suc}
 use native.Mathlib.Omega.{arith}
 use native.Mathlib.Decide.{decLt}
-use mathlib.Core.Path.{_≡_, refl, sym, _∙_, subst}
+use mathlib.Core.Path.{_≡_, sym, _∙_, subst}
 use mathlib.Core.Logic.{_↔_}
-use mathlib.Core.Bool.{Bool, true, false, true≢false}
+use mathlib.Core.Bool.{true, false, true≢false}
 use Rattle.words.specs.Word.{Word, laters}
 use Rattle.words.proofs.Factors.{factors-exist}
-use Rattle.base.proofs.BelowLaws.{first-le}
+use Rattle.base.proofs.BelowLaws.{same-test, first-le}
 use Rattle.chart.specs.declared.Point.{Point}
 use Rattle.chart.specs.Outline.{Outline}
 use Rattle.chart.specs.Limits.{side}
@@ -38,12 +38,6 @@ use Rattle.convexity.proofs.DentMissing.{dent-missing}
 use Rattle.rows.proofs.Line.{triangle-cols, triangle-below}
 use Rattle.rows.proofs.Rows.{Rows, Within, within-marked, marked-within}
 use Rattle.rows.proofs.Gaps.{search-lowest}
-
--- Two tests that say the same are equal
-same-test : {P : Type 0} (a b : Bool) → (a ≡ true) ↔ P → (b ≡ true) ↔ P → a ≡ b
-same-test true b e f = sym (f .1 (e .0 refl))
-same-test false true e f = e .1 (f .0 refl)
-same-test false false e f = refl
 
 -- A cell on the chart
 CellOnChart : Point → Type 0

@@ -3,7 +3,6 @@
 use mathlib.Core.Bool.{cond}
 use mathlib.Core.List.{List}
 use lib.IntN.{ℤ}
-use Rattle.chart.specs.declared.Point.{Point}
 use Rattle.chart.specs.declared.Verdict.{Verdict}
 use Rattle.chart.specs.declared.Verdict.the-variants.{Taken, Refused}
 use Rattle.border.specs.declared.Judged.{Judged}

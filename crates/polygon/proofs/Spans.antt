@@ -12,7 +12,7 @@ use lib.IntN.{ℤ, pos, natAbs, _+ℤ_}
 use lib.Signed.{leZ}
 use Rattle.chart.specs.Limits.{longestList}
 use Rattle.chart.specs.declared.Point.{Point}
-use Rattle.convexity.specs.Inside.{notNegative, sideValue, noneOutside, colSteps, rowSteps, lowestMet, highestMet, within, insideEdges}
+use Rattle.convexity.specs.Inside.{notNegative, minℤ, maxℤ, sideValue, noneOutside, colSteps, rowSteps, lowestMet, highestMet, within, insideEdges}
 use Rattle.polygon.specs.declared.Span.{Span}
 use Rattle.polygon.specs.Span.{begun, stepped, spans}
 use Rattle.base.proofs.Sizes.{size-sum}
@@ -21,19 +21,20 @@ use Rattle.polygon.proofs.Integers.{min-at-most, max-at-least}
 -- ---- one coordinate
 
 -- The test passes at one of the numbers that steps from x lead to
-meets : (ℤ → Bool) → List ℤ → ℤ → Bool
+unfoldable pub meets : (ℤ → Bool) → List ℤ → ℤ → Bool
 meets f [] x = false
 meets f (d ∷ ds) x = f (x +ℤ d) || meets f ds (x +ℤ d)
 
-lowest-meets : (ds : List ℤ) (x c : ℤ) → leZ (lowestMet ds x) c ≡ (leZ x c || meets (λ z. leZ z c) ds x)
+-- A test that the lower of two numbers passes where one of them does, and so with the higher: the extreme number passes it where some number met does
+pub lowest-meets : (f : ℤ → Bool) → ((a b : ℤ) → f (minℤ a b) ≡ (f a || f b)) → (ds : List ℤ) (x : ℤ) → f (lowestMet ds x) ≡ (f x || meets f ds x)
 unfolding meets lowestMet
-lowest-meets [] x c = sym (or-false _)
-lowest-meets (d ∷ ds) x c = min-at-most x (lowestMet ds (x +ℤ d)) c ∙ ap (λ (b : Bool). leZ x c || b) (lowest-meets ds (x +ℤ d) c)
+lowest-meets f h [] x = sym (or-false _)
+lowest-meets f h (d ∷ ds) x = h x (lowestMet ds (x +ℤ d)) ∙ ap (λ (b : Bool). f x || b) (lowest-meets f h ds (x +ℤ d))
 
-highest-meets : (ds : List ℤ) (x c : ℤ) → leZ c (highestMet ds x) ≡ (leZ c x || meets (leZ c) ds x)
+pub highest-meets : (f : ℤ → Bool) → ((a b : ℤ) → f (maxℤ a b) ≡ (f a || f b)) → (ds : List ℤ) (x : ℤ) → f (highestMet ds x) ≡ (f x || meets f ds x)
 unfolding meets highestMet
-highest-meets [] x c = sym (or-false _)
-highest-meets (d ∷ ds) x c = max-at-least x (highestMet ds (x +ℤ d)) c ∙ ap (λ (b : Bool). leZ c x || b) (highest-meets ds (x +ℤ d) c)
+highest-meets f h [] x = sym (or-false _)
+highest-meets f h (d ∷ ds) x = h x (highestMet ds (x +ℤ d)) ∙ ap (λ (b : Bool). f x || b) (highest-meets f h ds (x +ℤ d))
 
 -- c is within what was met and what is yet to be met
 withinFrom : Span → List ℤ → ℤ → Bool
@@ -41,7 +42,7 @@ withinFrom p ds c = (leZ (p .low) c || meets (λ z. leZ z c) ds (p .at)) && (leZ
 
 within-begun : (ds : List ℤ) (x c : ℤ) → within ds x c ≡ withinFrom (begun x) ds c
 unfolding within withinFrom begun
-within-begun ds x c = rw (lowest-meets ds x c, highest-meets ds x c)
+within-begun ds x c = rw (lowest-meets (λ z. leZ z c) (λ a b. min-at-most a b c) ds x, highest-meets (leZ c) (λ a b. max-at-least a b c) ds x)
 
 within-stepped : (p : Span) (d : ℤ) (ds : List ℤ) (c : ℤ) → withinFrom p (d ∷ ds) c ≡ withinFrom (stepped p d) ds c
 unfolding withinFrom stepped meets
@@ -85,7 +86,7 @@ inside-from-anchor a es x =
 
 -- ---- a turn of the loop
 
-drop-two : (es : List ℤ) (i : ℕ) → i + 1 < length es → drop i es ≡ getD es i (pos 0) ∷ getD es (i + 1) (pos 0) ∷ drop (i + 2) es
+pub drop-two : (es : List ℤ) (i : ℕ) → i + 1 < length es → drop i es ≡ getD es i (pos 0) ∷ getD es (i + 1) (pos 0) ∷ drop (i + 2) es
 drop-two es i h =
     let e : i + 2 ≡ suc (suc i) = omega arith in
     rw (e, add-one i, drop-cons es i (pos 0) (omega arith), drop-cons es (suc i) (pos 0) (omega arith))

@@ -4,7 +4,9 @@ use mathlib.Core.Bool.{true}
 use mathlib.Core.List.{List·Memᴰ}
 use Rattle.chart.specs.Fields.{positionFields}
 use Rattle.chart.specs.Same.{sameFields}
-use Rattle.chart.proofs.Tables.{all, all-at, same-fields}
+use Rattle.base.specs.Each.{all}
+use Rattle.base.proofs.EachLaws.{all-at}
+use Rattle.chart.proofs.Tables.{same-fields}
 use Rattle.convexity.specs.Inside.{notNegative, minℤ, maxℤ, sideValue, noneOutside, colSteps, rowSteps, lowestMet, highestMet, within, insideEdges}
 use Rattle.polygon.specs.Loose.{badList, badCell, looseOf}
 use Rattle.polygon.specs.Specimens.{Query, queries, answered}

@@ -6,7 +6,9 @@ use lib.ListN.{length, drop}
 use Rattle.base.specs.Same.{sameℤ, sameℤs}
 use Rattle.base.proofs.Same.{same-ℤs}
 use Rattle.chart.specs.Same.{sameFields}
-use Rattle.chart.proofs.Tables.{all, all-at, same-fields}
+use Rattle.base.specs.Each.{all}
+use Rattle.base.proofs.EachLaws.{all-at}
+use Rattle.chart.proofs.Tables.{same-fields}
 use Rattle.verdict.specs.Verdict.{testFields, edgesAfter}
 use Rattle.verdict.specs.Specimens.{Specimen, specimens, right, lent, at}
 use Rattle.verdict.proofs.Computes.{computes}

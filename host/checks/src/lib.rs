@@ -5,7 +5,7 @@
 //! - [`hull_and_count`] is the usual way to test convexity: the benchmark's second rival.
 //! - [`engine`] gives all of them, and the library, one face; [`case`] is one input for it, which can be written as a line.
 //!   Limits, and replies and calls as numbers, are those of the crate `robequarry`.
-//! - [`walks`], [`draw`], [`garbage`] and [`scripts`] make the inputs, from the numbers of [`random`].
+//! - [`walks`], [`draw`], [`garbage`], [`sensors`] and [`scripts`] make the inputs, from the numbers of [`random`].
 //! - [`timing`] and [`stack`] measure; [`report`] prints what was timed, and [`tally`] what was reached.
 
 pub mod case;
@@ -21,6 +21,7 @@ pub mod reference;
 pub mod reply;
 pub mod report;
 pub mod scripts;
+pub mod sensors;
 pub mod stack;
 pub mod tally;
 pub mod timing;

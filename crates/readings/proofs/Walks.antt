@@ -1,0 +1,184 @@
+-- The walk, edge by edge, ends with the answer: what was met so far and what is yet to be met are tested apart, since a lowest number is at most x where one of the numbers
+-- met is.
+use Prim.Native.Nat.{ℕ, _+_, _≤_, _<_, suc-le-suc}
+use native.Mathlib.Decide.{decLt}
+use native.Mathlib.Omega.{arith}
+use mathlib.Core.Path.{_≡_, refl, sym, ap, _∙_}
+use mathlib.Core.Bool.{Bool, true, false, not, cond, _&&_, _||_, or-false, or-assoc, and-true, and-eq-true-iff}
+use mathlib.Core.List.{List, [], _∷_}
+use lib.Dec.{leb}
+use lib.ListN.{length, drop, getD, length-drop}
+use lib.IntN.{ℤ, pos, _+ℤ_}
+use lib.Signed.{leZ}
+use lib.Ieee.{Float, binary32}
+use borrow.Author.Tests.{le-leb, lt-leb}
+use Rattle.base.specs.Each.{all, any}
+use Rattle.base.proofs.BelowLaws.{not-held}
+use Rattle.rounding.specs.Units.{value, inUnits}
+use Rattle.rounding.proofs.InUnits.{units-le}
+use Rattle.chart.specs.Limits.{side}
+use Rattle.chart.specs.declared.Point.{Point}
+use Rattle.convexity.specs.Inside.{minℤ, maxℤ, colSteps, rowSteps}
+use Rattle.polygon.specs.Loose.{badCell}
+use Rattle.polygon.proofs.Integers.{min-at-most, max-at-least}
+use Rattle.polygon.proofs.Spans.{meets, lowest-meets, highest-meets, drop-two}
+use Rattle.readings.specs.declared.Reading.{Reading}
+use Rattle.readings.specs.declared.Located.{Located}
+use Rattle.readings.specs.declared.Located.the-variants.{Inside, Outside, Undecided, Refused}
+use Rattle.readings.specs.declared.walk.Met.{Met}
+use Rattle.readings.specs.declared.walk.Walk.{Walk}
+use Rattle.readings.specs.declared.walk.Passed.{Passed}
+use Rattle.readings.specs.declared.walk.Passed.the-variants.{Out, On}
+use Rattle.readings.specs.Sides.{edgesFrom}
+use Rattle.readings.specs.Located.{badReading, between, withinExtremes, far, near, sided, cellNumber, endsOn, staysOn, locatedOf}
+use Rattle.readings.proofs.Numbers.{cell-below, cell-on}
+use Rattle.readings.specs.Walk.{met, arrived, noneMet, begun, edgeOf, stepped, passed, settled}
+
+-- ---- one coordinate
+
+abbrev under : Float → ℤ → Bool
+under v z = leZ (inUnits binary32 z) (value binary32 v)
+
+abbrev over : Float → ℤ → Bool
+over v z = leZ (value binary32 v) (inUnits binary32 z)
+
+-- The lower and the higher of two numbers, in units
+pick-units : (t : Bool) (a b : ℤ) → inUnits binary32 (cond t a b) ≡ cond t (inUnits binary32 a) (inUnits binary32 b)
+pick-units true a b = refl
+pick-units false a b = refl
+
+min-under : (a b : ℤ) (v : Float) → under v (minℤ a b) ≡ (under v a || under v b)
+unfolding minℤ
+min-under a b v =
+    rw pick-units
+    (rw (sym (units-le binary32 a b)) (min-at-most (inUnits binary32 a) (inUnits binary32 b) (value binary32 v)))
+
+max-over : (a b : ℤ) (v : Float) → over v (maxℤ a b) ≡ (over v a || over v b)
+unfolding maxℤ
+max-over a b v =
+    rw pick-units
+    (rw (sym (units-le binary32 a b)) (max-at-least (inUnits binary32 a) (inUnits binary32 b) (value binary32 v)))
+
+-- Between what was met, and what steps from x meet
+betweenFrom : Met → List ℤ → ℤ → Float → Bool
+betweenFrom m ds x v = (m .under || meets (under v) ds x) && (m .over || meets (over v) ds x)
+
+between-from : (ds : List ℤ) (x : ℤ) (v : Float) → between ds x v ≡ betweenFrom (met noneMet x v) ds x v
+unfolding between betweenFrom met
+between-from ds x v = rw (lowest-meets (under v) (λ a b. min-under a b v) ds x, highest-meets (over v) (λ a b. max-over a b v) ds x)
+
+between-step : (m : Met) (d : ℤ) (ds : List ℤ) (x : ℤ) (v : Float) → betweenFrom m (d ∷ ds) x v ≡ betweenFrom (met m (x +ℤ d) v) ds (x +ℤ d) v
+unfolding betweenFrom met meets
+between-step m d ds x v = simp or-assoc
+
+between-end : (m : Met) (x : ℤ) (v : Float) → betweenFrom m [] x v ≡ (m .under && m .over)
+unfolding betweenFrom meets
+between-end m x v = simp or-false
+
+-- ---- both coordinates
+
+-- What the walk answers of the edges that are left
+abbrev pub after : Passed → (Walk → Located) → Located
+after Out f = Outside
+after (On w) f = f w
+
+unfoldable pub from : List ℤ → Walk → Reading → Located
+from [] w r = settled w
+from (dx ∷ []) w r = settled w
+from (dx ∷ dy ∷ es) w r = after (passed w dx dy r) (λ w′. from es w′ r)
+
+-- The same by the tests of all edges at once
+abbrev answer : Bool → Bool → Bool → Bool → Located
+answer s w f n = cond s (cond (w && not f) (cond n Undecided Inside) Outside) Outside
+
+whole : List ℤ → Walk → Reading → Located
+whole es w r =
+    answer (all endsOn (edgesFrom es (w .x) (w .y)))
+    (betweenFrom (w .cols) (colSteps es) (w .x) (r .angle) && betweenFrom (w .rows) (rowSteps es) (w .y) (r .load))
+    (any (far r) (edgesFrom es (w .x) (w .y)))
+    (w .near || any (near r) (edgesFrom es (w .x) (w .y)))
+
+-- One edge more: its tests join those of the rest
+one-more :
+    (t f s b g m n k : Bool) (w : Walk) (F : Walk → Located) → F w ≡ answer s b g ((m || n) || k)
+    → after (cond t (cond f Out (On w)) Out) F ≡ answer (t && s) b (f || g) (m || (n || k))
+one-more false f s b g m n k w F h = refl
+one-more true true true true g m n k w F h = refl
+one-more true true true false g m n k w F h = refl
+one-more true true false b g m n k w F h = refl
+one-more true false s b g m n k w F h = rw or-assoc at h
+
+ended : (w : Walk) (x y : ℤ) (r : Reading) → settled w ≡ answer true (betweenFrom (w .cols) [] x (r .angle) && betweenFrom (w .rows) [] y (r .load)) false (w .near || false)
+unfolding settled
+ended w x y r = sym (simp (between-end, and-true, or-false))
+
+from-whole : (es : List ℤ) (w : Walk) (r : Reading) → from es w r ≡ whole es w r
+unfolding from whole passed stepped arrived edgeOf endsOn all any edgesFrom colSteps rowSteps
+from-whole [] w r = ended w (w .x) (w .y) r
+from-whole (dx ∷ []) w r = ended w (w .x) (w .y) r
+from-whole (dx ∷ dy ∷ es) w r =
+    let x = w .x +ℤ dx in
+    let y = w .y +ℤ dy in
+    let w′ = stepped w dx dy r in
+    let e = edgeOf w dx dy in
+    let rest = edgesFrom es x y in
+    rw (between-step (w .cols) dx (colSteps es) (w .x) (r .angle), between-step (w .rows) dy (rowSteps es) (w .y) (r .load))
+    (one-more (cellNumber x && cellNumber y) (far r e) (all endsOn rest) (betweenFrom (w′ .cols) (colSteps es) x (r .angle) && betweenFrom (w′ .rows) (rowSteps es) y (r .load))
+    (any (far r) rest) (w .near) (near r e) (any (near r) rest) w′ (λ w′. from es w′ r) (from-whole es w′ r))
+
+-- The walk from an anchor on the chart finds where a reading that is not refused lies
+pub walk-locates :
+    (a : Point) (es : List ℤ) (r : Reading) → badReading r ≡ false → cellNumber (pos (a .col)) ≡ true → cellNumber (pos (a .row)) ≡ true
+    → from es (begun (pos (a .col)) (pos (a .row)) r) r ≡ locatedOf a es r
+unfolding begun arrived whole locatedOf sided staysOn withinExtremes
+walk-locates a es r good c d =
+    from-whole es (begun (pos (a .col)) (pos (a .row)) r) r
+    ∙ sym (rw (good, c, d, between-from (colSteps es) (pos (a .col)) (r .angle), between-from (rowSteps es) (pos (a .row)) (r .load)) refl)
+
+-- ---- before the walk
+
+pub located-bad : (a : Point) (es : List ℤ) (r : Reading) → badReading r ≡ true → Refused ≡ locatedOf a es r
+unfolding locatedOf
+located-bad a es r b = rw b
+
+-- A number is a column's or a row's unless it is too large
+cell-number-is : (n : ℕ) → cellNumber (pos n) ≡ not (leb side n)
+cell-number-is n =
+    elim (decLt n side) [
+      | yes h ↦ cell-on n h ∙ ap not (sym (lt-leb side n h))
+      | no h ↦ rw (le-leb side n (omega arith)) (not-held (cellNumber (pos n)) (λ on. h (suc-le-suc (cell-below n on))))
+    ]
+
+anchor-is : (a : Point) → (cellNumber (pos (a .col)) && cellNumber (pos (a .row))) ≡ not (badCell a)
+unfolding badCell
+anchor-is a = rw (cell-number-is (a .col), cell-number-is (a .row)) (neither (leb side (a .col)) (leb side (a .row)))
+  where
+    neither : (b c : Bool) → (not b && not c) ≡ not (b || c)
+    neither true c = refl
+    neither false c = refl
+
+pub anchor-on : (a : Point) → badCell a ≡ false → (cellNumber (pos (a .col)) ≡ true) × (cellNumber (pos (a .row)) ≡ true)
+anchor-on a h = and-eq-true-iff _ _ .0 (anchor-is a ∙ ap not h)
+
+pub located-off : (a : Point) (es : List ℤ) (r : Reading) → badReading r ≡ false → badCell a ≡ true → Outside ≡ locatedOf a es r
+unfolding locatedOf staysOn
+located-off a es r g b = rw (g, anchor-is a, b)
+
+-- ---- a turn of the loop
+
+-- One edge further
+pub from-edge :
+    (es : List ℤ) (i : ℕ) (w : Walk) (r : Reading) → i + 1 < length es
+    → from (drop i es) w r ≡ after (passed w (getD es i (pos 0)) (getD es (i + 1) (pos 0)) r) (λ w′. from (drop (i + 2) es) w′ r)
+unfolding from
+from-edge es i w r h = rw (drop-two es i h)
+
+from-short : (es : List ℤ) (w : Walk) (r : Reading) → length es < 2 → from es w r ≡ settled w
+unfolding from
+from-short [] w r h = refl
+from-short (dx ∷ []) w r h = refl
+from-short (dx ∷ dy ∷ es) w r h = absurd (omega arith)
+
+-- No edge is left
+pub from-end : (es : List ℤ) (i : ℕ) (w : Walk) (r : Reading) → length es ≤ i + 1 → from (drop i es) w r ≡ settled w
+from-end es i w r h = from-short (drop i es) w r (simp length-drop (omega arith))

@@ -1,0 +1,147 @@
+-- Each return is a case of the definition, by the tests that led there; what a call gives is read back as it is.
+use borrow.Author.Needs.{needs}
+use borrow.Author.Tests.{not-true, not-false}
+use mathlib.Core.Path.{_≡_, sym, ap, ap₂, _∙_}
+use mathlib.Core.Bool.{true, false, _&&_, and-eq-true-iff}
+use lib.IntN.{negsuc, _+ℤ_}
+use lib.Ieee.{Float, fin, binary32, ofBits, neg, le, lt}
+use mir.Syntax.{w16, w32}
+use mir.Val.{toZ, ofZ}
+use mir.ValLaws.{toZ-ofZ}
+use Rattle.readings.specs.Sides.{computedSide}
+use Rattle.readings.specs.Located.{cellNumber, far, near}
+use Rattle.readings.specs.Walk.{edgeOf, stepped, passed}
+use Rattle.readings.proofs.Numbers.{cell-fits}
+use Rattle.readings.proofs.walk.pass.Statement.{statement}
+use Rattle.readings.proofs.walk.pass.Tie as tie
+
+-- The corner cell that the edge leads to
+x-is : (c : tie.After-sum) → toZ w32 (ofZ w32 (c .sum .result)) ≡ c .before .before .args .w .x +ℤ c .before .before .args .dx
+x-is c =
+    let s = c .before .before in
+    toZ-ofZ w32 (c .sum .result) (record { sfits = c .sum .ok })
+    ∙ simp (toZ-ofZ w16 (s .args .w .x) (record { sfits = c .before .struct-told .given .0 .1 }), toZ-ofZ w16 (s .args .dx) (s .fits .dx)) at (c .sum .ensures)
+
+y-is : (c : tie.After-sum2) → toZ w32 (ofZ w32 (c .sum2 .result)) ≡ c .before .before .before .before .args .w .y +ℤ c .before .before .before .before .args .dy
+y-is c =
+    let s = c .before .before .before .before in
+    toZ-ofZ w32 (c .sum2 .result) (record { sfits = c .sum2 .ok })
+    ∙ simp (toZ-ofZ w16 (s .args .w .y) (record { sfits = c .before .struct-told2 .given .1 .0 .1 }), toZ-ofZ w16 (s .args .dy) (s .fits .dy)) at (c .sum2 .ensures)
+
+-- It is on the chart
+on-is : (c : tie.After-cell-number2) →
+    let a = c .before .before .before .before .before .before .args in
+    (c .before .cell-number .result && c .cell-number2 .result) ≡ (cellNumber (a .w .x +ℤ a .dx) && cellNumber (a .w .y +ℤ a .dy))
+on-is c =
+    ap₂ _&&_ (rw (x-is (c .before .before .before .before)) at (c .before .cell-number .ensures)) (rw (y-is (c .before .before)) at (c .cell-number2 .ensures))
+
+ends-on : (c : tie.Else1) →
+    let a = c .before .before .before .before .before .before .before .args in
+    (cellNumber (a .w .x +ℤ a .dx) ≡ true) × (cellNumber (a .w .y +ℤ a .dy) ≡ true)
+ends-on c = and-eq-true-iff _ _ .0 (sym (on-is (c .before)) ∙ not-false (c .before .before .cell-number .result && c .before .cell-number2 .result) (c .if1 .left))
+
+-- The computed side value, and its two comparisons
+side-is : (c : tie.After-side) →
+    let a = c .before .before .before .before .before .before .before .before .before .before .args in
+    c .side .result ≡ computedSide (a .r) (edgeOf (a .w) (a .dx) (a .dy))
+unfolding edgeOf
+side-is c =
+    let t = c .before in
+    let s = t .before .before .before .before .before .before .before .before .before in
+    simp (
+      toZ-ofZ w16 (s .args .dx) (s .fits .dx),
+      toZ-ofZ w16 (s .args .dy) (s .fits .dy),
+      toZ-ofZ w16 (s .args .w .x) (record { sfits = t .before .struct-told3 .given .0 .1 }),
+      toZ-ofZ w16 (s .args .w .y) (record { sfits = t .struct-told4 .given .1 .0 .1 }),
+    ) at (c .side .ensures)
+
+far-is : (c : tie.After-side) →
+    let a = c .before .before .before .before .before .before .before .before .before .before .args in
+    le (c .side .result) (neg (ofBits binary32 0x3c80_0000)) ≡ far (a .r) (edgeOf (a .w) (a .dx) (a .dy))
+unfolding far neg ofBits
+far-is c = ap (λ (v : Float). le v (fin true 1 (negsuc 5))) (side-is c)
+
+near-is : (c : tie.After-side) →
+    let a = c .before .before .before .before .before .before .before .before .before .before .args in
+    lt (c .side .result) (ofBits binary32 0x3c80_0000) ≡ near (a .r) (edgeOf (a .w) (a .dx) (a .dy))
+unfolding near ofBits
+near-is c = ap (λ (v : Float). lt v (fin false 1 (negsuc 5))) (side-is c)
+
+sum-requires : tie.Need-sum-requires
+sum-requires c κs = search needs
+
+sum-requires-2 : tie.Need-sum-requires-2
+sum-requires-2 c κs = search needs
+
+cell-number-requires : tie.Need-cell-number-requires
+cell-number-requires c κs = search needs
+
+cell-number-requires-2 : tie.Need-cell-number-requires-2
+cell-number-requires-2 c κs = search needs
+
+returns : tie.Need-returns
+unfolding passed
+returns c = rw (sym (on-is (c .before)) ∙ not-true (c .before .before .cell-number .result && c .before .cell-number2 .result) (c .if1 .taken))
+
+side-requires : tie.Need-side-requires
+side-requires c κs = search needs
+
+returns-2 : tie.Need-returns-2
+unfolding passed
+returns-2 c =
+    let e = c .before .before .before .before in
+    rw (ends-on e .0, ends-on e .1, sym (far-is (c .before)) ∙ c .if2 .taken)
+
+cast-arrive : tie.Need-cast-arrive
+cast-arrive c =
+    let e = c .before .before .before .before in
+    rw (x-is (e .before .before .before .before .before)) (cell-fits _ (ends-on e .0))
+
+cast-arrive-2 : tie.Need-cast-arrive-2
+cast-arrive-2 c =
+    let e = c .before .before .before .before in
+    rw (y-is (e .before .before .before)) (cell-fits _ (ends-on e .1))
+
+arrive-requires : tie.Need-arrive-requires
+arrive-requires c κs =
+    let e = c .before .before .before .before in
+    let s = e .before .before .before .before .before .before .before in
+    simp (
+      x-is (e .before .before .before .before .before),
+      y-is (e .before .before .before),
+      toZ-ofZ w16 _ (cell-fits _ (ends-on e .0)),
+      toZ-ofZ w16 _ (cell-fits _ (ends-on e .1)),
+    ) (ends-on e .0, ends-on e .1, s .pre)
+
+returns-3 : tie.Need-returns-3
+unfolding passed stepped
+returns-3 c =
+    let e = c .before .before .before .before .before in
+    rw (
+      ends-on e .0,
+      ends-on e .1,
+      sym (far-is (c .before .before)) ∙ c .before .if2 .left,
+      simp (
+        x-is (e .before .before .before .before .before),
+        y-is (e .before .before .before),
+        toZ-ofZ w16 _ (cell-fits _ (ends-on e .0)),
+        toZ-ofZ w16 _ (cell-fits _ (ends-on e .1)),
+        near-is (c .before .before),
+      ) at (c .arrive .ensures),
+    )
+
+pub pass-spec : {M : Type 1} → statement M
+pass-spec =
+    tie.close
+    (tie.spec
+    sum-requires
+    sum-requires-2
+    cell-number-requires
+    cell-number-requires-2
+    returns
+    side-requires
+    returns-2
+    cast-arrive
+    cast-arrive-2
+    arrive-requires
+    returns-3)

@@ -1,0 +1,40 @@
+-- What is claimed of a reading that is not refused, in units of 2 ^ -149 (contract 3.20): 1/64 is 2 ^ 143 of them, and 1/32 is 2 ^ 144.
+use Prim.Native.Nat.{_^_, _<_}
+use mathlib.Core.Path.{_≡_}
+use mathlib.Core.Logic.{_↔_}
+use mathlib.Core.Bool.{true, false}
+use mathlib.Core.List.{List, List·Memᴰ}
+use lib.IntN.{ℤ, pos, negℤ, natAbs, _-ℤ_}
+use lib.Signed.{leZ}
+use lib.Ieee.{binary32}
+use Rattle.rounding.specs.Units.{value, inUnits}
+use Rattle.chart.specs.declared.Point.{Point}
+use Rattle.readings.specs.declared.Reading.{Reading}
+use Rattle.readings.specs.declared.Located.the-variants.{Inside, Outside, Undecided}
+use Rattle.readings.specs.Sides.{Edge, edgesAlong, exactSide, computedSide}
+use Rattle.readings.specs.Located.{withinExtremes, exactlyInside, locatedOf}
+
+-- Within the extremes, with no computed side value at most -1/64, and one below 1/64
+pub record Open (a : Point) (es : List ℤ) (r : Reading) : Type 0 where
+  pub within : withinExtremes a es r ≡ true
+  pub none-far : (e : Edge) → List·Memᴰ e (edgesAlong a es) → leZ (value binary32 (computedSide r e)) (negℤ (pos (2 ^ 143))) ≡ false
+  pub edge : Edge
+  pub met : List·Memᴰ edge (edgesAlong a es)
+  pub close : leZ (pos (2 ^ 143)) (value binary32 (computedSide r edge)) ≡ false
+
+pub record Answers (a : Point) (es : List ℤ) (r : Reading) : Type 0 where
+  -- a computed side value is less than 1/64 from the exact one
+  pub close : (e : Edge) → List·Memᴰ e (edgesAlong a es) → natAbs (value binary32 (computedSide r e) -ℤ exactSide r e) < 2 ^ 143
+  -- "inside" and "outside" agree with exactly inside
+  pub inside : locatedOf a es r ≡ Inside → exactlyInside a es r ≡ true
+  pub outside : locatedOf a es r ≡ Outside → exactlyInside a es r ≡ false
+  -- when the answer is "undecided"
+  pub undecided : (locatedOf a es r ≡ Undecided) ↔ Open a es r
+  -- never where every exact value is 1/32 or more, nor where one is -1/32 or less
+  pub inner : ((e : Edge) → List·Memᴰ e (edgesAlong a es) → leZ (pos (2 ^ 144)) (exactSide r e) ≡ true) → locatedOf a es r ≡ Undecided → ⊥
+  pub outer : (e : Edge) → List·Memᴰ e (edgesAlong a es) → leZ (exactSide r e) (negℤ (pos (2 ^ 144))) ≡ true → locatedOf a es r ≡ Undecided → ⊥
+
+-- The reading is at the centre of the cell x: its numbers are the cell's column and row
+pub record Centred (r : Reading) (x : Point) : Type 0 where
+  pub col : value binary32 (r .angle) ≡ inUnits binary32 (pos (x .col))
+  pub row : value binary32 (r .load) ≡ inUnits binary32 (pos (x .row))

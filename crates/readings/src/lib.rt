@@ -1,0 +1,75 @@
+// Readings between cells: where a pair of floats lies in a polygon of edges, in 32-bit arithmetic.
+use chart::Point;
+use chart::SIDE;
+use walk::Passed;
+ghost use mathlib.Core.Path.{_≡_};
+ghost use lib.Ieee.{binary32, ofBits};
+ghost use Rattle.readings.specs.Located.{badNumber, locatedOf, readingOf};
+
+mod walk;
+
+// The last column and the last row.
+const LAST: u16 = SIDE - 1;
+
+// Angle and load in chart units: a cell's centre is at its whole column and row.
+pub struct Reading {
+    pub angle: f32,
+    pub load: f32,
+}
+
+// Where a reading lies. It is refused by 11.
+pub enum Located {
+    Inside,
+    Outside,
+    Undecided,
+    Refused,
+}
+
+// 11, of one number: it is none, or infinite, below 0 or past the last column and row.
+fn bad_number(x: f32) -> bool
+    ensures { λ b. ⌜ b ≡ badNumber x ⌝ }
+{
+    !((0.0 <= x) & (x <= LAST as f32))
+}
+
+// Where a reading lies in the polygon of an anchor and a list of edges.
+pub fn locate(anchor: Point, edges: &[i16], reading: Reading) -> Located
+    ensures { λ l. ⌜ l ≡ locatedOf anchor (now (edges .entry)) reading ⌝ }
+{
+    if bad_number(reading.angle) | bad_number(reading.load) {
+        return Located::Refused;
+    }
+    if polygon::bad_cell(anchor) {
+        return Located::Outside;
+    }
+    let mut at = walk::begin(anchor.col as i16, anchor.row as i16, reading);
+    let mut i = 0;
+    while i + 1 < edges.len() {
+        let Passed::On(next) = walk::pass(at, edges[i], edges[i + 1], reading) else {
+            return Located::Outside;
+        };
+        at = next;
+        i += 2;
+    }
+    walk::settle(at)
+}
+
+// The number of a bit pattern. `from_bits` has none for the patterns of no number: that is made by 0 / 0.
+fn number(bits: u32) -> f32
+    ensures { λ x. ⌜ x ≡ ofBits binary32 bits ⌝ }
+{
+    if 0x7f80_0000 < bits % 0x8000_0000 {
+        return 0.0 / 0.0;
+    }
+    f32::from_bits(bits)
+}
+
+// The reading of two bit patterns.
+pub fn from_bits(angle: u32, load: u32) -> Reading
+    ensures { λ r. ⌜ r ≡ readingOf angle load ⌝ }
+{
+    Reading {
+        angle: number(angle),
+        load: number(load),
+    }
+}

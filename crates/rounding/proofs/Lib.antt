@@ -1,0 +1,8 @@
+-- The rounding of one fraction; values in units; a difference, a product by a whole number, a whole number as a float, and the same over the integers; the order of
+-- values; whole numbers in units.
+pub mod Round
+pub mod Values
+pub mod Operations
+pub mod Near
+pub mod Order
+pub mod InUnits

@@ -1,0 +1,2 @@
+-- A float's value as a whole number of units.
+pub mod Units
