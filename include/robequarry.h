@@ -21,7 +21,7 @@
  *   5 column   of a cell
  *   6 row
  *
- * Refusals, each with the fields that it names. Of several that apply, the first is given in the order 12 to 15, then 1 to 11. There
+ * Refusals, each with the fields that it names. Of several that apply, the first is given in the order 12 to 15, then 1 to 11, then 16. There
  * is no refusal 7: an outline may run either way, and one that runs anticlockwise is read backward, each letter turned to its opposite.
  *
  *    1  there are fewer than 4 or more than RQ_LETTERS letters
@@ -40,6 +40,8 @@
  *   13  add, close, drop: there is no draft
  *   14  begin: a draft is open
  *   15  add: the draft has RQ_LETTERS letters
+ *   16  an edge is nil, or the edges do not sum to nil, or their directions do not rise strictly, clockwise from up, which may be the
+ *       first, to just short of up again
  *
  * The words used here (piece, back-step, factor, missing) are those of docs/CONTRACT.md, clauses 2 and 3.
  */
@@ -78,12 +80,13 @@ enum { RQ_NO_WORD = 0, RQ_INSIDE = 1, RQ_OUTSIDE = 2, RQ_TAKEN = 3, RQ_SAME = 4 
 bool rq_test(uint16_t col, uint16_t row, const uint8_t *letters, size_t n, int16_t *edges, size_t m, uint16_t *reply, size_t k);
 
 /*
- * Asks whether the cell (col, row) is inside the m / 2 edges that lead round from the anchor.
+ * Asks whether the cell (col, row) is inside the m / 2 edges that lead once round, clockwise, from the anchor.
  *
- * The first edge leaves the anchor, and each other one the cell at which the one before it ends. The word is "inside" if no edge
- * (dx, dy), leaving a cell (x, y), has dy (col - x) - dx (row - y) below 0, and the cell lies between the lowest and the highest
- * column, and between the lowest and the highest row, of the anchor and the cells that the edges reach; else "outside". With anchor
- * and edges of a taken outline, the cells inside are those that it encloses. Refused by 10, then 11 (anchor or cell).
+ * The first edge leaves the anchor, and each other one the cell at which the one before it ends. The word is "inside" if the cell
+ * lies in the hull of the anchor and the cells at which edges end, on the chart or off it; else "outside". That is: no edge (dx, dy),
+ * leaving a cell (x, y), has dy (col - x) - dx (row - y) below 0, and the cell lies between the lowest and the highest column, and
+ * between the lowest and the highest row, of those cells. With anchor and edges of a taken outline, the cells inside are those that it
+ * encloses. Refused by 10, then 11 (anchor or cell), then 16, which a taken outline's edges never meet. A list without edges passes.
  *
  * False, with nothing altered, if k is below RQ_REPLY. Else true; the reply stands first in `reply`, the rest is unaltered.
  *

@@ -54,8 +54,8 @@ impl Outline {
 
 /// The edges of a hull, clockwise from its anchor.
 ///
-/// [`Outline::test`] gives those of a taken outline. [`Edges::new`] takes any list: a query then answers by the rule of the
-/// half planes alone, and says nothing of a hull unless the list came from a test.
+/// [`Outline::test`] gives those of a taken outline. [`Edges::new`] takes any list: a query then tests that its edges lead once
+/// round clockwise, and answers for the hull of the cells at which they meet, also of those off the chart.
 #[derive(Clone, Debug, PartialEq, Eq, Hash)]
 pub struct Edges {
     anchor: Cell,
@@ -68,7 +68,7 @@ impl Edges {
         Edges { anchor, numbers: numbers.into() }
     }
 
-    /// The cell from which the first edge leads, and to which the last one of a taken outline returns.
+    /// The cell from which the first edge leads, and to which the last one of a list that passes returns.
     pub fn anchor(&self) -> Cell {
         self.anchor
     }
@@ -83,7 +83,7 @@ impl Edges {
         self.numbers.chunks_exact(2).map(|edge| (edge[0], edge[1]))
     }
 
-    /// Whether the cell is inside: the loose query. For edges of a taken outline these are the cells that it encloses.
+    /// Whether the cell is in the hull: the loose query. For edges of a taken outline these are the cells that it encloses.
     pub fn contains(&self, cell: Cell) -> Result<bool, Refusal> {
         let mut reply = [0; REPLY];
         raw::loose_query(self.anchor.col, self.anchor.row, &self.numbers, cell.col, cell.row, &mut reply);

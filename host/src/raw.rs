@@ -51,7 +51,7 @@ pub fn test(col: u16, row: u16, letters: &[u8], edges: &mut [i16], reply: &mut [
     }
 }
 
-/// Whether a cell is inside the edges that lead round from an anchor.
+/// Whether a cell is inside the edges that lead once round from an anchor.
 ///
 /// False, with nothing altered, if `reply` has no room for a reply.
 #[inline]

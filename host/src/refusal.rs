@@ -39,6 +39,8 @@ pub enum Refusal {
     DraftOpen,
     /// 15: the draft is full.
     DraftFull,
+    /// 16: the edges do not lead once round clockwise.
+    Turning,
 }
 
 impl Refusal {
@@ -59,10 +61,11 @@ impl Refusal {
             Refusal::NoDraft => 13,
             Refusal::DraftOpen => 14,
             Refusal::DraftFull => 15,
+            Refusal::Turning => 16,
         }
     }
 
-    /// The refusal in a reply of a test or of the holder; none if the number is 0.
+    /// The refusal in a reply, where 10 is about room for edges; none if the number is 0.
     pub(crate) fn of(fields: Fields) -> Option<Refusal> {
         let place = usize::from(fields.place);
         let refusal = match fields.number {
@@ -86,6 +89,7 @@ impl Refusal {
             13 => Refusal::NoDraft,
             14 => Refusal::DraftOpen,
             15 => Refusal::DraftFull,
+            16 => Refusal::Turning,
             other => unreachable!("the library's last refusal is {LAST_REFUSAL}, not {other}"),
         };
         Some(refusal)
@@ -122,6 +126,7 @@ impl fmt::Display for Refusal {
             Refusal::NoDraft => write!(f, "there is no draft"),
             Refusal::DraftOpen => write!(f, "a draft is open"),
             Refusal::DraftFull => write!(f, "the draft has {LONGEST} letters"),
+            Refusal::Turning => write!(f, "the edges do not lead once round, clockwise from up"),
         }
     }
 }

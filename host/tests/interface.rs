@@ -41,6 +41,24 @@ fn loose_queries() {
 }
 
 #[test]
+fn lists_that_do_not_lead_once_round() {
+    let anchor = Cell::new(3, 4);
+    let ask = |numbers: &[i16], cell| Edges::new(anchor, numbers).contains(cell);
+    // A nil edge, an open walk, one direction twice, up after left, anticlockwise.
+    for list in [&[0, 0][..], &[0, 2, 1, 0], &[0, 1, 0, 1, 0, -2], &[1, 0, -1, -1, 0, 1], &[1, 0, -1, 1, 0, -1]] {
+        assert_eq!(ask(list, anchor), Err(Refusal::Turning), "{list:?}");
+        assert_eq!(ask(list, Cell::new(0, 255)), Err(Refusal::Cell), "{list:?}");
+    }
+    // Up comes first, and a half turn is no fault: its cells may meet at corners alone.
+    assert_eq!(ask(&[0, 1, 1, -1, -1, 0], Cell::new(3, 5)), Ok(true));
+    assert_eq!(ask(&[1, 1, -1, -1], Cell::new(4, 5)), Ok(true));
+    assert_eq!(ask(&[1, 1, -1, -1], Cell::new(4, 4)), Ok(false));
+    // Corner cells off the chart count.
+    assert_eq!(ask(&[0, 600, 300, -600, -300, 0], Cell::new(103, 204)), Ok(true));
+    assert_eq!(ask(&[0, 600, 300, -600, -300, 0], Cell::new(254, 254)), Ok(false));
+}
+
+#[test]
 fn holder_keeps_draft_and_work() {
     let mut holder = Holder::new();
     let bar = Taken { edges: 2, anchor: Cell::new(5, 5) };
@@ -96,6 +114,7 @@ fn refusals_in_words() {
     assert_eq!(dent.to_string(), "piece 2 has a dent at place 4, of length 4; cell (1, 1) is missing");
     assert_eq!(Refusal::Count.to_string(), "fewer than 4 or more than 612 letters");
     assert_eq!(Refusal::List.number(), 10);
+    assert_eq!(Refusal::Turning.number(), 16);
     let error: Box<dyn std::error::Error> = Box::new(Refusal::NoDraft);
     assert_eq!(error.to_string(), "there is no draft");
 }

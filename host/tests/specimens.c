@@ -24,6 +24,9 @@ int main(void) {
     EXPECT(rq_loose_query(0, 1, edges, 8, 0, 0, reply, RQ_REPLY) && reply[1] == RQ_OUTSIDE);
     EXPECT(!rq_loose_query(0, 1, edges, 8, 0, 0, reply, RQ_REPLY - 1));
 
+    /* Without its last edge the list does not lead once round. */
+    EXPECT(rq_loose_query(0, 1, edges, 6, 1, 1, reply, RQ_REPLY) && reply[0] == 16 && reply[1] == RQ_NO_WORD);
+
     /* H6: a dent, with the missing cell (1, 1). */
     const uint8_t dented[] = {1, 1, 1, 0, 3, 3, 0, 0, 3, 2, 2, 2};
     EXPECT(rq_test(0, 0, dented, sizeof dented, edges, RQ_EDGES, reply, RQ_REPLY));

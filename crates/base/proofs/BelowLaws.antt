@@ -1,7 +1,7 @@
 -- Laws of the tests below a bound, each by induction on the bound: the last number passes or fails, and the rest is the shorter bound.
 use Prim.Native.Nat.{ℕ, zero, suc, _+_, _≤_, _<_}
 use mathlib.Core.Path.{_≡_, refl, sym}
-use mathlib.Core.Bool.{Bool, true, false, _&&_}
+use mathlib.Core.Bool.{Bool, true, false, true≢false, _&&_, _||_}
 use mathlib.Core.Logic.{_↔_, _⊎_, inl, inr}
 use native.Mathlib.Nat.{eq-or-lt-of-le, le-of-suc-le-suc}
 use native.Mathlib.Decide.{decLt}
@@ -21,6 +21,10 @@ and-left false b h = h
 pub and-right : (a b : Bool) → (a && b) ≡ true → b ≡ true
 and-right true b h = h
 and-right false b h = let z : _≡_ {A = ℕ} 0 1 = cc in absurd (omega arith)
+
+pub or-false-iff : (a b : Bool) → ((a || b) ≡ false) ↔ ((a ≡ false) × (b ≡ false))
+or-false-iff true b = ((λ h. absurd (true≢false h)), λ h. h .0)
+or-false-iff false b = ((λ h. (refl, h)), λ h. h .1)
 
 -- A test that cannot hold fails
 pub not-held : (b : Bool) → (b ≡ true → ⊥) → b ≡ false

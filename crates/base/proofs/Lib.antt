@@ -1,5 +1,5 @@
--- Laws of the tests below a bound, of a list's members and of two lists; prefixes of lists; sizes and order of integers, and integers as differences of naturals; weighted
--- means; weights of lists without repeats.
+-- Laws of the tests below a bound, of a list's members and of two lists; prefixes of lists; sizes and order of integers, integers as differences of naturals, and the laws of
+-- their sums and products; weighted means; weights of lists without repeats.
 pub mod BelowLaws
 pub mod EachLaws
 pub mod Same
@@ -7,5 +7,6 @@ pub mod Prefix
 pub mod Sizes
 pub mod IntegerOrder
 pub mod Differences
+pub mod IntegerRing
 pub mod Mean
 pub mod Weights

@@ -7,7 +7,7 @@ use lib.Dec.{eqb}
 use Rattle.chart.specs.Outline.{Outline}
 use Rattle.chart.specs.Fields.{refusalFields}
 use Rattle.chart.specs.declared.Refusal.{Refusal}
-use Rattle.chart.specs.declared.Refusal.the-variants.{Count, Start, Letter, Leaves, Unclosed, Touches, BackStep, Dent, Room, List as BadList, Cell}
+use Rattle.chart.specs.declared.Refusal.the-variants.{Count, Start, Letter, Leaves, Unclosed, Touches, BackStep, Dent, Room, List as BadList, Cell, Turning}
 use Rattle.chart.specs.declared.Verdict.{Verdict}
 use Rattle.chart.specs.declared.Verdict.the-variants.{Taken, Refused}
 use Rattle.verdict.specs.Verdict.{verdictOf}
@@ -30,6 +30,7 @@ refusal-numbered (Dent k p l x) = refl
 refusal-numbered (Room n) = refl
 refusal-numbered BadList = refl
 refusal-numbered Cell = refl
+refusal-numbered Turning = refl
 
 -- What a close leaves at work is its mark, or what was there
 closed-work : (w : Option Outline) (o : Outline) (t : Bool) (v : Verdict) (ms : List (Option Outline)) →

@@ -7,7 +7,7 @@ use lib.Dec.{leb}
 use Rattle.chart.specs.declared.Point.{Point}
 use Rattle.chart.specs.declared.Fields.{Fields}
 use Rattle.chart.specs.declared.Refusal.{Refusal}
-use Rattle.chart.specs.declared.Refusal.the-variants.{Count, Start, Letter, Leaves, Unclosed, Touches, BackStep, Dent, Room, List as BadList, Cell}
+use Rattle.chart.specs.declared.Refusal.the-variants.{Count, Start, Letter, Leaves, Unclosed, Touches, BackStep, Dent, Room, List as BadList, Cell, Turning}
 use Rattle.chart.specs.declared.Verdict.{Verdict}
 use Rattle.chart.specs.declared.Verdict.the-variants.{Taken, Refused}
 use Rattle.chart.specs.declared.Position.{Position}
@@ -58,6 +58,7 @@ refusalFields (Dent k p l x) = record { number = 9; word = no-word; place = p; p
 refusalFields (Room e) = placed 10 e
 refusalFields BadList = numbered 10
 refusalFields Cell = numbered 11
+refusalFields Turning = numbered 16
 
 abbrev pub verdictFields : Verdict → Fields
 verdictFields (Taken e a) = accepted no-word e a

@@ -61,6 +61,8 @@ pub enum Refusal {
     List,
     // 11. A cell number above 254.
     Cell,
+    // 16. The edges do not lead once round clockwise.
+    Turning,
 }
 
 // What is said of an outline.

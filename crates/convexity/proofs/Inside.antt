@@ -20,7 +20,7 @@ use Rattle.lattice.specs.Chart.{walk, cornerAt}
 use Rattle.convexity.specs.Frame.{Frame, frameOf, along}
 use Rattle.convexity.specs.Cut.{cut}
 use Rattle.convexity.specs.Pieces.{word, factors, edgesOf, edges}
-use Rattle.convexity.specs.Inside.{minℤ, maxℤ, noneOutside, colSteps, rowSteps, lowestMet, highestMet, within, insideEdges}
+use Rattle.convexity.specs.Inside.{minℤ, maxℤ, noneOutside, colSteps, rowSteps, total, lowestMet, highestMet, within, insideAt, insideEdges}
 use Rattle.convexity.proofs.Frame.{Sides, run, rise}
 use Rattle.convexity.specs.InFrame.{startOf, startE, startL, cellAlong, cellE, cellL}
 use Rattle.convexity.proofs.Ring.{next, next-lt, next-suc, next-round, below-four, all-round}
@@ -259,7 +259,7 @@ pub inside-iff :
     (o : Outline) → Shape o → (x : Point) → x .col < side → x .row < side
     → (insideEdges (o .start) (edges o) x ≡ true)
     ↔ ((k : ℕ) → k < 4 → (startE o k ≤ cellE k x) × Sides (factors o k) (startE o k) (startL o k) (cellE k x) (cellL k x))
-unfolding insideEdges within spans
+unfolding insideEdges insideAt within spans
 inside-iff o g x c r =
     let cols = Iff·trans (and-eq-true-iff _ _) (Iff·and (extreme o g x c r 0 (omega arith)) (extreme o g x c r 2 (omega arith))) in
     let rows = Iff·trans (and-eq-true-iff _ _) (Iff·and (extreme o g x c r 3 (omega arith)) (extreme o g x c r 1 (omega arith))) in
@@ -268,12 +268,7 @@ inside-iff o g x c r =
 
 -- ---- the edges close
 
--- The sum of a list
-unfoldable pub total : List ℤ → ℤ
-total [] = pos 0
-total (d ∷ ds) = d +ℤ total ds
-
-pub reached-total : (ds : List ℤ) (x : ℤ) → reached ds x ≡ x +ℤ total ds
+reached-total : (ds : List ℤ) (x : ℤ) → reached ds x ≡ x +ℤ total ds
 unfolding reached total
 reached-total [] x = sym (+ℤ-idr x)
 reached-total (d ∷ ds) x = reached-total ds (x +ℤ d) ∙ +ℤ-assoc x d (total ds)

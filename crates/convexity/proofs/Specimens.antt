@@ -31,7 +31,7 @@ cutUp o =
 
 -- A name that opens the definitions, for the rows that follow
 opened : Bool
-unfolding cutUp Below.every Below.first Below.further Word.wordOf Word.earliers Word.laters Word.less Lyndon.copies Lyndon.same Lyndon.push Lyndon.factorsOf Christoffel.coprime Christoffel.remainders Christoffel.christoffel Chart.step Chart.walk Chart.cornerAt Frame.frameOf Frame.along Cut.before Cut.least Cut.cornerPlace Cut.westPlace Cut.turn Cut.clockwise Reading.opposite Reading.backward Reading.reading Cut.ahead Cut.cutCorner Cut.cut Pieces.rounds Pieces.piece Pieces.word Pieces.factors Pieces.dentLength Pieces.dentPiece Pieces.edgesOf Pieces.edges Inside.notNegative Inside.minℤ Inside.maxℤ Inside.sideValue Inside.noneOutside Inside.colSteps Inside.rowSteps Inside.lowestMet Inside.highestMet Inside.within Inside.insideEdges
+unfolding cutUp Below.every Below.first Below.further Word.wordOf Word.earliers Word.laters Word.less Lyndon.copies Lyndon.same Lyndon.push Lyndon.factorsOf Christoffel.coprime Christoffel.remainders Christoffel.christoffel Chart.step Chart.walk Chart.cornerAt Frame.frameOf Frame.along Cut.before Cut.least Cut.cornerPlace Cut.westPlace Cut.turn Cut.clockwise Reading.opposite Reading.backward Reading.reading Cut.ahead Cut.cutCorner Cut.cut Pieces.rounds Pieces.piece Pieces.word Pieces.factors Pieces.dentLength Pieces.dentPiece Pieces.edgesOf Pieces.edges Inside.notNegative Inside.minℤ Inside.maxℤ Inside.sideValue Inside.noneOutside Inside.colSteps Inside.rowSteps Inside.lowestMet Inside.highestMet Inside.within Inside.insideAt Inside.insideEdges
 opened = true
 
 abbrev at : ℕ → ℕ → Point

@@ -36,6 +36,11 @@ rowSteps [] = []
 rowSteps (dx ∷ []) = []
 rowSteps (dx ∷ dy ∷ es) = dy ∷ rowSteps es
 
+-- The sum of a list
+unfoldable pub total : List ℤ → ℤ
+total [] = pos 0
+total (d ∷ ds) = d +ℤ total ds
+
 -- The lowest and the highest number that steps from x meet, x and the last one included
 unfoldable pub lowestMet : List ℤ → ℤ → ℤ
 lowestMet [] x = x
@@ -48,9 +53,10 @@ highestMet (d ∷ ds) x = maxℤ x (highestMet ds (x +ℤ d))
 unfoldable pub within : List ℤ → ℤ → ℤ → Bool
 within ds x c = leZ (lowestMet ds x) c && leZ c (highestMet ds x)
 
--- The rule of a loose query: anchor a, edges es, cell (c, r)
+-- The rule of the edges es from (x, y) for (c, r), on the chart or off it
+unfoldable pub insideAt : List ℤ → ℤ → ℤ → ℤ → ℤ → Bool
+insideAt es x y c r = within (colSteps es) x c && within (rowSteps es) y r && noneOutside es x y c r
+
+-- The rule for an anchor a, edges es and a cell x
 unfoldable pub insideEdges : Point → List ℤ → Point → Bool
-insideEdges a es x =
-    within (colSteps es) (pos (a .col)) (pos (x .col)) &&
-    within (rowSteps es) (pos (a .row)) (pos (x .row)) &&
-    noneOutside es (pos (a .col)) (pos (a .row)) (pos (x .col)) (pos (x .row))
+insideEdges a es x = insideAt es (pos (a .col)) (pos (a .row)) (pos (x .col)) (pos (x .row))

@@ -1,31 +1,46 @@
 -- The order of integers by their parts: what a least or a highest number is at most, and that a machine's test against 0 is the definition's.
-use Prim.Native.Nat.{suc, _+_, _-_, _≤_, _<_}
+use Prim.Native.Nat.{zero, suc, _-_, _^_, _<_}
 use native.Mathlib.Omega.{arith}
-use mathlib.Core.Path.{_≡_, refl, sym, ap, _∙_}
+use mathlib.Core.Path.{_≡_, refl, ap, _∙_}
 use mathlib.Core.Bool.{Bool, true, false, cond, _||_}
-use lib.Dec.{leb}
 use lib.IntN.{ℤ, pos, negsuc}
-use lib.Signed.{leZ}
-use borrow.Author.Tests.{leb-true, leb-false, le-leb}
-use Rattle.base.proofs.IntegerOrder.{up, down, le-parts}
+use lib.Dec.{eqb}
+use lib.Signed.{mag, leZ, ltZ}
+use mir.Syntax.{w16, w64}
+use mir.Val.{SFits, toZ, ofZ}
+use mir.ValLaws.{toZ-ofZ}
+use borrow.Author.Tests.{ne-eqb, le-leb, lt-ltb}
+use Rattle.base.proofs.Sizes.{read-back}
+use Rattle.base.proofs.IntegerOrder.{at-most-iff, not-at-most}
 use Rattle.convexity.specs.Inside.{notNegative, minℤ, maxℤ}
+use Rattle.turning.specs.Round.{positive, isNil}
 
 pub not-negative-machine : (a : ℤ) → leZ (pos 0) a ≡ notNegative a
 unfolding notNegative
 not-negative-machine (pos a) = le-leb 0 a (omega arith)
 not-negative-machine (negsuc a) = refl
 
-le-true : (a b : ℤ) → leZ a b ≡ true → up a + down b ≤ up b + down a
-le-true a b e = leb-true _ _ (sym (le-parts a b) ∙ e)
+pub positive-machine : (a : ℤ) → ltZ (pos 0) a ≡ positive a
+unfolding positive
+positive-machine (pos zero) = refl
+positive-machine (pos (suc n)) = lt-ltb 0 (suc n) (omega arith)
+positive-machine (negsuc n) = refl
 
-le-false : (a b : ℤ) → leZ a b ≡ false → up b + down a < up a + down b
-le-false a b e = leb-false _ _ (sym (le-parts a b) ∙ e)
+pub nil-machine : (a : ℤ) → SFits w64 a → eqb (ofZ w64 a) 0 ≡ isNil a
+unfolding isNil
+nil-machine (pos zero) f = refl
+nil-machine (pos (suc n)) f = ne-eqb (suc n) 0 (omega arith)
+nil-machine (negsuc n) f = ne-eqb (18446744073709551616 - suc n) 0 (omega (arith, f .sfits))
+
+-- A number of 16 bits, made one of 64, is read back as it is
+pub widened : {d z : ℤ} → SFits w16 d → mag z < 2 ^ 63 → z ≡ toZ w16 (ofZ w16 d) → toZ w64 (ofZ w64 z) ≡ d
+widened {d} {z} f ok e = read-back z ok ∙ e ∙ toZ-ofZ w16 d f
 
 le-trans : (a b c : ℤ) → leZ a b ≡ true → leZ b c ≡ true → leZ a c ≡ true
-le-trans a b c h k = le-parts a c ∙ le-leb (up a + down c) (up c + down a) (omega (arith, le-true a b h, le-true b c k))
+le-trans a b c h k = at-most-iff a c .1 (omega (arith, at-most-iff a b .0 h, at-most-iff b c .0 k))
 
 le-total : (a b : ℤ) → leZ a b ≡ false → leZ b a ≡ true
-le-total a b h = le-parts b a ∙ le-leb (up b + down a) (up a + down b) (omega (arith, le-false a b h))
+le-total a b h = at-most-iff b a .1 (omega (arith, not-at-most a b h))
 
 or-first : (s t : Bool) → (t ≡ true → s ≡ true) → s ≡ (s || t)
 or-first true t h = refl

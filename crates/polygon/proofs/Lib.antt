@@ -1,5 +1,7 @@
--- Integers by their signs; the walk of edges, step by step; the loose query by its cases; specimens.
+-- Integers by their signs; the walk of edges, step by step; refusal 16, edge by edge; the loose query by its cases, and what its words say; specimens.
 pub mod Integers
 pub mod Spans
+pub mod Turns
 pub mod LooseCases
+pub mod LooseHull
 pub mod Specimens

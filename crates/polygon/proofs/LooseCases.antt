@@ -1,27 +1,34 @@
 -- A loose query by its cases: the first refusal that applies, and else the rule of the edges. Each case is a clause of the definition.
 use Prim.Native.Nat.{_≤_, _<_, _%_}
 use mathlib.Core.Path.{_≡_}
-use mathlib.Core.Bool.{Bool, true, false, cond, _||_, true≢false}
+use mathlib.Core.Bool.{true, false, cond}
 use mathlib.Core.List.{List}
 use lib.ListN.{length}
 use lib.Dec.{eqb, ltb}
 use lib.IntN.{ℤ}
 use borrow.Author.Tests.{ltb-false, lt-ltb, le-ltb}
+use Rattle.base.proofs.BelowLaws.{or-false-iff}
 use Rattle.chart.specs.Limits.{longestList}
 use Rattle.chart.specs.declared.Point.{Point}
 use Rattle.convexity.specs.Inside.{insideEdges}
-use Rattle.chart.specs.declared.Refusal.the-variants.{List as BadList, Cell}
+use Rattle.chart.specs.declared.Refusal.the-variants.{List as BadList, Cell, Turning}
 use Rattle.chart.specs.declared.Position.the-variants.{Inside, Outside, Refused}
-use Rattle.polygon.specs.Loose.{insideList, badList, badCell, looseOf}
-
-or-false-second : (s t : Bool) → (s || t) ≡ false → t ≡ false
-or-false-second true t e = absurd (true≢false e)
-or-false-second false t e = e
+use Rattle.turning.specs.Turning.{badTurning}
+use Rattle.polygon.specs.Loose.{insideList, badList, badCell, badTurningList, looseOf}
 
 -- A list that refusal 10 lets pass is no longer than the longest
 pub short-list : (es : List ℤ) → badList es ≡ false → length es ≤ longestList
 unfolding badList
-short-list es e = ltb-false _ _ (or-false-second (eqb (length es % 2) 1) (ltb longestList (length es)) e)
+short-list es e = ltb-false _ _ (or-false-iff (eqb (length es % 2) 1) (ltb longestList (length es)) .0 e .1)
+
+-- Refusal 16, by the length of the list
+pub turning-long : (es : List ℤ) → longestList < length es → true ≡ badTurningList es
+unfolding badTurningList
+turning-long es h = rw (lt-ltb longestList (length es) h)
+
+pub turning-short : (es : List ℤ) → length es ≤ longestList → badTurningList es ≡ badTurning es
+unfolding badTurningList
+turning-short es h = rw (le-ltb longestList (length es) h)
 
 module _ (a : Point) (es : List ℤ) (x : Point) where
   -- The rule of the edges, by the length of the list
@@ -45,6 +52,11 @@ module _ (a : Point) (es : List ℤ) (x : Point) where
   unfolding looseOf
   loose-cell e h k = rw (e, h, k)
 
-  pub loose-edges : badList es ≡ false → badCell a ≡ false → badCell x ≡ false → looseOf a es x ≡ cond (insideEdges a es x) Inside Outside
+  pub loose-turning : badList es ≡ false → badCell a ≡ false → badCell x ≡ false → badTurning es ≡ true → Refused Turning ≡ looseOf a es x
   unfolding looseOf
-  loose-edges e h k = rw (e, h, k)
+  loose-turning e h k t = rw (e, h, k, t)
+
+  pub loose-edges :
+      badList es ≡ false → badCell a ≡ false → badCell x ≡ false → badTurning es ≡ false → looseOf a es x ≡ cond (insideEdges a es x) Inside Outside
+  unfolding looseOf
+  loose-edges e h k t = rw (e, h, k, t)

@@ -12,7 +12,7 @@ use lib.IntN.{ℤ, pos, natAbs, _+ℤ_}
 use lib.Signed.{leZ}
 use Rattle.chart.specs.Limits.{longestList}
 use Rattle.chart.specs.declared.Point.{Point}
-use Rattle.convexity.specs.Inside.{notNegative, minℤ, maxℤ, sideValue, noneOutside, colSteps, rowSteps, lowestMet, highestMet, within, insideEdges}
+use Rattle.convexity.specs.Inside.{notNegative, minℤ, maxℤ, sideValue, noneOutside, colSteps, rowSteps, lowestMet, highestMet, within, insideAt, insideEdges}
 use Rattle.polygon.specs.declared.Span.{Span}
 use Rattle.polygon.specs.Span.{begun, stepped, spans}
 use Rattle.base.proofs.Sizes.{size-sum}
@@ -80,7 +80,7 @@ inside-from-is (dx ∷ dy ∷ es) p q c r =
 pub inside-from-anchor :
     (a : Point) (es : List ℤ) (x : Point)
     → insideEdges a es x ≡ insideFrom es (begun (pos (a .col))) (begun (pos (a .row))) (pos (x .col)) (pos (x .row))
-unfolding insideEdges begun
+unfolding insideEdges insideAt begun
 inside-from-anchor a es x =
     simp within-begun (sym (inside-from-is es (begun (pos (a .col))) (begun (pos (a .row))) (pos (x .col)) (pos (x .row))))
 

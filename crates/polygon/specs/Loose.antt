@@ -1,5 +1,6 @@
--- The loose query: refusals 10 and 11, then the rule of the edges (contract 6.2).
+-- The loose query: refusals 10, 11 and 16, then the rule of the edges (contract 6.2).
 use Prim.Native.Nat.{_%_}
+use mathlib.Core.Path.{_≡_}
 use mathlib.Core.Bool.{Bool, false, cond, _||_}
 use mathlib.Core.List.{List}
 use lib.ListN.{length}
@@ -7,8 +8,12 @@ use lib.Dec.{leb, ltb, eqb}
 use lib.IntN.{ℤ}
 use Rattle.chart.specs.Limits.{side, longestList}
 use Rattle.chart.specs.declared.Point.{Point}
+use Rattle.chart.specs.declared.Fields.{Fields}
+use Rattle.chart.specs.Fields.{inside, outside}
 use Rattle.convexity.specs.Inside.{insideEdges}
-use Rattle.chart.specs.declared.Refusal.the-variants.{List as BadList, Cell}
+use Rattle.turning.specs.Turning.{badTurning}
+use Rattle.turning.specs.CornerHull.{CornersHold}
+use Rattle.chart.specs.declared.Refusal.the-variants.{List as BadList, Cell, Turning}
 use Rattle.chart.specs.declared.Position.{Position}
 use Rattle.chart.specs.declared.Position.the-variants.{Inside, Outside, Refused}
 
@@ -24,8 +29,18 @@ badList es = eqb (length es % 2) 1 || ltb longestList (length es)
 unfoldable pub badCell : Point → Bool
 badCell x = leb side (x .col) || leb side (x .row)
 
+-- 16, of every list: one that is too long does not pass
+unfoldable pub badTurningList : List ℤ → Bool
+badTurningList es = ltb longestList (length es) || badTurning es
+
 unfoldable pub looseOf : Point → List ℤ → Point → Position
 looseOf a es x =
     cond (badList es) (Refused BadList)
     (cond (badCell a || badCell x) (Refused Cell)
-    (cond (insideEdges a es x) Inside Outside))
+    (cond (badTurning es) (Refused Turning)
+    (cond (insideEdges a es x) Inside Outside)))
+
+-- What the words of a reply say: the cell lies in the hull of the corner cells, or it does not
+pub record HullNamed (a : Point) (es : List ℤ) (x : Point) (f : Fields) : Type 0 where
+  pub within : f .word ≡ inside → CornersHold a es x
+  pub beyond : f .word ≡ outside → CornersHold a es x → ⊥

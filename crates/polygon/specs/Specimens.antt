@@ -1,4 +1,4 @@
--- Loose queries with the edges of the specimens H2 and H3, and their refusals (contract 9). All rows are proved together (proofs/Specimens.antt).
+-- Loose queries with the edges of the specimens H2 and H3 and others, and their refusals (contract 9). All rows are proved together (proofs/Specimens.antt).
 use Prim.Native.Nat.{ℕ}
 use mathlib.Core.Bool.{Bool}
 use mathlib.Core.List.{List, [], _∷_}
@@ -39,3 +39,30 @@ queries =
     ask (at 255 0) (pos 1 ∷ []) (at 0 0) (numbered 10) ∷
     ask (at 255 0) [] (at 0 0) (numbered 11) ∷
     ask (at 0 0) [] (at 0 255) (numbered 11) ∷ []
+
+-- What passes refusal 16: up as the first direction; a half turn; a hull with rows below the chart
+unfoldable pub passing : List Query
+unfolding at ask
+passing =
+    ask (at 1 1) (pos 0 ∷ pos 3 ∷ pos 3 ∷ negsuc 2 ∷ negsuc 2 ∷ pos 0 ∷ []) (at 2 3) (said inside) ∷
+    ask (at 1 1) (pos 0 ∷ pos 3 ∷ pos 3 ∷ negsuc 2 ∷ negsuc 2 ∷ pos 0 ∷ []) (at 3 3) (said outside) ∷
+    ask (at 0 0) (pos 1 ∷ pos 1 ∷ negsuc 0 ∷ negsuc 0 ∷ []) (at 1 1) (said inside) ∷
+    ask (at 0 0) (pos 1 ∷ pos 1 ∷ negsuc 0 ∷ negsuc 0 ∷ []) (at 1 0) (said outside) ∷
+    ask (at 0 0) (pos 2 ∷ negsuc 0 ∷ negsuc 0 ∷ negsuc 0 ∷ negsuc 0 ∷ pos 2 ∷ []) (at 0 0) (said inside) ∷
+    ask (at 0 0) (pos 2 ∷ negsuc 0 ∷ negsuc 0 ∷ negsuc 0 ∷ negsuc 0 ∷ pos 2 ∷ []) (at 1 0) (said outside) ∷ []
+
+-- What it turns back: a nil edge among others and alone; edges that do not sum to nil; anticlockwise edges; one direction twice; up after left; a half turn
+-- begun at its other end; two rounds. 10 and 11 come before it
+unfoldable pub turnedBack : List Query
+unfolding at ask
+turnedBack =
+    ask (at 0 0) (pos 0 ∷ pos 2 ∷ pos 0 ∷ pos 0 ∷ pos 0 ∷ negsuc 1 ∷ []) (at 0 0) (numbered 16) ∷
+    ask (at 0 0) (pos 0 ∷ pos 0 ∷ []) (at 0 0) (numbered 16) ∷
+    ask (at 0 0) (pos 0 ∷ pos 2 ∷ pos 1 ∷ pos 0 ∷ []) (at 0 0) (numbered 16) ∷
+    ask (at 5 5) (pos 1 ∷ pos 0 ∷ negsuc 0 ∷ pos 1 ∷ pos 0 ∷ negsuc 0 ∷ []) (at 5 5) (numbered 16) ∷
+    ask (at 0 0) (pos 0 ∷ pos 1 ∷ pos 0 ∷ pos 1 ∷ pos 0 ∷ negsuc 1 ∷ []) (at 0 0) (numbered 16) ∷
+    ask (at 5 5) (pos 1 ∷ pos 0 ∷ negsuc 0 ∷ negsuc 0 ∷ pos 0 ∷ pos 1 ∷ []) (at 5 5) (numbered 16) ∷
+    ask (at 5 5) (pos 0 ∷ negsuc 0 ∷ pos 0 ∷ pos 1 ∷ []) (at 5 5) (numbered 16) ∷
+    ask (at 5 5) (pos 0 ∷ pos 1 ∷ pos 1 ∷ negsuc 0 ∷ negsuc 0 ∷ pos 0 ∷ pos 0 ∷ pos 1 ∷ pos 1 ∷ negsuc 0 ∷ negsuc 0 ∷ pos 0 ∷ []) (at 5 5) (numbered 16) ∷
+    ask (at 5 5) (pos 0 ∷ pos 0 ∷ pos 1 ∷ []) (at 5 5) (numbered 10) ∷
+    ask (at 5 5) (pos 0 ∷ pos 0 ∷ []) (at 5 255) (numbered 11) ∷ []

@@ -5,12 +5,16 @@ use chart::Position;
 use chart::Refusal;
 use chart::SIDE;
 ghost use mathlib.Core.Path.{_≡_};
-ghost use Prim.Native.Nat.{_^_, _≤_};
+ghost use Prim.Native.Nat.{_+_, _^_, _≤_, _<_};
+ghost use lib.ListN.{length, drop};
 ghost use lib.IntN.{pos, natAbs, _-ℤ_, _*ℤ_};
+ghost use Rattle.chart.specs.Fields.{positionFields};
 ghost use Rattle.convexity.specs.Inside.{notNegative, sideValue};
 ghost use Rattle.polygon.specs.Span.{begun, stepped, spans};
-ghost use Rattle.polygon.specs.Loose.{insideList, badList, badCell, looseOf};
+ghost use Rattle.polygon.specs.Turns.{turnsOn};
+ghost use Rattle.polygon.specs.Loose.{insideList, badList, badCell, badTurningList, looseOf, HullNamed};
 
+mod round;
 mod signed;
 
 // One coordinate of a walk of edges: where it stands, and the lowest and the highest number met so far.
@@ -32,13 +36,12 @@ fn begin(x: u16) -> Span
     }
 }
 
-// The walk one step further: no sum of 1,016 edges is larger than 2^27.
+// The walk one step further.
 fn step(s: Span, d: i16) -> Span
     requires { ⌜ natAbs (s .at) ≤ 2 ^ 27 ⌝ }
     ensures { λ r. ⌜ r ≡ stepped s d ⌝ }
 {
-    let from = s.at;
-    let at = signed::sum(from, signed::widen(d));
+    let at = signed::further(s.at, d);
     Span {
         at: at,
         low: signed::lower(s.low, at),
@@ -102,6 +105,48 @@ pub fn bad_list(edges: &[i16]) -> bool
     edges.len() % 2 == 1 || LONGEST_LIST < edges.len()
 }
 
+// The edge at i is not nil, and comes sooner than the next one, where there is one.
+fn turns_on(edges: &[i16], i: usize) -> bool
+    requires { ⌜ i + 1 < length (now edges) ⌝ }
+    ensures { λ b. ⌜ b ≡ turnsOn (drop i (now (edges .entry))) ⌝ }
+{
+    let dx = edges[i];
+    let dy = edges[i + 1];
+    if round::nil(dx, dy) {
+        return false;
+    }
+    let next = i + 2;
+    if edges.len() <= next + 1 {
+        return true;
+    }
+    let ex = edges[next];
+    let ey = edges[next + 1];
+    round::sooner(dx, dy, ex, ey)
+}
+
+// 16: the edges do not lead once round clockwise. No list that is too long does.
+pub fn bad_turning(edges: &[i16]) -> bool
+    ensures { λ b. ⌜ b ≡ badTurningList (now (edges .entry)) ⌝ }
+{
+    if LONGEST_LIST < edges.len() {
+        return true;
+    }
+    let mut across: i64 = 0;
+    let mut up: i64 = 0;
+    let mut i = 0;
+    while i + 1 < edges.len() {
+        if !turns_on(edges, i) {
+            return true;
+        }
+        let dx = edges[i];
+        let dy = edges[i + 1];
+        across = signed::further(across, dx);
+        up = signed::further(up, dy);
+        i += 2;
+    }
+    !signed::is_nil(across) || !signed::is_nil(up)
+}
+
 // 11: a number that is none of a cell's.
 pub fn bad_cell(x: Point) -> bool
     ensures { λ b. ⌜ b ≡ badCell x ⌝ }
@@ -109,14 +154,19 @@ pub fn bad_cell(x: Point) -> bool
     SIDE <= x.col || SIDE <= x.row
 }
 
+// The loose query: 10, 11 and 16, then the rule of the edges, which says what lies in the hull of the corner cells.
 pub fn loose_query(anchor: Point, edges: &[i16], cell: Point) -> Position
-    ensures { λ p. ⌜ p ≡ looseOf anchor (now (edges .entry)) cell ⌝ }
+    ensures answer { λ p. ⌜ p ≡ looseOf anchor (now (edges .entry)) cell ⌝ }
+    ensures hull { λ p. ⌜ HullNamed anchor (now (edges .entry)) cell (positionFields p) ⌝ }
 {
     if bad_list(edges) {
         return Position::Refused(Refusal::List);
     }
     if bad_cell(anchor) || bad_cell(cell) {
         return Position::Refused(Refusal::Cell);
+    }
+    if bad_turning(edges) {
+        return Position::Refused(Refusal::Turning);
     }
     if inside(anchor, edges, cell) {
         Position::Inside

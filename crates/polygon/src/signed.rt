@@ -1,10 +1,12 @@
 // Signed arithmetic with promises in whole numbers. Callers give the bounds; nothing wraps.
 ghost use mathlib.Core.Path.{_≡_};
-ghost use lib.IntN.{pos, _+ℤ_, _-ℤ_, _*ℤ_};
+ghost use Prim.Native.Nat.{_^_, _≤_};
+ghost use lib.IntN.{pos, natAbs, _+ℤ_, _-ℤ_, _*ℤ_};
 ghost use lib.Signed.{leZ};
 ghost use mir.Syntax.{w64};
 ghost use mir.Val.{SFits};
 ghost use Rattle.convexity.specs.Inside.{notNegative as notNegativeℤ, minℤ, maxℤ};
+ghost use Rattle.turning.specs.Round.{positive as positiveℤ, isNil as isNilℤ};
 
 pub(crate) fn widen(x: i16) -> i64
     ensures { λ r. ⌜ r ≡ x ⌝ }
@@ -18,11 +20,19 @@ pub(crate) fn whole(n: u16) -> i64
     n as i64
 }
 
-pub(crate) fn sum(a: i64, b: i64) -> i64
+fn sum(a: i64, b: i64) -> i64
     requires { ⌜ SFits w64 (a +ℤ b) ⌝ }
     ensures { λ r. ⌜ r ≡ a +ℤ b ⌝ }
 {
     a + b
+}
+
+// A sum of steps, one step further: no sum of 1,016 numbers of 16 bits is larger than 2^27.
+pub(crate) fn further(a: i64, d: i16) -> i64
+    requires { ⌜ natAbs a ≤ 2 ^ 27 ⌝ }
+    ensures { λ r. ⌜ r ≡ a +ℤ d ⌝ }
+{
+    sum(a, widen(d))
 }
 
 pub(crate) fn difference(a: i64, b: i64) -> i64
@@ -39,10 +49,29 @@ pub(crate) fn product(a: i64, b: i64) -> i64
     a * b
 }
 
+// The product of two numbers of 16 bits.
+pub(crate) fn times(a: i16, b: i16) -> i64
+    ensures { λ r. ⌜ (r ≡ a *ℤ b) × (natAbs r ≤ 2 ^ 30) ⌝ }
+{
+    product(widen(a), widen(b))
+}
+
 pub(crate) fn not_negative(a: i64) -> bool
     ensures { λ r. ⌜ r ≡ notNegativeℤ a ⌝ }
 {
     0 <= a
+}
+
+pub(crate) fn positive(a: i64) -> bool
+    ensures { λ r. ⌜ r ≡ positiveℤ a ⌝ }
+{
+    0 < a
+}
+
+pub(crate) fn is_nil(a: i64) -> bool
+    ensures { λ r. ⌜ r ≡ isNilℤ a ⌝ }
+{
+    a == 0
 }
 
 pub(crate) fn at_most(a: i64, b: i64) -> bool

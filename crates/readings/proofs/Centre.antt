@@ -12,7 +12,7 @@ use Rattle.rounding.specs.Units.{inUnits}
 use Rattle.rounding.proofs.InUnits.{units-minus, units-times, units-le}
 use Rattle.chart.specs.Limits.{side}
 use Rattle.chart.specs.declared.Point.{Point}
-use Rattle.convexity.specs.Inside.{notNegative, sideValue, noneOutside, within, insideEdges}
+use Rattle.convexity.specs.Inside.{notNegative, sideValue, noneOutside, within, insideAt, insideEdges}
 use Rattle.polygon.proofs.Integers.{not-negative-machine}
 use Rattle.readings.specs.declared.Reading.{Reading}
 use Rattle.readings.specs.declared.Located.the-variants.{Inside, Outside}
@@ -55,7 +55,7 @@ module _ (r : Reading) (x : Point) (at : Centred r x) where
 
   -- Exactly inside is the rule of the edges
   pub centre-exact : (a : Point) (es : List ℤ) → exactlyInside a es r ≡ insideEdges a es x
-  unfolding exactlyInside withinExtremes between insideEdges within
+  unfolding exactlyInside withinExtremes between insideEdges insideAt within
   centre-exact a es = simp (at .col, at .row, units-le, sides-centre es (pos (a .col)) (pos (a .row)))
 
   module _ (held : Held r) (a : Point) (es : List ℤ) where

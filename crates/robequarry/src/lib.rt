@@ -11,6 +11,7 @@ ghost use lib.ListN.{length};
 ghost use lib.Dec.{leb};
 ghost use Rattle.chart.specs.Fields.{fieldsOf};
 ghost use Rattle.verdict.specs.Named.{CellNamed};
+ghost use Rattle.polygon.specs.Loose.{HullNamed};
 ghost use Rattle.replay.specs.Script.{callsRead, repliesAfter};
 ghost use Rattle.robequarry.specs.Face.{at, testReply, testEdges, looseReply};
 
@@ -35,7 +36,7 @@ pub extern "C" fn rq_test(
     write(of_verdict(verdict), reply)
 }
 
-// Asks whether a cell lies inside the edges that leave an anchor.
+// Asks whether a cell lies inside the edges that lead once round from an anchor.
 #[no_mangle]
 pub extern "C" fn rq_loose_query(
     anchor_col: u16,
@@ -47,6 +48,7 @@ pub extern "C" fn rq_loose_query(
 ) -> bool
     ensures room { λ r. ⌜ r ≡ leb 7 (length (now (reply .entry))) ⌝ }
     ensures reply { λ r. ⌜ now (reply .exit) ≡ looseReply «anchor_col» «anchor_row» (now (edges .entry)) col row (now (reply .entry)) ⌝ }
+    ensures hull { λ r. ⌜ (r ≡ true → HullNamed (at «anchor_col» «anchor_row») (now (edges .entry)) (at col row) (fieldsOf (now (reply .exit)))) ⌝ }
 {
     let anchor = Point {
         col: anchor_col,

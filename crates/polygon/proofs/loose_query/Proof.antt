@@ -2,11 +2,13 @@
 use borrow.Author.Needs.{needs}
 use mathlib.Core.Path.{_≡_, sym, ap, _∙_}
 use mathlib.Core.Logic.{⊎-elim}
-use mathlib.Core.Bool.{Bool, cond}
+use mathlib.Core.Bool.{Bool, false, cond}
 use Rattle.chart.specs.declared.Position.the-variants.{Inside, Outside, Refused}
 use Rattle.chart.specs.declared.Refusal.the-variants.{Cell}
-use Rattle.polygon.specs.Loose.{looseOf}
-use Rattle.polygon.proofs.LooseCases.{inside-short, short-list, loose-list, loose-anchor, loose-cell, loose-edges}
+use Rattle.turning.specs.Turning.{badTurning}
+use Rattle.polygon.specs.Loose.{badList, badCell, looseOf}
+use Rattle.polygon.proofs.LooseCases.{inside-short, short-list, turning-short, loose-list, loose-anchor, loose-cell, loose-turning, loose-edges}
+use Rattle.polygon.proofs.LooseHull.{answer-named}
 use Rattle.polygon.proofs.loose_query.Statement.{statement}
 use Rattle.polygon.proofs.loose_query.Tie as tie
 
@@ -14,7 +16,7 @@ bad-list-requires : tie.Need-bad-list-requires
 bad-list-requires c κs = search needs
 
 returns : tie.Need-returns
-returns c = loose-list _ _ _ (sym (c .before .bad-list .ensures) ∙ c .if1 .taken)
+returns c = answer-named _ _ _ _ (loose-list _ _ _ (sym (c .before .bad-list .ensures) ∙ c .if1 .taken))
 
 bad-cell-requires : tie.Need-bad-cell-requires
 bad-cell-requires c κs = search needs
@@ -26,10 +28,33 @@ returns-2 : tie.Need-returns-2
 returns-2 c =
     let s = c .before .before .before .before .args in
     let listed = sym (c .before .before .before .bad-list .ensures) ∙ c .before .before .if1 .left in
-    ⊎-elim {C = Refused Cell ≡ looseOf (s .anchor) (s .edges .now) (s .cell)}
+    answer-named _ _ _ _
+    (⊎-elim {C = Refused Cell ≡ looseOf (s .anchor) (s .edges .now) (s .cell)}
     (λ w. loose-anchor _ _ _ listed (sym (c .before .bad-cell .ensures) ∙ w .taken))
     (λ w. loose-cell _ _ _ listed (sym (c .before .bad-cell .ensures) ∙ w .0 .left) (sym (w .1 .ensures) ∙ w .2 .taken))
-    (c .if2 .came)
+    (c .if2 .came))
+
+bad-turning-requires : tie.Need-bad-turning-requires
+bad-turning-requires c κs = search needs
+
+-- The list and the two cells pass 10 and 11
+module _ (c : tie.Else3) where
+  listed : badList (c .before .before .before .before .before .before .args .edges .now) ≡ false
+  listed = let lists = c .before .before .before .before in sym (lists .before .bad-list .ensures) ∙ lists .if1 .left
+
+  anchored : badCell (c .before .before .before .before .before .before .args .anchor) ≡ false
+  anchored = let anchor = c .before .before in sym (anchor .before .bad-cell .ensures) ∙ anchor .if2 .left
+
+  placed : badCell (c .before .before .before .before .before .before .args .cell) ≡ false
+  placed = sym (c .before .bad-cell2 .ensures) ∙ c .if3 .left
+
+turned : (c : tie.After-bad-turning) → c .bad-turning .result ≡ badTurning (c .before .before .before .before .before .before .before .args .edges .now)
+turned c = c .bad-turning .ensures ∙ turning-short _ (short-list _ (listed (c .before)))
+
+returns-3 : tie.Need-returns-3
+returns-3 c =
+    let cells = c .before .before in
+    answer-named _ _ _ _ (loose-turning _ _ _ (listed cells) (anchored cells) (placed cells) (sym (turned (c .before)) ∙ c .if4 .taken))
 
 inside-requires : tie.Need-inside-requires
 inside-requires c κs = search needs
@@ -37,21 +62,19 @@ inside-requires c κs = search needs
 -- Past the refusals the edges decide
 decided :
     (c : tie.After-inside) →
-    let s = c .before .before .before .before .before .before .before .args in
+    let s = c .before .before .before .before .before .before .before .before .before .args in
     looseOf (s .anchor) (s .edges .now) (s .cell) ≡ cond (c .inside .result) Inside Outside
 decided c =
-    let cells = c .before .before in
-    let anchor = cells .before in
-    let lists = anchor .before .before in
-    let listed = sym (lists .before .bad-list .ensures) ∙ lists .if1 .left in
-    loose-edges _ _ _ listed (sym (anchor .before .bad-cell .ensures) ∙ anchor .if2 .left) (sym (cells .bad-cell2 .ensures) ∙ c .before .if3 .left)
-    ∙ ap (λ (b : Bool). cond b Inside Outside) (sym (c .inside .ensures ∙ inside-short _ _ _ (short-list _ listed)))
-
-returns-3 : tie.Need-returns-3
-returns-3 c = sym (decided (c .before) ∙ ap (λ (b : Bool). cond b Inside Outside) (c .if4 .taken))
+    let turning = c .before in
+    let cells = turning .before .before in
+    loose-edges _ _ _ (listed cells) (anchored cells) (placed cells) (sym (turned (turning .before)) ∙ turning .if4 .left)
+    ∙ ap (λ (b : Bool). cond b Inside Outside) (sym (c .inside .ensures ∙ inside-short _ _ _ (short-list _ (listed cells))))
 
 returns-4 : tie.Need-returns-4
-returns-4 c = sym (decided (c .before) ∙ ap (λ (b : Bool). cond b Inside Outside) (c .if4 .left))
+returns-4 c = answer-named _ _ _ _ (sym (decided (c .before) ∙ ap (λ (b : Bool). cond b Inside Outside) (c .if5 .taken)))
+
+returns-5 : tie.Need-returns-5
+returns-5 c = answer-named _ _ _ _ (sym (decided (c .before) ∙ ap (λ (b : Bool). cond b Inside Outside) (c .if5 .left)))
 
 pub loose-query-spec : {M : Type 1} → statement M
 loose-query-spec =
@@ -62,6 +85,8 @@ loose-query-spec =
     bad-cell-requires
     bad-cell-requires-2
     returns-2
-    inside-requires
+    bad-turning-requires
     returns-3
-    returns-4)
+    inside-requires
+    returns-4
+    returns-5)

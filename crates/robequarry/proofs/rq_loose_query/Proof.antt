@@ -1,8 +1,12 @@
--- The loose query answers, and its fields are written where there is room.
-use mathlib.Core.Path.{ap, _∙_}
+-- The loose query answers, its fields are written where there is room, and what they say is read back from there.
+use Prim.Native.Nat.{_≤_}
+use mathlib.Core.Path.{sym, ap, _∙_}
+use lib.ListN.{length}
 use borrow.Author.Needs.{needs}
+use borrow.Author.Tests.{leb-true}
 use Rattle.chart.specs.declared.Fields.{Fields}
 use Rattle.chart.specs.Fields.{positionFields, replyAfter}
+use Rattle.chart.proofs.ReplyLaws.{fields-written}
 use Rattle.robequarry.specs.Face.{looseReply}
 use Rattle.robequarry.proofs.rq_loose_query.Statement.{statement}
 use Rattle.robequarry.proofs.rq_loose_query.Tie as tie
@@ -25,9 +29,15 @@ returns c =
     let written = c .before .before in
     let named = written .before .before in
     let asked = named .before in
+    let same = named .of-position .ensures in
     let reply = asked .before .before .args .reply .now in (
       written .write .ensures .0,
-      written .write .ensures .1 ∙ ap (λ (f : Fields). replyAfter f reply) (named .of-position .ensures ∙ ap positionFields (asked .loose-query .ensures)),
+      (
+        written .write .ensures .1 ∙ ap (λ (f : Fields). replyAfter f reply) (same ∙ ap positionFields (asked .loose-query .ensures .0)),
+        λ e.
+            let room : 7 ≤ length reply = leb-true _ _ (sym (written .write .ensures .0) ∙ e) in
+            rw (written .write .ensures .1, fields-written (named .of-position .result) reply room, same) (asked .loose-query .ensures .1),
+      ),
     )
 
 pub rq-loose-query-spec : {M : Type 1} → statement M

@@ -15,6 +15,7 @@ use robequarry_checks::case::Case;
 use robequarry_checks::draw::{rotated, Shape};
 use robequarry_checks::engine::{Engine, Library, Plain, Reference};
 use robequarry_checks::garbage;
+use robequarry_checks::polygons;
 use robequarry_checks::random::Random;
 use robequarry_checks::reference::cells::Enclosed;
 use robequarry_checks::scripts;
@@ -145,7 +146,7 @@ fn every_outline_of_4_by_4(run: &mut Run) {
     for outline in walks::outlines(4, Point::new(0, 0)) {
         counts[usize::from(run.compare_test(outline))] += 1;
     }
-    let expected = [61_424, 0, 0, 0, 0, 0, 0, 0, 251_360, 13_760, 0, 0, 0, 0, 0, 0];
+    let expected = [61_424, 0, 0, 0, 0, 0, 0, 0, 251_360, 13_760, 0, 0, 0, 0, 0, 0, 0];
     if counts != expected {
         println!("4 by 4: counts of numbers {counts:?}, not {expected:?}");
         exit(1);
@@ -224,7 +225,11 @@ fn spoilt(run: &mut Run, random: &mut Random) {
 
 fn loose_queries(run: &mut Run, random: &mut Random) {
     for i in 0..LOOSE {
-        let case = if i % 4 == 0 { garbage::loose(random) } else { garbage::round_walk(random) };
+        let case = match i % 4 {
+            0 => garbage::loose(random),
+            1 => garbage::round_walk(random),
+            _ => polygons::loose(random),
+        };
         run.compare(&case);
     }
 }

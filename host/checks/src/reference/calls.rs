@@ -5,6 +5,7 @@ use robequarry::limits::{LAST_CELL, LONGEST_LIST};
 
 use super::border::{is_clockwise, pieces, reading};
 use super::cells::Enclosed;
+use super::edges::{bad_turning, in_hull};
 use super::walk;
 use crate::reply::{numbered, placed, said, taken};
 use crate::{Fields, Point};
@@ -80,24 +81,9 @@ pub fn loose_query(anchor: Point, edges: &[i16], cell: Point) -> Fields {
     if off_chart(anchor) || off_chart(cell) {
         return numbered(11);
     }
-    said(if is_inside(anchor, edges, cell) { INSIDE } else { OUTSIDE })
-}
-
-/// Contract 3.15, with the side values of 3.14.
-fn is_inside(anchor: Point, edges: &[i16], cell: Point) -> bool {
-    let (c, r) = (i64::from(cell.col), i64::from(cell.row));
-    let (mut x, mut y) = (i64::from(anchor.col), i64::from(anchor.row));
-    let mut met = vec![(x, y)];
-    let mut on_sides = true;
-    for edge in edges.chunks_exact(2) {
-        let (dx, dy) = (i64::from(edge[0]), i64::from(edge[1]));
-        on_sides &= dy * (c - x) - dx * (r - y) >= 0;
-        (x, y) = (x + dx, y + dy);
-        met.push((x, y));
+    // 16: the edges lead once round.
+    if bad_turning(edges) {
+        return numbered(16);
     }
-    let cols = || met.iter().map(|m| m.0);
-    let rows = || met.iter().map(|m| m.1);
-    let within_cols = cols().min() <= Some(c) && Some(c) <= cols().max();
-    let within_rows = rows().min() <= Some(r) && Some(r) <= rows().max();
-    on_sides && within_cols && within_rows
+    said(if in_hull(anchor, edges, cell) { INSIDE } else { OUTSIDE })
 }

@@ -7,7 +7,7 @@ use crate::case::Case;
 use crate::draw::{reversed, round_outline, whole_chart, with_a_cell_flipped, Shape};
 use crate::random::Random;
 use crate::reference::calls;
-use crate::{garbage, scripts, Outline, Point};
+use crate::{garbage, polygons, scripts, Outline, Point};
 
 const SEED: u64 = 1;
 
@@ -24,6 +24,7 @@ pub fn all() -> Vec<Case> {
         cases.push(garbage::spoilt_test(&mut random));
         cases.push(garbage::loose(&mut random));
         cases.push(garbage::round_walk(&mut random));
+        cases.push(polygons::loose(&mut random));
         cases.push(scripts::script(&mut random));
     }
     cases

@@ -65,6 +65,12 @@ enum-told-5 c = search needs
 numbered-requires-5 : tie.Need-numbered-requires-5
 numbered-requires-5 c κs = search needs
 
+enum-told-6 : tie.Need-enum-told-6
+enum-told-6 c = search needs
+
+numbered-requires-6 : tie.Need-numbered-requires-6
+numbered-requires-6 c κs = search needs
+
 returns : tie.Need-returns
 returns c = cc
 
@@ -98,6 +104,9 @@ returns-10 c = cc
 returns-11 : tie.Need-returns-11
 returns-11 c = cc
 
+returns-12 : tie.Need-returns-12
+returns-12 c = cc
+
 pub of-refusal-spec : {M : Type 1} → statement M
 of-refusal-spec =
     tie.close
@@ -122,6 +131,8 @@ of-refusal-spec =
     numbered-requires-4
     enum-told-5
     numbered-requires-5
+    enum-told-6
+    numbered-requires-6
     returns
     returns-2
     returns-3
@@ -132,4 +143,5 @@ of-refusal-spec =
     returns-8
     returns-9
     returns-10
-    returns-11)
+    returns-11
+    returns-12)

@@ -1,0 +1,33 @@
+-- The corner cells that a walk of edges meets, on the chart and off it, and their hull (contract 3.17).
+use Prim.Native.Nat.{ℕ, _+_, _<_}
+use mathlib.Core.Path.{_≡_}
+use mathlib.Core.List.{List, _∷_}
+use lib.IntN.{ℤ, pos, _+ℤ_, _*ℤ_}
+use Rattle.chart.specs.declared.Point.{Point}
+
+-- The walk of the edges from (x, y) meets (u, v): its start, or the end of an edge
+pub data Met : List ℤ → ℤ → ℤ → ℤ → ℤ → Type 0 where
+  start : {es : List ℤ} {x y : ℤ} → Met es x y x y
+  after : {es : List ℤ} {dx dy x y u v : ℤ} → Met es (x +ℤ dx) (y +ℤ dy) u v → Met (dx ∷ dy ∷ es) x y u v
+
+-- A corner cell of the walk
+pub record Corner (es : List ℤ) (x y : ℤ) : Type 0 where
+  pub col : ℤ
+  pub row : ℤ
+  pub met : Met es x y col row
+
+-- (c, r) is a mean of three corner cells, which need not be different, with natural weights that are not all 0
+pub record InCornerHull (es : List ℤ) (x y c r : ℤ) : Type 0 where
+  pub p : Corner es x y
+  pub q : Corner es x y
+  pub t : Corner es x y
+  pub i : ℕ
+  pub j : ℕ
+  pub k : ℕ
+  pub some : 0 < i + j + k
+  pub cols : pos (i + j + k) *ℤ c ≡ pos i *ℤ p .col +ℤ pos j *ℤ q .col +ℤ pos k *ℤ t .col
+  pub rows : pos (i + j + k) *ℤ r ≡ pos i *ℤ p .row +ℤ pos j *ℤ q .row +ℤ pos k *ℤ t .row
+
+-- The cell x lies in the hull of the corner cells of an anchor a and edges es
+abbrev pub CornersHold : Point → List ℤ → Point → Type 0
+CornersHold a es x = InCornerHull es (pos (a .col)) (pos (a .row)) (pos (x .col)) (pos (x .row))
