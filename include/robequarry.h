@@ -1,6 +1,7 @@
 /*
  * Robequarry: digital convexity on a chart of 255 by 255 cells. The library is proved; link target/staticlib/librobequarry.a,
- * which `rt staticlib robequarry` writes (x86-64 Linux). It keeps no state, allocates nothing and may be called from any thread.
+ * which `rt staticlib robequarry` writes (x86-64 Linux). It keeps no state of its own, allocates nothing and may be called from any
+ * thread; a holder lives in memory that the caller lends, and is for one thread at a time.
  *
  * The chart. Cells have columns and rows 0 to 254, from the left and from the bottom; corners have 0 to 255. Cell (c, r) has
  * lower left corner (c, r). An outline is a start corner and letters, a byte each: 0 right, 1 up, 2 left, 3 down. A place is a
@@ -21,8 +22,8 @@
  *   5 column   of a cell
  *   6 row
  *
- * Refusals, each with the fields that it names. Of several that apply, the first is given in the order 12 to 15, then 1 to 11, then 16. There
- * is no refusal 7: an outline may run either way, and one that runs anticlockwise is read backward, each letter turned to its opposite.
+ * Refusals, each with the fields that it names. Of several that apply, the first is given in the order 19, 20, 12 to 15, then 1 to 11, then 16.
+ * There is no refusal 7: an outline may run either way, and one that runs anticlockwise is read backward, each letter turned to its opposite.
  *
  *    1  there are fewer than 4 or more than RQ_LETTERS letters
  *    2  a number of the start is above 255
@@ -36,12 +37,14 @@
  *   10  test: `edges` has no room for two numbers of each edge: place, the count of edges;
  *       loose query: the list has an odd count of numbers, or more than RQ_NUMBERS
  *   11  a cell number is above 254
- *   12  query: nothing is at work
+ *   12  query: nothing is at work at the place
  *   13  add, close, drop: there is no draft
  *   14  begin: a draft is open
  *   15  add: the draft has RQ_LETTERS letters
  *   16  an edge is nil, or the edges do not sum to nil, or their directions do not rise strictly, clockwise from up, which may be the
  *       first, to just short of up again
+ *   19  the party is above 1
+ *   20  the place is above 3; a close that it turns back ends its party's draft all the same
  *
  * The words used here (piece, back-step, factor, missing) are those of docs/CONTRACT.md, clauses 2 and 3.
  */
@@ -58,10 +61,13 @@ extern "C" {
 
 enum {
     RQ_REPLY = 7,     /* numbers of a reply */
-    RQ_CALL = 5,      /* bytes of a call in a script */
+    RQ_CALL = 11,     /* bytes of a call */
+    RQ_PARTIES = 2,   /* 0 knee, 1 ankle */
+    RQ_PLACES = 4,    /* places of a party, from 0 */
     RQ_LETTERS = 612, /* most letters of an outline, and of a draft */
     RQ_EDGES = 200,   /* numbers that the edges of any taken outline need at most */
-    RQ_NUMBERS = 2032 /* most numbers of a loose query's list */
+    RQ_NUMBERS = 2032, /* most numbers of a loose query's list */
+    RQ_HOLDER_BYTES = 4592 /* bytes of a holder, as rq_holder_bytes() says */
 };
 
 enum { RQ_NO_WORD = 0, RQ_INSIDE = 1, RQ_OUTSIDE = 2, RQ_TAKEN = 3, RQ_SAME = 4 };
@@ -96,17 +102,22 @@ bool rq_loose_query(uint16_t anchor_col, uint16_t anchor_row, const int16_t *edg
                     uint16_t *reply, size_t k);
 
 /*
- * Runs a script of calls from a fresh holder, which has no draft and nothing at work, and writes a reply for each.
+ * Calls on a holder, which has for each of two parties, knee and ankle, a draft and four places for outlines at work. A call has RQ_CALL
+ * bytes: its number, its party, its place, then x and y, numbers of 32 bits, low byte first. Bytes that are not named are ignored.
  *
- * A call has RQ_CALL bytes: its number, then two numbers of 16 bits, low byte first. Bytes that are not named are ignored.
- *
- *   0 begin   a start corner; opens a draft without letters
- *   1 add     a letter, the second byte; puts it at the draft's end
+ *   0 begin   a start corner, the first two bytes of x and of y; opens a draft without letters
+ *   1 add     a letter, the first byte of x; puts it at the draft's end
  *   2 drop    discards the draft
- *   3 clear   removes what is at work; the draft is kept
- *   4 close   tests the draft and ends it. If it is taken, it replaces what is at work, and the word is "same" where it encloses the same
- *             cells as what was at work, wherever and whichever way it was drawn, else "taken", with the fields of a taken test
- *   5 query   a cell; the word is "inside" if the outline at work encloses it, else "outside"
+ *   3 clear   removes what is at work at the place; the draft is kept
+ *   4 close   tests the draft and ends it. If it is taken, it replaces what is at work at the place, and the word is "same" where it encloses
+ *             the same cells as what was at work there, wherever and whichever way it was drawn, else "taken", with the fields of a taken test
+ *   5 query   a cell, the first two bytes of x and of y; the word is "inside" if the outline at work at the place encloses it, else "outside"
+ *
+ * A party's replies depend on its own calls alone. A call that 19 or 20 turns back alters nothing, but that a close ends its party's draft.
+ */
+
+/*
+ * Runs a script of calls, one after the other, on a fresh holder, which has no draft and nothing at work, and writes a reply for each.
  *
  * The run ends before a call with a number above 5, before one that the script's end cuts, and before one whose reply has no room in
  * the k numbers of `replies`. Returns how many replies were written; what stands behind them is unaltered.
@@ -114,6 +125,25 @@ bool rq_loose_query(uint16_t anchor_col, uint16_t anchor_row, const int16_t *edg
  * Stack: about 18,600 bytes.
  */
 size_t rq_replay(const uint8_t *script, size_t n, uint16_t *replies, size_t k);
+
+/* How many bytes a holder is: RQ_HOLDER_BYTES. */
+size_t rq_holder_bytes(void);
+
+/*
+ * Makes a holder of lent memory: no draft, and nothing at work. The memory has rq_holder_bytes() bytes, is aligned to 8, and is all zero
+ * bytes, or a holder already, before this call. Nobody else may write to it as long as it is used as a holder.
+ */
+void rq_fresh(void *holder);
+
+/*
+ * Makes one call of RQ_CALL bytes on a holder that rq_fresh made, and leaves it as the call says.
+ *
+ * False, with nothing altered, unless n is RQ_CALL, the call's number is at most 5 and k is at least RQ_REPLY. Else true; the reply stands
+ * first in `reply`, the rest is unaltered. Calls one after the other have the replies that a script of them has.
+ *
+ * Stack: about 18,600 bytes.
+ */
+bool rq_call(void *holder, const uint8_t *call, size_t n, uint16_t *reply, size_t k);
 
 #ifdef __cplusplus
 }

@@ -57,57 +57,82 @@ impl Fields {
     }
 }
 
-/// A call on a holder (contract 7.3 to 7.8).
+/// A call on a holder: whose it is, and what is to be done (contract 7).
 #[derive(Clone, Copy, Debug, PartialEq, Eq, Hash)]
-pub enum Call {
+pub struct Call {
+    /// 0 knee, 1 ankle; a greater one is turned back.
+    pub party: u8,
+    pub action: Action,
+}
+
+/// What a call does for its party (contract 7.3 to 7.8). A place above 3 is turned back.
+#[derive(Clone, Copy, Debug, PartialEq, Eq, Hash)]
+pub enum Action {
     /// Opens a draft without letters.
     Begin(Corner),
     /// Puts a letter at the draft's end.
     Add(u8),
     /// Discards the draft.
     Drop,
-    /// Removes what is at work.
-    Clear,
-    /// Tests the draft and ends it. If it is taken, it replaces what is at work.
-    Close,
-    /// Asks whether what is at work encloses a cell.
-    Query(Cell),
+    /// Removes what is at work at a place.
+    Clear { place: u8 },
+    /// Tests the draft and ends it. If it is taken, it replaces what is at work at the place.
+    Close { place: u8 },
+    /// Asks whether what is at work at a place encloses a cell.
+    Query { place: u8, cell: Cell },
+}
+
+impl Action {
+    /// The call of this party.
+    #[inline]
+    pub const fn by(self, party: u8) -> Call {
+        Call { party, action: self }
+    }
 }
 
 impl Call {
-    /// The call as a script has it (contract 10.3). Bytes that are ignored are 0.
+    /// The call as bytes (contract 10.3). Those that are ignored are 0.
     #[inline]
     pub fn bytes(self) -> [u8; CALL] {
         self.bytes_over([0; CALL])
     }
 
-    /// The call as a script has it, written over these bytes. Those that are ignored stay.
+    /// The call as bytes, written over these. Those that are ignored stay.
     #[inline]
-    pub fn bytes_over(self, bytes: [u8; CALL]) -> [u8; CALL] {
-        let [_, a, b, c, d] = bytes;
-        match self {
-            Call::Begin(start) => numbered(0, start.col, start.row),
-            Call::Add(letter) => [1, letter, b, c, d],
-            Call::Drop => [2, a, b, c, d],
-            Call::Clear => [3, a, b, c, d],
-            Call::Close => [4, a, b, c, d],
-            Call::Query(cell) => numbered(5, cell.col, cell.row),
+    pub fn bytes_over(self, mut bytes: [u8; CALL]) -> [u8; CALL] {
+        bytes[1] = self.party;
+        let mut put = |number: u8, place: Option<u8>, x: &[u8], y: &[u8]| {
+            bytes[0] = number;
+            bytes[2] = place.unwrap_or(bytes[2]);
+            bytes[X..X + x.len()].copy_from_slice(x);
+            bytes[Y..Y + y.len()].copy_from_slice(y);
+        };
+        match self.action {
+            Action::Begin(start) => put(0, None, &start.col.to_le_bytes(), &start.row.to_le_bytes()),
+            Action::Add(letter) => put(1, None, &[letter], &[]),
+            Action::Drop => put(2, None, &[], &[]),
+            Action::Clear { place } => put(3, Some(place), &[], &[]),
+            Action::Close { place } => put(4, Some(place), &[], &[]),
+            Action::Query { place, cell } => put(5, Some(place), &cell.col.to_le_bytes(), &cell.row.to_le_bytes()),
         }
+        bytes
     }
 
     /// The call that stands in these bytes; none if there is no call of that number.
     #[inline]
-    pub fn read([call, a, b, c, d]: [u8; CALL]) -> Option<Call> {
-        let (first, second) = (u16::from_le_bytes([a, b]), u16::from_le_bytes([c, d]));
-        match call {
-            0 => Some(Call::Begin(Corner::new(first, second))),
-            1 => Some(Call::Add(a)),
-            2 => Some(Call::Drop),
-            3 => Some(Call::Clear),
-            4 => Some(Call::Close),
-            5 => Some(Call::Query(Cell::new(first, second))),
-            _ => None,
-        }
+    pub fn read(bytes: [u8; CALL]) -> Option<Call> {
+        let [number, party, place, ..] = bytes;
+        let (x, y) = (u16::from_le_bytes([bytes[X], bytes[X + 1]]), u16::from_le_bytes([bytes[Y], bytes[Y + 1]]));
+        let action = match number {
+            0 => Action::Begin(Corner::new(x, y)),
+            1 => Action::Add(bytes[X]),
+            2 => Action::Drop,
+            3 => Action::Clear { place },
+            4 => Action::Close { place },
+            5 => Action::Query { place, cell: Cell::new(x, y) },
+            _ => return None,
+        };
+        Some(action.by(party))
     }
 
     /// The calls of a script, up to one that is cut or that is none.
@@ -122,24 +147,21 @@ impl Call {
     }
 }
 
-/// A call with two numbers of 16 bits, low byte first.
-#[inline]
-fn numbered(call: u8, first: u16, second: u16) -> [u8; CALL] {
-    let ([a, b], [c, d]) = (first.to_le_bytes(), second.to_le_bytes());
-    [call, a, b, c, d]
-}
+/// Where the two numbers of 32 bits of a call begin.
+const X: usize = 3;
+const Y: usize = 7;
 
 #[cfg(test)]
 mod tests {
     use super::*;
 
     const CALLS: [(Call, [u8; CALL]); 6] = [
-        (Call::Begin(Corner::new(0x0102, 0x0304)), [0, 2, 1, 4, 3]),
-        (Call::Add(9), [1, 9, 0, 0, 0]),
-        (Call::Drop, [2, 0, 0, 0, 0]),
-        (Call::Clear, [3, 0, 0, 0, 0]),
-        (Call::Close, [4, 0, 0, 0, 0]),
-        (Call::Query(Cell::new(0xff, 0x100)), [5, 0xff, 0, 0, 1]),
+        (Action::Begin(Corner::new(0x0102, 0x0304)).by(0), [0, 0, 0, 2, 1, 0, 0, 4, 3, 0, 0]),
+        (Action::Add(9).by(1), [1, 1, 0, 9, 0, 0, 0, 0, 0, 0, 0]),
+        (Action::Drop.by(255), [2, 255, 0, 0, 0, 0, 0, 0, 0, 0, 0]),
+        (Action::Clear { place: 3 }.by(1), [3, 1, 3, 0, 0, 0, 0, 0, 0, 0, 0]),
+        (Action::Close { place: 4 }.by(0), [4, 0, 4, 0, 0, 0, 0, 0, 0, 0, 0]),
+        (Action::Query { place: 2, cell: Cell::new(0xff, 0x100) }.by(1), [5, 1, 2, 0xff, 0, 0, 0, 0, 1, 0, 0]),
     ];
 
     #[test]
@@ -149,8 +171,8 @@ mod tests {
             assert_eq!(Call::read(bytes), Some(call));
             assert_eq!(Call::read(call.bytes_over([77; CALL])), Some(call));
         }
-        assert_eq!(Call::Add(9).bytes_over([77; CALL]), [1, 9, 77, 77, 77]);
-        assert!((6..=u8::MAX).all(|call| Call::read([call, 0, 0, 0, 0]).is_none()));
+        assert_eq!(Action::Add(9).by(1).bytes_over([77; CALL]), [1, 1, 77, 9, 77, 77, 77, 77, 77, 77, 77]);
+        assert!((6..=u8::MAX).all(|call| Call::read([call, 0, 0, 0, 0, 0, 0, 0, 0, 0, 0]).is_none()));
     }
 
     #[test]
@@ -159,7 +181,7 @@ mod tests {
         let script = Call::script(calls);
         assert!(Call::each(&script).eq(calls));
         assert!(Call::each(&script[..script.len() - 1]).eq(calls[..5].iter().copied()));
-        assert!(Call::each(&[&script[..10], &[6; CALL], &script[..]].concat()).eq(calls[..2].iter().copied()));
+        assert!(Call::each(&[&script[..2 * CALL], &[6; CALL], &script[..]].concat()).eq(calls[..2].iter().copied()));
     }
 
     #[test]

@@ -20,8 +20,8 @@
 //! # Ok::<(), Refusal>(())
 //! ```
 //!
-//! A [`Holder`] keeps a draft, letter by letter, and the outline at work. [`raw`] has the library's three functions as they
-//! are, on plain lists of numbers; [`codec`] reads and writes these, and [`limits`] names what bounds them.
+//! A [`Holder`] keeps, for each party, a draft, letter by letter, and the outlines at work. [`raw`] has the library's functions as
+//! they are, on plain lists of numbers; [`codec`] reads and writes these, and [`limits`] names what bounds them.
 //!
 //! The answers are proved; this crate, which turns lists of numbers into types, is not.
 
@@ -34,7 +34,7 @@ pub mod raw;
 mod refusal;
 
 pub use chart::{Cell, Corner};
-pub use codec::Call;
+pub use codec::{Action, Call};
 pub use holder::{Answer, Holder, Reply};
 pub use outline::{Edges, Outline, Taken, Verdict};
 pub use refusal::Refusal;

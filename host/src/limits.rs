@@ -28,10 +28,16 @@ pub const MOST_NUMBERS: usize = 2 * MOST_EDGES;
 pub const LONGEST_LIST: usize = 2032;
 
 /// The refusals are numbered from 1 to this (contract 5.2).
-pub const LAST_REFUSAL: u16 = 16;
+pub const LAST_REFUSAL: u16 = 20;
 
 /// A reply has this many numbers (contract 4.1).
 pub const REPLY: usize = 7;
 
-/// A call of a script has this many bytes (contract 10.3).
-pub const CALL: usize = 5;
+/// A call has this many bytes (contract 10.3).
+pub const CALL: usize = 11;
+
+/// There are this many parties (contract 7.1).
+pub const PARTIES: u8 = 2;
+
+/// Each party has outlines at this many places (contract 7.1).
+pub const PLACES: u8 = 4;

@@ -1,4 +1,4 @@
-//! The library's three functions as they are, with a list for each pointer and length.
+//! The library's functions as they are, with a list for each pointer and length.
 //!
 //! None of them asks anything of its numbers: every input is answered. [`codec`](crate::codec) reads replies and writes scripts;
 //! [`limits`](crate::limits) has their lengths.
@@ -28,6 +28,12 @@ mod library {
         ) -> bool;
 
         pub fn rq_replay(script: *const u8, n: usize, replies: *mut u16, k: usize) -> usize;
+
+        pub fn rq_holder_bytes() -> usize;
+
+        pub fn rq_fresh(holder: *mut u64);
+
+        pub fn rq_call(holder: *mut u64, call: *const u8, n: usize, reply: *mut u16, k: usize) -> bool;
     }
 }
 
@@ -78,4 +84,37 @@ pub fn loose_query(anchor_col: u16, anchor_row: u16, edges: &[i16], col: u16, ro
 pub fn replay(script: &[u8], replies: &mut [u16]) -> usize {
     // SAFETY: each pointer comes with the length of its own slice, and the slices do not overlap.
     unsafe { library::rq_replay(script.as_ptr(), script.len(), replies.as_mut_ptr(), replies.len()) }
+}
+
+/// How many bytes of memory a holder needs, aligned to 8.
+#[inline]
+pub fn holder_bytes() -> usize {
+    // SAFETY: it takes nothing.
+    unsafe { library::rq_holder_bytes() }
+}
+
+/// The memory that a holder lives in.
+#[derive(Clone, Debug)]
+pub struct HolderMemory(Box<[u64]>);
+
+impl HolderMemory {
+    /// A fresh holder.
+    pub fn fresh() -> Self {
+        let mut memory = HolderMemory(vec![0; holder_bytes().div_ceil(8)].into());
+        memory.refresh();
+        memory
+    }
+
+    /// Makes it a fresh holder again.
+    pub fn refresh(&mut self) {
+        // SAFETY: it is memory of a holder's size and alignment, and all zero at first.
+        unsafe { library::rq_fresh(self.0.as_mut_ptr()) }
+    }
+
+    /// Makes one call on it. False, with nothing altered, if the bytes are no call or `reply` has no room for a reply.
+    #[inline]
+    pub fn call(&mut self, call: &[u8], reply: &mut [u16]) -> bool {
+        // SAFETY: as above, and each pointer comes with the length of its own slice. The memory is this holder's alone.
+        unsafe { library::rq_call(self.0.as_mut_ptr(), call.as_ptr(), call.len(), reply.as_mut_ptr(), reply.len()) }
+    }
 }

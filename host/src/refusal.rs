@@ -2,7 +2,7 @@ use std::error::Error;
 use std::fmt;
 
 use crate::codec::Fields;
-use crate::limits::{LAST_CELL, LAST_CORNER, LAST_LETTER, LAST_REFUSAL, LONGEST, LONGEST_LIST, SHORTEST};
+use crate::limits::{LAST_CELL, LAST_CORNER, LAST_LETTER, LAST_REFUSAL, LONGEST, LONGEST_LIST, PARTIES, PLACES, SHORTEST};
 use crate::Cell;
 
 /// Why a call was turned back. A place counts the letters before it in the list as sent; pieces are numbered 1 to 4. There is no
@@ -41,6 +41,10 @@ pub enum Refusal {
     DraftFull,
     /// 16: the edges do not lead once round clockwise.
     Turning,
+    /// 19: there is no such party.
+    Party,
+    /// 20: there is no such place.
+    Place,
 }
 
 impl Refusal {
@@ -62,6 +66,8 @@ impl Refusal {
             Refusal::DraftOpen => 14,
             Refusal::DraftFull => 15,
             Refusal::Turning => 16,
+            Refusal::Party => 19,
+            Refusal::Place => 20,
         }
     }
 
@@ -90,6 +96,8 @@ impl Refusal {
             14 => Refusal::DraftOpen,
             15 => Refusal::DraftFull,
             16 => Refusal::Turning,
+            19 => Refusal::Party,
+            20 => Refusal::Place,
             other => unreachable!("the library's last refusal is {LAST_REFUSAL}, not {other}"),
         };
         Some(refusal)
@@ -127,6 +135,8 @@ impl fmt::Display for Refusal {
             Refusal::DraftOpen => write!(f, "a draft is open"),
             Refusal::DraftFull => write!(f, "the draft has {LONGEST} letters"),
             Refusal::Turning => write!(f, "the edges do not lead once round, clockwise from up"),
+            Refusal::Party => write!(f, "the party is none of the {PARTIES}"),
+            Refusal::Place => write!(f, "the place is none of the {PLACES}"),
         }
     }
 }

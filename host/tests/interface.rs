@@ -1,17 +1,21 @@
-//! The safe interface's own part: lists as types, the holder's kept calls, the refusals' words.
+//! The safe interface's own part: lists as types, the holder's memory, the refusals' words.
 
-use robequarry::limits::{LAST_CORNER, LONGEST, LONGEST_LIST, REPLY};
-use robequarry::{raw, Answer, Call, Cell, Corner, Edges, Holder, Refusal, Taken};
+use robequarry::limits::{CALL, LAST_CORNER, LONGEST, LONGEST_LIST, PARTIES, PLACES, REPLY};
+use robequarry::{raw, Action, Answer, Cell, Corner, Edges, Holder, Refusal, Taken};
 
 const BAR: [u8; 8] = [1, 0, 0, 0, 3, 2, 2, 2];
 const CELL: [u8; 4] = [1, 0, 3, 2];
 
-fn draw(holder: &mut Holder, start: (u16, u16), letters: &[u8]) -> robequarry::Reply {
-    holder.begin(Corner::new(start.0, start.1))?;
+const KNEE: u8 = 0;
+const ANKLE: u8 = 1;
+
+/// Draws an outline for the knee and closes it at this place.
+fn draw(holder: &mut Holder, place: u8, start: (u16, u16), letters: &[u8]) -> robequarry::Reply {
+    holder.begin(KNEE, Corner::new(start.0, start.1))?;
     for &letter in letters {
-        holder.add(letter)?;
+        holder.add(KNEE, letter)?;
     }
-    holder.close()
+    holder.close(KNEE, place)
 }
 
 #[test]
@@ -21,7 +25,7 @@ fn reply_list_without_room() {
         let mut reply = vec![5; room];
         assert!(!raw::test(0, 0, &BAR, &mut edges, &mut reply));
         assert!(!raw::loose_query(0, 0, &edges, 0, 0, &mut reply));
-        assert_eq!(raw::replay(&Call::Clear.bytes(), &mut reply), 0);
+        assert_eq!(raw::replay(&Action::Drop.by(KNEE).bytes(), &mut reply), 0);
         assert_eq!((edges, reply), ([9; 4], vec![5; room]));
     }
     let mut reply = [5; 9];
@@ -62,50 +66,92 @@ fn lists_that_do_not_lead_once_round() {
 fn holder_keeps_draft_and_work() {
     let mut holder = Holder::new();
     let bar = Taken { edges: 2, anchor: Cell::new(5, 5) };
-    assert_eq!(holder.query(Cell::new(5, 5)), Err(Refusal::NothingAtWork));
-    assert_eq!(holder.add(1), Err(Refusal::NoDraft));
-    assert_eq!(draw(&mut holder, (5, 5), &BAR), Ok(Answer::Taken(bar)));
-    assert_eq!(draw(&mut holder, (5, 5), &BAR), Ok(Answer::Same(bar)));
-    assert_eq!(holder.query(Cell::new(7, 5)), Ok(true));
-    assert_eq!(holder.query(Cell::new(8, 5)), Ok(false));
-    assert_eq!(holder.query(Cell::new(255, 5)), Err(Refusal::Cell));
+    let at = |col| Cell::new(col, 5);
+    assert_eq!(holder.query(KNEE, 0, at(5)), Err(Refusal::NothingAtWork));
+    assert_eq!(holder.add(KNEE, 1), Err(Refusal::NoDraft));
+    assert_eq!(draw(&mut holder, 0, (5, 5), &BAR), Ok(Answer::Taken(bar)));
+    assert_eq!(draw(&mut holder, 0, (5, 5), &BAR), Ok(Answer::Same(bar)));
+    assert_eq!(holder.query(KNEE, 0, at(7)), Ok(true));
+    assert_eq!(holder.query(KNEE, 0, at(8)), Ok(false));
+    assert_eq!(holder.query(KNEE, 0, at(255)), Err(Refusal::Cell));
 
     // A draft in the making, and one that is refused, leave what is at work.
-    holder.begin(Corner::new(0, 0)).unwrap();
-    assert_eq!(holder.begin(Corner::new(0, 0)), Err(Refusal::DraftOpen));
-    holder.add(1).unwrap();
-    assert_eq!(holder.add(4), Err(Refusal::Letter { place: 1 }));
-    assert_eq!(holder.query(Cell::new(7, 5)), Ok(true));
-    assert_eq!(holder.close(), Err(Refusal::Count));
-    assert_eq!(holder.close(), Err(Refusal::NoDraft));
-    assert_eq!(holder.query(Cell::new(7, 5)), Ok(true));
+    holder.begin(KNEE, Corner::new(0, 0)).unwrap();
+    assert_eq!(holder.begin(KNEE, Corner::new(0, 0)), Err(Refusal::DraftOpen));
+    holder.add(KNEE, 1).unwrap();
+    assert_eq!(holder.add(KNEE, 4), Err(Refusal::Letter { place: 1 }));
+    assert_eq!(holder.query(KNEE, 0, at(7)), Ok(true));
+    assert_eq!(holder.close(KNEE, 0), Err(Refusal::Count));
+    assert_eq!(holder.close(KNEE, 0), Err(Refusal::NoDraft));
+    assert_eq!(holder.query(KNEE, 0, at(7)), Ok(true));
 
     // A clear keeps the draft, and what was at work is then no longer the same.
-    holder.begin(Corner::new(5, 5)).unwrap();
-    holder.clear();
-    assert_eq!(holder.query(Cell::new(7, 5)), Err(Refusal::NothingAtWork));
-    holder.run(&BAR.map(Call::Add));
-    assert_eq!(holder.close(), Ok(Answer::Taken(bar)));
+    holder.begin(KNEE, Corner::new(5, 5)).unwrap();
+    holder.clear(KNEE, 0).unwrap();
+    assert_eq!(holder.query(KNEE, 0, at(7)), Err(Refusal::NothingAtWork));
+    for letter in BAR {
+        holder.add(KNEE, letter).unwrap();
+    }
+    assert_eq!(holder.close(KNEE, 0), Ok(Answer::Taken(bar)));
 
     // Another outline takes its place.
     let cell = Taken { edges: 0, anchor: Cell::new(9, 9) };
-    assert_eq!(draw(&mut holder, (9, 9), &CELL), Ok(Answer::Taken(cell)));
-    assert_eq!(holder.query(Cell::new(7, 5)), Ok(false));
-    assert_eq!(holder.drop_draft(), Err(Refusal::NoDraft));
-    holder.begin(Corner::new(0, 0)).unwrap();
-    holder.drop_draft().unwrap();
-    assert_eq!(holder.begin(Corner::new(0, 256)), Err(Refusal::Start));
+    assert_eq!(draw(&mut holder, 0, (9, 9), &CELL), Ok(Answer::Taken(cell)));
+    assert_eq!(holder.query(KNEE, 0, at(7)), Ok(false));
+    assert_eq!(holder.drop_draft(KNEE), Err(Refusal::NoDraft));
+    holder.begin(KNEE, Corner::new(0, 0)).unwrap();
+    holder.drop_draft(KNEE).unwrap();
+    assert_eq!(holder.begin(KNEE, Corner::new(0, 256)), Err(Refusal::Start));
+}
+
+#[test]
+fn parties_and_places_stand_apart() {
+    let mut holder = Holder::new();
+    let bar = Taken { edges: 2, anchor: Cell::new(5, 5) };
+    let cell = Cell::new(5, 5);
+    holder.begin(ANKLE, Corner::new(1, 1)).unwrap();
+    assert_eq!(draw(&mut holder, 2, (5, 5), &BAR), Ok(Answer::Taken(bar)));
+    assert_eq!(draw(&mut holder, 3, (5, 5), &BAR), Ok(Answer::Taken(bar)));
+    assert_eq!(holder.query(ANKLE, 2, cell), Err(Refusal::NothingAtWork));
+    assert_eq!(holder.query(KNEE, 0, cell), Err(Refusal::NothingAtWork));
+    holder.clear(KNEE, 2).unwrap();
+    assert_eq!(holder.query(KNEE, 2, cell), Err(Refusal::NothingAtWork));
+    assert_eq!(holder.query(KNEE, 3, cell), Ok(true));
+
+    // 19 before 20, and both before all others; a close that 20 turns back ends its party's draft.
+    assert_eq!(holder.begin(PARTIES, Corner::new(256, 0)), Err(Refusal::Party));
+    assert_eq!(holder.clear(PARTIES, PLACES), Err(Refusal::Party));
+    assert_eq!(holder.query(ANKLE, PLACES, Cell::new(255, 0)), Err(Refusal::Place));
+    holder.begin(KNEE, Corner::new(1, 1)).unwrap();
+    assert_eq!(holder.close(ANKLE, PLACES), Err(Refusal::Place));
+    assert_eq!(holder.close(ANKLE, 0), Err(Refusal::NoDraft));
+    assert_eq!(holder.begin(KNEE, Corner::new(1, 1)), Err(Refusal::DraftOpen));
 }
 
 #[test]
 fn full_draft() {
     let mut holder = Holder::new();
-    holder.begin(Corner::new(0, 0)).unwrap();
-    let replies = holder.run(&[Call::Add(1); LONGEST]);
-    assert!(replies.iter().all(|reply| *reply == Ok(Answer::Done)));
-    assert_eq!(holder.add(1), Err(Refusal::DraftFull));
-    assert_eq!(holder.add(9), Err(Refusal::DraftFull));
-    assert_eq!(holder.close(), Err(Refusal::Leaves { place: usize::from(LAST_CORNER) }));
+    holder.begin(KNEE, Corner::new(0, 0)).unwrap();
+    for _ in 0..LONGEST {
+        holder.add(KNEE, 1).unwrap();
+    }
+    assert_eq!(holder.add(KNEE, 1), Err(Refusal::DraftFull));
+    assert_eq!(holder.add(KNEE, 9), Err(Refusal::DraftFull));
+    assert_eq!(holder.close(KNEE, 0), Err(Refusal::Leaves { place: usize::from(LAST_CORNER) }));
+}
+
+#[test]
+fn bytes_that_are_no_call() {
+    let mut memory = raw::HolderMemory::fresh();
+    let drop = Action::Drop.by(KNEE).bytes();
+    let mut reply = [5; REPLY + 1];
+    for bytes in [&drop[..CALL - 1], &[], &[&drop[..], &[0]].concat(), &[6, 0, 0, 0, 0, 0, 0, 0, 0, 0, 0]] {
+        assert!(!memory.call(bytes, &mut reply), "{bytes:?}");
+    }
+    assert!(!memory.call(&Action::Begin(Corner::new(0, 0)).by(KNEE).bytes(), &mut reply[..REPLY - 1]));
+    assert_eq!(reply, [5; REPLY + 1]);
+    assert!(memory.call(&drop, &mut reply));
+    assert_eq!(reply, [13, 0, 0, 0, 0, 0, 0, 5]);
 }
 
 #[test]
@@ -115,6 +161,7 @@ fn refusals_in_words() {
     assert_eq!(Refusal::Count.to_string(), "fewer than 4 or more than 612 letters");
     assert_eq!(Refusal::List.number(), 10);
     assert_eq!(Refusal::Turning.number(), 16);
+    assert_eq!((Refusal::Party.number(), Refusal::Place.number()), (19, 20));
     let error: Box<dyn std::error::Error> = Box::new(Refusal::NoDraft);
     assert_eq!(error.to_string(), "there is no draft");
 }

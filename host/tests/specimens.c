@@ -5,6 +5,15 @@
 _Static_assert(RQ_REPLY == REPLY && RQ_CALL == CALL, "numbers of a reply, bytes of a call");
 _Static_assert(RQ_LETTERS == LONGEST && RQ_EDGES == MOST_NUMBERS && RQ_NUMBERS == LONGEST_LIST, "letters of an outline, numbers of its edges and of a loose list");
 
+_Static_assert(RQ_HOLDER_BYTES == HOLDER && RQ_HOLDER_BYTES % 8 == 0, "bytes of a holder");
+
+/* The holder's fields as the C compiler lays them out. */
+struct point { uint16_t col, row; };
+struct draft { bool begun; struct point start; uint8_t letters[RQ_LETTERS]; size_t count; };
+struct work { bool taken; struct point anchor; int16_t numbers[RQ_EDGES]; size_t edges; };
+struct holder { struct draft drafts[RQ_PARTIES]; struct work works[RQ_PARTIES * RQ_PLACES]; };
+_Static_assert(sizeof(struct holder) == RQ_HOLDER_BYTES && _Alignof(struct holder) <= 8, "size and alignment of a holder");
+
 #define EXPECT(fact) \
     do { \
         if (!(fact)) return __LINE__; \
@@ -32,12 +41,26 @@ int main(void) {
     EXPECT(rq_test(0, 0, dented, sizeof dented, edges, RQ_EDGES, reply, RQ_REPLY));
     EXPECT(reply[0] == 9 && reply[2] == 4 && reply[3] == 2 && reply[4] == 4 && reply[5] == 1 && reply[6] == 1);
 
-    /* H1 through the holder: begin, four adds, close, query; the last call is cut. */
+    /* H1 through the holder: begin, four adds, close at place 2, query; the last call is cut. */
     const uint8_t script[] = {
-        0, 0, 0, 0, 0, 1, 1, 0, 0, 0, 1, 0, 0, 0, 0, 1, 3, 0, 0, 0, 1, 2, 0, 0, 0, 4, 0, 0, 0, 0, 5, 0, 0, 0, 0, 5, 1,
+        0, 1, 0, 0, 0, 0, 0, 0, 0, 0, 0, /* begin at (0, 0) for party 1 */
+        1, 1, 0, 1, 0, 0, 0, 0, 0, 0, 0, 1, 1, 0, 0, 0, 0, 0, 0, 0, 0, 0, 1, 1, 0, 3, 0, 0, 0, 0, 0, 0, 0, 1, 1, 0, 2, 0, 0, 0, 0, 0, 0, 0,
+        4, 1, 2, 0, 0, 0, 0, 0, 0, 0, 0, 5, 1, 2, 0, 0, 0, 0, 0, 0, 0, 0, 5, 1,
     };
     uint16_t replies[8 * RQ_REPLY];
     EXPECT(rq_replay(script, sizeof script, replies, 8 * RQ_REPLY) == 7);
     EXPECT(replies[5 * RQ_REPLY + 1] == RQ_TAKEN && replies[6 * RQ_REPLY + 1] == RQ_INSIDE);
+
+    /* The same calls one by one on a live holder, with a guard behind its memory. */
+    static uint64_t memory[RQ_HOLDER_BYTES / 8 + 1];
+    memory[RQ_HOLDER_BYTES / 8] = 0x5a5a5a5a5a5a5a5a;
+    EXPECT(rq_holder_bytes() == RQ_HOLDER_BYTES);
+    rq_fresh(memory);
+    for (int i = 0; i < 7; i++) {
+        EXPECT(rq_call(memory, script + RQ_CALL * i, RQ_CALL, reply, RQ_REPLY));
+        for (int j = 0; j < RQ_REPLY; j++) EXPECT(reply[j] == replies[RQ_REPLY * i + j]);
+    }
+    EXPECT(!rq_call(memory, script, RQ_CALL - 1, reply, RQ_REPLY) && !rq_call(memory, script, RQ_CALL, reply, RQ_REPLY - 1));
+    EXPECT(memory[RQ_HOLDER_BYTES / 8] == 0x5a5a5a5a5a5a5a5a);
     return 0;
 }

@@ -1,5 +1,5 @@
--- A query is answered from the outline last taken, because that outline is the book's work.
-use Prim.Native.Nat.{_<_}
+-- A query is answered from the outline last taken at its party and place, because that outline is the book's work there.
+use Prim.Native.Nat.{ℕ, _<_}
 use native.Mathlib.Omega.{arith}
 use mathlib.Core.Path.{_≡_, refl, ap, _∙_}
 use mathlib.Core.Logic.{_↔_}
@@ -13,11 +13,12 @@ use Rattle.chart.specs.declared.Point.{Point}
 use Rattle.chart.specs.declared.Refusal.the-variants.{Cell}
 use Rattle.convexity.specs.Reading.{block}
 use Rattle.polygon.specs.Loose.{badCell}
+use Rattle.calls.specs.Calls.{parties, places, badParty, badPlace, by}
 use Rattle.calls.specs.Replies.{replyFields}
 use Rattle.calls.specs.declared.Call.{Call}
-use Rattle.calls.specs.declared.Call.the-variants.{Query}
+use Rattle.calls.specs.declared.Action.the-variants.{Query}
 use Rattle.calls.specs.declared.Reply.the-variants.{Inside, Outside, Refused as WasRefused}
-use Rattle.book.specs.Book.{asked, answer}
+use Rattle.book.specs.Book.{asked, acts, answer}
 use Rattle.book.specs.LastTaken.{lastTaken}
 use Rattle.book.proofs.LastTaken.{work-last-taken}
 use Rattle.holder.specs.Run.{replyAfter}
@@ -46,24 +47,25 @@ asked-nothing x (some o) = go (badCell x) (block o (x .col) (x .row))
     go false true = (λ e. absurd (omega (arith, e)), λ e. cc)
     go false false = (λ e. absurd (omega (arith, e)), λ e. cc)
 
-module _ (cs : List Call) (x : Point) where
-  -- The reply of a query is read off the outline last taken
-  pub query-reply : replyAfter cs (Query x) ≡ asked x (lastTaken cs)
-  unfolding answer
-  query-reply = reply-after cs (Query x) ∙ ap (asked x) (work-last-taken cs)
+-- A query of party p at place k, after a list of calls
+module _ (p k : ℕ) (there : p < parties) (inside : k < places) (cs : List Call) (x : Point) where
+  -- Its reply is read off the outline last taken there
+  pub query-reply : replyAfter cs (by p (Query k x)) ≡ asked x (lastTaken p k cs)
+  unfolding answer acts
+  query-reply = reply-after cs (by p (Query k x)) ∙ rw (lt-leb parties p there, lt-leb places k inside) (ap (asked x) (work-last-taken p k cs))
 
   -- It has number 12 exactly when there is none
-  pub query-nothing : (replyFields (replyAfter cs (Query x)) .number ≡ 12) ↔ (lastTaken cs ≡ none)
-  query-nothing = rw query-reply (asked-nothing x (lastTaken cs))
+  pub query-nothing : (replyFields (replyAfter cs (by p (Query k x))) .number ≡ 12) ↔ (lastTaken p k cs ≡ none)
+  query-nothing = rw query-reply (asked-nothing x (lastTaken p k cs))
 
-  module _ (o : Outline) (last : lastTaken cs ≡ some o) (col : x .col < side) (row : x .row < side) where
-    answered : replyAfter cs (Query x) ≡ cond (block o (x .col) (x .row)) Inside Outside
+  module _ (o : Outline) (last : lastTaken p k cs ≡ some o) (col : x .col < side) (row : x .row < side) where
+    answered : replyAfter cs (by p (Query k x)) ≡ cond (block o (x .col) (x .row)) Inside Outside
     unfolding asked
     answered = query-reply ∙ ap (asked x) last ∙ rw (not-bad-cell x col row)
 
     -- It is "inside" exactly when that outline encloses the cell, and else "outside" (contract 8.4)
-    pub query-inside : (replyAfter cs (Query x) ≡ Inside) ↔ (block o (x .col) (x .row) ≡ true)
+    pub query-inside : (replyAfter cs (by p (Query k x)) ≡ Inside) ↔ (block o (x .col) (x .row) ≡ true)
     query-inside = rw answered (says-inside (block o (x .col) (x .row)))
 
-    pub query-outside : (replyAfter cs (Query x) ≡ Outside) ↔ (block o (x .col) (x .row) ≡ false)
+    pub query-outside : (replyAfter cs (by p (Query k x)) ≡ Outside) ↔ (block o (x .col) (x .row) ≡ false)
     query-outside = rw answered (says-outside (block o (x .col) (x .row)))

@@ -33,11 +33,11 @@ use Rattle.polygon.specs.Loose.{badCell}
 use Rattle.polygon.proofs.LooseCases.{inside-short}
 use Rattle.calls.specs.declared.Reply.{Reply}
 use Rattle.calls.specs.declared.Reply.the-variants.{Taken as WasTaken, Same, Refused as WasRefused}
-use Rattle.book.specs.Book.{sameBlock, equalsWork, closedReply as closedInBook, workAfter as workInBook, asked}
+use Rattle.book.specs.Book.{sameBlock, equalsWork, closedReply as closedInBook, asked}
 use Rattle.book.proofs.SameBlock.{same-block-iff}
 use Rattle.work.specs.declared.Work.{Work}
 use Rattle.work.specs.Work.{listed, workEdges, noWork, replaced, removed, hasEdges, located}
-use Rattle.holder.specs.Holder.{closedReply, workAfter}
+use Rattle.holder.specs.Holder.{closedReply}
 
 -- ---- the relation
 
@@ -79,7 +79,8 @@ module _ (o : Outline) (n : ℕ) (a : Point) (e : verdictOf o ≡ Taken n a) whe
       let size : length es ≡ 2 * n = edges-length (border o) ∙ ap (λ (j : ℕ). 2 * j) (sym (facts .count)) in
       rw all (take-at es (drop (length es) (replicate mostNumbers (pos 0))) (2 * n) size)
 
-  taken-working : Working (replaced a (numbersOf o (Taken n a)) n) o
+  -- What it becomes at work
+  pub taken-working : Working (replaced a (numbersOf o (Taken n a)) n) o
   unfolding replaced workEdges
   taken-working =
       record { taken = refl; anchor = facts .anchor; edges = listed-edges; reaches = facts .reaches; undented = facts .undented }
@@ -139,11 +140,11 @@ same-work w o n a e (some v) k = flag-true (w .taken) _ (k .taken) ∙ compared 
 
 -- ---- close
 
-pub closed-agrees : (w : Work) (v : Option Outline) → IsWork w v → (o : Outline) (t : Verdict) → verdictOf o ≡ t
-    → (closedReply w (numbersOf o t) t ≡ closedInBook (equalsWork o v) t) × IsWork (workAfter w (numbersOf o t) t) (workInBook v o t)
-unfolding closedReply closedInBook workAfter workInBook
-closed-agrees w v k o (Refused f) e = (refl, k)
-closed-agrees w v k o (Taken n a) e = (ap (λ (s : Bool). cond s (Same n a) (WasTaken n a)) (same-work w o n a e v k), taken-working o n a e)
+-- The reply goes by the edges in the holder and by the cells in the book
+pub closed-agrees : (w : Work) (v : Option Outline) → IsWork w v → (o : Outline) (t : Verdict) → verdictOf o ≡ t → closedReply w (numbersOf o t) t ≡ closedInBook (equalsWork o v) t
+unfolding closedReply closedInBook
+closed-agrees w v k o (Refused f) e = refl
+closed-agrees w v k o (Taken n a) e = ap (λ (s : Bool). cond s (Same n a) (WasTaken n a)) (same-work w o n a e v k)
 
 -- ---- query
 

@@ -1,7 +1,8 @@
--- Laws of the tests below a bound, of a list's members and of two lists; prefixes of lists; sizes and order of integers, integers as differences of naturals, and the laws of
+-- Laws of the tests below a bound, of a list's members and of two lists; functions with one value replaced; prefixes of lists; sizes and order of integers, integers as differences of naturals, and the laws of
 -- their sums and products; weighted means; weights of lists without repeats.
 pub mod BelowLaws
 pub mod EachLaws
+pub mod PutLaws
 pub mod Same
 pub mod Prefix
 pub mod Sizes

@@ -6,6 +6,7 @@ use mathlib.Core.List.{List, [], _∷_, _++_}
 use lib.ListN.{length}
 use lib.Dec.{leb, ltb}
 use Rattle.base.specs.Below.{every}
+use Rattle.base.specs.Put.{put}
 use Rattle.chart.specs.Limits.{side, longest}
 use Rattle.chart.specs.Outline.{Outline}
 use Rattle.chart.specs.declared.Point.{Point}
@@ -16,34 +17,39 @@ use Rattle.lattice.specs.Refusals.{badStart}
 use Rattle.convexity.specs.Reading.{block}
 use Rattle.verdict.specs.Verdict.{verdictOf}
 use Rattle.polygon.specs.Loose.{badCell}
+use Rattle.calls.specs.Calls.{badParty, badPlace}
 use Rattle.calls.specs.declared.Call.{Call}
-use Rattle.calls.specs.declared.Call.the-variants.{Begin, Add, Drop, Clear, Close, Query}
+use Rattle.calls.specs.declared.Action.{Action}
+use Rattle.calls.specs.declared.Action.the-variants.{Begin, Add, Drop, Clear, Close, Query}
 use Rattle.calls.specs.declared.Reply.{Reply}
-use Rattle.calls.specs.declared.Reply.the-variants.{Done, Inside, Outside, Taken as WasTaken, Same, Refused as WasRefused, NothingAtWork, NoDraft, DraftOpen, DraftFull}
+use Rattle.calls.specs.declared.Reply.the-variants.{Done, Inside, Outside, Taken as WasTaken, Same, Refused as WasRefused, NothingAtWork, NoDraft, DraftOpen, DraftFull, NoParty, NoPlace}
 
 -- ---- the entries
 
--- Its two entries. Either may be empty
-pub record Book : Type 0 where
+-- A party's page: its draft, and the outline at each place. Any of them may be none
+pub record Page : Type 0 where
   pub draft : Option Outline
-  pub work : Option Outline
+  pub works : ℕ → Option Outline
 
--- The slots: read, and put. What follows reaches the draft and the work by these alone
-abbrev pub drafted : Book → Option Outline
-drafted b = b .draft
+abbrev pub putDraft : Page → Option Outline → Page
+putDraft g d = record { draft = d; works = g .works }
 
-abbrev pub atWork : Book → Option Outline
-atWork b = b .work
+abbrev pub putWork : Page → ℕ → Option Outline → Page
+putWork g k w = record { draft = g .draft; works = put (g .works) k w }
 
-abbrev pub putDraft : Book → Option Outline → Book
-putDraft b d = record { draft = d; work = b .work }
+-- A page for each party
+abbrev pub Book : Type 0
+Book = ℕ → Page
 
-abbrev pub putWork : Book → Option Outline → Book
-putWork b w = record { draft = b .draft; work = w }
+abbrev pub drafted : Book → ℕ → Option Outline
+drafted b p = b p .draft
 
--- Both are none at first
+abbrev pub atWork : Book → ℕ → ℕ → Option Outline
+atWork b p k = b p .works k
+
+-- All are none at first
 unfoldable pub fresh : Book
-fresh = record { draft = none; work = none }
+fresh p = record { draft = none; works = λ k. none }
 
 -- ---- what a call does to a draft: its reply, and the draft afterwards
 
@@ -108,6 +114,28 @@ unfoldable pub asked : Point → Option Outline → Reply
 asked x none = NothingAtWork
 asked x (some o) = cond (badCell x) (WasRefused Cell) (cond (block o (x .col) (x .row)) Inside Outside)
 
+-- ---- the calls of a party
+
+-- A reply, and the page after it
+pub record OnPage : Type 0 where
+  pub reply : Reply
+  pub page : Page
+
+abbrev pub drafting : Page → OnDraft → OnPage
+drafting g a = record { reply = a .reply; page = putDraft g (a .draft) }
+
+abbrev pub closing : Page → ℕ → OnWork → OnPage
+closing g k a = record { reply = a .reply; page = putWork (putDraft g none) k (a .work) }
+
+-- Contract 7.3 to 7.8; a clear is 7.6. Where a place is named 20 comes first, and a close that it turns back ends the draft
+unfoldable pub acts : Page → Action → OnPage
+acts g (Begin s) = drafting g (begins s (g .draft))
+acts g (Add a) = drafting g (adds a (g .draft))
+acts g Drop = drafting g (drops (g .draft))
+acts g (Clear k) = cond (badPlace k) (record { reply = NoPlace; page = g }) (record { reply = Done; page = putWork g k none })
+acts g (Close k) = cond (badPlace k) (record { reply = NoPlace; page = putDraft g none }) (closing g k (closes (g .draft) (g .works k)))
+acts g (Query k x) = record { reply = cond (badPlace k) NoPlace (asked x (g .works k)); page = g }
+
 -- ---- the calls
 
 -- The reply of a call, and the book after it
@@ -115,20 +143,11 @@ pub record Answer : Type 0 where
   pub reply : Reply
   pub next : Book
 
-abbrev pub drafting : Book → OnDraft → Answer
-drafting b a = record { reply = a .reply; next = putDraft b (a .draft) }
-
-abbrev pub closing : Book → OnWork → Answer
-closing b a = record { reply = a .reply; next = putWork (putDraft b none) (a .work) }
-
--- Contract 7.3 to 7.8; a clear is 7.6
+-- 19 comes first (contract 7.2); else the party's page alone is read and turned
 unfoldable pub answer : Book → Call → Answer
-answer b (Begin s) = drafting b (begins s (drafted b))
-answer b (Add a) = drafting b (adds a (drafted b))
-answer b Drop = drafting b (drops (drafted b))
-answer b Clear = record { reply = Done; next = putWork b none }
-answer b Close = closing b (closes (drafted b) (atWork b))
-answer b (Query x) = record { reply = asked x (atWork b); next = b }
+answer b c =
+    cond (badParty (c .party)) (record { reply = NoParty; next = b })
+    (record { reply = acts (b (c .party)) (c .action) .reply; next = put b (c .party) (acts (b (c .party)) (c .action) .page) })
 
 -- The replies of a list of calls, each call given the book that the last one left, and the book after them all
 unfoldable pub repliesFrom : Book → List Call → List Reply

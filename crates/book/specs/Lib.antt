@@ -1,3 +1,4 @@
--- The plain book, and the outline last taken.
+-- The plain book; the outline last taken; the calls of one party.
 pub mod Book
 pub mod LastTaken
+pub mod Parties

@@ -1,2 +1,3 @@
--- Replies written out.
+-- Calls, and replies written out.
+pub mod Calls
 pub mod Replies

@@ -2,7 +2,7 @@
 use Rattle.chart.specs.declared.Fields.{Fields}
 use Rattle.chart.specs.Fields.{numbered, said, accepted, refusalFields, no-word, inside, outside, taken, same}
 use Rattle.calls.specs.declared.Reply.{Reply}
-use Rattle.calls.specs.declared.Reply.the-variants.{Done, Inside, Outside, Taken, Same, Refused, NothingAtWork, NoDraft, DraftOpen, DraftFull}
+use Rattle.calls.specs.declared.Reply.the-variants.{Done, Inside, Outside, Taken, Same, Refused, NothingAtWork, NoDraft, DraftOpen, DraftFull, NoParty, NoPlace}
 
 unfoldable pub replyFields : Reply → Fields
 replyFields Done = said no-word
@@ -15,3 +15,5 @@ replyFields NothingAtWork = numbered 12
 replyFields NoDraft = numbered 13
 replyFields DraftOpen = numbered 14
 replyFields DraftFull = numbered 15
+replyFields NoParty = numbered 19
+replyFields NoPlace = numbered 20

@@ -4,14 +4,25 @@ use chart::Refusal;
 
 pub mod written;
 
-// A call, with its argument (contract 7).
-pub enum Call {
+// There are this many parties, knee and ankle, and each keeps outlines at this many places.
+pub const PARTIES: usize = 2;
+
+pub const PLACES: usize = 4;
+
+// A call: whose it is, and what is to be done.
+pub struct Call {
+    pub party: u8,
+    pub action: Action,
+}
+
+// What a call does for its party, with its argument (contract 7).
+pub enum Action {
     Begin { start: Point },
     Add { letter: u8 },
     Drop,
-    Clear,
-    Close,
-    Query { cell: Point },
+    Clear { place: u8 },
+    Close { place: u8 },
+    Query { place: u8, cell: Point },
 }
 
 // What a call answers.
@@ -25,7 +36,7 @@ pub enum Reply {
     Same { edges: u16, anchor: Point },
     // Refusals 1 to 11.
     Refused(Refusal),
-    // 12. Asked of a holder with an empty work.
+    // 12. Nothing is at work at the place.
     NothingAtWork,
     // 13. No draft to add to, to close or to drop.
     NoDraft,
@@ -33,4 +44,8 @@ pub enum Reply {
     DraftOpen,
     // 15. Add with as many letters in the draft as it may have.
     DraftFull,
+    // 19. A party above 1.
+    NoParty,
+    // 20. A place above 3.
+    NoPlace,
 }

@@ -19,5 +19,7 @@ pub fn of_reply(r: Reply) -> Fields
         Reply::NoDraft => reply::numbered(13),
         Reply::DraftOpen => reply::numbered(14),
         Reply::DraftFull => reply::numbered(15),
+        Reply::NoParty => reply::numbered(19),
+        Reply::NoPlace => reply::numbered(20),
     }
 }

@@ -2,6 +2,7 @@
 pub mod reply;
 
 // A corner of the chart, or the cell whose lower left corner it is.
+#[repr(C)]
 pub struct Point {
     pub col: u16,
     pub row: u16,

@@ -13,6 +13,7 @@ ghost use Rattle.border.specs.Judged.{judgedOf};
 ghost use Rattle.draft.specs.Draft.{outlineOf, noDraft, endOf, beginOf, addOf, dropOf};
 
 // An outline in the making, if one was begun: a start, and as many letters as are counted.
+#[repr(C)]
 pub struct Draft {
     pub begun: bool,
     pub start: Point,

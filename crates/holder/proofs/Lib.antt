@@ -1,2 +1,3 @@
--- The laws of a close.
+-- The cases of a call; the cell that a close names.
+pub mod Cases
 pub mod CloseLaws

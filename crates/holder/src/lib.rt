@@ -1,21 +1,28 @@
-// The holder: a draft, what is at work, and the calls on them (contract 7).
+// The holder: a draft and four works for each party, and the calls on them (contract 7).
+use border::Judged;
+use calls::Action;
 use calls::Call;
+use calls::PARTIES;
+use calls::PLACES;
 use calls::Reply;
 use chart::Point;
 use chart::Verdict;
 use draft::Draft;
 use draft::Drafted;
 use work::Work;
-ghost use mathlib.Core.Bool.{cond};
+ghost use Prim.Native.Nat.{_<_};
+ghost use mathlib.Core.Bool.{true, cond};
 ghost use mathlib.Core.Path.{_≡_};
 ghost use Rattle.verdict.specs.Named.{CellNamed};
+ghost use Rattle.calls.specs.Calls.{parties, places, badParty as badPartyOf, badPlace as badPlaceOf, by};
 ghost use Rattle.calls.specs.Replies.{replyFields};
-ghost use Rattle.draft.specs.Draft.{outlineOf};
-ghost use Rattle.holder.specs.Holder.{draftOf, withDraft, workOf, withWork, freshHolder, drafting, answerOf};
+ghost use Rattle.draft.specs.Draft.{outlineOf, endOf};
+ghost use Rattle.holder.specs.Holder.{draftOf, withDraft, slot as slotOf, workOf, withWork, freshHolder, replied, drafting, ended as endedOf, closedBy, closeOf, answerOf};
 
+#[repr(C)]
 pub struct Holder {
-    pub draft: Draft,
-    pub work: Work,
+    pub drafts: [Draft; PARTIES],
+    pub works: [Work; PARTIES * PLACES],
 }
 
 // A reply, and the next holder.
@@ -30,7 +37,24 @@ pub fn fresh() -> Holder
 {
     let draft = Draft::none();
     let work = Work::none();
-    Holder { draft, work }
+    Holder {
+        drafts: [draft; PARTIES],
+        works: [work; PARTIES * PLACES],
+    }
+}
+
+// 19.
+fn bad_party(party: u8) -> bool
+    ensures { λ r. ⌜ r ≡ badPartyOf party ⌝ }
+{
+    PARTIES <= party as usize
+}
+
+// 20.
+fn bad_place(place: u8) -> bool
+    ensures { λ r. ⌜ r ≡ badPlaceOf place ⌝ }
+{
+    PLACES <= place as usize
 }
 
 // The reply of a close that took the draft.
@@ -44,134 +68,179 @@ fn taken_reply(same: bool, edges: u16, anchor: Point) -> Reply
     }
 }
 
-// The slots. The calls reach a draft and a work by these four alone.
+// The slots. The calls reach drafts and works by these alone.
 impl Holder {
-    fn drafted(self) -> Draft
-        ensures { λ r. ⌜ r ≡ draftOf self ⌝ }
+    fn drafted(self, party: u8) -> Draft
+        requires { ⌜ party < parties ⌝ }
+        ensures { λ r. ⌜ r ≡ draftOf self party ⌝ }
     {
-        self.draft
+        self.drafts[party as usize]
     }
 
-    fn put_draft(mut self, draft: Draft) -> Self
-        ensures { λ r. ⌜ r ≡ withDraft self draft ⌝ }
+    fn put_draft(mut self, party: u8, draft: Draft) -> Self
+        requires { ⌜ party < parties ⌝ }
+        ensures { λ r. ⌜ r ≡ withDraft self party draft ⌝ }
     {
-        self.draft = draft;
+        self.drafts[party as usize] = draft;
         self
     }
 
-    fn at_work(self) -> Work
-        ensures { λ r. ⌜ r ≡ workOf self ⌝ }
+    fn at_work(self, party: u8, place: u8) -> Work
+        requires { ⌜ (party < parties) × (place < places) ⌝ }
+        ensures { λ r. ⌜ r ≡ workOf self party place ⌝ }
     {
-        self.work
+        self.works[PLACES * party as usize + place as usize]
     }
 
-    fn put_work(mut self, work: Work) -> Self
-        ensures { λ r. ⌜ r ≡ withWork self work ⌝ }
+    fn put_work(mut self, party: u8, place: u8, work: Work) -> Self
+        requires { ⌜ (party < parties) × (place < places) ⌝ }
+        ensures { λ r. ⌜ r ≡ withWork self party place work ⌝ }
     {
-        self.work = work;
+        self.works[PLACES * party as usize + place as usize] = work;
         self
+    }
+
+    fn reply(self, reply: Reply) -> Answered
+        ensures { λ r. ⌜ r ≡ replied reply self ⌝ }
+    {
+        Answered {
+            reply,
+            holder: self,
+        }
     }
 
     // What a call on the draft answers, and the holder with the next draft.
-    fn redraft(self, drafted: Drafted) -> Answered
-        ensures { λ r. ⌜ r ≡ drafting self drafted ⌝ }
+    fn redraft(self, party: u8, drafted: Drafted) -> Answered
+        requires { ⌜ party < parties ⌝ }
+        ensures { λ r. ⌜ r ≡ drafting self party drafted ⌝ }
     {
         let draft = drafted.draft;
         let reply = drafted.reply;
-        Answered {
-            reply,
-            holder: self.put_draft(draft),
-        }
+        let holder = self.put_draft(party, draft);
+        holder.reply(reply)
+    }
+
+    // The party's draft is over.
+    fn end_draft(self, party: u8) -> Self
+        requires { ⌜ party < parties ⌝ }
+        ensures { λ r. ⌜ r ≡ endedOf self party ⌝ }
+    {
+        let draft = self.drafted(party);
+        self.put_draft(party, draft.end())
     }
 }
 
 // The calls.
 impl Holder {
-    pub fn begin(self, start: Point) -> Answered
-        ensures { λ r. ⌜ r ≡ answerOf self (Call.Begin start) ⌝ }
+    pub fn begin(self, party: u8, start: Point) -> Answered
+        ensures { λ r. ⌜ r ≡ answerOf self (by party (Action.Begin start)) ⌝ }
     {
-        let draft = self.drafted();
-        self.redraft(draft.begin(start))
-    }
-
-    pub fn add(self, letter: u8) -> Answered
-        ensures { λ r. ⌜ r ≡ answerOf self (Call.Add letter) ⌝ }
-    {
-        let draft = self.drafted();
-        self.redraft(draft.add(letter))
-    }
-
-    pub fn drop(self) -> Answered
-        ensures { λ r. ⌜ r ≡ answerOf self Call.Drop ⌝ }
-    {
-        let draft = self.drafted();
-        self.redraft(draft.drop())
-    }
-
-    pub fn clear(self) -> Answered
-        ensures { λ r. ⌜ r ≡ answerOf self Call.Clear ⌝ }
-    {
-        let work = self.at_work();
-        Answered {
-            reply: Reply::Done,
-            holder: self.put_work(work.remove()),
+        if bad_party(party) {
+            return self.reply(Reply::NoParty);
         }
+        let draft = self.drafted(party);
+        self.redraft(party, draft.begin(start))
     }
 
-    // The cell that it names is the anchor of an outline that is taken, and the lowest missing one of a dented outline.
-    pub fn close(self) -> Answered
-        ensures answer { λ r. ⌜ r ≡ answerOf self Call.Close ⌝ }
-        ensures named { λ r. ⌜ CellNamed (outlineOf (draftOf self)) (replyFields (r .reply)) ⌝ }
+    pub fn add(self, party: u8, letter: u8) -> Answered
+        ensures { λ r. ⌜ r ≡ answerOf self (by party (Action.Add letter)) ⌝ }
     {
-        let draft = self.drafted();
-        if !draft.begun {
-            return Answered {
-                reply: Reply::NoDraft,
-                holder: self,
-            };
+        if bad_party(party) {
+            return self.reply(Reply::NoParty);
         }
-        let judged = draft.judge();
-        let next = self.put_draft(draft.end());
+        let draft = self.drafted(party);
+        self.redraft(party, draft.add(letter))
+    }
+
+    pub fn drop(self, party: u8) -> Answered
+        ensures { λ r. ⌜ r ≡ answerOf self (by party Action.Drop) ⌝ }
+    {
+        if bad_party(party) {
+            return self.reply(Reply::NoParty);
+        }
+        let draft = self.drafted(party);
+        self.redraft(party, draft.drop())
+    }
+
+    pub fn clear(self, party: u8, place: u8) -> Answered
+        ensures { λ r. ⌜ r ≡ answerOf self (by party (Action.Clear place)) ⌝ }
+    {
+        if bad_party(party) {
+            return self.reply(Reply::NoParty);
+        }
+        if bad_place(place) {
+            return self.reply(Reply::NoPlace);
+        }
+        let work = self.at_work(party, place);
+        let holder = self.put_work(party, place, work.remove());
+        holder.reply(Reply::Done)
+    }
+
+    // What a close does with a verdict on the draft.
+    fn close_by(self, party: u8, place: u8, judged: Judged) -> Answered
+        requires { ⌜ (party < parties) × (place < places) ⌝ }
+        ensures { λ r. ⌜ r ≡ closedBy self party place judged ⌝ }
+    {
+        let next = self.end_draft(party);
         let verdict = judged.verdict;
         match verdict {
-            Verdict::Refused(why) => Answered {
-                reply: Reply::Refused(why),
-                holder: next,
-            },
+            Verdict::Refused(why) => next.reply(Reply::Refused(why)),
             Verdict::Taken { edges, anchor } => {
-                let work = self.at_work();
+                let work = self.at_work(party, place);
                 let numbers = judged.numbers;
                 let same = work.has(anchor, numbers, edges);
                 let taken = work.replace(anchor, numbers, edges);
-                Answered {
-                    reply: taken_reply(same, edges, anchor),
-                    holder: next.put_work(taken),
-                }
+                let holder = next.put_work(party, place, taken);
+                holder.reply(taken_reply(same, edges, anchor))
             }
         }
     }
 
-    // Answers from the edges at work.
-    pub fn query(self, cell: Point) -> Answered
-        ensures { λ r. ⌜ r ≡ answerOf self (Call.Query cell) ⌝ }
+    // The cell that it names is the anchor of an outline that is taken, and the lowest missing one of a dented outline.
+    pub fn close(self, party: u8, place: u8) -> Answered
+        ensures answer { λ r. ⌜ r ≡ answerOf self (by party (Action.Close place)) ⌝ }
+        ensures named { λ r. ⌜ CellNamed (outlineOf (draftOf self party)) (replyFields (r .reply)) ⌝ }
     {
-        let work = self.at_work();
-        Answered {
-            reply: work.locate(cell),
-            holder: self,
+        if bad_party(party) {
+            return self.reply(Reply::NoParty);
         }
+        if bad_place(place) {
+            let holder = self.end_draft(party);
+            return holder.reply(Reply::NoPlace);
+        }
+        let draft = self.drafted(party);
+        if !draft.begun {
+            return self.reply(Reply::NoDraft);
+        }
+        self.close_by(party, place, draft.judge())
+    }
+
+    // Answers from the edges at work.
+    pub fn query(self, party: u8, place: u8, cell: Point) -> Answered
+        ensures { λ r. ⌜ r ≡ answerOf self (by party (Action.Query place cell)) ⌝ }
+    {
+        if bad_party(party) {
+            return self.reply(Reply::NoParty);
+        }
+        if bad_place(place) {
+            return self.reply(Reply::NoPlace);
+        }
+        let work = self.at_work(party, place);
+        self.reply(work.locate(cell))
     }
 
     pub fn answer(self, call: Call) -> Answered
         ensures { λ r. ⌜ r ≡ answerOf self call ⌝ }
     {
-        match call {
-            Call::Begin { start } => self.begin(start),
-            Call::Add { letter } => self.add(letter),
-            Call::Drop => self.drop(),
-            Call::Clear => self.clear(),
-            Call::Close => self.close(),
-            Call::Query { cell } => self.query(cell),
+        let party = call.party;
+        let action = call.action;
+        match action {
+            Action::Begin { start } => self.begin(party, start),
+            Action::Add { letter } => self.add(party, letter),
+            Action::Drop => self.drop(party),
+            Action::Clear { place } => self.clear(party, place),
+            Action::Close { place } => self.close(party, place),
+            Action::Query { place, cell } => self.query(party, place, cell),
         }
     }
 }

@@ -1,10 +1,15 @@
 // The calls for C and Rust. A slice is passed as a pointer and a length. A reply is seven numbers at the front of a lent list, in the order
 // number, word (0 none, 1 inside, 2 outside, 3 taken, 4 same), place, piece, length, column, row; a list of fewer than seven is turned back.
+use calls::PARTIES;
+use calls::PLACES;
 use chart::Point;
 use chart::reply::NUMBERS;
 use chart::reply::of_position;
 use chart::reply::of_verdict;
 use chart::reply::write;
+use holder::Holder;
+use holder::fresh;
+use wire::respond;
 ghost use mathlib.Core.Path.{_≡_};
 ghost use mathlib.Core.Bool.{true};
 ghost use lib.ListN.{length};
@@ -12,8 +17,15 @@ ghost use lib.Dec.{leb};
 ghost use Rattle.chart.specs.Fields.{fieldsOf};
 ghost use Rattle.verdict.specs.Named.{CellNamed};
 ghost use Rattle.polygon.specs.Loose.{HullNamed};
+ghost use Rattle.holder.specs.Holder.{freshHolder};
+ghost use Rattle.wire.specs.Wire.{respondOf, repliedTo};
 ghost use Rattle.replay.specs.Script.{callsRead, repliesAfter};
-ghost use Rattle.robequarry.specs.Face.{at, testReply, testEdges, looseReply};
+ghost use Rattle.robequarry.specs.Face.{at, testReply, testEdges, looseReply, holderBytes};
+
+// What a draft and a work take: the flag, a point of two numbers of 16 bits, the letters or the numbers, then the count at the next multiple of 8.
+const DRAFT_BYTES: usize = 632;
+
+const WORK_BYTES: usize = 416;
 
 // Tests an outline: the start corner and the letters. The edges stand first in the list lent for them, where the outline is taken.
 #[no_mangle]
@@ -58,11 +70,40 @@ pub extern "C" fn rq_loose_query(
     write(of_position(position), reply)
 }
 
-// Runs a script of calls, five bytes each, from a fresh holder, writes a reply of seven numbers for each, and says how many.
+// Runs a script of calls, eleven bytes each, from a fresh holder, writes a reply of seven numbers for each, and says how many.
 #[no_mangle]
 pub extern "C" fn rq_replay(script: &[u8], replies: &mut [u16]) -> usize
     ensures count { λ r. ⌜ r ≡ length (callsRead (now (script .entry)) (length (now (replies .entry)))) ⌝ }
     ensures replies { λ r. ⌜ now (replies .exit) ≡ repliesAfter (now (script .entry)) (now (replies .entry)) ⌝ }
 {
     replay::replay(script, replies)
+}
+
+// How many bytes a holder is, as C lays out its fields.
+#[no_mangle]
+pub extern "C" fn rq_holder_bytes() -> usize
+    ensures { λ r. ⌜ r ≡ holderBytes ⌝ }
+{
+    DRAFT_BYTES * PARTIES + WORK_BYTES * PARTIES * PLACES
+}
+
+// Makes a holder fresh: no draft, and nothing at work.
+#[no_mangle]
+pub extern "C" fn rq_fresh(holder: &mut Holder)
+    ensures { λ r. ⌜ now (holder .exit) ≡ freshHolder ⌝ }
+{
+    *holder = fresh();
+}
+
+// Answers one call, eleven bytes, on a holder that the caller keeps, and says whether it did: where the bytes are no call, or the reply has no
+// room, nothing is altered.
+#[no_mangle]
+pub extern "C" fn rq_call(holder: &mut Holder, call: &[u8], reply: &mut [u16]) -> bool
+    ensures { λ r. ⌜ (r ≡ respondOf (now (holder .entry)) (now (call .entry)) (now (reply .entry)) .done)
+        × (now (holder .exit) ≡ respondOf (now (holder .entry)) (now (call .entry)) (now (reply .entry)) .holder)
+        × (now (reply .exit) ≡ repliedTo (now (holder .entry)) (now (call .entry)) (now (reply .entry))) ⌝ }
+{
+    let responded = respond(*holder, call, reply);
+    *holder = responded.holder;
+    responded.done
 }

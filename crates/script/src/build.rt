@@ -1,10 +1,12 @@
-// A script in the making: calls of five bytes each.
-pub const SIZE: usize = 20480;
+// A script in the making: calls of eleven bytes each.
+pub const SIZE: usize = 45056;
 
-// The bytes past the end are 6, which is no call.
+// The bytes past the end are 9, which is no call. The calls that follow are of this party, at this place.
 pub struct Script {
     pub bytes: [u8; SIZE],
     pub end: usize,
+    pub party: u8,
+    pub place: u8,
 }
 
 fn low(n: u16) -> u8 {
@@ -23,47 +25,58 @@ fn letter(digit: u8) -> u8 {
 impl Script {
     pub fn new() -> Self {
         Script {
-            bytes: [6; SIZE],
+            bytes: [9; SIZE],
             end: 0,
+            party: 0,
+            place: 0,
         }
     }
 
-    // One more call, where there is space for it.
-    fn put(mut self, number: u8, a: u8, b: u8, c: u8, d: u8) -> Self {
+    // The calls that follow are of this party, at this place.
+    pub fn at(mut self, party: u8, place: u8) -> Self {
+        self.party = party;
+        self.place = place;
+        self
+    }
+
+    // One more call, where there is space for it. The bytes that no call names are 9.
+    fn put(mut self, number: u8, x: u16, y: u16) -> Self {
         let at = self.end;
-        if at <= SIZE - 5 {
+        if at <= SIZE - 11 {
             self.bytes[at] = number;
-            self.bytes[at + 1] = a;
-            self.bytes[at + 2] = b;
-            self.bytes[at + 3] = c;
-            self.bytes[at + 4] = d;
-            self.end = at + 5;
+            self.bytes[at + 1] = self.party;
+            self.bytes[at + 2] = self.place;
+            self.bytes[at + 3] = low(x);
+            self.bytes[at + 4] = high(x);
+            self.bytes[at + 7] = low(y);
+            self.bytes[at + 8] = high(y);
+            self.end = at + 11;
         }
         self
     }
 
     pub fn begin(self, col: u16, row: u16) -> Self {
-        self.put(0, low(col), high(col), low(row), high(row))
+        self.put(0, col, row)
     }
 
     pub fn add(self, a: u8) -> Self {
-        self.put(1, a, 0, 0, 0)
+        self.put(1, a as u16, 0)
     }
 
     pub fn drop(self) -> Self {
-        self.put(2, 0, 0, 0, 0)
+        self.put(2, 0, 0)
     }
 
     pub fn clear(self) -> Self {
-        self.put(3, 0, 0, 0, 0)
+        self.put(3, 0, 0)
     }
 
     pub fn close(self) -> Self {
-        self.put(4, 0, 0, 0, 0)
+        self.put(4, 0, 0)
     }
 
     pub fn query(self, col: u16, row: u16) -> Self {
-        self.put(5, low(col), high(col), low(row), high(row))
+        self.put(5, col, row)
     }
 
     // The letters of a word of digits.

@@ -142,6 +142,50 @@ fn long(s: Script) -> Script {
     s.clear().query(152, 0)
 }
 
+// Both parties: drafts apart, the same outline at several places, and a clear of one. 19 before 20, and both before all others.
+fn both(s: Script) -> Script {
+    let s = s.at(1, 3)
+        .begin(7, 7)
+        .at(0, 0)
+        .outline(0, 1, b"101030323212");
+    let s = s.at(0, 2)
+        .outline(1, 1, b"210103032321")
+        .outline(1, 1, b"210103032321");
+    let s = s.at(1, 3).query(1, 1).letters(b"1032").close();
+    let s = s.query(7, 7).at(1, 0).query(7, 7).at(0, 3).query(7, 7);
+    let s = s.at(0, 0)
+        .query(1, 1)
+        .clear()
+        .query(1, 1)
+        .at(0, 2)
+        .query(1, 1);
+    let s = s.at(2, 4)
+        .begin(0, 0)
+        .add(9)
+        .drop()
+        .clear()
+        .close()
+        .query(255, 0);
+    let s = s.at(255, 0).clear().query(0, 0);
+    let s = s.at(1, 4).clear().query(255, 255).close();
+    // A close that 20 turns back ends its party's draft, and not the other's.
+    let s = s.begin(5, 5)
+        .at(0, 0)
+        .begin(6, 6)
+        .at(1, 4)
+        .close()
+        .at(1, 1)
+        .add(1);
+    let s = s.at(0, 1).letters(b"1032").close().query(6, 6);
+    s.at(1, 3)
+        .query(7, 7)
+        .clear()
+        .at(0, 2)
+        .clear()
+        .at(0, 1)
+        .clear()
+}
+
 fn script() -> Script {
     let s = without_draft(Script::new());
     let s = drafts(s);
@@ -150,7 +194,8 @@ fn script() -> Script {
     let s = taken(s);
     let s = kept(s);
     let s = dents(s);
-    long(s)
+    let s = long(s);
+    both(s)
 }
 
 // Replays a script and writes the replies.
@@ -170,12 +215,12 @@ fn main() {
     // A number that is no call, a call that is cut, and no room for a third reply.
     let mut few = [9u16; 20];
     run(
-        b"\x03\x00\x00\x00\x00\x06\x00\x00\x00\x00\x03\x00\x00\x00\x00",
+        b"\x03\x00\x00........\x09\x00\x00........\x03\x00\x00........",
         &mut few,
     );
-    run(b"\x03\x00\x00\x00\x00\x03\x00\x00\x00", &mut few);
+    run(b"\x03\x00\x00........\x03\x00\x00.......", &mut few);
     run(
-        b"\x05\x00\x00\x00\x00\x04\x00\x00\x00\x00\x03\x00\x00\x00\x00",
+        b"\x05\x01\x03........\x04\x02\x00........\x03\x00\x00........",
         &mut few,
     );
     lines::write_numbers(&few);

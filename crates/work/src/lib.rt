@@ -15,6 +15,7 @@ ghost use Rattle.polygon.specs.Loose.{insideList};
 ghost use Rattle.work.specs.Work.{noWork, listed, workEdges, replaced, removed, hasEdges, located};
 
 // The outline last taken, if one was: its anchor and its edges, two numbers an edge.
+#[repr(C)]
 pub struct Work {
     pub taken: bool,
     pub anchor: Point,

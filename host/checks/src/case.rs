@@ -168,7 +168,7 @@ mod tests {
             "test 0 0 - 2032 9",
             "loose 0 0 2,0,-2,0 254 0 7",
             "loose 3 4 - 3 4 7",
-            "script x0000000000040000000006 14",
+            "script x00000000000000000000000400 14",
             "script - 0",
         ];
         for line in lines {

@@ -1,6 +1,7 @@
 //! One face for whatever answers the calls: the library's own, on plain lists of numbers.
 
-use robequarry::limits::REPLY;
+use robequarry::limits::{CALL, REPLY};
+use robequarry::raw::HolderMemory;
 
 use crate::{plain, reference, Fields, Point};
 
@@ -16,6 +17,9 @@ pub trait Engine {
 
 /// The proved library.
 pub struct Library;
+
+/// The same, with the calls of a script made one by one on a live holder.
+pub struct Live;
 
 /// The contract as written.
 pub struct Reference;
@@ -38,6 +42,33 @@ impl Engine for Library {
 
     fn replay(&self, script: &[u8], replies: &mut [u16]) -> usize {
         robequarry::raw::replay(script, replies)
+    }
+}
+
+impl Engine for Live {
+    fn name(&self) -> &'static str {
+        "live holder"
+    }
+
+    fn test(&self, start: Point, letters: &[u8], edges: &mut [i16], reply: &mut [u16]) -> bool {
+        Library.test(start, letters, edges, reply)
+    }
+
+    fn loose_query(&self, anchor: Point, edges: &[i16], cell: Point, reply: &mut [u16]) -> bool {
+        Library.loose_query(anchor, edges, cell, reply)
+    }
+
+    fn replay(&self, script: &[u8], replies: &mut [u16]) -> usize {
+        let mut holder = HolderMemory::fresh();
+        let calls = script.chunks(CALL).zip(replies.chunks_mut(REPLY));
+        let mut written = 0;
+        for (call, reply) in calls {
+            if !holder.call(call, reply) {
+                break;
+            }
+            written += 1;
+        }
+        written
     }
 }
 

@@ -1,7 +1,7 @@
 //! Random scripts of calls for the holder.
 
 use robequarry::limits::{CALL, LONGEST, REPLY};
-use robequarry::Call;
+use robequarry::Action;
 
 use crate::case::Case;
 use crate::draw::{reversed, rotated};
@@ -15,17 +15,21 @@ struct Script<'a> {
     bytes: Vec<u8>,
     /// The outlines that this script draws, so that some come again.
     drawn: Vec<Outline>,
+    /// The party and the place of the phrase.
+    party: u8,
+    place: u8,
 }
 
 /// A script of some phrases; its end may be cut, and the room for its replies may be short.
 pub fn script(random: &mut Random) -> Case {
-    let mut script = Script { random, bytes: Vec::new(), drawn: Vec::new() };
-    for _ in 0..script.random.below(10) {
+    let mut script = Script { random, bytes: Vec::new(), drawn: Vec::new(), party: 0, place: 0 };
+    for _ in 0..script.random.below(14) {
+        script.turn();
         script.phrase();
     }
     let Script { mut bytes, random, .. } = script;
     if random.once_in(4) {
-        bytes.truncate(random.from_to(bytes.len() - bytes.len().min(9), bytes.len()));
+        bytes.truncate(random.from_to(bytes.len() - bytes.len().min(2 * CALL), bytes.len()));
     }
     let calls = bytes.len() / CALL;
     let room = match random.below(5) {
@@ -53,10 +57,17 @@ impl Script<'_> {
         }
     }
 
-    /// One call. Bytes that the call does not read are anything.
-    fn call(&mut self, call: Call) {
+    /// Another party, another place: mostly those that there are, and few of the places, so that outlines meet there.
+    fn turn(&mut self) {
+        self.party = if self.random.once_in(30) { self.random.any() as u8 } else { self.random.below(2) as u8 };
+        self.place = if self.random.once_in(30) { self.random.any() as u8 } else { [0, 0, 3, 1][self.random.below(4)] };
+    }
+
+    /// One call. Bytes that the call does not read are anything. Now and then the other party comes between.
+    fn call(&mut self, action: Action) {
         let any = self.any_call();
-        self.bytes.extend(call.bytes_over(any));
+        let party = if self.random.once_in(150) { self.party ^ 1 } else { self.party };
+        self.bytes.extend(action.by(party).bytes_over(any));
     }
 
     /// As many bytes as a call has.
@@ -65,27 +76,27 @@ impl Script<'_> {
     }
 
     fn begin(&mut self, start: Point) {
-        self.call(Call::Begin(start.into()));
+        self.call(Action::Begin(start.into()));
     }
 
     fn add(&mut self, letter: u8) {
-        self.call(Call::Add(letter));
+        self.call(Action::Add(letter));
     }
 
     fn drop_draft(&mut self) {
-        self.call(Call::Drop);
+        self.call(Action::Drop);
     }
 
     fn clear(&mut self) {
-        self.call(Call::Clear);
+        self.call(Action::Clear { place: self.place });
     }
 
     fn close(&mut self) {
-        self.call(Call::Close);
+        self.call(Action::Close { place: self.place });
     }
 
     fn query(&mut self, cell: Point) {
-        self.call(Call::Query(cell.into()));
+        self.call(Action::Query { place: self.place, cell: cell.into() });
     }
 
     /// A new outline, one of those drawn before, or such a one from another corner, the other way round, or moved by a cell.
@@ -200,7 +211,7 @@ impl Script<'_> {
     }
 
     fn any_bytes(&mut self) {
-        for _ in 0..self.random.below(30) {
+        for _ in 0..self.random.below(50) {
             let byte = if self.random.once_in(3) { self.random.any() as u8 } else { self.random.below(6) as u8 };
             self.bytes.push(byte);
         }

@@ -62,7 +62,7 @@ impl Tally {
         let reached: [(&str, &Replies, &[usize], &[usize]); 3] = [
             ("tests", &self.tests, &[0, 1, 2, 3, 4, 5, 6, 8, 9, 10], &[0]),
             ("loose queries", &self.loose_queries, &[0, 10, 11, 16], &[0, 1, 2]),
-            ("calls of scripts", &self.calls, &[0, 1, 2, 3, 4, 5, 6, 8, 9, 11, 12, 13, 14, 15], &[0, 1, 2, 3, 4]),
+            ("calls of scripts", &self.calls, &[0, 1, 2, 3, 4, 5, 6, 8, 9, 11, 12, 13, 14, 15, 19, 20], &[0, 1, 2, 3, 4]),
         ];
         println!("{:>16} {:>14} {:>14} {:>16}", "number", "tests", "loose queries", "calls of scripts");
         for number in 0..NUMBERS {

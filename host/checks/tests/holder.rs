@@ -1,4 +1,4 @@
-//! The Rust holder, which hands the library its kept calls again and again, against the plain book, which goes on.
+//! The Rust holder, one library call for each of its own, against the plain book.
 
 use robequarry::codec::{INSIDE, OUTSIDE, SAME, TAKEN};
 use robequarry::limits::REPLY;
@@ -36,7 +36,7 @@ fn refused(refusal: Refusal) -> Fields {
 }
 
 #[test]
-fn kept_calls_stand_for_the_whole_history() {
+fn each_call_is_answered_as_the_book_does() {
     let mut random = Random::new(7);
     for _ in 0..400 {
         let Case::Script { bytes, .. } = script(&mut random) else { unreachable!("a script is asked for") };
@@ -45,14 +45,27 @@ fn kept_calls_stand_for_the_whole_history() {
         assert_eq!(replay(&bytes, &mut expected), calls.len());
 
         let mut holder = Holder::new();
-        let mut found = Vec::new();
-        let mut rest = &calls[..];
-        while !rest.is_empty() {
-            let (now, later) = rest.split_at(random.from_to(1, rest.len().min(40)));
-            found.extend(holder.run(now).into_iter().map(fields));
-            rest = later;
-        }
+        let found: Vec<Fields> = calls.iter().map(|&call| fields(holder.call(call))).collect();
         let expected: Vec<Fields> = Fields::each(&expected).collect();
         assert_eq!(found, expected, "{}", Case::Script { bytes, room: REPLY * expected.len() });
+    }
+}
+
+/// What a party is replied does not depend on the other's calls (contract 8.6).
+#[test]
+fn a_party_is_answered_by_its_own_calls() {
+    let mut random = Random::new(8);
+    for _ in 0..400 {
+        let Case::Script { bytes, .. } = script(&mut random) else { unreachable!("a script is asked for") };
+        let calls: Vec<Call> = Call::each(&bytes).collect();
+        let run = |calls: &[Call]| {
+            let mut holder = Holder::new();
+            calls.iter().map(|&call| (call.party, fields(holder.call(call)))).collect::<Vec<_>>()
+        };
+        let both = run(&calls);
+        for party in [0, 1, 2, 255] {
+            let own: Vec<Call> = calls.iter().copied().filter(|call| call.party == party).collect();
+            assert!(run(&own).into_iter().eq(both.iter().copied().filter(|&(of, _)| of == party)));
+        }
     }
 }

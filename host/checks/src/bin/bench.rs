@@ -18,7 +18,8 @@ use std::hint::black_box;
 use std::process::exit;
 
 use robequarry::limits::{CALL, LONGEST_LIST, REPLY, SIDE};
-use robequarry::{Call, Edges, Holder};
+use robequarry::raw::HolderMemory;
+use robequarry::{Action, Call, Edges, Holder};
 use robequarry_checks::draw::{reversed, round_outline, with_a_cell_flipped};
 use robequarry_checks::engine::{Engine, Library, Plain};
 use robequarry_checks::hull_and_count::{is_convex, Of};
@@ -134,17 +135,23 @@ impl Bench {
     fn calls(&mut self, random: &mut Random) {
         let outline = taken(random, DRAWN);
         let cells: Vec<Point> = (0..1024).map(|_| random.cell()).collect();
-        let begun = Call::Begin(outline.start.into()).bytes().to_vec();
-        let adds = Call::script(outline.letters.iter().map(|&letter| Call::Add(letter)));
+        let (party, place) = (1, 3);
+        let begun = Action::Begin(outline.start.into()).by(party).bytes().to_vec();
+        let adds = Call::script(outline.letters.iter().map(|&letter| Action::Add(letter).by(party)));
         let drawn = [&begun[..], &adds].concat();
-        let closed = [&drawn[..], &Call::Close.bytes()].concat();
-        let queries = Call::script(cells.iter().map(|&cell| Call::Query(cell.into())));
+        let close = Action::Close { place }.by(party).bytes();
+        let closed = [&drawn[..], &close].concat();
+        let queries = Call::script(cells.iter().map(|&cell| Action::Query { place, cell: cell.into() }.by(party)));
         let asked = [&closed[..], &queries].concat();
 
         self.add_call("loose query", loose_query(&outline, &cells));
         self.add_call("query in a replay", each_more(&closed, &asked, cells.len()));
         self.add_call("add in a replay", each_more(&begun, &drawn, outline.letters.len()));
         self.add_call("begin, adds and close", race_replays(&closed));
+        self.add_call("live query", live(&closed, &queries));
+        // A letter that is turned back, and a full draft, cost as much as one that is added; so the draft may stay as it is.
+        self.add_call("live add", live(&begun, &adds));
+        self.add_call("live begin, adds and close", live_round(&closed));
         let [contains, query] = through_the_wrapper(&outline, &cells);
         self.report.add(Row { name: "Edges::contains", letters: DRAWN, nanoseconds: contains, ratio: None });
         self.report.add(Row { name: "Holder::query", letters: DRAWN, nanoseconds: query, ratio: None });
@@ -277,21 +284,61 @@ fn each_more(shorter: &[u8], longer: &[u8], count: usize) -> Timed {
     (nanoseconds, race.median(|times| (times[0] - times[1]) / (times[2] - times[3])))
 }
 
+/// A call on a live holder: after some calls, those of another script in turns.
+fn live(before: &[u8], calls: &[u8]) -> Timed {
+    let mut reply = [0; REPLY];
+    let (mut library, mut plain) = (HolderMemory::fresh(), plain::Holder::new());
+    for call in before.chunks_exact(CALL) {
+        library.call(call, &mut reply);
+        plain.call(call, &mut reply);
+    }
+    let (mut turns, mut other_turns) = (calls.chunks_exact(CALL).cycle(), calls.chunks_exact(CALL).cycle());
+    let (mut reply, mut other_reply) = ([0; REPLY], [0; REPLY]);
+    let mut by_library = || {
+        black_box(library.call(black_box(turns.next().expect("there are calls")), &mut reply));
+    };
+    let mut by_plain = || {
+        black_box(plain.call(black_box(other_turns.next().expect("there are calls")), &mut other_reply));
+    };
+    let race = race([&mut by_library, &mut by_plain]);
+    (race.least(0), race.ratio(0, 1))
+}
+
+/// A whole script, call by call on a live holder that stays.
+fn live_round(script: &[u8]) -> Timed {
+    let (mut library, mut plain) = (HolderMemory::fresh(), plain::Holder::new());
+    let (mut reply, mut other_reply) = ([0; REPLY], [0; REPLY]);
+    let mut by_library = || {
+        for call in script.chunks_exact(CALL) {
+            black_box(library.call(black_box(call), &mut reply));
+        }
+    };
+    let mut by_plain = || {
+        for call in script.chunks_exact(CALL) {
+            black_box(plain.call(black_box(call), &mut other_reply));
+        }
+    };
+    let race = race([&mut by_library, &mut by_plain]);
+    (race.least(0), race.ratio(0, 1))
+}
+
 /// A query by the edges, and one through the Rust holder.
 fn through_the_wrapper(outline: &Outline, cells: &[Point]) -> [f64; 2] {
     let start = outline.start.into();
     let edges: Edges = robequarry::Outline::new(start, &outline.letters[..]).test().expect("the outline is taken");
     let mut holder = Holder::new();
-    holder.begin(start).expect("there is no draft");
-    holder.run(&outline.letters.iter().map(|&letter| Call::Add(letter)).collect::<Vec<_>>());
-    holder.close().expect("the outline is taken");
+    holder.begin(0, start).expect("there is no draft");
+    for &letter in &outline.letters {
+        holder.add(0, letter).expect("the draft has room");
+    }
+    holder.close(0, 0).expect("the outline is taken");
     let mut turns = cells.iter().cycle();
     let mut other_turns = turns.clone();
     let mut contains = || {
         let _ = black_box(edges.contains((*turns.next().expect("there are cells")).into()));
     };
     let mut query = || {
-        let _ = black_box(holder.query((*other_turns.next().expect("there are cells")).into()));
+        let _ = black_box(holder.query(0, 0, (*other_turns.next().expect("there are cells")).into()));
     };
     let race = race([&mut contains, &mut query]);
     [race.least(0), race.least(1)]

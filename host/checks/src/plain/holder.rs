@@ -1,8 +1,8 @@
 //! The holder, and a script of calls on it.
 
 use robequarry::codec::{INSIDE, OUTSIDE, SAME, TAKEN};
-use robequarry::limits::{CALL, LAST_LETTER, LONGEST, MOST_NUMBERS, REPLY};
-use robequarry::Call;
+use robequarry::limits::{CALL, LAST_LETTER, LONGEST, MOST_NUMBERS, PARTIES, PLACES, REPLY};
+use robequarry::{Action, Call};
 
 use super::test::{find_edges, Edges};
 use super::{chart, loose};
@@ -22,18 +22,68 @@ struct Work {
     edges: Edges,
 }
 
-struct Holder {
+struct Party {
     draft: Draft,
-    work: Work,
+    works: [Work; PLACES as usize],
+}
+
+/// A draft and four works for each party, in one place.
+pub struct Holder {
+    parties: [Party; PARTIES as usize],
+}
+
+impl Default for Holder {
+    fn default() -> Self {
+        Self::new()
+    }
 }
 
 impl Holder {
+    pub fn new() -> Self {
+        Holder { parties: std::array::from_fn(|_| Party::new()) }
+    }
+
+    #[inline]
+    pub fn answer(&mut self, call: Call) -> Fields {
+        let Some(party) = self.parties.get_mut(usize::from(call.party)) else {
+            return numbered(19);
+        };
+        match call.action {
+            Action::Begin(start) => party.begin(start.into()),
+            Action::Add(letter) => party.add(letter),
+            Action::Drop => party.drop_draft(),
+            Action::Clear { place } => party.clear(place.into()),
+            Action::Close { place } => party.close(place.into()),
+            Action::Query { place, cell } => party.query(place.into(), cell.into()),
+        }
+    }
+
+    /// One call as bytes. False, with nothing altered, if it is none or the reply has no room.
+    #[inline]
+    pub fn call(&mut self, call: &[u8], reply: &mut [u16]) -> bool {
+        if reply.len() < REPLY {
+            return false;
+        }
+        let Ok(bytes) = <[u8; CALL]>::try_from(call) else {
+            return false;
+        };
+        let Some(call) = Call::read(bytes) else {
+            return false;
+        };
+        self.answer(call).write(reply)
+    }
+}
+
+impl Party {
     fn new() -> Self {
         let nowhere = Point::new(0, 0);
-        let edges = Edges { numbers: [0; MOST_NUMBERS], count: 0 };
-        Holder {
+        Party {
             draft: Draft { begun: false, start: nowhere, letters: [0; LONGEST], count: 0 },
-            work: Work { taken: false, anchor: nowhere, edges },
+            works: std::array::from_fn(|_| Work {
+                taken: false,
+                anchor: nowhere,
+                edges: Edges { numbers: [0; MOST_NUMBERS], count: 0 },
+            }),
         }
     }
 
@@ -74,17 +124,23 @@ impl Holder {
         numbered(0)
     }
 
-    fn clear(&mut self) -> Fields {
-        self.work.taken = false;
+    fn clear(&mut self, place: usize) -> Fields {
+        let Some(work) = self.works.get_mut(place) else {
+            return numbered(20);
+        };
+        work.taken = false;
         numbered(0)
     }
 
-    fn close(&mut self) -> Fields {
-        let (draft, work) = (&mut self.draft, &mut self.work);
-        if !draft.begun {
+    fn close(&mut self, place: usize) -> Fields {
+        let draft = &mut self.draft;
+        let begun = std::mem::replace(&mut draft.begun, false);
+        let Some(work) = self.works.get_mut(place) else {
+            return numbered(20);
+        };
+        if !begun {
             return numbered(13);
         }
-        draft.begun = false;
         let letters = &draft.letters[..draft.count];
         let mut edges = Edges { numbers: [0; MOST_NUMBERS], count: 0 };
         let anchor = match find_edges(draft.start, letters, &mut edges) {
@@ -98,8 +154,10 @@ impl Holder {
         Fields { word: if same { SAME } else { TAKEN }, ..taken(work.edges.count, anchor) }
     }
 
-    fn query(&self, cell: Point) -> Fields {
-        let work = &self.work;
+    fn query(&self, place: usize, cell: Point) -> Fields {
+        let Some(work) = self.works.get(place) else {
+            return numbered(20);
+        };
         if !work.taken {
             return numbered(12);
         }
@@ -116,16 +174,9 @@ pub fn replay(script: &[u8], replies: &mut [u16]) -> usize {
     let mut holder = Holder::new();
     let mut written = 0;
     for (call, reply) in script.chunks_exact(CALL).zip(replies.chunks_exact_mut(REPLY)) {
-        let fields = match Call::read(call.try_into().expect("a chunk is as long")) {
-            Some(Call::Begin(start)) => holder.begin(start.into()),
-            Some(Call::Add(letter)) => holder.add(letter),
-            Some(Call::Drop) => holder.drop_draft(),
-            Some(Call::Clear) => holder.clear(),
-            Some(Call::Close) => holder.close(),
-            Some(Call::Query(cell)) => holder.query(cell.into()),
-            None => break,
-        };
-        fields.write(reply);
+        if !holder.call(call, reply) {
+            break;
+        }
         written += 1;
     }
     written

@@ -11,6 +11,6 @@ mod test;
 mod words;
 
 pub use chart::refusal as walk_refusal;
-pub use holder::replay;
+pub use holder::{replay, Holder};
 pub use loose::loose_query;
 pub use test::test;

@@ -1,8 +1,8 @@
 //! The plain book (contract 8.1), and a script of calls for it.
 
 use robequarry::codec::{INSIDE, OUTSIDE, SAME, TAKEN};
-use robequarry::limits::{LONGEST, REPLY};
-use robequarry::Call;
+use robequarry::limits::{LONGEST, PARTIES, PLACES, REPLY};
+use robequarry::{Action, Call};
 
 use super::calls;
 use super::cells::{encloses, Enclosed};
@@ -10,22 +10,38 @@ use super::walk::{is_bad_start, is_no_letter};
 use crate::reply::{numbered, placed, said};
 use crate::{Fields, Outline, Point};
 
-/// Two entries, either of which may be empty.
+/// A page for each party.
 #[derive(Default)]
 pub struct Book {
+    pages: [Page; PARTIES as usize],
+}
+
+/// A party's entries: a draft, and an outline at each place. Any of them may be empty.
+#[derive(Default)]
+struct Page {
     draft: Option<Outline>,
-    work: Option<Outline>,
+    works: [Option<Outline>; PLACES as usize],
 }
 
 impl Book {
+    /// 19 comes first; else the party's page alone is read and turned.
     pub fn answer(&mut self, call: Call) -> Fields {
-        match call {
-            Call::Begin(start) => self.begin(start.into()),
-            Call::Add(letter) => self.add(letter),
-            Call::Drop => self.drop_draft(),
-            Call::Clear => self.clear(),
-            Call::Close => self.close(),
-            Call::Query(cell) => self.query(cell.into()),
+        match self.pages.get_mut(usize::from(call.party)) {
+            None => numbered(19),
+            Some(page) => page.answer(call.action),
+        }
+    }
+}
+
+impl Page {
+    fn answer(&mut self, action: Action) -> Fields {
+        match action {
+            Action::Begin(start) => self.begin(start.into()),
+            Action::Add(letter) => self.add(letter),
+            Action::Drop => self.drop_draft(),
+            Action::Clear { place } => self.clear(place.into()),
+            Action::Close { place } => self.close(place.into()),
+            Action::Query { place, cell } => self.query(place.into(), cell.into()),
         }
     }
 
@@ -65,29 +81,39 @@ impl Book {
     }
 
     /// Contract 7.6.
-    fn clear(&mut self) -> Fields {
-        self.work = None;
+    fn clear(&mut self, place: usize) -> Fields {
+        let Some(work) = self.works.get_mut(place) else {
+            return numbered(20);
+        };
+        *work = None;
         numbered(0)
     }
 
-    /// Contract 7.7.
-    fn close(&mut self) -> Fields {
-        let Some(draft) = self.draft.take() else {
+    /// Contract 7.7. The draft ends, also where 20 turns the close back.
+    fn close(&mut self, place: usize) -> Fields {
+        let draft = self.draft.take();
+        let Some(work) = self.works.get_mut(place) else {
+            return numbered(20);
+        };
+        let Some(draft) = draft else {
             return numbered(13);
         };
         let reply = calls::test(draft.start, &draft.letters).reply;
         if reply.number != 0 {
             return reply;
         }
-        let same = self.work.as_ref().is_some_and(|work| encloses_the_same(work, &draft));
+        let same = work.as_ref().is_some_and(|work| encloses_the_same(work, &draft));
         let word = if same { SAME } else { TAKEN };
-        self.work = Some(draft);
+        *work = Some(draft);
         Fields { word, ..reply }
     }
 
     /// Contract 7.8, by the cells that the work encloses.
-    fn query(&self, cell: Point) -> Fields {
-        let Some(work) = &self.work else {
+    fn query(&self, place: usize, cell: Point) -> Fields {
+        let Some(work) = self.works.get(place) else {
+            return numbered(20);
+        };
+        let Some(work) = work else {
             return numbered(12);
         };
         if calls::off_chart(cell) {

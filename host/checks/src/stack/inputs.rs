@@ -1,7 +1,7 @@
 //! The inputs whose need of stack is measured, the same in each run.
 
-use robequarry::limits::{CALL, LAST_CORNER, LAST_LETTER, LONGEST, LONGEST_LIST, REPLY, SHORTEST, SIDE};
-use robequarry::Call;
+use robequarry::limits::{CALL, LAST_CORNER, LAST_LETTER, LONGEST, LONGEST_LIST, PARTIES, PLACES, REPLY, SHORTEST, SIDE};
+use robequarry::{Action, Call};
 
 use crate::case::Case;
 use crate::draw::{reversed, round_outline, whole_chart, with_a_cell_flipped, Shape};
@@ -93,14 +93,17 @@ fn loose_queries(outlines: &[Outline]) -> Vec<Case> {
 /// An outline drawn and closed twice, with queries after each close; once more, with a letter and a begin too many; and then the
 /// calls that take things away, each where there is something to take and where there is not.
 fn draw_and_ask(outline: &Outline) -> Case {
-    let adds = outline.letters.iter().map(|&letter| Call::Add(letter));
-    let begin = Call::Begin(outline.start.into());
+    let place = 1;
+    let adds = outline.letters.iter().map(|&letter| Action::Add(letter));
+    let begin = Action::Begin(outline.start.into());
     let draw = || std::iter::once(begin).chain(adds.clone());
-    let asked = [Call::Query(outline.start.into()), Call::Query(Point::new(SIDE, SIDE).into())];
-    let once = || draw().chain([Call::Close]).chain(asked);
-    let more = [Call::Add(0), begin];
-    let away = [Call::Drop, Call::Clear, Call::Drop, Call::Close, Call::Add(0)];
-    let bytes = Call::script(once().chain(once()).chain(draw()).chain(more).chain(away).chain(asked));
+    let query = |cell: Point| Action::Query { place, cell: cell.into() };
+    let asked = [query(outline.start), query(Point::new(SIDE, SIDE)), Action::Query { place: PLACES, cell: outline.start.into() }];
+    let once = || draw().chain([Action::Close { place }]).chain(asked);
+    let more = [Action::Add(0), begin, Action::Close { place: PLACES }, begin];
+    let away = [Action::Drop, Action::Clear { place }, Action::Drop, Action::Close { place }, Action::Add(0)];
+    let actions: Vec<Action> = once().chain(once()).chain(draw()).chain(more).chain(away).chain(asked).collect();
+    let bytes = Call::script([0, 1, PARTIES].into_iter().flat_map(|party| actions.iter().map(move |action| action.by(party))));
     let room = bytes.len() / CALL * REPLY;
     Case::Script { bytes, room }
 }

@@ -4,8 +4,10 @@
 mod inputs;
 
 use std::arch::asm;
+use std::collections::HashSet;
 
-use robequarry::raw;
+use robequarry::limits::{CALL, REPLY};
+use robequarry::raw::{self, HolderMemory};
 
 use crate::case::Case;
 
@@ -15,9 +17,12 @@ const SIZE: usize = 4 << 20;
 /// What a byte of the stack is before a call. A call that writes the one pattern by chance does not write the other.
 const PAINTS: [u8; 2] = [0xa5, 0x5a];
 
+/// The number of a close, the one call that tests an outline (contract 10.3).
+const CLOSE: u8 = 4;
+
 /// The most bytes of stack that each function needs for any of its inputs: the longest outlines, and every way through the test.
-pub fn needs() -> [(&'static str, usize); 3] {
-    let mut needs = [("rq_test", 0), ("rq_loose_query", 0), ("rq_replay", 0)];
+pub fn needs() -> [(&'static str, usize); 4] {
+    let mut needs = [("rq_test", 0), ("rq_loose_query", 0), ("rq_replay", 0), ("rq_call", 0)];
     let mut stack = Stack::new();
     for case in inputs::all() {
         let function = match case {
@@ -26,6 +31,9 @@ pub fn needs() -> [(&'static str, usize); 3] {
             Case::Script { .. } => 2,
         };
         needs[function].1 = needs[function].1.max(stack.need(&case));
+        if let Case::Script { bytes, .. } = &case {
+            needs[3].1 = needs[3].1.max(stack.need_of_calls(bytes));
+        }
     }
     needs
 }
@@ -62,6 +70,24 @@ impl Stack {
                 })
             }
         }
+    }
+
+    /// How many bytes of stack the deepest of some calls needs: closes, and one of each other call, made on a live holder.
+    fn need_of_calls(&mut self, script: &[u8]) -> usize {
+        let mut holder = HolderMemory::fresh();
+        let mut reply = vec![0; REPLY];
+        let mut seen = HashSet::new();
+        let mut deepest = 0;
+        for call in script.chunks_exact(CALL) {
+            if call[0] == CLOSE || seen.insert(call[0]) {
+                // Each of the two paints makes the call, on the holder as it is now.
+                deepest = deepest.max(self.depth(&mut || {
+                    holder.clone().call(call, &mut reply);
+                }));
+            }
+            holder.call(call, &mut reply);
+        }
+        deepest
     }
 
     /// How far below its caller's frame a call goes, its arguments and the way back included.

@@ -65,6 +65,18 @@ enum-told-7 c = search needs
 numbered-requires-4 : tie.Need-numbered-requires-4
 numbered-requires-4 c κs = search needs
 
+enum-told-8 : tie.Need-enum-told-8
+enum-told-8 c = search needs
+
+numbered-requires-5 : tie.Need-numbered-requires-5
+numbered-requires-5 c κs = search needs
+
+enum-told-9 : tie.Need-enum-told-9
+enum-told-9 c = search needs
+
+numbered-requires-6 : tie.Need-numbered-requires-6
+numbered-requires-6 c κs = search needs
+
 returns : tie.Need-returns
 unfolding replyFields
 returns c = cc
@@ -105,6 +117,14 @@ returns-10 : tie.Need-returns-10
 unfolding replyFields
 returns-10 c = cc
 
+returns-11 : tie.Need-returns-11
+unfolding replyFields
+returns-11 c = cc
+
+returns-12 : tie.Need-returns-12
+unfolding replyFields
+returns-12 c = cc
+
 pub of-reply-spec : {M : Type 1} → statement M
 of-reply-spec =
     tie.close
@@ -129,6 +149,10 @@ of-reply-spec =
     numbered-requires-3
     enum-told-7
     numbered-requires-4
+    enum-told-8
+    numbered-requires-5
+    enum-told-9
+    numbered-requires-6
     returns
     returns-2
     returns-3
@@ -138,4 +162,6 @@ of-reply-spec =
     returns-7
     returns-8
     returns-9
-    returns-10)
+    returns-10
+    returns-11
+    returns-12)

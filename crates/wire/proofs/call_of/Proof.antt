@@ -1,0 +1,81 @@
+-- Each arm is the call of its number, and after 0 to 5 only larger numbers are left.
+use Rattle.wire.specs.Wire.{callOf}
+use Rattle.wire.proofs.CallLaws.{callOf-none}
+use borrow.Author.Needs.{needs}
+use Rattle.wire.proofs.call_of.Statement.{statement}
+use Rattle.wire.proofs.call_of.Tie as tie
+
+point-requires : tie.Need-point-requires
+point-requires c κs = search needs
+
+said-requires : tie.Need-said-requires
+said-requires c κs = search needs
+
+letter-requires : tie.Need-letter-requires
+letter-requires c κs = search needs
+
+said-requires-2 : tie.Need-said-requires-2
+said-requires-2 c κs = search needs
+
+said-requires-3 : tie.Need-said-requires-3
+said-requires-3 c κs = search needs
+
+said-requires-4 : tie.Need-said-requires-4
+said-requires-4 c κs = search needs
+
+said-requires-5 : tie.Need-said-requires-5
+said-requires-5 c κs = search needs
+
+point-requires-2 : tie.Need-point-requires-2
+point-requires-2 c κs = search needs
+
+said-requires-6 : tie.Need-said-requires-6
+said-requires-6 c κs = search needs
+
+returns : tie.Need-returns
+unfolding callOf
+returns c = rw (c .said .ensures, c .before .point .ensures, c .before .before .match .keys1)
+
+returns-2 : tie.Need-returns-2
+unfolding callOf
+returns-2 c = rw (c .said2 .ensures, c .before .letter .ensures, c .before .before .match .keys2)
+
+returns-3 : tie.Need-returns-3
+unfolding callOf
+returns-3 c = rw (c .said3 .ensures, c .before .match .keys3)
+
+returns-4 : tie.Need-returns-4
+unfolding callOf
+returns-4 c = rw (c .said4 .ensures, c .before .match .keys4)
+
+returns-5 : tie.Need-returns-5
+unfolding callOf
+returns-5 c = rw (c .said5 .ensures, c .before .match .keys5)
+
+returns-6 : tie.Need-returns-6
+unfolding callOf
+returns-6 c = rw (c .said6 .ensures, c .before .point2 .ensures, c .before .before .match .keys6)
+
+returns-7 : tie.Need-returns-7
+returns-7 c = let r = c .match .rest in callOf-none _ _ _ _ _ (r .0 .0 .0 .0 .0 .1) (r .0 .0 .0 .0 .1) (r .0 .0 .0 .1) (r .0 .0 .1) (r .0 .1) (r .1)
+
+pub call-of-spec : {M : Type 1} → statement M
+call-of-spec =
+    tie.close
+    (tie.spec
+    point-requires
+    said-requires
+    letter-requires
+    said-requires-2
+    said-requires-3
+    said-requires-4
+    said-requires-5
+    point-requires-2
+    said-requires-6
+    returns
+    returns-2
+    returns-3
+    returns-4
+    returns-5
+    returns-6
+    returns-7)

@@ -1,0 +1,74 @@
+-- A call as eleven bytes on a holder, and its reply as seven numbers (contract 10.4).
+use Prim.Native.Nat.{ℕ, zero, suc, _+_, _*_, _%_}
+use mathlib.Core.Bool.{true, false, cond}
+use mathlib.Core.List.{List}
+use lib.ListN.{length, getD}
+use lib.Dec.{leb, eqb}
+use Rattle.chart.specs.declared.Point.{Point}
+use Rattle.chart.specs.Fields.{replyAfter}
+use Rattle.calls.specs.Calls.{by}
+use Rattle.calls.specs.Replies.{replyFields}
+use Rattle.calls.specs.declared.Action.the-variants.{Begin, Add, Drop, Clear, Close, Query}
+use Rattle.holder.specs.declared.Holder.{Holder}
+use Rattle.holder.specs.Holder.{answerOf}
+use Rattle.wire.specs.declared.Decoded.{Decoded}
+use Rattle.wire.specs.declared.Decoded.the-variants.{Call as Said, Nothing}
+use Rattle.wire.specs.declared.Responded.{Responded}
+
+-- How many bytes a call is, and how many numbers a reply
+abbrev pub callWidth : ℕ
+callWidth = 11
+
+abbrev pub replyWidth : ℕ
+replyWidth = 7
+
+-- A number of 32 bits, low byte first; its first two bytes, and its first
+abbrev pub long : ℕ → ℕ → ℕ → ℕ → ℕ
+long a b c d = a + 256 * b + 65536 * c + 16777216 * d
+
+abbrev pub shortOf : ℕ → ℕ
+shortOf x = x % 65536
+
+abbrev pub letterOf : ℕ → ℕ
+letterOf x = x % 256
+
+abbrev pub pointOf : ℕ → ℕ → Point
+pointOf x y = record { col = shortOf x; row = shortOf y }
+
+-- The call of a number, a party, a place and two numbers of 32 bits: 0 begin, 1 add, 2 drop, 3 clear, 4 close, 5 query. A number above 5 is no call
+unfoldable pub callOf : ℕ → ℕ → ℕ → ℕ → ℕ → Decoded
+callOf zero p k x y = Said (by p (Begin (pointOf x y)))
+callOf (suc zero) p k x y = Said (by p (Add (letterOf x)))
+callOf (suc (suc zero)) p k x y = Said (by p Drop)
+callOf (suc (suc (suc zero))) p k x y = Said (by p (Clear k))
+callOf (suc (suc (suc (suc zero)))) p k x y = Said (by p (Close k))
+callOf (suc (suc (suc (suc (suc zero))))) p k x y = Said (by p (Query k (pointOf x y)))
+callOf (suc (suc (suc (suc (suc (suc n)))))) p k x y = Nothing
+
+-- The call of these bytes: none unless there are eleven
+unfoldable pub decoded : List ℕ → Decoded
+decoded s =
+    cond (eqb (length s) callWidth)
+    (callOf (getD s 0 0) (getD s 1 0) (getD s 2 0) (long (getD s 3 0) (getD s 4 0) (getD s 5 0) (getD s 6 0)) (long (getD s 7 0) (getD s 8 0) (getD s 9 0) (getD s 10 0)))
+    Nothing
+
+-- The call that is answered: none where a reply has no room in so many numbers
+unfoldable pub heard : List ℕ → ℕ → Decoded
+heard call room = cond (leb replyWidth room) (decoded call) Nothing
+
+-- Whether it was answered, and the next holder
+unfoldable pub responded : Holder → Decoded → Responded
+responded h Nothing = record { done = false; holder = h }
+responded h (Said c) = record { done = true; holder = answerOf h c .holder }
+
+-- The list lent for the reply, afterwards
+unfoldable pub said : Holder → Decoded → List ℕ → List ℕ
+said h Nothing reply = reply
+said h (Said c) reply = replyAfter (replyFields (answerOf h c .reply)) reply
+
+-- One call on a holder: by its bytes and the list lent for the reply
+abbrev pub respondOf : Holder → List ℕ → List ℕ → Responded
+respondOf h call reply = responded h (heard call (length reply))
+
+abbrev pub repliedTo : Holder → List ℕ → List ℕ → List ℕ
+repliedTo h call reply = said h (heard call (length reply)) reply

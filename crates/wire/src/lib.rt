@@ -1,0 +1,123 @@
+// One call as bytes on a holder, and its reply as numbers (contract 10.4).
+use calls::Action;
+use calls::Call;
+use calls::written::of_reply;
+use chart::Point;
+use chart::reply;
+use chart::reply::NUMBERS;
+use holder::Holder;
+ghost use mathlib.Core.Path.{_≡_};
+ghost use Rattle.wire.specs.Wire.{long as longOf, shortOf, letterOf, pointOf, callOf, decoded as decodedOf, heard as heardOf, respondOf, repliedTo};
+
+// How many bytes a call is.
+pub const BYTES: usize = 11;
+
+// What the bytes of a call say.
+pub enum Decoded {
+    Call(Call),
+    // No call: a number that is none's, or not so many bytes.
+    Nothing,
+}
+
+// Whether a call was answered, and the next holder.
+pub struct Responded {
+    pub done: bool,
+    pub holder: Holder,
+}
+
+// A number of 32 bits, low byte first.
+fn long(a: u8, b: u8, c: u8, d: u8) -> u32
+    ensures { λ r. ⌜ r ≡ longOf a b c d ⌝ }
+{
+    a as u32 + 256 * (b as u32) + 65536 * (c as u32) + 16777216 * (d as u32)
+}
+
+// Its first two bytes.
+fn short(x: u32) -> u16
+    ensures { λ r. ⌜ r ≡ shortOf x ⌝ }
+{
+    (x % 65536) as u16
+}
+
+// Its first byte.
+fn letter(x: u32) -> u8
+    ensures { λ r. ⌜ r ≡ letterOf x ⌝ }
+{
+    (x % 256) as u8
+}
+
+fn point(x: u32, y: u32) -> Point
+    ensures { λ r. ⌜ r ≡ pointOf x y ⌝ }
+{
+    Point {
+        col: short(x),
+        row: short(y),
+    }
+}
+
+fn said(party: u8, action: Action) -> Decoded
+    ensures { λ r. ⌜ r ≡ Decoded.Call (record { party = party; action = action }) ⌝ }
+{
+    Decoded::Call(Call { party, action })
+}
+
+// A call's number, its party and place, and its argument.
+fn call_of(number: u8, party: u8, place: u8, x: u32, y: u32) -> Decoded
+    ensures { λ r. ⌜ r ≡ callOf number party place x y ⌝ }
+{
+    match number {
+        0 => said(party, Action::Begin { start: point(x, y) }),
+        1 => said(party, Action::Add { letter: letter(x) }),
+        2 => said(party, Action::Drop),
+        3 => said(party, Action::Clear { place }),
+        4 => said(party, Action::Close { place }),
+        5 => said(
+            party,
+            Action::Query {
+                place,
+                cell: point(x, y),
+            },
+        ),
+        _ => Decoded::Nothing,
+    }
+}
+
+fn decode(call: &[u8]) -> Decoded
+    ensures { λ r. ⌜ r ≡ decodedOf (now (call .entry)) ⌝ }
+{
+    if call.len() != BYTES {
+        return Decoded::Nothing;
+    }
+    let x = long(call[3], call[4], call[5], call[6]);
+    let y = long(call[7], call[8], call[9], call[10]);
+    call_of(call[0], call[1], call[2], x, y)
+}
+
+// The call to be answered: none where there is no room for the reply.
+fn heard(call: &[u8], room: usize) -> Decoded
+    ensures { λ r. ⌜ r ≡ heardOf (now (call .entry)) room ⌝ }
+{
+    if room < NUMBERS {
+        return Decoded::Nothing;
+    }
+    decode(call)
+}
+
+// Answers a call on a holder, and writes the reply. Where there is no call, or no room, nothing is altered.
+pub fn respond(holder: Holder, call: &[u8], reply: &mut [u16]) -> Responded
+    ensures { λ r. ⌜ (r ≡ respondOf holder (now (call .entry)) (now (reply .entry)))
+        × (now (reply .exit) ≡ repliedTo holder (now (call .entry)) (now (reply .entry))) ⌝ }
+{
+    let decoded = heard(call, reply.len());
+    let Decoded::Call(call) = decoded else {
+        return Responded {
+            done: false,
+            holder,
+        };
+    };
+    let answered = holder.answer(call);
+    let said = answered.reply;
+    reply::write(of_reply(said), reply);
+    let holder = answered.holder;
+    Responded { done: true, holder }
+}
