@@ -9,12 +9,12 @@ use mathlib.Core.List.{List, [], _∷_}
 use lib.ListN.{length, getD}
 use lib.Dec.{leb, eqb}
 use borrow.Author.Tests.{eqb-true, eq-eqb, leb-true, leb-false}
-use Rattle.base.proofs.BelowLaws.{not-held}
+use Rattle.base.proofs.BelowLaws.{not-held, and-left}
 use Rattle.chart.specs.declared.Point.{Point}
 use Rattle.chart.specs.Outline.{Outline, outline}
 use Rattle.chart.specs.Limits.{side}
 use Rattle.lattice.specs.Chart.{step, walk, cornerAt, letterAt, size}
-use Rattle.lattice.specs.Enclosed.{count, upAlong, downAlong, encloses}
+use Rattle.lattice.specs.Enclosed.{count, upAlong, downAlong, ups, downs, encloses}
 use Rattle.rows.specs.Search.{upColumn, downColumn}
 use Rattle.lattice.proofs.Jumps.{tally, tally-none}
 use Rattle.convexity.specs.Frame.{frameOf, along}
@@ -144,12 +144,17 @@ module _ (o : Outline) (c : NoBackStep o) where
     down-column : downColumn (o .start) (o .letters) r 0 ≡ downCol
     down-column = down-column-last (o .start) (o .letters) r 0 ∙ last-only (λ p a. downAlong p a r) (o .start) (o .letters) 0 (down .place) finds-down
 
+    -- The row's ups in corner columns 0 to c are one, or none where c is left of it; and so its downs
+    pub ups-row : (c : ℕ) → ups (o .start) (o .letters) c r ≡ count (leb (upColumn (o .start) (o .letters) r 0) c)
+    ups-row c = rw up-column (ups-tally (o .start) (o .letters) c r ∙ tally-only (λ p a. upAlong p a r) c (o .start) (o .letters) (up .place) finds-up)
+
+    pub downs-row : (c : ℕ) → downs (o .start) (o .letters) c r ≡ count (leb (downColumn (o .start) (o .letters) r 0) c)
+    downs-row c = rw down-column (downs-tally (o .start) (o .letters) c r ∙ tally-only (λ p a. downAlong p a r) c (o .start) (o .letters) (down .place) finds-down)
+
     -- The enclosed cells of the row are those from its up to its down
     ends : (c : ℕ) → (encloses o c r ≡ true) ↔ ((upCol ≤ c) × (c < downCol))
     unfolding encloses
-    ends c =
-        rw (ups-tally (o .start) (o .letters) c r ∙ tally-only (λ p a. upAlong p a r) c (o .start) (o .letters) (up .place) finds-up, downs-tally (o .start) (o .letters) c r ∙ tally-only (λ p a. downAlong p a r) c (o .start) (o .letters) (down .place) finds-down)
-        (sum-iff upCol downCol c)
+    ends c = rw (ups-row c, downs-row c, up-column, down-column) (sum-iff upCol downCol c)
 
     pub row-ends : (c : ℕ) → (encloses o c r ≡ true) ↔ ((upColumn (o .start) (o .letters) r 0 ≤ c) × (c < downColumn (o .start) (o .letters) r 0))
     row-ends c = rw (up-column, down-column) (ends c)
@@ -180,7 +185,27 @@ module _ (o : Outline) (c : NoBackStep o) where
   pub bottom-lt-top : bottom o < top o
   bottom-lt-top = omega (arith, bottom-start, top-start, shape o c .next-later 3 (omega arith), shape o c .next-earlier 0 (omega arith))
 
-  -- Outside the rows from S up to N there is no up
+  -- Outside the rows from S up to N there is no up and no down
+  module _ (r : ℕ) (off : bottom o ≤ r → r < top o → ⊥) (c′ : ℕ) where
+    pub ups-off : ups (o .start) (o .letters) c′ r ≡ 0
+    unfolding upAlong frameOf along
+    ups-off =
+        ups-tally (o .start) (o .letters) c′ r ∙ tally-none (λ q a. upAlong q a r && leb (q .col) c′) (o .start) (o .letters) (λ i l.
+        not-held _ (λ e.
+        let (a, b) = tested (letterAt o i) 1 (cornerAt o i .row) r (and-left (upAlong (cornerAt o i) (letterAt o i) r) (leb (cornerAt o i .col) c′) e) in
+        let lines = line-bounds o c 3 (omega arith) i (l, a) in
+        off (omega (arith, bottom-start)) (omega (arith, top-start))))
+
+    pub downs-off : downs (o .start) (o .letters) c′ r ≡ 0
+    unfolding downAlong frameOf along
+    downs-off =
+        downs-tally (o .start) (o .letters) c′ r ∙ tally-none (λ q a. downAlong q a r && leb (q .col) c′) (o .start) (o .letters) (λ i l.
+        not-held _ (λ e.
+        let (a, b) = tested (letterAt o i) 3 (cornerAt o i .row) (suc r) (and-left (downAlong (cornerAt o i) (letterAt o i) r) (leb (cornerAt o i .col) c′) e) in
+        let lines = line-bounds o c 1 (omega arith) i (l, a) in
+        let h = c .turn .walked .row-le i (omega arith) in
+        off (omega (arith, bottom-start, top-start)) (omega (arith, bottom-start, top-start))))
+
   pub enclosed-row : (c r : ℕ) → encloses o c r ≡ true → (bottom o ≤ r) × (r < top o)
   unfolding frameOf along
   enclosed-row x r e =

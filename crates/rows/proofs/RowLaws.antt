@@ -137,7 +137,7 @@ module _ (o : Outline) (start : badStart (o .start) ≡ false) (stays : Stays o)
   kept-more along p a v r d = refl
 
   -- No letter of the walk leaves the chart, so each is taken, and each up and down begins on it
-  kept-column : (along : Point → ℕ → ℕ → Bool) (column : Point → List ℕ → ℕ → ℕ → ℕ) → ((p : Point) (r d : ℕ) → column p [] r d ≡ d) →
+  pub kept-column : (along : Point → ℕ → ℕ → Bool) (column : Point → List ℕ → ℕ → ℕ → ℕ) → ((p : Point) (r d : ℕ) → column p [] r d ≡ d) →
       ((p : Point) (a : ℕ) (v : List ℕ) (r d : ℕ) → column p (a ∷ v) r d ≡ column (step p a) v r (cond (along p a r) (p .col) d)) →
       (r m i d : ℕ) → i + m ≡ size o → keptColumn along (cornerAt o i) (drop i (o .letters)) r d ≡ column (cornerAt o i) (drop i (o .letters)) r d
   unfolding keptColumn

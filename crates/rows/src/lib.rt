@@ -19,9 +19,9 @@ fn wide(x: u16) -> usize
 }
 
 // The ends of the rows: row `r` of an outline goes from column `lo[r]` up to but not including column `hi[r]`.
-struct Ends {
-    lo: [u16; 256],
-    hi: [u16; 256],
+pub struct Ends {
+    pub lo: [u16; 256],
+    pub hi: [u16; 256],
 }
 
 // An up along a row begins it.
@@ -47,7 +47,7 @@ fn mark_down(hi: &mut [u16; 256], p: Point, letter: u8)
 }
 
 // The ends of the rows of an outline, by one pass over its letters.
-fn row_ends(s: Point, w: &[u8]) -> Ends
+pub fn row_ends(s: Point, w: &[u8]) -> Ends
     ensures { λ r. ⌜ RowEnds (outline s (now (w .entry))) (r .lo) (r .hi) ⌝ }
 {
     let mut lo = [0u16; 256];

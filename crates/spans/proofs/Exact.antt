@@ -1,0 +1,286 @@
+-- The spans are exact: along each row the border has one up and, right of it, one down, or none of either. The outline as sent runs along the same sides, the same way or the
+-- other, so its two columns are the same two; and what lies between them is enclosed.
+use Prim.Native.Nat.{ℕ, suc, _+_, _-_, _≤_, _<_}
+use native.Mathlib.Decide.{decLe, decLt}
+use native.Mathlib.Omega.{arith}
+use mathlib.Core.Path.{_≡_, refl, sym, ap, subst, _∙_}
+use mathlib.Core.Logic.{_↔_, _⊎_, inl, inr, ⊎-elim}
+use mathlib.Core.Bool.{Bool, true, false, cond, _&&_}
+use mathlib.Core.List.{List}
+use lib.ListN.{length}
+use lib.Dec.{leb, ltb}
+use borrow.Author.Tests.{le-leb, lt-leb, lt-ltb, le-ltb, leb-true, ltb-true, ltb-false}
+use Rattle.base.specs.Below.{first, some}
+use Rattle.base.proofs.BelowLaws.{and-left, and-right, not-held, same-test, first-le, first-found, first-before, first-is, first-none}
+use Rattle.chart.specs.Limits.{side}
+use Rattle.chart.specs.declared.Point.{Point}
+use Rattle.chart.specs.Outline.{Outline}
+use Rattle.lattice.specs.Chart.{size}
+use Rattle.lattice.specs.Enclosed.{count, upAlong, downAlong, ups, downs, encloses}
+use Rattle.lattice.specs.Refusals.{Simple}
+use Rattle.lattice.proofs.WalkLaws.{walked, corner-zero}
+use Rattle.lattice.proofs.RightHand.{ups-rotation, downs-rotation}
+use Rattle.rows.specs.Search.{upColumn, downColumn, keptColumn}
+use Rattle.rows.specs.Rows.{rows}
+use Rattle.rows.proofs.RowLaws.{kept-column}
+use Rattle.convexity.specs.Cut.{turn, westPlace, clockwise}
+use Rattle.convexity.specs.Reading.{reading, reversed, border, block}
+use Rattle.convexity.specs.Pieces.{Reaches}
+use Rattle.convexity.proofs.StraightTurn.{NoBackStep}
+use Rattle.convexity.proofs.AsSent.{block-turn, clear-of}
+use Rattle.convexity.proofs.Levels.{ups-tally, downs-tally}
+use Rattle.convexity.proofs.Reading.{reading-clockwise, reading-backward, simple-reading, simple-backward, ups-backward, downs-backward}
+use Rattle.convexity.proofs.RowEnds.{bottom, top, ups-row, downs-row, ups-off, downs-off, row-ends, row-full, row-fits, enclosed-row, enclosed-on-chart}
+use Rattle.spans.specs.Spans.{lastBelow, rowSpan, lesser, greater, leftSide, rightSide, spansOf, inSpans, spanFrom, spanAt, SpanExact}
+use Rattle.spans.specs.declared.Span.{Span}
+use Rattle.spans.specs.declared.Span.the-variants.{None, Columns}
+use Rattle.spans.proofs.Tables.{table-at, kept-le}
+use Rattle.spans.proofs.Sides.{column-none, column-once}
+
+-- The ups along row r, counted up to a column, and the downs
+record Counts (o : Outline) (r : ℕ) (u d : ℕ → ℕ) : Type 0 where
+  up : (c : ℕ) → ups (o .start) (o .letters) c r ≡ u c
+  down : (c : ℕ) → downs (o .start) (o .letters) c r ≡ d c
+
+-- None; and one, counted from column m on
+abbrev off : ℕ → ℕ
+off c = 0
+
+abbrev from : ℕ → ℕ → ℕ
+from m c = count (leb m c)
+
+-- The counts of a turn are those of the walk
+turn-ups : (o : Outline) → Simple o → (c r : ℕ) → ups (turn o .start) (turn o .letters) c r ≡ ups (o .start) (o .letters) c r
+unfolding turn
+turn-ups o h c r = ups-rotation o (westPlace o) (walked o h .closed) c r
+
+turn-downs : (o : Outline) → Simple o → (c r : ℕ) → downs (turn o .start) (turn o .letters) c r ≡ downs (o .start) (o .letters) c r
+unfolding turn
+turn-downs o h c r = downs-rotation o (westPlace o) (walked o h .closed) c r
+
+-- The columns that are kept of a walk that stays on the chart
+module _ (o : Outline) (h : Simple o) (r d : ℕ) where
+  kept-up : keptColumn upAlong (o .start) (o .letters) r d ≡ upColumn (o .start) (o .letters) r d
+  unfolding upColumn
+  kept-up = rw (corner-zero o) at (kept-column o (h .started) (h .stays) upAlong upColumn (λ p r d. refl) (λ p a v r d. refl) r (size o) 0 d (omega arith))
+
+  kept-down : keptColumn downAlong (o .start) (o .letters) r d ≡ downColumn (o .start) (o .letters) r d
+  unfolding downColumn
+  kept-down = rw (corner-zero o) at (kept-column o (h .started) (h .stays) downAlong downColumn (λ p r d. refl) (λ p a v r d. refl) r (size o) 0 d (omega arith))
+
+-- The column of an up that is counted once, or of none; so of a down
+module _ (o : Outline) (r : ℕ) (u d : ℕ → ℕ) (t : Counts o r u d) where
+  up-once : (m : ℕ) → ((c : ℕ) → u c ≡ from m c) → upColumn (o .start) (o .letters) r 0 ≡ m
+  unfolding upColumn
+  up-once m e =
+      column-once upAlong r upColumn (λ p d. refl) (λ p a v d. refl) (o .letters) (o .start) 0 m
+      (λ c. sym (ups-tally (o .start) (o .letters) c r) ∙ t .up c ∙ e c)
+
+  down-once : (m : ℕ) → ((c : ℕ) → d c ≡ from m c) → downColumn (o .start) (o .letters) r 0 ≡ m
+  unfolding downColumn
+  down-once m e =
+      column-once downAlong r downColumn (λ p d. refl) (λ p a v d. refl) (o .letters) (o .start) 0 m
+      (λ c. sym (downs-tally (o .start) (o .letters) c r) ∙ t .down c ∙ e c)
+
+  up-off : ((c : ℕ) → u c ≡ 0) → upColumn (o .start) (o .letters) r 0 ≡ 0
+  unfolding upColumn
+  up-off e =
+      column-none upAlong r upColumn (λ p d. refl) (λ p a v d. refl) (o .letters) (o .start) 0 0
+      (λ c l. sym (ups-tally (o .start) (o .letters) c r) ∙ t .up c ∙ e c)
+
+  down-off : ((c : ℕ) → d c ≡ 0) → downColumn (o .start) (o .letters) r 0 ≡ 0
+  unfolding downColumn
+  down-off e =
+      column-none downAlong r downColumn (λ p d. refl) (λ p a v d. refl) (o .letters) (o .start) 0 0
+      (λ c l. sym (downs-tally (o .start) (o .letters) c r) ∙ t .down c ∙ e c)
+
+-- The border's counts are those of the outline as sent, or change places
+as-sent : (o : Outline) → Simple o → (r : ℕ) (u d : ℕ → ℕ) → Counts (border o) r u d → Counts o r u d ⊎ Counts o r d u
+as-sent o h r u d t = go (clockwise (turn o)) refl
+  where
+    read : Counts (reading o) r u d
+    read =
+        let s : Simple (reading o) = simple-reading o h in
+        record { up = λ c. sym (turn-ups (reading o) s c r) ∙ t .up c; down = λ c. sym (turn-downs (reading o) s c r) ∙ t .down c }
+
+    go : (b : Bool) → clockwise (turn o) ≡ b → Counts o r u d ⊎ Counts o r d u
+    go true e = inl (subst (λ (v : Outline). Counts v r u d) (reading-clockwise o e) read)
+    go false e =
+        let back : Counts (reversed o) r u d = subst (λ (v : Outline). Counts v r u d) (reading-backward o e) read in
+        inr (record { up = λ c. sym (downs-backward o h c r) ∙ back .down c; down = λ c. sym (ups-backward o h c r) ∙ back .up c })
+
+lesser-left : (a b : ℕ) → a ≤ b → lesser a b ≡ a
+unfolding lesser
+lesser-left a b h = rw (le-leb a b h)
+
+lesser-right : (a b : ℕ) → a < b → lesser b a ≡ a
+unfolding lesser
+lesser-right a b h = rw (lt-leb b a h)
+
+greater-right : (a b : ℕ) → a ≤ b → greater a b ≡ b
+unfolding greater
+greater-right a b h = rw (le-leb a b h)
+
+greater-left : (a b : ℕ) → a < b → greater b a ≡ b
+unfolding greater
+greater-left a b h = rw (lt-leb b a h)
+
+greater-le : (a b n : ℕ) → a ≤ n → b ≤ n → greater a b ≤ n
+unfolding greater
+greater-le a b n h k = go (leb a b)
+  where
+    go : (x : Bool) → cond x b a ≤ n
+    go true = k
+    go false = h
+
+-- The two columns of a row, whichever way the outline runs
+record Between (o : Outline) (r m n : ℕ) : Type 0 where
+  left : leftSide o r ≡ m
+  right : rightSide o r ≡ n
+
+module _ (o : Outline) (h : Simple o) (r : ℕ) where
+  sides-of : (a b : ℕ) → upColumn (o .start) (o .letters) r 0 ≡ a → downColumn (o .start) (o .letters) r 0 ≡ b → Between o r (lesser a b) (greater a b)
+  unfolding leftSide rightSide
+  sides-of a b e f = record { left = rw (kept-up o h r 0, kept-down o h r 0, e, f); right = rw (kept-up o h r 0, kept-down o h r 0, e, f) }
+
+  between-once : (m n : ℕ) → m < n → Counts (border o) r (from m) (from n) → Between o r m n
+  between-once m n l t =
+      elim (as-sent o h r (from m) (from n) t) [
+        | inl v ↦
+            rw (lesser-left m n (omega arith), greater-right m n (omega arith)) at
+            (sides-of m n (up-once o r (from m) (from n) v m (λ c. refl)) (down-once o r (from m) (from n) v n (λ c. refl)))
+        | inr v ↦
+            rw (lesser-right m n l, greater-left m n l) at
+            (sides-of n m (up-once o r (from n) (from m) v n (λ c. refl)) (down-once o r (from n) (from m) v m (λ c. refl)))
+      ]
+
+  between-off : Counts (border o) r off off → Between o r 0 0
+  between-off t =
+      let v : Counts o r off off = ⊎-elim (λ v. v) (λ v. v) (as-sent o h r off off t) in
+      rw (lesser-left 0 0 (omega arith), greater-right 0 0 (omega arith)) at
+      (sides-of 0 0 (up-off o r off off v (λ c. refl)) (down-off o r off off v (λ c. refl)))
+
+-- ---- the spans
+
+-- What is kept of a row of the chart, and that no other row is kept
+kept-first : (o : Outline) (r : ℕ) → r < side → rows (spansOf o .first) r ≡ leftSide o r
+unfolding spansOf
+kept-first o r l = table-at (leftSide o) 0 side r l ∙ ap (leftSide o) (omega arith)
+
+kept-past : (o : Outline) (r : ℕ) → r < side → rows (spansOf o .past) r ≡ rightSide o r
+unfolding spansOf
+kept-past o r l = table-at (rightSide o) 0 side r l ∙ ap (rightSide o) (omega arith)
+
+run : (a b c : ℕ) → ((leb a c && ltb c b) ≡ true) ↔ ((a ≤ c) × (c < b))
+run a b c = (
+  λ e. (leb-true a c (and-left (leb a c) (ltb c b) e), ltb-true c b (and-right (leb a c) (ltb c b) e)),
+  λ h. rw (le-leb a c (h .0), lt-ltb c b (h .1)),
+)
+
+-- ---- the search in a row whose marked columns are one run
+
+found-columns : (marked : ℕ → ℕ → Bool) (r a b : ℕ) → a < side → first (λ c. marked c r) side ≡ a → lastBelow (λ c. marked c r) side ≡ b → rowSpan marked r ≡ Columns a b
+unfolding rowSpan some
+found-columns marked r a b l e f = rw (e, f, lt-ltb a side l)
+
+module _ (marked : ℕ → ℕ → Bool) (r : ℕ) where
+  none-span : ((c : ℕ) → marked c r ≡ false) → rowSpan marked r ≡ None
+  unfolding rowSpan some
+  none-span none = rw (first-none (λ c. marked c r) side (λ c l. none c))
+
+  module _ (a b : ℕ) where
+    abbrev Run : Type 0
+    Run = (c : ℕ) → (marked c r ≡ true) ↔ ((a ≤ c) × (c < b))
+
+    run-first : b ≤ side → Run → a < b → first (λ c. marked c r) side ≡ a
+    run-first fits e l =
+        first-is (λ c. marked c r) side a (omega arith) (λ j k. not-held (marked j r) (λ g. omega (arith, e j .0 g))) (e a .1 (omega arith, l))
+
+    run-last : b ≤ side → Run → a < b → lastBelow (λ c. marked c r) side ≡ b - 1
+    unfolding lastBelow
+    run-last fits e l =
+        let n : first (λ k. marked (side - 1 - k) r) side ≡ side - b =
+        first-is (λ k. marked (side - 1 - k) r) side (side - b) (omega arith) (λ j k. not-held (marked (side - 1 - j) r) (λ g. omega (arith, e (side - 1 - j) .0 g)))
+        (e (side - 1 - (side - b)) .1 (omega arith, omega arith)) in
+        rw n (omega arith)
+
+    run-span : b ≤ side → Run → rowSpan marked r ≡ spanFrom a b
+    unfolding spanFrom
+    run-span fits e =
+        elim (decLt a b) [
+          | yes l ↦ rw (lt-ltb a b l) (found l)
+          | no l ↦ rw (le-ltb a b (omega arith)) (none-span (λ c. not-held (marked c r) (λ g. omega (arith, e c .0 g))))
+        ]
+      where
+        found : a < b → rowSpan marked r ≡ Columns a (b - 1)
+        found l = found-columns marked r a (b - 1) (omega arith) (run-first fits e l) (run-last fits e l)
+
+    run-exact : Run → SpanExact marked r (spanFrom a b)
+    unfolding spanFrom SpanExact
+    run-exact e =
+        elim (decLt a b) [
+          | yes l ↦
+              rw (lt-ltb a b l) (λ c. (λ g. let (i, j) = e c .0 g in (i, omega arith), λ (i, j). e c .1 (i, omega arith)))
+          | no l ↦ rw (le-ltb a b (omega arith)) (λ c. not-held (marked c r) (λ g. omega (arith, e c .0 g)))
+        ]
+
+module _ (o : Outline) (h : Reaches o) where
+  abbrev t : Outline
+  t = border o
+
+  enclosed : (c r : ℕ) → (block o c r ≡ true) ↔ (encloses t c r ≡ true)
+  enclosed c r = (λ e. block-turn o (h .simple) c r ∙ e, λ e. sym (block-turn o (h .simple) c r) ∙ e)
+
+  -- A cell of row r is enclosed exactly between the row's two sides
+  row-exact : (c r : ℕ) → (block o c r ≡ true) ↔ ((leftSide o r ≤ c) × (c < rightSide o r))
+  row-exact c r =
+      elim (decLe (bottom t) r) [
+        | yes low ↦ elim (decLt r (top t)) [ yes high ↦ inside low high | no high ↦ outside (λ a b. high b) ]
+        | no low ↦ outside (λ a b. low a)
+      ]
+    where
+      clear : NoBackStep t
+      clear = clear-of o h
+
+      inside : bottom t ≤ r → r < top t → (block o c r ≡ true) ↔ ((leftSide o r ≤ c) × (c < rightSide o r))
+      inside low high =
+          let b = between-once o (h .simple) r _ _ (row-full t clear r low high) (record { up = ups-row t clear r low high; down = downs-row t clear r low high }) in
+          let e = enclosed c r in
+          let f = row-ends t clear r low high c in
+          rw (b .left, b .right) (λ g. f .0 (e .0 g), λ g. e .1 (f .1 g))
+
+      outside : (bottom t ≤ r → r < top t → ⊥) → (block o c r ≡ true) ↔ ((leftSide o r ≤ c) × (c < rightSide o r))
+      outside off′ =
+          let b = between-off o (h .simple) r (record { up = ups-off t clear r off′; down = downs-off t clear r off′ }) in
+          (λ e. let (low, high) = enclosed-row t clear c r (enclosed c r .0 e) in absurd (off′ low high), λ g. absurd (omega (arith, g, b .left, b .right)))
+
+  off-chart : (c r : ℕ) → side ≤ r → block o c r ≡ false
+  off-chart c r l = not-held (block o c r) (λ e. omega (arith, enclosed-on-chart t (clear-of o h) c r (enclosed c r .0 e)))
+
+  -- The cells in the spans are those that the outline encloses
+  pub spans-exact : (c r : ℕ) → inSpans (spansOf o) c r ≡ block o c r
+  unfolding inSpans
+  spans-exact c r =
+      elim (decLt r side) [
+        | yes l ↦
+            rw (lt-ltb r side l, kept-first o r l, kept-past o r l)
+            (same-test (leb (leftSide o r) c && ltb c (rightSide o r)) (block o c r) (run (leftSide o r) (rightSide o r) c) (row-exact c r))
+        | no l ↦ rw (le-ltb r side (omega arith), off-chart c r (omega arith))
+      ]
+
+  right-le : (r : ℕ) → rightSide o r ≤ side
+  unfolding rightSide
+  right-le r = greater-le _ _ side (kept-le upAlong (o .letters) (o .start) r 0 (omega arith)) (kept-le downAlong (o .letters) (o .start) r 0 (omega arith))
+
+  -- What is kept of a row is what a search of its cells finds
+  pub spans-search : (r : ℕ) → spanAt (spansOf o) r ≡ rowSpan (block o) r
+  unfolding spanAt
+  spans-search r =
+      elim (decLt r side) [
+        | yes l ↦ rw (lt-leb side r l, kept-first o r l, kept-past o r l) (sym (run-span (block o) r _ _ (right-le r) (λ c. row-exact c r)))
+        | no l ↦ rw (le-leb side r (omega arith)) (sym (none-span (block o) r (λ c. off-chart c r (omega arith))))
+      ]
+
+  -- And it is exact
+  pub row-span-exact : (r : ℕ) → SpanExact (block o) r (rowSpan (block o) r)
+  row-span-exact r = rw (run-span (block o) r _ _ (right-le r) (λ c. row-exact c r)) (run-exact (block o) r _ _ (λ c. row-exact c r))

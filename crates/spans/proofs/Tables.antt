@@ -1,0 +1,73 @@
+-- A list of the values of a function has one of them at each place.
+use Prim.Native.Nat.{ℕ, zero, suc, _+_, _<_, _≤_}
+use native.Mathlib.Omega.{arith}
+use mathlib.Core.Path.{_≡_, refl, sym, ap, _∙_}
+use mathlib.Core.Logic.{inl, inr}
+use mathlib.Core.List.{List, [], _∷_}
+use lib.ListN.{length, getD, set, length-set}
+use lib.Seq.{getD-set-same, getD-set-other, ext-getD}
+use mathlib.Core.Bool.{Bool, true, false, cond, _&&_}
+use lib.Dec.{leb}
+use borrow.Author.Tests.{leb-true}
+use Rattle.base.proofs.BelowLaws.{below-suc}
+use Rattle.chart.specs.Limits.{side}
+use Rattle.chart.specs.declared.Point.{Point}
+use Rattle.lattice.specs.Chart.{stepped}
+use Rattle.rows.specs.Search.{keptColumn}
+use Rattle.spans.specs.Spans.{table}
+
+pub length-table : (f : ℕ → ℕ) (i n : ℕ) → length (table f i n) ≡ n
+unfolding table
+length-table f i zero = refl
+length-table f i (suc n) = ap suc (length-table f (suc i) n)
+
+pub table-at : (f : ℕ → ℕ) (i n k : ℕ) → k < n → getD (table f i n) k 0 ≡ f (i + k)
+unfolding table
+table-at f i zero k h = absurd (omega arith)
+table-at f i (suc n) zero h = ap f (omega arith)
+table-at f i (suc n) (suc k) h = table-at f (suc i) n k (omega arith) ∙ ap f (omega arith)
+
+pub table-past : (f : ℕ → ℕ) (i n k : ℕ) → n ≤ k → getD (table f i n) k 0 ≡ 0
+unfolding table
+table-past f i zero k h = refl
+table-past f i (suc n) zero h = absurd (omega arith)
+table-past f i (suc n) (suc k) h = table-past f (suc i) n k (omega arith)
+
+-- Of the n numbers of l the first k are the values of f
+pub record Filled (f : ℕ → ℕ) (n : ℕ) (l : List ℕ) (k : ℕ) : Type 0 where
+  pub sized : length l ≡ n
+  pub filled : (m : ℕ) → m < k → getD l m 0 ≡ f m
+
+pub filled-start : (f : ℕ → ℕ) (n : ℕ) (l : List ℕ) → length l ≡ n → Filled f n l 0
+filled-start f n l e = record { sized = e; filled = λ m h. absurd (omega arith) }
+
+pub filled-next : {f : ℕ → ℕ} {n : ℕ} {l : List ℕ} {k : ℕ} → Filled f n l k → k < n → (x : ℕ) → x ≡ f k → Filled f n (set l k x) (k + 1)
+filled-next {l = l} {k = k} t h x e =
+    record {
+      sized = simp length-set (t .sized);
+      filled = λ m g.
+          elim (below-suc m k (omega arith)) [
+            | inl d ↦ rw d (getD-set-same l k x 0 (omega (arith, t .sized)) ∙ e)
+            | inr g′ ↦ getD-set-other l k m x 0 (λ d. omega arith) ∙ t .filled m g′
+          ];
+    }
+
+pub filled-end : (f : ℕ → ℕ) (n : ℕ) (l : List ℕ) → Filled f n l n → l ≡ table f 0 n
+filled-end f n l t =
+    ext-getD 0 l (table f 0 n) (t .sized ∙ sym (length-table f 0 n))
+    (λ i h. t .filled i (omega (arith, t .sized)) ∙ sym (table-at f 0 n i (omega (arith, t .sized)) ∙ ap f (omega arith)))
+
+-- The same of a function with the same values
+pub filled-same : {f g : ℕ → ℕ} {n : ℕ} {l : List ℕ} {k : ℕ} → ((m : ℕ) → m < k → f m ≡ g m) → Filled f n l k → Filled g n l k
+filled-same h t = record { sized = t .sized; filled = λ m l. t .filled m l ∙ h m l }
+
+-- A column that is kept is one of the chart's
+pub kept-le : (along : Point → ℕ → ℕ → Bool) (w : List ℕ) (p : Point) (r d : ℕ) → d ≤ side → keptColumn along p w r d ≤ side
+unfolding keptColumn
+kept-le along [] p r d h = h
+kept-le along (a ∷ w) p r d h = kept-le along w (stepped p a) r _ (go (along p a r) (leb (p .col) side) refl)
+  where
+    go : (x y : Bool) → leb (p .col) side ≡ y → cond (x && y) (p .col) d ≤ side
+    go true true e = leb-true (p .col) side e
+    go true false e = h
+    go false y e = h

@@ -1,0 +1,111 @@
+-- Every row passed has its two columns; at the end the lists are those of the definition, place by place.
+use Prim.Native.Nat.{ℕ, _-_, _≤_, _<_}
+use native.Mathlib.Omega.{arith}
+use denote.Ref.{now}
+use mathlib.Core.Path.{_≡_, refl, sym, ap, _∙_}
+use mathlib.Core.List.{List}
+use lib.ListN.{length, length-replicate}
+use borrow.Author.Needs.{needs}
+use Rattle.chart.specs.Limits.{side}
+use Rattle.chart.specs.declared.Point.{Point}
+use mathlib.Core.Bool.{Bool}
+use Rattle.lattice.specs.Enclosed.{upAlong, downAlong}
+use Rattle.rows.specs.Search.{keptColumn}
+use Rattle.rows.specs.Rows.{rows}
+use Rattle.spans.specs.Spans.{lesser, greater, leftSide, rightSide, spansOf}
+use Rattle.spans.specs.declared.Spans.{Spans}
+use Rattle.spans.proofs.Tables.{Filled, filled-start, filled-next, filled-end, filled-same, kept-le}
+use Rattle.spans.proofs.spans_of.Statement.{statement}
+use Rattle.spans.proofs.spans_of.Tie as tie
+
+kept-column-le : (along : Point → ℕ → ℕ → Bool) (w : List ℕ) (p : Point) (r : ℕ) {x : ℕ} → x ≡ keptColumn along p w r 0 → x ≤ side
+kept-column-le along w p r e = rw e (kept-le along w p r 0 (omega arith))
+
+same : (f : ℕ → ℕ → ℕ) {a b c d : ℕ} → a ≡ c → b ≡ d → f a b ≡ f c d
+same f e g i = f (e i) (g i)
+
+spans-eq : {a b c d : List ℕ} → a ≡ c → b ≡ d → _≡_ {A = Spans} (record { first = a; past = b }) (record { first = c; past = d })
+spans-eq e g i = record { first = e i; past = g i }
+
+abbrev Inv-loop : tie.InvT-loop
+Inv-loop w up down first₀ past₀ k₀ first past k =
+    (k ≤ side) × Filled (λ r. lesser (rows up r) (rows down r)) side first k × Filled (λ r. greater (rows up r) (rows down r)) side past k
+
+abbrev μ-loop : tie.MeasureT-loop
+μ-loop w up down first₀ past₀ k₀ first past k = side - k
+
+row-ends-requires : tie.Need-row-ends-requires Inv-loop μ-loop
+row-ends-requires c κs = search needs
+
+loop-holds : tie.Need-loop-holds Inv-loop μ-loop
+loop-holds c = (omega arith, filled-start _ side _ (length-replicate {A = ℕ} 255 0), filled-start _ side _ (length-replicate {A = ℕ} 255 0))
+
+mul-a : tie.Need-mul-a Inv-loop μ-loop
+mul-a c = search needs
+
+array-read-a : tie.Need-array-read-a Inv-loop μ-loop
+array-read-a c = omega arith
+
+mul-b : tie.Need-mul-b Inv-loop μ-loop
+mul-b c = search needs
+
+array-read-b : tie.Need-array-read-b Inv-loop μ-loop
+array-read-b c = omega arith
+
+lesser-requires : tie.Need-lesser-requires Inv-loop μ-loop
+lesser-requires c κs =
+    let ends = c .before .before .before .before .row-ends .ensures in
+    (kept-column-le _ _ _ _ (ends .lo-up (c .before .loop .k) (omega arith)), kept-column-le _ _ _ _ (ends .hi-down (c .before .loop .k) (omega arith)))
+
+array-write-first : tie.Need-array-write-first Inv-loop μ-loop
+array-write-first c = omega arith
+
+greater-requires : tie.Need-greater-requires Inv-loop μ-loop
+greater-requires c κs =
+    let ends = c .before .before .before .before .before .row-ends .ensures in
+    (kept-column-le _ _ _ _ (ends .lo-up (c .before .before .loop .k) (omega arith)), kept-column-le _ _ _ _ (ends .hi-down (c .before .before .loop .k) (omega arith)))
+
+array-write-past : tie.Need-array-write-past Inv-loop μ-loop
+array-write-past c = omega arith
+
+add-k : tie.Need-add-k Inv-loop μ-loop
+add-k c = omega arith
+
+loop-less : tie.Need-loop-less Inv-loop μ-loop
+loop-less c = omega arith
+
+loop-again : tie.Need-loop-again Inv-loop μ-loop
+loop-again c =
+    let turn = c .before .before .before .loop in
+    (omega arith, filled-next (turn .inv .1) (omega arith) _ (c .before .lesser .ensures), filled-next (turn .inv .2) (omega arith) _ (c .greater .ensures))
+
+returns : tie.Need-returns Inv-loop μ-loop
+unfolding spansOf leftSide rightSide
+returns c =
+    let turn = c .before .loop in
+    let ends = c .before .before .before .before .row-ends .ensures in
+    let k : turn .k ≡ side = omega arith in
+    spans-eq
+    (filled-end _ side (turn .first) (filled-same (λ m h. same lesser (ends .lo-up m (omega arith)) (ends .hi-down m (omega arith))) (rw k at (turn .inv .1))))
+    (filled-end _ side (turn .past) (filled-same (λ m h. same greater (ends .lo-up m (omega arith)) (ends .hi-down m (omega arith))) (rw k at (turn .inv .2))))
+
+pub spans-of-spec : {M : Type 1} → statement M
+spans-of-spec =
+    tie.close
+    (tie.spec
+    Inv-loop
+    μ-loop
+    row-ends-requires
+    loop-holds
+    mul-a
+    array-read-a
+    mul-b
+    array-read-b
+    lesser-requires
+    array-write-first
+    greater-requires
+    array-write-past
+    add-k
+    loop-less
+    loop-again
+    returns)

@@ -1,0 +1,71 @@
+-- The first and the last column that an outline encloses in a row: by a search of the enclosed cells, and as they are kept, a number for each row. That the two agree is
+-- a theorem (proofs/Exact.antt).
+use Prim.Native.Nat.{ℕ, zero, suc, _-_, _≤_}
+use mathlib.Core.Path.{_≡_}
+use mathlib.Core.Logic.{_↔_}
+use mathlib.Core.Bool.{Bool, true, false, cond, _&&_}
+use mathlib.Core.List.{List, [], _∷_}
+use lib.ListN.{replicate}
+use lib.Dec.{leb, ltb}
+use Rattle.base.specs.Below.{first, some}
+use Rattle.chart.specs.Limits.{side}
+use Rattle.chart.specs.Outline.{Outline}
+use Rattle.lattice.specs.Enclosed.{upAlong, downAlong}
+use Rattle.rows.specs.Search.{keptColumn}
+use Rattle.rows.specs.Rows.{rows}
+use Rattle.spans.specs.declared.Span.{Span}
+use Rattle.spans.specs.declared.Span.the-variants.{None, Columns}
+use Rattle.spans.specs.declared.Spans.{Spans}
+
+-- ---- by a search
+
+-- The last number below n of which f holds, where there is one
+unfoldable pub lastBelow : (ℕ → Bool) → ℕ → ℕ
+lastBelow f n = n - 1 - first (λ k. f (n - 1 - k)) n
+
+-- The first and the last marked column of row r, or none
+unfoldable pub rowSpan : (ℕ → ℕ → Bool) → ℕ → Span
+rowSpan marked r = cond (some (λ c. marked c r) side) (Columns (first (λ c. marked c r) side) (lastBelow (λ c. marked c r) side)) None
+
+-- It is exact: every column from the first to the last is marked, and no other
+unfoldable pub SpanExact : (ℕ → ℕ → Bool) → ℕ → Span → Type 0
+SpanExact marked r None = (c : ℕ) → marked c r ≡ false
+SpanExact marked r (Columns a b) = (c : ℕ) → (marked c r ≡ true) ↔ ((a ≤ c) × (c ≤ b))
+
+-- ---- as they are kept
+
+unfoldable pub lesser : ℕ → ℕ → ℕ
+lesser a b = cond (leb a b) a b
+
+unfoldable pub greater : ℕ → ℕ → ℕ
+greater a b = cond (leb a b) b a
+
+-- f i, f (i + 1) and so on, n numbers
+unfoldable pub table : (ℕ → ℕ) → ℕ → ℕ → List ℕ
+table f i zero = []
+table f i (suc n) = f i ∷ table f (suc i) n
+
+-- The columns of the outline's up and of its down along row r, whichever is left of the other
+unfoldable pub leftSide : Outline → ℕ → ℕ
+leftSide o r = lesser (keptColumn upAlong (o .start) (o .letters) r 0) (keptColumn downAlong (o .start) (o .letters) r 0)
+
+unfoldable pub rightSide : Outline → ℕ → ℕ
+rightSide o r = greater (keptColumn upAlong (o .start) (o .letters) r 0) (keptColumn downAlong (o .start) (o .letters) r 0)
+
+-- Row by row from the left side to the right side; and no row with a cell
+unfoldable pub spansOf : Outline → Spans
+spansOf o = record { first = table (leftSide o) 0 side; past = table (rightSide o) 0 side }
+
+unfoldable pub noSpans : Spans
+noSpans = record { first = replicate side 0; past = replicate side 0 }
+
+-- The cell (c, r) is in them
+unfoldable pub inSpans : Spans → ℕ → ℕ → Bool
+inSpans s c r = ltb r side && (leb (rows (s .first) r) c && ltb c (rows (s .past) r))
+
+-- What they have of row r
+unfoldable pub spanFrom : ℕ → ℕ → Span
+spanFrom a b = cond (ltb a b) (Columns a (b - 1)) None
+
+unfoldable pub spanAt : Spans → ℕ → Span
+spanAt s r = cond (leb side r) None (spanFrom (rows (s .first) r) (rows (s .past) r))
