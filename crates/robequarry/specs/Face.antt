@@ -25,6 +25,6 @@ testEdges c r letters edges reply = cond (leb 7 (length reply)) (edgesAfter (rec
 unfoldable pub looseReply : ℕ → ℕ → List ℤ → ℕ → ℕ → List ℕ → List ℕ
 looseReply ac ar edges c r reply = replyAfter (positionFields (looseOf (at ac ar) edges (at c r))) reply
 
--- What the holder takes as C lays it out: two drafts of 632 bytes, and eight works of 416
+-- What the holder takes as C lays it out: two drafts of 632 bytes, and eight works of 928
 abbrev pub holderBytes : ℕ
-holderBytes = 4592
+holderBytes = 8688

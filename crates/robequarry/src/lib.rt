@@ -22,10 +22,10 @@ ghost use Rattle.wire.specs.Wire.{respondOf, repliedTo};
 ghost use Rattle.replay.specs.Script.{callsRead, repliesAfter};
 ghost use Rattle.robequarry.specs.Face.{at, testReply, testEdges, looseReply, holderBytes};
 
-// What a draft and a work take: the flag, a point of two numbers of 16 bits, the letters or the numbers, then the count at the next multiple of 8.
+// What a draft and a work take: the flag, a point of two numbers of 16 bits, the letters or the numbers, the count at the next multiple of 8, and a work's rows.
 const DRAFT_BYTES: usize = 632;
 
-const WORK_BYTES: usize = 416;
+const WORK_BYTES: usize = 928;
 
 // Tests an outline: the start corner and the letters. The edges stand first in the list lent for them, where the outline is taken.
 #[no_mangle]

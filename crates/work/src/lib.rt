@@ -1,10 +1,16 @@
 // What is at work: the anchor and the edges of the outline last taken, and what is asked of them (contract 7.6 to 7.8).
+use calls::Question;
 use calls::Reply;
 use chart::MOST_NUMBERS;
 use chart::Point;
 use chart::Refusal;
+use chart::SIDE;
 use polygon::bad_cell;
 use polygon::inside;
+use spans::Span;
+use spans::Spans;
+use spans::no_spans;
+use spans::span_at;
 ghost use mathlib.Core.Path.{_≡_};
 ghost use Prim.Native.Nat.{_*_, min};
 ghost use lib.ListN.{take};
@@ -12,15 +18,16 @@ ghost use Rattle.base.specs.Same.{sameℤ, sameℤs};
 ghost use Rattle.chart.specs.Limits.{mostNumbers};
 ghost use Rattle.lattice.specs.Chart.{samePoint};
 ghost use Rattle.polygon.specs.Loose.{insideList};
-ghost use Rattle.work.specs.Work.{noWork, listed, workEdges, replaced, removed, hasEdges, located};
+ghost use Rattle.work.specs.Work.{noWork, listed, workEdges, replaced, removed, hasEdges, located, spanReply, spanned, answered};
 
-// The outline last taken, if one was: its anchor and its edges, two numbers an edge.
+// The outline last taken, if one was: its anchor, its edges, two numbers an edge, and its rows.
 #[repr(C)]
 pub struct Work {
     pub taken: bool,
     pub anchor: Point,
     pub numbers: [i16; MOST_NUMBERS],
     pub edges: usize,
+    pub spans: Spans,
 }
 
 // How many numbers stand for this many edges: no more than there is space for.
@@ -71,6 +78,16 @@ fn same_numbers(a: &[i16], b: &[i16]) -> bool
     true
 }
 
+// A row written out as a reply.
+fn span_reply(span: Span) -> Reply
+    ensures { λ r. ⌜ r ≡ spanReply span ⌝ }
+{
+    match span {
+        Span::None => Reply::None,
+        Span::Columns { first, last } => Reply::Columns { first, last },
+    }
+}
+
 impl Work {
     pub fn none() -> Self
         ensures { λ r. ⌜ r ≡ noWork ⌝ }
@@ -80,16 +97,24 @@ impl Work {
             anchor: Point { col: 0, row: 0 },
             numbers: [0; MOST_NUMBERS],
             edges: 0,
+            spans: no_spans(),
         }
     }
 
     // An outline that was taken replaces what is at work.
-    pub fn replace(mut self, anchor: Point, numbers: [i16; MOST_NUMBERS], edges: u16) -> Self
-        ensures { λ r. ⌜ r ≡ replaced anchor numbers edges ⌝ }
+    pub fn replace(
+        mut self,
+        anchor: Point,
+        numbers: [i16; MOST_NUMBERS],
+        edges: u16,
+        spans: Spans,
+    ) -> Self
+        ensures { λ r. ⌜ r ≡ replaced anchor numbers edges spans ⌝ }
     {
         self.anchor = anchor;
         self.numbers = numbers;
         self.edges = edges as usize;
+        self.spans = spans;
         self.taken = true;
         self
     }
@@ -127,7 +152,7 @@ impl Work {
     }
 
     // 12, 11, or where the cell lies.
-    pub fn locate(self, cell: Point) -> Reply
+    fn locate(self, cell: Point) -> Reply
         ensures { λ r. ⌜ r ≡ located self cell ⌝ }
     {
         if !self.taken {
@@ -140,6 +165,29 @@ impl Work {
             Reply::Inside
         } else {
             Reply::Outside
+        }
+    }
+
+    // 12, 11, or the columns of the row.
+    fn span(self, row: u16) -> Reply
+        ensures { λ r. ⌜ r ≡ spanned self row ⌝ }
+    {
+        if !self.taken {
+            return Reply::NothingAtWork;
+        }
+        if SIDE <= row {
+            return Reply::Refused(Refusal::Cell);
+        }
+        let spans = self.spans;
+        span_reply(span_at(spans, row))
+    }
+
+    pub fn answer(self, question: Question) -> Reply
+        ensures { λ r. ⌜ r ≡ answered self question ⌝ }
+    {
+        match question {
+            Question::Cell(cell) => self.locate(cell),
+            Question::Row(row) => self.span(row),
         }
     }
 }

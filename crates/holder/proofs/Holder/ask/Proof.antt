@@ -2,8 +2,8 @@
 use Rattle.holder.specs.Holder.{actOf}
 use Rattle.holder.proofs.Cases.{there-party, there-place, no-party, party, tested}
 use borrow.Author.Needs.{needs}
-use Rattle.holder.proofs.Holder.query.Statement.{statement}
-use Rattle.holder.proofs.Holder.query.Tie as tie
+use Rattle.holder.proofs.Holder.ask.Statement.{statement}
+use Rattle.holder.proofs.Holder.ask.Tie as tie
 
 bad-party-requires : tie.Need-bad-party-requires
 bad-party-requires c κs = search needs
@@ -28,8 +28,8 @@ returns-2 c = party _ _ (c .before .before .before .before .bad-party .ensures) 
 at-work-requires : tie.Need-at-work-requires
 at-work-requires c κs = (there-party _ (c .before .before .before .bad-party .ensures) (c .before .before .if1 .left), there-place _ (c .before .bad-place .ensures) (c .if2 .left))
 
-locate-requires : tie.Need-locate-requires
-locate-requires c κs = search needs
+answer-requires : tie.Need-answer-requires
+answer-requires c κs = search needs
 
 reply-requires-3 : tie.Need-reply-requires-3
 reply-requires-3 c κs = search needs
@@ -37,10 +37,10 @@ reply-requires-3 c κs = search needs
 returns-3 : tie.Need-returns-3
 unfolding actOf
 returns-3 c = party _ _ (c .before .before .before .before .before .before .bad-party .ensures) _ (c .before .before .before .before .before .if1 .left)
-    (rw (tested (c .before .before .before .before .bad-place .ensures) (c .before .before .before .if2 .left), c .reply3 .ensures, c .before .locate .ensures, c .before .before .at-work .ensures))
+    (rw (tested (c .before .before .before .before .bad-place .ensures) (c .before .before .before .if2 .left), c .reply3 .ensures, c .before .answer .ensures, c .before .before .at-work .ensures))
 
-pub query-spec : {M : Type 1} → statement M
-query-spec =
+pub ask-spec : {M : Type 1} → statement M
+ask-spec =
     tie.close
     (tie.spec
     bad-party-requires
@@ -50,6 +50,6 @@ query-spec =
     reply-requires-2
     returns-2
     at-work-requires
-    locate-requires
+    answer-requires
     reply-requires-3
     returns-3)
