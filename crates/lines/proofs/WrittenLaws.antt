@@ -26,6 +26,13 @@ length-over [] lent = refl
 length-over (b ∷ t) [] = refl
 length-over (b ∷ t) (x ∷ lent) = ap suc (length-over t lent)
 
+-- Nothing written
+pub written-none : (at : ℕ) (lent : List ℕ) → writtenAt at [] lent ≡ lent
+unfolding writtenAt over
+written-none zero lent = refl
+written-none (suc at) [] = refl
+written-none (suc at) (x ∷ lent) = ap (λ (l : List ℕ). x ∷ l) (written-none at lent)
+
 pub length-written : (at : ℕ) (t lent : List ℕ) → length (writtenAt at t lent) ≡ length lent
 unfolding writtenAt
 length-written zero t lent = length-over t lent

@@ -8,10 +8,10 @@ use mathlib.Core.List.{List, [], _∷_}
 use lib.ListN.{length, getD, drop, length-drop, drop-of-length-le}
 use lib.Seq.{drop-cons}
 use lib.Dec.{eqb, leb}
-use borrow.Author.Tests.{le-leb, lt-leb, eq-eqb, ne-eqb}
+use borrow.Author.Tests.{leb-true, le-leb, lt-leb, eq-eqb, ne-eqb}
 use Rattle.records.specs.declared.Found.{Found}
 use Rattle.records.specs.declared.Found.the-variants.{End, WrongMark, Cut, Record}
-use Rattle.records.specs.Found.{wide, marked, afterMark, foundIn}
+use Rattle.records.specs.Found.{wide, marked, afterMark, foundIn, width}
 
 byte-at : (w : List ℕ) (i j : ℕ) → j ≡ i + 1 → i < length w → drop i w ≡ getD w i 0 ∷ drop j w
 byte-at w i j e h = rw (e, add-one, drop-cons w i 0)
@@ -88,3 +88,23 @@ unfolding foundIn
 found-marked [] e = absurd (omega (arith, marked-two [] e))
 found-marked (a ∷ []) e = absurd (omega (arith, marked-two (a ∷ []) e))
 found-marked (a ∷ b ∷ w) e = rw e
+
+width-cond : (b : Bool) (f g : Found) (m : ℕ) → (b ≡ true → width f ≤ m) → width g ≤ m → width (cond b f g) ≤ m
+width-cond true f g m h i = h refl
+width-cond false f g m h i = i
+
+after-within : (w : List ℕ) → width (afterMark w) ≤ 2 + length w
+unfolding afterMark width
+after-within [] = omega arith
+after-within (c ∷ []) = omega arith
+after-within (c ∷ r ∷ []) = omega arith
+after-within (c ∷ r ∷ low ∷ []) = omega arith
+after-within (c ∷ r ∷ low ∷ high ∷ w) =
+    width-cond (leb (wide low high) (length w)) (Record c r (wide low high)) Cut _ (λ e. omega (arith, leb-true (wide low high) (length w) e)) (omega arith)
+
+-- What is read stands whole in the bytes
+pub found-within : (w : List ℕ) → width (foundIn w) ≤ length w
+unfolding foundIn width
+found-within [] = omega arith
+found-within (a ∷ []) = omega arith
+found-within (a ∷ b ∷ w) = width-cond (marked (a ∷ b ∷ w)) (afterMark w) WrongMark _ (λ e. omega (arith, after-within w)) (omega arith)

@@ -38,3 +38,10 @@ foundIn (a ∷ b ∷ w) = cond (marked (a ∷ b ∷ w)) (afterMark w) WrongMark
 -- What stands at a position of a file
 abbrev pub foundAt : List ℕ → ℕ → Found
 foundAt file at = foundIn (drop at file)
+
+-- How many bytes are read of what is found: those of a whole record
+unfoldable pub width : Found → ℕ
+width End = 0
+width WrongMark = 0
+width Cut = 0
+width (Record c r count) = header + count

@@ -1,0 +1,3 @@
+-- The laws of a fitting file's lines.
+pub mod LinesLaws
+pub mod ListingLaws
