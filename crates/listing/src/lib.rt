@@ -11,7 +11,7 @@ ghost use Prim.Native.Nat.{_≤_, _<_};
 ghost use mathlib.Core.Path.{_≡_};
 ghost use lib.ListN.{length};
 ghost use Rattle.chart.specs.Outline.{outline};
-ghost use Rattle.listing.specs.Lines.{most, testedLine, linesAt, linesOf};
+ghost use Rattle.listing.specs.Lines.{most, line as lineOf, testedLine, linesAt, linesOf};
 ghost use Rattle.listing.specs.Listed.{Listed};
 
 // A file has at most this many bytes.
@@ -26,6 +26,17 @@ const WRONG_MARK: usize = 23;
 const CUT: usize = 24;
 
 const TOO_LONG: usize = 25;
+
+// The line of a fault: the record's number, the fault's, and a position.
+fn fault(number: usize, answer: usize, place: usize) -> Line
+    ensures { λ r. ⌜ r ≡ lineOf number answer place ⌝ }
+{
+    Line {
+        number,
+        answer,
+        place,
+    }
+}
 
 // A record's line: what the test says, with a list lent that is long enough for any taken outline.
 fn tested(number: usize, col: u8, row: u8, letters: &[u8]) -> Line
@@ -57,22 +68,8 @@ fn list_records(file: &[u8], text: &mut [u8]) -> usize
         let letters = at + HEADER;
         match next_at(file, at) {
             Found::End => return end,
-            Found::WrongMark => {
-                let line = Line {
-                    number,
-                    answer: WRONG_MARK,
-                    place: at,
-                };
-                return put_line(line, text, end);
-            }
-            Found::Cut => {
-                let line = Line {
-                    number,
-                    answer: CUT,
-                    place: at,
-                };
-                return put_line(line, text, end);
-            }
+            Found::WrongMark => return put_line(fault(number, WRONG_MARK, at), text, end),
+            Found::Cut => return put_line(fault(number, CUT, at), text, end),
             Found::Record { col, row, count } => {
                 let next = letters + count;
                 let line = tested(number, col, row, &file[letters..next]);
@@ -90,12 +87,7 @@ pub fn list(file: &[u8], text: &mut [u8]) -> usize
     ensures { λ r. ⌜ Listed (linesOf (now (file .entry))) (now (text .entry)) (now (text .exit)) r ⌝ }
 {
     if MOST < file.len() {
-        let line = Line {
-            number: 0,
-            answer: TOO_LONG,
-            place: MOST,
-        };
-        return put_line(line, text, 0);
+        return put_line(fault(0, TOO_LONG, MOST), text, 0);
     }
     list_records(file, text)
 }

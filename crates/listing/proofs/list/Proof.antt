@@ -6,6 +6,9 @@ use borrow.Author.Needs.{needs}
 use Rattle.listing.proofs.list.Statement.{statement}
 use Rattle.listing.proofs.list.Tie as tie
 
+fault-requires : tie.Need-fault-requires
+fault-requires c κs = search needs
+
 put-line-requires : tie.Need-put-line-requires
 put-line-requires c κs = search needs
 
@@ -13,7 +16,9 @@ same-length : tie.Need-same-length
 same-length c = search needs
 
 returns : tie.Need-returns
-returns c = rw (lines-long (c .before .before .before .before .before .before .before .args .file .now) (omega arith)) (long-listed (c .before .before .put-line .ensures))
+returns c =
+    let wrote = rw (c .before .before .before .before .fault .ensures) at (c .before .before .put-line .ensures) in
+    rw (lines-long (c .before .before .before .before .before .before .before .before .args .file .now) (omega arith)) (long-listed wrote)
 
 list-records-requires : tie.Need-list-records-requires
 list-records-requires c κs = search needs
@@ -27,4 +32,4 @@ returns-2 c = rw (lines-read (c .before .before .before .before .before .before 
 pub list-spec : {M : Type 1} → statement M
 list-spec =
     tie.close
-    (tie.spec put-line-requires same-length returns list-records-requires same-length-2 returns-2)
+    (tie.spec fault-requires put-line-requires same-length returns list-records-requires same-length-2 returns-2)

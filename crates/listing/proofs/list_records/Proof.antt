@@ -37,32 +37,40 @@ returns c =
 enum-told-2 : tie.Need-enum-told-2 Inv-loop μ-loop
 enum-told-2 c = search needs
 
+fault-requires : tie.Need-fault-requires Inv-loop μ-loop
+fault-requires c κs = search needs
+
 put-line-requires : tie.Need-put-line-requires Inv-loop μ-loop
 put-line-requires c κs = search needs
 
 same-length-2 : tie.Need-same-length-2 Inv-loop μ-loop
-same-length-2 c = c .before .before .put-line .kept .1 .0 ∙ c .before .before .before .before .before .before .before .before .loop .inv .same
+same-length-2 c = c .before .before .put-line .kept .1 .0 ∙ c .before .before .before .before .before .before .before .before .before .loop .inv .same
 
 returns-2 : tie.Need-returns-2 Inv-loop μ-loop
 returns-2 c =
-    let next = c .before .before .before .before .before .before in
-    let found = sym (next .next-at .ensures) ∙ c .before .before .before .before .enum-told2 .given .1 in
-    going-wrong-mark (next .before .before .loop .inv) (next .before .before .before .before .before .pre) (omega arith) found (c .before .before .put-line .ensures)
+    let next = c .before .before .before .before .before .before .before in
+    let found = sym (next .next-at .ensures) ∙ c .before .before .before .before .before .enum-told2 .given .1 in
+    let wrote = rw (c .before .before .before .before .fault .ensures) at (c .before .before .put-line .ensures) in
+    going-wrong-mark (next .before .before .loop .inv) (next .before .before .before .before .before .pre) (omega arith) found wrote
 
 enum-told-3 : tie.Need-enum-told-3 Inv-loop μ-loop
 enum-told-3 c = search needs
+
+fault-requires-2 : tie.Need-fault-requires-2 Inv-loop μ-loop
+fault-requires-2 c κs = search needs
 
 put-line-requires-2 : tie.Need-put-line-requires-2 Inv-loop μ-loop
 put-line-requires-2 c κs = search needs
 
 same-length-3 : tie.Need-same-length-3 Inv-loop μ-loop
-same-length-3 c = c .before .before .put-line2 .kept .1 .0 ∙ c .before .before .before .before .before .before .before .before .loop .inv .same
+same-length-3 c = c .before .before .put-line2 .kept .1 .0 ∙ c .before .before .before .before .before .before .before .before .before .loop .inv .same
 
 returns-3 : tie.Need-returns-3 Inv-loop μ-loop
 returns-3 c =
-    let next = c .before .before .before .before .before .before in
-    let found = sym (next .next-at .ensures) ∙ c .before .before .before .before .enum-told3 .given .1 in
-    going-cut (next .before .before .loop .inv) (next .before .before .before .before .before .pre) (omega arith) found (c .before .before .put-line2 .ensures)
+    let next = c .before .before .before .before .before .before .before in
+    let found = sym (next .next-at .ensures) ∙ c .before .before .before .before .before .enum-told3 .given .1 in
+    let wrote = rw (c .before .before .before .before .fault2 .ensures) at (c .before .before .put-line2 .ensures) in
+    going-cut (next .before .before .loop .inv) (next .before .before .before .before .before .pre) (omega arith) found wrote
 
 enum-known-col : tie.Need-enum-known-col Inv-loop μ-loop
 enum-known-col c = search needs
@@ -133,10 +141,12 @@ list-records-spec =
     same-length
     returns
     enum-told-2
+    fault-requires
     put-line-requires
     same-length-2
     returns-2
     enum-told-3
+    fault-requires-2
     put-line-requires-2
     same-length-3
     returns-3
