@@ -1,9 +1,7 @@
 -- One text written behind another is the two joined: by the place where they begin, and then letter by letter.
 use Prim.Native.Nat.{ℕ, zero, suc, _+_, _-_, _≤_, _<_, min}
-use native.Mathlib.Nat.{min-le-right, min-eq-left, min-eq-right}
-use native.Mathlib.Decide.{decLe}
 use native.Mathlib.Omega.{arith}
-use mathlib.Core.Path.{_≡_, refl, sym, ap, _∙_}
+use mathlib.Core.Path.{_≡_, refl, ap, _∙_}
 use mathlib.Core.List.{List, [], _∷_, _++_}
 use lib.ListN.{length, drop, set, length-append}
 use Rattle.lines.specs.Written.{over, writtenAt, endAt, Wrote}

@@ -1,8 +1,8 @@
 -- The listing in the making stays one: a fault or the end finishes it, and a whole record takes it a line further.
-use Prim.Native.Nat.{_+_, _-_, _≤_, _<_}
+use Prim.Native.Nat.{_-_}
 use native.Mathlib.Omega.{arith}
-use mathlib.Core.Path.{_≡_, refl, sym, ap, _∙_}
-use lib.ListN.{length, drop, length-drop}
+use mathlib.Core.Path.{sym, _∙_}
+use lib.ListN.{length}
 use borrow.Author.Needs.{needs}
 use Rattle.listing.proofs.ListingLaws.{Going, going-begins, going-ends, going-found-end, going-wrong-mark, going-cut, going-record, next-within, letters-between}
 use Rattle.listing.proofs.list_records.Statement.{statement}

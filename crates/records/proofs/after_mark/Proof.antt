@@ -1,7 +1,7 @@
 -- Fewer than four bytes are a cut record; else the count of letters is held to the bytes that are left behind them.
-use Prim.Native.Nat.{_+_, _≤_, _<_}
+use Prim.Native.Nat.{_+_, _≤_}
 use native.Mathlib.Omega.{arith}
-use mathlib.Core.Path.{sym, _∙_}
+use mathlib.Core.Path.{sym}
 use lib.ListN.{length, length-drop}
 use Rattle.records.proofs.FoundLaws.{after-short, after-whole, after-cut}
 use borrow.Author.Needs.{needs}

@@ -1,5 +1,5 @@
 -- The end is asked first, then the mark, and what stands behind the mark is told by a function of its own.
-use Prim.Native.Nat.{_+_, _≤_, _<_}
+use Prim.Native.Nat.{_≤_, _<_}
 use native.Mathlib.Omega.{arith}
 use mathlib.Core.Path.{sym, _∙_}
 use lib.ListN.{length, drop, length-drop}

@@ -1,5 +1,5 @@
 -- Of fewer than two bytes none are a mark; else the two bytes at the position are asked.
-use Prim.Native.Nat.{_+_, _≤_, _<_}
+use Prim.Native.Nat.{_+_, _≤_}
 use native.Mathlib.Omega.{arith}
 use mathlib.Core.Path.{sym, _∙_}
 use lib.ListN.{length, length-drop}
