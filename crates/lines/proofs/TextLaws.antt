@@ -78,9 +78,9 @@ field-short : (m n b : ℕ) → n < 10 ^ suc m → length (fieldText n b) ≤ su
 unfolding fieldText decimal
 field-short m n b h = rw (length-append (digits (suc n) n) (b ∷ [])) (omega (arith, digits-short m (suc n) n h))
 
--- A line whose numbers have at most five, two and five digits has at most fifteen bytes
-pub line-short : (l : Line) → l .number < 100000 → l .answer < 100 → l .place < 100000 → length (lineText l) ≤ 15
+-- A line whose numbers have at most five digits has at most eighteen bytes
+pub line-short : (l : Line) → l .number < 100000 → l .answer < 100000 → l .place < 100000 → length (lineText l) ≤ 18
 unfolding lineText
 line-short l h i j =
     simp length-append
-    (omega (arith, field-short 4 (l .number) 32 h, field-short 1 (l .answer) 32 i, field-short 4 (l .place) 10 j))
+    (omega (arith, field-short 4 (l .number) 32 h, field-short 4 (l .answer) 32 i, field-short 4 (l .place) 10 j))

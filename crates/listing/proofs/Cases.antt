@@ -2,7 +2,7 @@
 use Prim.Native.Nat.{ℕ}
 use mathlib.Core.Path.{_≡_, refl}
 use mathlib.Core.List.{List, [], _∷_, _++_}
-use Rattle.chart.specs.Outline.{Outline, outline}
+use Rattle.chart.specs.Outline.{outline}
 use Rattle.verdict.proofs.Computes.{computes}
 use Rattle.records.specs.Found as Found
 use Rattle.lines.specs.Text as Text

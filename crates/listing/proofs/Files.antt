@@ -1,6 +1,6 @@
 -- A file of records has the line of each record's outline, and behind them the lines of what follows: each record is found whole at its front.
-use Prim.Native.Nat.{ℕ, _+_, _*_, _/_, _%_, _≤_}
-use native.Mathlib.Nat.{add-assoc, add-zero, div-add-mod}
+use Prim.Native.Nat.{ℕ, _+_, _/_, _%_, _≤_}
+use native.Mathlib.Nat.{add-zero, div-add-mod}
 use native.Mathlib.Omega.{arith}
 use mathlib.Core.Path.{_≡_, refl, sym, ap, _∙_}
 use mathlib.Core.List.{List, [], _∷_, _++_, append-assoc, append-nil}

@@ -11,33 +11,26 @@ use Rattle.lines.specs.Text.{lineText, textOf}
 use Rattle.lines.specs.Written.{over, writtenAt, endAt, Wrote}
 use Rattle.lines.proofs.WrittenLaws.{length-written, written-behind, written-none}
 use Rattle.lines.proofs.TextLaws.{line-short}
-use Rattle.chart.specs.declared.Refusal.{Refusal}
-use Rattle.chart.specs.declared.Refusal.the-variants.{Count, Start, Letter, Leaves, Unclosed, Touches, BackStep, Dent, Room, List as BadList, Cell, Turning}
-use Rattle.chart.specs.declared.Verdict.{Verdict}
-use Rattle.chart.specs.declared.Verdict.the-variants.{Taken, Refused}
-use Rattle.chart.specs.Limits.{mostNumbers}
 use Rattle.chart.specs.Outline.{Outline, outline}
-use Rattle.chart.specs.Fields.{refusalFields, verdictFields}
-use Rattle.verdict.specs.Verdict.{testOf, testFields}
 use Rattle.records.specs.declared.Found.the-variants.{End, WrongMark, Cut, Record}
 use Rattle.records.specs.Found.{header, foundAt}
 use Rattle.records.proofs.FoundLaws.{found-end}
 use Rattle.listing.specs.Lines.{most, line, testedLine, outlineIn, linesAt}
-use Rattle.listing.specs.Listed.{room, Listed}
+use Rattle.listing.specs.Listed.{room, Small, Listed}
 use Rattle.listing.proofs.LinesLaws.{lines-found-end, lines-wrong-mark, lines-cut, lines-record, record-within}
 
 -- The lines of all and those that are left, how many are written, the list as it was lent and as it is, and where the next line goes
 pub record Making (all left : List Line) (n : ℕ) (lent text : List ℕ) (at : ℕ) : Type 0 where
   pub finished : writtenAt at (textOf left) text ≡ over (textOf all) lent
   pub end : endAt at (length (textOf left)) (length text) ≡ min (length (textOf all)) (length lent)
-  pub short : length (textOf all) ≤ 15 * n + length (textOf left)
+  pub short : length (textOf all) ≤ 18 * n + length (textOf left)
 
 pub making-begins : (all : List Line) (lent : List ℕ) → Making all all 0 lent lent 0
 unfolding writtenAt
 making-begins all lent = record { finished = refl; end = omega arith; short = omega arith }
 
 pub making-line : {all left : List Line} {l : Line} {n : ℕ} {lent text text′ : List ℕ} {at end : ℕ} → Making all (l ∷ left) n lent text at
-    → Wrote (lineText l) at text text′ end → length (lineText l) ≤ 15 → Making all left (n + 1) lent text′ end
+    → Wrote (lineText l) at text text′ end → length (lineText l) ≤ 18 → Making all left (n + 1) lent text′ end
 unfolding textOf
 making-line {all} {left} {l} {n} {lent} {text} {text′} {at} {end} p q h =
     let joined = length-append (lineText l) (textOf left) in
@@ -50,34 +43,11 @@ making-line {all} {left} {l} {n} {lent} {text} {text′} {at} {end} p q h =
       short = omega (arith, p .short);
     }
 
-pub making-ends : {all : List Line} {n : ℕ} {lent text : List ℕ} {at : ℕ} → Making all [] n lent text at → 15 * n ≤ room → Listed all lent text at
+pub making-ends : {all : List Line} {n : ℕ} {lent text : List ℕ} {at : ℕ} → Making all [] n lent text at → 18 * n ≤ room → Listed all lent text at
 unfolding textOf
 making-ends {all} {n} {lent} {text} {at} p h =
     let last = p .end in
     record { text = sym (written-none at text) ∙ p .finished; end = omega arith; short = omega (arith, p .short) }
-
--- The test's number has at most two digits
-refusal-small : (f : Refusal) → refusalFields f .number < 100
-refusal-small Count = lit< tt
-refusal-small Start = lit< tt
-refusal-small (Letter p) = lit< tt
-refusal-small (Leaves p) = lit< tt
-refusal-small Unclosed = lit< tt
-refusal-small (Touches p) = lit< tt
-refusal-small (BackStep k p) = lit< tt
-refusal-small (Dent k p l x) = lit< tt
-refusal-small (Room e) = lit< tt
-refusal-small BadList = lit< tt
-refusal-small Cell = lit< tt
-refusal-small Turning = lit< tt
-
-verdict-small : (v : Verdict) → verdictFields v .number < 100
-verdict-small (Taken e a) = lit< tt
-verdict-small (Refused f) = refusal-small f
-
-tested-small : (n : ℕ) (o : Outline) → testedLine n o .answer < 100
-unfolding testedLine testFields
-tested-small n o = verdict-small (testOf o mostNumbers)
 
 -- A listing in the making, by how far the file is read and how many records it had
 pub record Going (file lent text : List ℕ) (at n end : ℕ) : Type 0 where
@@ -99,11 +69,11 @@ module _ {file lent text : List ℕ} {at n end : ℕ} (g : Going file lent text 
   pub going-found-end : foundAt file at ≡ End → Listed (linesAt 0 0 file) lent text end
   going-found-end e = going-stops (lines-found-end n at (drop at file) e)
 
-  going-last : {l : Line} {text′ : List ℕ} {r : ℕ} → at < length file → linesAt n at (drop at file) ≡ l ∷ [] → length (lineText l) ≤ 15
+  going-last : {l : Line} {text′ : List ℕ} {r : ℕ} → at < length file → linesAt n at (drop at file) ≡ l ∷ [] → length (lineText l) ≤ 18
       → Wrote (lineText l) end text text′ r → Listed (linesAt 0 0 file) lent text′ r
   going-last before e h w = making-ends (making-line (rw e at (g .making)) w h) (omega (arith, g .records))
 
-  fault-short : (a : ℕ) → a < 100 → length (lineText (line n a at)) ≤ 15
+  fault-short : (a : ℕ) → a < 100000 → length (lineText (line n a at)) ≤ 18
   fault-short a h = line-short (line n a at) (omega (arith, g .within, g .records)) h (omega (arith, g .within))
 
   pub going-wrong-mark : {text′ : List ℕ} {r : ℕ} → at < length file → foundAt file at ≡ WrongMark → Wrote (lineText (line n 23 at)) end text text′ r
@@ -119,19 +89,19 @@ module _ {file lent text : List ℕ} {at n end : ℕ} (g : Going file lent text 
       let fits : header + m ≤ length (drop at file) = record-within c r m (drop at file) e in
       omega (arith, simp length-drop at fits, g .within)
 
-  record-short : {l : Line} (o : Outline) → l ≡ testedLine n o → l .place < 65536 → length (lineText l) ≤ 15
+  record-short : {l : Line} (o : Outline) → l ≡ testedLine n o → Small l → length (lineText l) ≤ 18
   unfolding testedLine
-  record-short {l} o e below =
-      line-short l (rw e (omega (arith, g .within, g .records))) (rw e (tested-small n o)) (omega arith)
+  record-short {l} o e s =
+      line-short l (rw e (omega (arith, g .within, g .records))) (omega (arith, s .answer)) (omega (arith, s .place))
 
   pub going-record : {l : Line} {text′ : List ℕ} {c r m end′ : ℕ} → foundAt file at ≡ Record c r m → l ≡ testedLine n (outlineIn c r m (drop at file))
-      → l .place < 65536 → Wrote (lineText l) end text text′ end′ → Going file lent text′ (at + header + m) (n + 1) end′
-  going-record {l} {text′} {c} {r} {m} e same below w =
+      → Small l → Wrote (lineText l) end text text′ end′ → Going file lent text′ (at + header + m) (n + 1) end′
+  going-record {l} {text′} {c} {r} {m} e same s w =
       let further : at + (header + m) ≡ at + header + m = omega arith in
       let lines : linesAt n at (drop at file) ≡ l ∷ linesAt (n + 1) (at + header + m) (drop (at + header + m) file) =
       lines-record n at c r m (drop at file) e ∙ rw (drop-drop (header + m) at file, further, same) refl in
       record {
-        making = making-line (rw lines at (g .making)) w (record-short (outlineIn c r m (drop at file)) same below);
+        making = making-line (rw lines at (g .making)) w (record-short (outlineIn c r m (drop at file)) same s);
         within = next-within e;
         records = omega (arith, g .records);
         same = ap length (w .text) ∙ length-written end (lineText l) text ∙ g .same;

@@ -7,18 +7,18 @@ use lines::put_line;
 use records::Found;
 use records::HEADER;
 use records::next_at;
-ghost use Prim.Native.Nat.{_≤_, _<_};
+ghost use Prim.Native.Nat.{_≤_};
 ghost use mathlib.Core.Path.{_≡_};
 ghost use lib.ListN.{length};
 ghost use Rattle.chart.specs.Outline.{outline};
 ghost use Rattle.listing.specs.Lines.{most, line as lineOf, testedLine, linesAt, linesOf};
-ghost use Rattle.listing.specs.Listed.{Listed};
+ghost use Rattle.listing.specs.Listed.{Small, Listed};
 
 // A file has at most this many bytes.
 pub const MOST: usize = 65536;
 
 // The listing of any file has room in this many bytes.
-pub const ROOM: usize = 163845;
+pub const ROOM: usize = 196614;
 
 // The faults of a file (contract 11.3).
 const WRONG_MARK: usize = 23;
@@ -41,7 +41,7 @@ fn fault(number: usize, answer: usize, place: usize) -> Line
 // A record's line: what the test says, with a list lent that is long enough for any taken outline.
 fn tested(number: usize, col: u8, row: u8, letters: &[u8]) -> Line
     ensures line { λ r. ⌜ r ≡ testedLine number (outline (record { col = col; row = row }) (now (letters .entry))) ⌝ }
-    ensures place { λ r. ⌜ r .place < 65536 ⌝ }
+    ensures small { λ r. ⌜ Small r ⌝ }
 {
     let mut edges = [0i16; MOST_NUMBERS];
     let start = Point {
