@@ -1,4 +1,4 @@
-// Lists the fitting file on standard input: a line for each record, and one for a fault (contract 11).
+// Lists the fitting file on standard input: a line for each record, and one for a fault (contract 11.5).
 use libc::STDIN_FILENO;
 use libc::STDOUT_FILENO;
 use listing::MOST;
