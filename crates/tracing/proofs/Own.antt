@@ -34,7 +34,7 @@ use Rattle.tracing.specs.declared.Traced.the-variants.{Written}
 use Rattle.tracing.specs.Outlined.{TakenAs, outlined}
 use Rattle.tracing.specs.Traced.{tracedOf, lettersAfter}
 use Rattle.tracing.proofs.Outlines.{taken-has, taken-size, outlined-iff}
-use Rattle.tracing.proofs.TracedCases.{Answers, traced-written}
+use Rattle.tracing.proofs.TracedCases.{traced-written}
 
 -- The border has as many letters as were sent
 border-size : (o : Outline) → Simple o → size (border o) ≡ size o

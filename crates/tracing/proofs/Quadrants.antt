@@ -1,51 +1,72 @@
--- The edges of a taken outline stand in the order of their quadrants: each lies in its own piece's quadrant, and the pieces follow one another.
-use Prim.Native.Nat.{ℕ, zero, suc, _≤_, _<_}
+-- Edges that pass refusal 16 stand in the order of their quadrants: of two directions in one half of the round, the one that comes sooner is in no later
+-- quadrant, or their cross product would not be above 0; a backward direction is the opposite of a forward one, two quadrants on.
+use Prim.Native.Nat.{ℕ, zero, suc, _+_, _*_, _≤_, _<_}
 use native.Mathlib.Omega.{arith}
-use mathlib.Core.Path.{_≡_, sym, _∙_, ap}
+use mathlib.Core.Path.{_≡_, refl, ap}
+use mathlib.Core.Bool.{false}
 use mathlib.Core.List.{List}
-use lib.IntN.{ℤ}
-use Rattle.base.proofs.Differences.{is-unique}
-use Rattle.chart.specs.declared.Point.{Point}
-use Rattle.chart.specs.Outline.{Outline}
-use Rattle.convexity.specs.Frame.{frameOf}
-use Rattle.convexity.specs.Reading.{border}
-use Rattle.convexity.specs.Pieces.{edges}
+use lib.IntN.{ℤ, pos, negsuc, negℤ}
+use Rattle.base.proofs.IntegerOrder.{up, down}
+use Rattle.base.proofs.Differences.{is-self}
 use Rattle.convexity.specs.FromEdges.{quadrantOf}
-use Rattle.convexity.proofs.Signed.{Counted, stepCols, stepRows, step-lies}
-use Rattle.convexity.proofs.FromEdges.{step-sits}
-use Rattle.convexity.proofs.Directions.{Points, After, Turning, edges-turning}
-use Rattle.convexity.proofs.AsSent.{clear-of}
-use Rattle.tracing.specs.Outlined.{TakenAs}
+use Rattle.turning.specs.Round.{cross}
+use Rattle.turning.specs.Turning.{badTurning}
+use Rattle.turning.proofs.Cross.{is-cross, cross-opposites}
+use Rattle.turning.proofs.Directions.{Above, Forward, Backward, opposite, Sooner}
+use Rattle.turning.proofs.Corners.{Facing, AllAfter, Rising}
+use Rattle.turning.proofs.Passing.{passes-iff}
 use Rattle.tracing.specs.Ordered.{Ordered}
-use Rattle.tracing.proofs.Outlines.{taken-has}
 
--- Counts of a frame fix a direction
-counted-unique : (k o p q : ℕ) {x y u v : ℤ} → Counted k o p q x y → Counted k o p q u v → (x ≡ u) × (y ≡ v)
-unfolding Counted
-counted-unique zero o p q h g = (is-unique (h .0) (g .0) (omega arith), is-unique (h .1) (g .1) (omega arith))
-counted-unique (suc zero) o p q h g = (is-unique (h .0) (g .0) (omega arith), is-unique (h .1) (g .1) (omega arith))
-counted-unique (suc (suc zero)) o p q h g = (is-unique (h .0) (g .0) (omega arith), is-unique (h .1) (g .1) (omega arith))
-counted-unique (suc (suc (suc k))) o p q h g = (is-unique (h .0) (g .0) (omega arith), is-unique (h .1) (g .1) (omega arith))
+forward-low : {dx dy : ℤ} → Forward dx dy → quadrantOf dx dy ≤ 1
+unfolding quadrantOf
+forward-low {dy = pos zero} Forward.across = omega arith
+forward-low {dy = pos (suc m)} Forward.across = omega arith
+forward-low {dy = negsuc m} Forward.across = omega arith
+forward-low Forward.upward = omega arith
 
-points-quadrant : {k e l : ℕ} {dx dy : ℤ} → Points k e l dx dy → quadrantOf dx dy ≡ k
-points-quadrant {k} {e} {l} p =
-    let same = counted-unique k 0 e l (p .lies .counted) (step-lies k e l .counted) in
-    rw (same .0, same .1) (step-sits k e l (p .small) (p .upward) .quadrant)
+backward-on : {dx dy : ℤ} → Backward dx dy → quadrantOf dx dy ≡ 2 + quadrantOf (negℤ dx) (negℤ dy)
+unfolding quadrantOf
+backward-on {dy = pos zero} Backward.across = refl
+backward-on {dy = pos (suc m)} Backward.across = refl
+backward-on {dy = negsuc m} Backward.across = refl
+backward-on Backward.downward = refl
 
-after-le : {n e l k e′ l′ : ℕ} → After n e l k e′ l′ → n ≤ suc k
-after-le (After.later-frame h) = omega arith
-after-le (After.same-frame h s) = omega arith
+-- What clockwise of a direction at or below right lies in the same half, is below right too
+below-right : (a c d : ℕ) (dy : ℤ) → up dy ≡ 0 → Above (cross (pos (suc a)) dy (pos c) (pos (suc d))) → ⊥
+below-right a c d dy z h = omega (arith, is-cross (is-self (pos (suc a))) (is-self dy) (is-self (pos c)) (is-self (pos (suc d))) .eq, ap (λ (n : ℕ). n * up (pos c)) z)
 
--- A list whose directions turn one way, past j begun frames, is in order from j - 1 on
-turning-ordered : (j : ℕ) {e l : ℕ} {es : List ℤ} → Turning (suc j) e l es → Ordered j es
-turning-ordered j Turning.none = Ordered.none
-turning-ordered j (Turning.more {k = k} {dx = dx} {dy = dy} {es = es} a p r) =
-    let q = points-quadrant p in Ordered.more {k = j} {dx = dx} {dy = dy} {es = es} (omega (arith, after-le a)) (omega (arith, p .small)) (rw q (turning-ordered k r))
+forward-order : {dx dy ex ey : ℤ} → Forward dx dy → Forward ex ey → Above (cross dx dy ex ey) → quadrantOf dx dy ≤ quadrantOf ex ey
+unfolding quadrantOf
+forward-order Forward.upward e h = omega arith
+forward-order {dy = pos (suc m)} Forward.across e h = omega arith
+forward-order {dy = pos zero} (Forward.across {n = a}) (Forward.upward {n = d}) h = absurd (below-right a 0 d (pos 0) refl h)
+forward-order {dy = negsuc m} (Forward.across {n = a}) (Forward.upward {n = d}) h = absurd (below-right a 0 d (negsuc m) refl h)
+forward-order {dy = pos zero} {ey = pos (suc d)} (Forward.across {n = a}) (Forward.across {n = c}) h = absurd (below-right a (suc c) d (pos 0) refl h)
+forward-order {dy = negsuc m} {ey = pos (suc d)} (Forward.across {n = a}) (Forward.across {n = c}) h = absurd (below-right a (suc c) d (negsuc m) refl h)
+forward-order {dy = pos zero} {ey = pos zero} Forward.across Forward.across h = omega arith
+forward-order {dy = pos zero} {ey = negsuc d} Forward.across Forward.across h = omega arith
+forward-order {dy = negsuc m} {ey = pos zero} Forward.across Forward.across h = omega arith
+forward-order {dy = negsuc m} {ey = negsuc d} Forward.across Forward.across h = omega arith
 
-all-ordered : {n e l : ℕ} {es : List ℤ} → Turning n e l es → Ordered 0 es
-all-ordered Turning.none = Ordered.none
-all-ordered (Turning.more {k = k} {dx = dx} {dy = dy} {es = es} a p r) =
-    let q = points-quadrant p in Ordered.more {k = 0} {dx = dx} {dy = dy} {es = es} (omega arith) (omega (arith, p .small)) (rw q (turning-ordered k r))
+sooner-quadrant : {dx dy ex ey : ℤ} → Sooner dx dy ex ey → quadrantOf dx dy ≤ quadrantOf ex ey
+sooner-quadrant (Sooner.halves d e) = omega (arith, forward-low d, backward-on e)
+sooner-quadrant (Sooner.forwards d e h) = forward-order d e h
+sooner-quadrant {dx} {dy} {ex} {ey} (Sooner.backwards d e h) =
+    omega (arith, backward-on d, backward-on e, forward-order (opposite d) (opposite e) (omega (arith, cross-opposites dx dy ex ey .eq)))
 
-pub taken-ordered : {o : Outline} {a : Point} {es : List ℤ} → TakenAs o a es → Ordered 0 es
-taken-ordered {o} t = let h = taken-has t in rw (← t .edged) (all-ordered (edges-turning (border o) (clear-of o (h .reaches)) (h .smooth)))
+facing-small : {dx dy : ℤ} → Facing dx dy → quadrantOf dx dy < 4
+facing-small (Facing.ahead d) = omega (arith, forward-low d)
+facing-small (Facing.back d) = omega (arith, backward-on d, forward-low (opposite d))
+
+rising-after : (dx dy : ℤ) {es : List ℤ} → AllAfter dx dy es → Rising es → Ordered (quadrantOf dx dy) es
+rising-after dx dy AllAfter.none Rising.none = Ordered.none
+rising-after dx dy AllAfter.odd Rising.odd = Ordered.odd
+rising-after dx dy (AllAfter.next {ex} {ey} s a) (Rising.next f b r) = Ordered.more (sooner-quadrant s) (facing-small f) (rising-after ex ey b r)
+
+rising-ordered : {es : List ℤ} → Rising es → Ordered 0 es
+rising-ordered Rising.none = Ordered.none
+rising-ordered Rising.odd = Ordered.odd
+rising-ordered (Rising.next {dx} {dy} f a r) = Ordered.more {k = 0} {dx = dx} {dy = dy} (omega arith) (facing-small f) (rising-after dx dy a r)
+
+pub passed-ordered : (es : List ℤ) → badTurning es ≡ false → Ordered 0 es
+passed-ordered es e = rising-ordered (passes-iff es (pos 0) (pos 0) .0 e .rises)

@@ -20,7 +20,7 @@ use Rattle.tracing.specs.declared.Traced.{Traced}
 use Rattle.tracing.specs.declared.Traced.the-variants.{Written, Refused, NoOutline, NoRoom}
 use Rattle.tracing.specs.Outlined.{HasOutline, outlined}
 use Rattle.tracing.specs.Traced.{lettersIn, tracedOf, tracedFields, writtenAfter, lettersAfter}
-use Rattle.tracing.specs.Named.{BorderOf, BorderNamed}
+use Rattle.tracing.specs.Named.{BorderNamed, Answers}
 use Rattle.tracing.proofs.Outlines.{outlined-iff, outlined-border}
 
 -- ---- what an answer says
@@ -53,12 +53,6 @@ module _ (a : Point) (es : List ℤ) where
       }
 
 -- ---- the cases
-
--- All that a border call promises of its answer t and of the lent list
-pub record Answers (a : Point) (es : List ℤ) (before after : List ℕ) (t : Traced) : Type 0 where
-  pub answer : t ≡ tracedOf a es (length before)
-  pub letters : after ≡ lettersAfter a es before
-  pub named : BorderNamed a es (tracedFields t) after
 
 module _ (a : Point) (es : List ℤ) (lent : List ℕ) where
   -- A refusal leaves the list alone
