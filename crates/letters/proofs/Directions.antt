@@ -1,7 +1,7 @@
 -- Quadrants, sizes and runs by the machine's tests: each sign of the two numbers is a clause of the definition.
 use Prim.Native.Nat.{ℕ, zero, suc, _≤_, _%_}
 use native.Mathlib.Omega.{arith}
-use mathlib.Core.Path.{_≡_, refl, sym, _∙_, subst}
+use mathlib.Core.Path.{_≡_, refl, subst}
 use mathlib.Core.Bool.{true, false, cond}
 use lib.Dec.{T}
 use lib.IntN.{ℤ, pos, negsuc, natAbs, negℤ, _-ℤ_}

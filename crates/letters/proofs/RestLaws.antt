@@ -3,10 +3,9 @@ use Prim.Native.Nat.{ℕ, zero, suc, _+_, _-_, _≤_, _<_}
 use native.Mathlib.Omega.{arith}
 use mathlib.Core.Path.{_≡_, refl, sym, ap, _∙_}
 use mathlib.Core.List.{List, [], _∷_, _++_, append-assoc, append-nil}
-use lib.ListN.{length}
 use lib.IntN.{ℤ}
 use borrow.Author.Tests.{eq-eqb, ne-eqb}
-use Rattle.words.specs.Counted.{listed, countedLetter, edgeWord, edgesWord}
+use Rattle.words.specs.Counted.{listed, edgeWord, edgesWord}
 use Rattle.words.proofs.Counted.{edge-listed}
 use Rattle.convexity.specs.Frame.{frameOf}
 use Rattle.convexity.specs.InFrame.{spell}

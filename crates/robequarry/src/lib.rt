@@ -5,6 +5,8 @@ use chart::reply::NUMBERS;
 use chart::reply::of_position;
 use chart::reply::of_verdict;
 use chart::reply::write;
+use letters::border;
+use tracing::written::of_traced;
 ghost use mathlib.Core.Path.{_≡_};
 ghost use mathlib.Core.Bool.{true};
 ghost use lib.ListN.{length};
@@ -12,8 +14,9 @@ ghost use lib.Dec.{leb};
 ghost use Rattle.chart.specs.Fields.{fieldsOf};
 ghost use Rattle.verdict.specs.Named.{CellNamed};
 ghost use Rattle.polygon.specs.Loose.{HullNamed};
+ghost use Rattle.tracing.specs.Named.{BorderNamed};
 ghost use Rattle.replay.specs.Script.{callsRead, repliesAfter};
-ghost use Rattle.robequarry.specs.Face.{at, testReply, testEdges, looseReply};
+ghost use Rattle.robequarry.specs.Face.{at, testReply, testEdges, looseReply, borderReply, borderLetters};
 
 // Tests an outline: the start corner and the letters. The edges stand first in the list lent for them, where the outline is taken.
 #[no_mangle]
@@ -56,6 +59,31 @@ pub extern "C" fn rq_loose_query(
     };
     let position = polygon::loose_query(anchor, edges, Point { col, row });
     write(of_position(position), reply)
+}
+
+// Writes back the border of an anchor and edges. The letters, clockwise from W on, stand first in the list lent for them.
+#[no_mangle]
+pub extern "C" fn rq_border(
+    anchor_col: u16,
+    anchor_row: u16,
+    edges: &[i16],
+    letters: &mut [u8],
+    reply: &mut [u16],
+) -> bool
+    ensures room { λ r. ⌜ r ≡ leb 7 (length (now (reply .entry))) ⌝ }
+    ensures reply { λ r. ⌜ now (reply .exit) ≡ borderReply «anchor_col» «anchor_row» (now (edges .entry)) (now (letters .entry)) (now (reply .entry)) ⌝ }
+    ensures letters { λ r. ⌜ now (letters .exit) ≡ borderLetters «anchor_col» «anchor_row» (now (edges .entry)) (now (letters .entry)) (now (reply .entry)) ⌝ }
+    ensures outline { λ r. ⌜ (r ≡ true → BorderNamed (at «anchor_col» «anchor_row») (now (edges .entry)) (fieldsOf (now (reply .exit))) (now (letters .exit))) ⌝ }
+{
+    if reply.len() < NUMBERS {
+        return false;
+    }
+    let anchor = Point {
+        col: anchor_col,
+        row: anchor_row,
+    };
+    let traced = border(anchor, edges, letters);
+    write(of_traced(traced), reply)
 }
 
 // Runs a script of calls, five bytes each, from a fresh holder, writes a reply of seven numbers for each, and says how many.

@@ -2,7 +2,7 @@
 use Prim.Native.Nat.{ℕ, _≤_, _<_}
 use native.Mathlib.Omega.{arith}
 use mathlib.Core.Path.{_≡_, refl, sym, ap, _∙_}
-use mathlib.Core.Bool.{Bool, true, false, true≢false, cond, not}
+use mathlib.Core.Bool.{true, false, true≢false}
 use mathlib.Core.List.{List, _++_}
 use lib.ListN.{length, take, drop}
 use lib.Seq.{take-at}
@@ -18,7 +18,7 @@ use Rattle.turning.specs.Turning.{badTurning}
 use Rattle.polygon.specs.Loose.{badList, badCell}
 use Rattle.tracing.specs.declared.Traced.{Traced}
 use Rattle.tracing.specs.declared.Traced.the-variants.{Written, Refused, NoOutline, NoRoom}
-use Rattle.tracing.specs.Outlined.{HasOutline, outlined}
+use Rattle.tracing.specs.Outlined.{outlined}
 use Rattle.tracing.specs.Traced.{lettersIn, tracedOf, tracedFields, writtenAfter, lettersAfter}
 use Rattle.tracing.specs.Named.{BorderNamed, Answers}
 use Rattle.tracing.proofs.Outlines.{outlined-iff, outlined-border}

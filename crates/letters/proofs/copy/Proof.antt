@@ -7,7 +7,6 @@ use mathlib.Core.Path.{_≡_, sym, ap, _∙_}
 use mathlib.Core.List.{List}
 use lib.ListN.{length, getD, set}
 use lib.Seq.{paste, paste-zero, paste-suc, length-paste}
-use borrow.Author.Needs.{needs}
 use Rattle.letters.proofs.copy.Statement.{statement}
 use Rattle.letters.proofs.copy.Tie as tie
 

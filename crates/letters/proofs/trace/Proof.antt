@@ -1,6 +1,6 @@
 -- Each return is a case of the border call: too many letters, letters that are not taken with this anchor and these edges, no room, and the letters.
 use native.Mathlib.Omega.{arith}
-use mathlib.Core.Path.{_≡_, sym, _∙_}
+use mathlib.Core.Path.{sym, _∙_}
 use lib.Seq.{length-take-le}
 use borrow.Author.Tests.{not-true, not-false}
 use Rattle.polygon.proofs.LooseCases.{short-list}

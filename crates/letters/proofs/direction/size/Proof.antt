@@ -1,15 +1,14 @@
 -- A number of 16 bits is negated in 64, and is not negative then.
-use Prim.Native.Nat.{_≤_}
 use native.Mathlib.Omega.{arith}
 use mathlib.Core.Path.{_≡_, refl}
 use mathlib.Core.Bool.{true, false}
-use lib.IntN.{ℤ, pos, natAbs}
+use lib.IntN.{pos}
 use lib.Signed.{ltZ}
 use mir.Syntax.{w16, w64}
 use mir.ValLaws.{toZ-ofZ}
 use mir.Facts.{sfits-widen}
 use Rattle.base.proofs.Sizes.{size-16}
-use Rattle.letters.proofs.Directions.{Negated, negated, kept}
+use Rattle.letters.proofs.Directions.{negated, kept}
 use Rattle.letters.proofs.direction.size.Statement.{statement}
 use Rattle.letters.proofs.direction.size.Tie as tie
 

@@ -1,7 +1,7 @@
 -- What stands in the list, followed by what is still to be written, is the border: that is the invariant, and each turn writes one edge.
 use Prim.Native.Nat.{_+_, _-_}
 use native.Mathlib.Omega.{arith}
-use mathlib.Core.Path.{sym, _∙_}
+use mathlib.Core.Path.{_∙_}
 use mathlib.Core.List.{List}
 use lib.ListN.{length, getD, length-set}
 use lib.IntN.{ℤ, pos}

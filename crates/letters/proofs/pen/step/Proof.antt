@@ -1,10 +1,9 @@
 -- The first letters of the pieces that begin, and behind them the edge's own.
-use Prim.Native.Nat.{ℕ, suc, _+_, _-_}
+use Prim.Native.Nat.{ℕ, suc, _-_}
 use native.Mathlib.Numerals.{add-one}
 use native.Mathlib.Omega.{arith}
 use mathlib.Core.Path.{_≡_, ap, _∙_}
 use lib.ListN.{length}
-use lib.IntN.{ℤ, natAbs}
 use mir.Syntax.{w16}
 use mir.ValLaws.{toZ-ofZ}
 use Rattle.convexity.specs.FromEdges.{quadrantOf, runIn, riseIn}
