@@ -28,7 +28,7 @@ pub const MOST_NUMBERS: usize = 2 * MOST_EDGES;
 pub const LONGEST_LIST: usize = 2032;
 
 /// The refusals are numbered from 1 to this (contract 5.2).
-pub const LAST_REFUSAL: u16 = 16;
+pub const LAST_REFUSAL: u16 = 18;
 
 /// A reply has this many numbers (contract 4.1).
 pub const REPLY: usize = 7;

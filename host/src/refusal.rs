@@ -27,7 +27,7 @@ pub enum Refusal {
     Dent { piece: u16, place: usize, length: usize, missing: Cell },
     /// 10, of a test: the lent list has no room for this many edges.
     Room { edges: usize },
-    /// 10, of a loose query: the list is odd or too long.
+    /// 10, of a loose query or a border: the list is odd or too long.
     List,
     /// 11: a cell off the chart.
     Cell,
@@ -41,6 +41,10 @@ pub enum Refusal {
     DraftFull,
     /// 16: the edges do not lead once round clockwise.
     Turning,
+    /// 17: no taken outline has this anchor and these edges.
+    NoOutline,
+    /// 18: the lent list has no room for the letters.
+    LetterRoom,
 }
 
 impl Refusal {
@@ -62,6 +66,8 @@ impl Refusal {
             Refusal::DraftOpen => 14,
             Refusal::DraftFull => 15,
             Refusal::Turning => 16,
+            Refusal::NoOutline => 17,
+            Refusal::LetterRoom => 18,
         }
     }
 
@@ -90,13 +96,15 @@ impl Refusal {
             14 => Refusal::DraftOpen,
             15 => Refusal::DraftFull,
             16 => Refusal::Turning,
+            17 => Refusal::NoOutline,
+            18 => Refusal::LetterRoom,
             other => unreachable!("the library's last refusal is {LAST_REFUSAL}, not {other}"),
         };
         Some(refusal)
     }
 
-    /// The refusal in a reply of a loose query, where 10 is about the list.
-    pub(crate) fn of_loose_query(fields: Fields) -> Option<Refusal> {
+    /// The refusal in a reply of a loose query, or of a border, where 10 is about the list.
+    pub(crate) fn of_list(fields: Fields) -> Option<Refusal> {
         match Refusal::of(fields) {
             Some(Refusal::Room { .. }) => Some(Refusal::List),
             other => other,
@@ -127,6 +135,8 @@ impl fmt::Display for Refusal {
             Refusal::DraftOpen => write!(f, "a draft is open"),
             Refusal::DraftFull => write!(f, "the draft has {LONGEST} letters"),
             Refusal::Turning => write!(f, "the edges do not lead once round, clockwise from up"),
+            Refusal::NoOutline => write!(f, "no taken outline has this anchor and these edges"),
+            Refusal::LetterRoom => write!(f, "the lent list has no room for the letters"),
         }
     }
 }

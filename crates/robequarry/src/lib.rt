@@ -75,7 +75,7 @@ pub extern "C" fn rq_border(
     ensures letters { λ r. ⌜ now (letters .exit) ≡ borderLetters «anchor_col» «anchor_row» (now (edges .entry)) (now (letters .entry)) (now (reply .entry)) ⌝ }
     ensures outline { λ r. ⌜ (r ≡ true → BorderNamed (at «anchor_col» «anchor_row») (now (edges .entry)) (fieldsOf (now (reply .exit))) (now (letters .exit))) ⌝ }
 {
-    if reply.len() < NUMBERS {
+    if NUMBERS > reply.len() {
         return false;
     }
     let anchor = Point {

@@ -4,3 +4,4 @@ pub mod Tested
 pub mod TracedCases
 pub mod Own
 pub mod Quadrants
+pub mod Specimens

@@ -3,3 +3,4 @@ pub mod Outlined
 pub mod Traced
 pub mod Named
 pub mod Ordered
+pub mod Specimens

@@ -8,6 +8,7 @@ pub mod calls;
 pub mod cells;
 pub mod edges;
 pub mod readings;
+pub mod tracing;
 pub mod walk;
 pub mod wide;
 pub mod words;
