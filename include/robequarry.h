@@ -24,6 +24,8 @@
  *
  * Refusals, each with the fields that it names. Of several that apply, the first is given in the order 19, 20, 12 to 15, then 1 to 11, then 16.
  * There is no refusal 7: an outline may run either way, and one that runs anticlockwise is read backward, each letter turned to its opposite.
+ * Refusals, each with the fields that it names. Of several that apply, the first is given in the order 12 to 15, then 1 to 11, then 16 to 18. There
+ * is no refusal 7: an outline may run either way, and one that runs anticlockwise is read backward, each letter turned to its opposite.
  *
  *    1  there are fewer than 4 or more than RQ_LETTERS letters
  *    2  a number of the start is above 255
@@ -35,7 +37,7 @@
  *    9  the outline is dented: piece, place and length of one copy of the first factor that is no Christoffel word; column and
  *       row of the lowest missing cell, the leftmost of its row
  *   10  test: `edges` has no room for two numbers of each edge: place, the count of edges;
- *       loose query: the list has an odd count of numbers, or more than RQ_NUMBERS
+ *       loose query, border: the list has an odd count of numbers, or more than RQ_NUMBERS
  *   11  a cell number is above 254
  *   12  query: nothing is at work at the place
  *   13  add, close, drop: there is no draft
@@ -45,6 +47,8 @@
  *       first, to just short of up again
  *   19  the party is above 1
  *   20  the place is above 3; a close that it turns back ends its party's draft all the same
+ *   17  border: no outline is taken with this anchor and these edges
+ *   18  border: `letters` has no room for the letters
  *
  * The words used here (piece, back-step, factor, missing) are those of docs/CONTRACT.md, clauses 2 and 3.
  */
@@ -68,6 +72,7 @@ enum {
     RQ_EDGES = 200,   /* numbers that the edges of any taken outline need at most */
     RQ_NUMBERS = 2032, /* most numbers of a loose query's list */
     RQ_HOLDER_BYTES = 4592 /* bytes of a holder, as rq_holder_bytes() says */
+    RQ_NUMBERS = 2032 /* most numbers of the list of a loose query or a border */
 };
 
 enum { RQ_NO_WORD = 0, RQ_INSIDE = 1, RQ_OUTSIDE = 2, RQ_TAKEN = 3, RQ_SAME = 4 };
@@ -104,6 +109,22 @@ bool rq_loose_query(uint16_t anchor_col, uint16_t anchor_row, const int16_t *edg
 /*
  * Calls on a holder, which has for each of two parties, knee and ankle, a draft and four places for outlines at work. A call has RQ_CALL
  * bytes: its number, its party, its place, then x and y, numbers of 32 bits, low byte first. Bytes that are not named are ignored.
+ * Writes back the border of the outline that has this anchor and these m / 2 edges.
+ *
+ * Number 0, place the count of letters: they stand first in `letters`, clockwise from the lower left corner of the anchor, and the rest of
+ * its n bytes is unaltered. Tested from that corner with room for RQ_EDGES numbers, they give the anchor and the edges again; of a taken
+ * outline's anchor and edges they are its own letters, wherever it was begun and whichever way it was drawn. RQ_LETTERS bytes hold any
+ * border. Without edges it is one cell. Refused by 10, 11 (the anchor), 16, 17, 18, in this order: `letters` is unaltered. The word is always 0.
+ *
+ * False, with nothing altered, if k is below RQ_REPLY. Else true; the reply stands first in `reply`, the rest is unaltered.
+ *
+ * Stack: about 13,500 bytes.
+ */
+bool rq_border(uint16_t anchor_col, uint16_t anchor_row, const int16_t *edges, size_t m, uint8_t *letters, size_t n, uint16_t *reply,
+               size_t k);
+
+/*
+ * Runs a script of calls from a fresh holder, which has no draft and nothing at work, and writes a reply for each.
  *
  *   0 begin   a start corner, the first two bytes of x and of y; opens a draft without letters
  *   1 add     a letter, the first byte of x; puts it at the draft's end

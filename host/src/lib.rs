@@ -22,6 +22,8 @@
 //!
 //! A [`Holder`] keeps, for each party, a draft, letter by letter, and the outlines at work. [`raw`] has the library's functions as
 //! they are, on plain lists of numbers; [`codec`] reads and writes these, and [`limits`] names what bounds them.
+//! A [`Holder`] keeps a draft, letter by letter, and the outline at work. [`raw`] has the library's four functions as they
+//! are, on plain lists of numbers; [`codec`] reads and writes these, and [`limits`] names what bounds them.
 //!
 //! The answers are proved; this crate, which turns lists of numbers into types, is not.
 

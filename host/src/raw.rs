@@ -1,4 +1,5 @@
 //! The library's functions as they are, with a list for each pointer and length.
+//! The library's four functions as they are, with a list for each pointer and length.
 //!
 //! None of them asks anything of its numbers: every input is answered. [`codec`](crate::codec) reads replies and writes scripts;
 //! [`limits`](crate::limits) has their lengths.
@@ -23,6 +24,17 @@ mod library {
             m: usize,
             col: u16,
             row: u16,
+            reply: *mut u16,
+            k: usize,
+        ) -> bool;
+
+        pub fn rq_border(
+            anchor_col: u16,
+            anchor_row: u16,
+            edges: *const i16,
+            m: usize,
+            letters: *mut u8,
+            n: usize,
             reply: *mut u16,
             k: usize,
         ) -> bool;
@@ -71,6 +83,26 @@ pub fn loose_query(anchor_col: u16, anchor_row: u16, edges: &[i16], col: u16, ro
             edges.len(),
             col,
             row,
+            reply.as_mut_ptr(),
+            reply.len(),
+        )
+    }
+}
+
+/// Writes back the border of the outline that has an anchor and edges: its clockwise letters from W on stand first in `letters`.
+///
+/// False, with nothing altered, if `reply` has no room for a reply.
+#[inline]
+pub fn border(anchor_col: u16, anchor_row: u16, edges: &[i16], letters: &mut [u8], reply: &mut [u16]) -> bool {
+    // SAFETY: each pointer comes with the length of its own slice, and no two slices overlap.
+    unsafe {
+        library::rq_border(
+            anchor_col,
+            anchor_row,
+            edges.as_ptr(),
+            edges.len(),
+            letters.as_mut_ptr(),
+            letters.len(),
             reply.as_mut_ptr(),
             reply.len(),
         )

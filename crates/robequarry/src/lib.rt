@@ -10,6 +10,8 @@ use chart::reply::write;
 use holder::Holder;
 use holder::fresh;
 use wire::respond;
+use letters::border;
+use tracing::written::of_traced;
 ghost use mathlib.Core.Path.{_≡_};
 ghost use mathlib.Core.Bool.{true};
 ghost use lib.ListN.{length};
@@ -26,6 +28,9 @@ ghost use Rattle.robequarry.specs.Face.{at, testReply, testEdges, looseR
 const DRAFT_BYTES: usize = 632;
 
 const WORK_BYTES: usize = 416;
+ghost use Rattle.tracing.specs.Named.{BorderNamed};
+ghost use Rattle.replay.specs.Script.{callsRead, repliesAfter};
+ghost use Rattle.robequarry.specs.Face.{at, testReply, testEdges, looseReply, borderReply, borderLetters};
 
 // Tests an outline: the start corner and the letters. The edges stand first in the list lent for them, where the outline is taken.
 #[no_mangle]
@@ -71,6 +76,32 @@ pub extern "C" fn rq_loose_query(
 }
 
 // Runs a script of calls, eleven bytes each, from a fresh holder, writes a reply of seven numbers for each, and says how many.
+// Writes back the border of an anchor and edges. The letters, clockwise from W on, stand first in the list lent for them.
+#[no_mangle]
+pub extern "C" fn rq_border(
+    anchor_col: u16,
+    anchor_row: u16,
+    edges: &[i16],
+    letters: &mut [u8],
+    reply: &mut [u16],
+) -> bool
+    ensures room { λ r. ⌜ r ≡ leb 7 (length (now (reply .entry))) ⌝ }
+    ensures reply { λ r. ⌜ now (reply .exit) ≡ borderReply «anchor_col» «anchor_row» (now (edges .entry)) (now (letters .entry)) (now (reply .entry)) ⌝ }
+    ensures letters { λ r. ⌜ now (letters .exit) ≡ borderLetters «anchor_col» «anchor_row» (now (edges .entry)) (now (letters .entry)) (now (reply .entry)) ⌝ }
+    ensures outline { λ r. ⌜ (r ≡ true → BorderNamed (at «anchor_col» «anchor_row») (now (edges .entry)) (fieldsOf (now (reply .exit))) (now (letters .exit))) ⌝ }
+{
+    if NUMBERS > reply.len() {
+        return false;
+    }
+    let anchor = Point {
+        col: anchor_col,
+        row: anchor_row,
+    };
+    let traced = border(anchor, edges, letters);
+    write(of_traced(traced), reply)
+}
+
+// Runs a script of calls, five bytes each, from a fresh holder, writes a reply of seven numbers for each, and says how many.
 #[no_mangle]
 pub extern "C" fn rq_replay(script: &[u8], replies: &mut [u16]) -> usize
     ensures count { λ r. ⌜ r ≡ length (callsRead (now (script .entry)) (length (now (replies .entry)))) ⌝ }

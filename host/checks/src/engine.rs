@@ -12,6 +12,8 @@ pub trait Engine {
 
     fn loose_query(&self, anchor: Point, edges: &[i16], cell: Point, reply: &mut [u16]) -> bool;
 
+    fn border(&self, anchor: Point, edges: &[i16], letters: &mut [u8], reply: &mut [u16]) -> bool;
+
     fn replay(&self, script: &[u8], replies: &mut [u16]) -> usize;
 }
 
@@ -38,6 +40,10 @@ impl Engine for Library {
 
     fn loose_query(&self, anchor: Point, edges: &[i16], cell: Point, reply: &mut [u16]) -> bool {
         robequarry::raw::loose_query(anchor.col, anchor.row, edges, cell.col, cell.row, reply)
+    }
+
+    fn border(&self, anchor: Point, edges: &[i16], letters: &mut [u8], reply: &mut [u16]) -> bool {
+        robequarry::raw::border(anchor.col, anchor.row, edges, letters, reply)
     }
 
     fn replay(&self, script: &[u8], replies: &mut [u16]) -> usize {
@@ -85,6 +91,10 @@ impl Engine for Reference {
         answer(reply, || reference::calls::loose_query(anchor, edges, cell))
     }
 
+    fn border(&self, anchor: Point, edges: &[i16], letters: &mut [u8], reply: &mut [u16]) -> bool {
+        answer(reply, || reference::tracing::border(anchor, edges, letters))
+    }
+
     fn replay(&self, script: &[u8], replies: &mut [u16]) -> usize {
         reference::book::replay(script, replies)
     }
@@ -101,6 +111,10 @@ impl Engine for Plain {
 
     fn loose_query(&self, anchor: Point, edges: &[i16], cell: Point, reply: &mut [u16]) -> bool {
         answer(reply, || plain::loose_query(anchor, edges, cell))
+    }
+
+    fn border(&self, anchor: Point, edges: &[i16], letters: &mut [u8], reply: &mut [u16]) -> bool {
+        answer(reply, || plain::border(anchor, edges, letters))
     }
 
     fn replay(&self, script: &[u8], replies: &mut [u16]) -> usize {

@@ -1,7 +1,7 @@
 //! Lists of edges that lead once round, and lists that nearly do.
 
 use crate::case::Case;
-use crate::garbage::{cell, room};
+use crate::garbage::{cell, letter_room, room};
 use crate::random::Random;
 use crate::reference::edges::{corner_cells, sooner, Step};
 use crate::Point;
@@ -73,6 +73,13 @@ pub fn loose(random: &mut Random) -> Case {
     let (reach, most) = [(1, 4), (2, 6), (6, 12), (60, 40), (300, 90), (15, 900)][random.below(6)];
     let edges = if random.once_in(3) { nearly_once_round(random, reach, most) } else { once_round(random, reach, most) };
     near(random, edges)
+}
+
+/// A border whose list passes refusal 16, or nearly does: small, so that some outline often has it, and now and then large.
+pub fn border(random: &mut Random) -> Case {
+    let (reach, most) = [(1, 4), (1, 8), (2, 6), (4, 10), (9, 20), (60, 40), (300, 90)][random.below(7)];
+    let edges = if random.once_in(4) { nearly_once_round(random, reach, most) } else { once_round(random, reach, most) };
+    Case::Border { anchor: cell(random), edges, lent: letter_room(random), room: room(random) }
 }
 
 #[cfg(test)]

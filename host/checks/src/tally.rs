@@ -27,6 +27,7 @@ impl Replies {
 pub struct Tally {
     pub tests: Replies,
     pub loose_queries: Replies,
+    pub borders: Replies,
     pub calls: Replies,
     /// Inputs whose reply list had no room.
     pub no_room: u64,
@@ -41,6 +42,7 @@ impl Tally {
         let replies = match case {
             Case::Test { .. } => &mut self.tests,
             Case::Loose { .. } => &mut self.loose_queries,
+            Case::Border { .. } => &mut self.borders,
             Case::Script { .. } => &mut self.calls,
         };
         for reply in outcome.fields() {
@@ -59,19 +61,21 @@ impl Tally {
     /// The table of numbers and words, and a complaint for each that some input reaches and none of these did.
     pub fn report(&self) -> Vec<String> {
         // What no input reaches: a test knows no state, a loose query no outline, and a holder has room for every edge.
-        let reached: [(&str, &Replies, &[usize], &[usize]); 3] = [
+        let reached: [(&str, &Replies, &[usize], &[usize]); 4] = [
             ("tests", &self.tests, &[0, 1, 2, 3, 4, 5, 6, 8, 9, 10], &[0]),
             ("loose queries", &self.loose_queries, &[0, 10, 11, 16], &[0, 1, 2]),
             ("calls of scripts", &self.calls, &[0, 1, 2, 3, 4, 5, 6, 8, 9, 11, 12, 13, 14, 15, 19, 20], &[0, 1, 2, 3, 4]),
+            ("borders", &self.borders, &[0, 10, 11, 16, 17, 18], &[0]),
+            ("calls of scripts", &self.calls, &[0, 1, 2, 3, 4, 5, 6, 8, 9, 11, 12, 13, 14, 15], &[0, 1, 2, 3, 4]),
         ];
-        println!("{:>16} {:>14} {:>14} {:>16}", "number", "tests", "loose queries", "calls of scripts");
+        println!("{:>16} {:>14} {:>14} {:>14} {:>16}", "number", "tests", "loose queries", "borders", "calls of scripts");
         for number in 0..NUMBERS {
             let counts = reached.map(|(_, replies, numbers, _)| cell(replies.numbers[number], numbers.contains(&number)));
-            println!("{number:>16} {:>14} {:>14} {:>16}", counts[0], counts[1], counts[2]);
+            println!("{number:>16} {:>14} {:>14} {:>14} {:>16}", counts[0], counts[1], counts[2], counts[3]);
         }
         for (word, name) in ["no word", "inside", "outside", "taken", "same"].iter().enumerate() {
             let counts = reached.map(|(_, replies, _, words)| cell(replies.words[word], words.contains(&word)));
-            println!("{name:>16} {:>14} {:>14} {:>16}", counts[0], counts[1], counts[2]);
+            println!("{name:>16} {:>14} {:>14} {:>14} {:>16}", counts[0], counts[1], counts[2], counts[3]);
         }
         println!("{} inputs had no room for a reply", self.no_room);
         println!("taken outlines had up to {} letters and up to {} edges", self.longest_taken, self.most_edges);

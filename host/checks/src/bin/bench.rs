@@ -20,6 +20,8 @@ use std::process::exit;
 use robequarry::limits::{CALL, LONGEST_LIST, REPLY, SIDE};
 use robequarry::raw::HolderMemory;
 use robequarry::{Action, Call, Edges, Holder};
+use robequarry::limits::{CALL, LONGEST, LONGEST_LIST, REPLY, SIDE};
+use robequarry::{Call, Edges, Holder};
 use robequarry_checks::draw::{reversed, round_outline, with_a_cell_flipped};
 use robequarry_checks::engine::{Engine, Library, Plain};
 use robequarry_checks::hull_and_count::{is_convex, Of};
@@ -131,7 +133,7 @@ impl Bench {
         }
     }
 
-    /// Queries, adds and a close, of one outline.
+    /// Queries, adds, a close and a border, of one outline.
     fn calls(&mut self, random: &mut Random) {
         let outline = taken(random, DRAWN);
         let cells: Vec<Point> = (0..1024).map(|_| random.cell()).collect();
@@ -145,6 +147,7 @@ impl Bench {
         let asked = [&closed[..], &queries].concat();
 
         self.add_call("loose query", loose_query(&outline, &cells));
+        self.add_call("border from edges", border(&outline));
         self.add_call("query in a replay", each_more(&closed, &asked, cells.len()));
         self.add_call("add in a replay", each_more(&begun, &drawn, outline.letters.len()));
         self.add_call("begin, adds and close", race_replays(&closed));
@@ -256,6 +259,26 @@ fn query_by<'a>(engine: &'a dyn Engine, anchor: Point, edges: &'a [i16], cells: 
         let cell = *turns.next().expect("there are cells");
         engine.loose_query(anchor, black_box(edges), black_box(cell), &mut reply);
         black_box(&reply);
+    }
+}
+
+fn border(outline: &Outline) -> Timed {
+    let mut list = [0; LONGEST_LIST];
+    let reply = plain::test(outline.start, &outline.letters, &mut list);
+    let edges = &list[..2 * usize::from(reply.place)];
+    let anchor = Point::new(reply.col, reply.row);
+    let mut library = border_by(&Library, anchor, edges);
+    let mut plain = border_by(&Plain, anchor, edges);
+    let race = race([&mut library, &mut plain]);
+    (race.least(0), race.ratio(0, 1))
+}
+
+fn border_by<'a>(engine: &'a dyn Engine, anchor: Point, edges: &'a [i16]) -> impl FnMut() + 'a {
+    let mut letters = [0; LONGEST];
+    let mut reply = [0; REPLY];
+    move || {
+        engine.border(anchor, black_box(edges), &mut letters, &mut reply);
+        black_box((&letters, &reply));
     }
 }
 

@@ -8,9 +8,11 @@ mod climb;
 mod holder;
 mod loose;
 mod test;
+mod tracing;
 mod words;
 
 pub use chart::refusal as walk_refusal;
 pub use holder::{replay, Holder};
 pub use loose::loose_query;
 pub use test::test;
+pub use tracing::border;

@@ -9,6 +9,7 @@ pub mod cells;
 pub mod edges;
 pub mod files;
 pub mod readings;
+pub mod tracing;
 pub mod walk;
 pub mod wide;
 pub mod words;

@@ -25,6 +25,8 @@ pub fn all() -> Vec<Case> {
         cases.push(garbage::loose(&mut random));
         cases.push(garbage::round_walk(&mut random));
         cases.push(polygons::loose(&mut random));
+        cases.push(garbage::border(&mut random));
+        cases.push(polygons::border(&mut random));
         cases.push(scripts::script(&mut random));
     }
     cases
@@ -69,7 +71,7 @@ fn tests(outline: &Outline) -> [Case; 3] {
     [test(LONGEST_LIST, REPLY), test(0, REPLY), test(LONGEST_LIST, REPLY - 1)]
 }
 
-/// The edges of each taken outline at its anchor, which walks all of them; the longest list; and those that are refused.
+/// The edges of each taken outline at its anchor, which walks all of them, and their border; the longest list; and those that are refused.
 fn loose_queries(outlines: &[Outline]) -> Vec<Case> {
     let query = |anchor, edges, cell, room| Case::Loose { anchor, edges, cell, room };
     let nowhere = Point::new(0, 0);
@@ -85,7 +87,9 @@ fn loose_queries(outlines: &[Outline]) -> Vec<Case> {
         let tested = calls::test(outline.start, &outline.letters);
         let anchor = Point::new(tested.reply.col, tested.reply.row);
         let edges: Vec<i16> = tested.edges.iter().flat_map(|&(cols, rows)| [cols as i16, rows as i16]).collect();
-        cases.push(query(anchor, edges, anchor, REPLY));
+        cases.push(query(anchor, edges.clone(), anchor, REPLY));
+        cases.push(Case::Border { anchor, edges: edges.clone(), lent: LONGEST, room: REPLY });
+        cases.push(Case::Border { anchor, edges, lent: 0, room: REPLY });
     }
     cases
 }
