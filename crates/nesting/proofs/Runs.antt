@@ -70,19 +70,19 @@ in-edges (dx ∷ dy ∷ es) x y r c h =
     let rest : In (edgesFrom es (x +ℤ dx) (y +ℤ dy) r) (edgesTo es (x +ℤ dx) (y +ℤ dy) r) c = omega arith in
     and-eq-true-iff _ _ .1 (not-negative-iff (side-column dx dy x y r c) .1 (in-edge dy b c here), in-edges es (x +ℤ dx) (y +ℤ dy) r c rest)
 
-edges-below : (es : List ℤ) (x y r : ℤ) → edgesTo es x y r ≤ 255
+pub edges-below : (es : List ℤ) (x y r : ℤ) → edgesTo es x y r ≤ 255
 unfolding edgesTo
 edges-below [] x y r = omega arith
 edges-below (dx ∷ []) x y r = omega arith
 edges-below (dx ∷ dy ∷ es) x y r = omega (arith, edges-below es (x +ℤ dx) (y +ℤ dy) r)
 
 -- The extremes
-start-iff : (z : ℤ) (c : ℕ) → AtMost z (pos c) ↔ (startAt z ≤ c)
+pub start-iff : (z : ℤ) (c : ℕ) → AtMost z (pos c) ↔ (startAt z ≤ c)
 unfolding startAt
 start-iff (pos n) c = ((λ l. omega arith), λ l. omega arith)
 start-iff (negsuc n) c = ((λ l. omega arith), λ l. omega arith)
 
-end-iff : (z : ℤ) (c : ℕ) → AtMost (pos c) z ↔ (c < endAfter z)
+pub end-iff : (z : ℤ) (c : ℕ) → AtMost (pos c) z ↔ (c < endAfter z)
 unfolding endAfter
 end-iff (pos n) c = ((λ l. omega arith), λ l. omega arith)
 end-iff (negsuc n) c = ((λ l. absurd (omega arith)), λ l. absurd (omega arith))
