@@ -1,5 +1,4 @@
 -- A list and a comparison by their cases: the first refusal that applies, and else the tests. Each case is a clause of the definition.
-use Prim.Native.Nat.{_≤_}
 use mathlib.Core.Path.{_≡_, refl, sym, ap}
 use mathlib.Core.Bool.{Bool, true, false, false≢true, cond}
 use mathlib.Core.List.{List}
@@ -11,7 +10,6 @@ use Rattle.chart.specs.declared.Comparison.{Comparison}
 use Rattle.chart.specs.declared.Comparison.the-variants.{Found, Refused}
 use Rattle.chart.specs.declared.Refusal.{Refusal}
 use Rattle.chart.specs.declared.Refusal.the-variants.{List as BadList, Cell, Turning}
-use Rattle.chart.specs.Fields.{nestingFields, comparisonFields}
 use Rattle.turning.specs.Turning.{badTurning}
 use Rattle.polygon.specs.Loose.{badList, badCell}
 use Rattle.polygon.proofs.LooseCases.{short-list}

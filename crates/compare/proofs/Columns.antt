@@ -3,10 +3,11 @@ use Prim.Native.Nat.{ℕ, zero, suc, _+_, _-_, _*_, _/_, _≤_, _<_}
 use native.Mathlib.Nat.{div-le-self, mul-le-mul}
 use native.Mathlib.Decide.{decLe}
 use native.Mathlib.Omega.{arith}
-use mathlib.Core.Path.{_≡_, refl, sym, ap, _∙_}
+use mathlib.Core.Path.{_≡_, refl, ap}
 use lib.IntN.{ℤ, pos, negsuc, _+ℤ_, _-ℤ_}
+use Rattle.chart.specs.Limits.{side}
 use Rattle.base.proofs.IntegerOrder.{up, down}
-use Rattle.base.proofs.Differences.{Is, is-self, is-unique, is-add, is-minus, is-eq}
+use Rattle.base.proofs.Differences.{Is, is-self, is-unique, is-add, is-minus}
 use Rattle.convexity.specs.Inside.{sideValue}
 use Rattle.turning.proofs.Cross.{is-cross, side-cross}
 use Rattle.nesting.specs.Rows.{edgeFrom, edgeTo}
@@ -35,7 +36,7 @@ from-inner (pos zero) b = refl
 from-inner (pos (suc n)) b = refl
 from-inner (negsuc n) b = refl
 
-to-rising : (n : ℕ) (b : ℤ) → 255 ≡ edgeTo (pos (suc n)) b
+to-rising : (n : ℕ) (b : ℤ) → side ≡ edgeTo (pos (suc n)) b
 unfolding edgeTo
 to-rising n b = refl
 
@@ -52,7 +53,7 @@ module _ (y v plus minus : ℕ) where
       let e : v - y ≡ suc (v - y - 1) = omega arith in
       rw (minus-up v y (omega arith), minus-down plus minus k, e) (omega arith)
 
-  pub end-rising : y < v → 255 ≡ edgeTo (pos v -ℤ pos y) (pos plus -ℤ pos minus)
+  pub end-rising : y < v → side ≡ edgeTo (pos v -ℤ pos y) (pos plus -ℤ pos minus)
   end-rising h =
       let e : v - y ≡ suc (v - y - 1) = omega arith in
       rw (minus-up v y (omega arith), e) (to-rising (v - y - 1) (pos plus -ℤ pos minus))
@@ -65,7 +66,7 @@ module _ (y v plus minus : ℕ) where
         | no l ↦ rw (minus-down v y (omega arith), minus-down plus minus k)
       ]
 
-  pub end-level : y ≡ v → minus ≤ plus → 255 ≡ edgeTo (pos v -ℤ pos y) (pos plus -ℤ pos minus)
+  pub end-level : y ≡ v → minus ≤ plus → side ≡ edgeTo (pos v -ℤ pos y) (pos plus -ℤ pos minus)
   unfolding edgeTo
   end-level h k = let e : v - y ≡ 0 = omega arith in rw (minus-up v y (omega arith), minus-up plus minus k, e)
 
@@ -98,5 +99,5 @@ module _ (dx dy : ℤ) (x y u v r : ℕ) (col : pos x +ℤ dx ≡ pos u) (row : 
       (is-minus (is-self (pos (u * y + x * r))) (is-self (pos (v * x + u * r)))) (omega arith))
 
 -- On the chart a product is below 2^16
-pub product-small : (a b : ℕ) → a < 255 → b < 255 → a * b ≤ 64516
+pub product-small : (a b : ℕ) → a < side → b < side → a * b ≤ 64516
 product-small a b h k = let p : a ≤ 254 = omega arith in let q : b ≤ 254 = omega arith in mul-le-mul p q

@@ -6,13 +6,14 @@ use mathlib.Core.Logic.{_⊎_, inl, inr}
 use mathlib.Core.Bool.{Bool, true, false, cond}
 use lib.Dec.{ltb}
 use lib.IntN.{pos}
-use borrow.Author.Tests.{ltb-true, lt-ltb, le-ltb}
+use borrow.Author.Tests.{lt-ltb, le-ltb}
 use native.Mathlib.Decide.{decLe, decLt}
+use Rattle.chart.specs.Limits.{side}
 use Rattle.base.specs.Below.{first, some}
 use Rattle.base.proofs.BelowLaws.{not-held, first-none, first-none-at, first-step, some-of}
-use Rattle.convexity.specs.Inside.{colSteps, rowSteps, lowestMet, highestMet, within}
+use Rattle.convexity.specs.Inside.{rowSteps, lowestMet, highestMet, within}
 use Rattle.nesting.specs.Cells.{Polygon}
-use Rattle.nesting.specs.Rows.{startAt, endAfter, edgesTo, runFrom, runTo, rowMeets, rowsMeet}
+use Rattle.nesting.specs.Rows.{runFrom, runTo, rowMeets, rowsMeet}
 use Rattle.nesting.proofs.Means.{within-parts, within-of}
 use Rattle.nesting.proofs.Runs.{start-iff, end-iff}
 use Rattle.compare.specs.declared.rows.Run.{Run}
@@ -112,13 +113,13 @@ module _ (p q : Polygon) where
           none = first-step (rowMeets p q) r (w .none) (row-on r (w .reached) h ∙ ap test (sym e) ∙ le-ltb (a .from) (a .to) l);
         }
 
-    pub searching-found : r < 255 → r < rows .to → (a : Run) → a ≡ common r → a .from < a .to → rowsMeet p q ≡ true
+    pub searching-found : r < side → r < rows .to → (a : Run) → a ≡ common r → a .from < a .to → rowsMeet p q ≡ true
     unfolding rowsMeet
-    searching-found b h a e l = some-of (rowMeets p q) 255 r b (row-on r (w .reached) h ∙ ap test (sym e) ∙ lt-ltb (a .from) (a .to) l)
+    searching-found b h a e l = some-of (rowMeets p q) side r b (row-on r (w .reached) h ∙ ap test (sym e) ∙ lt-ltb (a .from) (a .to) l)
 
     pub searching-end : rows .to ≤ r → rowsMeet p q ≡ false
     unfolding rowsMeet some
-    searching-end h = le-ltb (first (rowMeets p q) 255) 255 (omega (arith, first-none (rowMeets p q) 255 none-at))
+    searching-end h = le-ltb (first (rowMeets p q) side) side (omega (arith, first-none (rowMeets p q) side none-at))
       where
-        none-at : (i : ℕ) → i < 255 → rowMeets p q i ≡ false
+        none-at : (i : ℕ) → i < side → rowMeets p q i ≡ false
         none-at i l = elim (decLt i r) [ yes k ↦ first-none-at (rowMeets p q) r (w .none) i k | no k ↦ row-off i (inr (omega arith)) ]

@@ -7,16 +7,17 @@ use mathlib.Core.List.{List, [], _∷_}
 use lib.ListN.{length, drop, getD, length-drop}
 use lib.IntN.{ℤ, pos, negsuc, _+ℤ_}
 use lib.Signed.{leZ}
+use Rattle.chart.specs.Limits.{side}
 use Rattle.base.proofs.IntegerOrder.{AtMost, at-most-iff, not-at-most}
 use Rattle.chart.specs.declared.Point.{Point}
-use Rattle.convexity.specs.Inside.{minℤ, maxℤ, sideValue, colSteps, rowSteps, lowestMet, highestMet}
+use Rattle.convexity.specs.Inside.{minℤ, maxℤ, colSteps, rowSteps, lowestMet, highestMet}
 use Rattle.polygon.proofs.Spans.{drop-two}
-use Rattle.nesting.specs.Cells.{Polygon, polygon}
-use Rattle.nesting.specs.Rows.{edgeFrom, edgeTo, edgesFrom, edgesTo, startAt, endAfter}
+use Rattle.nesting.specs.Cells.{polygon}
+use Rattle.nesting.specs.Rows.{edgesFrom, edgesTo, startAt, endAfter}
 use Rattle.nesting.proofs.Runs.{edges-below}
 use Rattle.compare.specs.declared.rows.Run.{Run}
 use Rattle.compare.specs.Step.{steppedTo}
-use Rattle.compare.specs.Runs.{shared, joined, metBy, extentOf, boundsOf, cutBy}
+use Rattle.compare.specs.Runs.{shared, joined, metBy, boundsOf, cutBy}
 use Rattle.compare.proofs.Columns.{rise-is, side-is}
 use Rattle.compare.proofs.Steps.{Standing, standing-here, Further, standing-further}
 
@@ -70,7 +71,7 @@ met-none n = refl
 
 -- What was met, joined with what is still to be met, is all that is met
 pub record Meeting (all : Run) (ds : List ℤ) (n : ℕ) (a : Run) : Type 0 where
-  pub below : a .to ≤ 255
+  pub below : a .to ≤ side
   pub whole : over a (metBy ds (pos n)) ≡ all
 
 met-low : (ds : List ℤ) (n : ℕ) → metBy ds (pos n) .from ≤ n
@@ -78,11 +79,11 @@ unfolding metBy lowestMet startAt
 met-low [] n = omega arith
 met-low (d ∷ ds) n = rw (start-min (pos n) (lowestMet ds (pos n +ℤ d))) (omega arith)
 
-pub meeting-start : (ds : List ℤ) (n : ℕ) → n < 255 → Meeting (metBy ds (pos n)) ds n (record { from = 255; to = 0 })
+pub meeting-start : (ds : List ℤ) (n : ℕ) → n < side → Meeting (metBy ds (pos n)) ds n (record { from = side; to = 0 })
 unfolding over
 meeting-start ds n h = record { below = omega arith; whole = run-by _ _ (omega (arith, met-low ds n)) (omega arith) }
 
-module _ {all : Run} {n : ℕ} {a : Run} (h : n < 255) where
+module _ {all : Run} {n : ℕ} {a : Run} (h : n < side) where
   pub meeting-next : {d : ℤ} {ds : List ℤ} {m : ℕ} → Meeting all (d ∷ ds) n a → pos n +ℤ d ≡ pos m → Meeting all ds m (joined a n)
   unfolding over joined
   meeting-next {d} {ds} {m} w e =
@@ -91,7 +92,7 @@ module _ {all : Run} {n : ℕ} {a : Run} (h : n < 255) where
         whole = run-by _ _ (omega arith) (omega arith) ∙ ap (over a) (sym (met-first d ds n m e)) ∙ w .whole;
       }
 
-  pub meeting-end : Meeting all [] n a → (joined a n ≡ all) × (joined a n .to ≤ 255)
+  pub meeting-end : Meeting all [] n a → (joined a n ≡ all) × (joined a n .to ≤ side)
   unfolding over joined
   meeting-end w = ((ap (over a) (sym (met-none n)) ∙ w .whole), omega (arith, w .below))
 
@@ -115,7 +116,7 @@ pub record Reaching (es : List ℤ) (a : Point) (i : ℕ) (p : Point) (across up
   pub cols : Meeting (metBy (colSteps es) (pos (a .col))) (colSteps (drop i es)) (p .col) across
   pub rows : Meeting (metBy (rowSteps es) (pos (a .row))) (rowSteps (drop i es)) (p .row) upward
 
-pub reaching-start : (es : List ℤ) (a : Point) → Standing es 0 a → Reaching es a 0 a (record { from = 255; to = 0 }) (record { from = 255; to = 0 })
+pub reaching-start : (es : List ℤ) (a : Point) → Standing es 0 a → Reaching es a 0 a (record { from = side; to = 0 }) (record { from = side; to = 0 })
 reaching-start es a s =
     let h = standing-here s in
     record { stands = s; cols = meeting-start (colSteps es) (a .col) (h .0); rows = meeting-start (rowSteps es) (a .row) (h .1) }
@@ -139,7 +140,7 @@ module _ {es : List ℤ} {a : Point} {i : ℕ} {p : Point} {cols rows : Run} (w 
       length es ≤ i + 1
       → (joined cols (p .col) ≡ metBy (colSteps es) (pos (a .col)))
       × (joined rows (p .row) ≡ metBy (rowSteps es) (pos (a .row)))
-      × (joined rows (p .row) .to ≤ 255)
+      × (joined rows (p .row) .to ≤ side)
   reaching-end h =
       let b = standing-here (w .stands) in
       let t = steps-short (drop i es) (simp length-drop (omega arith)) in
@@ -153,11 +154,11 @@ shared-assoc : (a b c : Run) → shared (shared a b) c ≡ shared a (shared b c)
 unfolding shared
 shared-assoc a b c = run-by _ _ (omega arith) (omega arith)
 
-shared-below : (a b : Run) → a .to ≤ 255 → shared a b .to ≤ 255
+shared-below : (a b : Run) → a .to ≤ side → shared a b .to ≤ side
 unfolding shared
 shared-below a b h = omega arith
 
-bounds-none : (run : Run) (es : List ℤ) (p : Point) (r : ℕ) → length es < 2 → run .to ≤ 255 → shared run (boundsOf (polygon p es) r) ≡ run
+bounds-none : (run : Run) (es : List ℤ) (p : Point) (r : ℕ) → length es < 2 → run .to ≤ side → shared run (boundsOf (polygon p es) r) ≡ run
 unfolding shared boundsOf edgesFrom edgesTo
 bounds-none run [] p r h k = run-by _ _ (omega arith) (omega arith)
 bounds-none run (d ∷ []) p r h k = run-by _ _ (omega arith) (omega arith)
@@ -181,10 +182,10 @@ bounds-first es i p q r h f =
 -- The columns that the edges passed leave, and those that the rest leaves
 pub record Bounding (es : List ℤ) (a : Point) (r i : ℕ) (p : Point) (run : Run) : Type 0 where
   pub stands : Standing es i p
-  pub below : run .to ≤ 255
+  pub below : run .to ≤ side
   pub whole : shared run (boundsOf (polygon p (drop i es)) r) ≡ boundsOf (polygon a es) r
 
-pub bounding-start : (es : List ℤ) (a : Point) (r : ℕ) → Standing es 0 a → Bounding es a r 0 a (record { from = 0; to = 255 })
+pub bounding-start : (es : List ℤ) (a : Point) (r : ℕ) → Standing es 0 a → Bounding es a r 0 a (record { from = 0; to = side })
 unfolding shared boundsOf
 bounding-start es a r s =
     record {

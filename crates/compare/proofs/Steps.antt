@@ -2,17 +2,17 @@
 use Prim.Native.Nat.{ℕ, _+_, _<_, _≤_}
 use native.Mathlib.Omega.{arith}
 use mathlib.Core.Path.{_≡_, refl, sym, ap, _∙_}
-use mathlib.Core.Bool.{Bool, true, false, true≢false, false≢true, cond, not, _&&_, _||_, and-eq-true-iff}
+use mathlib.Core.Bool.{Bool, true, false, false≢true, not, _&&_, _||_, and-eq-true-iff}
 use mathlib.Core.List.{List, [], _∷_}
 use native.Mathlib.Decide.{decLe}
 use borrow.Author.Tests.{le-leb, lt-leb}
 use lib.ListN.{length, drop, getD, length-drop}
 use lib.Dec.{T, leb}
 use lib.IntN.{ℤ, pos, negsuc, natAbs, _+ℤ_}
-use lib.Signed.{leZ, nonNeg}
+use lib.Signed.{nonNeg}
 use mir.Syntax.{w16}
 use mir.Val.{Fits}
-use Rattle.base.proofs.BelowLaws.{same-test}
+use Rattle.chart.specs.Limits.{side}
 use Rattle.base.proofs.IntegerOrder.{up}
 use Rattle.chart.specs.declared.Point.{Point}
 use Rattle.polygon.specs.Loose.{badCell}
@@ -30,7 +30,7 @@ unfolding kept startAt chartNumber
 kept-is (pos n) e = rw e
 kept-is (negsuc n) e = absurd (false≢true e)
 
-pub kept-off : (z : ℤ) → chartNumber z ≡ false → 255 ≡ kept z
+pub kept-off : (z : ℤ) → chartNumber z ≡ false → side ≡ kept z
 unfolding kept
 kept-off z e = rw e
 
@@ -40,7 +40,7 @@ kept-on z e = ap natAbs (kept-is z e)
 pub kept-size : (z : ℤ) → chartNumber z ≡ true → T (nonNeg z) × Fits w16 (natAbs z)
 kept-size z e = let h = number z e in rw (h .1) (tt, record { fits = omega (arith, h .2) })
 
-off : chartNumber (pos 255) ≡ false
+off : chartNumber (pos side) ≡ false
 unfolding chartNumber
 off = refl
 
@@ -58,13 +58,13 @@ or-not true t = refl
 or-not false true = refl
 or-not false false = refl
 
-number-bad : (n : ℕ) → chartNumber (pos n) ≡ not (leb 255 n)
+number-bad : (n : ℕ) → chartNumber (pos n) ≡ not (leb side n)
 unfolding chartNumber
-number-bad n = rw (le-leb 0 n (omega arith)) (elim (decLe 255 n) [ yes h ↦ rw (le-leb 255 n h) (lt-leb n 254 (omega arith)) | no h ↦ rw (lt-leb 255 n (omega arith)) (le-leb n 254 (omega arith)) ])
+number-bad n = rw (le-leb 0 n (omega arith)) (elim (decLe side n) [ yes h ↦ rw (le-leb side n h) (lt-leb n 254 (omega arith)) | no h ↦ rw (lt-leb side n (omega arith)) (le-leb n 254 (omega arith)) ])
 
 pub bad-cell : (p : Point) → badCell p ≡ not (onChart (pos (p .col)) (pos (p .row)))
 unfolding badCell onChart
-bad-cell p = rw (number-bad (p .col), number-bad (p .row)) (or-not (leb 255 (p .col)) (leb 255 (p .row)))
+bad-cell p = rw (number-bad (p .col), number-bad (p .row)) (or-not (leb side (p .col)) (leb side (p .row)))
 
 corner-off : (f : ℤ → ℤ → Bool) (es : List ℤ) (x y : ℤ) → f x y ≡ false → everyCorner f es x y ≡ false
 unfolding everyCorner
@@ -123,11 +123,11 @@ pub standing-start : (es : List ℤ) (p : Point) → cornersOnChart es (pos (p .
 standing-start es p e = record { passed = omega arith; rest = e }
 
 -- The cell where it stands is on the chart
-pub standing-here : {es : List ℤ} {i : ℕ} {p : Point} → Standing es i p → (p .col < 255) × (p .row < 255)
+pub standing-here : {es : List ℤ} {i : ℕ} {p : Point} → Standing es i p → (p .col < side) × (p .row < side)
 unfolding cornersOnChart
 standing-here {p = p} s = go (place (pos (p .col)) (pos (p .row)) (every-met onChart Met.start (s .rest)))
   where
-    go : Place (pos (p .col)) (pos (p .row)) → (p .col < 255) × (p .row < 255)
+    go : Place (pos (p .col)) (pos (p .row)) → (p .col < side) × (p .row < side)
     go h = omega (arith, ap up (h .isCol), ap up (h .isRow), h .colBelow, h .rowBelow)
 
 -- One edge further: the cell reached is that of the walk of the edges

@@ -15,7 +15,7 @@ use Rattle.chart.specs.declared.Comparison.{Comparison}
 use Rattle.chart.specs.declared.Refusal.{Refusal}
 use Rattle.chart.specs.declared.Refusal.the-variants.{Count, Start, Letter, Leaves, Unclosed, Touches, BackStep, Dent, Room, List as BadList, Cell, Turning}
 use Rattle.chart.specs.Fields.{placed, refusalFields, nestingFields, comparisonFields}
-use Rattle.nesting.specs.Cells.{polygon, Says}
+use Rattle.nesting.specs.Cells.{polygon}
 use Rattle.nesting.specs.Answer.{nesting}
 use Rattle.nesting.proofs.Answer.{answer-iff}
 use Rattle.compare.specs.declared.Checked.{Checked}

@@ -1,12 +1,17 @@
 // The rows of two polygons: a row's cells are a run of columns, and two hulls share a cell where two runs meet.
 use crate::step;
 use chart::Point;
+use chart::SIDE;
 ghost use mathlib.Core.Path.{_≡_};
 ghost use Prim.Native.Nat.{_≤_, _<_, _*_, min, max};
 ghost use lib.IntN.{pos, _-ℤ_};
+ghost use Rattle.chart.specs.Limits.{side};
 ghost use Rattle.nesting.specs.Cells.{polygon, Fit};
 ghost use Rattle.nesting.specs.Rows.{edgeFrom, edgeTo, rowsMeet};
 ghost use Rattle.compare.specs.Runs.{shared as sharedOf, joined, extentOf, boundsOf, cutBy};
+
+// The end of the longest run.
+const END: u32 = SIDE as u32;
 
 // Columns, or rows, from one, included, to another, excluded.
 struct Run {
@@ -55,10 +60,10 @@ struct Extent {
 
 fn extremes(anchor: Point, edges: &[i16]) -> Extent
     requires { ⌜ Fit (polygon anchor (now edges)) ⌝ }
-    ensures { λ r. ⌜ (r ≡ extentOf (polygon anchor (now (edges .entry)))) × (r .rows .to ≤ 255) ⌝ }
+    ensures { λ r. ⌜ (r ≡ extentOf (polygon anchor (now (edges .entry)))) × (r .rows .to ≤ side) ⌝ }
 {
-    let mut cols = Run { from: 255, to: 0 };
-    let mut rows = Run { from: 255, to: 0 };
+    let mut cols = Run { from: END, to: 0 };
+    let mut rows = Run { from: END, to: 0 };
     let mut at = anchor;
     let mut i = 0;
     while i + 1 < edges.len() {
@@ -92,20 +97,20 @@ fn end_column(y: u32, v: u32, plus: u32, minus: u32) -> u32
     ensures { λ r. ⌜ r ≡ edgeTo (pos v -ℤ pos y) (pos plus -ℤ pos minus) ⌝ }
 {
     if y < v {
-        return 255;
+        return END;
     }
     if plus < minus {
         return 0;
     }
     if y == v {
-        return 255;
+        return END;
     }
     (plus - minus) / (y - v) + 1
 }
 
 // The columns of a row on the inner side of the edge from p to q.
 fn beside(p: Point, q: Point, row: u32) -> Run
-    requires { ⌜ (p .col < 255) × (p .row < 255) × (q .col < 255) × (q .row < 255) × (row < 255) ⌝ }
+    requires { ⌜ (p .col < side) × (p .row < side) × (q .col < side) × (q .row < side) × (row < side) ⌝ }
     ensures { λ r. ⌜ r ≡ cutBy p q row ⌝ }
 {
     let x = p.col as u32;
@@ -122,10 +127,10 @@ fn beside(p: Point, q: Point, row: u32) -> Run
 
 // The columns of a row on the inner side of every edge.
 fn bounds(anchor: Point, edges: &[i16], row: u32) -> Run
-    requires { ⌜ Fit (polygon anchor (now edges)) × (row < 255) ⌝ }
+    requires { ⌜ Fit (polygon anchor (now edges)) × (row < side) ⌝ }
     ensures { λ r. ⌜ r ≡ boundsOf (polygon anchor (now (edges .entry))) row ⌝ }
 {
-    let mut run = Run { from: 0, to: 255 };
+    let mut run = Run { from: 0, to: END };
     let mut at = anchor;
     let mut i = 0;
     while i + 1 < edges.len() {

@@ -1,11 +1,12 @@
 -- A test over the corner cells says what is meant: every corner met by the walk passes it, or some corner fails it.
-use Prim.Native.Nat.{ℕ, _<_}
+use Prim.Native.Nat.{ℕ, _<_, _-_}
 use native.Mathlib.Omega.{arith}
 use mathlib.Core.Path.{_≡_, refl}
 use mathlib.Core.Bool.{Bool, true, false, _&&_, and-eq-true-iff}
 use mathlib.Core.List.{List, [], _∷_}
 use lib.IntN.{ℤ, pos, negsuc, _+ℤ_}
 use lib.Signed.{leZ}
+use Rattle.chart.specs.Limits.{side}
 use Rattle.base.proofs.IntegerOrder.{at-most-iff}
 use Rattle.turning.specs.CornerHull.{Met}
 use Rattle.nesting.specs.Corners.{everyCorner, chartNumber, onChart}
@@ -49,13 +50,13 @@ pub record Place (u v : ℤ) : Type 0 where
   pub row : ℕ
   pub isCol : u ≡ pos col
   pub isRow : v ≡ pos row
-  pub colBelow : col < 255
-  pub rowBelow : row < 255
+  pub colBelow : col < side
+  pub rowBelow : row < side
 
-pub number : (z : ℤ) → chartNumber z ≡ true → (n : ℕ) × (z ≡ pos n) × (n < 255)
+pub number : (z : ℤ) → chartNumber z ≡ true → (n : ℕ) × (z ≡ pos n) × (n < side)
 unfolding chartNumber
-number (pos n) e = (n, refl, omega (arith, at-most-iff (pos n) (pos 254) .0 (and-eq-true-iff (leZ (pos 0) (pos n)) (leZ (pos n) (pos 254)) .0 e .1)))
-number (negsuc n) e = absurd (omega (arith, at-most-iff (pos 0) (negsuc n) .0 (and-eq-true-iff (leZ (pos 0) (negsuc n)) (leZ (negsuc n) (pos 254)) .0 e .0)))
+number (pos n) e = (n, refl, omega (arith, at-most-iff (pos n) (pos (side - 1)) .0 (and-eq-true-iff (leZ (pos 0) (pos n)) (leZ (pos n) (pos (side - 1))) .0 e .1)))
+number (negsuc n) e = absurd (omega (arith, at-most-iff (pos 0) (negsuc n) .0 (and-eq-true-iff (leZ (pos 0) (negsuc n)) (leZ (negsuc n) (pos (side - 1))) .0 e .0)))
 
 pub place : (u v : ℤ) → onChart u v ≡ true → Place u v
 unfolding onChart

@@ -7,6 +7,7 @@ use mathlib.Core.Logic.{_↔_}
 use mathlib.Core.Bool.{Bool, true, false, cond, and-eq-true-iff}
 use mathlib.Core.List.{List, [], _∷_}
 use lib.IntN.{ℤ, pos, negsuc, _+ℤ_, _-ℤ_}
+use Rattle.chart.specs.Limits.{side}
 use Rattle.base.proofs.IntegerOrder.{up, down, AtMost}
 use Rattle.base.proofs.Differences.{Is, is-self, is-minus}
 use Rattle.convexity.specs.Inside.{notNegative, sideValue, noneOutside, colSteps, rowSteps, lowestMet, highestMet, within, insideAt}
@@ -30,7 +31,7 @@ side-column dx dy x y r c =
     rw (side-cross dx dy x y (pos c) r, side-cross dx dy x y (pos 0) r) (record { eq = omega (arith, s .eq, t .eq) })
 
 -- One edge
-edge-in : (dy b : ℤ) (c : ℕ) → c < 255 → down b + down dy * c ≤ up b + up dy * c → In (edgeFrom dy b) (edgeTo dy b) c
+edge-in : (dy b : ℤ) (c : ℕ) → c < side → down b + down dy * c ≤ up b + up dy * c → In (edgeFrom dy b) (edgeTo dy b) c
 unfolding edgeFrom edgeTo
 edge-in (pos zero) (pos b) c l h = omega arith
 edge-in (pos zero) (negsuc b) c l h = absurd (omega arith)
@@ -49,7 +50,7 @@ in-edge (negsuc n) (pos b) c h = omega (arith, le-div-iff-mul-le {k = suc n} {x 
 in-edge (negsuc n) (negsuc b) c h = absurd (omega arith)
 
 -- All edges
-edges-in : (es : List ℤ) (x y r : ℤ) (c : ℕ) → c < 255 → noneOutside es x y (pos c) r ≡ true → In (edgesFrom es x y r) (edgesTo es x y r) c
+edges-in : (es : List ℤ) (x y r : ℤ) (c : ℕ) → c < side → noneOutside es x y (pos c) r ≡ true → In (edgesFrom es x y r) (edgesTo es x y r) c
 unfolding noneOutside edgesFrom edgesTo
 edges-in [] x y r c l e = omega arith
 edges-in (dx ∷ []) x y r c l e = omega arith
@@ -70,7 +71,7 @@ in-edges (dx ∷ dy ∷ es) x y r c h =
     let rest : In (edgesFrom es (x +ℤ dx) (y +ℤ dy) r) (edgesTo es (x +ℤ dx) (y +ℤ dy) r) c = omega arith in
     and-eq-true-iff _ _ .1 (not-negative-iff (side-column dx dy x y r c) .1 (in-edge dy b c here), in-edges es (x +ℤ dx) (y +ℤ dy) r c rest)
 
-pub edges-below : (es : List ℤ) (x y r : ℤ) → edgesTo es x y r ≤ 255
+pub edges-below : (es : List ℤ) (x y r : ℤ) → edgesTo es x y r ≤ side
 unfolding edgesTo
 edges-below [] x y r = omega arith
 edges-below (dx ∷ []) x y r = omega arith
@@ -97,7 +98,7 @@ module _ (p : Polygon) (r c : ℕ) where
   abbrev y : ℤ
   y = pos (p .anchor .row)
 
-  inside-run : c < 255 → insideAt es x y (pos c) (pos r) ≡ true → In (runFrom p r) (runTo p r) c
+  inside-run : c < side → insideAt es x y (pos c) (pos r) ≡ true → In (runFrom p r) (runTo p r) c
   unfolding runFrom runTo
   inside-run l e =
       let k = inside-parts es x y (pos c) (pos r) e in
@@ -123,17 +124,17 @@ module _ (p : Polygon) (r c : ℕ) where
       go false e m = absurd (omega arith)
 
   -- The claim, for whatever edges
-  pub row-run : c < 255 → (insideAt es x y (pos c) (pos r) ≡ true) ↔ In (runFrom p r) (runTo p r) c
+  pub row-run : c < side → (insideAt es x y (pos c) (pos r) ≡ true) ↔ In (runFrom p r) (runTo p r) c
   row-run l = (inside-run l, run-inside)
 
 -- A run ends at column 255 or before
-pub run-below : (p : Polygon) (r : ℕ) → runTo p r ≤ 255
+pub run-below : (p : Polygon) (r : ℕ) → runTo p r ≤ side
 unfolding runTo
 run-below p r = go (within (rowSteps (p .edges)) (pos (p .anchor .row)) (pos r))
   where
     go :
         (s : Bool)
         → cond s (min (endAfter (highestMet (colSteps (p .edges)) (pos (p .anchor .col)))) (edgesTo (p .edges) (pos (p .anchor .col)) (pos (p .anchor .row)) (pos r))) 0
-        ≤ 255
+        ≤ side
     go true = omega (arith, edges-below (p .edges) (pos (p .anchor .col)) (pos (p .anchor .row)) (pos r))
     go false = omega arith

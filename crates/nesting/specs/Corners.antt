@@ -1,8 +1,10 @@
 -- Tests over the corner cells of a walk of edges: all on the chart; all inside another polygon.
+use Prim.Native.Nat.{_-_}
 use mathlib.Core.Bool.{Bool, _&&_}
 use mathlib.Core.List.{List, [], _∷_}
 use lib.IntN.{ℤ, pos, _+ℤ_}
 use lib.Signed.{leZ}
+use Rattle.chart.specs.Limits.{side}
 use Rattle.convexity.specs.Inside.{insideAt}
 
 -- Every corner cell met by the walk from (x, y) passes a test
@@ -13,7 +15,7 @@ everyCorner f (dx ∷ dy ∷ es) x y = f x y && everyCorner f es (x +ℤ dx) (y 
 
 -- A column or a row of the chart
 unfoldable pub chartNumber : ℤ → Bool
-chartNumber z = leZ (pos 0) z && leZ z (pos 254)
+chartNumber z = leZ (pos 0) z && leZ z (pos (side - 1))
 
 -- A cell of the chart
 unfoldable pub onChart : ℤ → ℤ → Bool

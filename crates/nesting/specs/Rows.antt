@@ -5,6 +5,7 @@ use mathlib.Core.Bool.{Bool, cond}
 use mathlib.Core.List.{List, [], _∷_}
 use lib.Dec.{ltb}
 use lib.IntN.{ℤ, pos, negsuc, _+ℤ_}
+use Rattle.chart.specs.Limits.{side}
 use Rattle.base.specs.Below.{some}
 use Rattle.convexity.specs.Inside.{sideValue, colSteps, rowSteps, lowestMet, highestMet, within}
 use Rattle.nesting.specs.Cells.{Polygon}
@@ -18,9 +19,9 @@ edgeFrom (negsuc n) b = 0
 
 -- The column after the last c with dy·c + b ≥ 0, if dy < 0. If dy = 0, all of the row or nothing of it
 unfoldable pub edgeTo : ℤ → ℤ → ℕ
-edgeTo (pos zero) (pos b) = 255
+edgeTo (pos zero) (pos b) = side
 edgeTo (pos zero) (negsuc b) = 0
-edgeTo (pos (suc n)) b = 255
+edgeTo (pos (suc n)) b = side
 edgeTo (negsuc n) (pos b) = suc (b / suc n)
 edgeTo (negsuc n) (negsuc b) = 0
 
@@ -31,8 +32,8 @@ edgesFrom (dx ∷ []) x y r = 0
 edgesFrom (dx ∷ dy ∷ es) x y r = max (edgeFrom dy (sideValue dx dy x y (pos 0) r)) (edgesFrom es (x +ℤ dx) (y +ℤ dy) r)
 
 unfoldable pub edgesTo : List ℤ → ℤ → ℤ → ℤ → ℕ
-edgesTo [] x y r = 255
-edgesTo (dx ∷ []) x y r = 255
+edgesTo [] x y r = side
+edgesTo (dx ∷ []) x y r = side
 edgesTo (dx ∷ dy ∷ es) x y r = min (edgeTo dy (sideValue dx dy x y (pos 0) r)) (edgesTo es (x +ℤ dx) (y +ℤ dy) r)
 
 -- The first natural number at z or after it; the first after z
@@ -61,4 +62,4 @@ rowMeets p q r = ltb (max (runFrom p r) (runFrom q r)) (min (runTo p r) (runTo q
 
 -- They meet in some row of the chart
 unfoldable pub rowsMeet : Polygon → Polygon → Bool
-rowsMeet p q = some (rowMeets p q) 255
+rowsMeet p q = some (rowMeets p q) side

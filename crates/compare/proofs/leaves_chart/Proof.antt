@@ -1,17 +1,17 @@
 -- The loop's invariant: what is left of the walk stays on the chart exactly if all of it does.
 use Prim.Native.Nat.{_+_, _-_}
 use native.Mathlib.Omega.{arith}
-use mathlib.Core.Path.{_≡_, refl, sym, ap, _∙_}
+use mathlib.Core.Path.{_≡_, sym, ap, _∙_}
 use mathlib.Core.Bool.{Bool, true, false, not}
 use mathlib.Core.List.{List}
-use lib.ListN.{length, drop, getD}
+use lib.ListN.{length, getD}
 use lib.IntN.{ℤ, pos}
 use mir.Syntax.{w16}
 use mir.Val.{SFits}
 use mir.ValLaws.{toZ-ofZ}
 use borrow.Author.Needs.{needs}
 use borrow.Author.Tests.{not-true, not-false}
-use Rattle.nesting.specs.Corners.{everyCorner, onChart, cornersOnChart}
+use Rattle.nesting.specs.Corners.{onChart}
 use Rattle.compare.specs.Step.{steppedTo}
 use Rattle.compare.proofs.Steps.{bad-cell, Leaving, leaving-start, leaving-further, leaving-off, leaving-end}
 use Rattle.compare.proofs.leaves_chart.Statement.{statement}

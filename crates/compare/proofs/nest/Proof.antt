@@ -3,7 +3,6 @@ use mathlib.Core.Path.{_≡_, sym, _∙_}
 use Rattle.nesting.specs.Cells.{Polygon, polygon}
 use Rattle.nesting.specs.Answer.{liesWithin}
 use Rattle.compare.proofs.Cases.{nests-equal, nests-first, nests-second, nests-crossing, nests-apart}
-use borrow.Author.Needs.{needs}
 use Rattle.compare.proofs.nest.Statement.{statement}
 use Rattle.compare.proofs.nest.Tie as tie
 

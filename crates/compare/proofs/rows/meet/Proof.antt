@@ -1,11 +1,12 @@
 -- The loop's invariant: no row passed has a common cell, and no row that one of the walks does not reach has one.
-use Prim.Native.Nat.{_+_, _-_, _<_, _≤_}
+use Prim.Native.Nat.{_-_, _<_, _≤_}
 use native.Mathlib.Omega.{arith}
 use mathlib.Core.Path.{_≡_, sym, ap, _∙_}
 use borrow.Author.Needs.{needs}
+use Rattle.chart.specs.Limits.{side}
 use Rattle.nesting.specs.Cells.{Polygon, polygon}
 use Rattle.compare.specs.declared.rows.Run.{Run}
-use Rattle.compare.specs.Runs.{shared, extentOf, boundsOf}
+use Rattle.compare.specs.Runs.{shared}
 use Rattle.compare.proofs.Meeting.{cols, rows, common, Searching, searching-start, searching-further, searching-found, searching-end}
 use Rattle.compare.proofs.rows.meet.Statement.{statement}
 use Rattle.compare.proofs.rows.meet.Tie as tie
@@ -34,12 +35,12 @@ rows-are : (c : Ready) → c .shared2 .result ≡ rows (one c) (two c)
 unfolding rows
 rows-are c = let e = c .before .before in c .shared2 .ensures ∙ rw (e .before .extremes .ensures .0, e .extremes2 .ensures .0)
 
-rows-below : (c : Ready) → c .shared2 .result .to ≤ 255
+rows-below : (c : Ready) → c .shared2 .result .to ≤ side
 unfolding shared
 rows-below c = let e = c .before .before in rw (c .shared2 .ensures) (omega (arith, e .before .extremes .ensures .1))
 
 -- A turn's row
-row-below : (c : tie.Then1 Inv-loop μ-loop) → c .before .before .loop .row < 255
+row-below : (c : tie.Then1 Inv-loop μ-loop) → c .before .before .loop .row < side
 row-below c = omega (arith, c .if1 .taken, rows-below (c .before .before .before))
 
 row-in : (c : tie.Then1 Inv-loop μ-loop) →

@@ -3,7 +3,6 @@ use borrow.Author.Needs.{needs}
 use mathlib.Core.Path.{_≡_}
 use lib.IntN.{pos, _+ℤ_}
 use mir.Syntax.{w16, w32}
-use mir.Val.{SFits}
 use mir.ValLaws.{toZ-ofZ}
 use Rattle.compare.specs.Step.{kept, steppedTo}
 use Rattle.compare.proofs.step.further.Statement.{statement}

@@ -1,6 +1,5 @@
 -- A number of the chart is not negative and is read as it is.
 use borrow.Author.Needs.{needs}
-use native.Mathlib.Omega.{arith}
 use mathlib.Core.Path.{_≡_}
 use mathlib.Core.Bool.{true, false}
 use mir.Syntax.{w32}
