@@ -6,9 +6,10 @@ use lib.ListN.{length}
 use lib.Dec.{leb}
 use lib.IntN.{ℤ}
 use Rattle.chart.specs.declared.Point.{Point}
-use Rattle.chart.specs.Fields.{positionFields, replyAfter}
+use Rattle.chart.specs.Fields.{positionFields, comparisonFields, replyAfter}
 use Rattle.verdict.specs.Verdict.{testFields, edgesAfter}
 use Rattle.polygon.specs.Loose.{looseOf}
+use Rattle.compare.specs.Compared.{comparisonOf}
 
 -- A corner or a cell, as two numbers
 abbrev pub at : ℕ → ℕ → Point
@@ -24,3 +25,7 @@ testEdges c r letters edges reply = cond (leb 7 (length reply)) (edgesAfter (rec
 -- A loose query: the reply list afterwards
 unfoldable pub looseReply : ℕ → ℕ → List ℤ → ℕ → ℕ → List ℕ → List ℕ
 looseReply ac ar edges c r reply = replyAfter (positionFields (looseOf (at ac ar) edges (at c r))) reply
+
+-- A comparison: the reply list afterwards
+unfoldable pub compareReply : ℕ → ℕ → List ℤ → ℕ → ℕ → List ℤ → List ℕ → List ℕ
+compareReply ac ar es bc br fs reply = replyAfter (comparisonFields (comparisonOf (at ac ar) es (at bc br) fs)) reply

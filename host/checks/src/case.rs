@@ -13,7 +13,15 @@ use crate::{Fields, Outline, Point};
 pub enum Case {
     Test { outline: Outline, lent: usize, room: usize },
     Loose { anchor: Point, edges: Vec<i16>, cell: Point, room: usize },
+    Compare { first: Polygon, second: Polygon, room: usize },
     Script { bytes: Vec<u8>, room: usize },
+}
+
+/// An anchor and a list of edges.
+#[derive(Clone, Debug, PartialEq)]
+pub struct Polygon {
+    pub anchor: Point,
+    pub edges: Vec<i16>,
 }
 
 /// What an engine returned (a truth as 0 or 1), and every lent list as it left it.
@@ -33,7 +41,7 @@ impl Case {
     pub fn run(&self, engine: &dyn Engine) -> Outcome {
         let (lent, room) = match *self {
             Case::Test { lent, room, .. } => (lent, room),
-            Case::Loose { room, .. } | Case::Script { room, .. } => (0, room),
+            Case::Loose { room, .. } | Case::Compare { room, .. } | Case::Script { room, .. } => (0, room),
         };
         let mut edges: Vec<i16> = (0..lent).map(|i| filler(i) as i16).collect();
         let mut replies: Vec<u16> = (0..room).map(filler).collect();
@@ -42,6 +50,7 @@ impl Case {
                 usize::from(engine.test(outline.start, &outline.letters, &mut edges, &mut replies))
             }
             Case::Loose { anchor, edges, cell, .. } => usize::from(engine.loose_query(*anchor, edges, *cell, &mut replies)),
+            Case::Compare { first, second, .. } => usize::from(engine.compare(first, second, &mut replies)),
             Case::Script { bytes, .. } => engine.replay(bytes, &mut replies),
         };
         Outcome { returned, edges, replies }
@@ -125,6 +134,11 @@ impl fmt::Display for Case {
                 let edges = numbers_as_text(edges);
                 write!(f, "loose {} {} {edges} {} {} {room}", anchor.col, anchor.row, cell.col, cell.row)
             }
+            Case::Compare { first, second, room } => {
+                let (one, other) = (numbers_as_text(&first.edges), numbers_as_text(&second.edges));
+                let (a, b) = (first.anchor, second.anchor);
+                write!(f, "compare {} {} {one} {} {} {other} {room}", a.col, a.row, b.col, b.row)
+            }
             Case::Script { bytes, room } => write!(f, "script {} {room}", bytes_as_text(bytes)),
         }
     }
@@ -147,9 +161,14 @@ impl FromStr for Case {
                 cell: Point::new(number(col)?, number(row)?),
                 room: number(room)?,
             }),
+            ["compare", col, row, edges, col2, row2, edges2, room] => Ok(Case::Compare {
+                first: Polygon { anchor: Point::new(number(col)?, number(row)?), edges: numbers_from_text(edges)? },
+                second: Polygon { anchor: Point::new(number(col2)?, number(row2)?), edges: numbers_from_text(edges2)? },
+                room: number(room)?,
+            }),
             ["script", bytes, room] => Ok(Case::Script { bytes: bytes_from_text(bytes)?, room: number(room)? }),
             _ => {
-                Err("a line is `test COL ROW LETTERS LENT ROOM`, `loose COL ROW EDGES COL ROW ROOM` or `script BYTES ROOM`"
+                Err("a line is `test COL ROW LETTERS LENT ROOM`, `loose COL ROW EDGES COL ROW ROOM`, `compare COL ROW EDGES COL ROW EDGES ROOM` or `script BYTES ROOM`"
                     .to_string())
             }
         }
@@ -168,6 +187,7 @@ mod tests {
             "test 0 0 - 2032 9",
             "loose 0 0 2,0,-2,0 254 0 7",
             "loose 3 4 - 3 4 7",
+            "compare 0 0 1,1,-1,-1 0 1 - 7",
             "script x0000000000040000000006 14",
             "script - 0",
         ];

@@ -2,6 +2,7 @@
 
 use robequarry::limits::REPLY;
 
+use crate::case::Polygon;
 use crate::{plain, reference, Fields, Point};
 
 pub trait Engine {
@@ -10,6 +11,8 @@ pub trait Engine {
     fn test(&self, start: Point, letters: &[u8], edges: &mut [i16], reply: &mut [u16]) -> bool;
 
     fn loose_query(&self, anchor: Point, edges: &[i16], cell: Point, reply: &mut [u16]) -> bool;
+
+    fn compare(&self, first: &Polygon, second: &Polygon, reply: &mut [u16]) -> bool;
 
     fn replay(&self, script: &[u8], replies: &mut [u16]) -> usize;
 }
@@ -36,6 +39,11 @@ impl Engine for Library {
         robequarry::raw::loose_query(anchor.col, anchor.row, edges, cell.col, cell.row, reply)
     }
 
+    fn compare(&self, first: &Polygon, second: &Polygon, reply: &mut [u16]) -> bool {
+        let (a, b) = (first.anchor, second.anchor);
+        robequarry::raw::compare((a.col, a.row), &first.edges, (b.col, b.row), &second.edges, reply)
+    }
+
     fn replay(&self, script: &[u8], replies: &mut [u16]) -> usize {
         robequarry::raw::replay(script, replies)
     }
@@ -54,6 +62,10 @@ impl Engine for Reference {
         answer(reply, || reference::calls::loose_query(anchor, edges, cell))
     }
 
+    fn compare(&self, first: &Polygon, second: &Polygon, reply: &mut [u16]) -> bool {
+        answer(reply, || reference::compare::compare(first, second))
+    }
+
     fn replay(&self, script: &[u8], replies: &mut [u16]) -> usize {
         reference::book::replay(script, replies)
     }
@@ -70,6 +82,10 @@ impl Engine for Plain {
 
     fn loose_query(&self, anchor: Point, edges: &[i16], cell: Point, reply: &mut [u16]) -> bool {
         answer(reply, || plain::loose_query(anchor, edges, cell))
+    }
+
+    fn compare(&self, first: &Polygon, second: &Polygon, reply: &mut [u16]) -> bool {
+        answer(reply, || plain::compare(first, second))
     }
 
     fn replay(&self, script: &[u8], replies: &mut [u16]) -> usize {

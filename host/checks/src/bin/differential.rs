@@ -11,7 +11,7 @@ use std::time::Instant;
 
 use robequarry::codec::INSIDE;
 use robequarry::limits::{LAST_CELL, LAST_CORNER, LAST_REFUSAL, LONGEST_LIST, REPLY, SIDE};
-use robequarry_checks::case::Case;
+use robequarry_checks::case::{Case, Polygon};
 use robequarry_checks::draw::{rotated, Shape};
 use robequarry_checks::engine::{Engine, Library, Plain, Reference};
 use robequarry_checks::garbage;
@@ -26,6 +26,7 @@ use robequarry_checks::{Outline, Point};
 const SEED: u64 = 1;
 const SPOILT: usize = 120_000;
 const LOOSE: usize = 120_000;
+const COMPARISONS: usize = 16_000;
 const SCRIPTS: usize = 24_000;
 
 const ENGINES: [&dyn Engine; 2] = [&Library, &Plain];
@@ -75,6 +76,8 @@ fn run(seed: u64) {
     }
     run.random_section(&format!("{SPOILT} spoilt lists of letters"), seed + 100, spoilt);
     run.random_section(&format!("{LOOSE} loose queries"), seed + 200, loose_queries);
+    run.section("every two small polygons", every_two_small_polygons);
+    run.random_section(&format!("{COMPARISONS} comparisons"), seed + 250, comparisons);
     run.random_section(&format!("{SCRIPTS} scripts of calls"), seed + 300, random_scripts);
 
     let complaints = run.tally.report();
@@ -230,6 +233,28 @@ fn loose_queries(run: &mut Run, random: &mut Random) {
             1 => garbage::round_walk(random),
             _ => polygons::loose(random),
         };
+        run.compare(&case);
+    }
+}
+
+/// Every two of the polygons with edges of at most one column and one row, the second moved by up to two; touching, nested, equal and
+/// crossing without a common cell among them.
+fn every_two_small_polygons(run: &mut Run) {
+    let small = polygons::small();
+    for one in &small {
+        for other in &small {
+            for code in 0..25 {
+                let first = Polygon { anchor: Point::new(4, 4), edges: one.clone() };
+                let second = Polygon { anchor: Point::new(2 + code % 5, 2 + code / 5), edges: other.clone() };
+                run.compare(&Case::Compare { first, second, room: REPLY });
+            }
+        }
+    }
+}
+
+fn comparisons(run: &mut Run, random: &mut Random) {
+    for _ in 0..COMPARISONS {
+        let case = polygons::pair(random);
         run.compare(&case);
     }
 }

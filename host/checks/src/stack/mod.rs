@@ -16,14 +16,15 @@ const SIZE: usize = 4 << 20;
 const PAINTS: [u8; 2] = [0xa5, 0x5a];
 
 /// The most bytes of stack that each function needs for any of its inputs: the longest outlines, and every way through the test.
-pub fn needs() -> [(&'static str, usize); 3] {
-    let mut needs = [("rq_test", 0), ("rq_loose_query", 0), ("rq_replay", 0)];
+pub fn needs() -> [(&'static str, usize); 4] {
+    let mut needs = [("rq_test", 0), ("rq_loose_query", 0), ("rq_compare", 0), ("rq_replay", 0)];
     let mut stack = Stack::new();
     for case in inputs::all() {
         let function = match case {
             Case::Test { .. } => 0,
             Case::Loose { .. } => 1,
-            Case::Script { .. } => 2,
+            Case::Compare { .. } => 2,
+            Case::Script { .. } => 3,
         };
         needs[function].1 = needs[function].1.max(stack.need(&case));
     }
@@ -53,6 +54,13 @@ impl Stack {
                 let mut reply = vec![0; *room];
                 self.depth(&mut || {
                     raw::loose_query(anchor.col, anchor.row, edges, cell.col, cell.row, &mut reply);
+                })
+            }
+            Case::Compare { first, second, room } => {
+                let mut reply = vec![0; *room];
+                let (a, b) = (first.anchor, second.anchor);
+                self.depth(&mut || {
+                    raw::compare((a.col, a.row), &first.edges, (b.col, b.row), &second.edges, &mut reply);
                 })
             }
             Case::Script { bytes, room } => {
