@@ -15,9 +15,9 @@
  * A reply is seven numbers, in this order. Those that a reply does not name are 0.
  *
  *   0 number   0, or the number of the refusal
- *   1 word     RQ_NO_WORD, RQ_INSIDE, RQ_OUTSIDE, RQ_TAKEN or RQ_SAME
+ *   1 word     RQ_NO_WORD, RQ_INSIDE, RQ_OUTSIDE, RQ_TAKEN or RQ_SAME; of a comparison RQ_EQUAL to RQ_CROSSING
  *   2 place
- *   3 piece    1 to 4
+ *   3 piece    1 to 4; of a comparison, whose list is the inner one's: 1, 2, or 0
  *   4 length
  *   5 column   of a cell
  *   6 row
@@ -40,6 +40,9 @@
  *       loose query, border: the list has an odd count of numbers, or more than RQ_NUMBERS
  *   11  a cell number is above 254
  *   12  query: nothing is at work at the place
+ *       loose query, compare: the list has an odd count of numbers, or more than RQ_NUMBERS
+ *   11  a cell number is above 254; compare, after 16: the walk leaves the chart
+ *   12  query: nothing is at work
  *   13  add, close, drop: there is no draft
  *   14  begin: a draft is open
  *   15  add: the draft has RQ_LETTERS letters
@@ -76,6 +79,9 @@ enum {
 };
 
 enum { RQ_NO_WORD = 0, RQ_INSIDE = 1, RQ_OUTSIDE = 2, RQ_TAKEN = 3, RQ_SAME = 4 };
+
+/* The words of a comparison. */
+enum { RQ_EQUAL = 11, RQ_FIRST_WITHIN = 12, RQ_SECOND_WITHIN = 13, RQ_NO_COMMON = 14, RQ_CROSSING = 15 };
 
 /*
  * Tests an outline: the start corner (col, row) and n letters.
@@ -122,6 +128,20 @@ bool rq_loose_query(uint16_t anchor_col, uint16_t anchor_row, const int16_t *edg
  */
 bool rq_border(uint16_t anchor_col, uint16_t anchor_row, const int16_t *edges, size_t m, uint8_t *letters, size_t n, uint16_t *reply,
                size_t k);
+ * Compares the cells in two hulls, each that of an anchor and m / 2 edges, as rq_loose_query has them.
+ *
+ * The word says one of five things, of which exactly one is true: both hulls hold the same cells (equal); every cell of the first is one
+ * of the second, which has more (first within second); the other way round (second within first); no cell is in both (no common cell);
+ * or else (crossing). Two hulls may overlap and have no common cell. The piece says whose list is the inner one's: 1 for equal and first
+ * within second, 2 for second within first, else 0. Refused by 10, 11 (anchor), 16, then 11 where the walk of the edges leaves the
+ * chart, all of the first list and then of the second; place, 1 or 2: which list. The lists are not altered.
+ *
+ * False, with nothing altered, if k is below RQ_REPLY. Else true; the reply stands first in `reply`, the rest is unaltered.
+ *
+ * Stack: about STACK bytes.
+ */
+bool rq_compare(uint16_t anchor_col_1, uint16_t anchor_row_1, const int16_t *edges_1, size_t m_1, uint16_t anchor_col_2,
+                uint16_t anchor_row_2, const int16_t *edges_2, size_t m_2, uint16_t *reply, size_t k);
 
 /*
  * Runs a script of calls from a fresh holder, which has no draft and nothing at work, and writes a reply for each.

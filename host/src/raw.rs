@@ -35,6 +35,15 @@ mod library {
             m: usize,
             letters: *mut u8,
             n: usize,
+        pub fn rq_compare(
+            anchor_col_1: u16,
+            anchor_row_1: u16,
+            edges_1: *const i16,
+            m_1: usize,
+            anchor_col_2: u16,
+            anchor_row_2: u16,
+            edges_2: *const i16,
+            m_2: usize,
             reply: *mut u16,
             k: usize,
         ) -> bool;
@@ -103,6 +112,22 @@ pub fn border(anchor_col: u16, anchor_row: u16, edges: &[i16], letters: &mut [u8
             edges.len(),
             letters.as_mut_ptr(),
             letters.len(),
+/// How the cells in two hulls lie, and whose list is the inner one's. Each hull has the column and the row of its anchor, and its edges.
+///
+/// False, with nothing altered, if `reply` has no room for a reply.
+#[inline]
+pub fn compare(first: (u16, u16), edges: &[i16], second: (u16, u16), others: &[i16], reply: &mut [u16]) -> bool {
+    // SAFETY: each pointer comes with the length of its own slice, and `reply` overlaps neither of the others.
+    unsafe {
+        library::rq_compare(
+            first.0,
+            first.1,
+            edges.as_ptr(),
+            edges.len(),
+            second.0,
+            second.1,
+            others.as_ptr(),
+            others.len(),
             reply.as_mut_ptr(),
             reply.len(),
         )

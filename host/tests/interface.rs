@@ -4,6 +4,7 @@ use robequarry::limits::{CALL, LAST_CORNER, LONGEST, LONGEST_LIST, PARTIES, PLAC
 use robequarry::{raw, Action, Answer, Cell, Corner, Edges, Holder, Refusal, Taken};
 use robequarry::limits::{LAST_CORNER, LONGEST, LONGEST_LIST, REPLY};
 use robequarry::{raw, Answer, Call, Cell, Corner, Edges, Holder, Outline, Refusal, Taken};
+use robequarry::{raw, Answer, Call, Cell, Comparison, Corner, Edges, Holder, Nesting, Refusal, Taken, TurnedBack};
 
 const BAR: [u8; 8] = [1, 0, 0, 0, 3, 2, 2, 2];
 const CELL: [u8; 4] = [1, 0, 3, 2];
@@ -157,6 +158,31 @@ fn parties_and_places_stand_apart() {
     assert_eq!(holder.close(ANKLE, PLACES), Err(Refusal::Place));
     assert_eq!(holder.close(ANKLE, 0), Err(Refusal::NoDraft));
     assert_eq!(holder.begin(KNEE, Corner::new(1, 1)), Err(Refusal::DraftOpen));
+}
+
+#[test]
+fn comparisons() {
+    let edges = |col, row, numbers: &[i16]| Edges::new(Cell::new(col, row), numbers);
+    let square = edges(4, 4, &[0, 2, 2, 0, 0, -2, -2, 0]);
+    let cell = edges(5, 6, &[]);
+    let found = |nesting, inner| Ok(Comparison { nesting, inner });
+    assert_eq!(square.compare(&square.clone()), found(Nesting::Equal, Some(&square)));
+    assert_eq!(cell.compare(&square), found(Nesting::FirstWithin, Some(&cell)));
+    assert_eq!(square.compare(&cell), found(Nesting::SecondWithin, Some(&cell)));
+
+    // Two segments that cross between cells, and two that share a cell that is no corner of either.
+    let rising = edges(0, 0, &[1, 1, -1, -1]);
+    assert_eq!(rising.compare(&edges(0, 1, &[1, -1, -1, 1])), found(Nesting::NoCommonCell, None));
+    let longer = edges(0, 0, &[2, 2, -2, -2]);
+    assert_eq!(longer.compare(&edges(0, 1, &[2, 0, -2, 0])), found(Nesting::Crossing, None));
+
+    // The whole first list is asked before the second.
+    let turned = |list, refusal| Err(TurnedBack { list, refusal });
+    let (off, odd) = (edges(254, 0, &[0, 2, 2, 0, 0, -2, -2, 0]), edges(0, 0, &[1]));
+    assert_eq!(off.compare(&odd), turned(1, Refusal::Cell));
+    assert_eq!(cell.compare(&odd), turned(2, Refusal::List));
+    assert_eq!(cell.compare(&edges(0, 0, &[1, 0])), turned(2, Refusal::Turning));
+    assert_eq!(cell.compare(&edges(255, 0, &[1, 0])).unwrap_err().to_string(), "list 2: a cell number is above 254");
 }
 
 #[test]

@@ -6,10 +6,11 @@ use lib.ListN.{length}
 use lib.Dec.{leb}
 use lib.IntN.{ℤ}
 use Rattle.chart.specs.declared.Point.{Point}
-use Rattle.chart.specs.Fields.{positionFields, replyAfter}
+use Rattle.chart.specs.Fields.{positionFields, comparisonFields, replyAfter}
 use Rattle.verdict.specs.Verdict.{testFields, edgesAfter}
 use Rattle.polygon.specs.Loose.{looseOf}
 use Rattle.tracing.specs.Traced.{tracedOf, tracedFields, lettersAfter}
+use Rattle.compare.specs.Compared.{comparisonOf}
 
 -- A corner or a cell, as two numbers
 abbrev pub at : ℕ → ℕ → Point
@@ -35,3 +36,6 @@ borderReply ac ar edges letters reply = replyAfter (tracedFields (tracedOf (at a
 
 unfoldable pub borderLetters : ℕ → ℕ → List ℤ → List ℕ → List ℕ → List ℕ
 borderLetters ac ar edges letters reply = cond (leb 7 (length reply)) (lettersAfter (at ac ar) edges letters) letters
+-- A comparison: the reply list afterwards
+unfoldable pub compareReply : ℕ → ℕ → List ℤ → ℕ → ℕ → List ℤ → List ℕ → List ℕ
+compareReply ac ar es bc br fs reply = replyAfter (comparisonFields (comparisonOf (at ac ar) es (at bc br) fs)) reply

@@ -2,8 +2,10 @@
 // number, word (0 none, 1 inside, 2 outside, 3 taken, 4 same), place, piece, length, column, row; a list of fewer than seven is turned back.
 use calls::PARTIES;
 use calls::PLACES;
+// number, word (0 none, 1 inside, 2 outside, 3 taken, 4 same, 11 to 15 of a comparison), place, piece, length, column, row; a list of fewer than seven is turned back.
 use chart::Point;
 use chart::reply::NUMBERS;
+use chart::reply::of_comparison;
 use chart::reply::of_position;
 use chart::reply::of_verdict;
 use chart::reply::write;
@@ -31,6 +33,10 @@ const WORK_BYTES: usize = 416;
 ghost use Rattle.tracing.specs.Named.{BorderNamed};
 ghost use Rattle.replay.specs.Script.{callsRead, repliesAfter};
 ghost use Rattle.robequarry.specs.Face.{at, testReply, testEdges, looseReply, borderReply, borderLetters};
+ghost use Rattle.nesting.specs.Cells.{polygon};
+ghost use Rattle.compare.specs.Compared.{CellsNamed};
+ghost use Rattle.replay.specs.Script.{callsRead, repliesAfter};
+ghost use Rattle.robequarry.specs.Face.{at, testReply, testEdges, looseReply, compareReply};
 
 // Tests an outline: the start corner and the letters. The edges stand first in the list lent for them, where the outline is taken.
 #[no_mangle]
@@ -99,6 +105,31 @@ pub extern "C" fn rq_border(
     };
     let traced = border(anchor, edges, letters);
     write(of_traced(traced), reply)
+// Compares two lists of edges, each from its anchor: how the cells in their hulls lie, and whose list is the inner one's.
+#[no_mangle]
+pub extern "C" fn rq_compare(
+    anchor_col_1: u16,
+    anchor_row_1: u16,
+    edges_1: &[i16],
+    anchor_col_2: u16,
+    anchor_row_2: u16,
+    edges_2: &[i16],
+    reply: &mut [u16],
+) -> bool
+    ensures room { λ r. ⌜ r ≡ leb 7 (length (now (reply .entry))) ⌝ }
+    ensures reply { λ r. ⌜ now (reply .exit) ≡ compareReply «anchor_col_1» «anchor_row_1» (now («edges_1» .entry)) «anchor_col_2» «anchor_row_2» (now («edges_2» .entry)) (now (reply .entry)) ⌝ }
+    ensures cells { λ r. ⌜ (r ≡ true → CellsNamed (polygon (at «anchor_col_1» «anchor_row_1») (now («edges_1» .entry))) (polygon (at «anchor_col_2» «anchor_row_2») (now («edges_2» .entry))) (fieldsOf (now (reply .exit)))) ⌝ }
+{
+    let first = Point {
+        col: anchor_col_1,
+        row: anchor_row_1,
+    };
+    let second = Point {
+        col: anchor_col_2,
+        row: anchor_row_2,
+    };
+    let comparison = compare::relate(first, edges_1, second, edges_2);
+    write(of_comparison(comparison), reply)
 }
 
 // Runs a script of calls, five bytes each, from a fresh holder, writes a reply of seven numbers for each, and says how many.

@@ -10,7 +10,7 @@ use native.Mathlib.Omega.{arith}
 use lib.ListN.{length, getD}
 use borrow.Author.Tests.{leb-false, eqb-false}
 use Rattle.base.specs.Below.{first, some}
-use Rattle.base.proofs.BelowLaws.{first-step, first-stop}
+use Rattle.base.proofs.BelowLaws.{first-step, first-stop, some-of}
 use Rattle.chart.specs.Limits.{side}
 use Rattle.chart.specs.declared.Point.{Point}
 use Rattle.chart.specs.Outline.{Outline, outline}
@@ -21,7 +21,7 @@ use Rattle.lattice.proofs.WalkCode.{stays-at}
 use Rattle.flags.specs.Flags.{noNumbers, isSet, withNumber}
 use Rattle.flags.proofs.FlagLaws.{none-length, none-set, with-length, with-here, with-other}
 use Rattle.survey.specs.Numbers.{numberOf, strideOf}
-use Rattle.survey.proofs.CheckLaws.{first-zero, some-of}
+use Rattle.survey.proofs.CheckLaws.{first-zero}
 
 pub number-below : (p : Point) → OnChart p → numberOf p < 65536
 number-below p h = omega arith

@@ -14,7 +14,15 @@ pub enum Case {
     Test { outline: Outline, lent: usize, room: usize },
     Loose { anchor: Point, edges: Vec<i16>, cell: Point, room: usize },
     Border { anchor: Point, edges: Vec<i16>, lent: usize, room: usize },
+    Compare { first: Polygon, second: Polygon, room: usize },
     Script { bytes: Vec<u8>, room: usize },
+}
+
+/// An anchor and a list of edges.
+#[derive(Clone, Debug, PartialEq)]
+pub struct Polygon {
+    pub anchor: Point,
+    pub edges: Vec<i16>,
 }
 
 /// What an engine returned (a truth as 0 or 1), and every lent list as it left it.
@@ -42,6 +50,9 @@ impl Case {
             Case::Test { lent, room, .. } => (lent, 0, room),
             Case::Border { lent, room, .. } => (0, lent, room),
             Case::Loose { room, .. } | Case::Script { room, .. } => (0, 0, room),
+        let (lent, room) = match *self {
+            Case::Test { lent, room, .. } => (lent, room),
+            Case::Loose { room, .. } | Case::Compare { room, .. } | Case::Script { room, .. } => (0, room),
         };
         let mut edges: Vec<i16> = (0..lent_edges).map(|i| filler(i) as i16).collect();
         let mut letters: Vec<u8> = (0..lent_letters).map(letter_filler).collect();
@@ -52,6 +63,7 @@ impl Case {
             }
             Case::Loose { anchor, edges, cell, .. } => usize::from(engine.loose_query(*anchor, edges, *cell, &mut replies)),
             Case::Border { anchor, edges, .. } => usize::from(engine.border(*anchor, edges, &mut letters, &mut replies)),
+            Case::Compare { first, second, .. } => usize::from(engine.compare(first, second, &mut replies)),
             Case::Script { bytes, .. } => engine.replay(bytes, &mut replies),
         };
         Outcome { returned, edges, letters, replies }
@@ -139,6 +151,10 @@ impl fmt::Display for Case {
             }
             Case::Border { anchor, edges, lent, room } => {
                 write!(f, "border {} {} {} {lent} {room}", anchor.col, anchor.row, numbers_as_text(edges))
+            Case::Compare { first, second, room } => {
+                let (one, other) = (numbers_as_text(&first.edges), numbers_as_text(&second.edges));
+                let (a, b) = (first.anchor, second.anchor);
+                write!(f, "compare {} {} {one} {} {} {other} {room}", a.col, a.row, b.col, b.row)
             }
             Case::Script { bytes, room } => write!(f, "script {} {room}", bytes_as_text(bytes)),
         }
@@ -166,6 +182,9 @@ impl FromStr for Case {
                 anchor: Point::new(number(anchor_col)?, number(anchor_row)?),
                 edges: numbers_from_text(edges)?,
                 lent: number(lent)?,
+            ["compare", col, row, edges, col2, row2, edges2, room] => Ok(Case::Compare {
+                first: Polygon { anchor: Point::new(number(col)?, number(row)?), edges: numbers_from_text(edges)? },
+                second: Polygon { anchor: Point::new(number(col2)?, number(row2)?), edges: numbers_from_text(edges2)? },
                 room: number(room)?,
             }),
             ["script", bytes, room] => Ok(Case::Script { bytes: bytes_from_text(bytes)?, room: number(room)? }),
@@ -173,6 +192,8 @@ impl FromStr for Case {
                 let lines =
                     ["test COL ROW LETTERS LENT ROOM", "loose COL ROW EDGES COL ROW ROOM", "border COL ROW EDGES LENT ROOM"];
                 Err(format!("a line is `{}` or `script BYTES ROOM`", lines.join("`, `")))
+                Err("a line is `test COL ROW LETTERS LENT ROOM`, `loose COL ROW EDGES COL ROW ROOM`, `compare COL ROW EDGES COL ROW EDGES ROOM` or `script BYTES ROOM`"
+                    .to_string())
             }
         }
     }
@@ -193,6 +214,7 @@ mod tests {
             "script x00000000000000000000000400 14",
             "border 0 1 1,1,1,-1,-1,-1,-1,1 612 7",
             "border 3 4 - 4 9",
+            "compare 0 0 1,1,-1,-1 0 1 - 7",
             "script x0000000000040000000006 14",
             "script - 0",
         ];

@@ -3,6 +3,7 @@
 use robequarry::limits::{CALL, REPLY};
 use robequarry::raw::HolderMemory;
 
+use crate::case::Polygon;
 use crate::{plain, reference, Fields, Point};
 
 pub trait Engine {
@@ -13,6 +14,7 @@ pub trait Engine {
     fn loose_query(&self, anchor: Point, edges: &[i16], cell: Point, reply: &mut [u16]) -> bool;
 
     fn border(&self, anchor: Point, edges: &[i16], letters: &mut [u8], reply: &mut [u16]) -> bool;
+    fn compare(&self, first: &Polygon, second: &Polygon, reply: &mut [u16]) -> bool;
 
     fn replay(&self, script: &[u8], replies: &mut [u16]) -> usize;
 }
@@ -44,6 +46,9 @@ impl Engine for Library {
 
     fn border(&self, anchor: Point, edges: &[i16], letters: &mut [u8], reply: &mut [u16]) -> bool {
         robequarry::raw::border(anchor.col, anchor.row, edges, letters, reply)
+    fn compare(&self, first: &Polygon, second: &Polygon, reply: &mut [u16]) -> bool {
+        let (a, b) = (first.anchor, second.anchor);
+        robequarry::raw::compare((a.col, a.row), &first.edges, (b.col, b.row), &second.edges, reply)
     }
 
     fn replay(&self, script: &[u8], replies: &mut [u16]) -> usize {
@@ -93,6 +98,8 @@ impl Engine for Reference {
 
     fn border(&self, anchor: Point, edges: &[i16], letters: &mut [u8], reply: &mut [u16]) -> bool {
         answer(reply, || reference::tracing::border(anchor, edges, letters))
+    fn compare(&self, first: &Polygon, second: &Polygon, reply: &mut [u16]) -> bool {
+        answer(reply, || reference::compare::compare(first, second))
     }
 
     fn replay(&self, script: &[u8], replies: &mut [u16]) -> usize {
@@ -115,6 +122,8 @@ impl Engine for Plain {
 
     fn border(&self, anchor: Point, edges: &[i16], letters: &mut [u8], reply: &mut [u16]) -> bool {
         answer(reply, || plain::border(anchor, edges, letters))
+    fn compare(&self, first: &Polygon, second: &Polygon, reply: &mut [u16]) -> bool {
+        answer(reply, || plain::compare(first, second))
     }
 
     fn replay(&self, script: &[u8], replies: &mut [u16]) -> usize {

@@ -1,13 +1,27 @@
 //! Counts of what the inputs reached.
 
-use robequarry::codec::SAME;
+use robequarry::codec::CROSSING;
 use robequarry::limits::LAST_REFUSAL;
 
 use crate::case::{Case, Outcome};
 use crate::Fields;
 
 const NUMBERS: usize = LAST_REFUSAL as usize + 1;
-const WORDS: usize = SAME as usize + 1;
+const WORDS: usize = CROSSING as usize + 1;
+
+/// The words that some input reaches, and their names.
+const NAMES: [(usize, &str); 10] = [
+    (0, "no word"),
+    (1, "inside"),
+    (2, "outside"),
+    (3, "taken"),
+    (4, "same"),
+    (11, "equal"),
+    (12, "first within"),
+    (13, "second within"),
+    (14, "no common cell"),
+    (15, "crossing"),
+];
 
 /// How often each number and each word was replied.
 #[derive(Clone, Default)]
@@ -28,6 +42,7 @@ pub struct Tally {
     pub tests: Replies,
     pub loose_queries: Replies,
     pub borders: Replies,
+    pub comparisons: Replies,
     pub calls: Replies,
     /// Inputs whose reply list had no room.
     pub no_room: u64,
@@ -43,6 +58,7 @@ impl Tally {
             Case::Test { .. } => &mut self.tests,
             Case::Loose { .. } => &mut self.loose_queries,
             Case::Border { .. } => &mut self.borders,
+            Case::Compare { .. } => &mut self.comparisons,
             Case::Script { .. } => &mut self.calls,
         };
         for reply in outcome.fields() {
@@ -69,11 +85,18 @@ impl Tally {
             ("calls of scripts", &self.calls, &[0, 1, 2, 3, 4, 5, 6, 8, 9, 11, 12, 13, 14, 15], &[0, 1, 2, 3, 4]),
         ];
         println!("{:>16} {:>14} {:>14} {:>14} {:>16}", "number", "tests", "loose queries", "borders", "calls of scripts");
+            ("comparisons", &self.comparisons, &[0, 10, 11, 16], &[0, 11, 12, 13, 14, 15]),
+            ("calls of scripts", &self.calls, &[0, 1, 2, 3, 4, 5, 6, 8, 9, 11, 12, 13, 14, 15], &[0, 1, 2, 3, 4]),
+        ];
+        println!(
+            "{:>16} {:>14} {:>14} {:>14} {:>16}",
+            "number", "tests", "loose queries", "comparisons", "calls of scripts"
+        );
         for number in 0..NUMBERS {
             let counts = reached.map(|(_, replies, numbers, _)| cell(replies.numbers[number], numbers.contains(&number)));
             println!("{number:>16} {:>14} {:>14} {:>14} {:>16}", counts[0], counts[1], counts[2], counts[3]);
         }
-        for (word, name) in ["no word", "inside", "outside", "taken", "same"].iter().enumerate() {
+        for (word, name) in NAMES {
             let counts = reached.map(|(_, replies, _, words)| cell(replies.words[word], words.contains(&word)));
             println!("{name:>16} {:>14} {:>14} {:>14} {:>16}", counts[0], counts[1], counts[2], counts[3]);
         }

@@ -14,6 +14,8 @@ use robequarry::codec::INSIDE;
 use robequarry::limits::{LAST_CELL, LAST_CORNER, LONGEST_LIST, REPLY, SIDE};
 use robequarry::limits::{LAST_CELL, LAST_CORNER, LAST_REFUSAL, LONGEST, LONGEST_LIST, REPLY, SIDE};
 use robequarry_checks::case::Case;
+use robequarry::limits::{LAST_CELL, LAST_CORNER, LAST_REFUSAL, LONGEST_LIST, REPLY, SIDE};
+use robequarry_checks::case::{Case, Polygon};
 use robequarry_checks::draw::{rotated, Shape};
 use robequarry_checks::engine::{Engine, Library, Live, Plain, Reference};
 use robequarry_checks::garbage;
@@ -30,6 +32,7 @@ const SEED: u64 = 1;
 const SPOILT: usize = 120_000;
 const LOOSE: usize = 120_000;
 const BORDERS: usize = 60_000;
+const COMPARISONS: usize = 16_000;
 const SCRIPTS: usize = 24_000;
 
 /// Those that are held to the reference; a script is made call by call too.
@@ -86,6 +89,8 @@ fn run(seed: u64) {
     run.random_section(&format!("{SPOILT} spoilt lists of letters"), seed + 100, spoilt);
     run.random_section(&format!("{LOOSE} loose queries"), seed + 200, loose_queries);
     run.random_section(&format!("{BORDERS} borders"), seed + 400, borders);
+    run.section("every two small polygons", every_two_small_polygons);
+    run.random_section(&format!("{COMPARISONS} comparisons"), seed + 250, comparisons);
     run.random_section(&format!("{SCRIPTS} scripts of calls"), seed + 300, random_scripts);
 
     let complaints = run.tally.report();
@@ -265,6 +270,24 @@ fn loose_queries(run: &mut Run, random: &mut Random) {
 fn borders(run: &mut Run, random: &mut Random) {
     for i in 0..BORDERS {
         let case = if i % 4 == 0 { garbage::border(random) } else { polygons::border(random) };
+/// Every two of the polygons with edges of at most one column and one row, the second moved by up to two; touching, nested, equal and
+/// crossing without a common cell among them.
+fn every_two_small_polygons(run: &mut Run) {
+    let small = polygons::small();
+    for one in &small {
+        for other in &small {
+            for code in 0..25 {
+                let first = Polygon { anchor: Point::new(4, 4), edges: one.clone() };
+                let second = Polygon { anchor: Point::new(2 + code % 5, 2 + code / 5), edges: other.clone() };
+                run.compare(&Case::Compare { first, second, room: REPLY });
+            }
+        }
+    }
+}
+
+fn comparisons(run: &mut Run, random: &mut Random) {
+    for _ in 0..COMPARISONS {
+        let case = polygons::pair(random);
         run.compare(&case);
     }
 }

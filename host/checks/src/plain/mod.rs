@@ -5,6 +5,7 @@
 mod border;
 mod chart;
 mod climb;
+mod compare;
 mod holder;
 mod loose;
 mod test;
@@ -13,6 +14,8 @@ mod words;
 
 pub use chart::refusal as walk_refusal;
 pub use holder::{replay, Holder};
+pub use compare::compare;
+pub use holder::replay;
 pub use loose::loose_query;
 pub use test::test;
 pub use tracing::border;

@@ -6,6 +6,7 @@ pub mod book;
 pub mod border;
 pub mod calls;
 pub mod cells;
+pub mod compare;
 pub mod edges;
 pub mod files;
 pub mod readings;
