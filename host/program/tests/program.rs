@@ -1,0 +1,143 @@
+//! The program, run as a user runs it: what it writes and how it ends.
+
+use std::fs;
+use std::io::Write;
+use std::path::PathBuf;
+use std::process::{Command, Output, Stdio};
+
+const SPECIMENS: &str = concat!(env!("CARGO_MANIFEST_DIR"), "/specimens.txt");
+
+fn program(arguments: &[&str]) -> Output {
+    Command::new(env!("CARGO_BIN_EXE_robequarry")).args(arguments).output().expect("cargo has built it")
+}
+
+fn status(output: &Output) -> i32 {
+    output.status.code().expect("it ends by itself")
+}
+
+fn out(output: &Output) -> String {
+    String::from_utf8(output.stdout.clone()).expect("the output is text")
+}
+
+fn err(output: &Output) -> String {
+    String::from_utf8(output.stderr.clone()).expect("the output is text")
+}
+
+/// A file for a test, with these bytes.
+fn file(name: &str, bytes: &[u8]) -> String {
+    let path = PathBuf::from(env!("CARGO_TARGET_TMPDIR")).join(name);
+    fs::write(&path, bytes).expect("the folder for tests can be written");
+    path.to_str().expect("the folder's name is text").to_string()
+}
+
+/// The record of a fitting file.
+fn record(start: (u8, u8), letters: &[u8]) -> Vec<u8> {
+    let count = (letters.len() as u16).to_le_bytes();
+    [&[0x4B, 0x4F, start.0, start.1, count[0], count[1]], letters].concat()
+}
+
+const PLUS: [u8; 12] = [1, 0, 1, 0, 3, 0, 3, 2, 3, 2, 1, 2];
+const DENTED: [u8; 12] = [1, 1, 1, 0, 3, 3, 0, 0, 3, 2, 2, 2];
+
+#[test]
+fn check_says_each_verdict_in_words() {
+    let checked = program(&["check", SPECIMENS]);
+    assert_eq!(out(&checked), include_str!("check.txt"));
+    assert_eq!((status(&checked), err(&checked).as_str()), (1, ""));
+}
+
+#[test]
+fn explain_tells_a_story() {
+    for (number, story, expected) in [
+        ("2", include_str!("explain-H3.txt"), 0),
+        ("5", include_str!("explain-H6.txt"), 1),
+        ("6", include_str!("explain-H7.txt"), 1),
+        ("11", include_str!("explain-H12.txt"), 1),
+    ] {
+        let told = program(&["explain", SPECIMENS, "--outline", number]);
+        assert_eq!((out(&told).as_str(), status(&told)), (story, expected));
+    }
+}
+
+#[test]
+fn a_fitting_file_is_read_as_well() {
+    let both = file("both.fit", &[record((0, 1), &PLUS), record((0, 0), &DENTED)].concat());
+    let checked = program(&["check", &both]);
+    let lines = "outline 0: taken - 4 edges, anchor (0, 1)\n\
+                 outline 1: refused, 9: a dent - cell (1, 1) is missing; 4 letters from place 4 in piece 2 (N to E: down and right)\n\
+                 2 outlines: 1 taken, 1 refused\n";
+    assert_eq!((out(&checked).as_str(), status(&checked)), (lines, 1));
+    let plus = file("plus.fit", &record((0, 1), &PLUS));
+    assert_eq!(status(&program(&["check", &plus])), 0);
+    let empty = program(&["check", &file("empty.fit", &[])]);
+    assert_eq!((out(&empty).as_str(), status(&empty)), ("", 0));
+}
+
+#[test]
+fn the_lines_before_a_fault_stand() {
+    let plus = record((0, 1), &PLUS);
+    for (name, bytes, fault) in [
+        ("mark.fit", [&plus[..], b"KX"].concat(), "fault 23: outline 1 has no mark: the bytes 4B 4F are not at byte 18"),
+        ("cut.fit", [&plus[..], &plus[..17]].concat(), "fault 24: outline 1 is cut: its mark is at byte 18"),
+        (
+            "text.txt",
+            b"0 1 101030323212\n0 0 abc\n".to_vec(),
+            "line 2: letters are 0 right, 1 up, 2 left and 3 down, not `a`",
+        ),
+    ] {
+        let path = file(name, &bytes);
+        let checked = program(&["check", &path]);
+        assert_eq!(out(&checked), "outline 0: taken - 4 edges, anchor (0, 1)\n");
+        assert_eq!(err(&checked), format!("robequarry: {path}: {fault}\n"));
+        assert_eq!(status(&checked), 2);
+    }
+    let large = file("large.fit", &plus.repeat(4000));
+    let checked = program(&["check", &large]);
+    assert_eq!((out(&checked).as_str(), status(&checked)), ("", 2));
+    assert!(err(&checked).ends_with("fault 25: a fitting file has at most 65536 bytes\n"));
+}
+
+#[test]
+fn standard_input_is_a_file_too() {
+    let mut command = Command::new(env!("CARGO_BIN_EXE_robequarry"));
+    command.args(["check", "-", "--fitting"]).stdin(Stdio::piped()).stdout(Stdio::piped());
+    let mut child = command.spawn().expect("cargo has built it");
+    child.stdin.take().expect("it is piped").write_all(&record((9, 9), &PLUS)).expect("it is read");
+    let checked = child.wait_with_output().expect("it ends");
+    assert!(out(&checked).starts_with("outline 0: taken - 4 edges, anchor (9, 9)\n"));
+}
+
+#[test]
+fn faults_of_a_call() {
+    for (arguments, message) in [
+        (&[][..], "no command is given"),
+        (&["chekc"], "there is no command `chekc`"),
+        (&["check"], "check takes one file; nothing is given"),
+        (&["check", "a", "b"], "check takes one file; `b` is one too many"),
+        (&["check", "--colour", "a"], "there is no option --colour here"),
+        (&["explain", SPECIMENS, "--outline", "x"], "--outline needs a number, not `x`"),
+    ] {
+        let called = program(arguments);
+        assert_eq!(err(&called), format!("robequarry: {message}\nTry `robequarry --help`.\n"));
+        assert_eq!((out(&called).as_str(), status(&called)), ("", 2));
+    }
+    let none = program(&["explain", SPECIMENS, "-n", "16"]);
+    assert_eq!(err(&none), format!("robequarry: {SPECIMENS}: there is no outline 16: its outlines are numbered 0 to 15\n"));
+    assert_eq!(status(&none), 2);
+    let missing = program(&["check", "no/such/file"]);
+    assert!(err(&missing).starts_with("robequarry: no/such/file: cannot be read: "));
+    assert_eq!(status(&missing), 2);
+}
+
+#[test]
+fn help_names_every_command() {
+    let help = program(&["--help"]);
+    assert_eq!((status(&help), err(&help).as_str()), (0, ""));
+    let commands = out(&help);
+    for command in commands.lines().skip_while(|line| *line != "Commands:").skip(1).take_while(|line| !line.is_empty()) {
+        let name = command.split_whitespace().next().expect("a command has a name");
+        let more = program(&[name, "--help"]);
+        assert!(out(&more).starts_with(&format!("robequarry {name}")), "{name}");
+        assert_eq!(out(&program(&["help", name])), out(&more));
+    }
+}
