@@ -27,7 +27,7 @@ pub fn factors(word: &[bool]) -> Vec<Factor> {
 fn longest_power(word: &[bool]) -> (usize, usize) {
     let (mut length, mut reach) = (1, 1);
     while reach < word.len() && word[reach] >= word[reach - length] {
-        if word[reach] > word[reach - length] {
+        if word[reach] && !word[reach - length] {
             length = reach + 1;
         }
         reach += 1;

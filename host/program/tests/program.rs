@@ -1,5 +1,7 @@
 //! The program, run as a user runs it: what it writes and how it ends.
 
+mod support;
+
 use std::fs;
 use std::io::Write;
 use std::path::PathBuf;
@@ -140,4 +142,30 @@ fn help_names_every_command() {
         assert!(out(&more).starts_with(&format!("robequarry {name}")), "{name}");
         assert_eq!(out(&program(&["help", name])), out(&more));
     }
+}
+
+#[test]
+fn draw_writes_a_picture_of_any_outline() {
+    let path = file("drawn.svg", b"");
+    for (number, expected) in [("2", 0), ("5", 1), ("9", 1)] {
+        let drawn = program(&["draw", SPECIMENS, "-n", number, "-o", &path]);
+        assert_eq!((status(&drawn), out(&drawn), err(&drawn)), (expected, String::new(), String::new()));
+        let svg = fs::read_to_string(&path).expect("it was written");
+        support::parse(&svg);
+        let shown = program(&["draw", SPECIMENS, "-n", number, "-o", "-"]);
+        assert_eq!(out(&shown), svg);
+    }
+    let nowhere = program(&["draw", SPECIMENS, "-o", "no/such/folder/a.svg"]);
+    assert!(err(&nowhere).starts_with("robequarry: no/such/folder/a.svg: cannot be written: "));
+    assert_eq!(status(&nowhere), 2);
+    let nameless = program(&["draw", SPECIMENS]);
+    assert!(err(&nameless).starts_with("robequarry: draw needs a name for its picture: -o OUT.svg\n"));
+}
+
+#[test]
+fn gallery_fills_a_folder() {
+    let folder = PathBuf::from(env!("CARGO_TARGET_TMPDIR")).join("gallery");
+    let filled = program(&["gallery", folder.to_str().expect("the folder's name is text")]);
+    assert_eq!(out(&filled), format!("23 pictures in {}\n", folder.display()));
+    assert!(folder.join("H3.svg").is_file() && folder.join("specimens.svg").is_file());
 }

@@ -1,7 +1,9 @@
 //! The commands, each with its help, and what all of them share: files, faults and exit statuses.
 
 mod check;
+mod draw;
 mod explain;
+mod gallery;
 
 use std::ffi::OsString;
 use std::io;
@@ -57,7 +59,7 @@ struct Command {
     run: fn(&Arguments, &mut Console) -> Result<Status, Failure>,
 }
 
-const COMMANDS: &[&Command] = &[&check::COMMAND, &explain::COMMAND];
+const COMMANDS: &[&Command] = &[&check::COMMAND, &draw::COMMAND, &explain::COMMAND, &gallery::COMMAND];
 
 const INTRODUCTION: &str = "\
 robequarry says whether a block of cells on a chart of 255 by 255 is convex, and why if it is not.
