@@ -6,6 +6,7 @@
 mod arguments;
 mod commands;
 mod console;
+pub mod engine;
 pub mod explain;
 pub mod fitting;
 pub mod gallery;

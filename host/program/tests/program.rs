@@ -169,3 +169,28 @@ fn gallery_fills_a_folder() {
     assert_eq!(out(&filled), format!("23 pictures in {}\n", folder.display()));
     assert!(folder.join("H3.svg").is_file() && folder.join("specimens.svg").is_file());
 }
+
+#[test]
+fn rows_of_a_block() {
+    let rows = program(&["row", SPECIMENS, "-n", "2"]);
+    assert_eq!(out(&rows), "row 0: columns 1 to 1\nrow 1: columns 0 to 2\nrow 2: columns 1 to 1\n");
+    assert_eq!(out(&program(&["row", SPECIMENS, "1", "-n", "2"])), "row 1: columns 0 to 2\n");
+    assert_eq!(out(&program(&["row", SPECIMENS, "3", "-n", "2"])), "row 3: none\n");
+    let off = program(&["row", SPECIMENS, "255"]);
+    assert_eq!((out(&off).as_str(), status(&off)), ("refused, 11: a cell number is above 254\n", 1));
+    let dented = program(&["row", SPECIMENS, "0", "-n", "5"]);
+    assert!(out(&dented).starts_with("outline 5 (H6: a dent): refused, 9: "));
+    assert_eq!(status(&dented), 1);
+    let wrong = program(&["row", SPECIMENS, "-1"]);
+    assert_eq!(err(&wrong), "robequarry: `-1` is not a row\nTry `robequarry --help`.\n");
+}
+
+#[test]
+fn bench_times_each_outline() {
+    let timed = program(&["bench", &file("bench.fit", &[record((0, 1), &PLUS), record((0, 0), &DENTED)].concat())]);
+    let lines = out(&timed);
+    let lines: Vec<Vec<&str>> = lines.lines().map(|line| line.split_whitespace().collect()).collect();
+    assert_eq!(lines.len(), 3);
+    assert!(lines[1][1].parse::<f64>().unwrap() > 0.0 && lines[1][2].parse::<f64>().unwrap() > 0.0);
+    assert_eq!((lines[2][0], lines[2][2], status(&timed)), ("12", "-", 1));
+}

@@ -1,13 +1,16 @@
 //! The commands, each with its help, and what all of them share: files, faults and exit statuses.
 
+mod bench;
 mod check;
 mod draw;
 mod explain;
 mod gallery;
+mod row;
 
-use std::ffi::OsString;
+use std::ffi::{OsStr, OsString};
 use std::io;
 use std::path::{Path, PathBuf};
+use std::str::FromStr;
 
 use crate::arguments::Arguments;
 use crate::console;
@@ -59,7 +62,8 @@ struct Command {
     run: fn(&Arguments, &mut Console) -> Result<Status, Failure>,
 }
 
-const COMMANDS: &[&Command] = &[&check::COMMAND, &draw::COMMAND, &explain::COMMAND, &gallery::COMMAND];
+const COMMANDS: &[&Command] =
+    &[&check::COMMAND, &explain::COMMAND, &draw::COMMAND, &row::COMMAND, &bench::COMMAND, &gallery::COMMAND];
 
 const INTRODUCTION: &str = "\
 robequarry says whether a block of cells on a chart of 255 by 255 is convex, and why if it is not.
@@ -153,6 +157,12 @@ fn plain<'a, const N: usize>(arguments: &'a Arguments, what: &str) -> Result<[&'
         };
         Failure::Call(format!("{what}; {given}"))
     })
+}
+
+/// A number among the plain words.
+fn number<T: FromStr>(word: &OsStr, what: &str) -> Result<T, Failure> {
+    let number = word.to_str().and_then(|word| word.parse().ok());
+    number.ok_or_else(|| Failure::Call(format!("`{}` is not {what}", word.to_string_lossy())))
 }
 
 fn read(path: &Path, arguments: &Arguments) -> Result<Vec<u8>, Failure> {
