@@ -293,13 +293,14 @@ function example(index) {
   visit();
 }
 
-async function begin() {
-  signs(by("signs"));
+async function listExamples() {
   const texts = await Promise.all(["specimens.txt", "training.txt"].map((name) => fetch(name).then((answer) => answer.text())));
   examples = texts.flatMap(named);
   const choice = (words, value) => Object.assign(document.createElement("option"), { textContent: words, value });
   by("example").replaceChildren(choice("choose one", "-1"), ...examples.map(({ name }, i) => choice(name, String(i))));
+}
 
+function listenToChart() {
   const chart = by("chart");
   chart.addEventListener("pointerdown", down);
   chart.addEventListener("pointermove", moved);
@@ -308,6 +309,34 @@ async function begin() {
   chart.addEventListener("contextmenu", (event) => event.preventDefault());
   chart.addEventListener("keydown", key);
   chart.addEventListener("wheel", wheel, { passive: false });
+  new ResizeObserver(show).observe(chart);
+}
+
+const CLICKS = {
+  undo,
+  redo,
+  clear: () => change(replaced(BLANK)),
+  in: () => zoom(1.25),
+  out: () => zoom(0.8),
+  fit,
+  whole: () => (view.fit([[0, 0], [255, 255]]), show()),
+  save,
+  add: () => change({ records: [...state.records, BLANK], at: state.records.length }),
+  back: () => (set({ ...state, at: state.at - 1 }), visit()),
+  on: () => (set({ ...state, at: state.at + 1 }), visit()),
+  "example-back": () => example(Math.max(0, Number(by("example").value) - 1)),
+  "example-on": () => example(Number(by("example").value) + 1),
+};
+
+function listenToTools() {
+  for (const [id, work] of Object.entries(CLICKS)) by(id).addEventListener("click", work);
+  for (const radio of document.querySelectorAll('input[name="pen"]')) radio.addEventListener("change", () => choose(radio.value));
+  by("example").addEventListener("change", () => example(Number(by("example").value)));
+  by("load").addEventListener("change", async (event) => {
+    const [file] = event.target.files;
+    if (file) await load(file);
+    event.target.value = "";
+  });
   document.addEventListener("keydown", (event) => {
     if (!(event.ctrlKey || event.metaKey)) return;
     const again = event.key === "y" || event.key === "Z";
@@ -316,30 +345,13 @@ async function begin() {
     if (again) redo();
     else undo();
   });
-  const clicks = {
-    undo,
-    redo,
-    clear: () => change(replaced(BLANK)),
-    in: () => zoom(1.25),
-    out: () => zoom(0.8),
-    fit,
-    whole: () => (view.fit([[0, 0], [255, 255]]), show()),
-    save,
-    add: () => change({ records: [...state.records, BLANK], at: state.records.length }),
-    back: () => (set({ ...state, at: state.at - 1 }), visit()),
-    on: () => (set({ ...state, at: state.at + 1 }), visit()),
-    "example-back": () => example(Math.max(0, Number(by("example").value) - 1)),
-    "example-on": () => example(Number(by("example").value) + 1),
-  };
-  for (const [id, work] of Object.entries(clicks)) by(id).addEventListener("click", work);
-  for (const radio of document.querySelectorAll('input[name="pen"]')) radio.addEventListener("change", () => choose(radio.value));
-  by("example").addEventListener("change", () => example(Number(by("example").value)));
-  by("load").addEventListener("change", async (event) => {
-    const [file] = event.target.files;
-    if (file) await load(file);
-    event.target.value = "";
-  });
-  new ResizeObserver(show).observe(chart);
+}
+
+async function begin() {
+  signs(by("signs"));
+  await listExamples();
+  listenToChart();
+  listenToTools();
   fit();
   document.documentElement.dataset.ready = "yes";
 }

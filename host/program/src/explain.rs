@@ -6,7 +6,7 @@ use robequarry::{Edges, Outline, Refusal, Verdict};
 
 use crate::story::{Piece, Story, LETTERS, NAMES};
 use crate::verdict::{at, count, Said};
-use crate::walk::{direction, start, Point};
+use crate::walk::{corner_cells, direction, start};
 use crate::words::{christoffel, divisor, is_christoffel, Factor};
 
 /// Lines are broken before they get longer than this.
@@ -28,7 +28,7 @@ pub fn explain(title: &str, outline: &Outline, verdict: &Verdict) -> String {
     text.push('\n');
     paragraph(&mut text, "", &format!("{} - {}", capital(&said.what), said.place));
     if let Ok(edges) = verdict {
-        corner_cells(&mut text, edges);
+        round_the_hull(&mut text, edges);
     }
     text
 }
@@ -107,17 +107,12 @@ fn why_not(piece: &Piece, copy: &[bool]) -> String {
     }
 }
 
-fn corner_cells(text: &mut String, edges: &Edges) {
-    if edges.steps().len() == 0 {
-        return paragraph(text, "", "The hull is the anchor alone.");
+fn round_the_hull(text: &mut String, edges: &Edges) {
+    let cells: Vec<String> = corner_cells(edges).into_iter().map(at).collect();
+    match cells.len() {
+        1 => paragraph(text, "", "The hull is the anchor alone."),
+        _ => paragraph(text, "", &format!("The edges lead from cell to cell: {}", cells.join(" > "))),
     }
-    let mut cell: Point = (edges.anchor().col.into(), edges.anchor().row.into());
-    let mut way = at(cell);
-    for (cols, rows) in edges.steps() {
-        cell = (cell.0 + i32::from(cols), cell.1 + i32::from(rows));
-        write!(way, " > {}", at(cell)).expect("a string has room");
-    }
-    paragraph(text, "", &format!("The edges lead from cell to cell: {way}"));
 }
 
 /// A word in the letters of its piece.

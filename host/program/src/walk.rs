@@ -1,7 +1,7 @@
 //! Letters walked from corner to corner, on the chart or off it.
 
 use robequarry::limits::{LAST_CORNER, LAST_LETTER};
-use robequarry::Outline;
+use robequarry::{Edges, Outline};
 
 /// A corner, or a cell by its lower left corner, on the chart or off it: column, then row.
 pub type Point = (i32, i32);
@@ -54,4 +54,15 @@ pub fn walkable(outline: &Outline) -> Vec<Point> {
         met.truncate(off + 1);
     }
     met
+}
+
+/// The cells at which edges meet, the anchor at both ends; the anchor alone where there is no edge.
+pub fn corner_cells(edges: &Edges) -> Vec<Point> {
+    let mut cell: Point = (edges.anchor().col.into(), edges.anchor().row.into());
+    let mut cells = vec![cell];
+    for (cols, rows) in edges.steps() {
+        cell = (cell.0 + i32::from(cols), cell.1 + i32::from(rows));
+        cells.push(cell);
+    }
+    cells
 }

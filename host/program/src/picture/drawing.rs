@@ -4,8 +4,9 @@ use robequarry::limits::LAST_CORNER;
 use robequarry::{Outline, Refusal, Verdict};
 
 use crate::explain::told;
-use crate::story::{Rows, Story, NAMES};
-use crate::walk::{corners, start, step, walkable, Point};
+use crate::story::{Piece, Rows, Story, NAMES};
+use crate::verdict::at;
+use crate::walk::{corner_cells, corners, start, step, walkable, Point};
 
 #[derive(Default)]
 pub struct Drawing {
@@ -71,74 +72,66 @@ impl Drawing {
 /// Of an outline past refusals 1 to 6: its block.
 fn block(outline: &Outline, verdict: &Verdict) -> Drawing {
     let story = Story::of(outline);
+    let piece = |piece: &Piece| (piece.number, story.corners_of(piece.from, piece.letters.len()));
     let mut drawing = Drawing { rows: story.rows.clone(), start: Some(start(outline)), ..Drawing::default() };
     drawing.names = story.pieces.iter().zip(NAMES).map(|(piece, name)| (name, story.corners[piece.from])).collect();
-    drawing.pieces =
-        story.pieces.iter().map(|piece| (piece.number, story.corners_of(piece.from, piece.letters.len()))).collect();
+    drawing.pieces = story.pieces.iter().map(piece).collect();
     match verdict {
-        Ok(edges) => {
-            let mut cell: Point = (edges.anchor().col.into(), edges.anchor().row.into());
-            drawing.edges.push(cell);
-            for (cols, rows) in edges.steps() {
-                cell = (cell.0 + i32::from(cols), cell.1 + i32::from(rows));
-                drawing.edges.push(cell);
-            }
-        }
-        Err(Refusal::Dent { piece, place, length, missing }) => {
-            let from = story.on_border(*place);
+        Ok(edges) => drawing.edges = corner_cells(edges),
+        Err(refusal) => {
             drawing.missing = story.missing();
-            drawing.named = Some((missing.col.into(), missing.row.into()));
-            drawing.factor = story.cells_of((*piece).into(), from, *length);
+            reason(&mut drawing, &story, *refusal);
         }
-        Err(Refusal::BackStep { piece, place }) => {
-            let at = story.on_border(*place);
-            drawing.missing = story.missing();
-            drawing.fault =
-                Some(Fault { kind: Kind::Step(story.corners[at], story.corners[at + 1]), label: format!("place {place}") });
-            // The pieces are known up to the back-step; the rest is drawn plain.
-            let known = usize::from(*piece);
-            let from = story.pieces[known - 1].from;
-            drawing.pieces.truncate(known);
-            drawing.pieces[known - 1].1 = story.corners_of(from, (at + story.border.len() - from) % story.border.len());
-            drawing.walk = story.corners_of(at, story.border.len() - at);
-        }
-        Err(_) => unreachable!("the outline has a block"),
     }
     drawing
 }
 
+/// Marks a dent or a back-step.
+fn reason(drawing: &mut Drawing, story: &Story, refusal: Refusal) {
+    match refusal {
+        Refusal::Dent { piece, place, length, missing } => {
+            drawing.named = Some((missing.col.into(), missing.row.into()));
+            drawing.factor = story.cells_of(piece.into(), story.on_border(place), length);
+        }
+        Refusal::BackStep { piece, place } => {
+            let at = story.on_border(place);
+            let kind = Kind::Step(story.corners[at], story.corners[at + 1]);
+            drawing.fault = Some(Fault { kind, label: format!("place {place}") });
+            // The pieces are known up to the back-step; the rest is drawn plain.
+            let known = usize::from(piece);
+            let (from, count) = (story.pieces[known - 1].from, story.border.len());
+            drawing.pieces.truncate(known);
+            drawing.pieces[known - 1].1 = story.corners_of(from, (at + count - from) % count);
+            drawing.walk = story.corners_of(at, count - at);
+        }
+        _ => unreachable!("no other refusal is of a block"),
+    }
+}
+
 /// Of an outline that one of refusals 1 to 6 turned back: its walk.
 fn walk(outline: &Outline, verdict: &Verdict) -> Drawing {
-    let mut met = walkable(outline);
-    let mut drawing = Drawing::default();
+    let met = walkable(outline);
     let up_to = |place: usize| met[..=place.min(met.len() - 1)].to_vec();
-    let (kept, fault) = match verdict {
+    let (walk, kind, label) = match verdict {
         Err(Refusal::Start) => {
             let off = i32::from(LAST_CORNER) + 1;
-            let near = (met[0].0.min(off), met[0].1.min(off));
-            met.clear();
-            (vec![], Some((Kind::Corner(near), format!("start {:?}", start(outline)))))
+            let near = Kind::Corner((met[0].0.min(off), met[0].1.min(off)));
+            let fault = Some(Fault { kind: near, label: format!("start {}", at(met[0])) });
+            return Drawing { fault, ..Drawing::default() };
         }
         Err(Refusal::Letter { place }) => {
             // The byte may stand behind a letter that leaves the chart.
             let walk = corners(met[0], &outline.letters[..*place]);
-            let corner = walk[*place];
-            (walk, Some((Kind::Corner(corner), format!("byte {}, place {place}", outline.letters[*place]))))
+            let corner = Kind::Corner(walk[*place]);
+            (walk, corner, format!("byte {}, place {place}", outline.letters[*place]))
         }
         Err(Refusal::Leaves { place } | Refusal::Touches { place }) => {
             let walk = up_to(*place);
             let from = walk[walk.len() - 1];
-            let to = step(from, outline.letters[*place]);
-            (walk, Some((Kind::Step(from, to), format!("place {place}"))))
+            (walk, Kind::Step(from, step(from, outline.letters[*place])), format!("place {place}"))
         }
-        Err(Refusal::Unclosed) => {
-            let ends = (met[met.len() - 1], met[0]);
-            (met.clone(), Some((Kind::Gap(ends.0, ends.1), "open".to_string())))
-        }
-        _ => (met.clone(), None),
+        Err(Refusal::Unclosed) => (met.clone(), Kind::Gap(met[met.len() - 1], met[0]), "open".to_string()),
+        _ => return Drawing { start: Some(met[0]), walk: met, ..Drawing::default() },
     };
-    drawing.start = met.first().copied();
-    drawing.walk = kept;
-    drawing.fault = fault.map(|(kind, label)| Fault { kind, label });
-    drawing
+    Drawing { start: Some(met[0]), walk, fault: Some(Fault { kind, label }), ..Drawing::default() }
 }

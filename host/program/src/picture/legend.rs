@@ -13,7 +13,7 @@ pub const LINE: f64 = 22.0;
 /// The room of a sign, before its words.
 const SIGN: f64 = 46.0;
 
-#[derive(Clone, Copy, PartialEq, PartialOrd)]
+#[derive(Clone, Copy, PartialEq, Eq, PartialOrd, Ord)]
 pub enum Sign {
     Cells,
     Piece(usize),

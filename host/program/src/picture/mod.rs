@@ -5,6 +5,7 @@ mod frame;
 mod labels;
 mod legend;
 mod plot;
+mod sheet;
 mod svg;
 
 use robequarry::{Outline, Verdict};
@@ -13,7 +14,8 @@ use crate::explain::{digits, wrapped};
 use crate::verdict::Said;
 use drawing::Drawing;
 use frame::Frame;
-use legend::{legend, signs, Sign};
+use legend::{legend, signs};
+pub use sheet::{sheet, Tile};
 use svg::Svg;
 
 const STYLE: &str = include_str!("style.css");
@@ -78,54 +80,4 @@ fn heading(title: &str, said: &Said, outline: &Outline, width: f64) -> Vec<(&'st
     };
     lines.push(("letters", letters));
     lines
-}
-
-/// One of the outlines of a sheet.
-pub struct Tile<'a> {
-    pub title: &'a str,
-    pub outline: &'a Outline,
-    pub verdict: &'a Verdict,
-}
-
-/// Many outlines on one sheet, with one legend for all of them. `columns` tiles stand in a row; `most` is the side of a plot.
-pub fn sheet(title: &str, tiles: &[Tile], columns: usize, most: f64) -> String {
-    const NUMBERS: f64 = 30.0;
-    const HEAD: f64 = 58.0;
-    let drawings: Vec<Drawing> = tiles.iter().map(|tile| Drawing::of(tile.outline, tile.verdict)).collect();
-    let frames: Vec<Frame> = drawings.iter().map(|drawing| Frame::round(&drawing.corners(), most, 40.0)).collect();
-    let width = NUMBERS + most + MARGIN;
-    let heights: Vec<f64> = frames.chunks(columns).map(|row| row.iter().map(Frame::height).fold(0.0, f64::max)).collect();
-    let tops: Vec<f64> = heights
-        .iter()
-        .scan(MARGIN, |top, height| {
-            let this = *top;
-            *top += HEAD + height + NUMBERS + 10.0;
-            Some(this)
-        })
-        .collect();
-    let mut all: Vec<Sign> = drawings.iter().zip(&frames).flat_map(|(drawing, frame)| signs(drawing, frame)).collect();
-    all.sort_by(|a, b| a.partial_cmp(b).expect("signs have an order"));
-    all.dedup();
-
-    let whole = 2.0 * MARGIN + width * columns as f64 - MARGIN;
-    let keys = tops[tops.len() - 1] + HEAD + heights[heights.len() - 1] + NUMBERS + 16.0;
-    let key_columns = (((whole - 2.0 * MARGIN) / COLUMN) as usize).max(1);
-    let height = keys + legend::height(all.len(), key_columns) + MARGIN;
-    let mut svg = Svg::new(whole, height, title, STYLE, HATCH);
-    for (i, ((tile, drawing), mut frame)) in tiles.iter().zip(&drawings).zip(frames).enumerate() {
-        let (x, top) = (MARGIN + width * (i % columns) as f64, tops[i / columns]);
-        let said = Said::of(tile.outline, tile.verdict);
-        svg.open("g", &[("class", &"tile-of"), ("id", &format!("tile-{i}"))]);
-        svg.words("tile", x, top + 12.0, tile.title);
-        let words = wrapped(&said.what, ((width - MARGIN) / 7.4) as usize);
-        let place = said.place.split(';').next().unwrap_or("").to_string();
-        for (line, text) in words.iter().chain(&wrapped(&place, ((width - MARGIN) / 7.4) as usize)).take(2).enumerate() {
-            svg.words("said", x, top + 31.0 + 16.0 * line as f64, text);
-        }
-        frame.put(x + NUMBERS + (most - frame.width()) / 2.0, top + HEAD);
-        plot::plot(&mut svg, drawing, &frame, false);
-        svg.close();
-    }
-    legend(&mut svg, &all, MARGIN, keys, key_columns, COLUMN);
-    svg.end()
 }
