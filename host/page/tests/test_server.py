@@ -2,10 +2,14 @@
 
 import http.client
 import json
+import re
+import signal
 import socket
+import subprocess
+import sys
 import unittest
 
-from support import Served, record
+from support import HERE, LIBRARY, Served, record
 
 
 class Server(unittest.TestCase):
@@ -74,6 +78,19 @@ class Server(unittest.TestCase):
 
     def test_loopback_alone(self):
         self.assertEqual(self.served.server.server_address[0], "127.0.0.1")
+
+    def test_as_a_command_it_prints_its_port_and_ends_by_ctrl_c(self):
+        command = [sys.executable, str(HERE.parent / "serve.py"), "--library", LIBRARY]
+        with subprocess.Popen(command, stdout=subprocess.PIPE, text=True) as process:
+            self.addCleanup(process.kill)
+            line = process.stdout.readline()
+            port = int(re.fullmatch(r"page: http://127\.0\.0\.1:(\d+)/ - Ctrl-C ends it\n", line)[1])
+            socket.create_connection(("127.0.0.1", port), timeout=10).close()
+            process.send_signal(signal.SIGINT)
+            self.assertEqual(process.wait(10), 0)
+        taken = subprocess.run([*command, "--port", str(self.served.port)], capture_output=True, text=True, timeout=10)
+        self.assertEqual(taken.returncode, 1)
+        self.assertIn(f"page: cannot listen on port {self.served.port}", taken.stderr)
 
 
 if __name__ == "__main__":
