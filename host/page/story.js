@@ -11,7 +11,7 @@ const TO_CELL = [[0, -1], [-1, -1], [-1, 0], [0, 0]];
 const first = (corners, order) => corners.reduce((best, _, i) => (order(corners[i], corners[best]) < 0 ? i : best), 0);
 
 // The clockwise reading begun at W, with a way to find the letters as sent on it.
-function reading(start, letters) {
+export function reading(start, letters) {
   const count = letters.length;
   const sent = walk(start, letters).slice(0, count);
   const west = first(sent, (a, b) => a[0] - b[0] || a[1] - b[1]);

@@ -1,7 +1,7 @@
 // Replies in plain words: what the number means, where, and what to do.
 
 import { STEPS, walk } from "./chart.js";
-import { LETTERS } from "./story.js";
+import { LETTERS, reading } from "./story.js";
 
 const DIRECTIONS = ["right", "up", "left", "down"];
 
@@ -15,6 +15,13 @@ const piece = (n) => {
 };
 
 const named = (letters, place) => `letter ${letters[place]} (${DIRECTIONS[letters[place]] ?? "no letter"}) at place ${place}`;
+
+// A letter of a piece, as the clockwise reading has it.
+const read = ({ start, letters }, place) => {
+  if (reading(start, letters).clockwise) return named(letters, place);
+  const letter = letters[place];
+  return `letter ${letter} (${DIRECTIONS[letter]}, read backward as ${DIRECTIONS[letter ^ 2]}) at place ${place}`;
+};
 
 const FILL = "Mark the hatched cells too, or take away cells until nothing is hatched.";
 
@@ -65,14 +72,14 @@ export function replied({ start, letters }, reply) {
       return {
         what: "Refused, 8: a back-step",
         meaning: "The border turns back on its way, so the block has a notch: a cell of the hull is missing.",
-        where: `The ${named(letters, reply.place)}, in ${piece(reply.piece)}.`,
+        where: `The ${read({ start, letters }, reply.place)}, in ${piece(reply.piece)}.`,
         advice: FILL,
       };
     case 9:
       return {
         what: "Refused, 9: a dent",
         meaning: `The border bends inwards: the cell ${at([reply.column, reply.row])} lies in the hull and is not marked. It is the lowest missing cell.`,
-        where: `${count(reply.length, "letter")} from place ${reply.place}, in ${piece(reply.piece)}.`,
+        where: `${count(reply.length, "letter")} from place ${reply.place}${reading(start, letters).clockwise ? "" : " downwards"}, in ${piece(reply.piece)}.`,
         advice: FILL,
       };
     default:
