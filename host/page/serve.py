@@ -155,8 +155,8 @@ def main():
         made = server(arguments.library, arguments.port)
     except (OSError, OverflowError) as error:
         sys.exit(f"page: cannot listen on port {arguments.port} of {ADDRESS}: {error}")
-    print(f"page: http://{ADDRESS}:{made.server_address[1]}/ - Ctrl-C ends it", flush=True)
     try:
+        print(f"page: http://{ADDRESS}:{made.server_address[1]}/ - Ctrl-C ends it", flush=True)
         made.serve_forever()
     except KeyboardInterrupt:
         print()

@@ -55,7 +55,7 @@ class Page(unittest.TestCase):
         self.browser.execute_cdp_cmd("Emulation.setEmulatedMedia", {"features": [{"name": "prefers-color-scheme", "value": scheme}]})
 
     def until(self, fact):
-        return WebDriverWait(self.browser, 10).until(lambda _: fact())
+        return WebDriverWait(self.browser, 30).until(lambda _: fact())
 
     def by(self, name):
         return self.browser.find_element(By.ID, name)

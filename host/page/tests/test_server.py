@@ -1,5 +1,6 @@
 """The server without a browser: its files, the library's answers, and requests that are turned back."""
 
+import contextlib
 import http.client
 import json
 import re
@@ -85,7 +86,9 @@ class Server(unittest.TestCase):
             self.addCleanup(process.kill)
             line = process.stdout.readline()
             port = int(re.fullmatch(r"page: http://127\.0\.0\.1:(\d+)/ - Ctrl-C ends it\n", line)[1])
-            socket.create_connection(("127.0.0.1", port), timeout=10).close()
+            with contextlib.closing(http.client.HTTPConnection("127.0.0.1", port, timeout=10)) as connection:
+                connection.request("GET", "/")
+                self.assertEqual(connection.getresponse().status, 200)
             process.send_signal(signal.SIGINT)
             self.assertEqual(process.wait(10), 0)
         taken = subprocess.run([*command, "--port", str(self.served.port)], capture_output=True, text=True, timeout=10)
