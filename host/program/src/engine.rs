@@ -14,3 +14,15 @@ pub fn row(edges: &Edges, row: u16) -> Result<Option<(u16, u16)>, Refusal> {
     }
     Ok(ends)
 }
+
+/// The outline that has an anchor and edges, clockwise from W.
+#[cfg(feature = "border")]
+pub fn border(edges: &Edges) -> Result<robequarry::Outline, Refusal> {
+    edges.border()
+}
+
+/// How the cells of two hulls lie.
+#[cfg(feature = "compare")]
+pub fn compare<'a>(first: &'a Edges, second: &'a Edges) -> Result<robequarry::Comparison<'a>, robequarry::TurnedBack> {
+    first.compare(second)
+}

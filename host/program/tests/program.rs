@@ -194,3 +194,64 @@ fn bench_times_each_outline() {
     assert!(lines[1][1].parse::<f64>().unwrap() > 0.0 && lines[1][2].parse::<f64>().unwrap() > 0.0);
     assert_eq!((lines[2][0], lines[2][2], status(&timed)), ("12", "-", 1));
 }
+
+#[cfg(feature = "border")]
+#[test]
+fn border_writes_an_outline_back() {
+    let plus = program(&["border", "0", "1", "1", "1", "1", "-1", "-1", "-1", "-1", "1"]);
+    assert_eq!((out(&plus).as_str(), status(&plus)), ("0 1 101030323212\n", 0));
+    assert_eq!(out(&program(&["border", "7", "9"])), "7 9 1032\n");
+    for (edges, number) in [(&["1", "1", "-1", "-1"][..], 17), (&["1", "0"], 16), (&["1"], 10)] {
+        let refused = program(&[&["border", "0", "0"], edges].concat());
+        assert!(out(&refused).starts_with(&format!("refused, {number}: ")), "{edges:?}");
+        assert_eq!(status(&refused), 1);
+    }
+    for wrong in [&["border"][..], &["border", "0"], &["border", "0", "x"], &["border", "0", "0", "40000", "0"]] {
+        assert_eq!(status(&program(wrong)), 2, "{wrong:?}");
+    }
+}
+
+/// Whatever `check` takes, `border` writes back from its edges: the same block.
+#[cfg(feature = "border")]
+#[test]
+fn border_of_every_taken_specimen() {
+    use robequarry_program::input::Entries;
+    for entry in Entries::of(robequarry_program::gallery::SPECIMENS.as_bytes(), None) {
+        let Ok(edges) = entry.expect("our own text has no fault").outline.test() else {
+            continue;
+        };
+        let mut words = vec!["border".to_string(), edges.anchor().col.to_string(), edges.anchor().row.to_string()];
+        words.extend(edges.numbers().iter().map(i16::to_string));
+        let line = out(&program(&words.iter().map(String::as_str).collect::<Vec<_>>()));
+        let again = Entries::of(line.as_bytes(), None).next().expect("there is a line").expect("it has no fault");
+        assert_eq!(again.outline.test(), Ok(edges));
+    }
+}
+
+#[cfg(feature = "compare")]
+#[test]
+fn compare_says_which_lies_within() {
+    let file = file("blocks.txt", b"5 5 1032\n5 5 11003322\n7 5 1032\n6 5 10003222\n0 0 103\n");
+    for (first, second, word, inner) in [
+        ("0", "0", "equal", Some("inner: anchor (5, 5), edges none")),
+        ("0", "1", "first within second", Some("inner: anchor (5, 5), edges none")),
+        ("1", "0", "second within first", Some("inner: anchor (5, 5), edges none")),
+        ("1", "2", "no common cell", None),
+        ("1", "3", "crossing", None),
+    ] {
+        let compared = program(&["compare", &file, &file, "--first", first, "--second", second]);
+        let said = out(&compared);
+        let lines: Vec<&str> = said.lines().collect();
+        assert!(
+            lines[0].starts_with(&format!("first: outline {first}: taken"))
+                && lines[1].starts_with(&format!("second: outline {second}"))
+        );
+        assert!(lines[2].starts_with(&format!("{word} - ")), "{said}");
+        assert_eq!((lines.get(3).copied(), status(&compared)), (inner, 0));
+    }
+    let refused = program(&["compare", &file, &file, "--second", "4"]);
+    assert!(out(&refused)
+        .ends_with("second: outline 4: refused, 1: too few or too many letters - 3 letters; an outline has 4 to 612\n"));
+    assert_eq!(status(&refused), 1);
+    assert_eq!(status(&program(&["compare", &file])), 2);
+}

@@ -1,7 +1,11 @@
 //! The commands, each with its help, and what all of them share: files, faults and exit statuses.
 
 mod bench;
+#[cfg(feature = "border")]
+mod border;
 mod check;
+#[cfg(feature = "compare")]
+mod compare;
 mod draw;
 mod explain;
 mod gallery;
@@ -62,8 +66,18 @@ struct Command {
     run: fn(&Arguments, &mut Console) -> Result<Status, Failure>,
 }
 
-const COMMANDS: &[&Command] =
-    &[&check::COMMAND, &explain::COMMAND, &draw::COMMAND, &row::COMMAND, &bench::COMMAND, &gallery::COMMAND];
+const COMMANDS: &[&Command] = &[
+    &check::COMMAND,
+    &explain::COMMAND,
+    &draw::COMMAND,
+    &row::COMMAND,
+    #[cfg(feature = "compare")]
+    &compare::COMMAND,
+    #[cfg(feature = "border")]
+    &border::COMMAND,
+    &bench::COMMAND,
+    &gallery::COMMAND,
+];
 
 const INTRODUCTION: &str = "\
 robequarry says whether a block of cells on a chart of 255 by 255 is convex, and why if it is not.
