@@ -1,24 +1,32 @@
--- Each arm is the definition's; the last is that of the letters above 3.
+-- The table has the clauses of the definition, one for each letter.
+use Prim.Native.Nat.{ℕ, zero, suc, _%_, _<_}
 use native.Mathlib.Omega.{arith}
+use mathlib.Core.Path.{_≡_, refl}
+use mathlib.Core.List.{[], _∷_}
+use lib.ListN.{getD}
 use borrow.Author.Needs.{needs}
-use Rattle.survey.proofs.TouchingLaws.{stride-none}
+use Rattle.survey.specs.Numbers.{strideOf}
 use Rattle.survey.proofs.checks.stride.Statement.{statement}
 use Rattle.survey.proofs.checks.stride.Tie as tie
 
+table-at : (a : ℕ) → a < 4 → getD (1 ∷ 256 ∷ 65535 ∷ 65280 ∷ []) a 0 ≡ strideOf a
+table-at zero h = refl
+table-at (suc zero) h = refl
+table-at (suc (suc zero)) h = refl
+table-at (suc (suc (suc zero))) h = refl
+table-at (suc (suc (suc (suc a)))) h = absurd (omega arith)
+
+cast-k : tie.Need-cast-k
+cast-k c = search needs
+
+mul-result : tie.Need-mul-result
+mul-result c = search needs
+
+array-read-result : tie.Need-array-read-result
+array-read-result c = search needs
+
 returns : tie.Need-returns
-returns c = search needs
-
-returns-2 : tie.Need-returns-2
-returns-2 c = search needs
-
-returns-3 : tie.Need-returns-3
-returns-3 c = search needs
-
-returns-4 : tie.Need-returns-4
-returns-4 c = search needs
-
-returns-5 : tie.Need-returns-5
-returns-5 c = stride-none (c .before .args .letter) (omega arith)
+returns c = table-at (c .args .letter % 4) (omega arith)
 
 pub stride-spec : {M : Type 1} → statement M
-stride-spec = tie.close (tie.spec returns returns-2 returns-3 returns-4 returns-5)
+stride-spec = tie.close (tie.spec cast-k mul-result array-read-result returns)
