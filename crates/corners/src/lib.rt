@@ -31,23 +31,27 @@ fn row_number(p: Point) -> usize
     ((from_top(p.row) as usize) * 256 + (p.col as usize)) % 65536
 }
 
-const COL_STRIDES: [usize; 4] = [256, 1, 65280, 65535];
-
-const ROW_STRIDES: [usize; 4] = [1, 65280, 65535, 256];
-
 // What a letter adds to either number, by sums modulo 65,536.
 fn col_stride(letter: u8) -> usize
     ensures { λ r. ⌜ r ≡ colStride (letter % 4) ⌝ }
 {
-    let k = (letter % 4) as usize;
-    COL_STRIDES[k]
+    match letter % 4 {
+        0 => 256,
+        1 => 1,
+        2 => 65280,
+        _ => 65535,
+    }
 }
 
 fn row_stride(letter: u8) -> usize
     ensures { λ r. ⌜ r ≡ rowStride (letter % 4) ⌝ }
 {
-    let k = (letter % 4) as usize;
-    ROW_STRIDES[k]
+    match letter % 4 {
+        0 => 1,
+        1 => 65280,
+        2 => 65535,
+        _ => 256,
+    }
 }
 
 // A place, and the number of the corner there.

@@ -70,14 +70,16 @@ fn wide(p: Point) -> usize
     (p.row as usize) * 65536 + (p.col as usize)
 }
 
-const WIDE_STRIDES: [usize; 4] = [1, 65536, 4294967295, 4294901760];
-
 // What a letter adds to it, by sums modulo 2^32.
 fn wide_stride(letter: u8) -> usize
     ensures { λ r. ⌜ r ≡ wideStride (letter % 4) ⌝ }
 {
-    let k = (letter % 4) as usize;
-    WIDE_STRIDES[k]
+    match letter % 4 {
+        0 => 1,
+        1 => 65536,
+        2 => 4294967295,
+        _ => 4294901760,
+    }
 }
 
 fn is_off_chart(x: usize) -> bool
@@ -122,14 +124,16 @@ fn number(p: Point) -> usize
     (p.row as usize) * 256 + (p.col as usize)
 }
 
-const STRIDES: [usize; 4] = [1, 256, 65535, 65280];
-
 // What a letter adds to it, by sums modulo 65,536.
 fn stride(letter: u8) -> usize
     ensures { λ r. ⌜ r ≡ strideOf (letter % 4) ⌝ }
 {
-    let k = (letter % 4) as usize;
-    STRIDES[k]
+    match letter % 4 {
+        0 => 1,
+        1 => 256,
+        2 => 65535,
+        _ => 65280,
+    }
 }
 
 // 6. The place of the first letter, the last left out, that reaches a corner already met.

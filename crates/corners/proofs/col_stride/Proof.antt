@@ -1,32 +1,31 @@
--- The table has the clauses of the definition, one for each letter.
-use Prim.Native.Nat.{ℕ, zero, suc, _%_, _<_}
+-- Each arm is the definition's; the last is that of the letters from 3 on.
+use Prim.Native.Nat.{ℕ, zero, suc, _%_, _≤_}
 use native.Mathlib.Omega.{arith}
 use mathlib.Core.Path.{_≡_, refl}
-use mathlib.Core.List.{[], _∷_}
-use lib.ListN.{getD}
-use borrow.Author.Needs.{needs}
 use Rattle.corners.specs.Numbers.{colStride}
 use Rattle.corners.proofs.col_stride.Statement.{statement}
 use Rattle.corners.proofs.col_stride.Tie as tie
 
-table-at : (a : ℕ) → a < 4 → getD (256 ∷ 1 ∷ 65280 ∷ 65535 ∷ []) a 0 ≡ colStride a
-table-at zero h = refl
-table-at (suc zero) h = refl
-table-at (suc (suc zero)) h = refl
-table-at (suc (suc (suc zero))) h = refl
-table-at (suc (suc (suc (suc a)))) h = absurd (omega arith)
+arm : (k a : ℕ) → a ≡ k → colStride k ≡ colStride a
+arm k a e = rw e
 
-cast-k : tie.Need-cast-k
-cast-k c = search needs
-
-mul-result : tie.Need-mul-result
-mul-result c = search needs
-
-array-read-result : tie.Need-array-read-result
-array-read-result c = search needs
+last-arm : (a : ℕ) → 3 ≤ a → 65535 ≡ colStride a
+last-arm zero h = absurd (omega arith)
+last-arm (suc zero) h = absurd (omega arith)
+last-arm (suc (suc zero)) h = absurd (omega arith)
+last-arm (suc (suc (suc a))) h = refl
 
 returns : tie.Need-returns
-returns c = table-at (c .args .letter % 4) (omega arith)
+returns c = arm 0 (c .before .args .letter % 4) (omega arith)
+
+returns-2 : tie.Need-returns-2
+returns-2 c = arm 1 (c .before .args .letter % 4) (omega arith)
+
+returns-3 : tie.Need-returns-3
+returns-3 c = arm 2 (c .before .args .letter % 4) (omega arith)
+
+returns-4 : tie.Need-returns-4
+returns-4 c = last-arm (c .before .args .letter % 4) (omega arith)
 
 pub col-stride-spec : {M : Type 1} → statement M
-col-stride-spec = tie.close (tie.spec cast-k mul-result array-read-result returns)
+col-stride-spec = tie.close (tie.spec returns returns-2 returns-3 returns-4)
