@@ -1,5 +1,4 @@
 -- The number that the walk is compared with is the start's.
-use mathlib.Core.Path.{refl}
 use borrow.Author.Needs.{needs}
 use Rattle.survey.proofs.checks.ends_away.Statement.{statement}
 use Rattle.survey.proofs.checks.ends_away.Tie as tie
