@@ -1,9 +1,9 @@
 -- On the way past the end, n - a + b is b + n - a.
 use mathlib.Core.Path.{sym}
 use borrow.Author.Needs.{needs}
-use Rattle.border.proofs.CutLaws.{ahead-on, ahead-round}
-use Rattle.border.proofs.cut.ahead.Statement.{statement}
-use Rattle.border.proofs.cut.ahead.Tie as tie
+use Rattle.corners.proofs.CutLaws.{ahead-on, ahead-round}
+use Rattle.corners.proofs.ahead.Statement.{statement}
+use Rattle.corners.proofs.ahead.Tie as tie
 
 sub-result : tie.Need-sub-result
 sub-result c = search needs
