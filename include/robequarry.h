@@ -22,10 +22,8 @@
  *   5 column   of a cell
  *   6 row
  *
- * Refusals, each with the fields that it names. Of several that apply, the first is given in the order 19, 20, 12 to 15, then 1 to 11, then 16.
+ * Refusals, each with the fields that it names. Of several that apply, the first is given in the order 19, 20, 12 to 15, then 1 to 11, then 16 to 18.
  * There is no refusal 7: an outline may run either way, and one that runs anticlockwise is read backward, each letter turned to its opposite.
- * Refusals, each with the fields that it names. Of several that apply, the first is given in the order 12 to 15, then 1 to 11, then 16 to 18. There
- * is no refusal 7: an outline may run either way, and one that runs anticlockwise is read backward, each letter turned to its opposite.
  *
  *    1  there are fewer than 4 or more than RQ_LETTERS letters
  *    2  a number of the start is above 255
@@ -37,21 +35,18 @@
  *    9  the outline is dented: piece, place and length of one copy of the first factor that is no Christoffel word; column and
  *       row of the lowest missing cell, the leftmost of its row
  *   10  test: `edges` has no room for two numbers of each edge: place, the count of edges;
- *       loose query, border: the list has an odd count of numbers, or more than RQ_NUMBERS
- *   11  a cell number is above 254
- *   12  query: nothing is at work at the place
- *       loose query, compare: the list has an odd count of numbers, or more than RQ_NUMBERS
+ *       loose query, border, compare: the list has an odd count of numbers, or more than RQ_NUMBERS
  *   11  a cell number is above 254; compare, after 16: the walk leaves the chart
- *   12  query: nothing is at work
+ *   12  query: nothing is at work at the place
  *   13  add, close, drop: there is no draft
  *   14  begin: a draft is open
  *   15  add: the draft has RQ_LETTERS letters
  *   16  an edge is nil, or the edges do not sum to nil, or their directions do not rise strictly, clockwise from up, which may be the
  *       first, to just short of up again
- *   19  the party is above 1
- *   20  the place is above 3; a close that it turns back ends its party's draft all the same
  *   17  border: no outline is taken with this anchor and these edges
  *   18  border: `letters` has no room for the letters
+ *   19  the party is above 1
+ *   20  the place is above 3; a close that it turns back ends its party's draft all the same
  *
  * The words used here (piece, back-step, factor, missing) are those of docs/CONTRACT.md, clauses 2 and 3.
  */
@@ -73,9 +68,8 @@ enum {
     RQ_PLACES = 4,    /* places of a party, from 0 */
     RQ_LETTERS = 612, /* most letters of an outline, and of a draft */
     RQ_EDGES = 200,   /* numbers that the edges of any taken outline need at most */
-    RQ_NUMBERS = 2032, /* most numbers of a loose query's list */
+    RQ_NUMBERS = 2032, /* most numbers of a list of edges that is lent */
     RQ_HOLDER_BYTES = 4592 /* bytes of a holder, as rq_holder_bytes() says */
-    RQ_NUMBERS = 2032 /* most numbers of the list of a loose query or a border */
 };
 
 enum { RQ_NO_WORD = 0, RQ_INSIDE = 1, RQ_OUTSIDE = 2, RQ_TAKEN = 3, RQ_SAME = 4 };
@@ -113,8 +107,6 @@ bool rq_loose_query(uint16_t anchor_col, uint16_t anchor_row, const int16_t *edg
                     uint16_t *reply, size_t k);
 
 /*
- * Calls on a holder, which has for each of two parties, knee and ankle, a draft and four places for outlines at work. A call has RQ_CALL
- * bytes: its number, its party, its place, then x and y, numbers of 32 bits, low byte first. Bytes that are not named are ignored.
  * Writes back the border of the outline that has this anchor and these m / 2 edges.
  *
  * Number 0, place the count of letters: they stand first in `letters`, clockwise from the lower left corner of the anchor, and the rest of
@@ -128,6 +120,8 @@ bool rq_loose_query(uint16_t anchor_col, uint16_t anchor_row, const int16_t *edg
  */
 bool rq_border(uint16_t anchor_col, uint16_t anchor_row, const int16_t *edges, size_t m, uint8_t *letters, size_t n, uint16_t *reply,
                size_t k);
+
+/*
  * Compares the cells in two hulls, each that of an anchor and m / 2 edges, as rq_loose_query has them.
  *
  * The word says one of five things, of which exactly one is true: both hulls hold the same cells (equal); every cell of the first is one
@@ -144,8 +138,8 @@ bool rq_compare(uint16_t anchor_col_1, uint16_t anchor_row_1, const int16_t *edg
                 uint16_t anchor_row_2, const int16_t *edges_2, size_t m_2, uint16_t *reply, size_t k);
 
 /*
- * Runs a script of calls from a fresh holder, which has no draft and nothing at work, and writes a reply for each.
- *
+ * Calls on a holder, which has for each of two parties, knee and ankle, a draft and four places for outlines at work. A call has RQ_CALL
+ * bytes: its number, its party, its place, then x and y, numbers of 32 bits, low byte first. Bytes that are not named are ignored.
  *   0 begin   a start corner, the first two bytes of x and of y; opens a draft without letters
  *   1 add     a letter, the first byte of x; puts it at the draft's end
  *   2 drop    discards the draft

@@ -30,12 +30,14 @@ looseReply ac ar edges c r reply = replyAfter (positionFields (looseOf (at ac ar
 -- What the holder takes as C lays it out: two drafts of 632 bytes, and eight works of 416
 abbrev pub holderBytes : ℕ
 holderBytes = 4592
+
 -- A border: the reply list afterwards, and the list lent for letters afterwards
 unfoldable pub borderReply : ℕ → ℕ → List ℤ → List ℕ → List ℕ → List ℕ
 borderReply ac ar edges letters reply = replyAfter (tracedFields (tracedOf (at ac ar) edges (length letters))) reply
 
 unfoldable pub borderLetters : ℕ → ℕ → List ℤ → List ℕ → List ℕ → List ℕ
 borderLetters ac ar edges letters reply = cond (leb 7 (length reply)) (lettersAfter (at ac ar) edges letters) letters
+
 -- A comparison: the reply list afterwards
 unfoldable pub compareReply : ℕ → ℕ → List ℤ → ℕ → ℕ → List ℤ → List ℕ → List ℕ
 compareReply ac ar es bc br fs reply = replyAfter (comparisonFields (comparisonOf (at ac ar) es (at bc br) fs)) reply

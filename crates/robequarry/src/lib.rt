@@ -1,8 +1,7 @@
 // The calls for C and Rust. A slice is passed as a pointer and a length. A reply is seven numbers at the front of a lent list, in the order
-// number, word (0 none, 1 inside, 2 outside, 3 taken, 4 same), place, piece, length, column, row; a list of fewer than seven is turned back.
+// number, word (contract 4.3), place, piece, length, column, row; a list of fewer than seven is turned back.
 use calls::PARTIES;
 use calls::PLACES;
-// number, word (0 none, 1 inside, 2 outside, 3 taken, 4 same, 11 to 15 of a comparison), place, piece, length, column, row; a list of fewer than seven is turned back.
 use chart::Point;
 use chart::reply::NUMBERS;
 use chart::reply::of_comparison;
@@ -11,9 +10,9 @@ use chart::reply::of_verdict;
 use chart::reply::write;
 use holder::Holder;
 use holder::fresh;
-use wire::respond;
 use letters::border;
 use tracing::written::of_traced;
+use wire::respond;
 ghost use mathlib.Core.Path.{_≡_};
 ghost use mathlib.Core.Bool.{true};
 ghost use lib.ListN.{length};
@@ -21,22 +20,18 @@ ghost use lib.Dec.{leb};
 ghost use Rattle.chart.specs.Fields.{fieldsOf};
 ghost use Rattle.verdict.specs.Named.{CellNamed};
 ghost use Rattle.polygon.specs.Loose.{HullNamed};
+ghost use Rattle.tracing.specs.Named.{BorderNamed};
+ghost use Rattle.nesting.specs.Cells.{polygon};
+ghost use Rattle.compare.specs.Compared.{CellsNamed};
 ghost use Rattle.holder.specs.Holder.{freshHolder};
 ghost use Rattle.wire.specs.Wire.{respondOf, repliedTo};
 ghost use Rattle.replay.specs.Script.{callsRead, repliesAfter};
-ghost use Rattle.robequarry.specs.Face.{at, testReply, testEdges, looseReply, holderBytes};
+ghost use Rattle.robequarry.specs.Face.{at, testReply, testEdges, looseReply, borderReply, borderLetters, compareReply, holderBytes};
 
 // What a draft and a work take: the flag, a point of two numbers of 16 bits, the letters or the numbers, then the count at the next multiple of 8.
 const DRAFT_BYTES: usize = 632;
 
 const WORK_BYTES: usize = 416;
-ghost use Rattle.tracing.specs.Named.{BorderNamed};
-ghost use Rattle.replay.specs.Script.{callsRead, repliesAfter};
-ghost use Rattle.robequarry.specs.Face.{at, testReply, testEdges, looseReply, borderReply, borderLetters};
-ghost use Rattle.nesting.specs.Cells.{polygon};
-ghost use Rattle.compare.specs.Compared.{CellsNamed};
-ghost use Rattle.replay.specs.Script.{callsRead, repliesAfter};
-ghost use Rattle.robequarry.specs.Face.{at, testReply, testEdges, looseReply, compareReply};
 
 // Tests an outline: the start corner and the letters. The edges stand first in the list lent for them, where the outline is taken.
 #[no_mangle]
@@ -81,7 +76,6 @@ pub extern "C" fn rq_loose_query(
     write(of_position(position), reply)
 }
 
-// Runs a script of calls, eleven bytes each, from a fresh holder, writes a reply of seven numbers for each, and says how many.
 // Writes back the border of an anchor and edges. The letters, clockwise from W on, stand first in the list lent for them.
 #[no_mangle]
 pub extern "C" fn rq_border(
@@ -132,7 +126,7 @@ pub extern "C" fn rq_compare(
     write(of_comparison(comparison), reply)
 }
 
-// Runs a script of calls, five bytes each, from a fresh holder, writes a reply of seven numbers for each, and says how many.
+// Runs a script of calls, eleven bytes each, from a fresh holder, writes a reply of seven numbers for each, and says how many.
 #[no_mangle]
 pub extern "C" fn rq_replay(script: &[u8], replies: &mut [u16]) -> usize
     ensures count { λ r. ⌜ r ≡ length (callsRead (now (script .entry)) (length (now (replies .entry)))) ⌝ }
