@@ -116,7 +116,7 @@ bool rq_loose_query(uint16_t anchor_col, uint16_t anchor_row, const int16_t *edg
  *
  * False, with nothing altered, if k is below RQ_REPLY. Else true; the reply stands first in `reply`, the rest is unaltered.
  *
- * Stack: about 13,500 bytes.
+ * Stack: about 13,400 bytes.
  */
 bool rq_border(uint16_t anchor_col, uint16_t anchor_row, const int16_t *edges, size_t m, uint8_t *letters, size_t n, uint16_t *reply,
                size_t k);
