@@ -132,7 +132,7 @@ bool rq_border(uint16_t anchor_col, uint16_t anchor_row, const int16_t *edges, s
  *
  * False, with nothing altered, if k is below RQ_REPLY. Else true; the reply stands first in `reply`, the rest is unaltered.
  *
- * Stack: about STACK bytes.
+ * Stack: about 300 bytes.
  */
 bool rq_compare(uint16_t anchor_col_1, uint16_t anchor_row_1, const int16_t *edges_1, size_t m_1, uint16_t anchor_col_2,
                 uint16_t anchor_row_2, const int16_t *edges_2, size_t m_2, uint16_t *reply, size_t k);

@@ -167,7 +167,7 @@ impl Bench {
     fn comparisons(&mut self, random: &mut Random) {
         let (large, small) = (polygon(&taken(random, DRAWN)), polygon(&taken(random, 250)));
         let beside = |polygon: &Polygon, anchor| Polygon { anchor, edges: polygon.edges.clone() };
-        let (low, high) = (beside(&small, Point::new(1, 60)), beside(&small, Point::new(150, 190)));
+        let (low, high) = (beside(&small, Point::new(1, 60)), beside(&small, Point::new(150, 75)));
         let across = Polygon { anchor: Point::new(0, 100), edges: vec![0, 20, 200, 0, 0, -20, -200, 0] };
         for (name, first, second) in [
             ("compare: equal", &large, &large),
