@@ -11,13 +11,18 @@ pub const OUTSIDE: u16 = 2;
 pub const TAKEN: u16 = 3;
 pub const SAME: u16 = 4;
 pub const UNDECIDED: u16 = 7;
+pub const EQUAL: u16 = 11;
+pub const FIRST_WITHIN: u16 = 12;
+pub const SECOND_WITHIN: u16 = 13;
+pub const NO_COMMON: u16 = 14;
+pub const CROSSING: u16 = 15;
 
 /// A reply, with a name for each of its numbers, in their order (contract 4.1). A field that the reply does not name is 0.
 #[derive(Clone, Copy, Debug, Default, PartialEq, Eq, Hash)]
 pub struct Fields {
     /// 0, or the refusal's number.
     pub number: u16,
-    /// [`NO_WORD`], [`INSIDE`], [`OUTSIDE`], [`TAKEN`], [`SAME`] or [`UNDECIDED`]; a test's is none.
+    /// [`NO_WORD`], [`INSIDE`], [`OUTSIDE`], [`TAKEN`], [`SAME`] or [`UNDECIDED`], of a comparison [`EQUAL`] to [`CROSSING`]; a test's is none.
     pub word: u16,
     pub place: u16,
     pub piece: u16,

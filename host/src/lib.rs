@@ -22,11 +22,15 @@
 //!
 //! A [`Holder`] keeps, for each party, a draft, letter by letter, and the outlines at work. [`raw`] has the library's functions as
 //! they are, on plain lists of numbers; [`codec`] reads and writes these, and [`limits`] names what bounds them.
+//! A [`Holder`] keeps a draft, letter by letter, and the outline at work. [`raw`] has the library's four functions as they
+//! A [`Holder`] keeps a draft, letter by letter, and the outline at work. [`Edges::compare`] says which of two hulls lies within the other. [`raw`] has the library's four functions as they
+//! are, on plain lists of numbers; [`codec`] reads and writes these, and [`limits`] names what bounds them.
 //!
 //! The answers are proved; this crate, which turns lists of numbers into types, is not.
 
 mod chart;
 pub mod codec;
+mod comparison;
 mod holder;
 pub mod limits;
 mod outline;
@@ -35,6 +39,8 @@ mod refusal;
 
 pub use chart::{Cell, Corner};
 pub use codec::{Action, Call};
+pub use codec::Call;
+pub use comparison::{Comparison, Nesting, TurnedBack};
 pub use holder::{Answer, Holder, Reply};
 pub use outline::{Edges, Outline, Taken, Verdict};
 pub use refusal::Refusal;

@@ -29,6 +29,7 @@ pub const LONGEST_LIST: usize = 2032;
 
 /// The refusals are numbered from 1 to this (contract 5.2).
 pub const LAST_REFUSAL: u16 = 20;
+pub const LAST_REFUSAL: u16 = 18;
 
 /// A reply has this many numbers (contract 4.1).
 pub const REPLY: usize = 7;
@@ -41,3 +42,6 @@ pub const PARTIES: u8 = 2;
 
 /// Each party has outlines at this many places (contract 7.1).
 pub const PLACES: u8 = 4;
+
+/// A fitting file has at most this many bytes (contract 11.3).
+pub const LONGEST_FILE: usize = 65_536;

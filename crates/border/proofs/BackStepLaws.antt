@@ -12,16 +12,17 @@ use lib.Dec.{ltb, eqb}
 use borrow.Author.Tests.{lt-ltb, le-ltb, eq-eqb, ne-eqb}
 use Rattle.base.specs.Below.{first}
 use Rattle.base.proofs.BelowLaws.{first-step, first-stop}
-use Rattle.chart.specs.Limits.{longest}
 use Rattle.chart.specs.Outline.{Outline}
 use Rattle.lattice.specs.Chart.{size}
 use Rattle.convexity.specs.Frame.{Frame, frameOf}
 use Rattle.convexity.specs.Cut.{cut}
 use Rattle.convexity.specs.Pieces.{rounds, piece, isBackStep, backStepAt, backStepPiece}
 use Rattle.border.specs.declared.frame.Pair.{Pair}
-use Rattle.lattice.specs.Refusals.{Stays}
+use Rattle.lattice.specs.Refusals.{Simple}
+use Rattle.lattice.proofs.WalkLaws.{walked}
 use Rattle.border.specs.declared.back_steps.BackStep.the-variants.{None}
-use Rattle.border.specs.Cutting.{PairOf, Rounded, CutsOf, Laid}
+use Rattle.corners.specs.Found.{CutsOf}
+use Rattle.border.specs.Cutting.{PairOf, Rounded, Laid}
 use Rattle.border.specs.BackSteps.{Found, FoundAt}
 use Rattle.border.proofs.CutLaws.{cut-le-cut}
 
@@ -106,12 +107,12 @@ module _ {o : Outline} {at buffer : List ℕ} (h : Laid o at buffer) where
 
 -- The pieces lie so in a buffer that begins with the turn and was then filled round and round up to the last cut place
 pub laid-of :
-    {o : Outline} {at before after : List ℕ} → Stays o → 0 < size o → size o ≤ longest → CutsOf o at → take (size o) before ≡ o .letters
+    {o : Outline} {at before after : List ℕ} → Simple o → CutsOf o at → take (size o) before ≡ o .letters
     → getD at 4 0 ≤ length before → Rounded before (size o) (getD at 4 0) after → length after ≡ length before → Laid o at after
-laid-of {o} {at} {before} {after} stays pos short cuts begins room rounded kept =
-    let places = cuts .places stays short in
+laid-of {o} {at} {before} {after} simple cuts begins room rounded kept =
+    let places = cuts .places simple in
     let last = places 4 (omega arith) in
-    let same = rounded .read pos (cuts .around) room in
+    let same = rounded .read (omega (arith, walked o simple .long)) (cuts .around) room in
     record {
       places = places;
       within = omega arith;

@@ -16,7 +16,7 @@ use Rattle.chart.specs.declared.Refusal.{Refusal}
 use Rattle.chart.specs.declared.Verdict.the-variants.{Refused}
 use Rattle.chart.specs.Outline.{Outline, outline}
 use Rattle.lattice.specs.Chart.{cornerAt, size, letterAt}
-use Rattle.lattice.specs.Refusals.{Simple, Stays}
+use Rattle.lattice.specs.Refusals.{Simple}
 use Rattle.lattice.proofs.WalkLaws.{Walked, walked, outline-eq}
 use Rattle.survey.specs.declared.Surveyed.the-variants.{Passed, Refused as Stopped}
 use Rattle.survey.specs.Survey.{surveyOf}
@@ -26,7 +26,9 @@ use Rattle.convexity.specs.Pieces.{edges}
 use Rattle.convexity.proofs.Reading.{leaving-west, west-first, west-place-first, west-place-later, reading-clockwise, reading-backward, length-reading, simple-reading, clockwise-reading, turn-reading}
 use Rattle.verdict.specs.Verdict.{turnVerdict, borderVerdict, afterSurvey, verdictOf, lentAfter}
 use Rattle.border.specs.declared.Judged.{Judged}
-use Rattle.border.specs.Cutting.{CornerFound, readTurn, readPlace, Rounded, CutsOf}
+use Rattle.corners.specs.declared.West.{West}
+use Rattle.corners.specs.Found.{WestFound, CutsOf}
+use Rattle.border.specs.Cutting.{readTurn, readPlace, Rounded}
 use Rattle.border.specs.Turning.{Ready, Turning}
 use Rattle.border.specs.Judged.{zeros, judgedAs, judgedTurn, judgedBorder, judgedOf}
 use Rattle.border.proofs.BackStepLaws.{laid-of}
@@ -36,8 +38,7 @@ use Rattle.border.proofs.PieceLaws.{from-west}
 -- the buffer
 pub record Copied (o : Outline) (found : ℕ) (forward : Bool) (v : ℕ) (p : Point) (buffer : List ℕ) : Type 0 where
   pub simple : Simple o
-  pub found-at : CornerFound o 0 found
-  pub corner : Stays o → p ≡ cornerAt o found
+  pub found-at : WestFound o (record { place = found; corner = p })
   pub way : forward ≡ eqb (letterAt o found) 1
   pub place : v ≡ readPlace forward (size o) found
   pub letters : found ≤ size o → size o ≤ 4 * longest → take (size o) buffer ≡ readTurn forward found (o .letters)
@@ -55,7 +56,7 @@ module _ {o : Outline} {found : ℕ} {forward : Bool} {v : ℕ} {p : Point} {buf
 
   found-is : found ≡ westPlace o
   unfolding westPlace
-  found-is = h .found-at .place (h .simple .stays)
+  found-is = h .found-at .place (h .simple)
 
   -- Clockwise is read forward
   pub way-is : forward ≡ clockwise (turn o)
@@ -83,7 +84,7 @@ module _ {o : Outline} {found : ℕ} {forward : Bool} {v : ℕ} {p : Point} {buf
   border-is : outline p (take (size o) buffer) ≡ border o
   unfolding turn readTurn
   border-is =
-      outline-eq (outline p (take (size o) buffer)) (readOutline forward) (h .corner (h .simple .stays) ∙ ap (cornerAt o) found-is ∙ same-start forward)
+      outline-eq (outline p (take (size o) buffer)) (readOutline forward) (h .found-at .corner (h .simple) ∙ ap (cornerAt o) found-is ∙ same-start forward)
       (h .letters (omega (arith, found-lt)) (omega (arith, d .short)) ∙ ap (λ (i : ℕ). readTurn forward i (o .letters)) found-is ∙ same-letters forward)
       ∙ ap readOutline way-is ∙ sym (turn-reading o (h .simple))
     where
@@ -118,7 +119,7 @@ module _ {o : Outline} {found : ℕ} {forward : Bool} {v : ℕ} {p : Point} {buf
           place = v-lt;
           clockwise = clockwise-reading o (h .simple);
           laid =
-              laid-of {before = buffer} (f .simple .stays) (omega (arith, border-length, d .long)) (omega (arith, border-length, d .short)) c (rw border-length (ap (λ (v : Outline). v .letters) border-is))
+              laid-of {before = buffer} (f .simple) c (rw border-length (ap (λ (v : Outline). v .letters) border-is))
               (omega (arith, c .small, h .sized)) (rw border-length rounded) kept;
           sized = omega (arith, kept, h .sized);
         }

@@ -1,30 +1,30 @@
 -- What the checks of refusals 3 to 5 keep from letter to letter: no place passed was the one looked for, and while no letter leaves the chart the corner in hand is the walk's.
 use Prim.Native.Nat.{ℕ, _+_, _≤_, _<_}
-use mathlib.Core.Path.{_≡_, refl, sym, ap, _∙_}
-use mathlib.Core.Bool.{Bool, true, false, not, true≢false}
+use mathlib.Core.Path.{_≡_, sym, ap, _∙_}
+use mathlib.Core.Bool.{Bool, true, false, not}
 use native.Mathlib.Omega.{arith}
-use lib.Dec.{ltb, eqb}
+use lib.Dec.{eqb}
 use borrow.Author.Tests.{eq-eqb, ne-eqb}
-use Rattle.base.specs.Below.{first, some}
+use Rattle.base.specs.Below.{first}
 use Rattle.base.proofs.BelowLaws.{first-le, first-step, first-stop}
 use Rattle.chart.specs.declared.Point.{Point}
 use Rattle.chart.specs.Outline.{Outline}
 use Rattle.lattice.specs.Chart.{samePoint, leaves, stepped, walk, cornerAt, size, letterAt}
 use Rattle.lattice.specs.Refusals.{leavingPlace, Stays, unclosed}
-use Rattle.lattice.proofs.WalkLaws.{corner-zero, corner-all, first-absent}
+use Rattle.lattice.proofs.WalkLaws.{corner-zero, corner-all}
 use Rattle.lattice.proofs.WalkCode.{corner-next, Walking}
+-- What a search for a place keeps from letter to letter: no place passed was the one looked for.
+use Prim.Native.Nat.{ℕ, _<_}
+use mathlib.Core.Path.{_≡_, refl, sym, _∙_}
+use mathlib.Core.Bool.{Bool, true, false, true≢false}
+use native.Mathlib.Omega.{arith}
+use lib.Dec.{ltb}
+use Rattle.base.specs.Below.{first, some}
+use Rattle.base.proofs.BelowLaws.{first-le}
+use Rattle.lattice.proofs.WalkLaws.{first-absent}
 
 pub first-zero : (f : ℕ → Bool) → first f 0 ≡ 0
 first-zero f = omega (arith, first-le f 0)
-
--- A number below n that passes is one of some
-pub some-of : (f : ℕ → Bool) (n i : ℕ) → i < n → f i ≡ true → some f n ≡ true
-unfolding some
-some-of f n i l e = go (ltb (first f n) n) refl
-  where
-    go : (b : Bool) → ltb (first f n) n ≡ b → ltb (first f n) n ≡ true
-    go true h = h
-    go false h = absurd (true≢false (sym e ∙ first-absent f n h i l))
 
 module _ (o : Outline) where
   -- Refusal 4: no letter before place i leaves the chart, and p is the corner there
@@ -66,3 +66,11 @@ module _ (o : Outline) where
   pub away-row : (p : Point) → p ≡ walk (o .start) (o .letters) → p .col ≡ o .start .col → not (eqb (p .row) (o .start .row)) ≡ unclosed o
   unfolding unclosed samePoint
   away-row p d e = rw (← d, eq-eqb (p .col) (o .start .col) e)
+-- A number below n that passes is one of some
+pub some-of : (f : ℕ → Bool) (n i : ℕ) → i < n → f i ≡ true → some f n ≡ true
+unfolding some
+some-of f n i l e = go (ltb (first f n) n) refl
+  where
+    go : (b : Bool) → ltb (first f n) n ≡ b → ltb (first f n) n ≡ true
+    go true h = h
+    go false h = absurd (true≢false (sym e ∙ first-absent f n h i l))

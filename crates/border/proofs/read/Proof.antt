@@ -12,16 +12,13 @@ use Rattle.border.proofs.JudgedLaws.{Copied, letters-fit, copied-ready,
 use Rattle.border.proofs.read.Statement.{statement}
 use Rattle.border.proofs.read.Tie as tie
 
-corner-place-requires : tie.Need-corner-place-requires
-corner-place-requires c κs = search needs
-
-corner-at-requires : tie.Need-corner-at-requires
-corner-at-requires c κs = search needs
+find-west-requires : tie.Need-find-west-requires
+find-west-requires c κs = search needs
 
 -- W's letter is one of the list's
-found-lt : (c : tie.After-corner-place) → c .corner-place .result < length (c .before .before .args .letters .now)
+found-lt : (c : tie.After-find-west) → c .find-west .result .place < length (c .before .before .args .letters .now)
 found-lt c =
-    let start = c .before .before in omega (arith, c .corner-place .ensures .within, walked (outline (start .args .start) (start .args .letters .now)) (start .pre) .long)
+    let start = c .before .before in omega (arith, c .find-west .ensures .within, walked (outline (start .args .start) (start .args .letters .now)) (start .pre) .long)
 
 shared-slice-read-forward : tie.Need-shared-slice-read-forward
 shared-slice-read-forward c = found-lt (c .before .before)
@@ -37,17 +34,16 @@ fill-turn-requires c κs = search needs
 
 -- The letters from W on, read clockwise, are in the buffer
 copied : (c : tie.After-fill-turn)
-    → let west = c .before .before .before .before in
-    let start = west .before .before .before in
-    Copied (outline (start .args .start) (start .args .letters .now)) (west .before .corner-place .result) (eqb (getD (start .args .letters .now) (west .before .corner-place .result) 0) 1) (c .before .before .read-place .result) (west .corner-at .result)
+    → let west = c .before .before .before .before .before in
+    let start = west .before .before in
+    Copied (outline (start .args .start) (start .args .letters .now)) (west .find-west .result .place) (eqb (getD (start .args .letters .now) (west .find-west .result .place) 0) 1) (c .before .before .read-place .result) (west .find-west .result .corner)
     (c .fill-turn .last .1 .1 .1 .0)
 copied c =
     let place = c .before .before in
-    let west = place .before .before in
+    let west = place .before .before .before in
     record {
-      simple = west .before .before .before .pre;
-      found-at = west .before .corner-place .ensures;
-      corner = west .corner-at .ensures;
+      simple = west .before .before .pre;
+      found-at = west .find-west .ensures;
       way = refl;
       place = place .read-place .ensures;
       letters = c .fill-turn .ensures;
@@ -91,8 +87,7 @@ pub read-spec : {M : Type 1} → statement M
 read-spec =
     tie.close
     (tie.spec
-    corner-place-requires
-    corner-at-requires
+    find-west-requires
     shared-slice-read-forward
     read-place-requires
     slice-aggregate-fill-turn

@@ -11,6 +11,7 @@
 //! - `cells/library` and `border/library`: how many times as long hull-and-count takes, with the hull of all enclosed cells, and
 //!   with the hull of the border cells alone
 //! - `refusal/taking`: of the library, to the outlines of the same length that were flipped
+//! - `counting/library`: how many times as long it takes to compare two hulls by testing every cell of both in plain Rust
 //! - `600/150` and the like: of the library, to outlines of fewer letters
 
 use std::env;
@@ -20,6 +21,9 @@ use std::process::exit;
 use robequarry::limits::{CALL, LONGEST_LIST, REPLY, SIDE};
 use robequarry::raw::HolderMemory;
 use robequarry::{Action, Call, Edges, Holder};
+use robequarry::limits::{CALL, LONGEST, LONGEST_LIST, REPLY, SIDE};
+use robequarry::{Call, Edges, Holder};
+use robequarry_checks::case::Polygon;
 use robequarry_checks::draw::{reversed, round_outline, with_a_cell_flipped};
 use robequarry_checks::engine::{Engine, Library, Plain};
 use robequarry_checks::hull_and_count::{is_convex, Of};
@@ -66,6 +70,7 @@ fn main() {
     bench.outlines(&mut random);
     bench.spoilt_lists(&mut random);
     bench.calls(&mut random);
+    bench.comparisons(&mut random);
     bench.report.end();
 }
 
@@ -131,7 +136,7 @@ impl Bench {
         }
     }
 
-    /// Queries, adds and a close, of one outline.
+    /// Queries, adds, a close and a border, of one outline.
     fn calls(&mut self, random: &mut Random) {
         let outline = taken(random, DRAWN);
         let cells: Vec<Point> = (0..1024).map(|_| random.cell()).collect();
@@ -145,6 +150,7 @@ impl Bench {
         let asked = [&closed[..], &queries].concat();
 
         self.add_call("loose query", loose_query(&outline, &cells));
+        self.add_call("border from edges", border(&outline));
         self.add_call("query in a replay", each_more(&closed, &asked, cells.len()));
         self.add_call("add in a replay", each_more(&begun, &drawn, outline.letters.len()));
         self.add_call("begin, adds and close", race_replays(&closed));
@@ -155,6 +161,24 @@ impl Bench {
         let [contains, query] = through_the_wrapper(&outline, &cells);
         self.report.add(Row { name: "Edges::contains", letters: DRAWN, nanoseconds: contains, ratio: None });
         self.report.add(Row { name: "Holder::query", letters: DRAWN, nanoseconds: query, ratio: None });
+    }
+
+    /// The edges of taken outlines compared: one with itself, with one that it holds, with one that crosses it, and with one far off.
+    fn comparisons(&mut self, random: &mut Random) {
+        let (large, small) = (polygon(&taken(random, DRAWN)), polygon(&taken(random, 250)));
+        let beside = |polygon: &Polygon, anchor| Polygon { anchor, edges: polygon.edges.clone() };
+        let (low, high) = (beside(&small, Point::new(1, 60)), beside(&small, Point::new(150, 75)));
+        let across = Polygon { anchor: Point::new(0, 100), edges: vec![0, 20, 200, 0, 0, -20, -200, 0] };
+        for (name, first, second) in [
+            ("compare: equal", &large, &large),
+            ("compare: within", &small, &large),
+            ("compare: crossing", &large, &across),
+            ("compare: no common cell", &low, &high),
+        ] {
+            let race = race([&mut compare_by(&Library, first, second), &mut compare_by(&Plain, first, second)]);
+            let ratio = Some(Ratio::new("counting/library", race.ratio(1, 0), None));
+            self.report.add(Row { name, letters: DRAWN, nanoseconds: race.least(0), ratio });
+        }
     }
 
     /// Races all rivals over a set of outlines.
@@ -255,6 +279,38 @@ fn query_by<'a>(engine: &'a dyn Engine, anchor: Point, edges: &'a [i16], cells: 
     move || {
         let cell = *turns.next().expect("there are cells");
         engine.loose_query(anchor, black_box(edges), black_box(cell), &mut reply);
+        black_box(&reply);
+    }
+}
+
+fn border(outline: &Outline) -> Timed {
+    let mut list = [0; LONGEST_LIST];
+    let reply = plain::test(outline.start, &outline.letters, &mut list);
+    let edges = &list[..2 * usize::from(reply.place)];
+    let anchor = Point::new(reply.col, reply.row);
+    let mut library = border_by(&Library, anchor, edges);
+    let mut plain = border_by(&Plain, anchor, edges);
+    let race = race([&mut library, &mut plain]);
+    (race.least(0), race.ratio(0, 1))
+}
+
+fn border_by<'a>(engine: &'a dyn Engine, anchor: Point, edges: &'a [i16]) -> impl FnMut() + 'a {
+    let mut letters = [0; LONGEST];
+    let mut reply = [0; REPLY];
+    move || {
+        engine.border(anchor, black_box(edges), &mut letters, &mut reply);
+        black_box((&letters, &reply));
+/// The anchor and the edges of a taken outline.
+fn polygon(outline: &Outline) -> Polygon {
+    let mut list = [0; LONGEST_LIST];
+    let reply = plain::test(outline.start, &outline.letters, &mut list);
+    Polygon { anchor: Point::new(reply.col, reply.row), edges: list[..2 * usize::from(reply.place)].to_vec() }
+}
+
+fn compare_by<'a>(engine: &'a dyn Engine, first: &'a Polygon, second: &'a Polygon) -> impl FnMut() + 'a {
+    let mut reply = [0; REPLY];
+    move || {
+        engine.compare(black_box(first), black_box(second), &mut reply);
         black_box(&reply);
     }
 }

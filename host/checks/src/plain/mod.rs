@@ -5,12 +5,17 @@
 mod border;
 mod chart;
 mod climb;
+mod compare;
 mod holder;
 mod loose;
 mod test;
+mod tracing;
 mod words;
 
 pub use chart::refusal as walk_refusal;
 pub use holder::{replay, Holder};
+pub use compare::compare;
+pub use holder::replay;
 pub use loose::loose_query;
 pub use test::test;
+pub use tracing::border;

@@ -23,12 +23,16 @@ const CLOSE: u8 = 4;
 /// The most bytes of stack that each function needs for any of its inputs: the longest outlines, and every way through the test.
 pub fn needs() -> [(&'static str, usize); 4] {
     let mut needs = [("rq_test", 0), ("rq_loose_query", 0), ("rq_replay", 0), ("rq_call", 0)];
+    let mut needs = [("rq_test", 0), ("rq_loose_query", 0), ("rq_border", 0), ("rq_replay", 0)];
+    let mut needs = [("rq_test", 0), ("rq_loose_query", 0), ("rq_compare", 0), ("rq_replay", 0)];
     let mut stack = Stack::new();
     for case in inputs::all() {
         let function = match case {
             Case::Test { .. } => 0,
             Case::Loose { .. } => 1,
-            Case::Script { .. } => 2,
+            Case::Border { .. } => 2,
+            Case::Compare { .. } => 2,
+            Case::Script { .. } => 3,
         };
         needs[function].1 = needs[function].1.max(stack.need(&case));
         if let Case::Script { bytes, .. } = &case {
@@ -61,6 +65,17 @@ impl Stack {
                 let mut reply = vec![0; *room];
                 self.depth(&mut || {
                     raw::loose_query(anchor.col, anchor.row, edges, cell.col, cell.row, &mut reply);
+                })
+            }
+            Case::Border { anchor, edges, lent, room } => {
+                let (mut letters, mut reply) = (vec![0; *lent], vec![0; *room]);
+                self.depth(&mut || {
+                    raw::border(anchor.col, anchor.row, edges, &mut letters, &mut reply);
+            Case::Compare { first, second, room } => {
+                let mut reply = vec![0; *room];
+                let (a, b) = (first.anchor, second.anchor);
+                self.depth(&mut || {
+                    raw::compare((a.col, a.row), &first.edges, (b.col, b.row), &second.edges, &mut reply);
                 })
             }
             Case::Script { bytes, room } => {
