@@ -15,7 +15,7 @@
  * A reply is seven numbers, in this order. Those that a reply does not name are 0.
  *
  *   0 number   0, or the number of the refusal
- *   1 word     RQ_NO_WORD, RQ_INSIDE, RQ_OUTSIDE, RQ_TAKEN or RQ_SAME; of a comparison RQ_EQUAL to RQ_CROSSING
+ *   1 word     RQ_NO_WORD, RQ_INSIDE, RQ_OUTSIDE, RQ_TAKEN, RQ_SAME, RQ_NONE or RQ_COLUMNS; of a comparison RQ_EQUAL to RQ_CROSSING
  *   2 place
  *   3 piece    1 to 4; of a comparison, whose list is the inner one's: 1, 2, or 0
  *   4 length
@@ -37,7 +37,7 @@
  *   10  test: `edges` has no room for two numbers of each edge: place, the count of edges;
  *       loose query, border, compare: the list has an odd count of numbers, or more than RQ_NUMBERS
  *   11  a cell number is above 254; compare, after 16: the walk leaves the chart
- *   12  query: nothing is at work at the place
+ *   12  query, row: nothing is at work at the place
  *   13  add, close, drop: there is no draft
  *   14  begin: a draft is open
  *   15  add: the draft has RQ_LETTERS letters
@@ -69,10 +69,10 @@ enum {
     RQ_LETTERS = 612, /* most letters of an outline, and of a draft */
     RQ_EDGES = 200,   /* numbers that the edges of any taken outline need at most */
     RQ_NUMBERS = 2032, /* most numbers of a list of edges that is lent */
-    RQ_HOLDER_BYTES = 4592 /* bytes of a holder, as rq_holder_bytes() says */
+    RQ_HOLDER_BYTES = 8688 /* bytes of a holder, as rq_holder_bytes() says */
 };
 
-enum { RQ_NO_WORD = 0, RQ_INSIDE = 1, RQ_OUTSIDE = 2, RQ_TAKEN = 3, RQ_SAME = 4 };
+enum { RQ_NO_WORD = 0, RQ_INSIDE = 1, RQ_OUTSIDE = 2, RQ_TAKEN = 3, RQ_SAME = 4, RQ_NONE = 5, RQ_COLUMNS = 6 };
 
 /* The words of a comparison. */
 enum { RQ_EQUAL = 11, RQ_FIRST_WITHIN = 12, RQ_SECOND_WITHIN = 13, RQ_NO_COMMON = 14, RQ_CROSSING = 15 };
@@ -147,6 +147,8 @@ bool rq_compare(uint16_t anchor_col_1, uint16_t anchor_row_1, const int16_t *edg
  *   4 close   tests the draft and ends it. If it is taken, it replaces what is at work at the place, and the word is "same" where it encloses
  *             the same cells as what was at work there, wherever and whichever way it was drawn, else "taken", with the fields of a taken test
  *   5 query   a cell, the first two bytes of x and of y; the word is "inside" if the outline at work at the place encloses it, else "outside"
+ *   6 row     a row, the first two bytes of x; the word is "columns" with the first enclosed column as column and the last as row, where
+ *             every one between is enclosed too, or "none"
  *
  * A party's replies depend on its own calls alone. A call that 19 or 20 turns back alters nothing, but that a close ends its party's draft.
  */
@@ -154,7 +156,7 @@ bool rq_compare(uint16_t anchor_col_1, uint16_t anchor_row_1, const int16_t *edg
 /*
  * Runs a script of calls, one after the other, on a fresh holder, which has no draft and nothing at work, and writes a reply for each.
  *
- * The run ends before a call with a number above 5, before one that the script's end cuts, and before one whose reply has no room in
+ * The run ends before a call with a number above 6, before one that the script's end cuts, and before one whose reply has no room in
  * the k numbers of `replies`. Returns how many replies were written; what stands behind them is unaltered.
  *
  * Stack: about 18,600 bytes.
@@ -173,7 +175,7 @@ void rq_fresh(void *holder);
 /*
  * Makes one call of RQ_CALL bytes on a holder that rq_fresh made, and leaves it as the call says.
  *
- * False, with nothing altered, unless n is RQ_CALL, the call's number is at most 5 and k is at least RQ_REPLY. Else true; the reply stands
+ * False, with nothing altered, unless n is RQ_CALL, the call's number is at most 6 and k is at least RQ_REPLY. Else true; the reply stands
  * first in `reply`, the rest is unaltered. Calls one after the other have the replies that a script of them has.
  *
  * Stack: about 18,600 bytes.

@@ -43,7 +43,7 @@ impl Edges {
         let corner = |edges: &Edges| (edges.anchor().col, edges.anchor().row);
         raw::compare(corner(self), self.numbers(), corner(other), other.numbers(), &mut reply);
         let fields = Fields::from(reply);
-        if let Some(refusal) = Refusal::of_loose_query(fields) {
+        if let Some(refusal) = Refusal::of_list(fields) {
             return Err(TurnedBack { list: fields.place, refusal });
         }
         let nesting = match fields.word {

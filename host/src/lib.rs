@@ -20,11 +20,9 @@
 //! # Ok::<(), Refusal>(())
 //! ```
 //!
-//! A [`Holder`] keeps, for each party, a draft, letter by letter, and the outlines at work. [`raw`] has the library's functions as
-//! they are, on plain lists of numbers; [`codec`] reads and writes these, and [`limits`] names what bounds them.
-//! A [`Holder`] keeps a draft, letter by letter, and the outline at work. [`raw`] has the library's four functions as they
-//! A [`Holder`] keeps a draft, letter by letter, and the outline at work. [`Edges::compare`] says which of two hulls lies within the other. [`raw`] has the library's four functions as they
-//! are, on plain lists of numbers; [`codec`] reads and writes these, and [`limits`] names what bounds them.
+//! [`Edges::compare`] says which of two hulls lies within the other. A [`Holder`] keeps, for each party, a draft, letter by letter, and
+//! the outlines at work. [`raw`] has the library's functions as they are, on plain lists of numbers; [`codec`] reads and writes these,
+//! and [`limits`] names what bounds them.
 //!
 //! The answers are proved; this crate, which turns lists of numbers into types, is not.
 
@@ -39,7 +37,6 @@ mod refusal;
 
 pub use chart::{Cell, Corner};
 pub use codec::{Action, Call};
-pub use codec::Call;
 pub use comparison::{Comparison, Nesting, TurnedBack};
 pub use holder::{Answer, Holder, Reply};
 pub use outline::{Edges, Outline, Taken, Verdict};

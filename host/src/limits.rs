@@ -29,7 +29,6 @@ pub const LONGEST_LIST: usize = 2032;
 
 /// The refusals are numbered from 1 to this (contract 5.2).
 pub const LAST_REFUSAL: u16 = 20;
-pub const LAST_REFUSAL: u16 = 18;
 
 /// A reply has this many numbers (contract 4.1).
 pub const REPLY: usize = 7;

@@ -1,5 +1,4 @@
 //! The library's functions as they are, with a list for each pointer and length.
-//! The library's four functions as they are, with a list for each pointer and length.
 //!
 //! None of them asks anything of its numbers: every input is answered. [`codec`](crate::codec) reads replies and writes scripts;
 //! [`limits`](crate::limits) has their lengths.
@@ -35,6 +34,10 @@ mod library {
             m: usize,
             letters: *mut u8,
             n: usize,
+            reply: *mut u16,
+            k: usize,
+        ) -> bool;
+
         pub fn rq_compare(
             anchor_col_1: u16,
             anchor_row_1: u16,
@@ -112,6 +115,12 @@ pub fn border(anchor_col: u16, anchor_row: u16, edges: &[i16], letters: &mut [u8
             edges.len(),
             letters.as_mut_ptr(),
             letters.len(),
+            reply.as_mut_ptr(),
+            reply.len(),
+        )
+    }
+}
+
 /// How the cells in two hulls lie, and whose list is the inner one's. Each hull has the column and the row of its anchor, and its edges.
 ///
 /// False, with nothing altered, if `reply` has no room for a reply.

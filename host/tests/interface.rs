@@ -1,10 +1,7 @@
 //! The safe interface's own part: lists as types, the holder's memory, the refusals' words.
 
 use robequarry::limits::{CALL, LAST_CORNER, LONGEST, LONGEST_LIST, PARTIES, PLACES, REPLY};
-use robequarry::{raw, Action, Answer, Cell, Corner, Edges, Holder, Refusal, Taken};
-use robequarry::limits::{LAST_CORNER, LONGEST, LONGEST_LIST, REPLY};
-use robequarry::{raw, Answer, Call, Cell, Corner, Edges, Holder, Outline, Refusal, Taken};
-use robequarry::{raw, Answer, Call, Cell, Comparison, Corner, Edges, Holder, Nesting, Refusal, Taken, TurnedBack};
+use robequarry::{raw, Action, Answer, Cell, Comparison, Corner, Edges, Holder, Nesting, Outline, Refusal, Taken, TurnedBack};
 
 const BAR: [u8; 8] = [1, 0, 0, 0, 3, 2, 2, 2];
 const CELL: [u8; 4] = [1, 0, 3, 2];
@@ -32,7 +29,7 @@ fn reply_list_without_room() {
         let mut letters = [9; 4];
         assert!(!raw::border(0, 0, &[], &mut letters, &mut reply));
         assert_eq!(letters, [9; 4]);
-        assert_eq!(raw::replay(&Call::Clear.bytes(), &mut reply), 0);
+        assert_eq!(raw::replay(&Action::Drop.by(KNEE).bytes(), &mut reply), 0);
         assert_eq!((edges, reply), ([9; 4], vec![5; room]));
     }
     let mut reply = [5; 9];

@@ -12,7 +12,8 @@ _Static_assert(RQ_HOLDER_BYTES == HOLDER && RQ_HOLDER_BYTES % 8 == 0, "bytes of 
 /* The holder's fields as the C compiler lays them out. */
 struct point { uint16_t col, row; };
 struct draft { bool begun; struct point start; uint8_t letters[RQ_LETTERS]; size_t count; };
-struct work { bool taken; struct point anchor; int16_t numbers[RQ_EDGES]; size_t edges; };
+struct spans { uint8_t first[255], past[255]; };
+struct work { bool taken; struct point anchor; int16_t numbers[RQ_EDGES]; size_t edges; struct spans spans; };
 struct holder { struct draft drafts[RQ_PARTIES]; struct work works[RQ_PARTIES * RQ_PLACES]; };
 _Static_assert(sizeof(struct holder) == RQ_HOLDER_BYTES && _Alignof(struct holder) <= 8, "size and alignment of a holder");
 

@@ -30,7 +30,6 @@ looseReply ac ar edges c r reply = replyAfter (positionFields (looseOf (at ac ar
 -- What the holder takes as C lays it out: two drafts of 632 bytes, and eight works of 928
 abbrev pub holderBytes : ℕ
 holderBytes = 8688
-holderBytes = 4592
 
 -- A border: the reply list afterwards, and the list lent for letters afterwards
 unfoldable pub borderReply : ℕ → ℕ → List ℤ → List ℕ → List ℕ → List ℕ

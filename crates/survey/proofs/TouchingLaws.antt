@@ -21,9 +21,8 @@ use Rattle.lattice.proofs.WalkCode.{start-on-chart, stays-at}
 use Rattle.flags.specs.Flags.{noNumbers, isSet, withNumber}
 use Rattle.flags.proofs.FlagLaws.{none-length, none-set, with-length, with-here, with-other}
 use Rattle.survey.specs.Numbers.{numberOf, strideOf}
-use Rattle.survey.proofs.CheckLaws.{first-zero}
 use Rattle.survey.specs.Walks.{Begun}
-use Rattle.survey.proofs.CheckLaws.{first-zero, some-of}
+use Rattle.survey.proofs.CheckLaws.{first-zero}
 use Rattle.survey.proofs.WalkLaws.{letters-small}
 
 pub number-below : (p : Point) → OnChart p → numberOf p < 65536

@@ -49,10 +49,7 @@ impl Case {
         let (lent_edges, lent_letters, room) = match *self {
             Case::Test { lent, room, .. } => (lent, 0, room),
             Case::Border { lent, room, .. } => (0, lent, room),
-            Case::Loose { room, .. } | Case::Script { room, .. } => (0, 0, room),
-        let (lent, room) = match *self {
-            Case::Test { lent, room, .. } => (lent, room),
-            Case::Loose { room, .. } | Case::Compare { room, .. } | Case::Script { room, .. } => (0, room),
+            Case::Loose { room, .. } | Case::Compare { room, .. } | Case::Script { room, .. } => (0, 0, room),
         };
         let mut edges: Vec<i16> = (0..lent_edges).map(|i| filler(i) as i16).collect();
         let mut letters: Vec<u8> = (0..lent_letters).map(letter_filler).collect();
@@ -151,6 +148,7 @@ impl fmt::Display for Case {
             }
             Case::Border { anchor, edges, lent, room } => {
                 write!(f, "border {} {} {} {lent} {room}", anchor.col, anchor.row, numbers_as_text(edges))
+            }
             Case::Compare { first, second, room } => {
                 let (one, other) = (numbers_as_text(&first.edges), numbers_as_text(&second.edges));
                 let (a, b) = (first.anchor, second.anchor);
@@ -182,6 +180,8 @@ impl FromStr for Case {
                 anchor: Point::new(number(anchor_col)?, number(anchor_row)?),
                 edges: numbers_from_text(edges)?,
                 lent: number(lent)?,
+                room: number(room)?,
+            }),
             ["compare", col, row, edges, col2, row2, edges2, room] => Ok(Case::Compare {
                 first: Polygon { anchor: Point::new(number(col)?, number(row)?), edges: numbers_from_text(edges)? },
                 second: Polygon { anchor: Point::new(number(col2)?, number(row2)?), edges: numbers_from_text(edges2)? },
@@ -189,11 +189,13 @@ impl FromStr for Case {
             }),
             ["script", bytes, room] => Ok(Case::Script { bytes: bytes_from_text(bytes)?, room: number(room)? }),
             _ => {
-                let lines =
-                    ["test COL ROW LETTERS LENT ROOM", "loose COL ROW EDGES COL ROW ROOM", "border COL ROW EDGES LENT ROOM"];
+                let lines = [
+                    "test COL ROW LETTERS LENT ROOM",
+                    "loose COL ROW EDGES COL ROW ROOM",
+                    "border COL ROW EDGES LENT ROOM",
+                    "compare COL ROW EDGES COL ROW EDGES ROOM",
+                ];
                 Err(format!("a line is `{}` or `script BYTES ROOM`", lines.join("`, `")))
-                Err("a line is `test COL ROW LETTERS LENT ROOM`, `loose COL ROW EDGES COL ROW ROOM`, `compare COL ROW EDGES COL ROW EDGES ROOM` or `script BYTES ROOM`"
-                    .to_string())
             }
         }
     }

@@ -14,6 +14,7 @@ pub trait Engine {
     fn loose_query(&self, anchor: Point, edges: &[i16], cell: Point, reply: &mut [u16]) -> bool;
 
     fn border(&self, anchor: Point, edges: &[i16], letters: &mut [u8], reply: &mut [u16]) -> bool;
+
     fn compare(&self, first: &Polygon, second: &Polygon, reply: &mut [u16]) -> bool;
 
     fn replay(&self, script: &[u8], replies: &mut [u16]) -> usize;
@@ -46,6 +47,8 @@ impl Engine for Library {
 
     fn border(&self, anchor: Point, edges: &[i16], letters: &mut [u8], reply: &mut [u16]) -> bool {
         robequarry::raw::border(anchor.col, anchor.row, edges, letters, reply)
+    }
+
     fn compare(&self, first: &Polygon, second: &Polygon, reply: &mut [u16]) -> bool {
         let (a, b) = (first.anchor, second.anchor);
         robequarry::raw::compare((a.col, a.row), &first.edges, (b.col, b.row), &second.edges, reply)
@@ -67,6 +70,14 @@ impl Engine for Live {
 
     fn loose_query(&self, anchor: Point, edges: &[i16], cell: Point, reply: &mut [u16]) -> bool {
         Library.loose_query(anchor, edges, cell, reply)
+    }
+
+    fn border(&self, anchor: Point, edges: &[i16], letters: &mut [u8], reply: &mut [u16]) -> bool {
+        Library.border(anchor, edges, letters, reply)
+    }
+
+    fn compare(&self, first: &Polygon, second: &Polygon, reply: &mut [u16]) -> bool {
+        Library.compare(first, second, reply)
     }
 
     fn replay(&self, script: &[u8], replies: &mut [u16]) -> usize {
@@ -98,6 +109,8 @@ impl Engine for Reference {
 
     fn border(&self, anchor: Point, edges: &[i16], letters: &mut [u8], reply: &mut [u16]) -> bool {
         answer(reply, || reference::tracing::border(anchor, edges, letters))
+    }
+
     fn compare(&self, first: &Polygon, second: &Polygon, reply: &mut [u16]) -> bool {
         answer(reply, || reference::compare::compare(first, second))
     }
@@ -122,6 +135,8 @@ impl Engine for Plain {
 
     fn border(&self, anchor: Point, edges: &[i16], letters: &mut [u8], reply: &mut [u16]) -> bool {
         answer(reply, || plain::border(anchor, edges, letters))
+    }
+
     fn compare(&self, first: &Polygon, second: &Polygon, reply: &mut [u16]) -> bool {
         answer(reply, || plain::compare(first, second))
     }

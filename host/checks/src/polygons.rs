@@ -1,11 +1,9 @@
 //! Lists of edges that lead once round, and lists that nearly do.
 
-use crate::case::Case;
-use crate::garbage::{cell, letter_room, room};
 use robequarry::limits::{LAST_CELL, LONGEST_LIST};
 
 use crate::case::{Case, Polygon};
-use crate::garbage::{cell, room};
+use crate::garbage::{cell, letter_room, room};
 use crate::random::Random;
 use crate::reference::edges::{bad_turning, corner_cells, sooner, steps, Step};
 use crate::Point;
@@ -89,6 +87,8 @@ pub fn border(random: &mut Random) -> Case {
     let (reach, most) = [(1, 4), (1, 8), (2, 6), (4, 10), (9, 20), (60, 40), (300, 90)][random.below(7)];
     let edges = if random.once_in(4) { nearly_once_round(random, reach, most) } else { once_round(random, reach, most) };
     Case::Border { anchor: cell(random), edges, lent: letter_room(random), room: room(random) }
+}
+
 /// Moves an anchor so that the walk from it stays on the chart, where it can: somewhere, or close to a cell.
 fn placed(random: &mut Random, edges: &[i16], near: Option<Point>) -> Point {
     let cells = corner_cells(Point::new(0, 0), edges);

@@ -18,11 +18,9 @@ use std::env;
 use std::hint::black_box;
 use std::process::exit;
 
-use robequarry::limits::{CALL, LONGEST_LIST, REPLY, SIDE};
+use robequarry::limits::{CALL, LONGEST, LONGEST_LIST, REPLY, SIDE};
 use robequarry::raw::HolderMemory;
 use robequarry::{Action, Call, Edges, Holder};
-use robequarry::limits::{CALL, LONGEST, LONGEST_LIST, REPLY, SIDE};
-use robequarry::{Call, Edges, Holder};
 use robequarry_checks::case::Polygon;
 use robequarry_checks::draw::{reversed, round_outline, with_a_cell_flipped};
 use robequarry_checks::engine::{Engine, Library, Plain};

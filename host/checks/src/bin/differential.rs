@@ -11,10 +11,7 @@ use std::process::exit;
 use std::time::Instant;
 
 use robequarry::codec::INSIDE;
-use robequarry::limits::{LAST_CELL, LAST_CORNER, LONGEST_LIST, REPLY, SIDE};
-use robequarry::limits::{LAST_CELL, LAST_CORNER, LAST_REFUSAL, LONGEST, LONGEST_LIST, REPLY, SIDE};
-use robequarry_checks::case::Case;
-use robequarry::limits::{LAST_CELL, LAST_CORNER, LAST_REFUSAL, LONGEST_LIST, REPLY, SIDE};
+use robequarry::limits::{LAST_CELL, LAST_CORNER, LONGEST, LONGEST_LIST, REPLY, SIDE};
 use robequarry_checks::case::{Case, Polygon};
 use robequarry_checks::draw::{rotated, Shape};
 use robequarry_checks::engine::{Engine, Library, Live, Plain, Reference};

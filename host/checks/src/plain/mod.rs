@@ -13,9 +13,8 @@ mod tracing;
 mod words;
 
 pub use chart::refusal as walk_refusal;
-pub use holder::{replay, Holder};
 pub use compare::compare;
-pub use holder::replay;
+pub use holder::{replay, Holder};
 pub use loose::loose_query;
 pub use test::test;
 pub use tracing::border;
