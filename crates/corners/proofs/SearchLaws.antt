@@ -1,6 +1,6 @@
 -- What the search keeps from letter to letter: the number in hand is that of the corner reached, and each best so far is the first corner of those
 -- passed in its piece's frame. Nothing is said of an outline that one of refusals 1 to 6 stops.
-use Prim.Native.Nat.{ℕ, zero, suc, _+_, _-_, _/_, _%_, _≤_, _<_}
+use Prim.Native.Nat.{ℕ, zero, suc, _+_, _-_, _%_, _≤_, _<_}
 use native.Mathlib.Numerals.{add-one}
 use native.Mathlib.Omega.{arith}
 use mathlib.Core.Path.{_≡_, refl, sym, ap, _∙_}
@@ -15,7 +15,7 @@ use Rattle.convexity.specs.Frame.{frameOf}
 use Rattle.convexity.specs.Cut.{before, least, cornerPlace}
 use Rattle.corners.specs.declared.Best.{Best}
 use Rattle.corners.specs.Numbers.{colNumber, rowNumber}
-use Rattle.corners.specs.Found.{lowerOf, higherOf, PlaceFound}
+use Rattle.corners.specs.Found.{lowerOf, higherOf, cornerOf, PlaceFound}
 use Rattle.corners.proofs.NumberLaws.{Numbering, LeastFirst, GreatestFirst}
 
 on-chart : (o : Outline) → Simple o → (i : ℕ) → i ≤ size o → OnChart (cornerAt o i)
@@ -113,22 +113,19 @@ tracked-end {o} {k} t e =
     }
 
 -- A corner of the chart from its number by columns
-pub col-corner : (o : Outline) (s : Simple o) (i n : ℕ) → i ≤ size o → n ≡ colNumber (cornerAt o i) → record { col = n / 256 % 256; row = n % 256 } ≡ cornerAt o i
-col-corner o s i n l e =
-    let h = on-chart o s i l in
-    point-eq (record { col = n / 256 % 256; row = n % 256 }) (cornerAt o i) (omega (arith, h .col, h .row)) (omega (arith, h .col, h .row))
+pub tracked-corner : {o : Outline} {n : ℕ} {b : Best} → Tracked o 0 colNumber n b → n ≡ size o → Simple o → cornerOf (b .number) ≡ cornerAt o (b .place)
+tracked-corner {o} {n} {b} t e s =
+    let h = on-chart o s (b .place) (omega (arith, t .within)) in
+    let f = t .kept s .number in
+    point-eq (cornerOf (b .number)) (cornerAt o (b .place)) (omega (arith, h .col, h .row)) (omega (arith, h .col, h .row))
 
--- ---- what the two walks keep
+-- ---- what the walk keeps
 
-pub record WestScan (o : Outline) (n : ℕ) (b : Best) (i : ℕ) : Type 0 where
-  pub passed : i ≤ size o
-  pub number : Numbered o colNumber i n
-  pub west : Tracked o 0 colNumber i b
-
-pub record Scan (o : Outline) (by-col by-row : ℕ) (n e s : Best) (i : ℕ) : Type 0 where
+pub record Scan (o : Outline) (by-col by-row : ℕ) (w n e s : Best) (i : ℕ) : Type 0 where
   pub passed : i ≤ size o
   pub cols : Numbered o colNumber i by-col
   pub rows : Numbered o rowNumber i by-row
+  pub west : Tracked o 0 colNumber i w
   pub north : Tracked o 1 rowNumber i n
   pub east : Tracked o 2 colNumber i e
   pub south : Tracked o 3 rowNumber i s

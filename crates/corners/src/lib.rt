@@ -1,4 +1,5 @@
-// The first corners of the pieces, W, N, E and S (contract 3.1), in one walk by two numbers of each corner, and the five cut places between them.
+// The first corners of the pieces, W, N, E and S (contract 3.1), in one walk along the letters as sent by two numbers of each corner; and the five cut places
+// of the border, which follow from their places.
 use chart::LONGEST;
 use chart::Point;
 use chart::SIDE;
@@ -8,7 +9,7 @@ ghost use Rattle.chart.specs.Limits.{side};
 ghost use Rattle.chart.specs.Outline.{outline};
 ghost use Rattle.convexity.specs.Cut.{ahead as aheadOf};
 ghost use Rattle.corners.specs.Numbers.{colNumber, rowNumber, colStride, rowStride};
-ghost use Rattle.corners.specs.Found.{lowerOf, higherOf, WestFound, CornersFound, CutsOf};
+ghost use Rattle.corners.specs.Found.{lowerOf, higherOf, cornerOf, placeRead, CornersFound, CutsOf};
 
 // A corner's number by columns and then by rows: W has the least, E the greatest.
 fn col_number(p: Point) -> usize
@@ -80,45 +81,23 @@ fn higher(best: Best, number: usize, place: usize) -> Best
     best
 }
 
-// The corner W, and the place of the letter that leaves it.
-pub struct West {
-    pub place: usize,
-    pub corner: Point,
-}
-
-pub fn find_west(s: Point, w: &[u8]) -> West
-    ensures { λ r. ⌜ WestFound (outline s (now (w .entry))) r ⌝ }
-{
-    let mut number = col_number(s);
-    let mut best = Best { place: 0, number };
-    let mut i = 0;
-    while i < w.len() {
-        best = lower(best, number, i);
-        number = (number + col_stride(w[i])) % 65536;
-        i += 1;
-    }
-    let found = best.number;
-    West {
-        place: best.place,
-        corner: Point {
-            col: (found / 256 % 256) as u16,
-            row: (found % 256) as u16,
-        },
-    }
-}
-
-// N, E and S.
+// W, N, E and S.
 struct Corners {
+    west: Best,
     north: Best,
     east: Best,
     south: Best,
 }
 
-fn find_corners(s: Point, t: &[u8]) -> Corners
-    ensures { λ r. ⌜ CornersFound (outline s (now (t .entry))) r ⌝ }
+fn find_corners(s: Point, w: &[u8]) -> Corners
+    ensures { λ r. ⌜ CornersFound (outline s (now (w .entry))) r ⌝ }
 {
     let mut by_col = col_number(s);
     let mut by_row = row_number(s);
+    let mut west = Best {
+        place: 0,
+        number: by_col,
+    };
     let mut north = Best {
         place: 0,
         number: by_row,
@@ -132,16 +111,32 @@ fn find_corners(s: Point, t: &[u8]) -> Corners
         number: by_row,
     };
     let mut i = 0;
-    while i < t.len() {
+    while i < w.len() {
+        west = lower(west, by_col, i);
         north = lower(north, by_row, i);
         east = higher(east, by_col, i);
         south = higher(south, by_row, i);
-        let letter = t[i];
+        let letter = w[i];
         by_col = (by_col + col_stride(letter)) % 65536;
         by_row = (by_row + row_stride(letter)) % 65536;
         i += 1;
     }
-    Corners { north, east, south }
+    Corners {
+        west,
+        north,
+        east,
+        south,
+    }
+}
+
+// The corner with a number by columns.
+fn corner_of(number: usize) -> Point
+    ensures { λ r. ⌜ r ≡ cornerOf number ⌝ }
+{
+    Point {
+        col: (number / 256 % 256) as u16,
+        row: (number % 256) as u16,
+    }
 }
 
 // How many letters lead from place a on to place b, past the end of n letters where needed.
@@ -152,27 +147,53 @@ fn ahead(n: usize, a: usize, b: usize) -> usize
     if a <= b { b - a } else { n - a + b }
 }
 
-// The five cut places of a turn, the last of which is W's again.
+// How many letters lead from place w to place p, read forward or backward.
+fn place_read(n: usize, forward: bool, w: usize, p: usize) -> usize
+    requires { ⌜ (w ≤ n) × (p ≤ n) ⌝ }
+    ensures { λ r. ⌜ r ≡ placeRead forward n w p ⌝ }
+{
+    if forward {
+        return ahead(n, w, p);
+    }
+    ahead(n, p, w)
+}
+
+// The place of W's letter as sent, the corner W, whether the letters are read forward, and the five cut places of the border, the last of which is W's
+// again.
 pub struct Cuts {
+    pub place: usize,
+    pub west: Point,
+    pub forward: bool,
     pub at: [usize; 5],
 }
 
-pub fn cut_places(s: Point, t: &[u8]) -> Cuts
-    ensures { λ r. ⌜ CutsOf (outline s (now (t .entry))) (r .at) ⌝ }
+pub fn cut_places(s: Point, w: &[u8]) -> Cuts
+    ensures { λ r. ⌜ CutsOf (outline s (now (w .entry))) r ⌝ }
 {
-    let n = t.len();
-    if LONGEST < n {
-        return Cuts { at: [0; 5] };
+    let n = w.len();
+    if n == 0 || LONGEST < n {
+        return Cuts {
+            place: 0,
+            west: s,
+            forward: false,
+            at: [0; 5],
+        };
     }
-    let found = find_corners(s, t);
-    let north = found.north.place;
-    let east = found.east.place;
-    let south = found.south.place;
+    let found = find_corners(s, w);
+    let place = found.west.place;
+    // Clockwise, the letter that leaves W leads up.
+    let forward = w[place] == 1;
+    let north = place_read(n, forward, place, found.north.place);
+    let east = place_read(n, forward, place, found.east.place);
+    let south = place_read(n, forward, place, found.south.place);
     let first = ahead(n, 0, north);
     let second = first + ahead(n, north, east);
     let third = second + ahead(n, east, south);
     let fourth = third + ahead(n, south, 0);
     Cuts {
+        place,
+        west: corner_of(found.west.number),
+        forward,
         at: [0, first, second, third, fourth],
     }
 }

@@ -57,12 +57,6 @@ wide-leaves p (suc (suc zero)) h l e = off-col ((wideOf p + 4294967295) % 429496
 wide-leaves p (suc (suc (suc zero))) h l e = off-row ((wideOf p + 4294901760) % 4294967296) (omega (arith, eqb-true (p .row) 0 e))
 wide-leaves p (suc (suc (suc (suc a)))) h l e = absurd (omega arith)
 
-pub wide-small : (a : ℕ) → wideStride a < 4294967296
-wide-small zero = omega arith
-wide-small (suc zero) = omega arith
-wide-small (suc (suc zero)) = omega arith
-wide-small (suc (suc (suc a))) = omega arith
-
 -- ---- the walk
 
 pub letters-small : (o : Outline) → Begun o → (i : ℕ) → i < size o → letterAt o i < 4
@@ -126,16 +120,15 @@ module _ (o : Outline) where
 -- Of the letters w and the number n of the start: what holds of every start with that number
 pub record Walking (w : List ℕ) (n i x : ℕ) : Type 0 where
   pub passed : i ≤ length w
-  pub below : x < 4294967296
   pub out : (s : Point) → Begun (outline s w) → n ≡ wideOf s → Out (outline s w) i x
 
-pub walking-start : (w : List ℕ) {n : ℕ} → n < 4294967296 → Walking w n 0 n
-walking-start w h = record { passed = omega arith; below = h; out = λ s b e. out-start (outline s w) b e }
+pub walking-start : (w : List ℕ) (n : ℕ) → Walking w n 0 n
+walking-start w n = record { passed = omega arith; out = λ s b e. out-start (outline s w) b e }
 
 module _ {w : List ℕ} {n i x d : ℕ} (h : Walking w n i x) (l : i < length w) (e : d ≡ wideStride (getD w i 0 % 4)) where
   pub walking-next : offChart ((x + d) % 4294967296) ≡ false → Walking w n (i + 1) ((x + d) % 4294967296)
   walking-next f =
-      record { passed = omega arith; below = omega arith; out = λ s b g. out-next (outline s w) b i x d (h .out s b g) l e f }
+      record { passed = omega arith; out = λ s b g. out-next (outline s w) b i x d (h .out s b g) l e f }
 
   pub walking-found : offChart ((x + d) % 4294967296) ≡ true → (s : Point) → n ≡ wideOf s → {y : ℕ} → Begun (outline s w)
       → WalkedTo (outline s w) (record { leaves = i; end = y })

@@ -3,7 +3,7 @@ use chart::LONGEST;
 use chart::Point;
 use chart::SHORTEST;
 use chart::SIDE;
-ghost use Prim.Native.Nat.{_%_, _<_};
+ghost use Prim.Native.Nat.{_%_};
 ghost use mathlib.Core.Path.{_≡_};
 ghost use mathlib.Core.Bool.{false, not};
 ghost use lib.ListN.{length};
@@ -64,14 +64,14 @@ pub(crate) fn letter_place(w: &[u8]) -> usize
 }
 
 // The number of a corner with sixteen bits for its row and for its column: off the chart one of them is above 255, below 0 too.
-fn wide(p: Point) -> usize
-    ensures { λ r. ⌜ (r ≡ wideOf p) × (r < 4294967296) ⌝ }
+fn wide(p: Point) -> u32
+    ensures { λ r. ⌜ r ≡ wideOf p ⌝ }
 {
-    (p.row as usize) * 65536 + (p.col as usize)
+    (p.row as u32) * 65536 + (p.col as u32)
 }
 
 // What a letter adds to it, by sums modulo 2^32.
-fn wide_stride(letter: u8) -> usize
+fn wide_stride(letter: u8) -> u32
     ensures { λ r. ⌜ r ≡ wideStride (letter % 4) ⌝ }
 {
     match letter % 4 {
@@ -82,7 +82,7 @@ fn wide_stride(letter: u8) -> usize
     }
 }
 
-fn is_off_chart(x: usize) -> bool
+fn is_off_chart(x: u32) -> bool
     ensures { λ r. ⌜ r ≡ offChart x ⌝ }
 {
     (255 < x % 65536) | (255 < x / 65536)
@@ -91,7 +91,7 @@ fn is_off_chart(x: usize) -> bool
 // The place of the first letter that leaves the chart, and the number of the corner reached where none does.
 pub(crate) struct Walk {
     pub(crate) leaves: usize,
-    pub(crate) end: usize,
+    pub(crate) end: u32,
 }
 
 // 4, and what 5 has to know.
@@ -101,7 +101,7 @@ pub(crate) fn walk_along(s: Point, w: &[u8]) -> Walk
     let mut x = wide(s);
     let mut i = 0;
     while i < w.len() {
-        x = (x + wide_stride(w[i])) % 4294967296;
+        x = std::num::wrapping_add_u32(x, wide_stride(w[i]));
         if is_off_chart(x) {
             return Walk { leaves: i, end: x };
         }
@@ -111,7 +111,7 @@ pub(crate) fn walk_along(s: Point, w: &[u8]) -> Walk
 }
 
 // 5. The walk ends at a corner with another number than its start.
-pub(crate) fn ends_away(s: Point, end: usize) -> bool
+pub(crate) fn ends_away(s: Point, end: u32) -> bool
     ensures { λ r. ⌜ r ≡ not (eqb end (wideOf s)) ⌝ }
 {
     end != wide(s)

@@ -2,7 +2,7 @@
 
 use robequarry::limits::{LAST_CORNER, LONGEST};
 
-use super::chart::{step, WIDTH};
+use super::chart::WIDTH;
 use crate::Point;
 
 /// The two letters of a piece.
@@ -22,8 +22,6 @@ pub const PAIRS: [Pair; 4] = [
 /// The columns and rows of a letter's step.
 pub const COLS: [i16; 4] = [1, 0, -1, 0];
 pub const ROWS: [i16; 4] = [0, 1, 0, -1];
-
-const LAST: u32 = LAST_CORNER as u32;
 
 /// The letters of an outline past refusal 6, read clockwise from W on.
 pub struct Turn {
@@ -72,14 +70,20 @@ impl Turn {
 
     /// The five cut places, the last of which is W's again. The outline is clockwise, so they rise.
     pub fn cut_places(&self) -> [usize; 5] {
-        let mut at = (u32::from(self.west.col), u32::from(self.west.row));
-        let (mut north, mut east, mut south) = ((0, 0), (0, 0), (0, 0));
+        let (mut by_col, mut by_row) = (col_number(self.west), row_number(self.west));
+        let (mut north, mut east, mut south) = ((by_row, 0), (by_col, 0), (by_row, 0));
         for (place, &letter) in self.letters().iter().enumerate() {
-            let (col, row) = at;
-            keep_largest(&mut north, key(row, LAST - col), place);
-            keep_largest(&mut east, key(col, row), place);
-            keep_largest(&mut south, key(LAST - row, col), place);
-            at = step(at, letter);
+            if by_row < north.0 {
+                north = (by_row, place);
+            }
+            if by_col > east.0 {
+                east = (by_col, place);
+            }
+            if by_row > south.0 {
+                south = (by_row, place);
+            }
+            by_col = by_col.wrapping_add(COL_STEPS[usize::from(letter & 3)]);
+            by_row = by_row.wrapping_add(ROW_STEPS[usize::from(letter & 3)]);
         }
         [0, north.1, east.1, south.1, self.count]
     }
@@ -87,31 +91,29 @@ impl Turn {
 
 /// W, and the place of the letter that leaves it.
 fn west(start: Point, letters: &[u8]) -> (Point, usize) {
-    let mut at = (u32::from(start.col), u32::from(start.row));
-    let mut least = (u32::MAX, 0);
+    let mut number = col_number(start);
+    let mut least = (number, 0);
     for (place, &letter) in letters.iter().enumerate() {
-        let key = key(at.0, at.1);
-        if key < least.0 {
-            least = (key, place);
+        if number < least.0 {
+            least = (number, place);
         }
-        at = step(at, letter);
+        number = number.wrapping_add(COL_STEPS[usize::from(letter & 3)]);
     }
-    (Point::new((least.0 / WIDTH as u32) as u16, (least.0 % WIDTH as u32) as u16), least.1)
+    (Point::new(least.0 / WIDTH as u16, least.0 % WIDTH as u16), least.1)
 }
 
-/// A key by which corners are ordered: by their first number, then by their second.
-#[inline]
-fn key(first: u32, second: u32) -> u32 {
-    first * WIDTH as u32 + second
+/// The number of a corner by columns: W has the least, E the greatest; and by rows from the top: N has the least, S the greatest.
+fn col_number(corner: Point) -> u16 {
+    corner.col * WIDTH as u16 + corner.row
 }
 
-/// Keeps the larger of two keys, with its place.
-#[inline]
-fn keep_largest(kept: &mut (u32, usize), key: u32, place: usize) {
-    if key > kept.0 {
-        *kept = (key, place);
-    }
+fn row_number(corner: Point) -> u16 {
+    (LAST_CORNER - corner.row) * WIDTH as u16 + corner.col
 }
+
+/// What a letter adds to either.
+const COL_STEPS: [u16; 4] = [WIDTH as u16, 1, (WIDTH as u16).wrapping_neg(), 1u16.wrapping_neg()];
+const ROW_STEPS: [u16; 4] = [1, (WIDTH as u16).wrapping_neg(), 1u16.wrapping_neg(), WIDTH as u16];
 
 /// The index of a piece's first letter that is none of its two.
 pub fn first_stray(piece: &[u8], pair: Pair) -> Option<usize> {

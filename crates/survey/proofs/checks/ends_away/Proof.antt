@@ -7,7 +7,7 @@ wide-requires : tie.Need-wide-requires
 wide-requires c κs = search needs
 
 returns : tie.Need-returns
-returns c = rw (c .wide .ensures .0)
+returns c = rw (c .wide .ensures)
 
 pub ends-away-spec : {M : Type 1} → statement M
 ends-away-spec = tie.close (tie.spec wide-requires returns)
