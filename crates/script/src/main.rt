@@ -142,7 +142,7 @@ fn long(s: Script) -> Script {
     s.clear().query(152, 0)
 }
 
-// Both parties: drafts apart, the same outline at several places, and a clear of one. 19 before 20, and both before all others.
+// Both parties: drafts apart, the same outline at several places, a clear of one, and the rows of another. 19 before 20, and both before all others.
 fn both(s: Script) -> Script {
     let s = s.at(1, 3)
         .begin(7, 7)

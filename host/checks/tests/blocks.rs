@@ -31,7 +31,6 @@ fn counts_of_4_by_4() {
     assert_eq!(counts.iter().sum::<u32>(), 326_544);
     let reached: Vec<(usize, u32)> = counts.into_iter().enumerate().filter(|&(_, count)| count > 0).collect();
     assert_eq!(reached, [(0, 61_424), (8, 251_360), (9, 13_760)]);
-    assert_eq!(counts, [61_424, 0, 0, 0, 0, 0, 0, 0, 251_360, 13_760, 0, 0, 0, 0, 0, 0, 0, 0, 0]);
 }
 
 /// Past refusal 6, an outline is taken exactly if its hull has no missing cell; its edges then answer for its cells.

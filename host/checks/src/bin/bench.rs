@@ -153,6 +153,8 @@ impl Bench {
         self.add_call("add in a replay", each_more(&begun, &drawn, outline.letters.len()));
         self.add_call("begin, adds and close", race_replays(&closed));
         self.add_call("live query", live(&closed, &queries));
+        let rows = Call::script((0..SIDE).map(|row| Action::Row { place, row }.by(party)));
+        self.add_call("live row", live(&closed, &rows));
         // A letter that is turned back, and a full draft, cost as much as one that is added; so the draft may stay as it is.
         self.add_call("live add", live(&begun, &adds));
         self.add_call("live begin, adds and close", live_round(&closed));
@@ -298,6 +300,9 @@ fn border_by<'a>(engine: &'a dyn Engine, anchor: Point, edges: &'a [i16]) -> imp
     move || {
         engine.border(anchor, black_box(edges), &mut letters, &mut reply);
         black_box((&letters, &reply));
+    }
+}
+
 /// The anchor and the edges of a taken outline.
 fn polygon(outline: &Outline) -> Polygon {
     let mut list = [0; LONGEST_LIST];
