@@ -99,6 +99,8 @@ pub extern "C" fn rq_border(
     };
     let traced = border(anchor, edges, letters);
     write(of_traced(traced), reply)
+}
+
 // Compares two lists of edges, each from its anchor: how the cells in their hulls lie, and whose list is the inner one's.
 #[no_mangle]
 pub extern "C" fn rq_compare(
