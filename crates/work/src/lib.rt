@@ -5,12 +5,12 @@ use chart::Point;
 use chart::Refusal;
 use polygon::bad_cell;
 use polygon::inside;
+use same::same_numbers;
+use same::same_point;
 ghost use mathlib.Core.Path.{_≡_};
 ghost use Prim.Native.Nat.{_*_, min};
 ghost use lib.ListN.{take};
-ghost use Rattle.base.specs.Same.{sameℤ, sameℤs};
 ghost use Rattle.chart.specs.Limits.{mostNumbers};
-ghost use Rattle.lattice.specs.Chart.{samePoint};
 ghost use Rattle.polygon.specs.Loose.{insideList};
 ghost use Rattle.work.specs.Work.{noWork, listed, workEdges, replaced, removed, hasEdges, located};
 
@@ -40,34 +40,6 @@ fn first(numbers: &[i16; MOST_NUMBERS], edges: usize) -> &[i16]
     let n = number_count(edges);
     let all = &numbers[..];
     &all[..n]
-}
-
-fn same_point(p: Point, q: Point) -> bool
-    ensures { λ r. ⌜ r ≡ samePoint p q ⌝ }
-{
-    p.col == q.col && p.row == q.row
-}
-
-fn same_number(a: i16, b: i16) -> bool
-    ensures { λ r. ⌜ r ≡ sameℤ a b ⌝ }
-{
-    a == b
-}
-
-fn same_numbers(a: &[i16], b: &[i16]) -> bool
-    ensures { λ r. ⌜ r ≡ sameℤs (now (a .entry)) (now (b .entry)) ⌝ }
-{
-    if a.len() != b.len() {
-        return false;
-    }
-    let mut i = 0;
-    while i < a.len() {
-        if !same_number(a[i], b[i]) {
-            return false;
-        }
-        i += 1;
-    }
-    true
 }
 
 impl Work {
