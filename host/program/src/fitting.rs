@@ -1,17 +1,15 @@
-//! Fitting files: records one behind the other, without a header. A record is the mark 4B 4F (hexadecimal), the start's column and
+//! Fitting files (contract 11): records one behind the other, without a header. A record is the mark 4B 4F (hexadecimal), the start's column and
 //! row, a byte each, the count of letters, two bytes, low first, and the letters, a byte each.
 
 use std::fmt;
 
+use robequarry::limits::LONGEST_FILE;
 use robequarry::{Corner, Outline};
 
 const MARK: [u8; 2] = [0x4B, 0x4F];
 
 /// The mark, the start and the count of letters.
 const HEAD: usize = 6;
-
-/// A fitting file has at most this many bytes.
-pub const LARGEST: usize = 65_536;
 
 /// What is wrong with a fitting file. The reading ends there; the records before it stand.
 #[derive(Clone, Copy, Debug, PartialEq, Eq)]
@@ -31,7 +29,7 @@ impl fmt::Display for Fault {
                 write!(f, "fault 23: outline {record} has no mark: the bytes 4B 4F are not at byte {at}")
             }
             Fault::Cut { record, at } => write!(f, "fault 24: outline {record} is cut: its mark is at byte {at}"),
-            Fault::Large => write!(f, "fault 25: a fitting file has at most {LARGEST} bytes"),
+            Fault::Large => write!(f, "fault 25: a fitting file has at most {LONGEST_FILE} bytes"),
         }
     }
 }
@@ -77,7 +75,7 @@ impl Iterator for Records<'_> {
         if self.ended {
             return None;
         }
-        if self.bytes.len() > LARGEST {
+        if self.bytes.len() > LONGEST_FILE {
             self.ended = true;
             return Some(Err(Fault::Large));
         }
@@ -136,7 +134,7 @@ mod tests {
             assert_eq!(read(&two[..10 + cut]).len(), 2);
         }
         assert_eq!(read(b"KP"), [Err(Fault::Mark { record: 0, at: 0 })]);
-        assert_eq!(read(&vec![0; LARGEST + 1]), [Err(Fault::Large)]);
-        assert_eq!(read(&vec![0; LARGEST]), [Err(Fault::Mark { record: 0, at: 0 })]);
+        assert_eq!(read(&vec![0; LONGEST_FILE + 1]), [Err(Fault::Large)]);
+        assert_eq!(read(&vec![0; LONGEST_FILE]), [Err(Fault::Mark { record: 0, at: 0 })]);
     }
 }

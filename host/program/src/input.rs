@@ -5,6 +5,7 @@ use std::fs::File;
 use std::io::{self, Read};
 use std::path::Path;
 
+use robequarry::limits::LONGEST_FILE;
 use robequarry::Outline;
 
 use crate::{fitting, text};
@@ -91,7 +92,7 @@ fn form_of(bytes: &[u8]) -> Form {
 /// The bytes of a file, `-` being standard input. A file that is a fitting file by name is read no further than its limit.
 pub fn read(path: &Path, form: Option<Form>) -> io::Result<Vec<u8>> {
     let mut bytes = Vec::new();
-    let most = if form == Some(Form::Fitting) { fitting::LARGEST as u64 + 1 } else { u64::MAX };
+    let most = if form == Some(Form::Fitting) { LONGEST_FILE as u64 + 1 } else { u64::MAX };
     if path.as_os_str() == "-" {
         io::stdin().lock().take(most).read_to_end(&mut bytes)?;
     } else {

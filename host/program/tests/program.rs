@@ -195,7 +195,6 @@ fn bench_times_each_outline() {
     assert_eq!((lines[2][0], lines[2][2], status(&timed)), ("12", "-", 1));
 }
 
-#[cfg(feature = "border")]
 #[test]
 fn border_writes_an_outline_back() {
     let plus = program(&["border", "0", "1", "1", "1", "1", "-1", "-1", "-1", "-1", "1"]);
@@ -212,7 +211,6 @@ fn border_writes_an_outline_back() {
 }
 
 /// Whatever `check` takes, `border` writes back from its edges: the same block.
-#[cfg(feature = "border")]
 #[test]
 fn border_of_every_taken_specimen() {
     use robequarry_program::input::Entries;
@@ -228,7 +226,6 @@ fn border_of_every_taken_specimen() {
     }
 }
 
-#[cfg(feature = "compare")]
 #[test]
 fn compare_says_which_lies_within() {
     let file = file("blocks.txt", b"5 5 1032\n5 5 11003322\n7 5 1032\n6 5 10003222\n0 0 103\n");

@@ -1,10 +1,8 @@
 //! The commands, each with its help, and what all of them share: files, faults and exit statuses.
 
 mod bench;
-#[cfg(feature = "border")]
 mod border;
 mod check;
-#[cfg(feature = "compare")]
 mod compare;
 mod draw;
 mod explain;
@@ -71,9 +69,7 @@ const COMMANDS: &[&Command] = &[
     &explain::COMMAND,
     &draw::COMMAND,
     &row::COMMAND,
-    #[cfg(feature = "compare")]
     &compare::COMMAND,
-    #[cfg(feature = "border")]
     &border::COMMAND,
     &bench::COMMAND,
     &gallery::COMMAND,

@@ -1,9 +1,9 @@
 use robequarry::limits::LAST_CELL;
-use robequarry::Refusal;
+use robequarry::{Outline, Refusal};
 
 use super::{number, one, title, Command, Console, Failure, Status};
 use crate::arguments::Arguments;
-use crate::engine;
+use crate::engine::AtWork;
 use crate::verdict::Said;
 
 pub const COMMAND: Command = Command {
@@ -27,24 +27,33 @@ fn run(arguments: &Arguments, console: &mut Console) -> Result<Status, Failure> 
     };
     let (number, entry) = one(path.as_ref(), arguments, arguments.outline)?;
     let verdict = entry.outline.test();
-    let Ok(edges) = &verdict else {
+    if verdict.is_err() {
         let said = Said::of(&entry.outline, &verdict);
         console.line(format_args!("{}: {} - {}", title(number, &entry), said.what, said.place))?;
         return Ok(Status::Refused);
-    };
-    let rows = row.map_or(0..=LAST_CELL, |row| row..=row);
-    for at in rows {
-        match engine::row(edges, at) {
-            Ok(Some((first, last))) => console.line(format_args!("row {at}: columns {first} to {last}"))?,
-            Ok(None) if row.is_some() => console.line(format_args!("row {at}: none"))?,
-            Ok(None) => {}
-            Err(refusal) => return refused(refusal, console),
+    }
+    match write(&entry.outline, row, console)? {
+        Ok(()) => Ok(Status::Taken),
+        Err(refusal) => {
+            console.line(format_args!("refused, {}: {refusal}", refusal.number()))?;
+            Ok(Status::Refused)
         }
     }
-    Ok(Status::Taken)
 }
 
-fn refused(refusal: Refusal, console: &mut Console) -> Result<Status, Failure> {
-    console.line(format_args!("refused, {}: {refusal}", refusal.number()))?;
-    Ok(Status::Refused)
+/// Writes the wanted row of a taken outline or, where none is wanted, all that have a cell.
+fn write(outline: &Outline, wanted: Option<u16>, console: &mut Console) -> Result<Result<(), Refusal>, Failure> {
+    let mut at_work = match AtWork::of(outline) {
+        Ok(at_work) => at_work,
+        Err(refusal) => return Ok(Err(refusal)),
+    };
+    for row in wanted.map_or(0..=LAST_CELL, |row| row..=row) {
+        match at_work.row(row) {
+            Ok(Some((first, last))) => console.line(format_args!("row {row}: columns {first} to {last}"))?,
+            Ok(None) if wanted.is_some() => console.line(format_args!("row {row}: none"))?,
+            Ok(None) => {}
+            Err(refusal) => return Ok(Err(refusal)),
+        }
+    }
+    Ok(Ok(()))
 }
