@@ -1,14 +1,14 @@
 -- What the loops gather of a layer is the hull's part there: some line is at or below a row exactly if the least of the lines' rows is. So no cell is missing exactly if every
 -- layer has what the hull has there; and where one has not, the hull's first or last cell there is missing.
-use Prim.Native.Nat.{ℕ, zero, suc, _+_, _-_, _*_, _/_, _≤_, _<_, min, max}
-use native.Mathlib.Nat.{div-lt-iff-lt-mul, le-div-iff-mul-le, mul-le-mul-left, eq-or-lt-of-le, le-of-suc-le-suc}
+use Prim.Native.Nat.{ℕ, zero, suc, _+_, _-_, _*_, _≤_, _<_, min, max}
+use native.Mathlib.Nat.{mul-le-mul-left, eq-or-lt-of-le, le-of-suc-le-suc}
 use native.Mathlib.Decide.{decLe, decLt}
 use native.Mathlib.Omega.{arith}
 use mathlib.Core.Path.{_≡_, refl, sym, ap, _∙_}
 use mathlib.Core.Logic.{_⊎_, inl, inr, _↔_}
-use mathlib.Core.Bool.{Bool, true, false, true≢false, cond, _&&_, _||_}
+use mathlib.Core.Bool.{Bool, true, false, true≢false, _&&_, _||_}
 use lib.Dec.{leb, ltb}
-use borrow.Author.Tests.{leb-true, leb-false, le-leb, lt-leb, ltb-true, ltb-false, lt-ltb, le-ltb}
+use borrow.Author.Tests.{leb-true, leb-false, le-leb, ltb-true, lt-ltb}
 use Rattle.base.specs.Below.{every}
 use Rattle.base.proofs.BelowLaws.{and-left, and-right, or-false-iff, not-held, every-at, every-fails}
 use Rattle.chart.specs.Limits.{side}
@@ -16,31 +16,18 @@ use Rattle.chart.specs.declared.Point.{Point}
 use Rattle.lattice.specs.Hull.{InHull, Missing, Full}
 use Rattle.sections.specs.declared.Reach.{Reach}
 use Rattle.sections.specs.Sections.{layers, fold, ceiling, above, lowLine, highLine, full, alone, joined, joinedFrom, reached, wholeIn, whole, clear}
-use Rattle.sections.proofs.Lines.{Runs, Line, own, line, Lower, Upper}
+use Rattle.sections.proofs.Lines.{Runs, Line, own, line, Upper}
+use Rattle.sections.proofs.Quotients.{ceiling-iff, above-iff}
 use Rattle.sections.proofs.Sides.{Dir}
 use Rattle.sections.proofs.Theorem.{Strict, here, across, strict, hull-lower, hull-upper, lines-hull}
 
--- ---- a line's row, rounded up and rounded down
-
-ceiling-iff : (a d r : ℕ) → 0 < d → (ceiling a d ≤ r) ↔ (a ≤ d * r)
-unfolding ceiling
-ceiling-iff a d r p =
-    let law = div-lt-iff-lt-mul {k = d} {x = a + (d - 1)} {y = suc r} p in
-    ((λ h. let g : (a + (d - 1)) / d < suc r = omega arith in omega (arith, law .0 g)), λ h. let g : a + (d - 1) < suc r * d = omega arith in omega (arith, law .1 g))
-
-above-iff : (a d r : ℕ) → 0 < d → (r < above a d) ↔ (d * r ≤ a)
-unfolding above
-above-iff a d r p =
-    let law = le-div-iff-mul-le {k = d} {x = r} {y = a} p in
-    ((λ h. let g : r ≤ a / d = omega arith in omega (arith, law .0 g)), λ h. let g : r * d ≤ a = omega arith in omega (arith, law .1 g))
+-- ---- what a fold gathers
 
 at-most-min : (r a b : ℕ) → (min a b ≤ r) ↔ ((a ≤ r) ⊎ (b ≤ r))
 at-most-min r a b = ((λ h. elim (decLe a r) [ yes l ↦ inl l | no l ↦ inr (omega arith) ]), λ s. elim s [ inl l ↦ omega arith | inr l ↦ omega arith ])
 
 below-max : (r a b : ℕ) → (r < max a b) ↔ ((r < a) ⊎ (r < b))
 below-max r a b = ((λ h. elim (decLe (suc r) a) [ yes l ↦ inl l | no l ↦ inr (omega arith) ]), λ s. elim s [ inl l ↦ omega arith | inr l ↦ omega arith ])
-
--- ---- what a fold gathers
 
 -- One of the steps below n brings Q about
 abbrev Some : (ℕ → Type 0) → ℕ → Type 0

@@ -3,4 +3,7 @@ pub mod Lines
 pub mod Sides
 pub mod Fan
 pub mod Theorem
+pub mod Folds
+pub mod Quotients
 pub mod Decides
+pub mod Specimens

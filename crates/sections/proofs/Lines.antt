@@ -1,8 +1,7 @@
 -- A section whose layers each have one run of marked rows or none, and the lines through the runs' ends.
 use Prim.Native.Nat.{ℕ, _+_, _-_, _*_, _≤_, _<_}
 use mathlib.Core.Path.{_≡_}
-use mathlib.Core.Bool.{Bool, true, _&&_}
-use lib.Dec.{leb}
+use mathlib.Core.Bool.{Bool, true}
 
 -- The marked rows of layer l are lo l .. hi l where the layer is full, and none where it is not
 pub record Runs (marked : ℕ → ℕ → Bool) (full : ℕ → Bool) (lo hi : ℕ → ℕ) : Type 0 where

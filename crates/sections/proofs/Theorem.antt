@@ -4,14 +4,10 @@ use native.Mathlib.Nat.{sub-self, mul-le-mul-left}
 use native.Mathlib.Decide.{decLe, decLt}
 use native.Mathlib.Omega.{arith}
 use mathlib.Core.Path.{_≡_, refl, ap}
-use mathlib.Core.Logic.{_↔_}
 use mathlib.Core.Bool.{Bool, true, false}
-use lib.Dec.{leb}
-use borrow.Author.Tests.{leb-true, le-leb}
 use Rattle.chart.specs.declared.Point.{Point}
 use Rattle.lattice.specs.Hull.{InTriangle, InHull}
 use Rattle.sections.proofs.Lines.{Runs, Line, own, line, Lower, Upper}
-use Rattle.base.proofs.BelowLaws.{and-left, and-right}
 use Rattle.sections.proofs.Sides.{Dir, dir-cancel, dir-as, Mark, triangle-line}
 use Rattle.sections.proofs.Fan.{fan}
 
@@ -129,6 +125,3 @@ module _ (marked : ℕ → ℕ → Bool) (full : ℕ → Bool) (lo hi : ℕ → 
 
   pub lines-hull : (x : Point) → Lower full lo (x .col) (x .row) → Upper full hi (x .col) (x .row) → InHull marked x
   lines-hull x l h = between (x .col) (x .row) (strict true full lo (x .col) (x .row) l) (strict false full hi (x .col) (x .row) h)
-
-  pub hull-iff : (x : Point) → InHull marked x ↔ (Lower full lo (x .col) (x .row) × Upper full hi (x .col) (x .row))
-  hull-iff x = ((λ h. (hull-lower x h, hull-upper x h)), λ p. lines-hull x (p .0) (p .1))

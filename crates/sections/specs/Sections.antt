@@ -1,7 +1,9 @@
 -- A section is a plane of layers in which each layer's marked cells are one run, or none: those from lo l up to but not including past l. Whether the hull of the
 -- marked cells holds no other is computed from the lines through the ends of two runs (that it is so: proofs/Decides.antt).
-use Prim.Native.Nat.{ℕ, zero, suc, _+_, _-_, _*_, _/_, min, max}
+use Prim.Native.Nat.{ℕ, zero, suc, _+_, _-_, _*_, _/_, _≤_, min, max}
 use mathlib.Core.Bool.{Bool, cond, _&&_, _||_}
+use mathlib.Core.List.{List}
+use lib.ListN.{getD}
 use lib.Dec.{leb, ltb}
 use Rattle.base.specs.Below.{every}
 use Rattle.chart.specs.Limits.{side}
@@ -10,6 +12,14 @@ use Rattle.sections.specs.declared.Reach.{Reach}
 -- A pile has this many layers
 abbrev pub layers : ℕ
 layers = 16
+
+-- What is kept for layer l, and 0 past the last
+abbrev pub numbers : List ℕ → ℕ → ℕ
+numbers list l = getD list l 0
+
+-- Cells of the chart
+abbrev pub Bounded : Reach → Type 0
+Bounded r = (r .low ≤ side) × (r .high ≤ side)
 
 -- f 0 and then f 1 and so on up to f (n - 1), each of what the one before made of a
 unfoldable pub fold : {A : Type 0} → (ℕ → A → A) → ℕ → A → A
