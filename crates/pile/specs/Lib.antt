@@ -1,4 +1,3 @@
--- Replies written out; a pile as it is kept and the calls on it; the plain book for piles.
+-- Replies written out; a pile as it is kept and the calls on it.
 pub mod Replies
 pub mod Pile
-pub mod Book

@@ -1,5 +1,4 @@
 -- Sixteen times no spans.
-use mathlib.Core.Path.{ap}
 use Rattle.pile.specs.Pile.{freshPile}
 use borrow.Author.Needs.{needs}
 use Rattle.pile.proofs.fresh.Statement.{statement}

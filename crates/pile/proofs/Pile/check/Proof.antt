@@ -1,6 +1,5 @@
 -- The columns, then the rows, as in the definition.
 use mathlib.Core.Path.{sym}
-use borrow.Author.Needs.{needs}
 use borrow.Author.Tests.{lt-ltb, le-ltb}
 use Rattle.pile.specs.Pile.{checkOf}
 use Rattle.pile.proofs.Pile.check.Statement.{statement}

@@ -1,7 +1,6 @@
 -- One field is written.
 use mathlib.Core.Path.{refl}
 use Rattle.pile.specs.Pile.{judgedPile}
-use borrow.Author.Needs.{needs}
 use Rattle.pile.proofs.Pile.marked.Statement.{statement}
 use Rattle.pile.proofs.Pile.marked.Tie as tie
 

@@ -1,5 +1,4 @@
 -- The test of the definition.
-use mathlib.Core.Path.{_∙_}
 use borrow.Author.Tests.{lt-ltb, le-ltb}
 use Rattle.pile.specs.Pile.{emptyOf}
 use borrow.Author.Needs.{needs}

@@ -1,7 +1,7 @@
 -- Every layer passed has its run; at the end the lists are those of the definition.
-use Prim.Native.Nat.{ℕ, _+_, _-_, _≤_}
+use Prim.Native.Nat.{ℕ, _-_, _≤_}
 use native.Mathlib.Omega.{arith}
-use mathlib.Core.Path.{_≡_, refl, sym, ap, _∙_}
+use mathlib.Core.Path.{_≡_, refl}
 use lib.ListN.{length-replicate}
 use borrow.Author.Needs.{needs}
 use Rattle.rows.specs.Rows.{rows}

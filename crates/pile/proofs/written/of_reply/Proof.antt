@@ -1,5 +1,4 @@
 -- Each arm writes the fields that the definition gives for its case.
-use mathlib.Core.Path.{refl, _∙_, sym, ap}
 use Rattle.pile.specs.Replies.{pileFields}
 use borrow.Author.Needs.{needs}
 use Rattle.pile.proofs.written.of_reply.Statement.{statement}
