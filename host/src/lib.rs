@@ -23,6 +23,8 @@
 //! A [`Holder`] keeps, for each party, a draft, letter by letter, and the outlines at work. [`raw`] has the library's functions as
 //! they are, on plain lists of numbers; [`codec`] reads and writes these, and [`limits`] names what bounds them.
 //!
+//! A [`Pile`] keeps sixteen layers, and says whether they go over into one another without a dent.
+//!
 //! The answers are proved; this crate, which turns lists of numbers into types, is not.
 
 mod chart;
@@ -30,6 +32,7 @@ pub mod codec;
 mod holder;
 pub mod limits;
 mod outline;
+pub mod pile;
 pub mod raw;
 mod refusal;
 
@@ -37,4 +40,5 @@ pub use chart::{Cell, Corner};
 pub use codec::{Action, Call};
 pub use holder::{Answer, Holder, Reply};
 pub use outline::{Edges, Outline, Taken, Verdict};
+pub use pile::{Pile, PileCall};
 pub use refusal::Refusal;

@@ -28,3 +28,7 @@ looseReply ac ar edges c r reply = replyAfter (positionFields (looseOf (at ac ar
 -- What the holder takes as C lays it out: two drafts of 632 bytes, and eight works of 416
 abbrev pub holderBytes : ℕ
 holderBytes = 4592
+
+-- What a pile takes as C lays it out: 510 bytes for each of sixteen layers, and whether it passed
+abbrev pub pileBytes : ℕ
+pileBytes = 8161

@@ -7,10 +7,12 @@ mod chart;
 mod climb;
 mod holder;
 mod loose;
+mod pile;
 mod test;
 mod words;
 
 pub use chart::refusal as walk_refusal;
 pub use holder::{replay, Holder};
 pub use loose::loose_query;
+pub use pile::Pile;
 pub use test::test;

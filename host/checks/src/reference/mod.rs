@@ -7,6 +7,7 @@ pub mod border;
 pub mod calls;
 pub mod cells;
 pub mod edges;
+pub mod pile;
 pub mod readings;
 pub mod walk;
 pub mod wide;
