@@ -17,7 +17,7 @@
  *   0 number   0, or the number of the refusal
  *   1 word     RQ_NO_WORD, RQ_INSIDE, RQ_OUTSIDE, RQ_TAKEN, RQ_SAME, RQ_NONE or RQ_COLUMNS; of a comparison RQ_EQUAL to RQ_CROSSING
  *   2 place
- *   3 piece    1 to 4; of a comparison, whose list is the inner one's: 1, 2, or 0
+ *   3 piece    1 to 4; in 21, 0 or 1; of a comparison, whose list is the inner one's: 1, 2, or 0
  *   4 length
  *   5 column   of a cell
  *   6 row
@@ -48,6 +48,11 @@
  *   19  the party is above 1
  *   20  the place is above 3; a close that it turns back ends its party's draft all the same
  *
+ *   21  pile, check: a section is dented: piece 0 for a column and 1 for a row, place its column or row; the first among columns, then rows
+ *   22  pile: the layer is above 15; before all others
+ *
+ * A pile's query gives 12 where the pile is unchecked or did not pass.
+ *
  * The words used here (piece, back-step, factor, missing) are those of docs/CONTRACT.md, clauses 2 and 3.
  */
 #ifndef ROBEQUARRY_H
@@ -69,7 +74,9 @@ enum {
     RQ_LETTERS = 612, /* most letters of an outline, and of a draft */
     RQ_EDGES = 200,   /* numbers that the edges of any taken outline need at most */
     RQ_NUMBERS = 2032, /* most numbers of a list of edges that is lent */
-    RQ_HOLDER_BYTES = 8688 /* bytes of a holder, as rq_holder_bytes() says */
+    RQ_HOLDER_BYTES = 8688, /* bytes of a holder, as rq_holder_bytes() says */
+    RQ_LAYERS = 16,   /* layers of a pile, from 0 */
+    RQ_PILE_BYTES = 8161 /* bytes of a pile, as rq_pile_bytes() says */
 };
 
 enum { RQ_NO_WORD = 0, RQ_INSIDE = 1, RQ_OUTSIDE = 2, RQ_TAKEN = 3, RQ_SAME = 4, RQ_NONE = 5, RQ_COLUMNS = 6 };
@@ -181,6 +188,38 @@ void rq_fresh(void *holder);
  * Stack: about 18,600 bytes.
  */
 bool rq_call(void *holder, const uint8_t *call, size_t n, uint16_t *reply, size_t k);
+
+/*
+ * Calls on a pile of RQ_LAYERS layers, each empty or one taken outline. A section at a fixed column, or at a fixed row, is a plane of layers by cells;
+ * it is dented if some cell of it lies in the hull of its marked cells and is not marked.
+ *
+ * All of them return false, with nothing altered, if k is below RQ_REPLY. Else true; the reply stands first in `reply`, the rest is unaltered.
+ */
+
+/* How many bytes a pile is: RQ_PILE_BYTES. */
+size_t rq_pile_bytes(void);
+
+/*
+ * Makes a pile of lent memory: every layer empty, and unchecked. The memory has rq_pile_bytes() bytes, is aligned to 8, and is all zero bytes, or a
+ * pile already, before this call. Nobody else may write to it as long as it is used as a pile.
+ */
+void rq_pile_fresh(void *pile);
+
+/*
+ * Sets a layer to an outline: 22, then 1 to 9, or taken with the fields of a taken test. A refusal alters nothing; else the pile is unchecked.
+ *
+ * Stack: about 40,000 bytes, as for all calls on a pile.
+ */
+bool rq_pile_set(void *pile, uint8_t layer, uint16_t col, uint16_t row, const uint8_t *letters, size_t n, uint16_t *reply, size_t k);
+
+/* Sets a layer to empty: 22, or number 0, and the pile is unchecked. */
+bool rq_pile_empty(void *pile, uint8_t layer, uint16_t *reply, size_t k);
+
+/* Checks every section: 21, or number 0, and the pile has passed until a layer is set. */
+bool rq_pile_check(void *pile, uint16_t *reply, size_t k);
+
+/* Asks where a cell lies: 22, 12, 11, or the word "inside" if the layer's outline encloses it, and else "outside". The pile stays as it is. */
+bool rq_pile_query(void *pile, uint8_t layer, uint16_t col, uint16_t row, uint16_t *reply, size_t k);
 
 #ifdef __cplusplus
 }

@@ -24,6 +24,8 @@
 //! the outlines at work. [`raw`] has the library's functions as they are, on plain lists of numbers; [`codec`] reads and writes these,
 //! and [`limits`] names what bounds them.
 //!
+//! A [`Pile`] keeps sixteen layers, and says whether they go over into one another without a dent.
+//!
 //! The answers are proved; this crate, which turns lists of numbers into types, is not.
 
 mod chart;
@@ -32,6 +34,7 @@ mod comparison;
 mod holder;
 pub mod limits;
 mod outline;
+pub mod pile;
 pub mod raw;
 mod refusal;
 
@@ -40,4 +43,5 @@ pub use codec::{Action, Call};
 pub use comparison::{Comparison, Nesting, TurnedBack};
 pub use holder::{Answer, Holder, Reply};
 pub use outline::{Edges, Outline, Taken, Verdict};
+pub use pile::{Pile, PileCall};
 pub use refusal::Refusal;

@@ -17,6 +17,11 @@ struct work { bool taken; struct point anchor; int16_t numbers[RQ_EDGES]; size_t
 struct holder { struct draft drafts[RQ_PARTIES]; struct work works[RQ_PARTIES * RQ_PLACES]; };
 _Static_assert(sizeof(struct holder) == RQ_HOLDER_BYTES && _Alignof(struct holder) <= 8, "size and alignment of a holder");
 
+/* And the pile's. */
+struct spans { uint8_t first[255], past[255]; };
+struct pile { struct spans layers[RQ_LAYERS]; bool passed; };
+_Static_assert(sizeof(struct pile) == RQ_PILE_BYTES && _Alignof(struct pile) == 1, "size and alignment of a pile");
+
 #define EXPECT(fact) \
     do { \
         if (!(fact)) return __LINE__; \
@@ -82,5 +87,22 @@ int main(void) {
     }
     EXPECT(!rq_call(memory, script, RQ_CALL - 1, reply, RQ_REPLY) && !rq_call(memory, script, RQ_CALL, reply, RQ_REPLY - 1));
     EXPECT(memory[RQ_HOLDER_BYTES / 8] == 0x5a5a5a5a5a5a5a5a);
+
+    /* A pile: cells (0, 1), (1, 2), (2, 0) of column 9, as layer and row, leave (1, 1) out. */
+    static uint64_t pile[RQ_PILE_BYTES / 8 + 2];
+    ((uint8_t *)pile)[RQ_PILE_BYTES] = 0x5a;
+    const uint8_t cell[] = {1, 0, 3, 2};
+    EXPECT(rq_pile_bytes() == RQ_PILE_BYTES);
+    rq_pile_fresh(pile);
+    EXPECT(rq_pile_query(pile, 0, 0, 0, reply, RQ_REPLY) && reply[0] == 12);
+    EXPECT(rq_pile_query(pile, RQ_LAYERS, 0, 0, reply, RQ_REPLY) && reply[0] == 22);
+    EXPECT(rq_pile_set(pile, 0, 9, 1, cell, sizeof cell, reply, RQ_REPLY) && reply[0] == 0 && reply[5] == 9 && reply[6] == 1);
+    EXPECT(rq_pile_set(pile, 1, 9, 2, cell, sizeof cell, reply, RQ_REPLY) && rq_pile_set(pile, 2, 9, 0, cell, sizeof cell, reply, RQ_REPLY));
+    EXPECT(rq_pile_check(pile, reply, RQ_REPLY) && reply[0] == 21 && reply[3] == 0 && reply[2] == 9);
+    EXPECT(rq_pile_set(pile, 1, 9, 1, cell, sizeof cell, reply, RQ_REPLY) && rq_pile_check(pile, reply, RQ_REPLY) && reply[0] == 0);
+    EXPECT(rq_pile_query(pile, 1, 9, 1, reply, RQ_REPLY) && reply[1] == RQ_INSIDE);
+    EXPECT(!rq_pile_check(pile, reply, RQ_REPLY - 1) && rq_pile_empty(pile, 1, reply, RQ_REPLY) && reply[0] == 0);
+    EXPECT(rq_pile_query(pile, 1, 9, 1, reply, RQ_REPLY) && reply[0] == 12);
+    EXPECT(((uint8_t *)pile)[RQ_PILE_BYTES] == 0x5a);
     return 0;
 }

@@ -41,3 +41,7 @@ borderLetters ac ar edges letters reply = cond (leb 7 (length reply)) (lettersAf
 -- A comparison: the reply list afterwards
 unfoldable pub compareReply : ℕ → ℕ → List ℤ → ℕ → ℕ → List ℤ → List ℕ → List ℕ
 compareReply ac ar es bc br fs reply = replyAfter (comparisonFields (comparisonOf (at ac ar) es (at bc br) fs)) reply
+
+-- What a pile takes as C lays it out: 510 bytes for each of sixteen layers, and whether it passed
+abbrev pub pileBytes : ℕ
+pileBytes = 8161

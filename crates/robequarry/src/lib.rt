@@ -11,6 +11,9 @@ use chart::reply::write;
 use holder::Holder;
 use holder::fresh;
 use letters::border;
+use pile::Pile;
+use sections::LAYERS;
+use spans::ROWS;
 use tracing::written::of_traced;
 use wire::respond;
 ghost use mathlib.Core.Path.{_≡_};
@@ -26,7 +29,9 @@ ghost use Rattle.compare.specs.Compared.{CellsNamed};
 ghost use Rattle.holder.specs.Holder.{freshHolder};
 ghost use Rattle.wire.specs.Wire.{respondOf, repliedTo};
 ghost use Rattle.replay.specs.Script.{callsRead, repliesAfter};
-ghost use Rattle.robequarry.specs.Face.{at, testReply, testEdges, looseReply, borderReply, borderLetters, compareReply, holderBytes};
+ghost use Rattle.pile.specs.Pile.{freshPile, setOf, emptyOf, checkOf};
+ghost use Rattle.lent.specs.Lent.{handed, replied, asked};
+ghost use Rattle.robequarry.specs.Face.{at, testReply, testEdges, looseReply, borderReply, borderLetters, compareReply, holderBytes, pileBytes};
 
 // What a draft and a work take: the flag, a point of two numbers of 16 bits, the letters or the numbers, the count at the next multiple of 8, and a work's rows.
 const DRAFT_BYTES: usize = 632;
@@ -163,5 +168,82 @@ pub extern "C" fn rq_call(holder: &mut Holder, call: &[u8], reply: &mut [u16]) -
 {
     let responded = respond(*holder, call, reply);
     *holder = responded.holder;
+    responded.done
+}
+
+// How many bytes a pile is, as C lays out its fields: two bytes for each row of each layer, and whether it passed.
+#[no_mangle]
+pub extern "C" fn rq_pile_bytes() -> usize
+    ensures { λ r. ⌜ r ≡ pileBytes ⌝ }
+{
+    2 * ROWS * LAYERS + 1
+}
+
+// Makes a pile fresh: sixteen empty layers, unchecked.
+#[no_mangle]
+pub extern "C" fn rq_pile_fresh(pile: &mut Pile)
+    ensures { λ r. ⌜ now (pile .exit) ≡ freshPile ⌝ }
+{
+    *pile = pile::fresh();
+}
+
+// Sets a layer to an outline, and says whether the reply had room: where it had not, nothing is altered.
+#[no_mangle]
+pub extern "C" fn rq_pile_set(
+    pile: &mut Pile,
+    layer: u8,
+    col: u16,
+    row: u16,
+    letters: &[u8],
+    reply: &mut [u16],
+) -> bool
+    ensures { λ r. ⌜ (r ≡ handed (now (pile .entry)) (setOf (now (pile .entry)) layer (record { start = at col row; letters = now (letters .entry) })) (now (reply .entry)) .done)
+        × (now (pile .exit) ≡ handed (now (pile .entry)) (setOf (now (pile .entry)) layer (record { start = at col row; letters = now (letters .entry) })) (now (reply .entry)) .pile)
+        × (now (reply .exit) ≡ replied (setOf (now (pile .entry)) layer (record { start = at col row; letters = now (letters .entry) })) (now (reply .entry))) ⌝ }
+{
+    let responded = lent::set(*pile, layer, col, row, letters, reply);
+    *pile = responded.pile;
+    responded.done
+}
+
+// Sets a layer to empty.
+#[no_mangle]
+pub extern "C" fn rq_pile_empty(pile: &mut Pile, layer: u8, reply: &mut [u16]) -> bool
+    ensures { λ r. ⌜ (r ≡ handed (now (pile .entry)) (emptyOf (now (pile .entry)) layer) (now (reply .entry)) .done)
+        × (now (pile .exit) ≡ handed (now (pile .entry)) (emptyOf (now (pile .entry)) layer) (now (reply .entry)) .pile)
+        × (now (reply .exit) ≡ replied (emptyOf (now (pile .entry)) layer) (now (reply .entry))) ⌝ }
+{
+    let responded = lent::set_empty(*pile, layer, reply);
+    *pile = responded.pile;
+    responded.done
+}
+
+// Checks every section.
+#[no_mangle]
+pub extern "C" fn rq_pile_check(pile: &mut Pile, reply: &mut [u16]) -> bool
+    ensures { λ r. ⌜ (r ≡ handed (now (pile .entry)) (checkOf (now (pile .entry))) (now (reply .entry)) .done)
+        × (now (pile .exit) ≡ handed (now (pile .entry)) (checkOf (now (pile .entry))) (now (reply .entry)) .pile)
+        × (now (reply .exit) ≡ replied (checkOf (now (pile .entry))) (now (reply .entry))) ⌝ }
+{
+    let responded = lent::check(*pile, reply);
+    *pile = responded.pile;
+    responded.done
+}
+
+// Asks where a cell lies; the pile stays as it is.
+#[no_mangle]
+pub extern "C" fn rq_pile_query(
+    pile: &mut Pile,
+    layer: u8,
+    col: u16,
+    row: u16,
+    reply: &mut [u16],
+) -> bool
+    ensures { λ r. ⌜ (r ≡ handed (now (pile .entry)) (asked (now (pile .entry)) layer (at col row)) (now (reply .entry)) .done)
+        × (now (pile .exit) ≡ handed (now (pile .entry)) (asked (now (pile .entry)) layer (at col row)) (now (reply .entry)) .pile)
+        × (now (reply .exit) ≡ replied (asked (now (pile .entry)) layer (at col row)) (now (reply .entry))) ⌝ }
+{
+    let responded = lent::query(*pile, layer, col, row, reply);
+    *pile = responded.pile;
     responded.done
 }

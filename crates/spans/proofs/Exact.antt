@@ -1,19 +1,17 @@
 -- The spans are exact: along each row the border has one up and, right of it, one down, or none of either. The outline as sent runs along the same sides, the same way or the
 -- other, so its two columns are the same two; and what lies between them is enclosed.
-use Prim.Native.Nat.{ℕ, suc, _+_, _-_, _≤_, _<_}
+use Prim.Native.Nat.{ℕ, _-_, _≤_, _<_}
 use native.Mathlib.Decide.{decLe, decLt}
 use native.Mathlib.Omega.{arith}
 use mathlib.Core.Path.{_≡_, refl, sym, ap, subst, _∙_}
 use mathlib.Core.Logic.{_↔_, _⊎_, inl, inr, ⊎-elim}
 use mathlib.Core.Bool.{Bool, true, false, cond, _&&_}
 use mathlib.Core.List.{List}
-use lib.ListN.{length}
 use lib.Dec.{leb, ltb}
-use borrow.Author.Tests.{le-leb, lt-leb, lt-ltb, le-ltb, leb-true, ltb-true, ltb-false}
+use borrow.Author.Tests.{le-leb, lt-leb, lt-ltb, le-ltb, leb-true, ltb-true}
 use Rattle.base.specs.Below.{first, some}
-use Rattle.base.proofs.BelowLaws.{and-left, and-right, not-held, same-test, first-le, first-found, first-before, first-is, first-none}
+use Rattle.base.proofs.BelowLaws.{and-left, and-right, not-held, same-test, first-is, first-none}
 use Rattle.chart.specs.Limits.{side}
-use Rattle.chart.specs.declared.Point.{Point}
 use Rattle.chart.specs.Outline.{Outline}
 use Rattle.lattice.specs.Chart.{size}
 use Rattle.lattice.specs.Enclosed.{count, upAlong, downAlong, ups, downs, encloses}
@@ -29,12 +27,12 @@ use Rattle.convexity.specs.Pieces.{Reaches}
 use Rattle.convexity.proofs.StraightTurn.{NoBackStep}
 use Rattle.convexity.proofs.AsSent.{block-turn, clear-of}
 use Rattle.convexity.proofs.Levels.{ups-tally, downs-tally}
-use Rattle.convexity.proofs.Reading.{reading-clockwise, reading-backward, simple-reading, simple-backward, ups-backward, downs-backward}
-use Rattle.convexity.proofs.RowEnds.{bottom, top, ups-row, downs-row, ups-off, downs-off, row-ends, row-full, row-fits, enclosed-row, enclosed-on-chart}
+use Rattle.convexity.proofs.Reading.{reading-clockwise, reading-backward, simple-reading, ups-backward, downs-backward}
+use Rattle.convexity.proofs.RowEnds.{bottom, top, ups-row, downs-row, ups-off, downs-off, row-ends, row-full, enclosed-row, enclosed-on-chart}
 use Rattle.spans.specs.Spans.{lastBelow, rowSpan, lesser, greater, leftSide, rightSide, spansOf, inSpans, spanFrom, spanAt, SpanExact}
 use Rattle.spans.specs.declared.Span.{Span}
 use Rattle.spans.specs.declared.Span.the-variants.{None, Columns}
-use Rattle.spans.proofs.Tables.{table-at, kept-le}
+use Rattle.spans.proofs.Tables.{table-at, table-past, kept-le}
 use Rattle.spans.proofs.Sides.{column-none, column-once}
 
 -- The ups along row r, counted up to a column, and the downs
@@ -171,6 +169,17 @@ kept-past : (o : Outline) (r : ℕ) → r < side → rows (spansOf o .past) r �
 unfolding spansOf
 kept-past o r l = table-at (rightSide o) 0 side r l ∙ ap (rightSide o) (omega arith)
 
+right-le : (o : Outline) (r : ℕ) → rightSide o r ≤ side
+unfolding rightSide
+right-le o r =
+    greater-le _ _ side (kept-le upAlong (o .letters) (o .start) r 0 (omega arith)) (kept-le downAlong (o .letters) (o .start) r 0 (omega arith))
+
+-- No row goes past the chart
+pub past-le : (o : Outline) (r : ℕ) → rows (spansOf o .past) r ≤ side
+unfolding spansOf
+past-le o r =
+    elim (decLt r side) [ yes l ↦ rw (kept-past o r l) (right-le o r) | no l ↦ omega (arith, table-past (rightSide o) 0 side r (omega arith)) ]
+
 run : (a b c : ℕ) → ((leb a c && ltb c b) ≡ true) ↔ ((a ≤ c) × (c < b))
 run a b c = (
   λ e. (leb-true a c (and-left (leb a c) (ltb c b) e), ltb-true c b (and-right (leb a c) (ltb c b) e)),
@@ -268,19 +277,15 @@ module _ (o : Outline) (h : Reaches o) where
         | no l ↦ rw (le-ltb r side (omega arith), off-chart c r (omega arith))
       ]
 
-  right-le : (r : ℕ) → rightSide o r ≤ side
-  unfolding rightSide
-  right-le r = greater-le _ _ side (kept-le upAlong (o .letters) (o .start) r 0 (omega arith)) (kept-le downAlong (o .letters) (o .start) r 0 (omega arith))
-
   -- What is kept of a row is what a search of its cells finds
   pub spans-search : (r : ℕ) → spanAt (spansOf o) r ≡ rowSpan (block o) r
   unfolding spanAt
   spans-search r =
       elim (decLt r side) [
-        | yes l ↦ rw (lt-leb side r l, kept-first o r l, kept-past o r l) (sym (run-span (block o) r _ _ (right-le r) (λ c. row-exact c r)))
+        | yes l ↦ rw (lt-leb side r l, kept-first o r l, kept-past o r l) (sym (run-span (block o) r _ _ (right-le o r) (λ c. row-exact c r)))
         | no l ↦ rw (le-leb side r (omega arith)) (sym (none-span (block o) r (λ c. off-chart c r (omega arith))))
       ]
 
   -- And it is exact
   pub row-span-exact : (r : ℕ) → SpanExact (block o) r (rowSpan (block o) r)
-  row-span-exact r = rw (run-span (block o) r _ _ (right-le r) (λ c. row-exact c r)) (run-exact (block o) r _ _ (λ c. row-exact c r))
+  row-span-exact r = rw (run-span (block o) r _ _ (right-le o r) (λ c. row-exact c r)) (run-exact (block o) r _ _ (λ c. row-exact c r))

@@ -1,13 +1,12 @@
 -- Where the sides of one kind along a row, counted up to a column, are one from column m on, the one that is kept stands at m: a second would be counted. Where none is
 -- counted, none is kept.
-use Prim.Native.Nat.{ℕ, suc, _+_, _≤_}
+use Prim.Native.Nat.{ℕ, _+_, _≤_}
 use native.Mathlib.Omega.{arith}
-use native.Mathlib.Decide.{decLe}
 use mathlib.Core.Path.{_≡_, refl, sym, ap, _∙_}
 use mathlib.Core.Bool.{Bool, true, false, cond, _&&_}
 use mathlib.Core.List.{List, [], _∷_}
 use lib.Dec.{leb}
-use borrow.Author.Tests.{le-leb, lt-leb, leb-true, leb-false}
+use borrow.Author.Tests.{le-leb, leb-true}
 use Rattle.chart.specs.declared.Point.{Point}
 use Rattle.lattice.specs.Chart.{step}
 use Rattle.lattice.specs.Enclosed.{count}

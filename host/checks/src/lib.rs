@@ -5,7 +5,7 @@
 //! - [`hull_and_count`] is the usual way to test convexity: the benchmark's second rival.
 //! - [`engine`] gives all of them, and the library, one face; [`case`] is one input for it, which can be written as a line.
 //!   Limits, and replies and calls as numbers, are those of the crate `robequarry`.
-//! - [`walks`], [`draw`], [`polygons`], [`sensors`], [`garbage`] and [`scripts`] make the inputs, from the numbers of [`random`].
+//! - [`walks`], [`draw`], [`polygons`], [`sensors`], [`garbage`], [`scripts`] and [`piles`] make the inputs, from the numbers of [`random`].
 //! - [`timing`] and [`stack`] measure; [`report`] prints what was timed, and [`tally`] what was reached.
 
 pub mod case;
@@ -14,6 +14,7 @@ pub mod engine;
 pub mod garbage;
 pub mod grid;
 pub mod hull_and_count;
+pub mod piles;
 pub mod plain;
 pub mod point;
 pub mod polygons;

@@ -1,15 +1,13 @@
 -- Every row passed has its two columns; at the end the lists are those of the definition, place by place.
-use Prim.Native.Nat.{ℕ, _-_, _≤_, _<_}
+use Prim.Native.Nat.{ℕ, _-_, _≤_}
 use native.Mathlib.Omega.{arith}
-use denote.Ref.{now}
-use mathlib.Core.Path.{_≡_, refl, sym, ap, _∙_}
+use mathlib.Core.Path.{_≡_}
 use mathlib.Core.List.{List}
 use lib.ListN.{length, length-replicate}
 use borrow.Author.Needs.{needs}
 use Rattle.chart.specs.Limits.{side}
 use Rattle.chart.specs.declared.Point.{Point}
 use mathlib.Core.Bool.{Bool}
-use Rattle.lattice.specs.Enclosed.{upAlong, downAlong}
 use Rattle.rows.specs.Search.{keptColumn}
 use Rattle.rows.specs.Rows.{rows}
 use Rattle.spans.specs.Spans.{lesser, greater, leftSide, rightSide, spansOf}

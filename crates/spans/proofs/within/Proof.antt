@@ -1,5 +1,4 @@
 -- The tests of the definition, in its order.
-use mathlib.Core.Path.{_∙_}
 use borrow.Author.Needs.{needs}
 use borrow.Author.Tests.{le-leb, lt-leb, lt-ltb, le-ltb}
 use Rattle.spans.specs.Spans.{inSpans}

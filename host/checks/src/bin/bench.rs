@@ -19,8 +19,9 @@ use std::hint::black_box;
 use std::process::exit;
 
 use robequarry::limits::{CALL, LONGEST, LONGEST_LIST, REPLY, SIDE};
+use robequarry::pile::LAYERS;
 use robequarry::raw::HolderMemory;
-use robequarry::{Action, Call, Edges, Holder};
+use robequarry::{Action, Call, Edges, Holder, Pile, PileCall};
 use robequarry_checks::case::Polygon;
 use robequarry_checks::draw::{reversed, round_outline, with_a_cell_flipped};
 use robequarry_checks::engine::{Engine, Library, Plain};
@@ -69,6 +70,7 @@ fn main() {
     bench.spoilt_lists(&mut random);
     bench.calls(&mut random);
     bench.comparisons(&mut random);
+    bench.piles(&mut random);
     bench.report.end();
 }
 
@@ -131,6 +133,22 @@ impl Bench {
                 start,
                 letters: (0..letters).map(|_| random.any() as u8).collect(),
             }));
+        }
+    }
+
+    /// Calls on a pile of sixteen full layers, each an outline of as many letters: the check passes, so it asks every section.
+    fn piles(&mut self, random: &mut Random) {
+        let outline = taken(random, DRAWN);
+        let set = |layer| PileCall::Set(layer, robequarry::Outline::new(outline.start.into(), outline.letters.clone()));
+        let (mut library, mut plain) = (Pile::fresh(), plain::Pile::default());
+        for layer in 0..LAYERS {
+            library.call(&set(layer));
+            plain.call(&set(layer));
+        }
+        let query = PileCall::Query(7, random.cell().into());
+        for (name, call) in [("pile: check", PileCall::Check), ("pile: query", query), ("pile: set", set(7))] {
+            let race = race([&mut || drop(black_box(library.call(&call))), &mut || drop(black_box(plain.call(&call)))]);
+            self.add_call(name, (race.least(0), race.ratio(0, 1)));
         }
     }
 

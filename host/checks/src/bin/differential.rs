@@ -16,8 +16,11 @@ use robequarry_checks::case::{Case, Polygon};
 use robequarry_checks::draw::{rotated, Shape};
 use robequarry_checks::engine::{Engine, Library, Live, Plain, Reference};
 use robequarry_checks::garbage;
+use robequarry_checks::piles;
+use robequarry_checks::plain;
 use robequarry_checks::polygons;
 use robequarry_checks::random::Random;
+use robequarry_checks::reference;
 use robequarry_checks::reference::border::reading;
 use robequarry_checks::reference::cells::Enclosed;
 use robequarry_checks::scripts;
@@ -31,6 +34,7 @@ const LOOSE: usize = 120_000;
 const BORDERS: usize = 60_000;
 const COMPARISONS: usize = 16_000;
 const SCRIPTS: usize = 24_000;
+const PILES: usize = 300;
 
 /// Those that are held to the reference; a script is made call by call too.
 fn engines(case: &Case) -> &'static [&'static dyn Engine] {
@@ -89,6 +93,7 @@ fn run(seed: u64) {
     run.section("every two small polygons", every_two_small_polygons);
     run.random_section(&format!("{COMPARISONS} comparisons"), seed + 250, comparisons);
     run.random_section(&format!("{SCRIPTS} scripts of calls"), seed + 300, random_scripts);
+    run.random_section(&format!("{PILES} lists of calls on a pile"), seed + 500, random_piles);
 
     let complaints = run.tally.report();
     complaints.iter().for_each(|complaint| println!("{complaint}"));
@@ -297,4 +302,28 @@ fn random_scripts(run: &mut Run, random: &mut Random) {
         let case = scripts::script(random);
         run.compare(&case);
     }
+}
+
+/// Lists of calls on a pile, reply by reply. About as many checks pass as fail.
+fn random_piles(run: &mut Run, random: &mut Random) {
+    let mut numbers = [0u64; 23];
+    let mut passed = 0u64;
+    for _ in 0..PILES {
+        let (mut library, mut plain, mut reference) = (robequarry::Pile::fresh(), plain::Pile::default(), reference::pile::Pile::default());
+        for call in piles::calls(random) {
+            let expected = reference.call(&call);
+            let mut reply = [u16::MAX; REPLY + 2];
+            assert!(!library.call_into(&call, &mut reply[..REPLY - 1]) && reply == [u16::MAX; REPLY + 2], "no room: {call:?}");
+            assert!(library.call_into(&call, &mut reply), "room: {call:?}");
+            assert_eq!(<[u16; REPLY]>::from(expected), reply[..REPLY], "library: {call:?}");
+            assert_eq!(reply[REPLY..], [u16::MAX; 2], "what stands behind the reply: {call:?}");
+            assert_eq!(expected, plain.call(&call), "plain: {call:?}");
+            numbers[usize::from(expected.number)] += 1;
+            passed += u64::from(call == robequarry::PileCall::Check && expected.number == 0);
+            run.compared += 1;
+        }
+    }
+    println!("{:>9} checks passed, {} named a section; 11, 12 and 22 were replied {}, {} and {} times", passed, numbers[21], numbers[11], numbers[12], numbers[22]);
+    let all = [8, 9, 11, 12, 21, 22].iter().all(|&number| numbers[number] > 0);
+    assert!(all && passed > numbers[21] / 3 && numbers[21] > passed / 3, "what the lists reach");
 }

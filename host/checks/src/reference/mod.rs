@@ -9,6 +9,7 @@ pub mod cells;
 pub mod compare;
 pub mod edges;
 pub mod files;
+pub mod pile;
 pub mod readings;
 pub mod tracing;
 pub mod walk;

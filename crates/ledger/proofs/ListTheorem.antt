@@ -1,0 +1,292 @@
+-- A pile and the book stay in step: each layer is kept right, and both know whether the last check passed. So each reply is the book's, by induction over the list.
+use Prim.Native.Nat.{ℕ, _≤_, _<_}
+use native.Mathlib.Decide.{decLt}
+use native.Mathlib.Omega.{arith}
+use mathlib.Core.Path.{_≡_, refl, sym, ap, _∙_}
+use mathlib.Core.Logic.{_⊎_, inl, inr, _≢_}
+use mathlib.Core.Bool.{Bool, true, false, true≢false, not, cond}
+use mathlib.Core.Option.{Option, none, some}
+use mathlib.Core.List.{List, [], _∷_}
+use lib.ListN.{length, getD, set, replicate, length-set, length-replicate, getD-replicate, List·getD-eq-default}
+use lib.Seq.{getD-set-same, getD-set-other}
+use lib.Dec.{eqb, leb, ltb}
+use borrow.Author.Tests.{lt-ltb, le-ltb, ltb-true, eq-eqb, ne-eqb, not-true, not-false}
+use Rattle.base.proofs.BelowLaws.{and-right, not-held, first-found, first-before}
+use Rattle.chart.specs.Limits.{side}
+use Rattle.chart.specs.declared.Point.{Point}
+use Rattle.chart.specs.declared.Verdict.{Verdict}
+use Rattle.chart.specs.declared.Verdict.the-variants.{Taken, Refused}
+use Rattle.chart.specs.Outline.{Outline}
+use Rattle.chart.specs.Fields.{verdictFields}
+use Rattle.lattice.specs.Hull.{Missing, Full}
+use Rattle.rows.specs.Rows.{rows}
+use Rattle.verdict.specs.Verdict.{verdictOf}
+use Rattle.verdict.proofs.VerdictLaws.{TakenFacts, taken-facts}
+use Rattle.verdict.proofs.Full.{taken-iff-full}
+use Rattle.polygon.specs.Loose.{badCell}
+use Rattle.spans.specs.declared.Spans.{Spans}
+use Rattle.spans.specs.Spans.{noSpans, spansOf, inSpans}
+use Rattle.spans.proofs.Exact.{spans-exact, past-le}
+use Rattle.sections.specs.Sections.{layers}
+use Rattle.pile.specs.declared.Pile.{Pile}
+use Rattle.pile.specs.declared.PileReply.{PileReply}
+use Rattle.pile.specs.declared.PileReply.the-variants.{Done, Inside, Outside, Judged, Cell, NotPassed, Dented, Layer}
+use Rattle.pile.specs.Pile.{layerAt, freshPile, put, judgedPile, columnClear, rowClear, dentedColumn, dentedRow, setAs, setOf, emptyOf, checkOf, locatedIn, queryOf}
+use Rattle.ledger.specs.Book.{PileCall, Set, SetEmpty, Check, Query, Layers, PileBook, fresh, putLayer, marks, columnMarks, rowMarks, HasDent, Checked, passes, column, row, located, queried, Answers, setBook, isDone, next, AllAnswer}
+use Rattle.ledger.specs.Run.{answerOf, pileReplies, pileAfter, bookAfter}
+use Rattle.ledger.proofs.Runs.{KeptAs, AllKept, column-full, column-dent, row-full, row-dent}
+
+-- ---- what a layer is kept as
+
+-- Spans without a cell
+kept-nothing : (s : Spans) → ((r : ℕ) → rows (s .past) r ≡ 0) → KeptAs none s
+unfolding marks inSpans
+kept-nothing s h =
+    record {
+      exact = λ c r.
+          not-held (inSpans s c r) (λ e.
+          let k = ltb-true c (rows (s .past) r) (and-right (leb (rows (s .first) r) c) (ltb c (rows (s .past) r)) (and-right (ltb r side) _ e)) in
+          omega (arith, h r));
+      whole = λ x m. true≢false (sym (m .hull .p-marked));
+      fits = λ r. omega (arith, h r);
+    }
+
+zeros : (n r : ℕ) → _≡_ {A = ℕ} (getD (replicate n 0) r 0) 0
+zeros n r =
+    elim (decLt r n) [
+      | yes l ↦ getD-replicate {A = ℕ} n r 0 0 l
+      | no l ↦ List·getD-eq-default (replicate n 0) 0 (omega (arith, length-replicate {A = ℕ} n 0))
+    ]
+
+kept-none : KeptAs none noSpans
+unfolding noSpans
+kept-none = kept-nothing noSpans (λ r. zeros side r)
+
+-- A taken outline
+kept-some : (o : Outline) (n : ℕ) (a : Point) → verdictOf o ≡ Taken n a → KeptAs (some o) (spansOf o)
+unfolding marks
+kept-some o n a e =
+    let f : TakenFacts o n a = taken-facts o n a e in
+    record {
+      exact = spans-exact o (f .reaches);
+      whole = taken-iff-full o (f .reaches .simple) .0 (ap (λ (v : Verdict). verdictFields v .number) e);
+      fits = past-le o;
+    }
+
+-- Past the last layer nothing is kept
+past-last : (l : ℕ) → 16 ≤ l → layerAt (replicate 16 noSpans) l ≡ record { first = []; past = [] }
+past-last l h = List·getD-eq-default (replicate 16 noSpans) (record { first = []; past = [] }) {n = l} (omega (arith, length-replicate {A = Spans} 16 noSpans))
+
+same-or-not : (i l : ℕ) → (i ≡ l) ⊎ (i ≢ l)
+same-or-not i l =
+    elim (decLt i l) [
+      | yes h ↦ inr (λ e. omega arith)
+      | no h ↦ elim (decLt l i) [ yes k ↦ inr (λ e. omega arith) | no k ↦ inl (omega arith) ]
+    ]
+
+-- ---- in step
+
+record InStep (b : PileBook) (p : Pile) : Type 0 where
+  size : length (p .layers) ≡ layers
+  kept : AllKept (b .layers) (p .layers)
+  same : p .passed ≡ b .passed
+  -- what has passed has no dented section
+  whole-columns : b .passed ≡ true → (c : ℕ) → c < side → Full (columnMarks (b .layers) c)
+  whole-rows : b .passed ≡ true → (r : ℕ) → r < side → Full (rowMarks (b .layers) r)
+
+step-fresh : InStep fresh freshPile
+unfolding fresh freshPile
+step-fresh =
+    record {
+      size = length-replicate {A = Spans} 16 noSpans;
+      kept = λ l.
+          elim (decLt l 16) [
+            | yes h ↦ rw (getD-replicate {A = Spans} 16 l noSpans (record { first = []; past = [] }) h) kept-none
+            | no h ↦ rw (past-last l (omega arith)) (kept-nothing (record { first = []; past = [] }) (λ r. refl))
+          ];
+      same = refl;
+      whole-columns = λ e. absurd (true≢false (sym e));
+      whole-rows = λ e. absurd (true≢false (sym e));
+    }
+
+module _ (b : PileBook) (p : Pile) (t : InStep b p) where
+  step-put : (l : ℕ) (v : Option Outline) (s : Spans) → l ≤ 15 → KeptAs v s → InStep (putLayer b l v) (put p l s)
+  unfolding putLayer put
+  step-put l v s h k =
+      record {
+        size = length-set (p .layers) l s ∙ t .size;
+        kept = λ i.
+            elim (same-or-not i l) [
+              | inl e ↦ rw (e, eq-eqb l l refl, getD-set-same (p .layers) l s (record { first = []; past = [] }) (omega (arith, t .size))) k
+              | inr e ↦ rw (ne-eqb i l e, getD-set-other (p .layers) l i s (record { first = []; past = [] }) e) (t .kept i)
+            ];
+        same = refl;
+        whole-columns = λ e. absurd (true≢false (sym e));
+        whole-rows = λ e. absurd (true≢false (sym e));
+      }
+
+  -- ---- the calls
+
+  set-verdict : (l : ℕ) (o : Outline) → l ≤ 15 → (v : Verdict) → verdictOf o ≡ v → (setAs p l o v .reply ≡ Judged v) × InStep (setBook b l o v) (setAs p l o v .pile)
+  unfolding setAs setBook
+  set-verdict l o h (Refused f) e = (refl, t)
+  set-verdict l o h (Taken n a) e = (refl, step-put l (some o) (spansOf o) h (kept-some o n a e))
+
+  step-set : (l : ℕ) (o : Outline) → Answers b (Set l o) (setOf p l o .reply) × InStep (next b (Set l o) (setOf p l o .reply)) (setOf p l o .pile)
+  unfolding Answers next setOf
+  step-set l o =
+      elim (decLt 15 l) [
+        | yes h ↦ rw (lt-ltb 15 l h) (refl, t)
+        | no h ↦ rw (le-ltb 15 l (omega arith)) (set-verdict l o (omega arith) (verdictOf o) refl)
+      ]
+
+  step-empty : (l : ℕ) → Answers b (SetEmpty l) (emptyOf p l .reply) × InStep (next b (SetEmpty l) (emptyOf p l .reply)) (emptyOf p l .pile)
+  unfolding Answers next emptyOf
+  step-empty l =
+      elim (decLt 15 l) [
+        | yes h ↦ rw (lt-ltb 15 l h) (refl, t)
+        | no h ↦ rw (le-ltb 15 l (omega arith)) (refl, step-put l none noSpans (omega arith) kept-none)
+      ]
+
+  -- ---- the check
+
+  abbrev ls : Layers
+  ls = b .layers
+
+  clear-column : (c : ℕ) → c < dentedColumn (p .layers) → Full (columnMarks ls c)
+  unfolding dentedColumn
+  clear-column c l = column-full ls (p .layers) (t .size) (t .kept) c (not-false _ (first-before (λ c. not (columnClear (p .layers) c)) side c l))
+
+  clear-row : (r : ℕ) → r < side → r < dentedRow (p .layers) → Full (rowMarks ls r)
+  unfolding dentedRow
+  clear-row r i l = row-full ls (p .layers) (t .size) (t .kept) r i (not-false _ (first-before (λ r. not (rowClear (p .layers) r)) side r l))
+
+  step-check : Answers b Check (checkOf p .reply) × InStep (next b Check (checkOf p .reply)) (checkOf p .pile)
+  unfolding Answers next checkOf judgedPile isDone dentedColumn dentedRow
+  step-check =
+      elim (decLt (dentedColumn (p .layers)) side) [
+        | yes h ↦ rw (lt-ltb _ side h) (column (dentedColumn (p .layers)) h (dent-column h) clear-column, failed)
+        | no h ↦
+            elim (decLt (dentedRow (p .layers)) side) [
+              | yes k ↦
+                  rw (le-ltb (dentedColumn (p .layers)) side (omega arith), lt-ltb _ side k)
+                  (row (dentedRow (p .layers)) k (λ c l. clear-column c (omega arith)) (dent-row k) (λ d l. clear-row d (omega arith) l), failed)
+              | no k ↦
+                  let cs : (c : ℕ) → c < side → Full (columnMarks ls c) = λ c l. clear-column c (omega arith) in
+                  let rs : (r : ℕ) → r < side → Full (rowMarks ls r) = λ r l. clear-row r l (omega arith) in
+                  rw (le-ltb (dentedColumn (p .layers)) side (omega arith), le-ltb (dentedRow (p .layers)) side (omega arith))
+                  (passes cs rs, record { size = t .size; kept = t .kept; same = refl; whole-columns = λ e. cs; whole-rows = λ e. rs })
+            ]
+      ]
+    where
+      dent-column : dentedColumn (p .layers) < side → (x : Point) × Missing (columnMarks ls (dentedColumn (p .layers))) x
+      dent-column h =
+          column-dent ls (p .layers) (t .size) (t .kept) (dentedColumn (p .layers)) (not-true _ (first-found (λ c. not (columnClear (p .layers) c)) side h))
+
+      dent-row : dentedRow (p .layers) < side → (x : Point) × Missing (rowMarks ls (dentedRow (p .layers))) x
+      dent-row h =
+          row-dent ls (p .layers) (t .size) (t .kept) (dentedRow (p .layers)) h (not-true _ (first-found (λ r. not (rowClear (p .layers) r)) side h))
+
+      failed : InStep (record { layers = ls; passed = false }) (record { layers = p .layers; passed = false })
+      failed =
+          record { size = t .size; kept = t .kept; same = refl; whole-columns = λ e. absurd (true≢false (sym e)); whole-rows = λ e. absurd (true≢false (sym e)) }
+
+  -- ---- the query
+
+  step-query : (l : ℕ) (x : Point) → queryOf p l x ≡ queried b l x
+  unfolding queryOf queried locatedIn located
+  step-query l x =
+      rw (t .same) (ap (λ (v : Bool). cond (ltb 15 l) Layer (cond (b .passed) (cond (badCell x) Cell (cond v Inside Outside)) NotPassed)) (t .kept l .exact (x .col) (x .row)))
+
+-- Each call's reply is the book's, and leaves the two in step
+call-agrees : (b : PileBook) (p : Pile) → InStep b p → (c : PileCall) → Answers b c (answerOf p c .reply) × InStep (next b c (answerOf p c .reply)) (answerOf p c .pile)
+unfolding answerOf Answers next
+call-agrees b p t (Set l o) = step-set b p t l o
+call-agrees b p t (SetEmpty l) = step-empty b p t l
+call-agrees b p t Check = step-check b p t
+call-agrees b p t (Query l x) = (step-query b p t l x, t)
+
+-- ---- the list theorem
+
+replies-agree : (cs : List PileCall) (b : PileBook) (p : Pile) → InStep b p → AllAnswer b cs (pileReplies p cs)
+unfolding AllAnswer pileReplies
+replies-agree [] b p t = tt
+replies-agree (c ∷ cs) b p t = let (a, u) = call-agrees b p t c in (a, replies-agree cs _ _ u)
+
+-- For every list of calls from a fresh pile every reply is the book's
+pub pile-theorem : (cs : List PileCall) → AllAnswer fresh cs (pileReplies freshPile cs)
+pile-theorem cs = replies-agree cs fresh freshPile step-fresh
+
+-- ---- what has passed
+
+stays-in-step : (cs : List PileCall) (b : PileBook) (p : Pile) → InStep b p → InStep (bookAfter b cs (pileReplies p cs)) (pileAfter p cs)
+unfolding bookAfter pileReplies pileAfter
+stays-in-step [] b p t = t
+stays-in-step (c ∷ cs) b p t = stays-in-step cs _ _ (call-agrees b p t c .1)
+
+-- The book and the pile after a list of calls from a fresh pile
+abbrev pub bookOf : List PileCall → PileBook
+bookOf cs = bookAfter fresh cs (pileReplies freshPile cs)
+
+abbrev pub pileOf : List PileCall → Pile
+pileOf cs = pileAfter freshPile cs
+
+passed-query : (b : PileBook) (l : ℕ) (x : Point) → b .passed ≡ true → l ≤ 15 → badCell x ≡ false → queried b l x ≡ located (b .layers l) x
+unfolding queried
+passed-query b l x e h k = rw (le-ltb 15 l h, e, k)
+
+-- A pile that passes answers a query exactly as its layers do, and none of its sections is dented
+pub record Passed (cs : List PileCall) : Type 0 where
+  pub answers : (l : ℕ) (x : Point) → l ≤ 15 → badCell x ≡ false → queryOf (pileOf cs) l x ≡ located (bookOf cs .layers l) x
+  pub columns : (c : ℕ) → c < side → Full (columnMarks (bookOf cs .layers) c)
+  pub rows : (r : ℕ) → r < side → Full (rowMarks (bookOf cs .layers) r)
+
+pub pile-passed : (cs : List PileCall) → bookOf cs .passed ≡ true → Passed cs
+pile-passed cs e =
+    let t : InStep (bookOf cs) (pileOf cs) = stays-in-step cs fresh freshPile step-fresh in
+    record { answers = λ l x h k. step-query _ _ t l x ∙ passed-query (bookOf cs) l x e h k; columns = t .whole-columns e; rows = t .whole-rows e }
+
+-- ---- the book fixes the replies
+
+-- Of two first numbers neither is before the other
+least : (D F : ℕ → Type 0) → ((k : ℕ) → F k → D k → ⊥) → (a b : ℕ) → D a → ((k : ℕ) → k < a → F k) → D b → ((k : ℕ) → k < b → F k) → a ≡ b
+least D F never a b d f e g =
+    elim (decLt a b) [
+      | yes h ↦ absurd (never a (g a h) d)
+      | no h ↦ elim (decLt b a) [ yes k ↦ absurd (never b (f b k) e) | no k ↦ omega arith ]
+    ]
+
+no-dent : {marked : ℕ → ℕ → Bool} → Full marked → HasDent marked → ⊥
+no-dent full (x, m) = full x m
+
+module _ (ls : Layers) where
+  checked-once : (r s : PileReply) → Checked ls r → Checked ls s → r ≡ s
+  checked-once r s (passes cs rs) (passes cs′ rs′) = refl
+  checked-once r s (passes cs rs) (column c h d f) = absurd (no-dent (cs c h) d)
+  checked-once r s (passes cs rs) (row i h cs′ d f) = absurd (no-dent (rs i h) d)
+  checked-once r s (column c h d f) (passes cs rs) = absurd (no-dent (cs c h) d)
+  checked-once r s (column c h d f) (column c′ h′ d′ f′) = ap (Dented 0) (least (λ k. HasDent (columnMarks ls k)) (λ k. Full (columnMarks ls k)) (λ k. no-dent) c c′ d f d′ f′)
+  checked-once r s (column c h d f) (row i h′ cs d′ f′) = absurd (no-dent (cs c h) d)
+  checked-once r s (row i h cs d f) (passes cs′ rs) = absurd (no-dent (rs i h) d)
+  checked-once r s (row i h cs d f) (column c h′ d′ f′) = absurd (no-dent (cs c h′) d′)
+  checked-once r s (row i h cs d f) (row i′ h′ cs′ d′ f′) = ap (Dented 1) (least (λ k. HasDent (rowMarks ls k)) (λ k. Full (rowMarks ls k)) (λ k. no-dent) i i′ d f d′ f′)
+
+answer-once : (b : PileBook) (c : PileCall) (r s : PileReply) → Answers b c r → Answers b c s → r ≡ s
+unfolding Answers
+answer-once b (Set l o) r s e f = e ∙ sym f
+answer-once b (SetEmpty l) r s e f = e ∙ sym f
+answer-once b Check r s e f = checked-once (b .layers) r s e f
+answer-once b (Query l x) r s e f = e ∙ sym f
+
+-- Two lists of replies that are the book's are the same
+pub replies-once : (cs : List PileCall) (b : PileBook) (rs ss : List PileReply) → AllAnswer b cs rs → AllAnswer b cs ss → rs ≡ ss
+unfolding AllAnswer
+replies-once [] b [] [] a a′ = refl
+replies-once [] b [] (s ∷ ss) a a′ = absurd a′
+replies-once [] b (r ∷ rs) ss a a′ = absurd a
+replies-once (c ∷ cs) b [] ss a a′ = absurd a
+replies-once (c ∷ cs) b (r ∷ rs) [] a a′ = absurd a′
+replies-once (c ∷ cs) b (r ∷ rs) (s ∷ ss) (a, u) (a′, u′) =
+    let e : r ≡ s = answer-once b c r s a a′ in
+    let v : rs ≡ ss = replies-once cs (next b c r) rs ss u (rw (sym e) at u′) in
+    λ i. e i ∷ v i

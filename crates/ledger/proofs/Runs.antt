@@ -1,0 +1,220 @@
+-- The sections of a pile whose layers are kept right: of each layer the marked cells of a column are one run, because a cell between two of them lies in the hull of the block,
+-- and those of a row are one run as they are kept. So the test of a section decides whether it has a dent.
+use Prim.Native.Nat.{ℕ, _+_, _-_, _*_, _≤_, _<_}
+use native.Mathlib.Decide.{decLt, decLe}
+use native.Mathlib.Omega.{arith}
+use mathlib.Core.Path.{_≡_, refl, sym, ap, _∙_}
+use mathlib.Core.Logic.{_↔_}
+use mathlib.Core.Bool.{Bool, true, false, true≢false, not, _&&_}
+use mathlib.Core.Option.{Option, none, some}
+use mathlib.Core.List.{List, []}
+use lib.ListN.{length, getD, List·getD-eq-default}
+use lib.Dec.{leb, ltb}
+use borrow.Author.Tests.{le-leb, lt-ltb, le-ltb, leb-true, ltb-true}
+use Rattle.base.specs.Below.{first}
+use Rattle.base.proofs.BelowLaws.{and-left, and-right, not-held, first-found, first-before}
+use Rattle.chart.specs.Limits.{side}
+use Rattle.chart.specs.declared.Point.{Point}
+use Rattle.chart.specs.Outline.{Outline}
+use Rattle.lattice.specs.Hull.{Full}
+use Rattle.rows.specs.Rows.{rows}
+use Rattle.spans.specs.declared.Spans.{Spans}
+use Rattle.spans.specs.Spans.{table, inSpans}
+use Rattle.spans.proofs.Tables.{table-at, table-past}
+use Rattle.ledger.specs.Book.{Layers, marks, columnMarks, rowMarks, HasDent}
+use Rattle.sections.specs.Sections.{layers, numbers, clear}
+use Rattle.sections.proofs.Decides.{InRuns, clear-full, unclear-missing}
+use Rattle.pile.specs.Pile.{layerAt, inRow, lowestRow, afterHighest, columnSection, rowSection, columnClear, rowClear}
+
+-- ---- one run of numbers
+
+-- Between two numbers below the side that pass every number does
+abbrev Run : (ℕ → Bool) → Type 0
+Run f = (i j k : ℕ) → i ≤ j → j ≤ k → k < side → f i ≡ true → f k ≡ true → f j ≡ true
+
+-- The numbers that pass below the side are those from the first on, up to but not including the one after the last
+module _ (f : ℕ → Bool) (run : Run f) where
+  abbrev least : ℕ
+  least = first f side
+
+  abbrev after : ℕ
+  after = side - first (λ k. f (side - 1 - k)) side
+
+  run-iff : (r : ℕ) → r < side → (f r ≡ true) ↔ ((least ≤ r) × (r < after))
+  run-iff r l = (to, from)
+    where
+      to : f r ≡ true → (least ≤ r) × (r < after)
+      to e = (
+        elim (decLe least r) [ yes h ↦ h | no h ↦ absurd (true≢false (sym e ∙ first-before f side r (omega arith))) ],
+        elim (decLt r after) [
+          | yes h ↦ h
+          | no h ↦
+              let k : ℕ = side - 1 - r in
+              let back : side - 1 - k ≡ r = omega arith in
+              absurd (true≢false (sym e ∙ (rw back at (first-before (λ k. f (side - 1 - k)) side k (omega arith)))))
+        ],
+      )
+
+      from : (least ≤ r) × (r < after) → f r ≡ true
+      from (h, k) =
+          let m : ℕ = first (λ k. f (side - 1 - k)) side in
+          let first-passes : f least ≡ true = first-found f side (omega arith) in
+          let last-passes : f (side - 1 - m) ≡ true = first-found (λ k. f (side - 1 - k)) side (omega arith) in
+          run least r (side - 1 - m) h (omega arith) (omega arith) first-passes last-passes
+
+in-row : (s : Spans) (c r : ℕ) → r < side → inSpans s c r ≡ inRow (s .first) (s .past) c r
+unfolding inSpans inRow
+in-row s c r l = rw (lt-ltb r side l)
+
+both : (a b c : ℕ) → ((leb a c && ltb c b) ≡ true) ↔ ((a ≤ c) × (c < b))
+both a b c = (
+  λ e. (leb-true a c (and-left (leb a c) (ltb c b) e), ltb-true c b (and-right (leb a c) (ltb c b) e)),
+  λ h. rw (le-leb a c (h .0), lt-ltb c b (h .1)),
+)
+
+-- ---- a layer that is kept right
+
+-- The spans have the cells that the layer marks, and it misses none of its hull
+pub record KeptAs (v : Option Outline) (s : Spans) : Type 0 where
+  pub exact : (c r : ℕ) → inSpans s c r ≡ marks v c r
+  pub whole : Full (marks v)
+  pub fits : (r : ℕ) → rows (s .past) r ≤ side
+
+-- A number between two others is their mean
+between : (i j k m n : ℕ) → j ≡ i + n → k ≡ j + m → (m + n + 0) * j ≡ m * i + n * k + 0 * k
+between i j k m n e f = omega (arith, ap (λ x. m * x) e, ap (λ x. n * x) f)
+
+module _ (v : Option Outline) (s : Spans) (t : KeptAs v s) where
+  -- A column of the layer is one run
+  marks-run : (c : ℕ) → Run (marks v c)
+  marks-run c i j k h l m e f = go (marks v c j) refl
+    where
+      at : ℕ → Point
+      at r = record { col = c; row = r }
+
+      go : (b : Bool) → marks v c j ≡ b → marks v c j ≡ true
+      go true g = g
+      go false g =
+          elim (decLt i k) [
+            | yes n ↦
+                absurd (t .whole (at j) (record {
+                  hull = record {
+                    p = at i;
+                    q = at k;
+                    t = at k;
+                    p-marked = e;
+                    q-marked = f;
+                    t-marked = f;
+                    triangle = record {
+                      a = k - j;
+                      b = j - i;
+                      c = 0;
+                      some = omega arith;
+                      cols = omega arith;
+                      rows = between i j k (k - j) (j - i) (omega arith) (omega arith);
+                    };
+                  };
+                  open-cell = g;
+                }))
+            | no n ↦ let d : i ≡ j = omega arith in absurd (true≢false (sym e ∙ (rw (sym d) at g)))
+          ]
+
+  row-marks : (c r : ℕ) → r < side → inRow (s .first) (s .past) c r ≡ marks v c r
+  row-marks c r l = sym (in-row s c r l) ∙ t .exact c r
+
+  -- No row past the last has a marked cell
+  off-chart : (c r : ℕ) → side ≤ r → marks v c r ≡ false
+  unfolding inSpans
+  off-chart c r l = sym (t .exact c r) ∙ rw (le-ltb r side l)
+
+  -- The rows of a column, and the columns of a row
+  column-exact : (c r : ℕ) → (marks v c r ≡ true) ↔ ((lowestRow s c ≤ r) × (r < afterHighest s c))
+  unfolding lowestRow afterHighest
+  column-exact c r =
+      elim (decLt r side) [
+        | yes l ↦ rw (sym (row-marks c r l)) (run-iff f run r l)
+        | no l ↦ (λ e. absurd (true≢false (sym e ∙ off-chart c r (omega arith))), λ (_, h). absurd (omega arith))
+      ]
+    where
+      f : ℕ → Bool
+      f r = inRow (s .first) (s .past) c r
+
+      run : Run f
+      run i j k h l m e g = row-marks c j (omega arith) ∙ marks-run c i j k h l m (sym (row-marks c i (omega arith)) ∙ e) (sym (row-marks c k m) ∙ g)
+
+  row-exact : (c r : ℕ) → r < side → (marks v c r ≡ true) ↔ ((rows (s .first) r ≤ c) × (c < rows (s .past) r))
+  unfolding inRow
+  row-exact c r l = rw (sym (row-marks c r l)) (both (rows (s .first) r) (rows (s .past) r) c)
+
+-- ---- the sections
+
+after-le : (s : Spans) (c : ℕ) → afterHighest s c ≤ side
+unfolding afterHighest
+after-le s c = omega arith
+
+-- Runs in two lists, a number for each layer
+in-runs : (marked : ℕ → ℕ → Bool) (lo past : ℕ → ℕ) → ((l : ℕ) → l < layers → (r : ℕ) → (marked l r ≡ true) ↔ ((lo l ≤ r) × (r < past l)))
+    → ((l : ℕ) → layers ≤ l → (r : ℕ) → marked l r ≡ false) → ((l : ℕ) → past l ≤ side) → InRuns marked (numbers (table lo 0 layers)) (numbers (table past 0 layers))
+in-runs marked lo past exact none-past fits =
+    record {
+      exact = λ l r.
+          elim (decLt l layers) [
+            | yes h ↦ rw (kept lo l h, kept past l h) (exact l h r)
+            | no h ↦
+                let z = table-past past 0 layers l (omega arith) in
+                (λ e. absurd (true≢false (sym e ∙ none-past l (omega arith) r)), λ (_, k). absurd (omega (arith, z)))
+          ];
+      small = λ l k. elim (decLt l layers) [ yes h ↦ h | no h ↦ absurd (omega (arith, table-past past 0 layers l (omega arith))) ];
+      fits = λ l. elim (decLt l layers) [ yes h ↦ rw (kept past l h) (fits l) | no h ↦ omega (arith, table-past past 0 layers l (omega arith)) ];
+    }
+  where
+    kept : (f : ℕ → ℕ) (l : ℕ) → l < layers → numbers (table f 0 layers) l ≡ f l
+    kept f l h = table-at f 0 layers l h ∙ ap f (omega arith)
+
+-- Every layer is kept right
+abbrev pub AllKept : Layers → List Spans → Type 0
+AllKept ls kept = (l : ℕ) → KeptAs (ls l) (layerAt kept l)
+
+-- Past the last layer nothing is kept
+beyond : (kept : List Spans) (l : ℕ) → length kept ≤ l → layerAt kept l ≡ record { first = []; past = [] }
+beyond kept l h = List·getD-eq-default kept (record { first = []; past = [] }) h
+
+module _ (ls : Layers) (kept : List Spans) (size : length kept ≡ layers) (t : AllKept ls kept) where
+  none-beyond : (l : ℕ) → layers ≤ l → (c r : ℕ) → marks (ls l) c r ≡ false
+  none-beyond l h c r =
+      elim (decLt r side) [
+        | yes i ↦
+            not-held (marks (ls l) c r) (λ e.
+            let (_, k) = row-exact (ls l) (layerAt kept l) (t l) c r i .0 e in
+            omega (arith, ap (λ (s : Spans). rows (s .past) r) (beyond kept l (omega (arith, size)))))
+        | no i ↦ off-chart (ls l) (layerAt kept l) (t l) c r (omega arith)
+      ]
+
+  column-runs : (c : ℕ) → InRuns (columnMarks ls c) (numbers (columnSection kept c .lo)) (numbers (columnSection kept c .past))
+  unfolding columnMarks columnSection
+  column-runs c =
+      in-runs (λ l r. marks (ls l) c r) (λ l. lowestRow (layerAt kept l) c) (λ l. afterHighest (layerAt kept l) c)
+      (λ l h r. column-exact (ls l) (layerAt kept l) (t l) c r) (λ l h r. none-beyond l h c r) (λ l. after-le (layerAt kept l) c)
+
+  row-runs : (r : ℕ) → r < side → InRuns (rowMarks ls r) (numbers (rowSection kept r .lo)) (numbers (rowSection kept r .past))
+  unfolding rowMarks rowSection
+  row-runs r i =
+      in-runs (λ l c. marks (ls l) c r) (λ l. rows (layerAt kept l .first) r) (λ l. rows (layerAt kept l .past) r)
+      (λ l h c. row-exact (ls l) (layerAt kept l) (t l) c r i) (λ l h c. none-beyond l h c r) (λ l. t l .fits r)
+
+  -- What the test of a section says
+  pub column-full : (c : ℕ) → columnClear kept c ≡ true → Full (columnMarks ls c)
+  unfolding columnClear
+  column-full c e = clear-full _ _ _ (column-runs c) e
+
+  pub column-dent : (c : ℕ) → columnClear kept c ≡ false → HasDent (columnMarks ls c)
+  unfolding columnClear
+  column-dent c e = unclear-missing _ _ _ (column-runs c) e
+
+  pub row-full : (r : ℕ) → r < side → rowClear kept r ≡ true → Full (rowMarks ls r)
+  unfolding rowClear
+  row-full r h e = clear-full _ _ _ (row-runs r h) e
+
+  pub row-dent : (r : ℕ) → r < side → rowClear kept r ≡ false → HasDent (rowMarks ls r)
+  unfolding rowClear
+  row-dent r h e = unclear-missing _ _ _ (row-runs r h) e

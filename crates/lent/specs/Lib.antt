@@ -1,0 +1,2 @@
+-- The calls on a pile, with their replies in a lent list.
+pub mod Lent

@@ -1,0 +1,3 @@
+-- Replies written out; a pile as it is kept and the calls on it.
+pub mod Replies
+pub mod Pile

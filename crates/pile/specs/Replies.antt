@@ -1,0 +1,15 @@
+-- A reply written out: the number, the word and the fields, for every case (contract 4, 5 and 12).
+use Rattle.chart.specs.declared.Fields.{Fields}
+use Rattle.chart.specs.Fields.{numbered, said, verdictFields, no-word, inside, outside}
+use Rattle.pile.specs.declared.PileReply.{PileReply}
+use Rattle.pile.specs.declared.PileReply.the-variants.{Done, Inside, Outside, Judged, Cell, NotPassed, Dented, Layer}
+
+unfoldable pub pileFields : PileReply → Fields
+pileFields Done = said no-word
+pileFields Inside = said inside
+pileFields Outside = said outside
+pileFields (Judged v) = verdictFields v
+pileFields Cell = numbered 11
+pileFields NotPassed = numbered 12
+pileFields (Dented k p) = record { number = 21; word = no-word; place = p; piece = k; length = 0; col = 0; row = 0 }
+pileFields Layer = numbered 22

@@ -1,0 +1,167 @@
+// The pile: sixteen layers, each empty or one taken outline, and the calls on them (contract 12).
+use border::judge;
+use chart::Point;
+use chart::Refusal;
+use chart::Verdict;
+use polygon::bad_cell;
+use sections::LAYERS;
+use spans::Spans;
+use spans::no_spans;
+use spans::spans_of;
+use spans::within;
+ghost use Prim.Native.Nat.{_<_};
+ghost use mathlib.Core.Path.{_≡_};
+ghost use Rattle.chart.specs.Outline.{outline};
+ghost use Rattle.sections.specs.Sections.{layers};
+ghost use Rattle.pile.specs.Pile.{freshPile, put as putOf, setOf, emptyOf, judgedPile, checkOf, queryOf, locatedIn};
+
+mod cuts;
+pub mod written;
+
+// What is kept of each layer, and whether the last check passed and nothing was set since. Zeros: a fresh pile.
+#[repr(C)]
+pub struct Pile {
+    pub layers: [Spans; LAYERS],
+    pub passed: bool,
+}
+
+// What a call answers.
+pub enum PileReply {
+    // A layer was set to empty, or a check passed.
+    Done,
+    Inside,
+    Outside,
+    // A layer was to be set to an outline: what a test says of it, 1 to 9 or taken.
+    Judged(Verdict),
+    // 11. A cell number above 254.
+    Cell,
+    // 12. The pile is unchecked, or did not pass.
+    NotPassed,
+    // 21. The first dented section: kind 0 a column, 1 a row, and which.
+    Dented { kind: u16, at: u16 },
+    // 22. A layer above 15.
+    Layer,
+}
+
+// A reply, and the next pile.
+pub struct Piled {
+    pub reply: PileReply,
+    pub pile: Pile,
+}
+
+// Sixteen empty layers, unchecked.
+pub fn fresh() -> Pile
+    ensures { λ r. ⌜ r ≡ freshPile ⌝ }
+{
+    let none = no_spans();
+    Pile {
+        layers: [none; LAYERS],
+        passed: false,
+    }
+}
+
+impl Pile {
+    // The pile with another layer, and so unchecked.
+    fn put(mut self, layer: usize, spans: Spans) -> Self
+        requires { ⌜ layer < layers ⌝ }
+        ensures { λ r. ⌜ r ≡ putOf self layer spans ⌝ }
+    {
+        self.layers[layer] = spans;
+        self.passed = false;
+        self
+    }
+
+    // Sets a layer to an outline: 22, what a test says, and the pile with it where it is taken.
+    pub fn set(self, layer: u8, start: Point, letters: &[u8]) -> Piled
+        ensures { λ r. ⌜ r ≡ setOf self layer (outline start (now (letters .entry))) ⌝ }
+    {
+        if 15 < layer {
+            return Piled {
+                reply: PileReply::Layer,
+                pile: self,
+            };
+        }
+        let judged = judge(start, letters);
+        let verdict = judged.verdict;
+        match verdict {
+            Verdict::Refused(why) => Piled {
+                reply: PileReply::Judged(Verdict::Refused(why)),
+                pile: self,
+            },
+            Verdict::Taken { edges, anchor } => Piled {
+                reply: PileReply::Judged(Verdict::Taken { edges, anchor }),
+                pile: self.put(layer as usize, spans_of(start, letters)),
+            },
+        }
+    }
+
+    // Sets a layer to empty: 22, or done.
+    pub fn set_empty(self, layer: u8) -> Piled
+        ensures { λ r. ⌜ r ≡ emptyOf self layer ⌝ }
+    {
+        if 15 < layer {
+            return Piled {
+                reply: PileReply::Layer,
+                pile: self,
+            };
+        }
+        Piled {
+            reply: PileReply::Done,
+            pile: self.put(layer as usize, no_spans()),
+        }
+    }
+
+    fn marked(mut self, passed: bool) -> Self
+        ensures { λ r. ⌜ r ≡ judgedPile self passed ⌝ }
+    {
+        self.passed = passed;
+        self
+    }
+
+    // Checks every section: the columns, then the rows.
+    pub fn check(self) -> Piled
+        ensures { λ r. ⌜ r ≡ checkOf self ⌝ }
+    {
+        let layers = self.layers;
+        let col = cuts::dented_column(layers);
+        if col < 255 {
+            return Piled {
+                reply: PileReply::Dented { kind: 0, at: col },
+                pile: self.marked(false),
+            };
+        }
+        let row = cuts::dented_row(layers);
+        if row < 255 {
+            return Piled {
+                reply: PileReply::Dented { kind: 1, at: row },
+                pile: self.marked(false),
+            };
+        }
+        Piled {
+            reply: PileReply::Done,
+            pile: self.marked(true),
+        }
+    }
+
+    // 22, 12, 11, or where the cell lies.
+    pub fn query(self, layer: u8, cell: Point) -> PileReply
+        ensures { λ r. ⌜ r ≡ queryOf self layer cell ⌝ }
+    {
+        if 15 < layer {
+            return PileReply::Layer;
+        }
+        if !self.passed {
+            return PileReply::NotPassed;
+        }
+        if bad_cell(cell) {
+            return PileReply::Cell;
+        }
+        let at = layer as usize;
+        let spans = self.layers[at];
+        if within(spans, cell) {
+            PileReply::Inside
+        } else {
+            PileReply::Outside
+        }
+    }
+}

@@ -1,0 +1,175 @@
+// Whether the hull of a section's marked cells holds no other: a section is a plane of layers, each with one run of marked cells, or none.
+ghost use Prim.Native.Nat.{ℕ, suc, _+_, _-_, _*_, _≤_, _<_, min, max};
+ghost use mathlib.Core.Path.{_≡_};
+ghost use Rattle.chart.specs.Limits.{side};
+ghost use Rattle.sections.specs.Sections.{layers, numbers, Bounded, ceiling, above, full as fullOf, alone as aloneOf, joined as joinedOf, joinedFrom, reached as reachedOf, whole as wholeOf, clear};
+
+// A pile has this many layers.
+pub const LAYERS: usize = 16;
+
+// The marked cells of layer `l` are those from `lo[l]` up to but not including `past[l]`.
+pub struct Section {
+    pub lo: [u8; LAYERS],
+    pub past: [u8; LAYERS],
+}
+
+// The cells of a hull in one layer: from `low` up to but not including `high`.
+struct Reach {
+    low: usize,
+    high: usize,
+}
+
+// A byte as an index.
+fn wide(x: u8) -> usize
+    ensures { λ r. ⌜ (r ≡ x) × (r ≤ side) ⌝ }
+{
+    x as usize
+}
+
+fn number(list: &[u8; LAYERS], l: usize) -> usize
+    requires { ⌜ l < layers ⌝ }
+    ensures { λ r. ⌜ (r ≡ numbers (now (list .entry)) l) × (r ≤ side) ⌝ }
+{
+    wide(list[l])
+}
+
+// The number before, from 0 on.
+fn before(x: usize) -> usize
+    ensures { λ r. ⌜ r ≡ x - 1 ⌝ }
+{
+    if 0 < x { x - 1 } else { 0 }
+}
+
+fn full(lo: &[u8; LAYERS], past: &[u8; LAYERS], l: usize) -> bool
+    requires { ⌜ l < layers ⌝ }
+    ensures { λ r. ⌜ r ≡ fullOf (numbers (now (lo .entry))) (numbers (now (past .entry))) l ⌝ }
+{
+    number(lo, l) < number(past, l)
+}
+
+// A sum of two weighed numbers.
+fn weighed(a: usize, x: usize, b: usize, y: usize) -> usize
+    requires { ⌜ (a < layers) × (x ≤ side) × (b < layers) × (y ≤ side) ⌝ }
+    ensures { λ r. ⌜ (r ≡ a * x + b * y) × (r ≤ 65536) ⌝ }
+{
+    a * x + b * y
+}
+
+// The smaller of `low` and `a / d` rounded up: a quotient that is not smaller is not computed.
+fn lowered(low: usize, a: usize, d: usize) -> usize
+    requires { ⌜ (low ≤ side) × (a ≤ 65536) × (0 < d) × (d < layers) ⌝ }
+    ensures { λ r. ⌜ (r ≡ min low (ceiling a d)) × (r ≤ side) ⌝ }
+{
+    if a + d <= d * low {
+        (a + (d - 1)) / d
+    } else {
+        low
+    }
+}
+
+// The larger of `high` and the number after `a / d` rounded down.
+fn raised(high: usize, a: usize, d: usize) -> usize
+    requires { ⌜ (high ≤ side) × (a < d * side) × (0 < d) × (d < layers) ⌝ }
+    ensures { λ r. ⌜ (r ≡ max high (above a d)) × (r ≤ side) ⌝ }
+{
+    if d * high <= a { a / d + 1 } else { high }
+}
+
+// What is known of layer `j`, with the lines between layers `i` and `k` too.
+fn joined(
+    lo: &[u8; LAYERS],
+    past: &[u8; LAYERS],
+    i: usize,
+    j: usize,
+    k: usize,
+    reach: Reach,
+) -> Reach
+    requires { ⌜ (i < j) × (j < k) × (k < layers) × Bounded reach ⌝ }
+    ensures { λ r. ⌜ (r ≡ joinedOf (numbers (now (lo .entry))) (numbers (now (past .entry))) i j k reach) × Bounded r ⌝ }
+{
+    if !full(lo, past, k) {
+        return reach;
+    }
+    let near = j - i;
+    let far = k - j;
+    let below = weighed(far, number(lo, i), near, number(lo, k));
+    let over = weighed(far, before(number(past, i)), near, before(number(past, k)));
+    Reach {
+        low: lowered(reach.low, below, k - i),
+        high: raised(reach.high, over, k - i),
+    }
+}
+
+// With those between layer `i` and every later one than `j`.
+fn joined_from(lo: &[u8; LAYERS], past: &[u8; LAYERS], i: usize, j: usize, reach: Reach) -> Reach
+    requires { ⌜ (i < j) × (j < layers) × Bounded reach ⌝ }
+    ensures { λ r. ⌜ (r ≡ joinedFrom (numbers (now (lo .entry))) (numbers (now (past .entry))) i j reach) × Bounded r ⌝ }
+{
+    if !full(lo, past, i) {
+        return reach;
+    }
+    let mut next = reach;
+    let mut k = j + 1;
+    while k < LAYERS {
+        next = joined(lo, past, i, j, k, next);
+        k += 1;
+    }
+    next
+}
+
+// What is known of layer `j` without any line: its own run.
+fn alone(lo: &[u8; LAYERS], past: &[u8; LAYERS], j: usize) -> Reach
+    requires { ⌜ j < layers ⌝ }
+    ensures { λ r. ⌜ (r ≡ aloneOf (numbers (now (lo .entry))) (numbers (now (past .entry))) j) × Bounded r ⌝ }
+{
+    if full(lo, past, j) {
+        Reach {
+            low: number(lo, j),
+            high: number(past, j),
+        }
+    } else {
+        Reach { low: 255, high: 0 }
+    }
+}
+
+// The hull's cells in layer `j`.
+fn reached(lo: &[u8; LAYERS], past: &[u8; LAYERS], j: usize) -> Reach
+    requires { ⌜ j < layers ⌝ }
+    ensures { λ r. ⌜ r ≡ reachedOf (numbers (now (lo .entry))) (numbers (now (past .entry))) j ⌝ }
+{
+    let mut reach = alone(lo, past, j);
+    let mut i = 0;
+    while i < j {
+        reach = joined_from(lo, past, i, j, reach);
+        i += 1;
+    }
+    reach
+}
+
+// The hull has no cell in layer `j`, or all of them are in the layer's run.
+fn whole(lo: &[u8; LAYERS], past: &[u8; LAYERS], j: usize) -> bool
+    requires { ⌜ j < layers ⌝ }
+    ensures { λ r. ⌜ r ≡ wholeOf (numbers (now (lo .entry))) (numbers (now (past .entry))) j ⌝ }
+{
+    let reach = reached(lo, past, j);
+    if reach.high <= reach.low {
+        return true;
+    }
+    number(lo, j) <= reach.low && reach.high <= number(past, j)
+}
+
+// The hull of the marked cells holds no other.
+pub fn is_clear(section: Section) -> bool
+    ensures { λ r. ⌜ r ≡ clear (numbers (section .lo)) (numbers (section .past)) ⌝ }
+{
+    let lo = section.lo;
+    let past = section.past;
+    let mut j = 0;
+    while j < LAYERS {
+        if !whole(&lo, &past, j) {
+            return false;
+        }
+        j += 1;
+    }
+    true
+}

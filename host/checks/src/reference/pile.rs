@@ -1,0 +1,86 @@
+//! A pile (contract 12): sixteen sets of cells, and each section's hull by the cells of all its layers.
+
+use robequarry::pile::{PileCall, LAYERS};
+
+use super::calls::{off_chart, test_into};
+use super::cells::{Enclosed, Hull};
+use crate::reply::{numbered, said};
+use crate::{Fields, Point};
+use robequarry::codec::{INSIDE, OUTSIDE};
+use robequarry::limits::{LONGEST_LIST, SIDE};
+
+pub struct Pile {
+    layers: Vec<Option<Enclosed>>,
+    passed: bool,
+}
+
+impl Default for Pile {
+    fn default() -> Self {
+        Pile { layers: (0..LAYERS).map(|_| None).collect(), passed: false }
+    }
+}
+
+impl Pile {
+    pub fn call(&mut self, call: &PileCall) -> Fields {
+        match call {
+            PileCall::Set(layer, _) | PileCall::SetEmpty(layer) | PileCall::Query(layer, _) if *layer >= LAYERS => numbered(22),
+            PileCall::Set(layer, outline) => {
+                let start = Point::from(outline.start);
+                let reply = test_into(start, &outline.letters, &mut [0; LONGEST_LIST]);
+                if reply.number == 0 {
+                    self.put(*layer, Some(Enclosed::of(start, &outline.letters)));
+                }
+                reply
+            }
+            PileCall::SetEmpty(layer) => {
+                self.put(*layer, None);
+                Fields::default()
+            }
+            PileCall::Check => {
+                let dent = self.first_dent();
+                self.passed = dent.is_none();
+                dent.unwrap_or_default()
+            }
+            PileCall::Query(..) if !self.passed => numbered(12),
+            PileCall::Query(_, cell) if off_chart(Point::from(*cell)) => numbered(11),
+            PileCall::Query(layer, cell) => {
+                let inside = self.has(usize::from(*layer), i32::from(cell.col), i32::from(cell.row));
+                said(if inside { INSIDE } else { OUTSIDE })
+            }
+        }
+    }
+
+    fn put(&mut self, layer: u8, cells: Option<Enclosed>) {
+        self.layers[usize::from(layer)] = cells;
+        self.passed = false;
+    }
+
+    fn has(&self, layer: usize, col: i32, row: i32) -> bool {
+        self.layers[layer].as_ref().is_some_and(|cells| cells.has((col, row)))
+    }
+
+    /// Columns before rows, each from 0.
+    fn first_dent(&self) -> Option<Fields> {
+        let side = i32::from(SIDE);
+        let column = |at| is_dented(|layer, row| self.has(layer, at, row));
+        let row = |at| is_dented(|layer, col| self.has(layer, col, at));
+        let found = |kind, at| Fields { number: 21, piece: kind, place: at as u16, ..Fields::default() };
+        let columns = (0..side).find(|&at| column(at)).map(|at| found(0, at));
+        columns.or_else(|| (0..side).find(|&at| row(at)).map(|at| found(1, at)))
+    }
+}
+
+/// Some cell of the section lies in the hull of its marked cells and is not marked.
+fn is_dented(marked: impl Fn(usize, i32) -> bool) -> bool {
+    let side = i32::from(SIDE);
+    let cells = || (0..i32::from(LAYERS)).flat_map(|layer| (0..side).map(move |at| (layer, at)));
+    let marks: Vec<_> = cells().filter(|&(layer, at)| marked(layer as usize, at)).collect();
+    if marks.is_empty() {
+        return false;
+    }
+    let (low, high) = (marks.iter().map(|m| m.1).min().unwrap_or(0), marks.iter().map(|m| m.1).max().unwrap_or(0));
+    let hull = Hull::of(marks);
+    let open = |&(layer, at): &(i32, i32)| (low..=high).contains(&at) && !marked(layer as usize, at);
+    let dented = cells().filter(open).any(|cell| hull.has(cell));
+    dented
+}
