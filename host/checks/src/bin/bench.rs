@@ -42,17 +42,19 @@ const LENGTHS: [usize; 4] = [100, 150, 250, 600];
 /// Letters of the lists that are no outlines.
 const SPOILT_LENGTHS: [usize; 2] = [250, 600];
 
-/// Letters of the outline that is drawn and queried.
+/// Letters of the longest outlines, and of the one that is drawn and queried.
 const DRAWN: usize = 600;
 
 /// The name of the ratio to the library's algorithm in plain Rust.
 const TO_PLAIN: &str = "library/plain";
 
 const PLAIN_GOAL: Goal = Goal::AtMost(1.1);
-const HULL_GOAL: Goal = Goal::AtLeast(10.0);
-const REFUSAL_GOAL: Goal = Goal::AtMost(3.0);
+/// Against the hull of all enclosed cells, of the longest outlines, whose blocks are the largest; against that of the border cells.
+const CELLS_GOAL: Goal = Goal::AtLeast(15.0);
+const BORDER_GOAL: Goal = Goal::AtLeast(2.0);
+const REFUSAL_GOAL: Goal = Goal::AtMost(2.0);
 /// For four times the letters.
-const GROWTH_GOAL: Goal = Goal::AtMost(4.4);
+const GROWTH_GOAL: Goal = Goal::AtMost(4.2);
 
 fn main() {
     let arguments: Vec<String> = env::args().skip(1).collect();
@@ -102,10 +104,11 @@ impl Bench {
     fn outlines(&mut self, random: &mut Random) {
         let takings = LENGTHS.map(|letters| Set::new("taken", letters, || taken(random, letters)));
         for taken in &takings {
-            self.against_plain_and_hulls(taken, Some(HULL_GOAL));
+            let cells_goal = (taken.letters == DRAWN).then_some(CELLS_GOAL);
+            self.against_plain_and_hulls(taken, cells_goal, Some(BORDER_GOAL));
             for (name, tries) in [("one cell flipped", 1), ("one cell flipped high up", 40)] {
                 let flipped = taken.flipped(name, random, tries);
-                self.against_plain_and_hulls(&flipped, None);
+                self.against_plain_and_hulls(&flipped, None, None);
                 self.against_itself(&flipped, taken, "refusal/taking".to_string(), REFUSAL_GOAL);
             }
         }
@@ -200,7 +203,7 @@ impl Bench {
     }
 
     /// Races all rivals over a set of outlines.
-    fn against_plain_and_hulls(&mut self, set: &Set, hull_goal: Option<Goal>) {
+    fn against_plain_and_hulls(&mut self, set: &Set, cells_goal: Option<Goal>, border_goal: Option<Goal>) {
         let race = race([
             &mut test_by(&Library, set),
             &mut test_by(&Plain, set),
@@ -208,8 +211,8 @@ impl Bench {
             &mut hull_by(Of::Border, set),
         ]);
         self.add_set(set, &race, Ratio::new(TO_PLAIN, race.ratio(0, 1), Some(PLAIN_GOAL)));
-        self.add_set(set, &race, Ratio::new("cells/library", race.ratio(2, 0), hull_goal));
-        self.add_set(set, &race, Ratio::new("border/library", race.ratio(3, 0), hull_goal));
+        self.add_set(set, &race, Ratio::new("cells/library", race.ratio(2, 0), cells_goal));
+        self.add_set(set, &race, Ratio::new("border/library", race.ratio(3, 0), border_goal));
     }
 
     /// Races the library and its algorithm in plain Rust over a set of lists.
