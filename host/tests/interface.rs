@@ -199,7 +199,7 @@ fn bytes_that_are_no_call() {
     let mut memory = raw::HolderMemory::fresh();
     let drop = Action::Drop.by(KNEE).bytes();
     let mut reply = [5; REPLY + 1];
-    for bytes in [&drop[..CALL - 1], &[], &[&drop[..], &[0]].concat(), &[6, 0, 0, 0, 0, 0, 0, 0, 0, 0, 0]] {
+    for bytes in [&drop[..CALL - 1], &[], &[&drop[..], &[0]].concat(), &[7, 0, 0, 0, 0, 0, 0, 0, 0, 0, 0]] {
         assert!(!memory.call(bytes, &mut reply), "{bytes:?}");
     }
     assert!(!memory.call(&Action::Begin(Corner::new(0, 0)).by(KNEE).bytes(), &mut reply[..REPLY - 1]));

@@ -18,7 +18,6 @@ struct holder { struct draft drafts[RQ_PARTIES]; struct work works[RQ_PARTIES * 
 _Static_assert(sizeof(struct holder) == RQ_HOLDER_BYTES && _Alignof(struct holder) <= 8, "size and alignment of a holder");
 
 /* And the pile's. */
-struct spans { uint8_t first[255], past[255]; };
 struct pile { struct spans layers[RQ_LAYERS]; bool passed; };
 _Static_assert(sizeof(struct pile) == RQ_PILE_BYTES && _Alignof(struct pile) == 1, "size and alignment of a pile");
 
