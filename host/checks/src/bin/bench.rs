@@ -145,7 +145,13 @@ impl Bench {
         }
         let query = PileCall::Query(7, random.cell().into());
         for (name, call) in [("pile: check", PileCall::Check), ("pile: query", query), ("pile: set", set(7))] {
-            let race = race([&mut || drop(black_box(library.call(&call))), &mut || drop(black_box(plain.call(&call)))]);
+            let mut proved = || {
+                black_box(library.call(&call));
+            };
+            let mut rival = || {
+                black_box(plain.call(&call));
+            };
+            let race = race([&mut proved, &mut rival]);
             self.add_call(name, (race.least(0), race.ratio(0, 1)));
         }
     }
