@@ -15,14 +15,14 @@
  * A reply is seven numbers, in this order. Those that a reply does not name are 0.
  *
  *   0 number   0, or the number of the refusal
- *   1 word     RQ_NO_WORD, RQ_INSIDE, RQ_OUTSIDE, RQ_TAKEN or RQ_SAME
+ *   1 word     RQ_NO_WORD, RQ_INSIDE, RQ_OUTSIDE, RQ_TAKEN, RQ_SAME, RQ_NONE or RQ_COLUMNS; of a comparison RQ_EQUAL to RQ_CROSSING
  *   2 place
- *   3 piece    1 to 4; in 21, 0 or 1
+ *   3 piece    1 to 4; in 21, 0 or 1; of a comparison, whose list is the inner one's: 1, 2, or 0
  *   4 length
  *   5 column   of a cell
  *   6 row
  *
- * Refusals, each with the fields that it names. Of several that apply, the first is given in the order 19, 20, 12 to 15, then 1 to 11, then 16.
+ * Refusals, each with the fields that it names. Of several that apply, the first is given in the order 19, 20, 12 to 15, then 1 to 11, then 16 to 18.
  * There is no refusal 7: an outline may run either way, and one that runs anticlockwise is read backward, each letter turned to its opposite.
  *
  *    1  there are fewer than 4 or more than RQ_LETTERS letters
@@ -35,14 +35,16 @@
  *    9  the outline is dented: piece, place and length of one copy of the first factor that is no Christoffel word; column and
  *       row of the lowest missing cell, the leftmost of its row
  *   10  test: `edges` has no room for two numbers of each edge: place, the count of edges;
- *       loose query: the list has an odd count of numbers, or more than RQ_NUMBERS
- *   11  a cell number is above 254
- *   12  query: nothing is at work at the place
+ *       loose query, border, compare: the list has an odd count of numbers, or more than RQ_NUMBERS
+ *   11  a cell number is above 254; compare, after 16: the walk leaves the chart
+ *   12  query, row: nothing is at work at the place
  *   13  add, close, drop: there is no draft
  *   14  begin: a draft is open
  *   15  add: the draft has RQ_LETTERS letters
  *   16  an edge is nil, or the edges do not sum to nil, or their directions do not rise strictly, clockwise from up, which may be the
  *       first, to just short of up again
+ *   17  border: no outline is taken with this anchor and these edges
+ *   18  border: `letters` has no room for the letters
  *   19  the party is above 1
  *   20  the place is above 3; a close that it turns back ends its party's draft all the same
  *
@@ -71,13 +73,16 @@ enum {
     RQ_PLACES = 4,    /* places of a party, from 0 */
     RQ_LETTERS = 612, /* most letters of an outline, and of a draft */
     RQ_EDGES = 200,   /* numbers that the edges of any taken outline need at most */
-    RQ_NUMBERS = 2032, /* most numbers of a loose query's list */
-    RQ_HOLDER_BYTES = 4592, /* bytes of a holder, as rq_holder_bytes() says */
+    RQ_NUMBERS = 2032, /* most numbers of a list of edges that is lent */
+    RQ_HOLDER_BYTES = 8688, /* bytes of a holder, as rq_holder_bytes() says */
     RQ_LAYERS = 16,   /* layers of a pile, from 0 */
     RQ_PILE_BYTES = 8161 /* bytes of a pile, as rq_pile_bytes() says */
 };
 
-enum { RQ_NO_WORD = 0, RQ_INSIDE = 1, RQ_OUTSIDE = 2, RQ_TAKEN = 3, RQ_SAME = 4 };
+enum { RQ_NO_WORD = 0, RQ_INSIDE = 1, RQ_OUTSIDE = 2, RQ_TAKEN = 3, RQ_SAME = 4, RQ_NONE = 5, RQ_COLUMNS = 6 };
+
+/* The words of a comparison. */
+enum { RQ_EQUAL = 11, RQ_FIRST_WITHIN = 12, RQ_SECOND_WITHIN = 13, RQ_NO_COMMON = 14, RQ_CROSSING = 15 };
 
 /*
  * Tests an outline: the start corner (col, row) and n letters.
@@ -109,9 +114,39 @@ bool rq_loose_query(uint16_t anchor_col, uint16_t anchor_row, const int16_t *edg
                     uint16_t *reply, size_t k);
 
 /*
+ * Writes back the border of the outline that has this anchor and these m / 2 edges.
+ *
+ * Number 0, place the count of letters: they stand first in `letters`, clockwise from the lower left corner of the anchor, and the rest of
+ * its n bytes is unaltered. Tested from that corner with room for RQ_EDGES numbers, they give the anchor and the edges again; of a taken
+ * outline's anchor and edges they are its own letters, wherever it was begun and whichever way it was drawn. RQ_LETTERS bytes hold any
+ * border. Without edges it is one cell. Refused by 10, 11 (the anchor), 16, 17, 18, in this order: `letters` is unaltered. The word is always 0.
+ *
+ * False, with nothing altered, if k is below RQ_REPLY. Else true; the reply stands first in `reply`, the rest is unaltered.
+ *
+ * Stack: about 13,400 bytes.
+ */
+bool rq_border(uint16_t anchor_col, uint16_t anchor_row, const int16_t *edges, size_t m, uint8_t *letters, size_t n, uint16_t *reply,
+               size_t k);
+
+/*
+ * Compares the cells in two hulls, each that of an anchor and m / 2 edges, as rq_loose_query has them.
+ *
+ * The word says one of five things, of which exactly one is true: both hulls hold the same cells (equal); every cell of the first is one
+ * of the second, which has more (first within second); the other way round (second within first); no cell is in both (no common cell);
+ * or else (crossing). Two hulls may overlap and have no common cell. The piece says whose list is the inner one's: 1 for equal and first
+ * within second, 2 for second within first, else 0. Refused by 10, 11 (anchor), 16, then 11 where the walk of the edges leaves the
+ * chart, all of the first list and then of the second; place, 1 or 2: which list. The lists are not altered.
+ *
+ * False, with nothing altered, if k is below RQ_REPLY. Else true; the reply stands first in `reply`, the rest is unaltered.
+ *
+ * Stack: about 300 bytes.
+ */
+bool rq_compare(uint16_t anchor_col_1, uint16_t anchor_row_1, const int16_t *edges_1, size_t m_1, uint16_t anchor_col_2,
+                uint16_t anchor_row_2, const int16_t *edges_2, size_t m_2, uint16_t *reply, size_t k);
+
+/*
  * Calls on a holder, which has for each of two parties, knee and ankle, a draft and four places for outlines at work. A call has RQ_CALL
  * bytes: its number, its party, its place, then x and y, numbers of 32 bits, low byte first. Bytes that are not named are ignored.
- *
  *   0 begin   a start corner, the first two bytes of x and of y; opens a draft without letters
  *   1 add     a letter, the first byte of x; puts it at the draft's end
  *   2 drop    discards the draft
@@ -119,6 +154,8 @@ bool rq_loose_query(uint16_t anchor_col, uint16_t anchor_row, const int16_t *edg
  *   4 close   tests the draft and ends it. If it is taken, it replaces what is at work at the place, and the word is "same" where it encloses
  *             the same cells as what was at work there, wherever and whichever way it was drawn, else "taken", with the fields of a taken test
  *   5 query   a cell, the first two bytes of x and of y; the word is "inside" if the outline at work at the place encloses it, else "outside"
+ *   6 row     a row, the first two bytes of x; the word is "columns" with the first enclosed column as column and the last as row, where
+ *             every one between is enclosed too, or "none"
  *
  * A party's replies depend on its own calls alone. A call that 19 or 20 turns back alters nothing, but that a close ends its party's draft.
  */
@@ -126,7 +163,7 @@ bool rq_loose_query(uint16_t anchor_col, uint16_t anchor_row, const int16_t *edg
 /*
  * Runs a script of calls, one after the other, on a fresh holder, which has no draft and nothing at work, and writes a reply for each.
  *
- * The run ends before a call with a number above 5, before one that the script's end cuts, and before one whose reply has no room in
+ * The run ends before a call with a number above 6, before one that the script's end cuts, and before one whose reply has no room in
  * the k numbers of `replies`. Returns how many replies were written; what stands behind them is unaltered.
  *
  * Stack: about 18,600 bytes.
@@ -145,7 +182,7 @@ void rq_fresh(void *holder);
 /*
  * Makes one call of RQ_CALL bytes on a holder that rq_fresh made, and leaves it as the call says.
  *
- * False, with nothing altered, unless n is RQ_CALL, the call's number is at most 5 and k is at least RQ_REPLY. Else true; the reply stands
+ * False, with nothing altered, unless n is RQ_CALL, the call's number is at most 6 and k is at least RQ_REPLY. Else true; the reply stands
  * first in `reply`, the rest is unaltered. Calls one after the other have the replies that a script of them has.
  *
  * Stack: about 18,600 bytes.

@@ -10,14 +10,21 @@ pub const INSIDE: u16 = 1;
 pub const OUTSIDE: u16 = 2;
 pub const TAKEN: u16 = 3;
 pub const SAME: u16 = 4;
+pub const NONE: u16 = 5;
+pub const COLUMNS: u16 = 6;
 pub const UNDECIDED: u16 = 7;
+pub const EQUAL: u16 = 11;
+pub const FIRST_WITHIN: u16 = 12;
+pub const SECOND_WITHIN: u16 = 13;
+pub const NO_COMMON: u16 = 14;
+pub const CROSSING: u16 = 15;
 
 /// A reply, with a name for each of its numbers, in their order (contract 4.1). A field that the reply does not name is 0.
 #[derive(Clone, Copy, Debug, Default, PartialEq, Eq, Hash)]
 pub struct Fields {
     /// 0, or the refusal's number.
     pub number: u16,
-    /// [`NO_WORD`], [`INSIDE`], [`OUTSIDE`], [`TAKEN`], [`SAME`] or [`UNDECIDED`]; a test's is none.
+    /// [`NO_WORD`], [`INSIDE`], [`OUTSIDE`], [`TAKEN`], [`SAME`] or [`UNDECIDED`], of a comparison [`EQUAL`] to [`CROSSING`]; a test's is none.
     pub word: u16,
     pub place: u16,
     pub piece: u16,
@@ -80,6 +87,8 @@ pub enum Action {
     Close { place: u8 },
     /// Asks whether what is at work at a place encloses a cell.
     Query { place: u8, cell: Cell },
+    /// Asks which columns of a row what is at work at a place encloses.
+    Row { place: u8, row: u16 },
 }
 
 impl Action {
@@ -114,6 +123,7 @@ impl Call {
             Action::Clear { place } => put(3, Some(place), &[], &[]),
             Action::Close { place } => put(4, Some(place), &[], &[]),
             Action::Query { place, cell } => put(5, Some(place), &cell.col.to_le_bytes(), &cell.row.to_le_bytes()),
+            Action::Row { place, row } => put(6, Some(place), &row.to_le_bytes(), &[]),
         }
         bytes
     }
@@ -130,6 +140,7 @@ impl Call {
             3 => Action::Clear { place },
             4 => Action::Close { place },
             5 => Action::Query { place, cell: Cell::new(x, y) },
+            6 => Action::Row { place, row: x },
             _ => return None,
         };
         Some(action.by(party))
@@ -155,13 +166,14 @@ const Y: usize = 7;
 mod tests {
     use super::*;
 
-    const CALLS: [(Call, [u8; CALL]); 6] = [
+    const CALLS: [(Call, [u8; CALL]); 7] = [
         (Action::Begin(Corner::new(0x0102, 0x0304)).by(0), [0, 0, 0, 2, 1, 0, 0, 4, 3, 0, 0]),
         (Action::Add(9).by(1), [1, 1, 0, 9, 0, 0, 0, 0, 0, 0, 0]),
         (Action::Drop.by(255), [2, 255, 0, 0, 0, 0, 0, 0, 0, 0, 0]),
         (Action::Clear { place: 3 }.by(1), [3, 1, 3, 0, 0, 0, 0, 0, 0, 0, 0]),
         (Action::Close { place: 4 }.by(0), [4, 0, 4, 0, 0, 0, 0, 0, 0, 0, 0]),
         (Action::Query { place: 2, cell: Cell::new(0xff, 0x100) }.by(1), [5, 1, 2, 0xff, 0, 0, 0, 0, 1, 0, 0]),
+        (Action::Row { place: 1, row: 0x201 }.by(0), [6, 0, 1, 1, 2, 0, 0, 0, 0, 0, 0]),
     ];
 
     #[test]
@@ -172,7 +184,7 @@ mod tests {
             assert_eq!(Call::read(call.bytes_over([77; CALL])), Some(call));
         }
         assert_eq!(Action::Add(9).by(1).bytes_over([77; CALL]), [1, 1, 77, 9, 77, 77, 77, 77, 77, 77, 77]);
-        assert!((6..=u8::MAX).all(|call| Call::read([call, 0, 0, 0, 0, 0, 0, 0, 0, 0, 0]).is_none()));
+        assert!((7..=u8::MAX).all(|call| Call::read([call, 0, 0, 0, 0, 0, 0, 0, 0, 0, 0]).is_none()));
     }
 
     #[test]
@@ -180,8 +192,8 @@ mod tests {
         let calls = CALLS.map(|(call, _)| call);
         let script = Call::script(calls);
         assert!(Call::each(&script).eq(calls));
-        assert!(Call::each(&script[..script.len() - 1]).eq(calls[..5].iter().copied()));
-        assert!(Call::each(&[&script[..2 * CALL], &[6; CALL], &script[..]].concat()).eq(calls[..2].iter().copied()));
+        assert!(Call::each(&script[..script.len() - 1]).eq(calls[..6].iter().copied()));
+        assert!(Call::each(&[&script[..2 * CALL], &[7; CALL], &script[..]].concat()).eq(calls[..2].iter().copied()));
     }
 
     #[test]

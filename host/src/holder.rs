@@ -1,4 +1,4 @@
-use crate::codec::{Action, Call, Fields, INSIDE, OUTSIDE, SAME, TAKEN};
+use crate::codec::{Action, Call, Fields, COLUMNS, INSIDE, NONE, OUTSIDE, SAME, TAKEN};
 use crate::limits::REPLY;
 use crate::raw::HolderMemory;
 use crate::{Cell, Corner, Refusal, Taken};
@@ -12,6 +12,10 @@ pub enum Answer {
     Inside,
     /// The outline at work does not enclose the cell.
     Outside,
+    /// The outline at work encloses these columns of the row, the first and the last, and every one between.
+    Columns { first: u16, last: u16 },
+    /// The outline at work encloses no cell of the row.
+    None,
     /// The draft is now at work.
     Taken(Taken),
     /// The draft is now at work, and encloses the cells that were enclosed before.
@@ -36,6 +40,8 @@ pub type Reply = Result<Answer, Refusal>;
 /// assert!(matches!(holder.close(knee, 3)?, Answer::Taken(_)));
 /// assert!(holder.query(knee, 3, Cell::new(2, 0))?);
 /// assert!(!holder.query(knee, 3, Cell::new(3, 0))?);
+/// assert_eq!(holder.row(knee, 3, 0)?, Some((0, 2)));
+/// assert_eq!(holder.row(knee, 3, 1)?, None);
 /// assert_eq!(holder.drop_draft(knee), Err(Refusal::NoDraft));
 /// assert_eq!(holder.query(1, 3, Cell::new(2, 0)), Err(Refusal::NothingAtWork));
 /// # Ok::<(), Refusal>(())
@@ -87,6 +93,14 @@ impl Holder {
         Ok(self.call(Action::Query { place, cell }.by(party))? == Answer::Inside)
     }
 
+    /// The first and the last column of a row that the outline at work at a place encloses; none if it encloses no cell there.
+    pub fn row(&mut self, party: u8, place: u8, row: u16) -> Result<Option<(u16, u16)>, Refusal> {
+        Ok(match self.call(Action::Row { place, row }.by(party))? {
+            Answer::Columns { first, last } => Some((first, last)),
+            _ => None,
+        })
+    }
+
     /// Makes one call.
     pub fn call(&mut self, call: Call) -> Reply {
         let mut numbers = [0; REPLY];
@@ -104,6 +118,8 @@ fn reply(fields: Fields) -> Reply {
     Ok(match fields.word {
         INSIDE => Answer::Inside,
         OUTSIDE => Answer::Outside,
+        COLUMNS => Answer::Columns { first: fields.col, last: fields.row },
+        NONE => Answer::None,
         TAKEN => Answer::Taken(taken),
         SAME => Answer::Same(taken),
         _ => Answer::Done,

@@ -20,8 +20,9 @@
 //! # Ok::<(), Refusal>(())
 //! ```
 //!
-//! A [`Holder`] keeps, for each party, a draft, letter by letter, and the outlines at work. [`raw`] has the library's functions as
-//! they are, on plain lists of numbers; [`codec`] reads and writes these, and [`limits`] names what bounds them.
+//! [`Edges::compare`] says which of two hulls lies within the other. A [`Holder`] keeps, for each party, a draft, letter by letter, and
+//! the outlines at work. [`raw`] has the library's functions as they are, on plain lists of numbers; [`codec`] reads and writes these,
+//! and [`limits`] names what bounds them.
 //!
 //! A [`Pile`] keeps sixteen layers, and says whether they go over into one another without a dent.
 //!
@@ -29,6 +30,7 @@
 
 mod chart;
 pub mod codec;
+mod comparison;
 mod holder;
 pub mod limits;
 mod outline;
@@ -38,6 +40,7 @@ mod refusal;
 
 pub use chart::{Cell, Corner};
 pub use codec::{Action, Call};
+pub use comparison::{Comparison, Nesting, TurnedBack};
 pub use holder::{Answer, Holder, Reply};
 pub use outline::{Edges, Outline, Taken, Verdict};
 pub use pile::{Pile, PileCall};

@@ -41,3 +41,6 @@ pub const PARTIES: u8 = 2;
 
 /// Each party has outlines at this many places (contract 7.1).
 pub const PLACES: u8 = 4;
+
+/// A fitting file has at most this many bytes (contract 11.3).
+pub const LONGEST_FILE: usize = 65_536;

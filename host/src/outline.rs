@@ -1,5 +1,5 @@
 use crate::codec::{Fields, INSIDE};
-use crate::limits::{MOST_NUMBERS, REPLY};
+use crate::limits::{LONGEST, MOST_NUMBERS, REPLY};
 use crate::{raw, Cell, Corner, Refusal};
 
 /// An outline: a start corner and letters, 0 right, 1 up, 2 left, 3 down. Any bytes make one; [`Outline::test`] judges it.
@@ -88,9 +88,28 @@ impl Edges {
         let mut reply = [0; REPLY];
         raw::loose_query(self.anchor.col, self.anchor.row, &self.numbers, cell.col, cell.row, &mut reply);
         let fields = Fields::from(reply);
-        match Refusal::of_loose_query(fields) {
+        match Refusal::of_list(fields) {
             Some(refusal) => Err(refusal),
             None => Ok(fields.word == INSIDE),
+        }
+    }
+
+    /// The outline that has this anchor and these edges, clockwise from the lower left corner of the anchor, where one does.
+    pub fn border(&self) -> Result<Outline, Refusal> {
+        let mut letters = [0; LONGEST];
+        let count = self.border_into(&mut letters)?;
+        Ok(Outline::new(Corner::new(self.anchor.col, self.anchor.row), &letters[..count]))
+    }
+
+    /// Writes that outline's letters into a lent list, and says how many they are. What stands behind them is unaltered, as is the
+    /// whole list if there is no such outline.
+    pub fn border_into(&self, letters: &mut [u8]) -> Result<usize, Refusal> {
+        let mut reply = [0; REPLY];
+        raw::border(self.anchor.col, self.anchor.row, &self.numbers, letters, &mut reply);
+        let fields = Fields::from(reply);
+        match Refusal::of_list(fields) {
+            Some(refusal) => Err(refusal),
+            None => Ok(usize::from(fields.place)),
         }
     }
 }

@@ -27,6 +27,30 @@ mod library {
             k: usize,
         ) -> bool;
 
+        pub fn rq_border(
+            anchor_col: u16,
+            anchor_row: u16,
+            edges: *const i16,
+            m: usize,
+            letters: *mut u8,
+            n: usize,
+            reply: *mut u16,
+            k: usize,
+        ) -> bool;
+
+        pub fn rq_compare(
+            anchor_col_1: u16,
+            anchor_row_1: u16,
+            edges_1: *const i16,
+            m_1: usize,
+            anchor_col_2: u16,
+            anchor_row_2: u16,
+            edges_2: *const i16,
+            m_2: usize,
+            reply: *mut u16,
+            k: usize,
+        ) -> bool;
+
         pub fn rq_replay(script: *const u8, n: usize, replies: *mut u16, k: usize) -> usize;
 
         pub fn rq_holder_bytes() -> usize;
@@ -71,6 +95,48 @@ pub fn loose_query(anchor_col: u16, anchor_row: u16, edges: &[i16], col: u16, ro
             edges.len(),
             col,
             row,
+            reply.as_mut_ptr(),
+            reply.len(),
+        )
+    }
+}
+
+/// Writes back the border of the outline that has an anchor and edges: its clockwise letters from W on stand first in `letters`.
+///
+/// False, with nothing altered, if `reply` has no room for a reply.
+#[inline]
+pub fn border(anchor_col: u16, anchor_row: u16, edges: &[i16], letters: &mut [u8], reply: &mut [u16]) -> bool {
+    // SAFETY: each pointer comes with the length of its own slice, and no two slices overlap.
+    unsafe {
+        library::rq_border(
+            anchor_col,
+            anchor_row,
+            edges.as_ptr(),
+            edges.len(),
+            letters.as_mut_ptr(),
+            letters.len(),
+            reply.as_mut_ptr(),
+            reply.len(),
+        )
+    }
+}
+
+/// How the cells in two hulls lie, and whose list is the inner one's. Each hull has the column and the row of its anchor, and its edges.
+///
+/// False, with nothing altered, if `reply` has no room for a reply.
+#[inline]
+pub fn compare(first: (u16, u16), edges: &[i16], second: (u16, u16), others: &[i16], reply: &mut [u16]) -> bool {
+    // SAFETY: each pointer comes with the length of its own slice, and `reply` overlaps neither of the others.
+    unsafe {
+        library::rq_compare(
+            first.0,
+            first.1,
+            edges.as_ptr(),
+            edges.len(),
+            second.0,
+            second.1,
+            others.as_ptr(),
+            others.len(),
             reply.as_mut_ptr(),
             reply.len(),
         )

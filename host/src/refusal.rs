@@ -27,7 +27,7 @@ pub enum Refusal {
     Dent { piece: u16, place: usize, length: usize, missing: Cell },
     /// 10, of a test: the lent list has no room for this many edges.
     Room { edges: usize },
-    /// 10, of a loose query: the list is odd or too long.
+    /// 10, of a loose query or a border: the list is odd or too long.
     List,
     /// 11: a cell off the chart.
     Cell,
@@ -45,6 +45,10 @@ pub enum Refusal {
     Party,
     /// 20: there is no such place.
     Place,
+    /// 17: no taken outline has this anchor and these edges.
+    NoOutline,
+    /// 18: the lent list has no room for the letters.
+    LetterRoom,
 }
 
 impl Refusal {
@@ -68,6 +72,8 @@ impl Refusal {
             Refusal::Turning => 16,
             Refusal::Party => 19,
             Refusal::Place => 20,
+            Refusal::NoOutline => 17,
+            Refusal::LetterRoom => 18,
         }
     }
 
@@ -98,13 +104,15 @@ impl Refusal {
             16 => Refusal::Turning,
             19 => Refusal::Party,
             20 => Refusal::Place,
+            17 => Refusal::NoOutline,
+            18 => Refusal::LetterRoom,
             other => unreachable!("the library's last refusal is {LAST_REFUSAL}, not {other}"),
         };
         Some(refusal)
     }
 
-    /// The refusal in a reply of a loose query, where 10 is about the list.
-    pub(crate) fn of_loose_query(fields: Fields) -> Option<Refusal> {
+    /// The refusal in a reply of a loose query, or of a border, where 10 is about the list.
+    pub(crate) fn of_list(fields: Fields) -> Option<Refusal> {
         match Refusal::of(fields) {
             Some(Refusal::Room { .. }) => Some(Refusal::List),
             other => other,
@@ -137,6 +145,8 @@ impl fmt::Display for Refusal {
             Refusal::Turning => write!(f, "the edges do not lead once round, clockwise from up"),
             Refusal::Party => write!(f, "the party is none of the {PARTIES}"),
             Refusal::Place => write!(f, "the place is none of the {PLACES}"),
+            Refusal::NoOutline => write!(f, "no taken outline has this anchor and these edges"),
+            Refusal::LetterRoom => write!(f, "the lent list has no room for the letters"),
         }
     }
 }

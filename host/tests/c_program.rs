@@ -12,7 +12,14 @@ fn c_program_links_and_runs() {
     let host = Path::new(env!("CARGO_MANIFEST_DIR"));
     let program = Path::new(env!("CARGO_TARGET_TMPDIR")).join("specimens");
     let compiler = env::var_os("CC").unwrap_or("cc".into());
-    let limits = [("REPLY", REPLY), ("CALL", CALL), ("LONGEST", LONGEST), ("LONGEST_LIST", LONGEST_LIST), ("MOST_NUMBERS", MOST_NUMBERS), ("HOLDER", raw::holder_bytes())];
+    let limits = [
+        ("REPLY", REPLY),
+        ("CALL", CALL),
+        ("LONGEST", LONGEST),
+        ("LONGEST_LIST", LONGEST_LIST),
+        ("MOST_NUMBERS", MOST_NUMBERS),
+        ("HOLDER", raw::holder_bytes()),
+    ];
     let compiled = Command::new(compiler)
         .args(["-std=c11", "-Wall", "-Wextra", "-Wpedantic", "-Werror"])
         .args(limits.map(|(name, limit)| format!("-D{name}={limit}")))

@@ -1,7 +1,7 @@
 //! The safe interface's own part: lists as types, the holder's memory, the refusals' words.
 
 use robequarry::limits::{CALL, LAST_CORNER, LONGEST, LONGEST_LIST, PARTIES, PLACES, REPLY};
-use robequarry::{raw, Action, Answer, Cell, Corner, Edges, Holder, Refusal, Taken};
+use robequarry::{raw, Action, Answer, Cell, Comparison, Corner, Edges, Holder, Nesting, Outline, Refusal, Taken, TurnedBack};
 
 const BAR: [u8; 8] = [1, 0, 0, 0, 3, 2, 2, 2];
 const CELL: [u8; 4] = [1, 0, 3, 2];
@@ -25,6 +25,10 @@ fn reply_list_without_room() {
         let mut reply = vec![5; room];
         assert!(!raw::test(0, 0, &BAR, &mut edges, &mut reply));
         assert!(!raw::loose_query(0, 0, &edges, 0, 0, &mut reply));
+        assert_eq!(raw::replay(&Action::Drop.by(KNEE).bytes(), &mut reply), 0);
+        let mut letters = [9; 4];
+        assert!(!raw::border(0, 0, &[], &mut letters, &mut reply));
+        assert_eq!(letters, [9; 4]);
         assert_eq!(raw::replay(&Action::Drop.by(KNEE).bytes(), &mut reply), 0);
         assert_eq!((edges, reply), ([9; 4], vec![5; room]));
     }
@@ -60,6 +64,31 @@ fn lists_that_do_not_lead_once_round() {
     // Corner cells off the chart count.
     assert_eq!(ask(&[0, 600, 300, -600, -300, 0], Cell::new(103, 204)), Ok(true));
     assert_eq!(ask(&[0, 600, 300, -600, -300, 0], Cell::new(254, 254)), Ok(false));
+}
+
+#[test]
+fn borders() {
+    let anchor = Cell::new(3, 4);
+    let border = |numbers: &[i16]| Edges::new(anchor, numbers).border();
+    let letters = |outline: Outline| outline.letters;
+    // No edge is one cell; edges of several copies are written out.
+    assert_eq!(border(&[]).map(letters), Ok(CELL.to_vec()));
+    assert_eq!(border(&[2, 0, -2, 0]).map(letters), Ok(BAR.to_vec()));
+    assert_eq!(border(&[]).unwrap().start, Corner::new(3, 4));
+    // 16 before 17 before 18. Two cells that meet at a corner have no border, nor has what leaves the chart or is too long.
+    let into = |numbers: &[i16], room: usize| Edges::new(anchor, numbers).border_into(&mut vec![9; room]);
+    assert_eq!(into(&[0, 0], 0), Err(Refusal::Turning));
+    assert_eq!(into(&[1, 1, -1, -1], 0), Err(Refusal::NoOutline));
+    assert_eq!(into(&[0, 251, 1, -251, -1, 0], LONGEST), Err(Refusal::NoOutline));
+    assert_eq!(into(&[0, 200, 200, 0, 0, -200, -200, 0], LONGEST), Err(Refusal::NoOutline));
+    assert_eq!(into(&[2, 0, -2, 0], 7), Err(Refusal::LetterRoom));
+    assert_eq!(into(&[2, 0, -2, 0], 8), Ok(8));
+    assert_eq!(into(&[2], LONGEST), Err(Refusal::List));
+    assert_eq!(Edges::new(Cell::new(0, 255), [0, 0]).border(), Err(Refusal::Cell));
+    // The rest of the lent list is as it was.
+    let mut lent = [9; 6];
+    assert_eq!(Edges::new(anchor, []).border_into(&mut lent), Ok(4));
+    assert_eq!(lent, [1, 0, 3, 2, 9, 9]);
 }
 
 #[test]
@@ -126,6 +155,31 @@ fn parties_and_places_stand_apart() {
     assert_eq!(holder.close(ANKLE, PLACES), Err(Refusal::Place));
     assert_eq!(holder.close(ANKLE, 0), Err(Refusal::NoDraft));
     assert_eq!(holder.begin(KNEE, Corner::new(1, 1)), Err(Refusal::DraftOpen));
+}
+
+#[test]
+fn comparisons() {
+    let edges = |col, row, numbers: &[i16]| Edges::new(Cell::new(col, row), numbers);
+    let square = edges(4, 4, &[0, 2, 2, 0, 0, -2, -2, 0]);
+    let cell = edges(5, 6, &[]);
+    let found = |nesting, inner| Ok(Comparison { nesting, inner });
+    assert_eq!(square.compare(&square.clone()), found(Nesting::Equal, Some(&square)));
+    assert_eq!(cell.compare(&square), found(Nesting::FirstWithin, Some(&cell)));
+    assert_eq!(square.compare(&cell), found(Nesting::SecondWithin, Some(&cell)));
+
+    // Two segments that cross between cells, and two that share a cell that is no corner of either.
+    let rising = edges(0, 0, &[1, 1, -1, -1]);
+    assert_eq!(rising.compare(&edges(0, 1, &[1, -1, -1, 1])), found(Nesting::NoCommonCell, None));
+    let longer = edges(0, 0, &[2, 2, -2, -2]);
+    assert_eq!(longer.compare(&edges(0, 1, &[2, 0, -2, 0])), found(Nesting::Crossing, None));
+
+    // The whole first list is asked before the second.
+    let turned = |list, refusal| Err(TurnedBack { list, refusal });
+    let (off, odd) = (edges(254, 0, &[0, 2, 2, 0, 0, -2, -2, 0]), edges(0, 0, &[1]));
+    assert_eq!(off.compare(&odd), turned(1, Refusal::Cell));
+    assert_eq!(cell.compare(&odd), turned(2, Refusal::List));
+    assert_eq!(cell.compare(&edges(0, 0, &[1, 0])), turned(2, Refusal::Turning));
+    assert_eq!(cell.compare(&edges(255, 0, &[1, 0])).unwrap_err().to_string(), "list 2: a cell number is above 254");
 }
 
 #[test]

@@ -1,4 +1,6 @@
 /* Three specimens of contract 9 through the C interface. The status is the number of the line that failed, or 0. */
+#include <string.h>
+
 #include "robequarry.h"
 
 /* The header's limits are those of the Rust interface, which the compiler is given. */
@@ -10,7 +12,8 @@ _Static_assert(RQ_HOLDER_BYTES == HOLDER && RQ_HOLDER_BYTES % 8 == 0, "bytes of 
 /* The holder's fields as the C compiler lays them out. */
 struct point { uint16_t col, row; };
 struct draft { bool begun; struct point start; uint8_t letters[RQ_LETTERS]; size_t count; };
-struct work { bool taken; struct point anchor; int16_t numbers[RQ_EDGES]; size_t edges; };
+struct spans { uint8_t first[255], past[255]; };
+struct work { bool taken; struct point anchor; int16_t numbers[RQ_EDGES]; size_t edges; struct spans spans; };
 struct holder { struct draft drafts[RQ_PARTIES]; struct work works[RQ_PARTIES * RQ_PLACES]; };
 _Static_assert(sizeof(struct holder) == RQ_HOLDER_BYTES && _Alignof(struct holder) <= 8, "size and alignment of a holder");
 
@@ -40,6 +43,23 @@ int main(void) {
 
     /* Without its last edge the list does not lead once round. */
     EXPECT(rq_loose_query(0, 1, edges, 6, 1, 1, reply, RQ_REPLY) && reply[0] == 16 && reply[1] == RQ_NO_WORD);
+
+    /* Its edges give its letters back, in a list that is long enough; two cells that meet at a corner have no border. */
+    uint8_t letters[RQ_LETTERS];
+    letters[sizeof plus] = 9;
+    EXPECT(rq_border(0, 1, edges, 8, letters, RQ_LETTERS, reply, RQ_REPLY) && reply[0] == 0 && reply[2] == sizeof plus);
+    EXPECT(memcmp(letters, plus, sizeof plus) == 0 && letters[sizeof plus] == 9);
+    EXPECT(rq_border(0, 1, edges, 8, letters, sizeof plus - 1, reply, RQ_REPLY) && reply[0] == 18 && reply[2] == 0);
+    EXPECT(!rq_border(0, 1, edges, 8, letters, RQ_LETTERS, reply, RQ_REPLY - 1));
+    const int16_t diagonal[] = {1, 1, -1, -1};
+    EXPECT(rq_border(0, 1, diagonal, 4, letters, 0, reply, RQ_REPLY) && reply[0] == 17);
+    /* The plus holds its middle, whose list is the second and empty; off the chart the first list is refused. */
+    EXPECT(rq_compare(0, 1, edges, 8, 1, 1, edges, 0, reply, RQ_REPLY) && reply[0] == 0 && reply[1] == RQ_SECOND_WITHIN && reply[3] == 2);
+    EXPECT(rq_compare(0, 1, edges, 8, 0, 1, edges, 8, reply, RQ_REPLY) && reply[1] == RQ_EQUAL && reply[2] == 0 && reply[3] == 1);
+    EXPECT(rq_compare(0, 1, edges, 8, 3, 1, edges, 8, reply, RQ_REPLY) && reply[1] == RQ_NO_COMMON && reply[3] == 0);
+    EXPECT(rq_compare(0, 1, edges, 8, 0, 0, edges, 8, reply, RQ_REPLY) && reply[0] == 11 && reply[2] == 2 && reply[3] == 0);
+    EXPECT(rq_compare(0, 1, edges, 7, 0, 255, edges, 6, reply, RQ_REPLY) && reply[0] == 10 && reply[2] == 1);
+    EXPECT(!rq_compare(0, 1, edges, 8, 0, 1, edges, 8, reply, RQ_REPLY - 1));
 
     /* H6: a dent, with the missing cell (1, 1). */
     const uint8_t dented[] = {1, 1, 1, 0, 3, 3, 0, 0, 3, 2, 2, 2};

@@ -7,3 +7,4 @@ pub mod ListTheorem
 pub mod Parties
 pub mod Queries
 pub mod Closes
+pub mod Rows

@@ -12,16 +12,17 @@ use Rattle.border.specs.Judged.{judgedOf}
 use Rattle.border.proofs.JudgedLaws.{judged-verdict, judged-numbers}
 use Rattle.calls.specs.Calls.{parties, places, badPlace}
 use Rattle.calls.specs.declared.Action.{Action}
-use Rattle.calls.specs.declared.Action.the-variants.{Begin, Add, Drop, Clear, Close, Query}
+use Rattle.calls.specs.declared.Action.the-variants.{Begin, Add, Drop, Clear, Close, Ask}
 use Rattle.calls.specs.declared.Reply.the-variants.{NoPlace}
 use Rattle.book.specs.Book.{Page, putDraft, putWork, OnDraft, OnPage, workAfter, closes, drafting as draftingPage, closing, acts}
 use Rattle.draft.specs.declared.Drafted.{Drafted}
+use Rattle.draft.specs.Draft.{outlineOf}
 use Rattle.work.specs.Work.{removed}
 use Rattle.holder.specs.declared.Holder.{Holder}
 use Rattle.holder.specs.declared.Answered.{Answered}
 use Rattle.holder.specs.Holder.{draftOf, workOf, ended, closedHolder, closedBy, closeOf, drafting, actOf}
 use Rattle.agreement.proofs.Drafts.{IsDraft, AgreesDraft, ended-stands, begin-agrees, add-agrees, drop-agrees}
-use Rattle.agreement.proofs.Works.{IsWork, numbersOf, taken-working, removed-stands, closed-agrees, located-asked}
+use Rattle.agreement.proofs.Works.{IsWork, numbersOf, taken-working, removed-stands, closed-agrees, answered-asked}
 use Rattle.agreement.proofs.Slots.{Sized, HasPage, Turns, turns-nothing, turns-draft, turns-work, page-draft, page-work, page-kept}
 
 -- The answer to a call of party p is its page's
@@ -73,10 +74,10 @@ module _ (p : ℕ) (there : p < parties) (h : Holder) (s : Sized h) (g : Page) (
     closed-turns o (Refused f) = ended-turns
     closed-turns o (Taken n a) = turns-work p there h (ended h p) ended-turns i inside _
 
-    closed-page : (o : Outline) (v : Verdict) → verdictOf o ≡ v → HasPage (closedHolder h p i (numbersOf o v) v) p (putWork (putDraft g none) i (workAfter (g .works i) o v))
+    closed-page : (o : Outline) (v : Verdict) → outlineOf (draftOf h p) ≡ o → verdictOf o ≡ v → HasPage (closedHolder h p i (numbersOf o v) v) p (putWork (putDraft g none) i (workAfter (g .works i) o v))
     unfolding closedHolder workAfter
-    closed-page o (Refused f) e = page-kept i ended-page
-    closed-page o (Taken n a) e = page-work p there (ended h p) (ended-turns .sized) (putDraft g none) ended-page i inside _ (some o) (taken-working o n a e)
+    closed-page o (Refused f) own e = page-kept i ended-page
+    closed-page o (Taken n a) own e = rw own (page-work p there (ended h p) (ended-turns .sized) (putDraft g none) ended-page i inside _ (some o) (taken-working o n a e))
 
     close-agrees : AgreesPage p h (closeOf h p i) (closing g i (closes (g .draft) (g .works i)))
     unfolding closeOf closes closedBy
@@ -93,7 +94,7 @@ module _ (p : ℕ) (there : p < parties) (h : Holder) (s : Sized h) (g : Page) (
                 rw (judged-verdict o, judged-numbers o) (record {
                   reply = closed-agrees (workOf h p i) (g .works i) (k .works i inside) o (verdictOf o) refl;
                   turns = closed-turns o (verdictOf o);
-                  page = closed-page o (verdictOf o) refl;
+                  page = closed-page o (verdictOf o) (is .stands .outline) refl;
                 })
 
   -- ---- every action
@@ -112,8 +113,8 @@ module _ (p : ℕ) (there : p < parties) (h : Holder) (s : Sized h) (g : Page) (
         page = page-work p there h s g k i inside _ none (removed-stands (workOf h p i));
       }
   act-agrees (Close i) = either (badPlace i) (record { reply = refl; turns = ended-turns; page = ended-page }) λ e. close-agrees i (leb-false places i e)
-  act-agrees (Query i x) = record { reply = said (badPlace i) refl; turns = turns-nothing p there h s; page = k }
+  act-agrees (Ask i q) = record { reply = said (badPlace i) refl; turns = turns-nothing p there h s; page = k }
     where
-      said : (t : Bool) → badPlace i ≡ t → actOf h p (Query i x) .reply ≡ acts g (Query i x) .reply
+      said : (t : Bool) → badPlace i ≡ t → actOf h p (Ask i q) .reply ≡ acts g (Ask i q) .reply
       said true e = rw e
-      said false e = rw (e, located-asked (workOf h p i) x (g .works i) (k .works i (leb-false places i e)))
+      said false e = rw (e, answered-asked (workOf h p i) q (g .works i) (k .works i (leb-false places i e)))

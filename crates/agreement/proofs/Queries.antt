@@ -16,9 +16,11 @@ use Rattle.polygon.specs.Loose.{badCell}
 use Rattle.calls.specs.Calls.{parties, places, badParty, badPlace, by}
 use Rattle.calls.specs.Replies.{replyFields}
 use Rattle.calls.specs.declared.Call.{Call}
-use Rattle.calls.specs.declared.Action.the-variants.{Query}
+use Rattle.calls.specs.declared.Action.the-variants.{Ask}
+use Rattle.calls.specs.declared.Question.{Question}
+use Rattle.calls.specs.declared.Question.the-variants.{Cell as OfCell}
 use Rattle.calls.specs.declared.Reply.the-variants.{Inside, Outside, Refused as WasRefused}
-use Rattle.book.specs.Book.{asked, acts, answer}
+use Rattle.book.specs.Book.{asked, asks, acts, answer}
 use Rattle.book.specs.LastTaken.{lastTaken}
 use Rattle.book.proofs.LastTaken.{work-last-taken}
 use Rattle.holder.specs.Run.{replyAfter}
@@ -47,25 +49,34 @@ asked-nothing x (some o) = go (badCell x) (block o (x .col) (x .row))
     go false true = (λ e. absurd (omega (arith, e)), λ e. cc)
     go false false = (λ e. absurd (omega (arith, e)), λ e. cc)
 
--- A query of party p at place k, after a list of calls
-module _ (p k : ℕ) (there : p < parties) (inside : k < places) (cs : List Call) (x : Point) where
-  -- Its reply is read off the outline last taken there
-  pub query-reply : replyAfter cs (by p (Query k x)) ≡ asked x (lastTaken p k cs)
+-- What is asked of party p's place k, after a list of calls
+module _ (p k : ℕ) (there : p < parties) (inside : k < places) (cs : List Call) where
+  -- The reply is read off the outline last taken there
+  pub ask-reply : (q : Question) → replyAfter cs (by p (Ask k q)) ≡ asks q (lastTaken p k cs)
   unfolding answer acts
-  query-reply = reply-after cs (by p (Query k x)) ∙ rw (lt-leb parties p there, lt-leb places k inside) (ap (asked x) (work-last-taken p k cs))
+  ask-reply q = reply-after cs (by p (Ask k q)) ∙ rw (lt-leb parties p there, lt-leb places k inside) (ap (asks q) (work-last-taken p k cs))
+
+-- A query
+module _ (p k : ℕ) (there : p < parties) (inside : k < places) (cs : List Call) (x : Point) where
+  abbrev query : Call
+  query = by p (Ask k (OfCell x))
+
+  pub query-reply : replyAfter cs query ≡ asked x (lastTaken p k cs)
+  unfolding asks
+  query-reply = ask-reply p k there inside cs (OfCell x)
 
   -- It has number 12 exactly when there is none
-  pub query-nothing : (replyFields (replyAfter cs (by p (Query k x))) .number ≡ 12) ↔ (lastTaken p k cs ≡ none)
+  pub query-nothing : (replyFields (replyAfter cs query) .number ≡ 12) ↔ (lastTaken p k cs ≡ none)
   query-nothing = rw query-reply (asked-nothing x (lastTaken p k cs))
 
   module _ (o : Outline) (last : lastTaken p k cs ≡ some o) (col : x .col < side) (row : x .row < side) where
-    answered : replyAfter cs (by p (Query k x)) ≡ cond (block o (x .col) (x .row)) Inside Outside
+    answered : replyAfter cs query ≡ cond (block o (x .col) (x .row)) Inside Outside
     unfolding asked
     answered = query-reply ∙ ap (asked x) last ∙ rw (not-bad-cell x col row)
 
     -- It is "inside" exactly when that outline encloses the cell, and else "outside" (contract 8.4)
-    pub query-inside : (replyAfter cs (by p (Query k x)) ≡ Inside) ↔ (block o (x .col) (x .row) ≡ true)
+    pub query-inside : (replyAfter cs query ≡ Inside) ↔ (block o (x .col) (x .row) ≡ true)
     query-inside = rw answered (says-inside (block o (x .col) (x .row)))
 
-    pub query-outside : (replyAfter cs (by p (Query k x)) ≡ Outside) ↔ (block o (x .col) (x .row) ≡ false)
+    pub query-outside : (replyAfter cs query ≡ Outside) ↔ (block o (x .col) (x .row) ≡ false)
     query-outside = rw answered (says-outside (block o (x .col) (x .row)))

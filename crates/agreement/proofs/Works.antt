@@ -1,5 +1,5 @@
--- A work stands for the book's: its flag says whether there is one, and its anchor and its edges are those of the book's outline, which was taken. So the edges answer for the
--- outline's cells, and two outlines that were taken enclose the same cells exactly if they have the same anchor and the same edges.
+-- A work stands for the book's: its flag says whether there is one, and its anchor, its edges and its rows are those of the book's outline, which was taken. So the edges and the
+-- rows answer for the outline's cells, and two outlines that were taken enclose the same cells exactly if they have the same anchor and the same edges.
 use Prim.Native.Nat.{ℕ, _*_, _≤_, _<_, min}
 use native.Mathlib.Omega.{arith}
 use mathlib.Core.Path.{_≡_, refl, sym, ap, _∙_}
@@ -27,16 +27,22 @@ use Rattle.convexity.specs.Pieces.{edges, dentPiece, Reaches}
 use Rattle.convexity.proofs.Bounds.{edges-length}
 use Rattle.convexity.proofs.AsSent.{edges-answer-sent}
 use Rattle.convexity.proofs.SameBlock.{SameEdges, same-cells-iff}
+use Rattle.spans.specs.declared.Span.{Span}
+use Rattle.spans.specs.declared.Span.the-variants.{None as Empty, Columns as Run}
+use Rattle.spans.specs.Spans.{spansOf, spanAt}
+use Rattle.spans.proofs.Exact.{spans-search}
 use Rattle.verdict.specs.Verdict.{verdictOf, lentAfter}
 use Rattle.verdict.proofs.VerdictLaws.{TakenFacts, taken-facts, taken-fits}
 use Rattle.polygon.specs.Loose.{badCell}
 use Rattle.polygon.proofs.LooseCases.{inside-short}
+use Rattle.calls.specs.declared.Question.{Question}
+use Rattle.calls.specs.declared.Question.the-variants.{Cell as OfCell, Row as OfRow}
 use Rattle.calls.specs.declared.Reply.{Reply}
 use Rattle.calls.specs.declared.Reply.the-variants.{Taken as WasTaken, Same, Refused as WasRefused}
-use Rattle.book.specs.Book.{sameBlock, equalsWork, closedReply as closedInBook, asked}
+use Rattle.book.specs.Book.{sameBlock, equalsWork, closedReply as closedInBook, asked, columnsReply, askedRow, asks}
 use Rattle.book.proofs.SameBlock.{same-block-iff}
 use Rattle.work.specs.declared.Work.{Work}
-use Rattle.work.specs.Work.{listed, workEdges, noWork, replaced, removed, hasEdges, located}
+use Rattle.work.specs.Work.{listed, workEdges, noWork, replaced, removed, hasEdges, located, spanReply, spanned, answered}
 use Rattle.holder.specs.Holder.{closedReply}
 
 -- ---- the relation
@@ -46,6 +52,7 @@ pub record Working (w : Work) (o : Outline) : Type 0 where
   pub taken : w .taken ≡ true
   pub anchor : w .anchor ≡ border o .start
   pub edges : workEdges w ≡ edges (border o)
+  pub spans : w .spans ≡ spansOf o
   pub reaches : Reaches o
   pub undented : dentPiece (border o) ≡ 4
 
@@ -80,10 +87,10 @@ module _ (o : Outline) (n : ℕ) (a : Point) (e : verdictOf o ≡ Taken n a) whe
       rw all (take-at es (drop (length es) (replicate mostNumbers (pos 0))) (2 * n) size)
 
   -- What it becomes at work
-  pub taken-working : Working (replaced a (numbersOf o (Taken n a)) n) o
+  pub taken-working : Working (replaced a (numbersOf o (Taken n a)) n (spansOf o)) o
   unfolding replaced workEdges
   taken-working =
-      record { taken = refl; anchor = facts .anchor; edges = listed-edges; reaches = facts .reaches; undented = facts .undented }
+      record { taken = refl; anchor = facts .anchor; edges = listed-edges; spans = refl; reaches = facts .reaches; undented = facts .undented }
 
 -- ---- the same block
 
@@ -168,10 +175,30 @@ unfolding workEdges listed
 work-short w = omega (arith, length-take (min (2 * w .edges) mostNumbers) (w .numbers))
 
 -- The edges at work answer for the outline at work
-pub located-asked : (w : Work) (x : Point) (o : Option Outline) → IsWork w o → located w x ≡ asked x o
+located-asked : (w : Work) (x : Point) (o : Option Outline) → IsWork w o → located w x ≡ asked x o
 unfolding located asked
 located-asked w x none e = rw e
 located-asked w x (some o) k =
     rw (inside-short (w .anchor) (workEdges w) x (work-short w), k .edges, k .anchor, k .taken)
     (cond-same (badCell x) (WasRefused Cell) λ e.
     rw (edges-answer-sent o (k .reaches) (k .undented) x (on-chart-cell x e .0) (on-chart-cell x e .1)))
+
+-- ---- row
+
+span-replies : (s : Span) → spanReply s ≡ columnsReply s
+unfolding spanReply columnsReply
+span-replies Empty = refl
+span-replies (Run a b) = refl
+
+-- The rows at work are those of the outline at work
+spanned-asked : (w : Work) (r : ℕ) (o : Option Outline) → IsWork w o → spanned w r ≡ askedRow r o
+unfolding spanned askedRow
+spanned-asked w r none e = rw e
+spanned-asked w r (some o) k = rw (k .taken, k .spans, spans-search o (k .reaches) r, span-replies)
+
+-- ---- whatever is asked
+
+pub answered-asked : (w : Work) (q : Question) (o : Option Outline) → IsWork w o → answered w q ≡ asks q o
+unfolding answered asks
+answered-asked w (OfCell x) o k = located-asked w x o k
+answered-asked w (OfRow r) o k = spanned-asked w r o k

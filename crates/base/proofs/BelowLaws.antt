@@ -1,6 +1,6 @@
 -- Laws of the tests below a bound, each by induction on the bound: the last number passes or fails, and the rest is the shorter bound.
 use Prim.Native.Nat.{ℕ, zero, suc, _+_, _≤_, _<_}
-use mathlib.Core.Path.{_≡_, refl, sym}
+use mathlib.Core.Path.{_≡_, refl, sym, _∙_}
 use mathlib.Core.Bool.{Bool, true, false, true≢false, _&&_, _||_}
 use mathlib.Core.Logic.{_↔_, _⊎_, inl, inr}
 use native.Mathlib.Nat.{eq-or-lt-of-le, le-of-suc-le-suc}
@@ -8,7 +8,7 @@ use native.Mathlib.Decide.{decLt}
 use native.Mathlib.Omega.{arith}
 use lib.Dec.{ltb}
 use borrow.Author.Tests.{ltb-true, ltb-false}
-use Rattle.base.specs.Below.{every, further, first}
+use Rattle.base.specs.Below.{every, further, first, some}
 
 -- A number below n + 1 is n, or is below n
 pub below-suc : (i n : ℕ) → i < suc n → (i ≡ n) ⊎ (i < n)
@@ -142,3 +142,12 @@ first-step f i e q =
 
 pub first-stop : (f : ℕ → Bool) (n i : ℕ) → first f i ≡ i → f i ≡ true → i < n → first f n ≡ i
 first-stop f n i e q l = first-is f n i l (first-none-at f i e) q
+
+-- A number below n that passes is one of some
+pub some-of : (f : ℕ → Bool) (n i : ℕ) → i < n → f i ≡ true → some f n ≡ true
+unfolding some
+some-of f n i l e = go (ltb (first f n) n) refl
+  where
+    go : (b : Bool) → ltb (first f n) n ≡ b → ltb (first f n) n ≡ true
+    go true h = h
+    go false h = absurd (true≢false (sym e ∙ first-before f n i (omega (arith, ltb-false (first f n) n h))))

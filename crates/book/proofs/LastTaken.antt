@@ -21,7 +21,7 @@ use Rattle.calls.specs.Replies.{replyFields}
 use Rattle.calls.specs.declared.Call.{Call}
 use Rattle.calls.specs.declared.Reply.{Reply}
 use Rattle.calls.specs.declared.Action.{Action}
-use Rattle.calls.specs.declared.Action.the-variants.{Begin, Add, Drop, Clear, Close, Query}
+use Rattle.calls.specs.declared.Action.the-variants.{Begin, Add, Drop, Clear, Close, Ask}
 
 -- No refusal has number 0
 pub refusal-numbered : (f : Refusal) → eqb (refusalFields f .number) 0 ≡ false
@@ -71,7 +71,7 @@ module _ (k : ℕ) (g : Page) (ms : List (Option Outline)) where
   act-work (Begin s) = nothing (acts g (Begin s) .reply) (g .works k)
   act-work (Add a) = nothing (acts g (Add a) .reply) (g .works k)
   act-work Drop = nothing (acts g Drop .reply) (g .works k)
-  act-work (Query j x) = nothing (acts g (Query j x) .reply) (g .works k)
+  act-work (Ask j q) = nothing (acts g (Ask j q) .reply) (g .works k)
   act-work (Clear j) = go (badPlace j) (eqb k j) refl refl
     where
       go : (b e : Bool) → badPlace j ≡ b → eqb k j ≡ e → lastOr (g .works k) (cond (clean (acts g (Clear j) .reply)) (left k (g .draft) (Clear j)) [] ++ ms) ≡ lastOr (acts g (Clear j) .page .works k) ms

@@ -22,7 +22,8 @@ use Rattle.calls.specs.Calls.{by}
 use Rattle.calls.specs.Replies.{replyFields}
 use Rattle.calls.specs.declared.Call.{Call}
 use Rattle.calls.specs.declared.Action.{Action}
-use Rattle.calls.specs.declared.Action.the-variants.{Begin, Add, Drop, Clear, Close, Query}
+use Rattle.calls.specs.declared.Action.the-variants.{Begin, Add, Drop, Clear, Close, Ask}
+use Rattle.calls.specs.declared.Question.the-variants.{Cell as OfCell, Row as OfRow}
 use Rattle.polygon.specs.Loose.{badCell}
 use Rattle.book.specs.Book
 use Rattle.book.specs.Parties.{actsFrom}
@@ -31,6 +32,10 @@ use Rattle.book.proofs.Parties.{alone}
 
 unfoldable pub at : ℕ → ℕ → Point
 at c r = record { col = c; row = r }
+
+-- A query at place k
+unfoldable pub query : ℕ → Point → Action
+query k x = Ask k (OfCell x)
 
 -- Begin, add each letter, close at place k
 unfoldable pub draw : ℕ → Point → List ℕ → List Action
@@ -58,7 +63,7 @@ H6 = 1 ∷ 1 ∷ 1 ∷ 0 ∷ 3 ∷ 3 ∷ 0 ∷ 0 ∷ 3 ∷ 2 ∷ 2 ∷ 2 ∷ []
 
 -- A name that opens the book, for the proofs that compute it
 opened : Bool
-unfolding at draw replied done H3 H4 H3-back H6 computes replyFields badCell Book.fresh Book.equalsWork Book.begins Book.adds Book.drops Book.closedReply Book.workAfter Book.closes Book.asked Book.acts Book.answer actsFrom put Book.repliesFrom Book.replies
+unfolding at query draw replied done H3 H4 H3-back H6 computes replyFields badCell Book.fresh Book.equalsWork Book.begins Book.adds Book.drops Book.closedReply Book.workAfter Book.closes Book.asked Book.askedRow Book.columnsReply Book.asks Book.acts Book.answer actsFrom put Book.repliesFrom Book.replies
 opened = true
 
 -- The outlines of H3, of H4 and of H3 drawn backward are past 1 to 6 and have one border
@@ -98,14 +103,14 @@ by-words t u =
     (done 13 ++ (replyFields (Book.closedReply u (Taken 4 (at 0 1))) ∷ said inside ∷ said outside ∷ numbered 11 ∷ [])))))
 
 -- H3, then H4, the same block from another start, and then H3 drawn backward: "same" both times
-pub taken-then-same : replied (draw 2 (at 0 1) H3 ++ (draw 2 (at 1 1) H4 ++ (draw 2 (at 0 1) H3-back ++ (Query 2 (at 1 2) ∷ Query 2 (at 0 2) ∷ Query 2 (at 0 side) ∷ []))))
+pub taken-then-same : replied (draw 2 (at 0 1) H3 ++ (draw 2 (at 1 1) H4 ++ (draw 2 (at 0 1) H3-back ++ (query 2 (at 1 2) ∷ query 2 (at 0 2) ∷ query 2 (at 0 side) ∷ []))))
     ≡ done 13 ++ (accepted taken 4 (at 0 1) ∷ (done 13 ++ (accepted same 4 (at 0 1) ∷
     (done 13 ++ (accepted same 4 (at 0 1) ∷ said inside ∷ said outside ∷ numbered 11 ∷ [])))))
 unfolding opened by-words
 taken-then-same = λ z. by-words (same-h4 z) (same-h3-back z)
 
 -- A clear between: nothing is at work, and H3 again is "taken". A refused close keeps what is at work and ends the draft
-pub clear-between : replied (draw 2 (at 0 1) H3 ++ (Clear 2 ∷ Query 2 (at 1 1) ∷ (draw 2 (at 0 1) H3 ++ (draw 2 (at 0 0) H6 ++ (Close 2 ∷ Query 2 (at 1 1) ∷ [])))))
+pub clear-between : replied (draw 2 (at 0 1) H3 ++ (Clear 2 ∷ query 2 (at 1 1) ∷ (draw 2 (at 0 1) H3 ++ (draw 2 (at 0 0) H6 ++ (Close 2 ∷ query 2 (at 1 1) ∷ [])))))
     ≡ done 13 ++ (accepted taken 4 (at 0 1) ∷ said no-word ∷ numbered 12 ∷ (done 13 ++ (accepted taken 4 (at 0 1) ∷ (done 13 ++
     (record { number = 9; word = no-word; place = 4; piece = 2; length = 4; col = 1; row = 1 } ∷ numbered 13 ∷ said inside ∷ [])))))
 unfolding opened
@@ -128,7 +133,7 @@ adding (suc n) s w acting fits =
 -- Calls out of place
 pub out-of-place : List Action
 out-of-place =
-    Query 2 (at 0 side) ∷ Add 9 ∷ Close 2 ∷ Drop ∷ Begin (at 0 (suc side)) ∷ Begin (at 0 0) ∷ Begin (at 0 (suc side)) ∷ Add 4 ∷
+    query 2 (at 0 side) ∷ Add 9 ∷ Close 2 ∷ Drop ∷ Begin (at 0 (suc side)) ∷ Begin (at 0 0) ∷ Begin (at 0 (suc side)) ∷ Add 4 ∷
     (replicate longest (Add 1) ++ (Add 9 ∷ Drop ∷ Drop ∷ []))
 
 replied-alone : (acting : List Action) → replied acting ≡ map replyFields (actsFrom (Book.fresh 0) acting)
@@ -152,7 +157,7 @@ state-refusals = replied-alone out-of-place ∙ from-page
 -- Knee and ankle mixed: each has its own draft, and its own outlines at its places. 19 comes before 20, and both before all others; a close that 20 turns back ends the draft
 pub both-parties : map replyFields (Book.replies (
     map (by 1) (Begin (at 0 0) ∷ []) ++ (map (by 0) (draw 1 (at 0 1) H3) ++ (
-    by 2 (Close 4) ∷ by 1 (Clear 4) ∷ by 0 (Close 4) ∷ by 0 (Query 1 (at 1 1)) ∷ by 1 (Query 1 (at 1 1)) ∷ by 0 (Query 3 (at 1 1)) ∷ by 1 (Close 4) ∷ by 1 (Close 1) ∷ []))))
+    by 2 (Close 4) ∷ by 1 (Clear 4) ∷ by 0 (Close 4) ∷ by 0 (query 1 (at 1 1)) ∷ by 1 (query 1 (at 1 1)) ∷ by 0 (query 3 (at 1 1)) ∷ by 1 (Close 4) ∷ by 1 (Close 1) ∷ []))))
     ≡ done 14 ++ (accepted taken 4 (at 0 1) ∷ numbered 19 ∷ numbered 20 ∷ numbered 20 ∷ said inside ∷ numbered 12 ∷ numbered 12 ∷ numbered 20 ∷ numbered 13 ∷ [])
 unfolding opened
 both-parties = refl

@@ -15,14 +15,19 @@ use Rattle.chart.specs.declared.Verdict.{Verdict}
 use Rattle.chart.specs.declared.Verdict.the-variants.{Taken, Refused}
 use Rattle.lattice.specs.Refusals.{badStart}
 use Rattle.convexity.specs.Reading.{block}
+use Rattle.spans.specs.declared.Span.{Span}
+use Rattle.spans.specs.declared.Span.the-variants.{None as Empty, Columns as Run}
+use Rattle.spans.specs.Spans.{rowSpan}
 use Rattle.verdict.specs.Verdict.{verdictOf}
 use Rattle.polygon.specs.Loose.{badCell}
 use Rattle.calls.specs.Calls.{badParty, badPlace}
 use Rattle.calls.specs.declared.Call.{Call}
 use Rattle.calls.specs.declared.Action.{Action}
-use Rattle.calls.specs.declared.Action.the-variants.{Begin, Add, Drop, Clear, Close, Query}
+use Rattle.calls.specs.declared.Action.the-variants.{Begin, Add, Drop, Clear, Close, Ask}
+use Rattle.calls.specs.declared.Question.{Question}
+use Rattle.calls.specs.declared.Question.the-variants.{Cell as OfCell, Row as OfRow}
 use Rattle.calls.specs.declared.Reply.{Reply}
-use Rattle.calls.specs.declared.Reply.the-variants.{Done, Inside, Outside, Taken as WasTaken, Same, Refused as WasRefused, NothingAtWork, NoDraft, DraftOpen, DraftFull, NoParty, NoPlace}
+use Rattle.calls.specs.declared.Reply.the-variants.{Done, Inside, Outside, Columns, None, Taken as WasTaken, Same, Refused as WasRefused, NothingAtWork, NoDraft, DraftOpen, DraftFull, NoParty, NoPlace}
 
 -- ---- the entries
 
@@ -114,6 +119,19 @@ unfoldable pub asked : Point → Option Outline → Reply
 asked x none = NothingAtWork
 asked x (some o) = cond (badCell x) (WasRefused Cell) (cond (block o (x .col) (x .row)) Inside Outside)
 
+-- Row (contract 7.9). 12 and 11 are asked in this order; then the first and the last enclosed column, by a search of the row's cells
+unfoldable pub columnsReply : Span → Reply
+columnsReply Empty = None
+columnsReply (Run a b) = Columns a b
+
+unfoldable pub askedRow : ℕ → Option Outline → Reply
+askedRow r none = NothingAtWork
+askedRow r (some o) = cond (leb side r) (WasRefused Cell) (columnsReply (rowSpan (block o) r))
+
+unfoldable pub asks : Question → Option Outline → Reply
+asks (OfCell x) w = asked x w
+asks (OfRow r) w = askedRow r w
+
 -- ---- the calls of a party
 
 -- A reply, and the page after it
@@ -127,14 +145,14 @@ drafting g a = record { reply = a .reply; page = putDraft g (a .draft) }
 abbrev pub closing : Page → ℕ → OnWork → OnPage
 closing g k a = record { reply = a .reply; page = putWork (putDraft g none) k (a .work) }
 
--- Contract 7.3 to 7.8; a clear is 7.6. Where a place is named 20 comes first, and a close that it turns back ends the draft
+-- Contract 7.3 to 7.9; a clear is 7.6. Where a place is named 20 comes first, and a close that it turns back ends the draft
 unfoldable pub acts : Page → Action → OnPage
 acts g (Begin s) = drafting g (begins s (g .draft))
 acts g (Add a) = drafting g (adds a (g .draft))
 acts g Drop = drafting g (drops (g .draft))
 acts g (Clear k) = cond (badPlace k) (record { reply = NoPlace; page = g }) (record { reply = Done; page = putWork g k none })
 acts g (Close k) = cond (badPlace k) (record { reply = NoPlace; page = putDraft g none }) (closing g k (closes (g .draft) (g .works k)))
-acts g (Query k x) = record { reply = cond (badPlace k) NoPlace (asked x (g .works k)); page = g }
+acts g (Ask k q) = record { reply = cond (badPlace k) NoPlace (asks q (g .works k)); page = g }
 
 -- ---- the calls
 

@@ -9,7 +9,7 @@ use Rattle.book.specs.Book.{Book, drafted, fresh, answer}
 use Rattle.calls.specs.Replies.{replyFields}
 use Rattle.calls.specs.declared.Call.{Call}
 use Rattle.calls.specs.declared.Action.{Action}
-use Rattle.calls.specs.declared.Action.the-variants.{Begin, Add, Drop, Clear, Close, Query}
+use Rattle.calls.specs.declared.Action.the-variants.{Begin, Add, Drop, Clear, Close, Ask}
 
 -- What an action leaves at place k where it meets no refusal: a clear leaves none, a close the draft d; no other leaves anything
 unfoldable pub left : ℕ → Option Outline → Action → List (Option Outline)
@@ -18,7 +18,7 @@ left k d (Close j) = cond (eqb k j) (d ∷ []) []
 left k d (Begin s) = []
 left k d (Add a) = []
 left k d Drop = []
-left k d (Query j x) = []
+left k d (Ask j q) = []
 
 -- The mark of a call at place k of party p: it is that party's, and its number is 0
 unfoldable pub mark : ℕ → ℕ → Book → Call → List (Option Outline)

@@ -1,5 +1,5 @@
 -- The pieces lie in the buffer between the cut places, and each letter and each piece passed has none.
-use Prim.Native.Nat.{ℕ, zero, suc, _+_, _-_, _≤_, _<_}
+use Prim.Native.Nat.{ℕ, zero, suc, _+_, _-_, _≤_, _<_, _*_}
 use native.Mathlib.Nat.{zero-add, suc-add}
 use native.Mathlib.Numerals.{add-one}
 use native.Mathlib.Omega.{arith}
@@ -12,16 +12,14 @@ use lib.Dec.{ltb, eqb}
 use borrow.Author.Tests.{lt-ltb, le-ltb, eq-eqb, ne-eqb}
 use Rattle.base.specs.Below.{first}
 use Rattle.base.proofs.BelowLaws.{first-step, first-stop}
-use Rattle.chart.specs.Limits.{longest}
 use Rattle.chart.specs.Outline.{Outline}
 use Rattle.lattice.specs.Chart.{size}
 use Rattle.convexity.specs.Frame.{Frame, frameOf}
 use Rattle.convexity.specs.Cut.{cut}
 use Rattle.convexity.specs.Pieces.{rounds, piece, isBackStep, backStepAt, backStepPiece}
 use Rattle.border.specs.declared.frame.Pair.{Pair}
-use Rattle.lattice.specs.Refusals.{Stays}
 use Rattle.border.specs.declared.back_steps.BackStep.the-variants.{None}
-use Rattle.border.specs.Cutting.{PairOf, Rounded, CutsOf, Laid}
+use Rattle.border.specs.Cutting.{PairOf, Rounded, Laid}
 use Rattle.border.specs.BackSteps.{Found, FoundAt}
 use Rattle.border.proofs.CutLaws.{cut-le-cut}
 
@@ -106,12 +104,11 @@ module _ {o : Outline} {at buffer : List ℕ} (h : Laid o at buffer) where
 
 -- The pieces lie so in a buffer that begins with the turn and was then filled round and round up to the last cut place
 pub laid-of :
-    {o : Outline} {at before after : List ℕ} → Stays o → 0 < size o → size o ≤ longest → CutsOf o at → take (size o) before ≡ o .letters
+    {o : Outline} {at before after : List ℕ} → 0 < size o → ((k : ℕ) → k ≤ 4 → getD at k 0 ≡ cut o k) → getD at 4 0 ≤ 4 * size o → take (size o) before ≡ o .letters
     → getD at 4 0 ≤ length before → Rounded before (size o) (getD at 4 0) after → length after ≡ length before → Laid o at after
-laid-of {o} {at} {before} {after} stays pos short cuts begins room rounded kept =
-    let places = cuts .places stays short in
+laid-of {o} {at} {before} {after} some places around begins room rounded kept =
     let last = places 4 (omega arith) in
-    let same = rounded .read pos (cuts .around) room in
+    let same = rounded .read some around room in
     record {
       places = places;
       within = omega arith;

@@ -1,32 +1,17 @@
 -- The cut places rise, each by at most once round; so the pieces lie one after the other in the letters read four times round.
-use Prim.Native.Nat.{ℕ, zero, suc, _+_, _-_, _*_, _≤_, _<_}
+use Prim.Native.Nat.{ℕ, zero, suc, _+_, _-_, _*_, _≤_}
 use native.Mathlib.Nat.{suc-mul}
 use native.Mathlib.Decide.{decLe}
 use native.Mathlib.Omega.{arith}
 use mathlib.Core.Path.{_≡_}
 use mathlib.Core.Bool.{Bool, true, false, cond}
 use lib.Dec.{ltb}
-use borrow.Author.Tests.{le-leb, lt-leb}
 use Rattle.chart.specs.Outline.{Outline}
 use Rattle.lattice.specs.Chart.{cornerAt, size}
 use Rattle.convexity.specs.Frame.{frameOf}
 use Rattle.convexity.specs.Cut.{before, least, cornerPlace, ahead, cutCorner, cut}
 use Rattle.convexity.proofs.Extreme.{least-lt}
-
--- ---- how many letters lead on from a place to another
-
-pub ahead-on : (n a b : ℕ) → a ≤ b → ahead n a b ≡ b - a
-unfolding ahead
-ahead-on n a b h = rw (le-leb a b h)
-
-pub ahead-round : (n a b : ℕ) → b < a → a ≤ n → ahead n a b ≡ n - a + b
-unfolding ahead
-ahead-round n a b h l = rw (lt-leb a b h) (omega arith)
-
-pub ahead-le : (n a b : ℕ) → a ≤ n → b ≤ n → ahead n a b ≤ n
-ahead-le n a b h l = elim (decLe a b) [ yes m ↦ omega (arith, ahead-on n a b m) | no m ↦ omega (arith, ahead-round n a b (omega arith) h) ]
-
--- ---- the cut places
+use Rattle.corners.proofs.CutLaws.{ahead-le}
 
 least-le : (lt : ℕ → ℕ → Bool) (n : ℕ) → least lt n ≤ n - 1
 unfolding least

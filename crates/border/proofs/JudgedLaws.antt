@@ -16,7 +16,7 @@ use Rattle.chart.specs.declared.Refusal.{Refusal}
 use Rattle.chart.specs.declared.Verdict.the-variants.{Refused}
 use Rattle.chart.specs.Outline.{Outline, outline}
 use Rattle.lattice.specs.Chart.{cornerAt, size, letterAt}
-use Rattle.lattice.specs.Refusals.{Simple, Stays}
+use Rattle.lattice.specs.Refusals.{Simple}
 use Rattle.lattice.proofs.WalkLaws.{Walked, walked, outline-eq}
 use Rattle.survey.specs.declared.Surveyed.the-variants.{Passed, Refused as Stopped}
 use Rattle.survey.specs.Survey.{surveyOf}
@@ -26,41 +26,49 @@ use Rattle.convexity.specs.Pieces.{edges}
 use Rattle.convexity.proofs.Reading.{leaving-west, west-first, west-place-first, west-place-later, reading-clockwise, reading-backward, length-reading, simple-reading, clockwise-reading, turn-reading}
 use Rattle.verdict.specs.Verdict.{turnVerdict, borderVerdict, afterSurvey, verdictOf, lentAfter}
 use Rattle.border.specs.declared.Judged.{Judged}
-use Rattle.border.specs.Cutting.{CornerFound, readTurn, readPlace, Rounded, CutsOf}
+use Rattle.corners.specs.declared.Cuts.{Cuts}
+use Rattle.corners.specs.Found.{CutsOf}
+use Rattle.border.specs.Cutting.{readTurn, readPlace, Rounded}
 use Rattle.border.specs.Turning.{Ready, Turning}
 use Rattle.border.specs.Judged.{zeros, judgedAs, judgedTurn, judgedBorder, judgedOf}
 use Rattle.border.proofs.BackStepLaws.{laid-of}
 use Rattle.border.proofs.PieceLaws.{from-west}
 
--- What the code knows when the letters are copied: W's place as sent, whether the letters are read forward, W's place v in what is read, the corner W, p, and
--- the buffer
-pub record Copied (o : Outline) (found : ℕ) (forward : Bool) (v : ℕ) (p : Point) (buffer : List ℕ) : Type 0 where
+-- What the code knows when the letters are copied: W as sent, the way that the letters are read and the cut places, W's place v in what is read, and the buffer
+pub record Copied (o : Outline) (cuts : Cuts) (v : ℕ) (buffer : List ℕ) : Type 0 where
   pub simple : Simple o
-  pub found-at : CornerFound o 0 found
-  pub corner : Stays o → p ≡ cornerAt o found
-  pub way : forward ≡ eqb (letterAt o found) 1
-  pub place : v ≡ readPlace forward (size o) found
-  pub letters : found ≤ size o → size o ≤ 4 * longest → take (size o) buffer ≡ readTurn forward found (o .letters)
+  pub cuts-of : CutsOf o cuts
+  pub place : v ≡ readPlace (cuts .forward) (size o) (cuts .place)
+  pub letters : cuts .place ≤ size o → size o ≤ 4 * longest → take (size o) buffer ≡ readTurn (cuts .forward) (cuts .place) (o .letters)
   pub sized : length buffer ≡ 4 * longest
 
-module _ {o : Outline} {found : ℕ} {forward : Bool} {v : ℕ} {p : Point} {buffer : List ℕ} (h : Copied o found forward v p buffer) where
+module _ {o : Outline} {cuts : Cuts} {v : ℕ} {buffer : List ℕ} (h : Copied o cuts v buffer) where
+  abbrev found : ℕ
+  found = cuts .place
+
+  abbrev forward : Bool
+  forward = cuts .forward
+
+  abbrev p : Point
+  p = cuts .west
+
   d : Walked o
   d = walked o (h .simple)
 
   found-lt : found < size o
-  found-lt = omega (arith, h .found-at .within, d .long)
+  found-lt = omega (arith, h .cuts-of .within, d .long)
 
   pub letters-fit : size o ≤ length buffer
   letters-fit = omega (arith, h .sized, d .short)
 
   found-is : found ≡ westPlace o
   unfolding westPlace
-  found-is = h .found-at .place (h .simple .stays)
+  found-is = h .cuts-of .place (h .simple)
 
   -- Clockwise is read forward
   pub way-is : forward ≡ clockwise (turn o)
   unfolding clockwise
-  way-is = h .way ∙ ap (λ (a : ℕ). eqb a 1) (ap (letterAt o) found-is ∙ sym (leaving-west o d))
+  way-is = h .cuts-of .way (h .simple) ∙ ap (λ (a : ℕ). eqb a 1) (ap (letterAt o) found-is ∙ sym (leaving-west o d))
 
   -- W's letter stands at v in the reading
   place-is : v ≡ westPlace (reading o)
@@ -83,7 +91,7 @@ module _ {o : Outline} {found : ℕ} {forward : Bool} {v : ℕ} {p : Point} {buf
   border-is : outline p (take (size o) buffer) ≡ border o
   unfolding turn readTurn
   border-is =
-      outline-eq (outline p (take (size o) buffer)) (readOutline forward) (h .corner (h .simple .stays) ∙ ap (cornerAt o) found-is ∙ same-start forward)
+      outline-eq (outline p (take (size o) buffer)) (readOutline forward) (h .cuts-of .corner (h .simple) ∙ ap (cornerAt o) found-is ∙ same-start forward)
       (h .letters (omega (arith, found-lt)) (omega (arith, d .short)) ∙ ap (λ (i : ℕ). readTurn forward i (o .letters)) found-is ∙ same-letters forward)
       ∙ ap readOutline way-is ∙ sym (turn-reading o (h .simple))
     where
@@ -101,29 +109,29 @@ module _ {o : Outline} {found : ℕ} {forward : Bool} {v : ℕ} {p : Point} {buf
   border-length : size (border o) ≡ size o
   border-length = ap size (sym border-is) ∙ length-take-le (size o) buffer letters-fit
 
-  module _ {at after : List ℕ} (cuts : CutsOf (outline p (take (size o) buffer)) at) (rounded : Rounded buffer (size o) (getD at 4 0) after)
-      (kept : length after ≡ length buffer) where
+  module _ {after : List ℕ} (rounded : Rounded buffer (size o) (getD (cuts .at) 4 0) after) (kept : length after ≡ length buffer) where
     border-after : outline p (take (size o) after) ≡ border o
     border-after = ap (outline p) (rounded .same) ∙ border-is
 
     v-lt : v < size (border o)
     v-lt = omega (arith, place-is, border-length, length-reading o, west-first (reading o) (walked (reading o) (simple-reading o (h .simple))) .below)
 
-    ready : Ready v (border o) after at
+    ready : Ready v (border o) after (cuts .at)
     ready =
         let f = from-west o (h .simple) in
-        let c : CutsOf (border o) at = rw border-is at cuts in
+        let n = border-length in
+        let around = h .cuts-of .around in
         record {
           turn = f;
           place = v-lt;
           clockwise = clockwise-reading o (h .simple);
           laid =
-              laid-of {before = buffer} (f .simple .stays) (omega (arith, border-length, d .long)) (omega (arith, border-length, d .short)) c (rw border-length (ap (λ (v : Outline). v .letters) border-is))
-              (omega (arith, c .small, h .sized)) (rw border-length rounded) kept;
+              laid-of {before = buffer} (omega (arith, d .long)) (h .cuts-of .places (h .simple)) (omega arith) (rw border-length (ap (λ (v : Outline). v .letters) border-is))
+              (omega (arith, d .short, h .sized)) (rw border-length rounded) kept;
           sized = omega (arith, kept, h .sized);
         }
 
-    pub copied-ready : Turning v p (size o) after at
+    pub copied-ready : Turning v p (size o) after (cuts .at)
     copied-ready = record { within = omega (arith, kept, letters-fit); ready = rw border-after ready }
 
     -- 8 and 9, or taken

@@ -1,7 +1,6 @@
 -- The cut and its code; back-steps; edges, words and dents; the judgement.
 pub mod Buffer
 pub mod CutLaws
-pub mod CutCode
 pub mod BackStepLaws
 pub mod FrameSizes
 pub mod WordLaws

@@ -1,5 +1,5 @@
 -- What the code of the cut promises, over the definitions of the crates lattice and convexity.
-use Prim.Native.Nat.{ℕ, suc, _-_, _*_, _≤_, _<_}
+use Prim.Native.Nat.{ℕ, _-_, _*_, _≤_, _<_}
 use mathlib.Core.Path.{_≡_}
 use mathlib.Core.Bool.{Bool, cond}
 use mathlib.Core.List.{List}
@@ -7,10 +7,9 @@ use lib.ListN.{length, getD, take}
 use lib.Dec.{eqb}
 use Rattle.chart.specs.Limits.{longest}
 use Rattle.chart.specs.Outline.{Outline}
-use Rattle.lattice.specs.Chart.{size, rotation}
-use Rattle.lattice.specs.Refusals.{Stays}
+use Rattle.lattice.specs.Chart.{rotation}
 use Rattle.convexity.specs.Frame.{Frame}
-use Rattle.convexity.specs.Cut.{cornerPlace, cut}
+use Rattle.convexity.specs.Cut.{cut}
 use Rattle.convexity.specs.Reading.{backward, sentFrom}
 use Rattle.convexity.specs.Pieces.{rounds}
 use Rattle.border.specs.declared.frame.Pair.{Pair}
@@ -23,11 +22,6 @@ pub record PairOf (f : Frame) (r : Pair) : Type 0 where
   pub earlier-rows : r .«earlier_rows» ≡ f .earlier-rows
   pub later-cols : r .«later_cols» ≡ f .later-cols
   pub later-rows : r .«later_rows» ≡ f .later-rows
-
--- The first corner of piece k: a place of the outline, or 0 where it has no letters
-pub record CornerFound (o : Outline) (k r : ℕ) : Type 0 where
-  pub within : r ≤ size o - 1
-  pub place : Stays o → r ≡ cornerPlace o k
 
 -- The letters from a place on, past the list's end to its beginning; or the same walk backward, from that place's corner round to it
 unfoldable pub readTurn : Bool → ℕ → List ℕ → List ℕ
@@ -45,14 +39,6 @@ readPlace forward n w = cond forward w (cond (eqb w 0) 0 (n - w))
 pub record Rounded (before : List ℕ) (n end : ℕ) (after : List ℕ) : Type 0 where
   pub same : take n after ≡ take n before
   pub read : 0 < n → end ≤ 4 * n → end ≤ length before → take end after ≡ take end (rounds (take n before))
-
--- The five cut places
-pub record CutsOf (o : Outline) (at : List ℕ) : Type 0 where
-  pub five : length at ≡ 5
-  pub rising : (k : ℕ) → k < 4 → getD at k 0 ≤ getD at (suc k) 0
-  pub around : getD at 4 0 ≤ 4 * size o
-  pub small : getD at 4 0 ≤ 4 * longest
-  pub places : Stays o → size o ≤ longest → (k : ℕ) → k ≤ 4 → getD at k 0 ≡ cut o k
 
 -- The pieces of a turn o lie in a buffer between the cut places
 pub record Laid (o : Outline) (at buffer : List ℕ) : Type 0 where

@@ -1,70 +1,18 @@
-// Where the border is cut, and its letters read from W on.
-use crate::frame;
+// The letters of an outline read from W on, and places in them.
 use chart::LONGEST;
 use chart::Point;
-use chart::SIDE;
 use lattice::walk;
-ghost use Prim.Native.Nat.{_+_, _*_, _-_, _<_, _≤_};
+ghost use Prim.Native.Nat.{_<_, _≤_};
 ghost use mathlib.Core.Path.{_≡_};
 ghost use lib.ListN.{length, getD};
-ghost use Rattle.chart.specs.Limits.{side};
 ghost use Rattle.chart.specs.Outline.{outline};
-ghost use Rattle.convexity.specs.Frame.{along as alongOf};
 ghost use Rattle.lattice.specs.Chart.{cornerAt, rotation};
 ghost use Rattle.lattice.specs.Refusals.{Stays};
-ghost use Rattle.convexity.specs.Cut.{ahead as aheadOf};
 ghost use Rattle.convexity.specs.Reading.{opposite as oppositeOf};
-ghost use Rattle.border.specs.Cutting.{CornerFound, readTurn, Turned, readPlace, Rounded, CutsOf, SentTo};
+ghost use Rattle.border.specs.Cutting.{readTurn, Turned, readPlace, Rounded, SentTo};
 
 // A buffer that holds the letters as often round as four pieces can reach.
 pub(crate) const ROUNDS: usize = 4 * LONGEST;
-
-// How far a number of a corner is from the chart's far border.
-fn short_of_side(x: u16) -> u16
-    ensures { λ r. ⌜ r ≡ side - x ⌝ }
-{
-    if x < SIDE { SIDE - x } else { 0 }
-}
-
-// How far along a letter's direction a corner lies, counted from the chart's border.
-pub(crate) fn along(letter: u8, p: Point) -> u16
-    ensures { λ r. ⌜ r ≡ alongOf letter p ⌝ }
-{
-    match letter {
-        0 => p.col,
-        1 => p.row,
-        2 => short_of_side(p.col),
-        _ => short_of_side(p.row),
-    }
-}
-
-// How far along two letters' directions a corner lies, as one number: the first letter decides, and among equals the second.
-fn rank(earlier: u8, later: u8, p: Point) -> u32
-    ensures { λ r. ⌜ (r ≡ alongOf earlier p * 65536 + alongOf later p) × (alongOf later p < 65536) ⌝ }
-{
-    (along(earlier, p) as u32) * 65536 + (along(later, p) as u32)
-}
-
-// The place whose letter leaves the first corner of piece k, in one walk from s.
-pub(crate) fn corner_place(s: Point, w: &[u8], k: usize) -> usize
-    ensures { λ r. ⌜ CornerFound (outline s (now (w .entry))) k r ⌝ }
-{
-    let f = frame::pair_at(k);
-    let mut place = 0;
-    let mut least = rank(f.earlier, f.later, s);
-    let mut p = s;
-    let mut i = 0;
-    while i < w.len() {
-        let here = rank(f.earlier, f.later, p);
-        if here < least {
-            place = i;
-            least = here;
-        }
-        p = walk::step(p, w[i]);
-        i += 1;
-    }
-    place
-}
 
 // The corner from which the letter at a place leaves.
 pub(crate) fn corner_at(s: Point, w: &[u8], place: usize) -> Point
@@ -153,14 +101,6 @@ pub(crate) fn fill_rounds(turn: &mut [u8], n: usize, end: usize)
     }
 }
 
-// How many letters lead from place a on to place b, past the end of n letters where needed.
-fn ahead(n: usize, a: usize, b: usize) -> usize
-    requires { ⌜ a ≤ n ⌝ }
-    ensures { λ r. ⌜ r ≡ aheadOf n a b ⌝ }
-{
-    if a <= b { b - a } else { n - a + b }
-}
-
 // An outline read from W on: whether forward, the place of W's letter in what is read, the corner W, how many letters there are, and the
 // five cut places, the last of which is W's again.
 pub(crate) struct Turn {
@@ -169,35 +109,6 @@ pub(crate) struct Turn {
     pub(crate) west: Point,
     pub(crate) count: usize,
     pub(crate) at: [usize; 5],
-}
-
-// The five cut places by piece, the last of which is W's again.
-pub(crate) struct Cuts {
-    pub(crate) at: [usize; 5],
-}
-
-pub(crate) fn cut_places(s: Point, t: &[u8]) -> Cuts
-    ensures { λ r. ⌜ CutsOf (outline s (now (t .entry))) (r .at) ⌝ }
-{
-    let mut at = [0usize; 5];
-    let n = t.len();
-    if LONGEST < n {
-        return Cuts { at };
-    }
-    let mut sum = 0;
-    let mut from = 0;
-    let mut k = 0;
-    while k < 4 {
-        let mut to = 0;
-        if k < 3 {
-            to = corner_place(s, t, k + 1);
-        }
-        sum += ahead(n, from, to);
-        from = to;
-        k += 1;
-        at[k] = sum;
-    }
-    Cuts { at }
 }
 
 // A place in letters from W on, as a place of the list as sent, of n letters, where W's letter stands at w in what is read.

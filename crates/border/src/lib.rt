@@ -109,15 +109,14 @@ fn read(start: Point, letters: &[u8]) -> Judged
     ensures { λ r. ⌜ r ≡ judgedBorder (outline start (now (letters .entry))) ⌝ }
 {
     let count = letters.len();
-    let found = cut::corner_place(start, letters, 0);
-    let west = cut::corner_at(start, letters, found);
-    // Clockwise, the letter that leaves W leads up.
-    let forward = letters[found] == 1;
+    let cuts = corners::cut_places(start, letters);
+    let found = cuts.place;
+    let west = cuts.west;
+    let forward = cuts.forward;
+    let at = cuts.at;
     let place = cut::read_place(count, found, forward);
     let mut buffer = [0u8; ROUNDS];
     cut::fill_turn(letters, found, forward, &mut buffer);
-    let cuts = cut::cut_places(west, &buffer[..count]);
-    let at = cuts.at;
     cut::fill_rounds(&mut buffer, count, at[4]);
     let turn = Turn {
         forward,

@@ -1,13 +1,24 @@
 -- A reply written out: the number, the word and the fields, for every case of `Reply` (contract 4 and 5).
+use Prim.Native.Nat.{ℕ}
 use Rattle.chart.specs.declared.Fields.{Fields}
 use Rattle.chart.specs.Fields.{numbered, said, accepted, refusalFields, no-word, inside, outside, taken, same}
 use Rattle.calls.specs.declared.Reply.{Reply}
-use Rattle.calls.specs.declared.Reply.the-variants.{Done, Inside, Outside, Taken, Same, Refused, NothingAtWork, NoDraft, DraftOpen, DraftFull, NoParty, NoPlace}
+use Rattle.calls.specs.declared.Reply.the-variants.{Done, Inside, Outside, Columns, None, Taken, Same, Refused, NothingAtWork, NoDraft, DraftOpen, DraftFull, NoParty, NoPlace}
 
+-- The words that only a holder says
+abbrev pub none : ℕ
+none = 5
+
+abbrev pub columns : ℕ
+columns = 6
+
+-- The first column stands in the reply's column, and the last in its row
 unfoldable pub replyFields : Reply → Fields
 replyFields Done = said no-word
 replyFields Inside = said inside
 replyFields Outside = said outside
+replyFields (Columns a b) = accepted columns 0 (record { col = a; row = b })
+replyFields None = said none
 replyFields (Taken n a) = accepted taken n a
 replyFields (Same n a) = accepted same n a
 replyFields (Refused f) = refusalFields f

@@ -22,7 +22,15 @@ pub enum Action {
     Drop,
     Clear { place: u8 },
     Close { place: u8 },
-    Query { place: u8, cell: Point },
+    Ask { place: u8, question: Question },
+}
+
+// What is asked of the outline at work at a place.
+pub enum Question {
+    // Query: does it enclose the cell?
+    Cell(Point),
+    // Row: which columns of it does it enclose?
+    Row(u16),
 }
 
 // What a call answers.
@@ -31,6 +39,10 @@ pub enum Reply {
     Done,
     Inside,
     Outside,
+    // Row: the first and the last enclosed column.
+    Columns { first: u16, last: u16 },
+    // Row: no enclosed cell.
+    None,
     // A close took the draft: the count of edges, and the anchor.
     Taken { edges: u16, anchor: Point },
     Same { edges: u16, anchor: Point },

@@ -1,6 +1,7 @@
 // A reply written out: its number, its word and its fields (contract 4).
 use crate::Reply;
 use chart::Fields;
+use chart::Point;
 use chart::reply;
 ghost use mathlib.Core.Path.{_≡_};
 ghost use Rattle.calls.specs.Replies.{replyFields};
@@ -12,6 +13,15 @@ pub fn of_reply(r: Reply) -> Fields
         Reply::Done => reply::said(0),
         Reply::Inside => reply::said(1),
         Reply::Outside => reply::said(2),
+        Reply::Columns { first, last } => reply::accepted(
+            6,
+            0,
+            Point {
+                col: first,
+                row: last,
+            },
+        ),
+        Reply::None => reply::said(5),
         Reply::Taken { edges, anchor } => reply::accepted(3, edges, anchor),
         Reply::Same { edges, anchor } => reply::accepted(4, edges, anchor),
         Reply::Refused(why) => reply::of_refusal(why),

@@ -1,4 +1,4 @@
--- A reply written out: its number, its word and its fields, for every answer of a test and of a loose query (contract 4 and 5).
+-- A reply written out: its number, its word and its fields, for every answer of a test, of a loose query and of a comparison (contract 4 and 5).
 use Prim.Native.Nat.{ℕ}
 use mathlib.Core.Bool.{cond}
 use mathlib.Core.List.{List, [], _∷_, _++_}
@@ -12,6 +12,10 @@ use Rattle.chart.specs.declared.Verdict.{Verdict}
 use Rattle.chart.specs.declared.Verdict.the-variants.{Taken, Refused}
 use Rattle.chart.specs.declared.Position.{Position}
 use Rattle.chart.specs.declared.Position.the-variants.{Inside, Outside, Refused as Rejected}
+use Rattle.chart.specs.declared.Nesting.{Nesting}
+use Rattle.chart.specs.declared.Nesting.the-variants.{Equal, FirstWithin, SecondWithin, Apart, Crossing}
+use Rattle.chart.specs.declared.Comparison.{Comparison}
+use Rattle.chart.specs.declared.Comparison.the-variants.{Found, Refused as TurnedBack}
 
 -- The words of a reply
 abbrev pub no-word : ℕ
@@ -31,6 +35,21 @@ same = 4
 
 abbrev pub undecided : ℕ
 undecided = 7
+
+abbrev pub equal : ℕ
+equal = 11
+
+abbrev pub first-within : ℕ
+first-within = 12
+
+abbrev pub second-within : ℕ
+second-within = 13
+
+abbrev pub no-common : ℕ
+no-common = 14
+
+abbrev pub crossing : ℕ
+crossing = 15
 
 -- A number alone; a number with a place
 abbrev pub numbered : ℕ → Fields
@@ -68,6 +87,21 @@ abbrev pub positionFields : Position → Fields
 positionFields Inside = said inside
 positionFields Outside = said outside
 positionFields (Rejected f) = refusalFields f
+
+-- A word, and whose list is handed back: the first, the second, or neither
+abbrev pub handing : ℕ → ℕ → Fields
+handing v whose = record { number = 0; word = v; place = 0; piece = whose; length = 0; col = 0; row = 0 }
+
+abbrev pub nestingFields : Nesting → Fields
+nestingFields Equal = handing equal 1
+nestingFields FirstWithin = handing first-within 1
+nestingFields SecondWithin = handing second-within 2
+nestingFields Apart = handing no-common 0
+nestingFields Crossing = handing crossing 0
+
+abbrev pub comparisonFields : Comparison → Fields
+comparisonFields (Found v) = nestingFields v
+comparisonFields (TurnedBack list f) = placed (refusalFields f .number) list
 
 -- A reply as seven numbers
 unfoldable pub numbersOf : Fields → List ℕ

@@ -80,7 +80,22 @@ pub enum Position {
     Refused(Refusal),
 }
 
-// A reply written out: the number, the word (0 none, 1 inside, 2 outside, 3 taken, 4 same) and the fields.
+// How the cells of one hull lie to those of another.
+pub enum Nesting {
+    Equal,
+    FirstWithin,
+    SecondWithin,
+    Apart,
+    Crossing,
+}
+
+// What a comparison of two lists answers. A refusal says of which list it is: 1 or 2.
+pub enum Comparison {
+    Found(Nesting),
+    Refused { list: u16, refusal: Refusal },
+}
+
+// A reply written out: the number, the word (0 none, 1 inside, 2 outside, 3 taken, 4 same, 11 to 15 of a comparison) and the fields.
 pub struct Fields {
     pub number: u16,
     pub word: u16,

@@ -1,5 +1,7 @@
 // An answer written out: its number, its word and its fields (contract 4).
+use crate::Comparison;
 use crate::Fields;
+use crate::Nesting;
 use crate::Point;
 use crate::Position;
 use crate::Refusal;
@@ -7,7 +9,7 @@ use crate::Verdict;
 ghost use mathlib.Core.Path.{_≡_};
 ghost use lib.ListN.{length};
 ghost use lib.Dec.{leb};
-ghost use Rattle.chart.specs.Fields.{numbered as numberedOf, placed as placedOf, said as saidOf, accepted as acceptedOf, refusalFields, verdictFields, positionFields, replyAfter};
+ghost use Rattle.chart.specs.Fields.{numbered as numberedOf, placed as placedOf, said as saidOf, accepted as acceptedOf, refusalFields, verdictFields, positionFields, handing as handingOf, nestingFields, comparisonFields, replyAfter};
 
 // How many numbers a reply is.
 pub const NUMBERS: usize = 7;
@@ -112,6 +114,42 @@ pub fn of_position(p: Position) -> Fields
         Position::Inside => said(1),
         Position::Outside => said(2),
         Position::Refused(f) => of_refusal(f),
+    }
+}
+
+// A word, and whose list is handed back: the first, the second, or neither.
+fn handing(word: u16, whose: u16) -> Fields
+    ensures { λ r. ⌜ r ≡ handingOf word whose ⌝ }
+{
+    Fields {
+        number: 0,
+        word,
+        place: 0,
+        piece: whose,
+        length: 0,
+        col: 0,
+        row: 0,
+    }
+}
+
+pub fn of_nesting(v: Nesting) -> Fields
+    ensures { λ r. ⌜ r ≡ nestingFields v ⌝ }
+{
+    match v {
+        Nesting::Equal => handing(11, 1),
+        Nesting::FirstWithin => handing(12, 1),
+        Nesting::SecondWithin => handing(13, 2),
+        Nesting::Apart => handing(14, 0),
+        Nesting::Crossing => handing(15, 0),
+    }
+}
+
+pub fn of_comparison(c: Comparison) -> Fields
+    ensures { λ r. ⌜ r ≡ comparisonFields c ⌝ }
+{
+    match c {
+        Comparison::Found(v) => of_nesting(v),
+        Comparison::Refused { list, refusal } => placed(of_refusal(refusal).number, list),
     }
 }
 

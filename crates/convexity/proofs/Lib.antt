@@ -28,6 +28,5 @@ pub mod Directions
 pub mod EdgeBound
 pub mod FromEdges
 pub mod Border
-pub mod Writing
 pub mod Specimens
 pub mod BorderSpecimens

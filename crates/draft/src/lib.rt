@@ -4,12 +4,15 @@ use calls::Reply;
 use chart::LONGEST;
 use chart::Point;
 use chart::Refusal;
+use spans::Spans;
+use spans::spans_of;
 use survey::checks;
 ghost use mathlib.Core.Path.{_≡_};
 ghost use Prim.Native.Nat.{min};
 ghost use lib.ListN.{take};
 ghost use Rattle.chart.specs.Limits.{longest};
 ghost use Rattle.border.specs.Judged.{judgedOf};
+ghost use Rattle.spans.specs.Spans.{spansOf};
 ghost use Rattle.draft.specs.Draft.{outlineOf, noDraft, endOf, beginOf, addOf, dropOf};
 
 // An outline in the making, if one was begun: a start, and as many letters as are counted.
@@ -71,6 +74,16 @@ impl Draft {
         let count = self.count;
         let sent = first(&self.letters, count);
         border::judge(start, sent)
+    }
+
+    // The first and the last column that it encloses in each row.
+    pub fn spans(self) -> Spans
+        ensures { λ r. ⌜ r ≡ spansOf (outlineOf self) ⌝ }
+    {
+        let start = self.start;
+        let count = self.count;
+        let sent = first(&self.letters, count);
+        spans_of(start, sent)
     }
 
     pub fn begin(self, start: Point) -> Drafted

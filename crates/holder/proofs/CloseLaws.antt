@@ -44,9 +44,6 @@ abbrev pub Promised : Holder → ℕ → ℕ → Answered → Type 0
 Promised h p k r = (r ≡ answerOf h (by p (Close k))) × CellNamed (outlineOf (draftOf h p)) (replyFields (r .reply))
 
 module _ (h : Holder) (p k : ℕ) where
-  draft-outline : Outline
-  draft-outline = outlineOf (draftOf h p)
-
   close-named : CellNamed (outlineOf (draftOf h p)) (replyFields (answerOf h (by p (Close k)) .reply))
   unfolding answerOf actOf closeOf closedBy replyFields
   close-named =

@@ -9,17 +9,18 @@ use Rattle.chart.specs.declared.Verdict.{Verdict}
 use Rattle.chart.specs.declared.Verdict.the-variants.{Taken, Refused}
 use Rattle.border.specs.declared.Judged.{Judged}
 use Rattle.border.specs.Judged.{judgedOf}
+use Rattle.spans.specs.Spans.{spansOf}
 use Rattle.calls.specs.Calls.{parties, places, badParty, badPlace}
 use Rattle.calls.specs.declared.Call.{Call}
 use Rattle.calls.specs.declared.Action.{Action}
-use Rattle.calls.specs.declared.Action.the-variants.{Begin, Add, Drop, Clear, Close, Query}
+use Rattle.calls.specs.declared.Action.the-variants.{Begin, Add, Drop, Clear, Close, Ask}
 use Rattle.calls.specs.declared.Reply.{Reply}
 use Rattle.calls.specs.declared.Reply.the-variants.{Done, Taken as WasTaken, Same, Refused as WasRefused, NoDraft, NoParty, NoPlace}
 use Rattle.draft.specs.declared.Draft.{Draft}
 use Rattle.draft.specs.declared.Drafted.{Drafted}
 use Rattle.draft.specs.Draft.{outlineOf, noDraft, endOf, beginOf, addOf, dropOf}
 use Rattle.work.specs.declared.Work.{Work}
-use Rattle.work.specs.Work.{listed, noWork, replaced, removed, hasEdges, located}
+use Rattle.work.specs.Work.{listed, noWork, replaced, removed, hasEdges, answered}
 use Rattle.holder.specs.declared.Holder.{Holder}
 use Rattle.holder.specs.declared.Answered.{Answered}
 
@@ -32,7 +33,7 @@ unfoldable pub blankDraft : Draft
 blankDraft = record { begun = false; start = record { col = 0; row = 0 }; letters = []; count = 0 }
 
 unfoldable pub blankWork : Work
-blankWork = record { taken = false; anchor = record { col = 0; row = 0 }; numbers = []; edges = 0 }
+blankWork = record { taken = false; anchor = record { col = 0; row = 0 }; numbers = []; edges = 0; spans = record { first = []; past = [] } }
 
 -- The slots: read, and put. What follows reaches drafts and works by these alone
 unfoldable pub draftOf : Holder → ℕ → Draft
@@ -70,10 +71,10 @@ closedReply w es (Taken n a) = cond (hasEdges w a (listed es n)) (Same n a) (Was
 unfoldable pub ended : Holder → ℕ → Holder
 ended h p = withDraft h p (endOf (draftOf h p))
 
--- A refusal leaves what is at work, and a draft that is taken replaces it, with the edges that were found
+-- A refusal leaves what is at work, and a draft that is taken replaces it, with the edges that were found and its rows
 unfoldable pub closedHolder : Holder → ℕ → ℕ → List ℤ → Verdict → Holder
 closedHolder h p k es (Refused f) = ended h p
-closedHolder h p k es (Taken n a) = withWork (ended h p) p k (replaced a es n)
+closedHolder h p k es (Taken n a) = withWork (ended h p) p k (replaced a es n (spansOf (outlineOf (draftOf h p))))
 
 unfoldable pub closedBy : Holder → ℕ → ℕ → Judged → Answered
 closedBy h p k j = record { reply = closedReply (workOf h p k) (j .numbers) (j .verdict); holder = closedHolder h p k (j .numbers) (j .verdict) }
@@ -90,7 +91,7 @@ actOf h p (Add a) = drafting h p (addOf (draftOf h p) a)
 actOf h p Drop = drafting h p (dropOf (draftOf h p))
 actOf h p (Clear k) = cond (badPlace k) (replied NoPlace h) (replied Done (withWork h p k (removed (workOf h p k))))
 actOf h p (Close k) = cond (badPlace k) (replied NoPlace (ended h p)) (closeOf h p k)
-actOf h p (Query k x) = replied (cond (badPlace k) NoPlace (located (workOf h p k) x)) h
+actOf h p (Ask k q) = replied (cond (badPlace k) NoPlace (answered (workOf h p k) q)) h
 
 unfoldable pub answerOf : Holder → Call → Answered
 answerOf h c = cond (badParty (c .party)) (replied NoParty h) (actOf h (c .party) (c .action))

@@ -4,6 +4,7 @@ use calls::Action;
 use calls::Call;
 use calls::PARTIES;
 use calls::PLACES;
+use calls::Question;
 use calls::Reply;
 use chart::Point;
 use chart::Verdict;
@@ -189,7 +190,8 @@ impl Holder {
                 let work = self.at_work(party, place);
                 let numbers = judged.numbers;
                 let same = work.has(anchor, numbers, edges);
-                let taken = work.replace(anchor, numbers, edges);
+                let draft = self.drafted(party);
+                let taken = work.replace(anchor, numbers, edges, draft.spans());
                 let holder = next.put_work(party, place, taken);
                 holder.reply(taken_reply(same, edges, anchor))
             }
@@ -215,9 +217,9 @@ impl Holder {
         self.close_by(party, place, draft.judge())
     }
 
-    // Answers from the edges at work.
-    pub fn query(self, party: u8, place: u8, cell: Point) -> Answered
-        ensures { λ r. ⌜ r ≡ answerOf self (by party (Action.Query place cell)) ⌝ }
+    // Answers from what is at work at the place.
+    fn ask(self, party: u8, place: u8, question: Question) -> Answered
+        ensures { λ r. ⌜ r ≡ answerOf self (by party (Action.Ask place question)) ⌝ }
     {
         if bad_party(party) {
             return self.reply(Reply::NoParty);
@@ -226,7 +228,19 @@ impl Holder {
             return self.reply(Reply::NoPlace);
         }
         let work = self.at_work(party, place);
-        self.reply(work.locate(cell))
+        self.reply(work.answer(question))
+    }
+
+    pub fn query(self, party: u8, place: u8, cell: Point) -> Answered
+        ensures { λ r. ⌜ r ≡ answerOf self (by party (Action.Ask place (Question.Cell cell))) ⌝ }
+    {
+        self.ask(party, place, Question::Cell(cell))
+    }
+
+    pub fn row(self, party: u8, place: u8, row: u16) -> Answered
+        ensures { λ r. ⌜ r ≡ answerOf self (by party (Action.Ask place (Question.Row row))) ⌝ }
+    {
+        self.ask(party, place, Question::Row(row))
     }
 
     pub fn answer(self, call: Call) -> Answered
@@ -240,7 +254,7 @@ impl Holder {
             Action::Drop => self.drop(party),
             Action::Clear { place } => self.clear(party, place),
             Action::Close { place } => self.close(party, place),
-            Action::Query { place, cell } => self.query(party, place, cell),
+            Action::Ask { place, question } => self.ask(party, place, question),
         }
     }
 }

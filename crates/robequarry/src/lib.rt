@@ -1,17 +1,20 @@
 // The calls for C and Rust. A slice is passed as a pointer and a length. A reply is seven numbers at the front of a lent list, in the order
-// number, word (0 none, 1 inside, 2 outside, 3 taken, 4 same), place, piece, length, column, row; a list of fewer than seven is turned back.
+// number, word (contract 4.3), place, piece, length, column, row; a list of fewer than seven is turned back.
 use calls::PARTIES;
 use calls::PLACES;
 use chart::Point;
 use chart::reply::NUMBERS;
+use chart::reply::of_comparison;
 use chart::reply::of_position;
 use chart::reply::of_verdict;
 use chart::reply::write;
 use holder::Holder;
 use holder::fresh;
+use letters::border;
 use pile::Pile;
 use sections::LAYERS;
 use spans::ROWS;
+use tracing::written::of_traced;
 use wire::respond;
 ghost use mathlib.Core.Path.{_≡_};
 ghost use mathlib.Core.Bool.{true};
@@ -20,17 +23,20 @@ ghost use lib.Dec.{leb};
 ghost use Rattle.chart.specs.Fields.{fieldsOf};
 ghost use Rattle.verdict.specs.Named.{CellNamed};
 ghost use Rattle.polygon.specs.Loose.{HullNamed};
+ghost use Rattle.tracing.specs.Named.{BorderNamed};
+ghost use Rattle.nesting.specs.Cells.{polygon};
+ghost use Rattle.compare.specs.Compared.{CellsNamed};
 ghost use Rattle.holder.specs.Holder.{freshHolder};
 ghost use Rattle.wire.specs.Wire.{respondOf, repliedTo};
 ghost use Rattle.replay.specs.Script.{callsRead, repliesAfter};
 ghost use Rattle.pile.specs.Pile.{freshPile, setOf, emptyOf, checkOf};
 ghost use Rattle.lent.specs.Lent.{handed, replied, asked};
-ghost use Rattle.robequarry.specs.Face.{at, testReply, testEdges, looseReply, holderBytes, pileBytes};
+ghost use Rattle.robequarry.specs.Face.{at, testReply, testEdges, looseReply, borderReply, borderLetters, compareReply, holderBytes, pileBytes};
 
-// What a draft and a work take: the flag, a point of two numbers of 16 bits, the letters or the numbers, then the count at the next multiple of 8.
+// What a draft and a work take: the flag, a point of two numbers of 16 bits, the letters or the numbers, the count at the next multiple of 8, and a work's rows.
 const DRAFT_BYTES: usize = 632;
 
-const WORK_BYTES: usize = 416;
+const WORK_BYTES: usize = 928;
 
 // Tests an outline: the start corner and the letters. The edges stand first in the list lent for them, where the outline is taken.
 #[no_mangle]
@@ -73,6 +79,58 @@ pub extern "C" fn rq_loose_query(
     };
     let position = polygon::loose_query(anchor, edges, Point { col, row });
     write(of_position(position), reply)
+}
+
+// Writes back the border of an anchor and edges. The letters, clockwise from W on, stand first in the list lent for them.
+#[no_mangle]
+pub extern "C" fn rq_border(
+    anchor_col: u16,
+    anchor_row: u16,
+    edges: &[i16],
+    letters: &mut [u8],
+    reply: &mut [u16],
+) -> bool
+    ensures room { λ r. ⌜ r ≡ leb 7 (length (now (reply .entry))) ⌝ }
+    ensures reply { λ r. ⌜ now (reply .exit) ≡ borderReply «anchor_col» «anchor_row» (now (edges .entry)) (now (letters .entry)) (now (reply .entry)) ⌝ }
+    ensures letters { λ r. ⌜ now (letters .exit) ≡ borderLetters «anchor_col» «anchor_row» (now (edges .entry)) (now (letters .entry)) (now (reply .entry)) ⌝ }
+    ensures outline { λ r. ⌜ (r ≡ true → BorderNamed (at «anchor_col» «anchor_row») (now (edges .entry)) (fieldsOf (now (reply .exit))) (now (letters .exit))) ⌝ }
+{
+    if NUMBERS > reply.len() {
+        return false;
+    }
+    let anchor = Point {
+        col: anchor_col,
+        row: anchor_row,
+    };
+    let traced = border(anchor, edges, letters);
+    write(of_traced(traced), reply)
+}
+
+// Compares two lists of edges, each from its anchor: how the cells in their hulls lie, and whose list is the inner one's.
+#[no_mangle]
+pub extern "C" fn rq_compare(
+    anchor_col_1: u16,
+    anchor_row_1: u16,
+    edges_1: &[i16],
+    anchor_col_2: u16,
+    anchor_row_2: u16,
+    edges_2: &[i16],
+    reply: &mut [u16],
+) -> bool
+    ensures room { λ r. ⌜ r ≡ leb 7 (length (now (reply .entry))) ⌝ }
+    ensures reply { λ r. ⌜ now (reply .exit) ≡ compareReply «anchor_col_1» «anchor_row_1» (now («edges_1» .entry)) «anchor_col_2» «anchor_row_2» (now («edges_2» .entry)) (now (reply .entry)) ⌝ }
+    ensures cells { λ r. ⌜ (r ≡ true → CellsNamed (polygon (at «anchor_col_1» «anchor_row_1») (now («edges_1» .entry))) (polygon (at «anchor_col_2» «anchor_row_2») (now («edges_2» .entry))) (fieldsOf (now (reply .exit)))) ⌝ }
+{
+    let first = Point {
+        col: anchor_col_1,
+        row: anchor_row_1,
+    };
+    let second = Point {
+        col: anchor_col_2,
+        row: anchor_row_2,
+    };
+    let comparison = compare::relate(first, edges_1, second, edges_2);
+    write(of_comparison(comparison), reply)
 }
 
 // Runs a script of calls, eleven bytes each, from a fresh holder, writes a reply of seven numbers for each, and says how many.

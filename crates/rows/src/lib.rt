@@ -5,9 +5,10 @@ use lattice::walk;
 ghost use Prim.Native.Nat.{ℕ, suc, _+_, _-_, _<_, _≤_};
 ghost use mathlib.Core.Path.{_≡_};
 ghost use lib.ListN.{length};
+ghost use lib.Dec.{ltb};
 ghost use Rattle.chart.specs.Limits.{side};
 ghost use Rattle.chart.specs.Outline.{outline};
-ghost use Rattle.rows.specs.Search.{leans as leansOf, furthest as furthestOf, crossing as crossingOf, gapRow, climb as climbOf, lowestGap, foundCell};
+ghost use Rattle.rows.specs.Search.{leans as leansOf, furthest as furthestOf, crossing as crossingOf, gapRow, climb as climbOf, lowestGap, foundCell, Skipped};
 ghost use Rattle.lattice.specs.Enclosed.{upAlong, downAlong};
 ghost use Rattle.rows.specs.Rows.{rows, Marked, RowEnds};
 
@@ -85,6 +86,21 @@ fn leans(lo: &[u16; 256], i: usize, j: usize, k: usize) -> bool
     c * near + a * far <= b * far + a * near
 }
 
+// The first row from `from` on, below `t`, that begins at least as far left as row `j` does, seen from row `i`; or `t` where there is none.
+fn first_leaning(lo: &[u16; 256], i: usize, j: usize, from: usize, t: usize) -> usize
+    requires { ⌜ (i ≤ j) × (j < from) × (from ≤ t) × (t ≤ side) ⌝ }
+    ensures { λ r. ⌜ Skipped (rows (now (lo .entry))) i j from t r ⌝ }
+{
+    let mut k = from;
+    while k < t {
+        if leans(lo, i, j, k) {
+            return k;
+        }
+        k += 1;
+    }
+    k
+}
+
 // Of the rows from `i + 1` to `t - 1`, the one to which the line from row `i` leans furthest left, the last among equals.
 fn furthest(lo: &[u16; 256], i: usize, t: usize) -> usize
     requires { ⌜ (i + 1 < t) × (t ≤ side) ⌝ }
@@ -93,10 +109,12 @@ fn furthest(lo: &[u16; 256], i: usize, t: usize) -> usize
     let mut j = i + 1;
     let mut k = i + 2;
     while k < t {
-        if leans(lo, i, j, k) {
-            j = k;
+        let m = first_leaning(lo, i, j, k, t);
+        if t <= m {
+            return j;
         }
-        k += 1;
+        j = m;
+        k = m + 1;
     }
     j
 }
@@ -112,6 +130,18 @@ fn crossing(lo: &[u16; 256], i: usize, j: usize, r: usize) -> usize
     ((j - r) * a + (r - i) * b + (height - 1)) / height
 }
 
+// Row `r` begins right of that column: as a product, with no division.
+fn is_gap(lo: &[u16; 256], i: usize, j: usize, r: usize) -> bool
+    requires { ⌜ (i < r) × (r < j) × (j < 256) ⌝ }
+    ensures { λ g. ⌜ g ≡ ltb (crossingOf (rows (now (lo .entry))) i j r) (rows (now (lo .entry)) r) ⌝ }
+{
+    let a = begins(lo, i);
+    let b = begins(lo, j);
+    let c = begins(lo, r);
+    let height = j - i;
+    (j - r) * a + (r - i) * b + (height - 1) < c * height
+}
+
 // The first row after `i` and before `j` that begins right of that column, or `j` where there is none.
 fn gap_row(lo: &[u16; 256], i: usize, j: usize) -> usize
     requires { ⌜ (i < j) × (j < 256) ⌝ }
@@ -119,7 +149,7 @@ fn gap_row(lo: &[u16; 256], i: usize, j: usize) -> usize
 {
     let mut r = i + 1;
     while r < j {
-        if crossing(lo, i, j, r) < begins(lo, r) {
+        if is_gap(lo, i, j, r) {
             return r;
         }
         r += 1;

@@ -79,6 +79,10 @@ impl Script {
         self.put(5, col, row)
     }
 
+    pub fn row(self, row: u16) -> Self {
+        self.put(6, row, 0)
+    }
+
     // The letters of a word of digits.
     pub fn letters(mut self, word: &[u8]) -> Self {
         let mut i = 0;

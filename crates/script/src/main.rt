@@ -186,6 +186,13 @@ fn both(s: Script) -> Script {
         .clear()
 }
 
+// The rows of H3 at a place: 12 and 11 in their order, the columns of three rows, and none of a fourth.
+fn rows(s: Script) -> Script {
+    let s = s.at(1, 2).row(255).outline(0, 1, b"101030323212");
+    let s = s.row(0).row(1).row(2).row(3).row(254).row(255);
+    s.at(2, 2).row(0).at(1, 4).row(0).at(1, 2).clear().row(1)
+}
+
 fn script() -> Script {
     let s = without_draft(Script::new());
     let s = drafts(s);
@@ -195,7 +202,7 @@ fn script() -> Script {
     let s = kept(s);
     let s = dents(s);
     let s = long(s);
-    both(s)
+    rows(both(s))
 }
 
 // Replays a script and writes the replies.

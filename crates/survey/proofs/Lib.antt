@@ -1,4 +1,5 @@
 -- The laws of each check; then the first that applies.
 pub mod CheckLaws
+pub mod WalkLaws
 pub mod TouchingLaws
 pub mod SurveyLaws

@@ -1,7 +1,7 @@
 -- On the chart a letter's stride leads from a corner's number to the next one's, and different corners have different numbers:
 -- so a number already in the set is a corner already met.
 use Prim.Native.Nat.{ℕ, zero, suc, _+_, _-_, _%_, _≤_, _<_}
-use mathlib.Core.Path.{_≡_, refl, sym, ap, _∙_}
+use mathlib.Core.Path.{_≡_, sym, ap, _∙_}
 use mathlib.Core.Bool.{Bool, true, false, true≢false}
 use mathlib.Core.List.{List}
 use native.Mathlib.Numerals.{add-one}
@@ -10,18 +10,20 @@ use native.Mathlib.Omega.{arith}
 use lib.ListN.{length, getD}
 use borrow.Author.Tests.{leb-false, eqb-false}
 use Rattle.base.specs.Below.{first, some}
-use Rattle.base.proofs.BelowLaws.{first-step, first-stop}
+use Rattle.base.proofs.BelowLaws.{first-step, first-stop, some-of}
 use Rattle.chart.specs.Limits.{side}
 use Rattle.chart.specs.declared.Point.{Point}
 use Rattle.chart.specs.Outline.{Outline, outline}
 use Rattle.lattice.specs.Chart.{samePoint, step, leaves, cornerAt, size, letterAt}
 use Rattle.lattice.specs.Refusals.{Stays, meets, touchingPlace}
 use Rattle.lattice.proofs.WalkLaws.{point-eq, same-point-self, not-same-point, corner-zero, corner-suc, absent-first, OnChart, corners-on-chart}
-use Rattle.lattice.proofs.WalkCode.{stays-at}
+use Rattle.lattice.proofs.WalkCode.{start-on-chart, stays-at}
 use Rattle.flags.specs.Flags.{noNumbers, isSet, withNumber}
 use Rattle.flags.proofs.FlagLaws.{none-length, none-set, with-length, with-here, with-other}
 use Rattle.survey.specs.Numbers.{numberOf, strideOf}
-use Rattle.survey.proofs.CheckLaws.{first-zero, some-of}
+use Rattle.survey.specs.Walks.{Begun}
+use Rattle.survey.proofs.CheckLaws.{first-zero}
+use Rattle.survey.proofs.WalkLaws.{letters-small}
 
 pub number-below : (p : Point) → OnChart p → numberOf p < 65536
 number-below p h = omega arith
@@ -33,27 +35,19 @@ pub stride-below : (a : ℕ) → strideOf a < 65536
 stride-below zero = omega arith
 stride-below (suc zero) = omega arith
 stride-below (suc (suc zero)) = omega arith
-stride-below (suc (suc (suc zero))) = omega arith
-stride-below (suc (suc (suc (suc a)))) = omega arith
+stride-below (suc (suc (suc a))) = omega arith
 
-pub stride-none : (a : ℕ) → 4 ≤ a → 0 ≡ strideOf a
-stride-none zero h = omega arith
-stride-none (suc zero) h = omega arith
-stride-none (suc (suc zero)) h = omega arith
-stride-none (suc (suc (suc zero))) h = omega arith
-stride-none (suc (suc (suc (suc a)))) h = refl
-
-number-step : (p : Point) (a : ℕ) → OnChart p → leaves p a ≡ false → (numberOf p + strideOf a) % 65536 ≡ numberOf (step p a)
+number-step : (p : Point) (a : ℕ) → OnChart p → a < 4 → leaves p a ≡ false → (numberOf p + strideOf a) % 65536 ≡ numberOf (step p a)
 unfolding leaves step
-number-step p zero h e = omega (arith, leb-false side (p .col) e)
-number-step p (suc zero) h e = omega (arith, leb-false side (p .row) e)
-number-step p (suc (suc zero)) h e = omega (arith, eqb-false (p .col) 0 e)
-number-step p (suc (suc (suc zero))) h e = omega (arith, eqb-false (p .row) 0 e)
-number-step p (suc (suc (suc (suc a)))) h e = omega arith
+number-step p zero h l e = omega (arith, leb-false side (p .col) e)
+number-step p (suc zero) h l e = omega (arith, leb-false side (p .row) e)
+number-step p (suc (suc zero)) h l e = omega (arith, eqb-false (p .col) 0 e)
+number-step p (suc (suc (suc zero))) h l e = omega (arith, eqb-false (p .row) 0 e)
+number-step p (suc (suc (suc (suc a)))) h l e = absurd (omega arith)
 
--- The start is on the chart and has number n, and no letter leaves the chart
+-- The start is on the chart and has number n, no letter is above 3, and none leaves the chart
 pub record Begins (o : Outline) (n : ℕ) : Type 0 where
-  pub chart : OnChart (o .start)
+  pub begun : Begun o
   pub number : n ≡ numberOf (o .start)
   pub stays : Stays o
 
@@ -104,11 +98,13 @@ module _ (o : Outline) where
 
   module _ (n : ℕ) (b : Begins o n) where
     on-chart : (j : ℕ) → j ≤ size o → OnChart (cornerAt o j)
-    on-chart = corners-on-chart o (b .chart) (stays-at o (b .stays))
+    on-chart = corners-on-chart o (start-on-chart (o .start) (b .begun .started)) (stays-at o (b .stays))
 
-    next : (i k d : ℕ) → i < size o → k ≡ numberOf (cornerAt o i) → d ≡ strideOf (letterAt o i) → (k + d) % 65536 ≡ numberOf (cornerAt o (suc i))
+    next : (i k d : ℕ) → i < size o → k ≡ numberOf (cornerAt o i) → d ≡ strideOf (letterAt o i % 4) → (k + d) % 65536 ≡ numberOf (cornerAt o (suc i))
     next i k d l e f =
-        rw (e, f, corner-suc o i l) (number-step (cornerAt o i) (letterAt o i) (on-chart i (omega arith)) (stays-at o (b .stays) i l))
+        let small = letters-small o (b .begun) i l in
+        let same : letterAt o i % 4 ≡ letterAt o i = omega arith in
+        rw (e, f, same, corner-suc o i l) (number-step (cornerAt o i) (letterAt o i) (on-chart i (omega arith)) small (stays-at o (b .stays) i l))
 
     -- A letter that reaches a number in the set meets a corner, and one that reaches any other meets none
     found : (i k q : ℕ) (met : List ℕ) → Passed i k met → i < size o → q ≡ numberOf (cornerAt o (suc i)) → isSet met q ≡ true → meets o i ≡ true
@@ -145,7 +141,7 @@ module _ (w : List ℕ) (n : ℕ) where
             record { corner = e; none = first-zero (meets o); marked = mark-zero o n l e };
       }
 
-  module _ (i k d : ℕ) (met : List ℕ) (r : Bool) (t : Touching i k met) (l : i + 1 < length w) (f : d ≡ strideOf (getD w i 0)) (m : r ≡ isSet met ((k + d) % 65536)) where
+  module _ (i k d : ℕ) (met : List ℕ) (r : Bool) (t : Touching i k met) (l : i + 1 < length w) (f : d ≡ strideOf (getD w i 0 % 4)) (m : r ≡ isSet met ((k + d) % 65536)) where
     abbrev q : ℕ
     q = (k + d) % 65536
 

@@ -3,12 +3,15 @@ use chart::LONGEST;
 use chart::Point;
 use chart::SHORTEST;
 use chart::SIDE;
-use lattice::walk;
+ghost use Prim.Native.Nat.{_%_};
 ghost use mathlib.Core.Path.{_≡_};
-ghost use mathlib.Core.Bool.{false};
+ghost use mathlib.Core.Bool.{false, not};
+ghost use lib.ListN.{length};
+ghost use lib.Dec.{eqb};
 ghost use Rattle.chart.specs.Outline.{outline};
-ghost use Rattle.lattice.specs.Refusals.{badCount, badStart, letterPlace, leavingPlace, Stays, unclosed as ends-away, touchingPlace};
-ghost use Rattle.survey.specs.Numbers.{numberOf, strideOf};
+ghost use Rattle.lattice.specs.Refusals.{badCount, badStart, letterPlace, Stays, touchingPlace};
+ghost use Rattle.survey.specs.Numbers.{numberOf, strideOf, wideOf, wideStride, offChart};
+ghost use Rattle.survey.specs.Walks.{Begun, WalkedTo};
 
 // 1. Too few or too many letters.
 pub(crate) fn bad_count(w: &[u8]) -> bool
@@ -24,8 +27,20 @@ pub fn bad_start(s: Point) -> bool
     SIDE < s.col || SIDE < s.row
 }
 
-// 3. The place of the first letter above 3.
-pub(crate) fn letter_place(w: &[u8]) -> usize
+// Whether some letter is above 3: all are looked at, so that many are at once.
+fn some_above(w: &[u8]) -> bool
+    ensures { λ r. ⌜ (r ≡ false → letterPlace (now (w .entry)) ≡ length (now (w .entry))) ⌝ }
+{
+    let mut found = false;
+    let mut i = 0;
+    while i < w.len() {
+        found = found | (3 < w[i]);
+        i += 1;
+    }
+    found
+}
+
+fn first_above(w: &[u8]) -> usize
     ensures { λ r. ⌜ r ≡ letterPlace (now (w .entry)) ⌝ }
 {
     let mut i = 0;
@@ -38,33 +53,68 @@ pub(crate) fn letter_place(w: &[u8]) -> usize
     i
 }
 
-// 4. The place of the first letter that reaches a corner off the chart.
-pub(crate) fn leaving_place(s: Point, w: &[u8]) -> usize
-    ensures { λ r. ⌜ r ≡ leavingPlace (outline s (now (w .entry))) ⌝ }
+// 3. The place of the first letter above 3.
+pub(crate) fn letter_place(w: &[u8]) -> usize
+    ensures { λ r. ⌜ r ≡ letterPlace (now (w .entry)) ⌝ }
 {
-    let mut p = s;
-    let mut i = 0;
-    while i < w.len() {
-        if walk::leaves(p, w[i]) {
-            return i;
-        }
-        p = walk::step(p, w[i]);
-        i += 1;
+    if some_above(w) {
+        return first_above(w);
     }
-    i
+    w.len()
 }
 
-// 5. The walk, which stays on the chart, does not come back to its start.
-pub(crate) fn unclosed(s: Point, w: &[u8]) -> bool
-    ensures { λ r. ⌜ (Stays (outline s (now (w .entry))) → r ≡ ends-away (outline s (now (w .entry)))) ⌝ }
+// The number of a corner with sixteen bits for its row and for its column: off the chart one of them is above 255, below 0 too.
+fn wide(p: Point) -> u32
+    ensures { λ r. ⌜ r ≡ wideOf p ⌝ }
 {
-    let mut p = s;
+    (p.row as u32) * 65536 + (p.col as u32)
+}
+
+// What a letter adds to it, by sums modulo 2^32.
+fn wide_stride(letter: u8) -> u32
+    ensures { λ r. ⌜ r ≡ wideStride (letter % 4) ⌝ }
+{
+    match letter % 4 {
+        0 => 1,
+        1 => 65536,
+        2 => 4294967295,
+        _ => 4294901760,
+    }
+}
+
+fn is_off_chart(x: u32) -> bool
+    ensures { λ r. ⌜ r ≡ offChart x ⌝ }
+{
+    (255 < x % 65536) | (255 < x / 65536)
+}
+
+// The place of the first letter that leaves the chart, and the number of the corner reached where none does.
+pub(crate) struct Walk {
+    pub(crate) leaves: usize,
+    pub(crate) end: u32,
+}
+
+// 4, and what 5 has to know.
+pub(crate) fn walk_along(s: Point, w: &[u8]) -> Walk
+    ensures { λ r. ⌜ (Begun (outline s (now (w .entry))) → WalkedTo (outline s (now (w .entry))) r) ⌝ }
+{
+    let mut x = wide(s);
     let mut i = 0;
     while i < w.len() {
-        p = walk::step(p, w[i]);
+        x = std::num::wrapping_add_u32(x, wide_stride(w[i]));
+        if is_off_chart(x) {
+            return Walk { leaves: i, end: x };
+        }
         i += 1;
     }
-    p.col != s.col || p.row != s.row
+    Walk { leaves: i, end: x }
+}
+
+// 5. The walk ends at a corner with another number than its start.
+pub(crate) fn ends_away(s: Point, end: u32) -> bool
+    ensures { λ r. ⌜ r ≡ not (eqb end (wideOf s)) ⌝ }
+{
+    end != wide(s)
 }
 
 // The number of a corner: the chart's, row by row, are below 65,536.
@@ -74,22 +124,21 @@ fn number(p: Point) -> usize
     (p.row as usize) * 256 + (p.col as usize)
 }
 
-// What a letter adds to the number of a corner, by sums modulo 65,536.
+// What a letter adds to it, by sums modulo 65,536.
 fn stride(letter: u8) -> usize
-    ensures { λ r. ⌜ r ≡ strideOf letter ⌝ }
+    ensures { λ r. ⌜ r ≡ strideOf (letter % 4) ⌝ }
 {
-    match letter {
+    match letter % 4 {
         0 => 1,
         1 => 256,
         2 => 65535,
-        3 => 65280,
-        _ => 0,
+        _ => 65280,
     }
 }
 
 // 6. The place of the first letter, the last left out, that reaches a corner already met.
 pub(crate) fn touching_place(s: Point, w: &[u8]) -> usize
-    ensures { λ r. ⌜ (badStart s ≡ false → Stays (outline s (now (w .entry))) → r ≡ touchingPlace (outline s (now (w .entry)))) ⌝ }
+    ensures { λ r. ⌜ (Begun (outline s (now (w .entry))) → Stays (outline s (now (w .entry))) → r ≡ touchingPlace (outline s (now (w .entry)))) ⌝ }
 {
     if bad_start(s) {
         return 0;

@@ -29,13 +29,14 @@ pub fn survey(start: Point, letters: &[u8]) -> Surveyed
             place: letter as u16,
         });
     }
-    let leaving = checks::leaving_place(start, letters);
+    let walk = checks::walk_along(start, letters);
+    let leaving = walk.leaves;
     if leaving < letters.len() {
         return Surveyed::Refused(Refusal::Leaves {
             place: leaving as u16,
         });
     }
-    if checks::unclosed(start, letters) {
+    if checks::ends_away(start, walk.end) {
         return Surveyed::Refused(Refusal::Unclosed);
     }
     let touching = checks::touching_place(start, letters);

@@ -141,10 +141,10 @@ minus-low : (a b : ℤ) → Least0 (b -ℤ a) → AtMost a b
 minus-low a b h = omega (arith, is-minus (is-self b) (is-self a) .eq)
 
 module _ {w i j k : ℕ} (g : 0 < w) (e : w ≡ i + j + k) where
-  mean-low : (a : ℤ) {c p q t : ℤ} → Meanℤ w i j k c p q t → AtMost a p → AtMost a q → AtMost a t → AtMost a c
+  pub mean-low : (a : ℤ) {c p q t : ℤ} → Meanℤ w i j k c p q t → AtMost a p → AtMost a q → AtMost a t → AtMost a c
   mean-low a {c} {p} {q} {t} h l m n = minus-low a c (mean-least g (mean-minus h (mean-same a e)) (low-minus a p l) (low-minus a q m) (low-minus a t n))
 
-  mean-high : (a : ℤ) {c p q t : ℤ} → Meanℤ w i j k c p q t → AtMost p a → AtMost q a → AtMost t a → AtMost c a
+  pub mean-high : (a : ℤ) {c p q t : ℤ} → Meanℤ w i j k c p q t → AtMost p a → AtMost q a → AtMost t a → AtMost c a
   mean-high a {c} {p} {q} {t} h l m n = minus-low c a (mean-least g (mean-minus (mean-same a e) h) (low-minus p a l) (low-minus q a m) (low-minus t a n))
 
   pub mean-within : (ds : List ℤ) {x c p q t : ℤ} → Meanℤ w i j k c p q t → Reach ds x p → Reach ds x q → Reach ds x t → within ds x c ≡ true

@@ -1,6 +1,7 @@
 // One call as bytes on a holder, and its reply as numbers (contract 10.4).
 use calls::Action;
 use calls::Call;
+use calls::Question;
 use calls::written::of_reply;
 use chart::Point;
 use chart::reply;
@@ -61,6 +62,12 @@ fn said(party: u8, action: Action) -> Decoded
     Decoded::Call(Call { party, action })
 }
 
+fn ask(party: u8, place: u8, question: Question) -> Decoded
+    ensures { λ r. ⌜ r ≡ Decoded.Call (record { party = party; action = Action.Ask place question }) ⌝ }
+{
+    said(party, Action::Ask { place, question })
+}
+
 // A call's number, its party and place, and its argument.
 fn call_of(number: u8, party: u8, place: u8, x: u32, y: u32) -> Decoded
     ensures { λ r. ⌜ r ≡ callOf number party place x y ⌝ }
@@ -71,13 +78,8 @@ fn call_of(number: u8, party: u8, place: u8, x: u32, y: u32) -> Decoded
         2 => said(party, Action::Drop),
         3 => said(party, Action::Clear { place }),
         4 => said(party, Action::Close { place }),
-        5 => said(
-            party,
-            Action::Query {
-                place,
-                cell: point(x, y),
-            },
-        ),
+        5 => ask(party, place, Question::Cell(point(x, y))),
+        6 => ask(party, place, Question::Row(short(x))),
         _ => Decoded::Nothing,
     }
 }

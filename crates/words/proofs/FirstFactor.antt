@@ -9,6 +9,7 @@ use mathlib.Core.List.{List, [], _∷_, _++_, append-assoc, append-nil}
 use lib.ListN.{length, take, drop, getD, length-append, length-drop, take-append-drop, drop-of-length-le}
 use lib.Seq.{take-suc, take-append-seam, drop-cons, getD-at, getD-drop, length-take-le}
 use lib.Dec.{eqb}
+use borrow.Author.Tests.{eq-eqb, ne-eqb}
 use Rattle.words.specs.Word.{Word, Begins, wordOf, laters}
 use Rattle.words.specs.Lyndon.{Lyndon, copies, factorsOf}
 use Rattle.words.specs.Search.{rank, rankOf, firstOf}
@@ -209,6 +210,12 @@ rank-eq false true h k = absurd (omega arith)
 rank-eq true false h k = absurd (omega arith)
 rank-eq true true h k = refl
 
+rank-later : (a later : ℕ) → a ≡ later → rankOf a later ≡ 1
+rank-later a later e = rw (eq-eqb a later e)
+
+rank-other : (a later : ℕ) → (a ≡ later → ⊥) → rankOf a later ≡ 0
+rank-other a later n = rw (ne-eqb a later n)
+
 rank-le : (a : Bool) → rank a ≤ 1
 rank-le false = omega arith
 rank-le true = omega arith
@@ -284,7 +291,7 @@ module _ {l : List ℕ} {from later i j all one : ℕ} (s : Search l from later 
   pub search-fits : j < length l → {b : ℕ} → b ≡ rankOf (getD l j 0) later → all + b ≤ length l
   search-fits h e = omega (arith, few-more, e)
 
-  pub search-larger :
+  search-larger :
       j < length l
       → rankOf (getD l i 0) later < rankOf (getD l j 0) later
       → Search l from later from (j + 1) (all + rankOf (getD l j 0) later) (all + rankOf (getD l j 0) later)
@@ -300,7 +307,7 @@ module _ {l : List ℕ} {from later i j all one : ℕ} (s : Search l from later 
         read = read-at (omega arith) (omega (arith, s .start, s .ahead)) (read-larger (s .read) (inside h) (here ∙ p .0) (there h ∙ p .1));
       }
 
-  pub search-same :
+  search-same :
       j < length l
       → rankOf (getD l i 0) later ≤ rankOf (getD l j 0) later
       → rankOf (getD l j 0) later ≤ rankOf (getD l i 0) later
@@ -333,13 +340,38 @@ module _ {l : List ℕ} {from later i j all one : ℕ} (s : Search l from later 
       length l ≤ j → record { length = j - i; times = (j - from) / (j - i); laters = one } ≡ firstOf (factorsOf (wordOf later (drop from l)))
   search-end h = answer (found-at-end (s .read) (omega (arith, length-after l from later)))
 
-  pub search-smaller :
+  search-smaller :
       j < length l
       → rankOf (getD l j 0) later < rankOf (getD l i 0) later
       → record { length = j - i; times = (j - from) / (j - i); laters = one } ≡ firstOf (factorsOf (wordOf later (drop from l)))
   search-smaller h k =
       let p = rank-lt (eqb (getD l j 0) later) (eqb (getD l i 0) later) k in
       answer (found-at-smaller (s .read) (inside h) (here ∙ p .1) (there h ∙ p .0))
+
+  -- The four pairs of letters, as the code tells them apart: the same letter, a later one after another, another after a later one, and two others
+  pub pair-same : j < length l → getD l i 0 ≡ getD l j 0 → Search l from later (i + 1) (j + 1) (all + rankOf (getD l j 0) later) one
+  pair-same h e = let f = ap (λ (a : ℕ). rankOf a later) e in search-same h (omega arith) (omega arith)
+
+  pub pair-larger : j < length l → (getD l i 0 ≡ getD l j 0 → ⊥) → getD l j 0 ≡ later
+      → Search l from later from (j + 1) (all + rankOf (getD l j 0) later) (all + rankOf (getD l j 0) later)
+  pair-larger h n e =
+      let a = rank-other (getD l i 0) later (λ (f : getD l i 0 ≡ later). n (f ∙ sym e)) in
+      let b = rank-later (getD l j 0) later e in
+      search-larger h (omega arith)
+
+  pub pair-others : j < length l → (getD l j 0 ≡ later → ⊥) → (getD l i 0 ≡ later → ⊥)
+      → Search l from later (i + 1) (j + 1) (all + rankOf (getD l j 0) later) one
+  pair-others h m n =
+      let a = rank-other (getD l i 0) later n in
+      let b = rank-other (getD l j 0) later m in
+      search-same h (omega arith) (omega arith)
+
+  pub pair-smaller : j < length l → (getD l j 0 ≡ later → ⊥) → getD l i 0 ≡ later
+      → record { length = j - i; times = (j - from) / (j - i); laters = one } ≡ firstOf (factorsOf (wordOf later (drop from l)))
+  pair-smaller h m e =
+      let a = rank-later (getD l i 0) later e in
+      let b = rank-other (getD l j 0) later m in
+      search-smaller h (omega arith)
 
 -- Nothing follows the list's end
 pub search-none :

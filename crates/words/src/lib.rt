@@ -39,17 +39,23 @@ pub fn first_factor(w: &[u8], from: usize, later: u8) -> Found
     let mut read = rank(w[from], later);
     let mut laters = read;
     while j < w.len() {
-        let a = rank(w[i], later);
-        let b = rank(w[j], later);
-        if b < a {
-            break;
-        }
-        // A larger letter makes one Lyndon word of all that was read.
-        if a < b {
-            i = from;
-            laters = read + b;
-        } else {
+        let a = w[i];
+        let letter = w[j];
+        let b = rank(letter, later);
+        // The same letter, as nearly always, goes on with the same word.
+        if a == letter {
             i += 1;
+        } else {
+            // A larger letter makes one Lyndon word of all that was read.
+            if letter == later {
+                i = from;
+                laters = read + b;
+            } else {
+                if a == later {
+                    break;
+                }
+                i += 1;
+            }
         }
         read += b;
         j += 1;

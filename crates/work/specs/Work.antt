@@ -4,14 +4,21 @@ use mathlib.Core.Bool.{Bool, true, false, cond, _&&_}
 use mathlib.Core.List.{List}
 use lib.ListN.{take, replicate}
 use lib.IntN.{ℤ, pos}
+use lib.Dec.{leb}
 use Rattle.base.specs.Same.{sameℤs}
-use Rattle.chart.specs.Limits.{mostNumbers}
+use Rattle.chart.specs.Limits.{side, mostNumbers}
 use Rattle.chart.specs.declared.Point.{Point}
 use Rattle.chart.specs.declared.Refusal.the-variants.{Cell}
 use Rattle.lattice.specs.Chart.{samePoint}
 use Rattle.polygon.specs.Loose.{badCell, insideList}
+use Rattle.spans.specs.declared.Span.{Span}
+use Rattle.spans.specs.declared.Span.the-variants.{None as Empty, Columns as Run}
+use Rattle.spans.specs.declared.Spans.{Spans}
+use Rattle.spans.specs.Spans.{noSpans, spanAt}
+use Rattle.calls.specs.declared.Question.{Question}
+use Rattle.calls.specs.declared.Question.the-variants.{Cell as OfCell, Row as OfRow}
 use Rattle.calls.specs.declared.Reply.{Reply}
-use Rattle.calls.specs.declared.Reply.the-variants.{Inside, Outside, Refused, NothingAtWork}
+use Rattle.calls.specs.declared.Reply.the-variants.{Inside, Outside, Columns, None, Refused, NothingAtWork}
 use Rattle.work.specs.declared.Work.{Work}
 
 -- The numbers of n edges, of those that a list has space for
@@ -24,14 +31,14 @@ workEdges w = listed (w .numbers) (w .edges)
 
 -- Nothing at work
 unfoldable pub noWork : Work
-noWork = record { taken = false; anchor = record { col = 0; row = 0 }; numbers = replicate mostNumbers (pos 0); edges = 0 }
+noWork = record { taken = false; anchor = record { col = 0; row = 0 }; numbers = replicate mostNumbers (pos 0); edges = 0; spans = noSpans }
 
--- The work that a taken outline becomes, by its anchor, its edges and their count; the work removed
-unfoldable pub replaced : Point → List ℤ → ℕ → Work
-replaced a es n = record { taken = true; anchor = a; numbers = es; edges = n }
+-- The work that a taken outline becomes, by its anchor, its edges and their count, and its rows; the work removed
+unfoldable pub replaced : Point → List ℤ → ℕ → Spans → Work
+replaced a es n s = record { taken = true; anchor = a; numbers = es; edges = n; spans = s }
 
 unfoldable pub removed : Work → Work
-removed w = record { taken = false; anchor = w .anchor; numbers = w .numbers; edges = w .edges }
+removed w = record { taken = false; anchor = w .anchor; numbers = w .numbers; edges = w .edges; spans = w .spans }
 
 -- An outline with this anchor and these edges is at work
 unfoldable pub hasEdges : Work → Point → List ℤ → Bool
@@ -42,3 +49,16 @@ unfoldable pub located : Work → Point → Reply
 located w x =
     cond (w .taken)
     (cond (badCell x) (Refused Cell) (cond (insideList (w .anchor) (workEdges w) x) Inside Outside)) NothingAtWork
+
+-- 12, 11, or the columns of the row (contract 7.9)
+unfoldable pub spanReply : Span → Reply
+spanReply Empty = None
+spanReply (Run a b) = Columns a b
+
+unfoldable pub spanned : Work → ℕ → Reply
+spanned w r = cond (w .taken) (cond (leb side r) (Refused Cell) (spanReply (spanAt (w .spans) r))) NothingAtWork
+
+-- What is asked of it
+unfoldable pub answered : Work → Question → Reply
+answered w (OfCell x) = located w x
+answered w (OfRow r) = spanned w r

@@ -1,26 +1,33 @@
 // What is at work: the anchor and the edges of the outline last taken, and what is asked of them (contract 7.6 to 7.8).
+use calls::Question;
 use calls::Reply;
 use chart::MOST_NUMBERS;
 use chart::Point;
 use chart::Refusal;
+use chart::SIDE;
 use polygon::bad_cell;
 use polygon::inside;
+use same::same_numbers;
+use same::same_point;
+use spans::Span;
+use spans::Spans;
+use spans::no_spans;
+use spans::span_at;
 ghost use mathlib.Core.Path.{_≡_};
 ghost use Prim.Native.Nat.{_*_, min};
 ghost use lib.ListN.{take};
-ghost use Rattle.base.specs.Same.{sameℤ, sameℤs};
 ghost use Rattle.chart.specs.Limits.{mostNumbers};
-ghost use Rattle.lattice.specs.Chart.{samePoint};
 ghost use Rattle.polygon.specs.Loose.{insideList};
-ghost use Rattle.work.specs.Work.{noWork, listed, workEdges, replaced, removed, hasEdges, located};
+ghost use Rattle.work.specs.Work.{noWork, listed, workEdges, replaced, removed, hasEdges, located, spanReply, spanned, answered};
 
-// The outline last taken, if one was: its anchor and its edges, two numbers an edge.
+// The outline last taken, if one was: its anchor, its edges, two numbers an edge, and its rows.
 #[repr(C)]
 pub struct Work {
     pub taken: bool,
     pub anchor: Point,
     pub numbers: [i16; MOST_NUMBERS],
     pub edges: usize,
+    pub spans: Spans,
 }
 
 // How many numbers stand for this many edges: no more than there is space for.
@@ -43,32 +50,14 @@ fn first(numbers: &[i16; MOST_NUMBERS], edges: usize) -> &[i16]
     &all[..n]
 }
 
-fn same_point(p: Point, q: Point) -> bool
-    ensures { λ r. ⌜ r ≡ samePoint p q ⌝ }
+// A row written out as a reply.
+fn span_reply(span: Span) -> Reply
+    ensures { λ r. ⌜ r ≡ spanReply span ⌝ }
 {
-    p.col == q.col && p.row == q.row
-}
-
-fn same_number(a: i16, b: i16) -> bool
-    ensures { λ r. ⌜ r ≡ sameℤ a b ⌝ }
-{
-    a == b
-}
-
-fn same_numbers(a: &[i16], b: &[i16]) -> bool
-    ensures { λ r. ⌜ r ≡ sameℤs (now (a .entry)) (now (b .entry)) ⌝ }
-{
-    if a.len() != b.len() {
-        return false;
+    match span {
+        Span::None => Reply::None,
+        Span::Columns { first, last } => Reply::Columns { first, last },
     }
-    let mut i = 0;
-    while i < a.len() {
-        if !same_number(a[i], b[i]) {
-            return false;
-        }
-        i += 1;
-    }
-    true
 }
 
 impl Work {
@@ -80,16 +69,24 @@ impl Work {
             anchor: Point { col: 0, row: 0 },
             numbers: [0; MOST_NUMBERS],
             edges: 0,
+            spans: no_spans(),
         }
     }
 
     // An outline that was taken replaces what is at work.
-    pub fn replace(mut self, anchor: Point, numbers: [i16; MOST_NUMBERS], edges: u16) -> Self
-        ensures { λ r. ⌜ r ≡ replaced anchor numbers edges ⌝ }
+    pub fn replace(
+        mut self,
+        anchor: Point,
+        numbers: [i16; MOST_NUMBERS],
+        edges: u16,
+        spans: Spans,
+    ) -> Self
+        ensures { λ r. ⌜ r ≡ replaced anchor numbers edges spans ⌝ }
     {
         self.anchor = anchor;
         self.numbers = numbers;
         self.edges = edges as usize;
+        self.spans = spans;
         self.taken = true;
         self
     }
@@ -127,7 +124,7 @@ impl Work {
     }
 
     // 12, 11, or where the cell lies.
-    pub fn locate(self, cell: Point) -> Reply
+    fn locate(self, cell: Point) -> Reply
         ensures { λ r. ⌜ r ≡ located self cell ⌝ }
     {
         if !self.taken {
@@ -140,6 +137,29 @@ impl Work {
             Reply::Inside
         } else {
             Reply::Outside
+        }
+    }
+
+    // 12, 11, or the columns of the row.
+    fn span(self, row: u16) -> Reply
+        ensures { λ r. ⌜ r ≡ spanned self row ⌝ }
+    {
+        if !self.taken {
+            return Reply::NothingAtWork;
+        }
+        if SIDE <= row {
+            return Reply::Refused(Refusal::Cell);
+        }
+        let spans = self.spans;
+        span_reply(span_at(spans, row))
+    }
+
+    pub fn answer(self, question: Question) -> Reply
+        ensures { λ r. ⌜ r ≡ answered self question ⌝ }
+    {
+        match question {
+            Question::Cell(cell) => self.locate(cell),
+            Question::Row(row) => self.span(row),
         }
     }
 }

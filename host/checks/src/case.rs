@@ -8,12 +8,21 @@ use robequarry::limits::{LAST_LETTER, REPLY};
 use crate::engine::Engine;
 use crate::{Fields, Outline, Point};
 
-/// An input. `lent` and `room` are the lengths of the list for edges and of the list for replies.
+/// An input. `lent` and `room` are the lengths of the list for edges or for letters, and of the list for replies.
 #[derive(Clone, Debug, PartialEq)]
 pub enum Case {
     Test { outline: Outline, lent: usize, room: usize },
     Loose { anchor: Point, edges: Vec<i16>, cell: Point, room: usize },
+    Border { anchor: Point, edges: Vec<i16>, lent: usize, room: usize },
+    Compare { first: Polygon, second: Polygon, room: usize },
     Script { bytes: Vec<u8>, room: usize },
+}
+
+/// An anchor and a list of edges.
+#[derive(Clone, Debug, PartialEq)]
+pub struct Polygon {
+    pub anchor: Point,
+    pub edges: Vec<i16>,
 }
 
 /// What an engine returned (a truth as 0 or 1), and every lent list as it left it.
@@ -21,6 +30,7 @@ pub enum Case {
 pub struct Outcome {
     pub returned: usize,
     pub edges: Vec<i16>,
+    pub letters: Vec<u8>,
     pub replies: Vec<u16>,
 }
 
@@ -29,22 +39,31 @@ fn filler(i: usize) -> u16 {
     (i as u16).wrapping_mul(0x9e37) ^ 0x5a5a
 }
 
+/// The same in a list for letters: no letter.
+fn letter_filler(i: usize) -> u8 {
+    filler(i) as u8 | 0x80
+}
+
 impl Case {
     pub fn run(&self, engine: &dyn Engine) -> Outcome {
-        let (lent, room) = match *self {
-            Case::Test { lent, room, .. } => (lent, room),
-            Case::Loose { room, .. } | Case::Script { room, .. } => (0, room),
+        let (lent_edges, lent_letters, room) = match *self {
+            Case::Test { lent, room, .. } => (lent, 0, room),
+            Case::Border { lent, room, .. } => (0, lent, room),
+            Case::Loose { room, .. } | Case::Compare { room, .. } | Case::Script { room, .. } => (0, 0, room),
         };
-        let mut edges: Vec<i16> = (0..lent).map(|i| filler(i) as i16).collect();
+        let mut edges: Vec<i16> = (0..lent_edges).map(|i| filler(i) as i16).collect();
+        let mut letters: Vec<u8> = (0..lent_letters).map(letter_filler).collect();
         let mut replies: Vec<u16> = (0..room).map(filler).collect();
         let returned = match self {
             Case::Test { outline, .. } => {
                 usize::from(engine.test(outline.start, &outline.letters, &mut edges, &mut replies))
             }
             Case::Loose { anchor, edges, cell, .. } => usize::from(engine.loose_query(*anchor, edges, *cell, &mut replies)),
+            Case::Border { anchor, edges, .. } => usize::from(engine.border(*anchor, edges, &mut letters, &mut replies)),
+            Case::Compare { first, second, .. } => usize::from(engine.compare(first, second, &mut replies)),
             Case::Script { bytes, .. } => engine.replay(bytes, &mut replies),
         };
-        Outcome { returned, edges, replies }
+        Outcome { returned, edges, letters, replies }
     }
 }
 
@@ -66,6 +85,8 @@ impl fmt::Display for Outcome {
         }
         let edges = self.edges.iter().enumerate().rposition(|(i, &edge)| edge != filler(i) as i16);
         write!(f, ", edges {:?}", &self.edges[..edges.map_or(0, |last| last + 1)])?;
+        let letters = self.letters.iter().enumerate().rposition(|(i, &letter)| letter != letter_filler(i));
+        write!(f, ", letters {}", bytes_as_text(&self.letters[..letters.map_or(0, |last| last + 1)]))?;
         let altered = (written..).zip(rest).filter(|&(i, &number)| number != filler(i)).count();
         write!(f, ", {altered} numbers altered behind the replies")
     }
@@ -125,6 +146,14 @@ impl fmt::Display for Case {
                 let edges = numbers_as_text(edges);
                 write!(f, "loose {} {} {edges} {} {} {room}", anchor.col, anchor.row, cell.col, cell.row)
             }
+            Case::Border { anchor, edges, lent, room } => {
+                write!(f, "border {} {} {} {lent} {room}", anchor.col, anchor.row, numbers_as_text(edges))
+            }
+            Case::Compare { first, second, room } => {
+                let (one, other) = (numbers_as_text(&first.edges), numbers_as_text(&second.edges));
+                let (a, b) = (first.anchor, second.anchor);
+                write!(f, "compare {} {} {one} {} {} {other} {room}", a.col, a.row, b.col, b.row)
+            }
             Case::Script { bytes, room } => write!(f, "script {} {room}", bytes_as_text(bytes)),
         }
     }
@@ -147,10 +176,26 @@ impl FromStr for Case {
                 cell: Point::new(number(col)?, number(row)?),
                 room: number(room)?,
             }),
+            ["border", anchor_col, anchor_row, edges, lent, room] => Ok(Case::Border {
+                anchor: Point::new(number(anchor_col)?, number(anchor_row)?),
+                edges: numbers_from_text(edges)?,
+                lent: number(lent)?,
+                room: number(room)?,
+            }),
+            ["compare", col, row, edges, col2, row2, edges2, room] => Ok(Case::Compare {
+                first: Polygon { anchor: Point::new(number(col)?, number(row)?), edges: numbers_from_text(edges)? },
+                second: Polygon { anchor: Point::new(number(col2)?, number(row2)?), edges: numbers_from_text(edges2)? },
+                room: number(room)?,
+            }),
             ["script", bytes, room] => Ok(Case::Script { bytes: bytes_from_text(bytes)?, room: number(room)? }),
             _ => {
-                Err("a line is `test COL ROW LETTERS LENT ROOM`, `loose COL ROW EDGES COL ROW ROOM` or `script BYTES ROOM`"
-                    .to_string())
+                let lines = [
+                    "test COL ROW LETTERS LENT ROOM",
+                    "loose COL ROW EDGES COL ROW ROOM",
+                    "border COL ROW EDGES LENT ROOM",
+                    "compare COL ROW EDGES COL ROW EDGES ROOM",
+                ];
+                Err(format!("a line is `{}` or `script BYTES ROOM`", lines.join("`, `")))
             }
         }
     }
@@ -169,6 +214,10 @@ mod tests {
             "loose 0 0 2,0,-2,0 254 0 7",
             "loose 3 4 - 3 4 7",
             "script x00000000000000000000000400 14",
+            "border 0 1 1,1,1,-1,-1,-1,-1,1 612 7",
+            "border 3 4 - 4 9",
+            "compare 0 0 1,1,-1,-1 0 1 - 7",
+            "script x0000000000040000000006 14",
             "script - 0",
         ];
         for line in lines {

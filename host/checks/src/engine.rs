@@ -3,6 +3,7 @@
 use robequarry::limits::{CALL, REPLY};
 use robequarry::raw::HolderMemory;
 
+use crate::case::Polygon;
 use crate::{plain, reference, Fields, Point};
 
 pub trait Engine {
@@ -11,6 +12,10 @@ pub trait Engine {
     fn test(&self, start: Point, letters: &[u8], edges: &mut [i16], reply: &mut [u16]) -> bool;
 
     fn loose_query(&self, anchor: Point, edges: &[i16], cell: Point, reply: &mut [u16]) -> bool;
+
+    fn border(&self, anchor: Point, edges: &[i16], letters: &mut [u8], reply: &mut [u16]) -> bool;
+
+    fn compare(&self, first: &Polygon, second: &Polygon, reply: &mut [u16]) -> bool;
 
     fn replay(&self, script: &[u8], replies: &mut [u16]) -> usize;
 }
@@ -40,6 +45,15 @@ impl Engine for Library {
         robequarry::raw::loose_query(anchor.col, anchor.row, edges, cell.col, cell.row, reply)
     }
 
+    fn border(&self, anchor: Point, edges: &[i16], letters: &mut [u8], reply: &mut [u16]) -> bool {
+        robequarry::raw::border(anchor.col, anchor.row, edges, letters, reply)
+    }
+
+    fn compare(&self, first: &Polygon, second: &Polygon, reply: &mut [u16]) -> bool {
+        let (a, b) = (first.anchor, second.anchor);
+        robequarry::raw::compare((a.col, a.row), &first.edges, (b.col, b.row), &second.edges, reply)
+    }
+
     fn replay(&self, script: &[u8], replies: &mut [u16]) -> usize {
         robequarry::raw::replay(script, replies)
     }
@@ -56,6 +70,14 @@ impl Engine for Live {
 
     fn loose_query(&self, anchor: Point, edges: &[i16], cell: Point, reply: &mut [u16]) -> bool {
         Library.loose_query(anchor, edges, cell, reply)
+    }
+
+    fn border(&self, anchor: Point, edges: &[i16], letters: &mut [u8], reply: &mut [u16]) -> bool {
+        Library.border(anchor, edges, letters, reply)
+    }
+
+    fn compare(&self, first: &Polygon, second: &Polygon, reply: &mut [u16]) -> bool {
+        Library.compare(first, second, reply)
     }
 
     fn replay(&self, script: &[u8], replies: &mut [u16]) -> usize {
@@ -85,6 +107,14 @@ impl Engine for Reference {
         answer(reply, || reference::calls::loose_query(anchor, edges, cell))
     }
 
+    fn border(&self, anchor: Point, edges: &[i16], letters: &mut [u8], reply: &mut [u16]) -> bool {
+        answer(reply, || reference::tracing::border(anchor, edges, letters))
+    }
+
+    fn compare(&self, first: &Polygon, second: &Polygon, reply: &mut [u16]) -> bool {
+        answer(reply, || reference::compare::compare(first, second))
+    }
+
     fn replay(&self, script: &[u8], replies: &mut [u16]) -> usize {
         reference::book::replay(script, replies)
     }
@@ -101,6 +131,14 @@ impl Engine for Plain {
 
     fn loose_query(&self, anchor: Point, edges: &[i16], cell: Point, reply: &mut [u16]) -> bool {
         answer(reply, || plain::loose_query(anchor, edges, cell))
+    }
+
+    fn border(&self, anchor: Point, edges: &[i16], letters: &mut [u8], reply: &mut [u16]) -> bool {
+        answer(reply, || plain::border(anchor, edges, letters))
+    }
+
+    fn compare(&self, first: &Polygon, second: &Polygon, reply: &mut [u16]) -> bool {
+        answer(reply, || plain::compare(first, second))
     }
 
     fn replay(&self, script: &[u8], replies: &mut [u16]) -> usize {

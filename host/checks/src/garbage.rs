@@ -22,6 +22,15 @@ pub fn lent(random: &mut Random) -> usize {
     }
 }
 
+/// The length of a list lent for letters: most often room for any outline's, sometimes less or none.
+pub fn letter_room(random: &mut Random) -> usize {
+    match random.below(4) {
+        0 => random.below(48),
+        1 => random.from_to(0, LONGEST + 68),
+        _ => LONGEST,
+    }
+}
+
 /// The length of a reply list: most often just enough.
 pub fn room(random: &mut Random) -> usize {
     match random.below(12) {
@@ -114,6 +123,15 @@ pub fn loose(random: &mut Random) -> Case {
     let reach = [1, 3, 60, 32_767][random.below(4)];
     let edges = (0..count).map(|_| (random.from_to(0, 2 * reach as usize) as i32 - reach) as i16).collect();
     Case::Loose { anchor: cell(random), edges, cell: cell(random), room: room(random) }
+}
+
+/// A border with the list of a loose query.
+pub fn border(random: &mut Random) -> Case {
+    let Case::Loose { anchor, edges, room, .. } = (if random.once_in(2) { loose(random) } else { round_walk(random) })
+    else {
+        unreachable!("those are loose queries");
+    };
+    Case::Border { anchor, edges, lent: letter_room(random), room }
 }
 
 /// A loose query whose list leads clockwise round a parallelogram, or nearly so. It may reach far off the chart, where sides have

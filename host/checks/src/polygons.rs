@@ -1,9 +1,11 @@
 //! Lists of edges that lead once round, and lists that nearly do.
 
-use crate::case::Case;
-use crate::garbage::{cell, room};
+use robequarry::limits::{LAST_CELL, LONGEST_LIST};
+
+use crate::case::{Case, Polygon};
+use crate::garbage::{cell, letter_room, room};
 use crate::random::Random;
-use crate::reference::edges::{corner_cells, sooner, Step};
+use crate::reference::edges::{bad_turning, corner_cells, sooner, steps, Step};
 use crate::Point;
 
 /// Edges that lead once round clockwise from up, or none: any steps, the one that closes them, in the order of their directions,
@@ -15,6 +17,11 @@ pub fn once_round(random: &mut Random, reach: i32, most: usize) -> Vec<i16> {
     for _ in 0..count {
         steps.push((any(reach), any(reach)));
     }
+    in_order(steps)
+}
+
+/// Steps as edges that lead once round, with the one that closes them where they do not sum to nil.
+fn in_order(mut steps: Vec<Step>) -> Vec<i16> {
     let sum = steps.iter().fold((0, 0), |sum, step| (sum.0 + step.0, sum.1 + step.1));
     steps.push((-sum.0, -sum.1));
     steps.retain(|&step| step != (0, 0));
@@ -75,10 +82,83 @@ pub fn loose(random: &mut Random) -> Case {
     near(random, edges)
 }
 
+/// A border whose list passes refusal 16, or nearly does: small, so that some outline often has it, and now and then large.
+pub fn border(random: &mut Random) -> Case {
+    let (reach, most) = [(1, 4), (1, 8), (2, 6), (4, 10), (9, 20), (60, 40), (300, 90)][random.below(7)];
+    let edges = if random.once_in(4) { nearly_once_round(random, reach, most) } else { once_round(random, reach, most) };
+    Case::Border { anchor: cell(random), edges, lent: letter_room(random), room: room(random) }
+}
+
+/// Moves an anchor so that the walk from it stays on the chart, where it can: somewhere, or close to a cell.
+fn placed(random: &mut Random, edges: &[i16], near: Option<Point>) -> Point {
+    let cells = corner_cells(Point::new(0, 0), edges);
+    let mut number = |numbers: Vec<i32>, near: Option<u16>| {
+        let (low, high) = (numbers.iter().min().expect("the anchor"), numbers.iter().max().expect("the anchor"));
+        let (first, last) = (-low, i32::from(LAST_CELL) - high);
+        if last < first {
+            return 0;
+        }
+        let any = first + random.below((last - first + 1) as usize) as i32;
+        let close = near.map(|near| i32::from(near) + random.below(7) as i32 - 3);
+        close.unwrap_or(any).clamp(first, last) as u16
+    };
+    let col = number(cells.iter().map(|cell| cell.0).collect(), near.map(|near| near.col));
+    let row = number(cells.iter().map(|cell| cell.1).collect(), near.map(|near| near.row));
+    Point::new(col, row)
+}
+
+/// The same edges, some of them changed by a little, and closed again.
+fn altered(random: &mut Random, edges: &[i16]) -> Vec<i16> {
+    let mut numbers: Vec<i16> = edges.to_vec();
+    for _ in 0..random.below(3) {
+        if let Some(number) = (!numbers.is_empty()).then(|| random.below(numbers.len())) {
+            numbers[number] = numbers[number].saturating_add([-1, 1][random.below(2)]);
+        }
+    }
+    in_order(steps(&numbers).collect())
+}
+
+/// Every list of up to four edges of at most one column and one row, and twice each, that leads once round.
+pub fn small() -> Vec<Vec<i16>> {
+    let lists = (0..5u32).flat_map(|edges| {
+        let number = |digit: u32| digit as i16 - 1;
+        (0..9u32.pow(edges)).map(move |code| (0..2 * edges).map(|i| number(code / 3u32.pow(i) % 3)).collect::<Vec<i16>>())
+    });
+    let passing: Vec<Vec<i16>> = lists.filter(|edges| !bad_turning(edges)).collect();
+    let doubled = passing.iter().map(|edges| edges.iter().map(|number| 2 * number).collect());
+    passing.iter().cloned().chain(doubled).collect()
+}
+
+/// Two lists to compare: of any size, close to one another, the second often the first with little changed; one in eight is spoilt.
+pub fn pair(random: &mut Random) -> Case {
+    let (reach, most) = [(1, 3), (1, 6), (2, 6), (3, 12), (6, 12), (9, 30), (30, 20)][random.below(7)];
+    let list = |random: &mut Random| {
+        if random.once_in(8) {
+            nearly_once_round(random, reach, most)
+        } else {
+            once_round(random, reach, most)
+        }
+    };
+    let mut one = list(random);
+    if random.once_in(100) {
+        one.resize([1, 3, LONGEST_LIST + 2][random.below(3)], 0);
+    }
+    let other = if random.once_in(3) { altered(random, &one) } else { list(random) };
+    let anchor = if random.once_in(12) { cell(random) } else { placed(random, &one, None) };
+    let second = match random.below(8) {
+        0 => anchor,
+        1 => cell(random),
+        2 => placed(random, &other, None),
+        _ => placed(random, &other, Some(anchor)),
+    };
+    let (first, second) = (Polygon { anchor, edges: one }, Polygon { anchor: second, edges: other });
+    let (first, second) = if random.once_in(2) { (first, second) } else { (second, first) };
+    Case::Compare { first, second, room: room(random) }
+}
+
 #[cfg(test)]
 mod tests {
     use super::*;
-    use crate::reference::edges::bad_turning;
 
     #[test]
     fn those_pass_and_most_of_these_do_not() {

@@ -20,6 +20,12 @@ pub fn said(word: u16) -> Fields {
     Fields { word, ..Fields::default() }
 }
 
+/// What a comparison replies: its word, and whose list is handed back.
+#[inline]
+pub fn handing(word: u16, whose: u16) -> Fields {
+    Fields { word, piece: whose, ..Fields::default() }
+}
+
 /// What a taken test replies (contract 6.1).
 #[inline]
 pub fn taken(edges: usize, anchor: Point) -> Fields {

@@ -95,6 +95,10 @@ impl Script<'_> {
         self.call(Action::Close { place: self.place });
     }
 
+    fn row(&mut self, row: u16) {
+        self.call(Action::Row { place: self.place, row });
+    }
+
     fn query(&mut self, cell: Point) {
         self.call(Action::Query { place: self.place, cell: cell.into() });
     }
@@ -159,7 +163,11 @@ impl Script<'_> {
     fn queries(&mut self) {
         for _ in 0..self.random.from_to(1, 4) {
             let cell = cell(self.random);
-            self.query(cell);
+            if self.random.once_in(3) {
+                self.row(cell.row);
+            } else {
+                self.query(cell);
+            }
         }
     }
 
@@ -173,6 +181,9 @@ impl Script<'_> {
                 let near = |x: i32, by: usize| (x - by as i32) as u16;
                 let cell = Point::new(near(at.0, self.random.below(2)), near(at.1, self.random.below(2)));
                 self.query(cell);
+                if self.random.once_in(3) {
+                    self.row(cell.row);
+                }
             }
         }
     }
@@ -206,13 +217,13 @@ impl Script<'_> {
 
     fn unknown(&mut self) {
         let mut bytes = self.any_call();
-        bytes[0] = [6, 7, 128, 255][self.random.below(4)];
+        bytes[0] = [7, 8, 128, 255][self.random.below(4)];
         self.bytes.extend(bytes);
     }
 
     fn any_bytes(&mut self) {
         for _ in 0..self.random.below(50) {
-            let byte = if self.random.once_in(3) { self.random.any() as u8 } else { self.random.below(6) as u8 };
+            let byte = if self.random.once_in(3) { self.random.any() as u8 } else { self.random.below(7) as u8 };
             self.bytes.push(byte);
         }
     }

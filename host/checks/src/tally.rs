@@ -1,13 +1,29 @@
 //! Counts of what the inputs reached.
 
-use robequarry::codec::SAME;
+use robequarry::codec::CROSSING;
 use robequarry::limits::LAST_REFUSAL;
 
 use crate::case::{Case, Outcome};
 use crate::Fields;
 
 const NUMBERS: usize = LAST_REFUSAL as usize + 1;
-const WORDS: usize = SAME as usize + 1;
+const WORDS: usize = CROSSING as usize + 1;
+
+/// The words that some input reaches, and their names.
+const NAMES: [(usize, &str); 12] = [
+    (0, "no word"),
+    (1, "inside"),
+    (2, "outside"),
+    (3, "taken"),
+    (4, "same"),
+    (5, "none"),
+    (6, "columns"),
+    (11, "equal"),
+    (12, "first within"),
+    (13, "second within"),
+    (14, "no common cell"),
+    (15, "crossing"),
+];
 
 /// How often each number and each word was replied.
 #[derive(Clone, Default)]
@@ -27,6 +43,8 @@ impl Replies {
 pub struct Tally {
     pub tests: Replies,
     pub loose_queries: Replies,
+    pub borders: Replies,
+    pub comparisons: Replies,
     pub calls: Replies,
     /// Inputs whose reply list had no room.
     pub no_room: u64,
@@ -41,6 +59,8 @@ impl Tally {
         let replies = match case {
             Case::Test { .. } => &mut self.tests,
             Case::Loose { .. } => &mut self.loose_queries,
+            Case::Border { .. } => &mut self.borders,
+            Case::Compare { .. } => &mut self.comparisons,
             Case::Script { .. } => &mut self.calls,
         };
         for reply in outcome.fields() {
@@ -59,19 +79,23 @@ impl Tally {
     /// The table of numbers and words, and a complaint for each that some input reaches and none of these did.
     pub fn report(&self) -> Vec<String> {
         // What no input reaches: a test knows no state, a loose query no outline, and a holder has room for every edge.
-        let reached: [(&str, &Replies, &[usize], &[usize]); 3] = [
+        let reached: [(&str, &Replies, &[usize], &[usize]); 5] = [
             ("tests", &self.tests, &[0, 1, 2, 3, 4, 5, 6, 8, 9, 10], &[0]),
             ("loose queries", &self.loose_queries, &[0, 10, 11, 16], &[0, 1, 2]),
-            ("calls of scripts", &self.calls, &[0, 1, 2, 3, 4, 5, 6, 8, 9, 11, 12, 13, 14, 15, 19, 20], &[0, 1, 2, 3, 4]),
+            ("borders", &self.borders, &[0, 10, 11, 16, 17, 18], &[0]),
+            ("comparisons", &self.comparisons, &[0, 10, 11, 16], &[0, 11, 12, 13, 14, 15]),
+            ("calls", &self.calls, &[0, 1, 2, 3, 4, 5, 6, 8, 9, 11, 12, 13, 14, 15, 19, 20], &[0, 1, 2, 3, 4, 5, 6]),
         ];
-        println!("{:>16} {:>14} {:>14} {:>16}", "number", "tests", "loose queries", "calls of scripts");
+        let line = |name: &str, cells: [String; 5]| {
+            println!("{name:>16}{}", cells.iter().map(|cell| format!(" {cell:>14}")).collect::<String>());
+        };
+        line("number", reached.map(|(name, ..)| name.to_string()));
         for number in 0..NUMBERS {
             let counts = reached.map(|(_, replies, numbers, _)| cell(replies.numbers[number], numbers.contains(&number)));
-            println!("{number:>16} {:>14} {:>14} {:>16}", counts[0], counts[1], counts[2]);
+            line(&number.to_string(), counts);
         }
-        for (word, name) in ["no word", "inside", "outside", "taken", "same"].iter().enumerate() {
-            let counts = reached.map(|(_, replies, _, words)| cell(replies.words[word], words.contains(&word)));
-            println!("{name:>16} {:>14} {:>14} {:>16}", counts[0], counts[1], counts[2]);
+        for (word, name) in NAMES {
+            line(name, reached.map(|(_, replies, _, words)| cell(replies.words[word], words.contains(&word))));
         }
         println!("{} inputs had no room for a reply", self.no_room);
         println!("taken outlines had up to {} letters and up to {} edges", self.longest_taken, self.most_edges);

@@ -1,33 +1,17 @@
 -- The buffer holds the border and then its pieces, so the rest of the judgement is the border's.
-use Prim.Native.Nat.{_<_}
 use native.Mathlib.Omega.{arith}
-use mathlib.Core.Path.{refl, sym}
-use lib.ListN.{length, getD}
-use lib.Dec.{eqb}
-use lib.Seq.{length-take-le}
+use lib.ListN.{length}
 use borrow.Author.Needs.{needs}
 use Rattle.chart.specs.Outline.{outline}
-use Rattle.lattice.proofs.WalkLaws.{walked}
-use Rattle.border.proofs.JudgedLaws.{Copied, letters-fit, copied-ready, copied-judged}
+use Rattle.border.proofs.JudgedLaws.{Copied, copied-ready, copied-judged}
 use Rattle.border.proofs.read.Statement.{statement}
 use Rattle.border.proofs.read.Tie as tie
 
-corner-place-requires : tie.Need-corner-place-requires
-corner-place-requires c κs = search needs
-
-corner-at-requires : tie.Need-corner-at-requires
-corner-at-requires c κs = search needs
-
--- W's letter is one of the list's
-found-lt : (c : tie.After-corner-place) → c .corner-place .result < length (c .before .before .args .letters .now)
-found-lt c =
-    let start = c .before .before in omega (arith, c .corner-place .ensures .within, walked (outline (start .args .start) (start .args .letters .now)) (start .pre) .long)
-
-shared-slice-read-forward : tie.Need-shared-slice-read-forward
-shared-slice-read-forward c = found-lt (c .before .before)
+cut-places-requires : tie.Need-cut-places-requires
+cut-places-requires c κs = search needs
 
 read-place-requires : tie.Need-read-place-requires
-read-place-requires c κs = omega (arith, found-lt (c .before .before))
+read-place-requires c κs = omega (arith, c .before .before .cut-places .ensures .within)
 
 slice-aggregate-fill-turn : tie.Need-slice-aggregate-fill-turn
 slice-aggregate-fill-turn c = search needs
@@ -37,31 +21,19 @@ fill-turn-requires c κs = search needs
 
 -- The letters from W on, read clockwise, are in the buffer
 copied : (c : tie.After-fill-turn)
-    → let west = c .before .before .before .before in
-    let start = west .before .before .before in
-    Copied (outline (start .args .start) (start .args .letters .now)) (west .before .corner-place .result) (eqb (getD (start .args .letters .now) (west .before .corner-place .result) 0) 1) (c .before .before .read-place .result) (west .corner-at .result)
-    (c .fill-turn .last .1 .1 .1 .0)
+    → let cuts = c .before .before .before .before .before in
+    let start = cuts .before .before in
+    Copied (outline (start .args .start) (start .args .letters .now)) (cuts .cut-places .result) (c .before .before .read-place .result) (c .fill-turn .last .1 .1 .1 .0)
 copied c =
     let place = c .before .before in
-    let west = place .before .before in
+    let cuts = place .before .before .before in
     record {
-      simple = west .before .before .before .pre;
-      found-at = west .before .corner-place .ensures;
-      corner = west .corner-at .ensures;
-      way = refl;
+      simple = cuts .before .before .pre;
+      cuts-of = cuts .cut-places .ensures;
       place = place .read-place .ensures;
       letters = c .fill-turn .ensures;
       sized = c .fill-turn .kept .1 .1 .1 .0;
     }
-
-array-share-prefix-buffer : tie.Need-array-share-prefix-buffer
-array-share-prefix-buffer c = letters-fit (copied (c .before))
-
-slice-aggregate-cut-places : tie.Need-slice-aggregate-cut-places
-slice-aggregate-cut-places c = sym (length-take-le _ _ (letters-fit (copied (c .before .before))))
-
-cut-places-requires : tie.Need-cut-places-requires
-cut-places-requires c κs = search needs
 
 slice-aggregate-fill-rounds : tie.Need-slice-aggregate-fill-rounds
 slice-aggregate-fill-rounds c = search needs
@@ -77,29 +49,21 @@ slice-aggregate-pieces c = search needs
 
 pieces-requires : tie.Need-pieces-requires
 pieces-requires c κs =
-    let filled = c .before .before in
-    let cuts = filled .before .before .before in
-    copied-ready (copied (cuts .before .before .before)) (cuts .cut-places .ensures) (filled .fill-rounds .ensures) (filled .fill-rounds .kept .0)
+    let filled = c .before .before in copied-ready (copied (filled .before .before .before)) (filled .fill-rounds .ensures) (filled .fill-rounds .kept .0)
 
 returns : tie.Need-returns
 returns c =
     let filled = c .before .before .before in
-    let cuts = filled .before .before .before in
-    copied-judged (copied (cuts .before .before .before)) (cuts .cut-places .ensures) (filled .fill-rounds .ensures) (filled .fill-rounds .kept .0) (c .pieces .ensures)
+    copied-judged (copied (filled .before .before .before)) (filled .fill-rounds .ensures) (filled .fill-rounds .kept .0) (c .pieces .ensures)
 
 pub read-spec : {M : Type 1} → statement M
 read-spec =
     tie.close
     (tie.spec
-    corner-place-requires
-    corner-at-requires
-    shared-slice-read-forward
+    cut-places-requires
     read-place-requires
     slice-aggregate-fill-turn
     fill-turn-requires
-    array-share-prefix-buffer
-    slice-aggregate-cut-places
-    cut-places-requires
     slice-aggregate-fill-rounds
     array-read-fill-rounds
     fill-rounds-requires

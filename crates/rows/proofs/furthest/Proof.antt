@@ -1,8 +1,7 @@
 -- The loop's invariant: the row found so far, with the rows from `k` on, leads to the furthest of all.
 use Prim.Native.Nat.{_-_, _≤_, _<_}
 use mathlib.Core.Path.{_≡_, sym, _∙_}
-use mathlib.Core.Bool.{true, false}
-use mathlib.Core.Logic.{⊎-elim}
+use mathlib.Core.Bool.{true}
 use denote.Ref.{now}
 use native.Mathlib.Omega.{arith}
 use Rattle.rows.specs.Search.{furthest}
@@ -27,8 +26,14 @@ add-k c = omega arith
 loop-holds : tie.Need-loop-holds Inv-loop μ-loop
 loop-holds c = (omega arith, omega arith, omega arith, edge-start _ _ _)
 
-leans-requires : tie.Need-leans-requires Inv-loop μ-loop
-leans-requires c κs = omega arith
+first-leaning-requires : tie.Need-first-leaning-requires Inv-loop μ-loop
+first-leaning-requires c κs = omega arith
+
+returns : tie.Need-returns Inv-loop μ-loop
+returns c =
+    let turn = c .before .before .before .loop in
+    let skipped = c .before .first-leaning .ensures in
+    (sym (turn .inv .3 ∙ skipped .same ∙ furthest-end _ _ _ _ _ (omega arith)), omega arith, omega arith)
 
 add-k-2 : tie.Need-add-k-2 Inv-loop μ-loop
 add-k-2 c = omega arith
@@ -40,25 +45,17 @@ loop-again : tie.Need-loop-again Inv-loop μ-loop
 loop-again c =
     let turn = c .before .before .before .loop in
     let args = c .before .before .before .before .args in
-    let next = furthest-next (rows (now (args .lo))) (args .i) (args .t) (turn .j) (turn .k) in
-    let leaning = c .before .leans .ensures in
-    ⊎-elim
-    (λ w. (
-      omega (arith, w .1),
-      omega (arith, w .1),
+    let skipped = c .before .first-leaning .ensures in
+    let m = c .before .first-leaning .result in
+    let l : m < args .t = omega arith in (
       omega arith,
-      cc (turn .inv .3, next true (omega arith) (sym leaning ∙ w .0 .taken), w .1),
-    ))
-    (λ w. (
-      omega (arith, w .1),
-      omega (arith, w .1),
       omega arith,
-      cc (turn .inv .3, next false (omega arith) (sym leaning ∙ w .0 .left), w .1),
-    ))
-    (c .if1 .came)
+      omega arith,
+      turn .inv .3 ∙ skipped .same ∙ furthest-next (rows (now (args .lo))) (args .i) (args .t) (turn .j) m true l (skipped .leaning l),
+    )
 
-returns : tie.Need-returns Inv-loop μ-loop
-returns c = (sym (c .before .loop .inv .3 ∙ furthest-end _ _ _ _ _ (omega arith)), omega arith, omega arith)
+returns-2 : tie.Need-returns-2 Inv-loop μ-loop
+returns-2 c = (sym (c .before .loop .inv .3 ∙ furthest-end _ _ _ _ _ (omega arith)), omega arith, omega arith)
 
 pub furthest-spec : {M : Type 1} → statement M
 furthest-spec =
@@ -69,8 +66,9 @@ furthest-spec =
     add-j
     add-k
     loop-holds
-    leans-requires
+    first-leaning-requires
+    returns
     add-k-2
     loop-less
     loop-again
-    returns)
+    returns-2)

@@ -1,6 +1,7 @@
 -- The loop's invariant: no row passed begins right of the line.
 use Prim.Native.Nat.{_-_, _≤_, _<_}
-use mathlib.Core.Path.{_≡_, sym}
+use mathlib.Core.Path.{_≡_, sym, _∙_}
+use borrow.Author.Tests.{ltb-true, ltb-false}
 use native.Mathlib.Omega.{arith}
 use denote.Ref.{now}
 use Rattle.rows.specs.Rows.{rows}
@@ -20,17 +21,14 @@ add-r c = omega arith
 loop-holds : tie.Need-loop-holds Inv-loop μ-loop
 loop-holds c = (omega arith, omega arith, no-gap-start _ _ _)
 
-crossing-requires : tie.Need-crossing-requires Inv-loop μ-loop
-crossing-requires c κs = omega arith
-
-begins-requires : tie.Need-begins-requires Inv-loop μ-loop
-begins-requires c κs = omega arith
+is-gap-requires : tie.Need-is-gap-requires Inv-loop μ-loop
+is-gap-requires c κs = omega arith
 
 returns : tie.Need-returns Inv-loop μ-loop
 returns c =
-    let turn = c .before .before .before .before .loop in
-    let args = c .before .before .before .before .before .args in (
-      sym (gapRow-found (rows (now (args .lo))) (args .i) (args .j) (turn .r) (omega arith) (omega arith) (turn .inv .2) (omega arith)),
+    let turn = c .before .before .before .loop in
+    let args = c .before .before .before .before .args in (
+      sym (gapRow-found (rows (now (args .lo))) (args .i) (args .j) (turn .r) (omega arith) (omega arith) (turn .inv .2) (ltb-true _ _ (sym (c .before .is-gap .ensures) ∙ c .if1 .taken))),
       omega arith,
       omega arith,
     )
@@ -43,9 +41,9 @@ loop-less c = omega arith
 
 loop-again : tie.Need-loop-again Inv-loop μ-loop
 loop-again c =
-    let turn = c .before .before .before .before .loop in
-    let args = c .before .before .before .before .before .args in
-    (omega arith, omega arith, no-gap-next (rows (now (args .lo))) (args .i) (args .j) (turn .r) (turn .inv .2) (omega arith))
+    let turn = c .before .before .before .loop in
+    let args = c .before .before .before .before .args in
+    (omega arith, omega arith, no-gap-next (rows (now (args .lo))) (args .i) (args .j) (turn .r) (turn .inv .2) (ltb-false _ _ (sym (c .before .is-gap .ensures) ∙ c .if1 .left)))
 
 returns-2 : tie.Need-returns-2 Inv-loop μ-loop
 returns-2 c =
@@ -62,8 +60,7 @@ gap-row-spec =
     μ-loop
     add-r
     loop-holds
-    crossing-requires
-    begins-requires
+    is-gap-requires
     returns
     add-r-2
     loop-less

@@ -1,4 +1,4 @@
--- Each arm is the call of its number, and after 0 to 5 only larger numbers are left.
+-- Each arm is the call of its number, and after 0 to 6 only larger numbers are left.
 use Rattle.wire.specs.Wire.{callOf}
 use Rattle.wire.proofs.CallLaws.{callOf-none}
 use borrow.Author.Needs.{needs}
@@ -29,8 +29,14 @@ said-requires-5 c κs = search needs
 point-requires-2 : tie.Need-point-requires-2
 point-requires-2 c κs = search needs
 
-said-requires-6 : tie.Need-said-requires-6
-said-requires-6 c κs = search needs
+ask-requires : tie.Need-ask-requires
+ask-requires c κs = search needs
+
+short-requires : tie.Need-short-requires
+short-requires c κs = search needs
+
+ask-requires-2 : tie.Need-ask-requires-2
+ask-requires-2 c κs = search needs
 
 returns : tie.Need-returns
 unfolding callOf
@@ -54,10 +60,15 @@ returns-5 c = rw (c .said5 .ensures, c .before .match .keys5)
 
 returns-6 : tie.Need-returns-6
 unfolding callOf
-returns-6 c = rw (c .said6 .ensures, c .before .point2 .ensures, c .before .before .match .keys6)
+returns-6 c = rw (c .ask .ensures, c .before .point2 .ensures, c .before .before .match .keys6)
 
 returns-7 : tie.Need-returns-7
-returns-7 c = let r = c .match .rest in callOf-none _ _ _ _ _ (r .0 .0 .0 .0 .0 .1) (r .0 .0 .0 .0 .1) (r .0 .0 .0 .1) (r .0 .0 .1) (r .0 .1) (r .1)
+unfolding callOf
+returns-7 c = rw (c .ask2 .ensures, c .before .short .ensures, c .before .before .match .keys7)
+
+returns-8 : tie.Need-returns-8
+returns-8 c =
+    let r = c .match .rest in callOf-none _ _ _ _ _ (r .0 .0 .0 .0 .0 .0 .1) (r .0 .0 .0 .0 .0 .1) (r .0 .0 .0 .0 .1) (r .0 .0 .0 .1) (r .0 .0 .1) (r .0 .1) (r .1)
 
 pub call-of-spec : {M : Type 1} → statement M
 call-of-spec =
@@ -71,11 +82,14 @@ call-of-spec =
     said-requires-4
     said-requires-5
     point-requires-2
-    said-requires-6
+    ask-requires
+    short-requires
+    ask-requires-2
     returns
     returns-2
     returns-3
     returns-4
     returns-5
     returns-6
-    returns-7)
+    returns-7
+    returns-8)

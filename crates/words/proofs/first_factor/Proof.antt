@@ -4,7 +4,7 @@ use native.Mathlib.Omega.{arith}
 use borrow.Author.Needs.{needs}
 use mathlib.Core.Logic.{⊎-elim}
 use lib.ListN.{length}
-use Rattle.words.proofs.FirstFactor.{Search, search-none, search-start, search-fits, search-larger, search-same, search-smaller, search-end}
+use Rattle.words.proofs.FirstFactor.{Search, search-none, search-start, search-fits, search-end, pair-same, pair-larger, pair-others, pair-smaller}
 use Rattle.words.proofs.first_factor.Statement.{statement}
 use Rattle.words.proofs.first_factor.Tie as tie
 
@@ -29,30 +29,32 @@ rank-requires c κs = search needs
 loop-holds : tie.Need-loop-holds Inv-loop μ-loop
 loop-holds c = rw (c .rank .ensures) (search-start _ _ _ (c .before .before .if1 .left))
 
-shared-slice-read-rank-2 : tie.Need-shared-slice-read-rank-2 Inv-loop μ-loop
-shared-slice-read-rank-2 c = search needs
+shared-slice-read-a : tie.Need-shared-slice-read-a Inv-loop μ-loop
+shared-slice-read-a c = search needs
+
+shared-slice-read-letter : tie.Need-shared-slice-read-letter Inv-loop μ-loop
+shared-slice-read-letter c = search needs
 
 rank-requires-2 : tie.Need-rank-requires-2 Inv-loop μ-loop
 rank-requires-2 c κs = search needs
 
-shared-slice-read-rank-3 : tie.Need-shared-slice-read-rank-3 Inv-loop μ-loop
-shared-slice-read-rank-3 c = search needs
-
-rank-requires-3 : tie.Need-rank-requires-3 Inv-loop μ-loop
-rank-requires-3 c κs = search needs
-
-add-laters : tie.Need-add-laters Inv-loop μ-loop
-add-laters c =
-    let turn = c .before .before .before .before .before .before in
-    omega (arith, search-fits (turn .before .loop .inv) (turn .loop-test .taken) (c .before .before .rank3 .ensures))
-
 add-i : tie.Need-add-i Inv-loop μ-loop
 add-i c = search needs
 
+add-laters : tie.Need-add-laters Inv-loop μ-loop
+add-laters c =
+    let ranked = c .before .before in
+    let turn = ranked .before .before .before in
+    omega (arith, search-fits (turn .before .loop .inv) (turn .loop-test .taken) (ranked .rank2 .ensures))
+
+add-i-2 : tie.Need-add-i-2 Inv-loop μ-loop
+add-i-2 c = search needs
+
 add-read : tie.Need-add-read Inv-loop μ-loop
 add-read c =
-    let turn = c .before .before .before .before .before .before in
-    omega (arith, search-fits (turn .before .loop .inv) (turn .loop-test .taken) (c .before .before .rank3 .ensures))
+    let ranked = c .before in
+    let turn = ranked .before .before .before in
+    omega (arith, search-fits (turn .before .loop .inv) (turn .loop-test .taken) (ranked .rank2 .ensures))
 
 add-j-2 : tie.Need-add-j-2 Inv-loop μ-loop
 add-j-2 c = search needs
@@ -62,14 +64,17 @@ loop-less c = search needs
 
 loop-again : tie.Need-loop-again Inv-loop μ-loop
 loop-again c =
-    let turn = c .before .before .before .before .before .before in
+    let ranked = c .before in
+    let turn = ranked .before .before .before in
     let s = turn .before .loop .inv in
     let h = turn .loop-test .taken in
-    let b = c .before .before .rank3 .ensures in
+    let b = ranked .rank2 .ensures in
     ⊎-elim
-    (λ w. rw (w .1, w .2, b) (search-larger s h (omega (arith, w .0 .taken))))
-    (λ w. rw (w .1, w .2, b) (search-same s h (omega (arith, w .0 .left)) (omega (arith, w .0 .left))))
-    (c .if3 .came)
+    (λ w. rw (w .1, w .2, b) (pair-same s h (w .0 .taken)))
+    (⊎-elim
+    (λ w. rw (w .2, w .3, b) (pair-larger s h (w .0 .left) (w .1 .taken)))
+    (λ w. rw (w .3, w .4, b) (pair-others s h (w .1 .left) (w .2 .left))))
+    (c .if2 .came)
 
 sub-length : tie.Need-sub-length Inv-loop μ-loop
 sub-length c = search needs
@@ -85,7 +90,7 @@ returns-2 c =
     let s = c .before .loop .inv in
     ⊎-elim
     (λ w. search-end s (w .left))
-    (λ w. search-smaller s (w .0 .taken) (omega (arith, w .2 .ensures, w .4 .ensures, w .5 .taken)))
+    (λ w. pair-smaller s (w .0 .taken) (w .5 .left) (w .6 .taken))
     (c .loop-test .came)
 
 pub first-factor-spec : {M : Type 1} → statement M
@@ -99,12 +104,12 @@ first-factor-spec =
     shared-slice-read-rank
     rank-requires
     loop-holds
-    shared-slice-read-rank-2
+    shared-slice-read-a
+    shared-slice-read-letter
     rank-requires-2
-    shared-slice-read-rank-3
-    rank-requires-3
-    add-laters
     add-i
+    add-laters
+    add-i-2
     add-read
     add-j-2
     loop-less

@@ -11,16 +11,18 @@
 //! - `cells/library` and `border/library`: how many times as long hull-and-count takes, with the hull of all enclosed cells, and
 //!   with the hull of the border cells alone
 //! - `refusal/taking`: of the library, to the outlines of the same length that were flipped
+//! - `counting/library`: how many times as long it takes to compare two hulls by testing every cell of both in plain Rust
 //! - `600/150` and the like: of the library, to outlines of fewer letters
 
 use std::env;
 use std::hint::black_box;
 use std::process::exit;
 
-use robequarry::limits::{CALL, LONGEST_LIST, REPLY, SIDE};
+use robequarry::limits::{CALL, LONGEST, LONGEST_LIST, REPLY, SIDE};
 use robequarry::pile::LAYERS;
 use robequarry::raw::HolderMemory;
 use robequarry::{Action, Call, Edges, Holder, Pile, PileCall};
+use robequarry_checks::case::Polygon;
 use robequarry_checks::draw::{reversed, round_outline, with_a_cell_flipped};
 use robequarry_checks::engine::{Engine, Library, Plain};
 use robequarry_checks::hull_and_count::{is_convex, Of};
@@ -40,17 +42,19 @@ const LENGTHS: [usize; 4] = [100, 150, 250, 600];
 /// Letters of the lists that are no outlines.
 const SPOILT_LENGTHS: [usize; 2] = [250, 600];
 
-/// Letters of the outline that is drawn and queried.
+/// Letters of the longest outlines, and of the one that is drawn and queried.
 const DRAWN: usize = 600;
 
 /// The name of the ratio to the library's algorithm in plain Rust.
 const TO_PLAIN: &str = "library/plain";
 
 const PLAIN_GOAL: Goal = Goal::AtMost(1.1);
-const HULL_GOAL: Goal = Goal::AtLeast(10.0);
-const REFUSAL_GOAL: Goal = Goal::AtMost(3.0);
+/// Against the hull of all enclosed cells, of the longest outlines, whose blocks are the largest; against that of the border cells.
+const CELLS_GOAL: Goal = Goal::AtLeast(15.0);
+const BORDER_GOAL: Goal = Goal::AtLeast(2.0);
+const REFUSAL_GOAL: Goal = Goal::AtMost(2.0);
 /// For four times the letters.
-const GROWTH_GOAL: Goal = Goal::AtMost(4.4);
+const GROWTH_GOAL: Goal = Goal::AtMost(4.2);
 
 fn main() {
     let arguments: Vec<String> = env::args().skip(1).collect();
@@ -67,6 +71,7 @@ fn main() {
     bench.outlines(&mut random);
     bench.spoilt_lists(&mut random);
     bench.calls(&mut random);
+    bench.comparisons(&mut random);
     bench.piles(&mut random);
     bench.report.end();
 }
@@ -99,10 +104,11 @@ impl Bench {
     fn outlines(&mut self, random: &mut Random) {
         let takings = LENGTHS.map(|letters| Set::new("taken", letters, || taken(random, letters)));
         for taken in &takings {
-            self.against_plain_and_hulls(taken, Some(HULL_GOAL));
+            let cells_goal = (taken.letters == DRAWN).then_some(CELLS_GOAL);
+            self.against_plain_and_hulls(taken, cells_goal, Some(BORDER_GOAL));
             for (name, tries) in [("one cell flipped", 1), ("one cell flipped high up", 40)] {
                 let flipped = taken.flipped(name, random, tries);
-                self.against_plain_and_hulls(&flipped, None);
+                self.against_plain_and_hulls(&flipped, None, None);
                 self.against_itself(&flipped, taken, "refusal/taking".to_string(), REFUSAL_GOAL);
             }
         }
@@ -133,7 +139,6 @@ impl Bench {
         }
     }
 
-    /// Queries, adds and a close, of one outline.
     /// Calls on a pile of sixteen full layers, each an outline of as many letters: the check passes, so it asks every section.
     fn piles(&mut self, random: &mut Random) {
         let outline = taken(random, DRAWN);
@@ -145,17 +150,18 @@ impl Bench {
         }
         let query = PileCall::Query(7, random.cell().into());
         for (name, call) in [("pile: check", PileCall::Check), ("pile: query", query), ("pile: set", set(7))] {
-            let mut proved = || {
+            let mut by_library = || {
                 black_box(library.call(&call));
             };
-            let mut rival = || {
+            let mut by_plain = || {
                 black_box(plain.call(&call));
             };
-            let race = race([&mut proved, &mut rival]);
+            let race = race([&mut by_library, &mut by_plain]);
             self.add_call(name, (race.least(0), race.ratio(0, 1)));
         }
     }
 
+    /// Queries, adds, a close and a border, of one outline.
     fn calls(&mut self, random: &mut Random) {
         let outline = taken(random, DRAWN);
         let cells: Vec<Point> = (0..1024).map(|_| random.cell()).collect();
@@ -169,10 +175,13 @@ impl Bench {
         let asked = [&closed[..], &queries].concat();
 
         self.add_call("loose query", loose_query(&outline, &cells));
+        self.add_call("border from edges", border(&outline));
         self.add_call("query in a replay", each_more(&closed, &asked, cells.len()));
         self.add_call("add in a replay", each_more(&begun, &drawn, outline.letters.len()));
         self.add_call("begin, adds and close", race_replays(&closed));
         self.add_call("live query", live(&closed, &queries));
+        let rows = Call::script((0..SIDE).map(|row| Action::Row { place, row }.by(party)));
+        self.add_call("live row", live(&closed, &rows));
         // A letter that is turned back, and a full draft, cost as much as one that is added; so the draft may stay as it is.
         self.add_call("live add", live(&begun, &adds));
         self.add_call("live begin, adds and close", live_round(&closed));
@@ -181,8 +190,26 @@ impl Bench {
         self.report.add(Row { name: "Holder::query", letters: DRAWN, nanoseconds: query, ratio: None });
     }
 
+    /// The edges of taken outlines compared: one with itself, with one that it holds, with one that crosses it, and with one far off.
+    fn comparisons(&mut self, random: &mut Random) {
+        let (large, small) = (polygon(&taken(random, DRAWN)), polygon(&taken(random, 250)));
+        let beside = |polygon: &Polygon, anchor| Polygon { anchor, edges: polygon.edges.clone() };
+        let (low, high) = (beside(&small, Point::new(1, 60)), beside(&small, Point::new(150, 75)));
+        let across = Polygon { anchor: Point::new(0, 100), edges: vec![0, 20, 200, 0, 0, -20, -200, 0] };
+        for (name, first, second) in [
+            ("compare: equal", &large, &large),
+            ("compare: within", &small, &large),
+            ("compare: crossing", &large, &across),
+            ("compare: no common cell", &low, &high),
+        ] {
+            let race = race([&mut compare_by(&Library, first, second), &mut compare_by(&Plain, first, second)]);
+            let ratio = Some(Ratio::new("counting/library", race.ratio(1, 0), None));
+            self.report.add(Row { name, letters: DRAWN, nanoseconds: race.least(0), ratio });
+        }
+    }
+
     /// Races all rivals over a set of outlines.
-    fn against_plain_and_hulls(&mut self, set: &Set, hull_goal: Option<Goal>) {
+    fn against_plain_and_hulls(&mut self, set: &Set, cells_goal: Option<Goal>, border_goal: Option<Goal>) {
         let race = race([
             &mut test_by(&Library, set),
             &mut test_by(&Plain, set),
@@ -190,8 +217,8 @@ impl Bench {
             &mut hull_by(Of::Border, set),
         ]);
         self.add_set(set, &race, Ratio::new(TO_PLAIN, race.ratio(0, 1), Some(PLAIN_GOAL)));
-        self.add_set(set, &race, Ratio::new("cells/library", race.ratio(2, 0), hull_goal));
-        self.add_set(set, &race, Ratio::new("border/library", race.ratio(3, 0), hull_goal));
+        self.add_set(set, &race, Ratio::new("cells/library", race.ratio(2, 0), cells_goal));
+        self.add_set(set, &race, Ratio::new("border/library", race.ratio(3, 0), border_goal));
     }
 
     /// Races the library and its algorithm in plain Rust over a set of lists.
@@ -279,6 +306,41 @@ fn query_by<'a>(engine: &'a dyn Engine, anchor: Point, edges: &'a [i16], cells: 
     move || {
         let cell = *turns.next().expect("there are cells");
         engine.loose_query(anchor, black_box(edges), black_box(cell), &mut reply);
+        black_box(&reply);
+    }
+}
+
+fn border(outline: &Outline) -> Timed {
+    let mut list = [0; LONGEST_LIST];
+    let reply = plain::test(outline.start, &outline.letters, &mut list);
+    let edges = &list[..2 * usize::from(reply.place)];
+    let anchor = Point::new(reply.col, reply.row);
+    let mut library = border_by(&Library, anchor, edges);
+    let mut plain = border_by(&Plain, anchor, edges);
+    let race = race([&mut library, &mut plain]);
+    (race.least(0), race.ratio(0, 1))
+}
+
+fn border_by<'a>(engine: &'a dyn Engine, anchor: Point, edges: &'a [i16]) -> impl FnMut() + 'a {
+    let mut letters = [0; LONGEST];
+    let mut reply = [0; REPLY];
+    move || {
+        engine.border(anchor, black_box(edges), &mut letters, &mut reply);
+        black_box((&letters, &reply));
+    }
+}
+
+/// The anchor and the edges of a taken outline.
+fn polygon(outline: &Outline) -> Polygon {
+    let mut list = [0; LONGEST_LIST];
+    let reply = plain::test(outline.start, &outline.letters, &mut list);
+    Polygon { anchor: Point::new(reply.col, reply.row), edges: list[..2 * usize::from(reply.place)].to_vec() }
+}
+
+fn compare_by<'a>(engine: &'a dyn Engine, first: &'a Polygon, second: &'a Polygon) -> impl FnMut() + 'a {
+    let mut reply = [0; REPLY];
+    move || {
+        engine.compare(black_box(first), black_box(second), &mut reply);
         black_box(&reply);
     }
 }

@@ -11,8 +11,8 @@ use std::process::exit;
 use std::time::Instant;
 
 use robequarry::codec::INSIDE;
-use robequarry::limits::{LAST_CELL, LAST_CORNER, LONGEST_LIST, REPLY, SIDE};
-use robequarry_checks::case::Case;
+use robequarry::limits::{LAST_CELL, LAST_CORNER, LONGEST, LONGEST_LIST, REPLY, SIDE};
+use robequarry_checks::case::{Case, Polygon};
 use robequarry_checks::draw::{rotated, Shape};
 use robequarry_checks::engine::{Engine, Library, Live, Plain, Reference};
 use robequarry_checks::garbage;
@@ -21,6 +21,7 @@ use robequarry_checks::plain;
 use robequarry_checks::polygons;
 use robequarry_checks::random::Random;
 use robequarry_checks::reference;
+use robequarry_checks::reference::border::reading;
 use robequarry_checks::reference::cells::Enclosed;
 use robequarry_checks::scripts;
 use robequarry_checks::tally::Tally;
@@ -30,6 +31,8 @@ use robequarry_checks::{Outline, Point};
 const SEED: u64 = 1;
 const SPOILT: usize = 120_000;
 const LOOSE: usize = 120_000;
+const BORDERS: usize = 60_000;
+const COMPARISONS: usize = 16_000;
 const SCRIPTS: usize = 24_000;
 const PILES: usize = 300;
 
@@ -86,8 +89,11 @@ fn run(seed: u64) {
     }
     run.random_section(&format!("{SPOILT} spoilt lists of letters"), seed + 100, spoilt);
     run.random_section(&format!("{LOOSE} loose queries"), seed + 200, loose_queries);
+    run.random_section(&format!("{BORDERS} borders"), seed + 400, borders);
+    run.section("every two small polygons", every_two_small_polygons);
+    run.random_section(&format!("{COMPARISONS} comparisons"), seed + 250, comparisons);
     run.random_section(&format!("{SCRIPTS} scripts of calls"), seed + 300, random_scripts);
-    run.random_section(&format!("{PILES} lists of calls on a pile"), seed + 400, random_piles);
+    run.random_section(&format!("{PILES} lists of calls on a pile"), seed + 500, random_piles);
 
     let complaints = run.tally.report();
     complaints.iter().for_each(|complaint| println!("{complaint}"));
@@ -208,11 +214,27 @@ fn taken_exactly_if_no_cell_is_missing(outline: &Outline, number: u16) {
     }
 }
 
-/// Loose queries with the edges of a taken outline: inside means enclosed.
+/// The border of a taken outline's edges is that outline, clockwise from W (contract 6.3).
+fn border_again(run: &mut Run, outline: &Outline, anchor: Point, edges: &[i16], random: &mut Random) {
+    let count = outline.letters.len();
+    let lent = [count, count + 5, count - 1, LONGEST][random.below(4)];
+    run.compare(&Case::Border { anchor, edges: edges.to_vec(), lent, room: REPLY });
+    let mut letters = vec![0; count];
+    let reply = robequarry_checks::reference::tracing::border(anchor, edges, &mut letters);
+    let reading = Outline { start: outline.start, letters: reading(outline.start, &outline.letters) };
+    let own = (0..count).map(|place| rotated(&reading, place)).find(|turned| turned.start == anchor);
+    if (reply.number, usize::from(reply.place)) != (0, count) || own.map(|turned| turned.letters) != Some(letters) {
+        println!("the reference contradicts contract 6.3: {outline:?}");
+        exit(1);
+    }
+}
+
+/// Loose queries with the edges of a taken outline: inside means enclosed. And its border.
 fn cells_against_edges(run: &mut Run, outline: &Outline, random: &mut Random) {
     let tested = robequarry_checks::reference::calls::test(outline.start, &outline.letters);
     let edges: Vec<i16> = tested.edges.iter().flat_map(|&(cols, rows)| [cols as i16, rows as i16]).collect();
     let anchor = Point::new(tested.reply.col, tested.reply.row);
+    border_again(run, outline, anchor, &edges, random);
     let enclosed = Enclosed::of(outline.start, &outline.letters);
     for _ in 0..4 {
         let reach = [3, 20, usize::from(SIDE)][random.below(3)];
@@ -242,6 +264,35 @@ fn loose_queries(run: &mut Run, random: &mut Random) {
             1 => garbage::round_walk(random),
             _ => polygons::loose(random),
         };
+        run.compare(&case);
+    }
+}
+
+fn borders(run: &mut Run, random: &mut Random) {
+    for i in 0..BORDERS {
+        let case = if i % 4 == 0 { garbage::border(random) } else { polygons::border(random) };
+        run.compare(&case);
+    }
+}
+
+/// Every two of the polygons with edges of at most one column and one row, the second moved by up to two; touching, nested, equal and
+/// crossing without a common cell among them.
+fn every_two_small_polygons(run: &mut Run) {
+    let small = polygons::small();
+    for one in &small {
+        for other in &small {
+            for code in 0..25 {
+                let first = Polygon { anchor: Point::new(4, 4), edges: one.clone() };
+                let second = Polygon { anchor: Point::new(2 + code % 5, 2 + code / 5), edges: other.clone() };
+                run.compare(&Case::Compare { first, second, room: REPLY });
+            }
+        }
+    }
+}
+
+fn comparisons(run: &mut Run, random: &mut Random) {
+    for _ in 0..COMPARISONS {
+        let case = polygons::pair(random);
         run.compare(&case);
     }
 }

@@ -2,7 +2,7 @@
 
 use robequarry::limits::{LAST_CORNER, LONGEST};
 
-use super::chart::{step, WIDTH};
+use super::chart::WIDTH;
 use crate::Point;
 
 /// The two letters of a piece.
@@ -23,8 +23,6 @@ pub const PAIRS: [Pair; 4] = [
 pub const COLS: [i16; 4] = [1, 0, -1, 0];
 pub const ROWS: [i16; 4] = [0, 1, 0, -1];
 
-const LAST: u32 = LAST_CORNER as u32;
-
 /// The letters of an outline past refusal 6, read clockwise from W on.
 pub struct Turn {
     letters: [u8; LONGEST],
@@ -34,23 +32,32 @@ pub struct Turn {
     /// The place of the letter that leaves W, or, read backward, of the one that reaches it.
     west_place: usize,
     backward: bool,
+    /// The five cut places, the last of which is W's again. The outline is clockwise, so they rise.
+    pub cut_places: [usize; 5],
 }
 
 impl Turn {
     pub fn new(start: Point, letters: &[u8]) -> Self {
-        let (west, west_place) = west(start, letters);
-        let backward = letters[west_place] != 1;
-        let mut turn = Turn { letters: [0; LONGEST], count: letters.len(), west, west_place, backward };
-        let (before, after) = letters.split_at(west_place);
+        let corners = Corners::new(start, letters);
+        let (number, place) = corners.west;
+        let west = Point::new(number / WIDTH as u16, number % WIDTH as u16);
+        let count = letters.len();
+        let backward = letters[place] != 1;
+        // As far ahead of W, or, read backward, as far behind it.
+        let ahead = |from: usize, to: usize| if from <= to { to - from } else { to + count - from };
+        let read = |(_, to)| if backward { ahead(to, place) } else { ahead(place, to) };
+        let cut_places = [0, read(corners.north), read(corners.east), read(corners.south), count];
+        let mut turn = Turn { letters: [0; LONGEST], count, west, west_place: place, backward, cut_places };
+        let (before, after) = letters.split_at(place);
         if backward {
             let back = before.iter().rev().chain(after.iter().rev());
             for (to, letter) in turn.letters.iter_mut().zip(back) {
                 *to = letter ^ 2;
             }
-            turn.west_place = if west_place == 0 { letters.len() - 1 } else { west_place - 1 };
+            turn.west_place = if place == 0 { count - 1 } else { place - 1 };
         } else {
             turn.letters[..after.len()].copy_from_slice(after);
-            turn.letters[after.len()..letters.len()].copy_from_slice(before);
+            turn.letters[after.len()..count].copy_from_slice(before);
         }
         turn
     }
@@ -69,49 +76,55 @@ impl Turn {
             true => west + count - place,
         }
     }
+}
 
-    /// The five cut places, the last of which is W's again. The outline is clockwise, so they rise.
-    pub fn cut_places(&self) -> [usize; 5] {
-        let mut at = (u32::from(self.west.col), u32::from(self.west.row));
-        let (mut north, mut east, mut south) = ((0, 0), (0, 0), (0, 0));
-        for (place, &letter) in self.letters().iter().enumerate() {
-            let (col, row) = at;
-            keep_largest(&mut north, key(row, LAST - col), place);
-            keep_largest(&mut east, key(col, row), place);
-            keep_largest(&mut south, key(LAST - row, col), place);
-            at = step(at, letter);
+/// A number of a corner, and the place of the letter that leaves it.
+type Numbered = (u16, usize);
+
+/// W, N, E and S of an outline, in one walk.
+struct Corners {
+    west: Numbered,
+    north: Numbered,
+    east: Numbered,
+    south: Numbered,
+}
+
+impl Corners {
+    fn new(start: Point, letters: &[u8]) -> Self {
+        let (mut by_col, mut by_row) = (col_number(start), row_number(start));
+        let (mut west, mut north, mut east, mut south) = ((by_col, 0), (by_row, 0), (by_col, 0), (by_row, 0));
+        for (place, &letter) in letters.iter().enumerate() {
+            if by_col < west.0 {
+                west = (by_col, place);
+            }
+            if by_row < north.0 {
+                north = (by_row, place);
+            }
+            if by_col > east.0 {
+                east = (by_col, place);
+            }
+            if by_row > south.0 {
+                south = (by_row, place);
+            }
+            by_col = by_col.wrapping_add(COL_STEPS[usize::from(letter & 3)]);
+            by_row = by_row.wrapping_add(ROW_STEPS[usize::from(letter & 3)]);
         }
-        [0, north.1, east.1, south.1, self.count]
+        Corners { west, north, east, south }
     }
 }
 
-/// W, and the place of the letter that leaves it.
-fn west(start: Point, letters: &[u8]) -> (Point, usize) {
-    let mut at = (u32::from(start.col), u32::from(start.row));
-    let mut least = (u32::MAX, 0);
-    for (place, &letter) in letters.iter().enumerate() {
-        let key = key(at.0, at.1);
-        if key < least.0 {
-            least = (key, place);
-        }
-        at = step(at, letter);
-    }
-    (Point::new((least.0 / WIDTH as u32) as u16, (least.0 % WIDTH as u32) as u16), least.1)
+/// The number of a corner by columns: W has the least, E the greatest; and by rows from the top: N has the least, S the greatest.
+fn col_number(corner: Point) -> u16 {
+    corner.col * WIDTH as u16 + corner.row
 }
 
-/// A key by which corners are ordered: by their first number, then by their second.
-#[inline]
-fn key(first: u32, second: u32) -> u32 {
-    first * WIDTH as u32 + second
+fn row_number(corner: Point) -> u16 {
+    (LAST_CORNER - corner.row) * WIDTH as u16 + corner.col
 }
 
-/// Keeps the larger of two keys, with its place.
-#[inline]
-fn keep_largest(kept: &mut (u32, usize), key: u32, place: usize) {
-    if key > kept.0 {
-        *kept = (key, place);
-    }
-}
+/// What a letter adds to either.
+const COL_STEPS: [u16; 4] = [WIDTH as u16, 1, (WIDTH as u16).wrapping_neg(), 1u16.wrapping_neg()];
+const ROW_STEPS: [u16; 4] = [1, (WIDTH as u16).wrapping_neg(), 1u16.wrapping_neg(), WIDTH as u16];
 
 /// The index of a piece's first letter that is none of its two.
 pub fn first_stray(piece: &[u8], pair: Pair) -> Option<usize> {

@@ -12,6 +12,10 @@ const CORNERS: usize = WIDTH * WIDTH;
 /// The number of a corner is its row times the width and its column; a letter adds one of these to it.
 const STEPS: [u16; 4] = [1, WIDTH as u16, 1u16.wrapping_neg(), (WIDTH as u16).wrapping_neg()];
 
+/// The same with sixteen bits for the row and for the column, so that a walk off the chart shows in the upper eight of either.
+const WIDE_STEPS: [u32; 4] = [1, 1 << 16, 1u32.wrapping_neg(), (1u32 << 16).wrapping_neg()];
+const OFF_CHART: u32 = 0xFF00_FF00;
+
 /// The corner that a letter reaches. Above the last corner in a number, beyond the sign too, if it is off the chart.
 #[inline]
 pub fn step((col, row): (u32, u32), letter: u8) -> (u32, u32) {
@@ -34,8 +38,10 @@ pub fn refusal(start: Point, letters: &[u8]) -> Option<Fields> {
     if is_off_chart(start) {
         return Some(numbered(2));
     }
-    if let Some(place) = letters.iter().position(|&letter| letter > LAST_LETTER) {
-        return Some(placed(3, place));
+    // All letters at once, and one by one only where there is a place to find.
+    if letters.iter().fold(0, |all, &letter| all | letter) > LAST_LETTER {
+        let place = letters.iter().position(|&letter| letter > LAST_LETTER);
+        return place.map(|place| placed(3, place));
     }
     match end_of_walk(start, letters) {
         Err(place) => return Some(placed(4, place)),
@@ -47,27 +53,31 @@ pub fn refusal(start: Point, letters: &[u8]) -> Option<Fields> {
 
 /// The corner at which the walk ends, or the place of the first letter that leaves the chart.
 fn end_of_walk(start: Point, letters: &[u8]) -> Result<Point, usize> {
-    let mut at = (u32::from(start.col), u32::from(start.row));
+    let mut at = u32::from(start.row) << 16 | u32::from(start.col);
     for (place, &letter) in letters.iter().enumerate() {
-        at = step(at, letter);
-        if (at.0 | at.1) > u32::from(LAST_CORNER) {
+        at = at.wrapping_add(WIDE_STEPS[usize::from(letter & 3)]);
+        if at & OFF_CHART != 0 {
             return Err(place);
         }
     }
-    Ok(Point::new(at.0 as u16, at.1 as u16))
+    Ok(Point::new(at as u16, (at >> 16) as u16))
 }
 
-/// The place of the first letter, the last left out, that reaches a corner already met.
+/// The place of the first letter, the last left out, that reaches a corner already met. One bit a corner, those of neighbours in
+/// different words.
 fn first_touch(start: Point, letters: &[u8]) -> Option<usize> {
-    let mut met = [false; CORNERS];
+    const WORDS: usize = CORNERS / 64;
+    let mut met = [0u64; WORDS];
     let mut at = start.row * WIDTH as u16 + start.col;
-    met[usize::from(at)] = true;
+    met[usize::from(at) % WORDS] = 1 << (usize::from(at) / WORDS);
     for (place, &letter) in letters[..letters.len() - 1].iter().enumerate() {
         at = at.wrapping_add(STEPS[usize::from(letter & 3)]);
-        if met[usize::from(at)] {
+        let word = &mut met[usize::from(at) % WORDS];
+        let bit = 1 << (usize::from(at) / WORDS);
+        if *word & bit != 0 {
             return Some(place);
         }
-        met[usize::from(at)] = true;
+        *word |= bit;
     }
     None
 }

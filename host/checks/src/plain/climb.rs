@@ -55,9 +55,8 @@ fn climb(first: &Columns, bottom: usize, top: usize) -> Option<(i32, usize)> {
     let mut i = bottom;
     while i + 1 < top {
         let j = furthest_left(first, i, top);
-        let gap = (i + 1..j).map(|row| (crossing(first, i, j, row), row)).find(|&(col, row)| col < first[row]);
-        if gap.is_some() {
-            return gap;
+        if let Some(row) = (i + 1..j).find(|&row| is_gap(first, i, j, row)) {
+            return Some((crossing(first, i, j, row), row));
         }
         i = j;
     }
@@ -74,6 +73,12 @@ fn furthest_left(first: &Columns, i: usize, top: usize) -> usize {
         }
     }
     j
+}
+
+/// Whether a row begins right of the first column that is not left of the line from row `i` to row `j`: with no division.
+fn is_gap(first: &Columns, i: usize, j: usize, row: usize) -> bool {
+    let (below, above, height) = ((row - i) as i32, (j - row) as i32, (j - i) as i32);
+    above * first[i] + below * first[j] + height - 1 < first[row] * height
 }
 
 /// The first column of a row that is not left of the line from row `i` to row `j`.

@@ -1,7 +1,7 @@
 //! The holder, and a script of calls on it.
 
-use robequarry::codec::{INSIDE, OUTSIDE, SAME, TAKEN};
-use robequarry::limits::{CALL, LAST_LETTER, LONGEST, MOST_NUMBERS, PARTIES, PLACES, REPLY};
+use robequarry::codec::{COLUMNS, INSIDE, NONE, OUTSIDE, SAME, TAKEN};
+use robequarry::limits::{CALL, LAST_LETTER, LONGEST, MOST_NUMBERS, PARTIES, PLACES, REPLY, SIDE};
 use robequarry::{Action, Call};
 
 use super::test::{find_edges, Edges};
@@ -20,6 +20,7 @@ struct Work {
     taken: bool,
     anchor: Point,
     edges: Edges,
+    spans: [(u8, u8); SIDE as usize],
 }
 
 struct Party {
@@ -55,6 +56,7 @@ impl Holder {
             Action::Clear { place } => party.clear(place.into()),
             Action::Close { place } => party.close(place.into()),
             Action::Query { place, cell } => party.query(place.into(), cell.into()),
+            Action::Row { place, row } => party.row(place.into(), row),
         }
     }
 
@@ -83,6 +85,7 @@ impl Party {
                 taken: false,
                 anchor: nowhere,
                 edges: Edges { numbers: [0; MOST_NUMBERS], count: 0 },
+                spans: [(0, 0); SIDE as usize],
             }),
         }
     }
@@ -151,6 +154,7 @@ impl Party {
         work.taken = true;
         work.anchor = anchor;
         work.edges = edges;
+        work.spans = spans(draft.start, letters);
         Fields { word: if same { SAME } else { TAKEN }, ..taken(work.edges.count, anchor) }
     }
 
@@ -167,6 +171,47 @@ impl Party {
         let inside = loose::is_inside(work.anchor, work.edges.list(), cell);
         said(if inside { INSIDE } else { OUTSIDE })
     }
+
+    fn row(&self, place: usize, row: u16) -> Fields {
+        let Some(work) = self.works.get(place) else {
+            return numbered(20);
+        };
+        if !work.taken {
+            return numbered(12);
+        }
+        let Some(&(first, past)) = work.spans.get(usize::from(row)) else {
+            return numbered(11);
+        };
+        if first < past {
+            Fields { col: first.into(), row: u16::from(past) - 1, ..said(COLUMNS) }
+        } else {
+            said(NONE)
+        }
+    }
+}
+
+/// Each row from its first enclosed column to one past its last; both the same where there is none.
+fn spans(start: Point, letters: &[u8]) -> [(u8, u8); SIDE as usize] {
+    let mut spans = [(u8::MAX, 0); SIDE as usize];
+    let (mut col, mut row) = (start.col as u8, usize::from(start.row));
+    for &letter in letters {
+        let along = match letter {
+            0 => {
+                col += 1;
+                continue;
+            }
+            1 => row,
+            2 => {
+                col -= 1;
+                continue;
+            }
+            _ => row - 1,
+        };
+        row = if letter == 1 { row + 1 } else { row - 1 };
+        let (first, past) = &mut spans[along];
+        (*first, *past) = ((*first).min(col), (*past).max(col));
+    }
+    spans
 }
 
 /// Runs a script from a fresh holder and writes a reply for each call. The result is how many were written.

@@ -25,7 +25,7 @@ pub fn is_off_chart(cell: Point) -> bool {
 }
 
 /// No edge is nil, each direction comes sooner than the next, clockwise from up, and the edges sum to nil.
-fn leads_once_round(edges: &[i16]) -> bool {
+pub fn leads_once_round(edges: &[i16]) -> bool {
     let mut last = None;
     let (mut x, mut y) = (0, 0);
     for edge in edges.chunks_exact(2) {

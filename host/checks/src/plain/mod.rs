@@ -5,14 +5,18 @@
 mod border;
 mod chart;
 mod climb;
+mod compare;
 mod holder;
 mod loose;
 mod pile;
 mod test;
+mod tracing;
 mod words;
 
 pub use chart::refusal as walk_refusal;
+pub use compare::compare;
 pub use holder::{replay, Holder};
 pub use loose::loose_query;
 pub use pile::Pile;
 pub use test::test;
+pub use tracing::border;

@@ -42,7 +42,7 @@ pub fn find_edges(start: Point, letters: &[u8], edges: &mut Edges) -> Result<Poi
         return Err(refusal);
     }
     let turn = Turn::new(start, letters);
-    let cut = turn.cut_places();
+    let cut = turn.cut_places;
     for (k, &pair) in PAIRS.iter().enumerate() {
         if let Some(i) = first_stray(&turn.letters()[cut[k]..cut[k + 1]], pair) {
             return Err(Fields { piece: k as u16 + 1, ..placed(8, turn.sent(cut[k] + i)) });

@@ -15,17 +15,16 @@ pub fn first_factor(word: &[u8], later: u8) -> Found {
     let mut read = usize::from(word[0] == later);
     let mut laters = read;
     while j < word.len() {
-        let (a, b) = (word[i] == later, word[j] == later);
-        if a && !b {
-            break;
-        }
-        read += usize::from(b);
-        // A larger letter makes one Lyndon word of all that was read.
-        if b && !a {
+        let (a, b) = (word[i], word[j]);
+        read += usize::from(b == later);
+        // The same letter, as nearly always; a larger one, which makes one Lyndon word of all that was read; or a smaller one.
+        if a == b {
+            i += 1;
+        } else if b == later {
             i = 0;
             laters = read;
         } else {
-            i += 1;
+            break;
         }
         j += 1;
     }

@@ -1,7 +1,7 @@
 //! The plain book (contract 8.1), and a script of calls for it.
 
-use robequarry::codec::{INSIDE, OUTSIDE, SAME, TAKEN};
-use robequarry::limits::{LONGEST, PARTIES, PLACES, REPLY};
+use robequarry::codec::{COLUMNS, INSIDE, NONE, OUTSIDE, SAME, TAKEN};
+use robequarry::limits::{LONGEST, PARTIES, PLACES, REPLY, SIDE};
 use robequarry::{Action, Call};
 
 use super::calls;
@@ -42,6 +42,7 @@ impl Page {
             Action::Clear { place } => self.clear(place.into()),
             Action::Close { place } => self.close(place.into()),
             Action::Query { place, cell } => self.query(place.into(), cell.into()),
+            Action::Row { place, row } => self.row(place.into(), row),
         }
     }
 
@@ -122,6 +123,31 @@ impl Page {
         let inside = encloses(work.start, &work.letters, (i32::from(cell.col), i32::from(cell.row)));
         said(if inside { INSIDE } else { OUTSIDE })
     }
+
+    /// Contract 7.9, by the cells that the work encloses.
+    fn row(&self, place: usize, row: u16) -> Fields {
+        let Some(work) = self.works.get(place) else {
+            return numbered(20);
+        };
+        let Some(work) = work else {
+            return numbered(12);
+        };
+        if row >= SIDE {
+            return numbered(11);
+        }
+        match span(work, row) {
+            Some((first, last)) => Fields { col: first, row: last, ..said(COLUMNS) },
+            None => said(NONE),
+        }
+    }
+}
+
+/// The first and the last column of a row that an outline encloses, by asking every cell.
+fn span(work: &Outline, row: u16) -> Option<(u16, u16)> {
+    let inside = |&col: &u16| encloses(work.start, &work.letters, (i32::from(col), i32::from(row)));
+    let mut columns = (0..SIDE).filter(inside);
+    let first = columns.next()?;
+    Some((first, columns.last().unwrap_or(first)))
 }
 
 /// Whether two outlines past refusals 1 to 6 enclose the same cells.

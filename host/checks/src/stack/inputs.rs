@@ -3,7 +3,7 @@
 use robequarry::limits::{CALL, LAST_CORNER, LAST_LETTER, LONGEST, LONGEST_LIST, PARTIES, PLACES, REPLY, SHORTEST, SIDE};
 use robequarry::{Action, Call};
 
-use crate::case::Case;
+use crate::case::{Case, Polygon};
 use crate::draw::{reversed, round_outline, whole_chart, with_a_cell_flipped, Shape};
 use crate::random::Random;
 use crate::reference::calls;
@@ -19,12 +19,16 @@ pub fn all() -> Vec<Case> {
     let outlines = outlines(&mut random);
     let mut cases: Vec<Case> = outlines.iter().flat_map(tests).collect();
     cases.extend(loose_queries(&outlines));
+    cases.extend(comparisons(&outlines));
     cases.extend(outlines.iter().map(draw_and_ask));
     for _ in 0..DRAWN {
         cases.push(garbage::spoilt_test(&mut random));
         cases.push(garbage::loose(&mut random));
         cases.push(garbage::round_walk(&mut random));
         cases.push(polygons::loose(&mut random));
+        cases.push(garbage::border(&mut random));
+        cases.push(polygons::border(&mut random));
+        cases.push(polygons::pair(&mut random));
         cases.push(scripts::script(&mut random));
     }
     cases
@@ -69,7 +73,7 @@ fn tests(outline: &Outline) -> [Case; 3] {
     [test(LONGEST_LIST, REPLY), test(0, REPLY), test(LONGEST_LIST, REPLY - 1)]
 }
 
-/// The edges of each taken outline at its anchor, which walks all of them; the longest list; and those that are refused.
+/// The edges of each taken outline at its anchor, which walks all of them, and their border; the longest list; and those that are refused.
 fn loose_queries(outlines: &[Outline]) -> Vec<Case> {
     let query = |anchor, edges, cell, room| Case::Loose { anchor, edges, cell, room };
     let nowhere = Point::new(0, 0);
@@ -85,7 +89,34 @@ fn loose_queries(outlines: &[Outline]) -> Vec<Case> {
         let tested = calls::test(outline.start, &outline.letters);
         let anchor = Point::new(tested.reply.col, tested.reply.row);
         let edges: Vec<i16> = tested.edges.iter().flat_map(|&(cols, rows)| [cols as i16, rows as i16]).collect();
-        cases.push(query(anchor, edges, anchor, REPLY));
+        cases.push(query(anchor, edges.clone(), anchor, REPLY));
+        cases.push(Case::Border { anchor, edges: edges.clone(), lent: LONGEST, room: REPLY });
+        cases.push(Case::Border { anchor, edges, lent: 0, room: REPLY });
+    }
+    cases
+}
+
+/// The edges of each taken outline with those of the next and with its own, a cell with itself and beside itself, and those that are refused.
+fn comparisons(outlines: &[Outline]) -> Vec<Case> {
+    let polygon = |outline: &Outline| {
+        let tested = calls::test(outline.start, &outline.letters);
+        let edges = tested.edges.iter().flat_map(|&(cols, rows)| [cols as i16, rows as i16]).collect();
+        Polygon { anchor: Point::new(tested.reply.col, tested.reply.row), edges }
+    };
+    let polygons: Vec<Polygon> = outlines.iter().map(polygon).collect();
+    let pair =
+        |first: &Polygon, second: &Polygon, room| Case::Compare { first: first.clone(), second: second.clone(), room };
+    let of = |anchor, edges| Polygon { anchor, edges };
+    let cell = of(Point::new(0, 0), Vec::new());
+    let mut cases = vec![
+        pair(&cell, &cell, REPLY),
+        pair(&cell, &of(Point::new(1, 0), Vec::new()), REPLY),
+        pair(&cell, &of(Point::new(0, 0), vec![0; LONGEST_LIST + 2]), REPLY),
+        pair(&of(Point::new(SIDE, 0), Vec::new()), &cell, REPLY),
+        pair(&cell, &cell, REPLY - 1),
+    ];
+    for (one, next) in polygons.iter().zip(&polygons[1..]) {
+        cases.extend([pair(one, next, REPLY), pair(next, one, REPLY), pair(one, one, REPLY)]);
     }
     cases
 }

@@ -24,24 +24,26 @@ const PAINTS: [u8; 2] = [0xa5, 0x5a];
 const CLOSE: u8 = 4;
 
 /// The most bytes of stack that each function needs for any of its inputs: the longest outlines, and every way through the test.
-pub fn needs() -> [(&'static str, usize); 5] {
-    let mut needs =
-        [("rq_test", 0), ("rq_loose_query", 0), ("rq_replay", 0), ("rq_call", 0), ("rq_pile_set and the like", 0)];
+pub fn needs() -> [(&'static str, usize); 7] {
+    let names = ["rq_test", "rq_loose_query", "rq_border", "rq_compare", "rq_replay", "rq_call", "rq_pile_set and the like"];
+    let mut needs = names.map(|name| (name, 0));
     let mut stack = Stack::new();
     for case in inputs::all() {
         let function = match case {
             Case::Test { .. } => 0,
             Case::Loose { .. } => 1,
-            Case::Script { .. } => 2,
+            Case::Border { .. } => 2,
+            Case::Compare { .. } => 3,
+            Case::Script { .. } => 4,
         };
         needs[function].1 = needs[function].1.max(stack.need(&case));
         if let Case::Script { bytes, .. } = &case {
-            needs[3].1 = needs[3].1.max(stack.need_of_calls(bytes));
+            needs[5].1 = needs[5].1.max(stack.need_of_calls(bytes));
         }
     }
     let mut random = Random::new(1);
     for _ in 0..PILES {
-        needs[4].1 = needs[4].1.max(stack.need_of_a_pile(&piles::calls(&mut random)));
+        needs[6].1 = needs[6].1.max(stack.need_of_a_pile(&piles::calls(&mut random)));
     }
     needs
 }
@@ -84,6 +86,19 @@ impl Stack {
                 let mut reply = vec![0; *room];
                 self.depth(&mut || {
                     raw::loose_query(anchor.col, anchor.row, edges, cell.col, cell.row, &mut reply);
+                })
+            }
+            Case::Border { anchor, edges, lent, room } => {
+                let (mut letters, mut reply) = (vec![0; *lent], vec![0; *room]);
+                self.depth(&mut || {
+                    raw::border(anchor.col, anchor.row, edges, &mut letters, &mut reply);
+                })
+            }
+            Case::Compare { first, second, room } => {
+                let mut reply = vec![0; *room];
+                let (a, b) = (first.anchor, second.anchor);
+                self.depth(&mut || {
+                    raw::compare((a.col, a.row), &first.edges, (b.col, b.row), &second.edges, &mut reply);
                 })
             }
             Case::Script { bytes, room } => {

@@ -37,8 +37,8 @@ close-requires c κs = search needs
 enum-known-action-5 : tie.Need-enum-known-action-5
 enum-known-action-5 c = search needs
 
-query-requires : tie.Need-query-requires
-query-requires c κs = search needs
+ask-requires : tie.Need-ask-requires
+ask-requires c κs = search needs
 
 returns : tie.Need-returns
 returns c = does _ _ _ _ (c .begin .ensures) (c .before .before .action .given .1)
@@ -56,7 +56,7 @@ returns-5 : tie.Need-returns-5
 returns-5 c = does _ _ _ _ (c .close .ensures .0) (c .before .before .action4 .given .1)
 
 returns-6 : tie.Need-returns-6
-returns-6 c = does _ _ _ _ (c .query .ensures) (c .before .before .action5 .given .1)
+returns-6 c = does _ _ _ _ (c .ask .ensures) (c .before .before .action5 .given .1)
 
 pub answer-spec : {M : Type 1} → statement M
 answer-spec =
@@ -73,7 +73,7 @@ answer-spec =
     enum-known-action-4
     close-requires
     enum-known-action-5
-    query-requires
+    ask-requires
     returns
     returns-2
     returns-3

@@ -22,6 +22,12 @@ at-work-requires c κs = search needs
 has-requires : tie.Need-has-requires
 has-requires c κs = search needs
 
+drafted-requires : tie.Need-drafted-requires
+drafted-requires c κs = search needs
+
+spans-requires : tie.Need-spans-requires
+spans-requires c κs = search needs
+
 replace-requires : tie.Need-replace-requires
 replace-requires c κs = search needs
 
@@ -41,13 +47,15 @@ returns c = rw (c .before .before .verdict .given .1, c .reply .ensures, c .befo
 returns-2 : tie.Need-returns-2
 unfolding closedBy closedReply closedHolder
 returns-2 c =
-    let has = c .before .before .before .before in
+    let has = c .before .before .before .before .before .before in
     rw (
       has .before .before .before .before .verdict2 .given .1,
       c .reply2 .ensures,
       c .before .taken-reply .ensures,
       c .before .before .put-work .ensures,
       c .before .before .before .replace .ensures,
+      c .before .before .before .before .spans .ensures,
+      c .before .before .before .before .before .drafted .ensures,
       has .has .ensures,
       has .before .before .at-work .ensures,
       has .before .before .before .before .before .before .end-draft .ensures,
@@ -63,6 +71,8 @@ close-by-spec =
     enum-known-verdict-2
     at-work-requires
     has-requires
+    drafted-requires
+    spans-requires
     replace-requires
     put-work-requires
     taken-reply-requires

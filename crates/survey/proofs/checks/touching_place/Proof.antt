@@ -1,6 +1,6 @@
 -- The loop's invariant: the number in hand is below 65,536, and where no letter leaves the chart it is that of the walk's
 -- corner, no letter so far met a corner, and the set holds the corners so far. The measure is what is left of the letters.
-use Prim.Native.Nat.{_-_, _<_}
+use Prim.Native.Nat.{_-_, _%_, _<_}
 use mathlib.Core.Path.{sym, _∙_}
 use mathlib.Core.Bool.{true≢false}
 use native.Mathlib.Omega.{arith}
@@ -26,7 +26,7 @@ bad-start-requires : tie.Need-bad-start-requires Inv-loop μ-loop
 bad-start-requires c κs = search needs
 
 returns : tie.Need-returns Inv-loop μ-loop
-returns c = λ a h. absurd (true≢false (sym (c .if1 .taken) ∙ c .before .bad-start .ensures ∙ a))
+returns c = λ a h. absurd (true≢false (sym (c .if1 .taken) ∙ c .before .bad-start .ensures ∙ a .started))
 
 none-requires : tie.Need-none-requires Inv-loop μ-loop
 none-requires c κs = search needs
@@ -50,14 +50,14 @@ stride-requires : tie.Need-stride-requires Inv-loop μ-loop
 stride-requires c κs = search needs
 
 add-k : tie.Need-add-k Inv-loop μ-loop
-add-k c = omega (arith, c .before .before .before .loop .inv .below, c .stride .ensures, stride-below (getD (c .before .before .before .before .before .before .before .before .before .before .before .args .w .now) (c .before .before .before .loop .i) 0))
+add-k c = omega (arith, c .before .before .before .loop .inv .below, c .stride .ensures, stride-below (getD (c .before .before .before .before .before .before .before .before .before .before .before .args .w .now) (c .before .before .before .loop .i) 0 % 4))
 
 mark-requires-2 : tie.Need-mark-requires-2 Inv-loop μ-loop
 mark-requires-2 c κs = search needs
 
 returns-2 : tie.Need-returns-2 Inv-loop μ-loop
 returns-2 c = λ a h.
-    touching-found _ _ _ _ _ _ _ (c .before .before .before .before .before .before .loop .inv) (c .before .before .before .before .before .loop-test .taken) (c .before .before .before .stride .ensures) (c .before .mark2 .ensures .0) _ (c .if2 .taken) record { chart = start-on-chart _ a; number = c .before .before .before .before .before .before .before .before .before .number .ensures; stays = h }
+    touching-found _ _ _ _ _ _ _ (c .before .before .before .before .before .before .loop .inv) (c .before .before .before .before .before .loop-test .taken) (c .before .before .before .stride .ensures) (c .before .mark2 .ensures .0) _ (c .if2 .taken) record { begun = a; number = c .before .before .before .before .before .before .before .before .before .number .ensures; stays = h }
 
 add-i : tie.Need-add-i Inv-loop μ-loop
 add-i c = omega (arith, c .before .before .before .before .before .loop-test .taken)
@@ -71,7 +71,7 @@ loop-again c =
     (touching-more _ _ _ _ _ _ _ (c .before .before .before .before .before .before .loop .inv) (c .before .before .before .before .before .loop-test .taken) (c .before .before .before .stride .ensures) (c .before .mark2 .ensures .0) (c .if2 .left))
 
 returns-3 : tie.Need-returns-3 Inv-loop μ-loop
-returns-3 c = λ a h. touching-end _ _ _ _ _ _ (c .before .loop .inv) (c .loop-test .left) record { chart = start-on-chart _ a; number = c .before .before .before .before .number .ensures; stays = h }
+returns-3 c = λ a h. touching-end _ _ _ _ _ _ (c .before .loop .inv) (c .loop-test .left) record { begun = a; number = c .before .before .before .before .number .ensures; stays = h }
 
 pub touching-place-spec : {M : Type 1} → statement M
 touching-place-spec =

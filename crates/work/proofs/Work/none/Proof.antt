@@ -1,12 +1,15 @@
 -- The definition, field by field.
-use mathlib.Core.Path.{refl}
 use Rattle.work.specs.Work.{noWork}
+use borrow.Author.Needs.{needs}
 use Rattle.work.proofs.Work.none.Statement.{statement}
 use Rattle.work.proofs.Work.none.Tie as tie
 
+no-spans-requires : tie.Need-no-spans-requires
+no-spans-requires c κs = search needs
+
 returns : tie.Need-returns
 unfolding noWork
-returns c = refl
+returns c = rw (c .no-spans .ensures)
 
 pub none-spec : {M : Type 1} → statement M
-none-spec = tie.close (tie.spec returns)
+none-spec = tie.close (tie.spec no-spans-requires returns)

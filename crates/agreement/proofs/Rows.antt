@@ -1,0 +1,63 @@
+-- A row is answered from the outline last taken at its party and place, and the columns are exact: those from the first to the last are enclosed, and no other.
+use Prim.Native.Nat.{ℕ, _≤_, _<_}
+use native.Mathlib.Omega.{arith}
+use mathlib.Core.Path.{_≡_, sym, ap, _∙_, subst}
+use mathlib.Core.Logic.{_↔_}
+use mathlib.Core.Bool.{Bool, true, false}
+use mathlib.Core.Option.{some}
+use mathlib.Core.List.{List}
+use borrow.Author.Tests.{lt-leb}
+use Rattle.chart.specs.Limits.{side}
+use Rattle.chart.specs.Outline.{Outline}
+use Rattle.convexity.specs.Reading.{block}
+use Rattle.spans.specs.declared.Span.{Span}
+use Rattle.spans.specs.declared.Span.the-variants.{None as Empty, Columns as Run}
+use Rattle.spans.specs.Spans.{rowSpan, SpanExact}
+use Rattle.spans.proofs.Exact.{row-span-exact}
+use Rattle.calls.specs.Calls.{parties, places, by}
+use Rattle.calls.specs.declared.Call.{Call}
+use Rattle.calls.specs.declared.Action.the-variants.{Ask}
+use Rattle.calls.specs.declared.Question.the-variants.{Row as OfRow}
+use Rattle.calls.specs.declared.Reply.the-variants.{Columns, None}
+use Rattle.book.specs.Book.{columnsReply, askedRow, asks}
+use Rattle.book.specs.LastTaken.{lastTaken}
+use Rattle.holder.specs.Run.{holderAfter, replyAfter}
+use Rattle.holder.specs.Holder.{workOf, freshHolder}
+use Rattle.agreement.proofs.Works.{IsWork, Working}
+use Rattle.agreement.proofs.ListTheorem.{holder-last-taken}
+use Rattle.agreement.proofs.Queries.{ask-reply}
+
+-- What a reply says of a row, where the columns that it gives are exact
+module _ (marked : ℕ → ℕ → Bool) (r : ℕ) where
+  columns-said : (s : Span) → SpanExact marked r s → (a b : ℕ) → columnsReply s ≡ Columns a b → (c : ℕ) → (marked c r ≡ true) ↔ ((a ≤ c) × (c ≤ b))
+  unfolding SpanExact columnsReply
+  columns-said Empty exact a b e c = let z : _≡_ {A = ℕ} 0 1 = cc in absurd (omega arith)
+  columns-said (Run u v) exact a b e c = let p : u ≡ a = cc in let q : v ≡ b = cc in rw (sym p, sym q) (exact c)
+
+  none-said : (s : Span) → SpanExact marked r s → columnsReply s ≡ None → (c : ℕ) → marked c r ≡ false
+  unfolding SpanExact columnsReply
+  none-said Empty exact e c = exact c
+  none-said (Run u v) exact e c = let z : _≡_ {A = ℕ} 0 1 = cc in absurd (omega arith)
+
+-- Row r at party p's place k, after a list of calls, where the outline last taken is o
+module _ (p k : ℕ) (there : p < parties) (inside : k < places) (cs : List Call) (r : ℕ) (o : Outline) (last : lastTaken p k cs ≡ some o) (row : r < side) where
+  abbrev asking : Call
+  asking = by p (Ask k (OfRow r))
+
+  row-reply : replyAfter cs asking ≡ columnsReply (rowSpan (block o) r)
+  unfolding asks askedRow
+  row-reply = ask-reply p k there inside cs (OfRow r) ∙ ap (askedRow r) last ∙ rw (lt-leb side r row)
+
+  working : Working (workOf (holderAfter freshHolder cs) p k) o
+  working = subst (IsWork (workOf (holderAfter freshHolder cs) p k)) last (holder-last-taken p k there inside cs)
+
+  exact : SpanExact (block o) r (rowSpan (block o) r)
+  exact = row-span-exact o (working .reaches) r
+
+  -- "Columns": every column from the first to the last is enclosed in that row, and no other (contract 7.9)
+  pub row-columns : (a b : ℕ) → replyAfter cs asking ≡ Columns a b → (c : ℕ) → (block o c r ≡ true) ↔ ((a ≤ c) × (c ≤ b))
+  row-columns a b e = columns-said (block o) r (rowSpan (block o) r) exact a b (sym row-reply ∙ e)
+
+  -- "None": no column is
+  pub row-none : replyAfter cs asking ≡ None → (c : ℕ) → block o c r ≡ false
+  row-none e = none-said (block o) r (rowSpan (block o) r) exact (sym row-reply ∙ e)

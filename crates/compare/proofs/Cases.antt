@@ -1,0 +1,103 @@
+-- A list and a comparison by their cases: the first refusal that applies, and else the tests. Each case is a clause of the definition.
+use mathlib.Core.Path.{_≡_, refl, sym, ap}
+use mathlib.Core.Bool.{Bool, true, false, false≢true, cond}
+use mathlib.Core.List.{List}
+use lib.IntN.{ℤ, pos}
+use Rattle.chart.specs.declared.Point.{Point}
+use Rattle.chart.specs.declared.Nesting.{Nesting}
+use Rattle.chart.specs.declared.Nesting.the-variants.{Equal, FirstWithin, SecondWithin, Apart, Crossing}
+use Rattle.chart.specs.declared.Comparison.{Comparison}
+use Rattle.chart.specs.declared.Comparison.the-variants.{Found, Refused}
+use Rattle.chart.specs.declared.Refusal.{Refusal}
+use Rattle.chart.specs.declared.Refusal.the-variants.{List as BadList, Cell, Turning}
+use Rattle.turning.specs.Turning.{badTurning}
+use Rattle.polygon.specs.Loose.{badList, badCell}
+use Rattle.polygon.proofs.LooseCases.{short-list}
+use Rattle.nesting.specs.Cells.{Polygon, polygon}
+use Rattle.nesting.specs.Corners.{cornersOnChart}
+use Rattle.nesting.specs.Rows.{rowsMeet}
+use Rattle.nesting.specs.Answer.{byTests, liesWithin, nesting}
+use Rattle.compare.specs.declared.Checked.{Checked}
+use Rattle.compare.specs.declared.Checked.the-variants.{Fit, Unfit}
+use Rattle.compare.specs.Compared.{checkedOf, Sound, decided, comparisonOf}
+
+module _ (a : Point) (es : List ℤ) where
+  pub checked-list : badList es ≡ true → Unfit BadList ≡ checkedOf a es
+  unfolding checkedOf
+  checked-list e = rw e
+
+  module _ (l : badList es ≡ false) where
+    pub checked-anchor : badCell a ≡ true → Unfit Cell ≡ checkedOf a es
+    unfolding checkedOf
+    checked-anchor e = rw (l, e)
+
+    module _ (c : badCell a ≡ false) where
+      pub checked-turning : badTurning es ≡ true → Unfit Turning ≡ checkedOf a es
+      unfolding checkedOf
+      checked-turning e = rw (l, c, e)
+
+      module _ (t : badTurning es ≡ false) where
+        pub checked-walk : cornersOnChart es (pos (a .col)) (pos (a .row)) ≡ false → Unfit Cell ≡ checkedOf a es
+        unfolding checkedOf
+        checked-walk e = rw (l, c, t, e)
+
+        pub checked-fit : cornersOnChart es (pos (a .col)) (pos (a .row)) ≡ true → Fit ≡ checkedOf a es
+        unfolding checkedOf
+        checked-fit e = rw (l, c, t, e)
+
+-- Nothing refuses a list that fits
+abbrev fits : Checked → Bool
+fits Fit = true
+fits (Unfit f) = false
+
+pub fit-sound : (a : Point) (es : List ℤ) → Fit ≡ checkedOf a es → Sound a es
+unfolding checkedOf
+fit-sound a es e = go (badList es) (badCell a) (badTurning es) (cornersOnChart es (pos (a .col)) (pos (a .row))) refl refl refl (sym (ap fits e))
+  where
+    go :
+        (l c t p : Bool) → badList es ≡ l → badTurning es ≡ t → cornersOnChart es (pos (a .col)) (pos (a .row)) ≡ p
+        → fits (cond l (Unfit BadList) (cond c (Unfit Cell) (cond t (Unfit Turning) (cond p Fit (Unfit Cell))))) ≡ true → Sound a es
+    go true c t p u v w h = absurd (false≢true h)
+    go false true t p u v w h = absurd (false≢true h)
+    go false false true p u v w h = absurd (false≢true h)
+    go false false false true u v w h = record { fit = record { passes = v; placed = w }; short = short-list es u }
+    go false false false false u v w h = absurd (false≢true h)
+
+-- ---- how the cells lie, by the tests
+
+module _ (p q : Polygon) where
+  pub nests-equal : liesWithin p q ≡ true → liesWithin q p ≡ true → Equal ≡ nesting p q
+  unfolding nesting byTests
+  nests-equal a b = rw (a, b)
+
+  pub nests-first : liesWithin p q ≡ true → liesWithin q p ≡ false → FirstWithin ≡ nesting p q
+  unfolding nesting byTests
+  nests-first a b = rw (a, b)
+
+  pub nests-second : liesWithin p q ≡ false → liesWithin q p ≡ true → SecondWithin ≡ nesting p q
+  unfolding nesting byTests
+  nests-second a b = rw (a, b)
+
+  module _ (a : liesWithin p q ≡ false) (b : liesWithin q p ≡ false) where
+    pub nests-crossing : rowsMeet p q ≡ true → Crossing ≡ nesting p q
+    unfolding nesting byTests
+    nests-crossing c = rw (a, b, c)
+
+    pub nests-apart : rowsMeet p q ≡ false → Apart ≡ nesting p q
+    unfolding nesting byTests
+    nests-apart c = rw (a, b, c)
+
+-- ---- a comparison
+
+module _ (a : Point) (es : List ℤ) (b : Point) (fs : List ℤ) where
+  pub compared-first : (f : Refusal) → Unfit f ≡ checkedOf a es → Refused 1 f ≡ comparisonOf a es b fs
+  unfolding comparisonOf decided
+  compared-first f e = rw (← e)
+
+  pub compared-second : (f : Refusal) → Fit ≡ checkedOf a es → Unfit f ≡ checkedOf b fs → Refused 2 f ≡ comparisonOf a es b fs
+  unfolding comparisonOf decided
+  compared-second f e h = rw (← e, ← h)
+
+  pub compared-found : Fit ≡ checkedOf a es → Fit ≡ checkedOf b fs → Found (nesting (polygon a es) (polygon b fs)) ≡ comparisonOf a es b fs
+  unfolding comparisonOf decided
+  compared-found e h = rw (← e, ← h)

@@ -1,0 +1,7 @@
+-- Steps on the chart; the columns that an edge bounds; runs of columns and rows; rows in which two runs meet; a comparison by its cases, and what its words say.
+pub mod Steps
+pub mod Columns
+pub mod Runs
+pub mod Meeting
+pub mod Cases
+pub mod Words

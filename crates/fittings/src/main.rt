@@ -1,0 +1,19 @@
+// Lists the fitting file on standard input: a line for each record, and one for a fault (contract 11.5).
+use libc::STDIN_FILENO;
+use libc::STDOUT_FILENO;
+use listing::MOST;
+use listing::ROOM;
+
+// Lists a file in a list lent for its text, and writes the text.
+fn write_listing(file: &[u8], text: &mut [u8]) {
+    let end = listing::list(file, text);
+    io::write_all(STDOUT_FILENO, &text[..end]);
+}
+
+// One byte past the longest file tells that it is too long; nothing behind it matters.
+fn main() {
+    let mut file = [0u8; MOST + 1];
+    let mut text = [0u8; ROOM];
+    let read = io::read_full(STDIN_FILENO, &mut file);
+    write_listing(&file[..read], &mut text);
+}

@@ -1,0 +1,3 @@
+-- What is still to be written, and what writing does to a list.
+pub mod Rest
+pub mod Wrote

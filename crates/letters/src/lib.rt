@@ -1,0 +1,113 @@
+// The border written back from an anchor and edges (contract 6.3): the letters are built in a list of their own, tested, and lent.
+use chart::LONGEST;
+use chart::MOST_NUMBERS;
+use chart::Point;
+use chart::Refusal;
+use chart::Verdict;
+use polygon::bad_cell;
+use polygon::bad_list;
+use polygon::bad_turning;
+use same::same_numbers;
+use same::same_point;
+use tracing::Traced;
+ghost use Prim.Native.Nat.{_+_, _≤_};
+ghost use mathlib.Core.Path.{_≡_};
+ghost use mathlib.Core.Bool.{false};
+ghost use mathlib.Core.List.{_++_};
+ghost use lib.ListN.{length, take, drop};
+ghost use Rattle.chart.specs.Limits.{longestList};
+ghost use Rattle.chart.specs.Outline.{outline};
+ghost use Rattle.convexity.specs.FromEdges.{stepCount};
+ghost use Rattle.turning.specs.Turning.{badTurning};
+ghost use Rattle.polygon.specs.Loose.{badList, badCell};
+ghost use Rattle.tracing.specs.Outlined.{takenAs};
+ghost use Rattle.tracing.specs.Traced.{tracedOf, tracedFields, lettersAfter};
+ghost use Rattle.tracing.specs.Named.{BorderNamed, Answers};
+
+mod direction;
+mod pen;
+
+// How many letters the edges write: one for each column and row, and the first of each piece.
+fn count(edges: &[i16]) -> usize
+    requires { ⌜ length (now edges) ≤ longestList ⌝ }
+    ensures { λ r. ⌜ r ≡ 4 + stepCount (now (edges .entry)) ⌝ }
+{
+    let mut letters = 4;
+    let mut i = 0;
+    while i + 1 < edges.len() {
+        let dx = edges[i];
+        let dy = edges[i + 1];
+        letters += direction::size(dx) + direction::size(dy);
+        i += 2;
+    }
+    letters
+}
+
+// The letters, begun at the anchor's corner, are an outline that is taken with this anchor and these edges.
+fn taken_as(anchor: Point, letters: &[u8], edges: &[i16]) -> bool
+    ensures { λ r. ⌜ r ≡ takenAs (outline anchor (now (letters .entry))) anchor (now (edges .entry)) ⌝ }
+{
+    let mut numbers = [0i16; MOST_NUMBERS];
+    let verdict = outline::test(anchor, letters, &mut numbers);
+    match verdict {
+        Verdict::Refused(_) => false,
+        Verdict::Taken {
+            edges: count,
+            anchor: found,
+        } => {
+            let n = 2 * (count as usize);
+            same_point(found, anchor) && same_numbers(&numbers[..n], edges)
+        }
+    }
+}
+
+// Copies the first n letters of a list to the front of the lent one.
+fn copy(list: &[u8], n: usize, letters: &mut [u8])
+    requires { ⌜ (n ≤ length (now list)) × (n ≤ length (now letters)) ⌝ }
+    ensures { λ _. ⌜ now (letters .exit) ≡ take n (now (list .entry)) ++ drop n (now (letters .entry)) ⌝ }
+{
+    let mut i = 0;
+    while i < n {
+        letters[i] = list[i];
+        i += 1;
+    }
+}
+
+// 17 and 18, of edges that pass 10, 11 and 16, or the letters.
+fn trace(anchor: Point, edges: &[i16], letters: &mut [u8]) -> Traced
+    requires { ⌜ (badList (now edges) ≡ false) × (badCell anchor ≡ false) × (badTurning (now edges) ≡ false) ⌝ }
+    ensures { λ t. ⌜ Answers anchor (now (edges .entry)) (now (letters .entry)) (now (letters .exit)) t ⌝ }
+{
+    let n = count(edges);
+    if LONGEST < n {
+        return Traced::NoOutline;
+    }
+    let mut list = [0u8; LONGEST];
+    pen::build(edges, &mut list);
+    if !taken_as(anchor, &list[..n], edges) {
+        return Traced::NoOutline;
+    }
+    if letters.len() < n {
+        return Traced::NoRoom;
+    }
+    copy(&list, n, letters);
+    Traced::Written { letters: n as u16 }
+}
+
+// The border: the clockwise letters from W on of the outline that has this anchor and these edges, and how many they are.
+pub fn border(anchor: Point, edges: &[i16], letters: &mut [u8]) -> Traced
+    ensures answer { λ t. ⌜ t ≡ tracedOf anchor (now (edges .entry)) (length (now (letters .entry))) ⌝ }
+    ensures letters { λ t. ⌜ now (letters .exit) ≡ lettersAfter anchor (now (edges .entry)) (now (letters .entry)) ⌝ }
+    ensures outline { λ t. ⌜ BorderNamed anchor (now (edges .entry)) (tracedFields t) (now (letters .exit)) ⌝ }
+{
+    if bad_list(edges) {
+        return Traced::Refused(Refusal::List);
+    }
+    if bad_cell(anchor) {
+        return Traced::Refused(Refusal::Cell);
+    }
+    if bad_turning(edges) {
+        return Traced::Refused(Refusal::Turning);
+    }
+    trace(anchor, edges, letters)
+}

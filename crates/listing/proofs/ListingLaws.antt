@@ -1,0 +1,122 @@
+-- A listing in the making: what is written so far, finished with the lines that are left, is the whole listing.
+use Prim.Native.Nat.{ℕ, _+_, _*_, _-_, _≤_, _<_, min}
+use native.Mathlib.Omega.{arith}
+use mathlib.Core.Path.{_≡_, refl, sym, ap, _∙_}
+use mathlib.Core.List.{List, [], _∷_}
+use lib.ListN.{length, take, drop, length-append, length-drop}
+use lib.Seq.{drop-drop}
+use lib.Dec.{lit<, lit≤}
+use Rattle.lines.specs.declared.Line.{Line}
+use Rattle.lines.specs.Text.{lineText, textOf}
+use Rattle.lines.specs.Written.{over, writtenAt, endAt, Wrote}
+use Rattle.lines.proofs.WrittenLaws.{length-written, written-behind, written-none}
+use Rattle.lines.proofs.TextLaws.{line-short}
+use Rattle.chart.specs.Outline.{Outline, outline}
+use Rattle.records.specs.declared.Found.the-variants.{End, WrongMark, Cut, Record}
+use Rattle.records.specs.Found.{header, foundAt}
+use Rattle.records.proofs.FoundLaws.{found-end}
+use Rattle.listing.specs.Lines.{most, line, testedLine, outlineIn, linesAt}
+use Rattle.listing.specs.Listed.{room, Small, Listed}
+use Rattle.listing.proofs.LinesLaws.{lines-found-end, lines-wrong-mark, lines-cut, lines-record, record-within}
+
+-- The lines of all and those that are left, how many are written, the list as it was lent and as it is, and where the next line goes
+pub record Making (all left : List Line) (n : ℕ) (lent text : List ℕ) (at : ℕ) : Type 0 where
+  pub finished : writtenAt at (textOf left) text ≡ over (textOf all) lent
+  pub end : endAt at (length (textOf left)) (length text) ≡ min (length (textOf all)) (length lent)
+  pub short : length (textOf all) ≤ 18 * n + length (textOf left)
+
+pub making-begins : (all : List Line) (lent : List ℕ) → Making all all 0 lent lent 0
+unfolding writtenAt
+making-begins all lent = record { finished = refl; end = omega arith; short = omega arith }
+
+pub making-line : {all left : List Line} {l : Line} {n : ℕ} {lent text text′ : List ℕ} {at end : ℕ} → Making all (l ∷ left) n lent text at
+    → Wrote (lineText l) at text text′ end → length (lineText l) ≤ 18 → Making all left (n + 1) lent text′ end
+unfolding textOf
+making-line {all} {left} {l} {n} {lent} {text} {text′} {at} {end} p q h =
+    let joined = length-append (lineText l) (textOf left) in
+    let same : length text′ ≡ length text = ap length (q .text) ∙ length-written at (lineText l) text in
+    let first = p .end in
+    let second = q .end in
+    record {
+      finished = rw (q .text) (written-behind at end (lineText l) (textOf left) text (q .end) ∙ p .finished);
+      end = omega arith;
+      short = omega (arith, p .short);
+    }
+
+pub making-ends : {all : List Line} {n : ℕ} {lent text : List ℕ} {at : ℕ} → Making all [] n lent text at → 18 * n ≤ room → Listed all lent text at
+unfolding textOf
+making-ends {all} {n} {lent} {text} {at} p h =
+    let last = p .end in
+    record { text = sym (written-none at text) ∙ p .finished; end = omega arith; short = omega (arith, p .short) }
+
+-- A listing in the making, by how far the file is read and how many records it had
+pub record Going (file lent text : List ℕ) (at n end : ℕ) : Type 0 where
+  pub making : Making (linesAt 0 0 file) (linesAt n at (drop at file)) n lent text end
+  pub within : at ≤ length file
+  pub records : header * n ≤ at
+  pub same : length text ≡ length lent
+
+pub going-begins : (file lent : List ℕ) → Going file lent lent 0 0 0
+going-begins file lent = record { making = making-begins (linesAt 0 0 file) lent; within = omega arith; records = omega arith; same = refl }
+
+module _ {file lent text : List ℕ} {at n end : ℕ} (g : Going file lent text at n end) (small : length file ≤ most) where
+  going-stops : linesAt n at (drop at file) ≡ [] → Listed (linesAt 0 0 file) lent text end
+  going-stops e = making-ends (rw e at (g .making)) (omega (arith, g .within, g .records))
+
+  pub going-ends : length file ≤ at → Listed (linesAt 0 0 file) lent text end
+  going-ends h = going-stops (lines-found-end n at (drop at file) (found-end file at h))
+
+  pub going-found-end : foundAt file at ≡ End → Listed (linesAt 0 0 file) lent text end
+  going-found-end e = going-stops (lines-found-end n at (drop at file) e)
+
+  going-last : {l : Line} {text′ : List ℕ} {r : ℕ} → at < length file → linesAt n at (drop at file) ≡ l ∷ [] → length (lineText l) ≤ 18
+      → Wrote (lineText l) end text text′ r → Listed (linesAt 0 0 file) lent text′ r
+  going-last before e h w = making-ends (making-line (rw e at (g .making)) w h) (omega (arith, g .records))
+
+  fault-short : (a : ℕ) → a < 100000 → length (lineText (line n a at)) ≤ 18
+  fault-short a h = line-short (line n a at) (omega (arith, g .within, g .records)) h (omega (arith, g .within))
+
+  pub going-wrong-mark : {text′ : List ℕ} {r : ℕ} → at < length file → foundAt file at ≡ WrongMark → Wrote (lineText (line n 23 at)) end text text′ r
+      → Listed (linesAt 0 0 file) lent text′ r
+  going-wrong-mark before e = going-last before (lines-wrong-mark n at (drop at file) e) (fault-short 23 (lit< tt))
+
+  pub going-cut : {text′ : List ℕ} {r : ℕ} → at < length file → foundAt file at ≡ Cut → Wrote (lineText (line n 24 at)) end text text′ r
+      → Listed (linesAt 0 0 file) lent text′ r
+  going-cut before e = going-last before (lines-cut n at (drop at file) e) (fault-short 24 (lit< tt))
+
+  pub next-within : {c r m : ℕ} → foundAt file at ≡ Record c r m → at + header + m ≤ length file
+  next-within {c} {r} {m} e =
+      let fits : header + m ≤ length (drop at file) = record-within c r m (drop at file) e in
+      omega (arith, simp length-drop at fits, g .within)
+
+  record-short : {l : Line} (o : Outline) → l ≡ testedLine n o → Small l → length (lineText l) ≤ 18
+  unfolding testedLine
+  record-short {l} o e s =
+      line-short l (rw e (omega (arith, g .within, g .records))) (omega (arith, s .answer)) (omega (arith, s .place))
+
+  pub going-record : {l : Line} {text′ : List ℕ} {c r m end′ : ℕ} → foundAt file at ≡ Record c r m → l ≡ testedLine n (outlineIn c r m (drop at file))
+      → Small l → Wrote (lineText l) end text text′ end′ → Going file lent text′ (at + header + m) (n + 1) end′
+  going-record {l} {text′} {c} {r} {m} e same s w =
+      let further : at + (header + m) ≡ at + header + m = omega arith in
+      let lines : linesAt n at (drop at file) ≡ l ∷ linesAt (n + 1) (at + header + m) (drop (at + header + m) file) =
+      lines-record n at c r m (drop at file) e ∙ rw (drop-drop (header + m) at file, further, same) refl in
+      record {
+        making = making-line (rw lines at (g .making)) w (record-short (outlineIn c r m (drop at file)) same s);
+        within = next-within e;
+        records = omega (arith, g .records);
+        same = ap length (w .text) ∙ length-written end (lineText l) text ∙ g .same;
+      }
+
+-- The letters between the header and the end of a record are its outline's
+pub letters-between : (file : List ℕ) (n at c r m : ℕ)
+    → testedLine n (outline (record { col = c; row = r }) (take (at + header + m - (at + header)) (drop (at + header) file)))
+    ≡ testedLine n (outlineIn c r m (drop at file))
+unfolding outlineIn
+letters-between file n at c r m =
+    let count : at + header + m - (at + header) ≡ m = omega arith in
+    rw (count, drop-drop header at file) refl
+
+-- The only line of a file that is too long
+pub long-listed : {lent text : List ℕ} {r : ℕ} → Wrote (lineText (line 0 25 most)) 0 lent text r → Listed (line 0 25 most ∷ []) lent text r
+long-listed {lent} w =
+    making-ends (making-line (making-begins (line 0 25 most ∷ []) lent) w (line-short (line 0 25 most) (lit< tt) (lit< tt) (lit< tt))) (lit≤ tt)

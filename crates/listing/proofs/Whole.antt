@@ -1,0 +1,19 @@
+-- With room for the listing of any file the whole text stands first in the list, and its length is handed back.
+use Prim.Native.Nat.{ℕ, _≤_}
+use native.Mathlib.Omega.{arith}
+use mathlib.Core.Path.{_≡_}
+use mathlib.Core.List.{List}
+use lib.ListN.{length, take}
+use lib.Seq.{take-append-seam}
+use Rattle.lines.specs.declared.Line.{Line}
+use Rattle.lines.specs.Text.{textOf}
+use Rattle.lines.proofs.WrittenLaws.{over-room}
+use Rattle.listing.specs.Listed.{room, Listed}
+
+pub whole-text : {ls : List Line} {before after : List ℕ} {r : ℕ} → Listed ls before after r → room ≤ length before
+    → (r ≡ length (textOf ls)) × (take r after ≡ textOf ls)
+whole-text {ls} {before} {after} {r} p h =
+    let end = p .end in
+    let short = p .short in
+    let all : r ≡ length (textOf ls) = omega arith in
+    (all, rw (all, p .text, over-room (textOf ls) before (omega arith)) (take-append-seam (textOf ls) _))

@@ -1,0 +1,93 @@
+// A fitting file listed: a line for each record with what the test says of its outline, and a line for the fault that ends the reading (contract 11).
+use chart::MOST_NUMBERS;
+use chart::Point;
+use chart::reply::of_verdict;
+use lines::Line;
+use lines::put_line;
+use records::Found;
+use records::HEADER;
+use records::next_at;
+ghost use Prim.Native.Nat.{_≤_};
+ghost use mathlib.Core.Path.{_≡_};
+ghost use lib.ListN.{length};
+ghost use Rattle.chart.specs.Outline.{outline};
+ghost use Rattle.listing.specs.Lines.{most, line as lineOf, testedLine, linesAt, linesOf};
+ghost use Rattle.listing.specs.Listed.{Small, Listed};
+
+// A file has at most this many bytes.
+pub const MOST: usize = 65536;
+
+// The listing of any file has room in this many bytes.
+pub const ROOM: usize = 196614;
+
+// The faults of a file (contract 11.3).
+const WRONG_MARK: usize = 23;
+
+const CUT: usize = 24;
+
+const TOO_LONG: usize = 25;
+
+// The line of a fault: the record's number, the fault's, and a position.
+fn fault(number: usize, answer: usize, place: usize) -> Line
+    ensures { λ r. ⌜ r ≡ lineOf number answer place ⌝ }
+{
+    Line {
+        number,
+        answer,
+        place,
+    }
+}
+
+// A record's line: what the test says, with a list lent that is long enough for any taken outline.
+fn tested(number: usize, col: u8, row: u8, letters: &[u8]) -> Line
+    ensures line { λ r. ⌜ r ≡ testedLine number (outline (record { col = col; row = row }) (now (letters .entry))) ⌝ }
+    ensures small { λ r. ⌜ Small r ⌝ }
+{
+    let mut edges = [0i16; MOST_NUMBERS];
+    let start = Point {
+        col: col as u16,
+        row: row as u16,
+    };
+    let fields = of_verdict(outline::test(start, letters, &mut edges));
+    Line {
+        number,
+        answer: fields.number as usize,
+        place: fields.place as usize,
+    }
+}
+
+// Reads record after record up to a fault or the end, and writes a line for each.
+fn list_records(file: &[u8], text: &mut [u8]) -> usize
+    requires { ⌜ length (now file) ≤ most ⌝ }
+    ensures { λ r. ⌜ Listed (linesAt 0 0 (now (file .entry))) (now (text .entry)) (now (text .exit)) r ⌝ }
+{
+    let mut at = 0;
+    let mut number = 0;
+    let mut end = 0;
+    while at < file.len() {
+        let letters = at + HEADER;
+        match next_at(file, at) {
+            Found::End => return end,
+            Found::WrongMark => return put_line(fault(number, WRONG_MARK, at), text, end),
+            Found::Cut => return put_line(fault(number, CUT, at), text, end),
+            Found::Record { col, row, count } => {
+                let next = letters + count;
+                let line = tested(number, col, row, &file[letters..next]);
+                end = put_line(line, text, end);
+                at = next;
+                number += 1;
+            }
+        }
+    }
+    end
+}
+
+// Lists a file: writes its lines to a lent list as far as there is room, and says how many bytes it wrote.
+pub fn list(file: &[u8], text: &mut [u8]) -> usize
+    ensures { λ r. ⌜ Listed (linesOf (now (file .entry))) (now (text .entry)) (now (text .exit)) r ⌝ }
+{
+    if MOST < file.len() {
+        return put_line(fault(0, TOO_LONG, MOST), text, 0);
+    }
+    list_records(file, text)
+}

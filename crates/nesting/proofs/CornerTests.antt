@@ -1,0 +1,67 @@
+-- A test over the corner cells says what is meant: every corner met by the walk passes it, or some corner fails it.
+use Prim.Native.Nat.{ℕ, _<_, _-_}
+use native.Mathlib.Omega.{arith}
+use mathlib.Core.Path.{_≡_, refl}
+use mathlib.Core.Bool.{Bool, true, false, _&&_, and-eq-true-iff}
+use mathlib.Core.List.{List, [], _∷_}
+use lib.IntN.{ℤ, pos, negsuc, _+ℤ_}
+use lib.Signed.{leZ}
+use Rattle.chart.specs.Limits.{side}
+use Rattle.base.proofs.IntegerOrder.{at-most-iff}
+use Rattle.turning.specs.CornerHull.{Met}
+use Rattle.nesting.specs.Corners.{everyCorner, chartNumber, onChart}
+
+pub every-met : (f : ℤ → ℤ → Bool) {es : List ℤ} {x y u v : ℤ} → Met es x y u v → everyCorner f es x y ≡ true → f u v ≡ true
+unfolding everyCorner
+every-met f (Met.start {es = []}) e = e
+every-met f (Met.start {es = dx ∷ []}) e = e
+every-met f (Met.start {es = dx ∷ dy ∷ es} {x = x} {y = y}) e = and-eq-true-iff (f x y) _ .0 e .0
+every-met f (Met.after {dx = dx} {dy = dy} {x = x} {y = y} m) e = every-met f m (and-eq-true-iff (f x y) _ .0 e .1)
+
+pub met-every : (f : ℤ → ℤ → Bool) (es : List ℤ) (x y : ℤ) → ((u v : ℤ) → Met es x y u v → f u v ≡ true) → everyCorner f es x y ≡ true
+unfolding everyCorner
+met-every f [] x y h = h x y Met.start
+met-every f (dx ∷ []) x y h = h x y Met.start
+met-every f (dx ∷ dy ∷ es) x y h =
+    and-eq-true-iff (f x y) _ .1 (h x y Met.start, met-every f es (x +ℤ dx) (y +ℤ dy) (λ u v m. h u v (Met.after m)))
+
+-- A corner that fails a test
+pub record Fails (f : ℤ → ℤ → Bool) (es : List ℤ) (x y : ℤ) : Type 0 where
+  pub col : ℤ
+  pub row : ℤ
+  pub met : Met es x y col row
+  pub fails : f col row ≡ false
+
+pub some-fails : (f : ℤ → ℤ → Bool) (es : List ℤ) (x y : ℤ) → everyCorner f es x y ≡ false → Fails f es x y
+unfolding everyCorner
+some-fails f [] x y e = record { col = x; row = y; met = Met.start; fails = e }
+some-fails f (dx ∷ []) x y e = record { col = x; row = y; met = Met.start; fails = e }
+some-fails f (dx ∷ dy ∷ es) x y e = go (f x y) refl e (λ d. some-fails f es (x +ℤ dx) (y +ℤ dy) d)
+  where
+    go :
+        (s : Bool) → f x y ≡ s → (s && everyCorner f es (x +ℤ dx) (y +ℤ dy)) ≡ false
+        → (everyCorner f es (x +ℤ dx) (y +ℤ dy) ≡ false → Fails f es (x +ℤ dx) (y +ℤ dy)) → Fails f (dx ∷ dy ∷ es) x y
+    go true p d more = let w = more d in record { col = w .col; row = w .row; met = Met.after (w .met); fails = w .fails }
+    go false p d more = record { col = x; row = y; met = Met.start; fails = p }
+
+-- A cell of the chart has natural numbers below 255
+pub record Place (u v : ℤ) : Type 0 where
+  pub col : ℕ
+  pub row : ℕ
+  pub isCol : u ≡ pos col
+  pub isRow : v ≡ pos row
+  pub colBelow : col < side
+  pub rowBelow : row < side
+
+pub number : (z : ℤ) → chartNumber z ≡ true → (n : ℕ) × (z ≡ pos n) × (n < side)
+unfolding chartNumber
+number (pos n) e = (n, refl, omega (arith, at-most-iff (pos n) (pos (side - 1)) .0 (and-eq-true-iff (leZ (pos 0) (pos n)) (leZ (pos n) (pos (side - 1))) .0 e .1)))
+number (negsuc n) e = absurd (omega (arith, at-most-iff (pos 0) (negsuc n) .0 (and-eq-true-iff (leZ (pos 0) (negsuc n)) (leZ (negsuc n) (pos (side - 1))) .0 e .0)))
+
+pub place : (u v : ℤ) → onChart u v ≡ true → Place u v
+unfolding onChart
+place u v e =
+    let a = and-eq-true-iff (chartNumber u) (chartNumber v) .0 e in
+    let p = number u (a .0) in
+    let q = number v (a .1) in
+    record { col = p .0; row = q .0; isCol = p .1; isRow = q .1; colBelow = p .2; rowBelow = q .2 }

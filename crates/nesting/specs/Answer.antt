@@ -1,0 +1,23 @@
+-- The answer for two polygons by three tests: corners of one inside the other, both ways, and rows whose runs meet.
+use mathlib.Core.Bool.{Bool, true, false}
+use lib.IntN.{pos}
+use Rattle.chart.specs.declared.Nesting.{Nesting}
+use Rattle.chart.specs.declared.Nesting.the-variants.{Equal, FirstWithin, SecondWithin, Apart, Crossing}
+use Rattle.nesting.specs.Cells.{Polygon}
+use Rattle.nesting.specs.Corners.{cornersInside}
+use Rattle.nesting.specs.Rows.{rowsMeet}
+
+-- The first is within the second, the second within the first, they have a common cell
+unfoldable pub byTests : Bool → Bool → Bool → Nesting
+byTests true true m = Equal
+byTests true false m = FirstWithin
+byTests false true m = SecondWithin
+byTests false false true = Crossing
+byTests false false false = Apart
+
+-- Every corner cell of the first is inside the second
+unfoldable pub liesWithin : Polygon → Polygon → Bool
+liesWithin p q = cornersInside (p .edges) (pos (p .anchor .col)) (pos (p .anchor .row)) (q .edges) (pos (q .anchor .col)) (pos (q .anchor .row))
+
+unfoldable pub nesting : Polygon → Polygon → Nesting
+nesting p q = byTests (liesWithin p q) (liesWithin q p) (rowsMeet p q)

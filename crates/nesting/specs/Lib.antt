@@ -1,0 +1,6 @@
+-- Polygons, and what is said of the cells of two; tests over the corner cells; the columns of a row; the answer by these tests; specimens.
+pub mod Cells
+pub mod Corners
+pub mod Rows
+pub mod Answer
+pub mod Specimens

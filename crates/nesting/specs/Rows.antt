@@ -1,0 +1,65 @@
+-- The cells of a row that are inside are a run of columns: from a first column, included, to an end, excluded. Each edge (dx, dy) that leaves (x, y) bounds
+-- the run by its dy and its side value b at column 0 of the row, since the side value at column c is dy·c + b.
+use Prim.Native.Nat.{ℕ, zero, suc, _/_, min, max}
+use mathlib.Core.Bool.{Bool, cond}
+use mathlib.Core.List.{List, [], _∷_}
+use lib.Dec.{ltb}
+use lib.IntN.{ℤ, pos, negsuc, _+ℤ_}
+use Rattle.chart.specs.Limits.{side}
+use Rattle.base.specs.Below.{some}
+use Rattle.convexity.specs.Inside.{sideValue, colSteps, rowSteps, lowestMet, highestMet, within}
+use Rattle.nesting.specs.Cells.{Polygon}
+
+-- The first column c with dy·c + b ≥ 0, if dy > 0
+unfoldable pub edgeFrom : ℤ → ℤ → ℕ
+edgeFrom (pos zero) b = 0
+edgeFrom (pos (suc n)) (pos b) = 0
+edgeFrom (pos (suc n)) (negsuc b) = suc (b / suc n)
+edgeFrom (negsuc n) b = 0
+
+-- The column after the last c with dy·c + b ≥ 0, if dy < 0. If dy = 0, all of the row or nothing of it
+unfoldable pub edgeTo : ℤ → ℤ → ℕ
+edgeTo (pos zero) (pos b) = side
+edgeTo (pos zero) (negsuc b) = 0
+edgeTo (pos (suc n)) b = side
+edgeTo (negsuc n) (pos b) = suc (b / suc n)
+edgeTo (negsuc n) (negsuc b) = 0
+
+-- All edges of the walk from (x, y)
+unfoldable pub edgesFrom : List ℤ → ℤ → ℤ → ℤ → ℕ
+edgesFrom [] x y r = 0
+edgesFrom (dx ∷ []) x y r = 0
+edgesFrom (dx ∷ dy ∷ es) x y r = max (edgeFrom dy (sideValue dx dy x y (pos 0) r)) (edgesFrom es (x +ℤ dx) (y +ℤ dy) r)
+
+unfoldable pub edgesTo : List ℤ → ℤ → ℤ → ℤ → ℕ
+edgesTo [] x y r = side
+edgesTo (dx ∷ []) x y r = side
+edgesTo (dx ∷ dy ∷ es) x y r = min (edgeTo dy (sideValue dx dy x y (pos 0) r)) (edgesTo es (x +ℤ dx) (y +ℤ dy) r)
+
+-- The first natural number at z or after it; the first after z
+unfoldable pub startAt : ℤ → ℕ
+startAt (pos n) = n
+startAt (negsuc n) = 0
+
+unfoldable pub endAfter : ℤ → ℕ
+endAfter (pos n) = suc n
+endAfter (negsuc n) = 0
+
+-- The run of row r, between the extremes of the walk
+unfoldable pub runFrom : Polygon → ℕ → ℕ
+runFrom p r =
+    max (startAt (lowestMet (colSteps (p .edges)) (pos (p .anchor .col)))) (edgesFrom (p .edges) (pos (p .anchor .col)) (pos (p .anchor .row)) (pos r))
+
+unfoldable pub runTo : Polygon → ℕ → ℕ
+runTo p r =
+    cond (within (rowSteps (p .edges)) (pos (p .anchor .row)) (pos r))
+    (min (endAfter (highestMet (colSteps (p .edges)) (pos (p .anchor .col)))) (edgesTo (p .edges) (pos (p .anchor .col)) (pos (p .anchor .row)) (pos r)))
+    0
+
+-- The runs of two polygons meet in row r
+unfoldable pub rowMeets : Polygon → Polygon → ℕ → Bool
+rowMeets p q r = ltb (max (runFrom p r) (runFrom q r)) (min (runTo p r) (runTo q r))
+
+-- They meet in some row of the chart
+unfoldable pub rowsMeet : Polygon → Polygon → Bool
+rowsMeet p q = some (rowMeets p q) side

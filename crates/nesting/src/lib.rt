@@ -1,0 +1,1 @@
+// Two polygons of edges compared, theory alone: equal, one within the other, no common cell, or crossing.

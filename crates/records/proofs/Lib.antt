@@ -1,0 +1,2 @@
+-- The laws of a fitting file's records.
+pub mod FoundLaws

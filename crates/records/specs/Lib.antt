@@ -1,0 +1,2 @@
+-- What stands at a position of a fitting file.
+pub mod Found

@@ -1,0 +1,7 @@
+-- Which outlines have an anchor and edges; a border call by its cases, and what its answer says; from a taken outline and back; the order of its edges; specimens.
+pub mod Outlines
+pub mod Tested
+pub mod TracedCases
+pub mod Own
+pub mod Quadrants
+pub mod Specimens

@@ -1,0 +1,11 @@
+-- Edges in the order of their quadrants.
+use Prim.Native.Nat.{ℕ, _≤_, _<_}
+use mathlib.Core.List.{List, [], _∷_}
+use lib.IntN.{ℤ}
+use Rattle.convexity.specs.FromEdges.{quadrantOf}
+
+-- Each edge has a quadrant, which is no earlier than that of the edge before it; that of the first is k or later. An odd number at the end is no edge
+pub data Ordered : ℕ → List ℤ → Type 0 where
+  none : {k : ℕ} → Ordered k []
+  odd : {k : ℕ} {d : ℤ} → Ordered k (d ∷ [])
+  more : {k : ℕ} {dx dy : ℤ} {es : List ℤ} → k ≤ quadrantOf dx dy → quadrantOf dx dy < 4 → Ordered (quadrantOf dx dy) es → Ordered k (dx ∷ dy ∷ es)

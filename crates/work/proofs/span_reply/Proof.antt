@@ -1,0 +1,22 @@
+-- Each arm is its clause.
+use Rattle.work.specs.Work.{spanReply}
+use borrow.Author.Needs.{needs}
+use Rattle.work.proofs.span_reply.Statement.{statement}
+use Rattle.work.proofs.span_reply.Tie as tie
+
+enum-told : tie.Need-enum-told
+enum-told c = search needs
+
+enum-known-span : tie.Need-enum-known-span
+enum-known-span c = search needs
+
+returns : tie.Need-returns
+unfolding spanReply
+returns c = rw (c .enum-told .given .1)
+
+returns-2 : tie.Need-returns-2
+unfolding spanReply
+returns-2 c = rw (c .before .span .given .1)
+
+pub span-reply-spec : {M : Type 1} → statement M
+span-reply-spec = tie.close (tie.spec enum-told enum-known-span returns returns-2)

@@ -1,0 +1,76 @@
+use std::path::Path;
+
+use robequarry::{Comparison, Edges, Nesting};
+
+use super::{one, plain, title, Command, Console, Failure, Status};
+use crate::arguments::Arguments;
+use crate::engine;
+use crate::verdict::{at, Said};
+
+pub const COMMAND: Command = Command {
+    name: "compare",
+    usage: "compare A B [--first N] [--second N]",
+    summary: "which of two blocks lies within the other",
+    help: "\
+Tests an outline of each file and says how the cells of the two blocks lie: equal, first within second, second within first, no
+common cell, or crossing. Where one lies within the other, or both are equal, the inner one's edges follow.
+
+  --first N    the outline of A with this number; without it, the first
+  --second N   the outline of B with this number; without it, the first",
+    options: &["--first", "--second", "--text", "--fitting"],
+    run,
+};
+
+fn run(arguments: &Arguments, console: &mut Console) -> Result<Status, Failure> {
+    let [a, b] = plain(arguments, "compare takes two files")?;
+    let first = edges(a, arguments, arguments.first, "first", console)?;
+    let second = edges(b, arguments, arguments.second, "second", console)?;
+    let (Some(first), Some(second)) = (first, second) else {
+        return Ok(Status::Refused);
+    };
+    match engine::compare(&first, &second) {
+        Ok(comparison) => {
+            say(comparison, console)?;
+            Ok(Status::Taken)
+        }
+        Err(turned_back) => {
+            console.line(format_args!("refused, {}: {turned_back}", turned_back.refusal.number()))?;
+            Ok(Status::Refused)
+        }
+    }
+}
+
+/// Tests an outline and says its verdict.
+fn edges(
+    path: &Path,
+    arguments: &Arguments,
+    wanted: Option<usize>,
+    which: &str,
+    console: &mut Console,
+) -> Result<Option<Edges>, Failure> {
+    let (number, entry) = one(path, arguments, wanted)?;
+    let verdict = entry.outline.test();
+    let said = Said::of(&entry.outline, &verdict);
+    console.line(format_args!("{which}: {}: {} - {}", title(number, &entry), said.what, said.place))?;
+    Ok(verdict.ok())
+}
+
+fn say(comparison: Comparison, console: &mut Console) -> Result<(), Failure> {
+    let (word, meaning) = match comparison.nesting {
+        Nesting::Equal => ("equal", "both blocks have the same cells"),
+        Nesting::FirstWithin => ("first within second", "every cell of the first is one of the second, which has more"),
+        Nesting::SecondWithin => ("second within first", "every cell of the second is one of the first, which has more"),
+        Nesting::NoCommonCell => ("no common cell", "no cell is in both"),
+        Nesting::Crossing => ("crossing", "some cells are in both, and some of each in it alone"),
+    };
+    console.line(format_args!("{word} - {meaning}"))?;
+    if let Some(inner) = comparison.inner {
+        let edges: Vec<String> = inner.steps().map(|(cols, rows)| at((cols.into(), rows.into()))).collect();
+        console.line(format_args!(
+            "inner: anchor {}, edges {}",
+            inner.anchor(),
+            if edges.is_empty() { "none".to_string() } else { edges.join(" ") }
+        ))?;
+    }
+    Ok(())
+}

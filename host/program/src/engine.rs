@@ -1,0 +1,38 @@
+//! What the commands ask of the library beyond a test. Everything asked here is answered by it.
+
+use robequarry::{Comparison, Edges, Holder, Outline, Refusal, TurnedBack};
+
+/// Whose outline it is on the holder, and where: the knee's, at the first place.
+const PARTY: u8 = 0;
+const PLACE: u8 = 0;
+
+/// A taken outline at work on a holder.
+pub struct AtWork(Holder);
+
+impl AtWork {
+    /// Draws the outline letter by letter, as the tablet does.
+    pub fn of(outline: &Outline) -> Result<Self, Refusal> {
+        let mut holder = Holder::new();
+        holder.begin(PARTY, outline.start)?;
+        for &letter in &outline.letters {
+            holder.add(PARTY, letter)?;
+        }
+        holder.close(PARTY, PLACE)?;
+        Ok(AtWork(holder))
+    }
+
+    /// The first and the last column of a row that the outline encloses; none where it has no cell there.
+    pub fn row(&mut self, row: u16) -> Result<Option<(u16, u16)>, Refusal> {
+        self.0.row(PARTY, PLACE, row)
+    }
+}
+
+/// The outline that has an anchor and edges, clockwise from W.
+pub fn border(edges: &Edges) -> Result<Outline, Refusal> {
+    edges.border()
+}
+
+/// How the cells of two hulls lie.
+pub fn compare<'a>(first: &'a Edges, second: &'a Edges) -> Result<Comparison<'a>, TurnedBack> {
+    first.compare(second)
+}

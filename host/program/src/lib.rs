@@ -1,0 +1,21 @@
+//! The command line program of Robequarry: checks, draws and explains outlines.
+//!
+//! Verdicts, edges, anchors and named cells come from the proved library, through the crate `robequarry`. What is told on the way to
+//! them ([`story`], [`words`]) is worked out here once more, for people; the tests hold it to the library's answers.
+
+mod arguments;
+mod commands;
+mod console;
+pub mod engine;
+pub mod explain;
+pub mod fitting;
+pub mod gallery;
+pub mod input;
+pub mod picture;
+pub mod story;
+pub mod text;
+pub mod verdict;
+pub mod walk;
+pub mod words;
+
+pub use commands::run;

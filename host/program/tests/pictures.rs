@@ -1,0 +1,180 @@
+//! Pictures are read back: well-formed XML, whose cells and corners are those of the library's answer.
+
+mod support;
+
+use std::collections::BTreeSet;
+use std::path::Path;
+use std::{env, fs};
+
+use robequarry::{Cell, Corner, Outline, Refusal};
+use robequarry_checks::draw::Shape;
+use robequarry_checks::random::Random;
+use robequarry_checks::reference::cells::Enclosed;
+use robequarry_checks::walks::outlines;
+use robequarry_checks::Point;
+use robequarry_program::explain::told;
+use robequarry_program::gallery::gallery;
+use robequarry_program::input::{Entries, Form};
+use robequarry_program::picture::picture;
+use support::{parse, Element};
+
+type Cells = BTreeSet<(i32, i32)>;
+
+/// A number that is whole, as corners are, or half, as centres are, in halves.
+fn halves(number: f64) -> i32 {
+    assert_eq!((2.0 * number).fract(), 0.0, "{number}");
+    (2.0 * number) as i32
+}
+
+/// The cells under the rectangles of a class; a rectangle may be as wide as a run of cells.
+fn cells(plot: &Element, class: &str) -> Cells {
+    let mut cells = Cells::new();
+    for rect in plot.of_class(class) {
+        let [x, y, width, height] = ["x", "y", "width", "height"].map(|name| halves(rect.number(name)) / 2);
+        assert_eq!(height, 1);
+        cells.extend((x..x + width).map(|col| (col, y)));
+    }
+    cells
+}
+
+/// The points of a line, in halves of columns and rows.
+fn points(line: &Element) -> Vec<(i32, i32)> {
+    let point = |pair: &str| {
+        let (x, y) = pair.split_once(',').expect("a point has two numbers");
+        (halves(x.parse().expect("a number")), halves(y.parse().expect("a number")))
+    };
+    line.attribute("points").split(' ').map(point).collect()
+}
+
+fn only<'a>(plot: &'a Element, class: &str) -> Option<&'a Element> {
+    let found = plot.of_class(class);
+    assert!(found.len() <= 1, "{class}");
+    found.first().copied()
+}
+
+fn centre(cell: Cell) -> (i32, i32) {
+    (2 * i32::from(cell.col) + 1, 2 * i32::from(cell.row) + 1)
+}
+
+/// Reads the picture of an outline back, and holds it to what the library and the reference say.
+fn holds(outline: &Outline) {
+    let verdict = outline.test();
+    let picture = parse(&picture("a < b & c", outline, &verdict));
+    assert_eq!(picture.name, "svg");
+    assert!(picture.children[0].text.starts_with("a < b & c: "));
+    let plots = picture.of_class("plot");
+    assert_eq!(plots.len(), 1);
+    let plot = plots[0];
+    if !told(&verdict) {
+        assert!(cells(plot, "cells").is_empty() && plot.of_class("piece").is_empty() && plot.of_class("edges").is_empty());
+        return;
+    }
+
+    let start = Point::new(outline.start.col, outline.start.row);
+    let enclosed: Cells = Enclosed::of(start, &outline.letters).cells().collect();
+    assert_eq!(cells(plot, "cells"), enclosed, "{outline:?}");
+    let missing = cells(plot, "missing");
+    match verdict {
+        Ok(edges) => {
+            let in_hull = |&(col, row): &(i32, i32)| edges.contains(Cell::new(col as u16, row as u16)).unwrap();
+            assert!(enclosed.iter().all(in_hull) && missing.is_empty(), "{outline:?}");
+            let mut at = centre(edges.anchor());
+            let mut way = vec![at];
+            for (cols, rows) in edges.steps() {
+                at = (at.0 + 2 * i32::from(cols), at.1 + 2 * i32::from(rows));
+                way.push(at);
+            }
+            assert_eq!(points(only(plot, "edges").expect("edges are drawn")), way);
+            assert_eq!(round(plot), sides(outline), "{outline:?}");
+        }
+        Err(Refusal::Dent { length, missing: lowest, .. }) => {
+            let first = missing.iter().min_by_key(|&&(col, row)| (row, col));
+            assert_eq!(first, Some(&(lowest.col.into(), lowest.row.into())), "{outline:?}");
+            assert_eq!(picture.of_class("named").len(), 2, "in the plot and in the legend");
+            let factor = points(only(plot, "factor").expect("the factor is drawn"));
+            let chord = points(only(plot, "chord").expect("the chord is drawn"));
+            assert_eq!(factor.len(), length + 1);
+            assert_eq!(chord, [factor[0], factor[length]]);
+            assert!(factor.iter().all(|(x, y)| enclosed.contains(&((x - 1) / 2, (y - 1) / 2))), "{outline:?}");
+            assert_eq!(round(plot), sides(outline), "{outline:?}");
+        }
+        Err(_) => {
+            assert!(!missing.is_empty() && missing.is_disjoint(&enclosed), "{outline:?}");
+            assert!(plot.of_class("edges").is_empty());
+        }
+    }
+}
+
+/// The sides that pieces 1 to 4 walk, each as the corner with the lower numbers and whether it runs up.
+fn round(plot: &Element) -> BTreeSet<(i32, i32, bool)> {
+    let pieces = plot.of_class("piece");
+    assert_eq!(pieces.len(), 4);
+    let mut sides = BTreeSet::new();
+    let mut end = points(pieces[3]).pop();
+    for (number, piece) in pieces.iter().enumerate() {
+        assert!(piece.has_class(&format!("p{}", number + 1)));
+        let points = points(piece);
+        assert_eq!(points.first().copied(), end, "each piece begins where the one before it ends");
+        end = points.last().copied();
+        for pair in points.windows(2) {
+            let (low, high) = (pair[0].min(pair[1]), pair[0].max(pair[1]));
+            sides.insert((low.0 / 2, low.1 / 2, low.0 == high.0));
+        }
+    }
+    sides
+}
+
+/// The sides that the letters walk.
+fn sides(outline: &Outline) -> BTreeSet<(i32, i32, bool)> {
+    let (mut col, mut row) = (i32::from(outline.start.col), i32::from(outline.start.row));
+    let mut sides = BTreeSet::new();
+    for letter in &outline.letters {
+        let (c, r) = [(1, 0), (0, 1), (-1, 0), (0, -1)][usize::from(*letter)];
+        sides.insert((col.min(col + c), row.min(row + r), c == 0));
+        (col, row) = (col + c, row + r);
+    }
+    sides
+}
+
+#[test]
+fn every_outline_of_2_by_2() {
+    for outline in outlines(2, Point::new(0, 253)) {
+        holds(&Outline::new(Corner::new(outline.start.col, outline.start.row), outline.letters));
+    }
+}
+
+#[test]
+fn drawings_and_garbage() {
+    let mut random = Random::new(28);
+    for shape in Shape::ALL {
+        for side in [2, 5, 9, 14, 30] {
+            let outline = shape.draw_in(&mut random, side);
+            holds(&Outline::new(Corner::new(outline.start.col, outline.start.row), outline.letters));
+        }
+    }
+    for length in (0..40).chain([612, 613, 2048]) {
+        let letters: Vec<u8> = (0..length).map(|_| random.below(5) as u8).collect();
+        holds(&Outline::new(Corner::new(random.below(260) as u16, 0), letters.clone()));
+        holds(&Outline::new(Corner::new(u16::MAX, u16::MAX), letters));
+    }
+}
+
+#[test]
+fn specimens() {
+    for text in [robequarry_program::gallery::SPECIMENS, robequarry_program::gallery::TRAINING] {
+        for entry in Entries::of(text.as_bytes(), Some(Form::Text)) {
+            holds(&entry.unwrap().outline);
+        }
+    }
+}
+
+/// The pictures in docs/pictures/ are those that the gallery makes, and every one is well-formed.
+#[test]
+fn the_documents_show_this_gallery() {
+    let folder = Path::new(env!("CARGO_MANIFEST_DIR")).join("../../docs/pictures");
+    for (name, svg) in gallery() {
+        parse(&svg);
+        let shown = fs::read_to_string(folder.join(&name)).unwrap_or_default();
+        assert!(shown == svg, "docs/pictures/{name} is another: run `robequarry gallery docs/pictures`");
+    }
+}

@@ -1,0 +1,254 @@
+//! The program, run as a user runs it: what it writes and how it ends.
+
+mod support;
+
+use std::fs;
+use std::io::Write;
+use std::path::PathBuf;
+use std::process::{Command, Output, Stdio};
+
+const SPECIMENS: &str = concat!(env!("CARGO_MANIFEST_DIR"), "/specimens.txt");
+
+fn program(arguments: &[&str]) -> Output {
+    Command::new(env!("CARGO_BIN_EXE_robequarry")).args(arguments).output().expect("cargo has built it")
+}
+
+fn status(output: &Output) -> i32 {
+    output.status.code().expect("it ends by itself")
+}
+
+fn out(output: &Output) -> String {
+    String::from_utf8(output.stdout.clone()).expect("the output is text")
+}
+
+fn err(output: &Output) -> String {
+    String::from_utf8(output.stderr.clone()).expect("the output is text")
+}
+
+/// A file for a test, with these bytes.
+fn file(name: &str, bytes: &[u8]) -> String {
+    let path = PathBuf::from(env!("CARGO_TARGET_TMPDIR")).join(name);
+    fs::write(&path, bytes).expect("the folder for tests can be written");
+    path.to_str().expect("the folder's name is text").to_string()
+}
+
+/// The record of a fitting file.
+fn record(start: (u8, u8), letters: &[u8]) -> Vec<u8> {
+    let count = (letters.len() as u16).to_le_bytes();
+    [&[0x4B, 0x4F, start.0, start.1, count[0], count[1]], letters].concat()
+}
+
+const PLUS: [u8; 12] = [1, 0, 1, 0, 3, 0, 3, 2, 3, 2, 1, 2];
+const DENTED: [u8; 12] = [1, 1, 1, 0, 3, 3, 0, 0, 3, 2, 2, 2];
+
+#[test]
+fn check_says_each_verdict_in_words() {
+    let checked = program(&["check", SPECIMENS]);
+    assert_eq!(out(&checked), include_str!("check.txt"));
+    assert_eq!((status(&checked), err(&checked).as_str()), (1, ""));
+}
+
+#[test]
+fn explain_tells_a_story() {
+    for (number, story, expected) in [
+        ("2", include_str!("explain-H3.txt"), 0),
+        ("5", include_str!("explain-H6.txt"), 1),
+        ("6", include_str!("explain-H7.txt"), 1),
+        ("11", include_str!("explain-H12.txt"), 1),
+    ] {
+        let told = program(&["explain", SPECIMENS, "--outline", number]);
+        assert_eq!((out(&told).as_str(), status(&told)), (story, expected));
+    }
+}
+
+#[test]
+fn a_fitting_file_is_read_as_well() {
+    let both = file("both.fit", &[record((0, 1), &PLUS), record((0, 0), &DENTED)].concat());
+    let checked = program(&["check", &both]);
+    let lines = "outline 0: taken - 4 edges, anchor (0, 1)\n\
+                 outline 1: refused, 9: a dent - cell (1, 1) is missing; 4 letters from place 4 in piece 2 (N to E: down and right)\n\
+                 2 outlines: 1 taken, 1 refused\n";
+    assert_eq!((out(&checked).as_str(), status(&checked)), (lines, 1));
+    let plus = file("plus.fit", &record((0, 1), &PLUS));
+    assert_eq!(status(&program(&["check", &plus])), 0);
+    let empty = program(&["check", &file("empty.fit", &[])]);
+    assert_eq!((out(&empty).as_str(), status(&empty)), ("", 0));
+}
+
+#[test]
+fn the_lines_before_a_fault_stand() {
+    let plus = record((0, 1), &PLUS);
+    for (name, bytes, fault) in [
+        ("mark.fit", [&plus[..], b"KX"].concat(), "fault 23: outline 1 has no mark: the bytes 4B 4F are not at byte 18"),
+        ("cut.fit", [&plus[..], &plus[..17]].concat(), "fault 24: outline 1 is cut: its mark is at byte 18"),
+        (
+            "text.txt",
+            b"0 1 101030323212\n0 0 abc\n".to_vec(),
+            "line 2: letters are 0 right, 1 up, 2 left and 3 down, not `a`",
+        ),
+    ] {
+        let path = file(name, &bytes);
+        let checked = program(&["check", &path]);
+        assert_eq!(out(&checked), "outline 0: taken - 4 edges, anchor (0, 1)\n");
+        assert_eq!(err(&checked), format!("robequarry: {path}: {fault}\n"));
+        assert_eq!(status(&checked), 2);
+    }
+    let large = file("large.fit", &plus.repeat(4000));
+    let checked = program(&["check", &large]);
+    assert_eq!((out(&checked).as_str(), status(&checked)), ("", 2));
+    assert!(err(&checked).ends_with("fault 25: a fitting file has at most 65536 bytes\n"));
+}
+
+#[test]
+fn standard_input_is_a_file_too() {
+    let mut command = Command::new(env!("CARGO_BIN_EXE_robequarry"));
+    command.args(["check", "-", "--fitting"]).stdin(Stdio::piped()).stdout(Stdio::piped());
+    let mut child = command.spawn().expect("cargo has built it");
+    child.stdin.take().expect("it is piped").write_all(&record((9, 9), &PLUS)).expect("it is read");
+    let checked = child.wait_with_output().expect("it ends");
+    assert!(out(&checked).starts_with("outline 0: taken - 4 edges, anchor (9, 9)\n"));
+}
+
+#[test]
+fn faults_of_a_call() {
+    for (arguments, message) in [
+        (&[][..], "no command is given"),
+        (&["chekc"], "there is no command `chekc`"),
+        (&["check"], "check takes one file; nothing is given"),
+        (&["check", "a", "b"], "check takes one file; `b` is one too many"),
+        (&["check", "--colour", "a"], "there is no option --colour here"),
+        (&["explain", SPECIMENS, "--outline", "x"], "--outline needs a number, not `x`"),
+    ] {
+        let called = program(arguments);
+        assert_eq!(err(&called), format!("robequarry: {message}\nTry `robequarry --help`.\n"));
+        assert_eq!((out(&called).as_str(), status(&called)), ("", 2));
+    }
+    let none = program(&["explain", SPECIMENS, "-n", "16"]);
+    assert_eq!(err(&none), format!("robequarry: {SPECIMENS}: there is no outline 16: its outlines are numbered 0 to 15\n"));
+    assert_eq!(status(&none), 2);
+    let missing = program(&["check", "no/such/file"]);
+    assert!(err(&missing).starts_with("robequarry: no/such/file: cannot be read: "));
+    assert_eq!(status(&missing), 2);
+}
+
+#[test]
+fn help_names_every_command() {
+    let help = program(&["--help"]);
+    assert_eq!((status(&help), err(&help).as_str()), (0, ""));
+    let commands = out(&help);
+    for command in commands.lines().skip_while(|line| *line != "Commands:").skip(1).take_while(|line| !line.is_empty()) {
+        let name = command.split_whitespace().next().expect("a command has a name");
+        let more = program(&[name, "--help"]);
+        assert!(out(&more).starts_with(&format!("robequarry {name}")), "{name}");
+        assert_eq!(out(&program(&["help", name])), out(&more));
+    }
+}
+
+#[test]
+fn draw_writes_a_picture_of_any_outline() {
+    let path = file("drawn.svg", b"");
+    for (number, expected) in [("2", 0), ("5", 1), ("9", 1)] {
+        let drawn = program(&["draw", SPECIMENS, "-n", number, "-o", &path]);
+        assert_eq!((status(&drawn), out(&drawn), err(&drawn)), (expected, String::new(), String::new()));
+        let svg = fs::read_to_string(&path).expect("it was written");
+        support::parse(&svg);
+        let shown = program(&["draw", SPECIMENS, "-n", number, "-o", "-"]);
+        assert_eq!(out(&shown), svg);
+    }
+    let nowhere = program(&["draw", SPECIMENS, "-o", "no/such/folder/a.svg"]);
+    assert!(err(&nowhere).starts_with("robequarry: no/such/folder/a.svg: cannot be written: "));
+    assert_eq!(status(&nowhere), 2);
+    let nameless = program(&["draw", SPECIMENS]);
+    assert!(err(&nameless).starts_with("robequarry: draw needs a name for its picture: -o OUT.svg\n"));
+}
+
+#[test]
+fn gallery_fills_a_folder() {
+    let folder = PathBuf::from(env!("CARGO_TARGET_TMPDIR")).join("gallery");
+    let filled = program(&["gallery", folder.to_str().expect("the folder's name is text")]);
+    assert_eq!(out(&filled), format!("23 pictures in {}\n", folder.display()));
+    assert!(folder.join("H3.svg").is_file() && folder.join("specimens.svg").is_file());
+}
+
+#[test]
+fn rows_of_a_block() {
+    let rows = program(&["row", SPECIMENS, "-n", "2"]);
+    assert_eq!(out(&rows), "row 0: columns 1 to 1\nrow 1: columns 0 to 2\nrow 2: columns 1 to 1\n");
+    assert_eq!(out(&program(&["row", SPECIMENS, "1", "-n", "2"])), "row 1: columns 0 to 2\n");
+    assert_eq!(out(&program(&["row", SPECIMENS, "3", "-n", "2"])), "row 3: none\n");
+    let off = program(&["row", SPECIMENS, "255"]);
+    assert_eq!((out(&off).as_str(), status(&off)), ("refused, 11: a cell number is above 254\n", 1));
+    let dented = program(&["row", SPECIMENS, "0", "-n", "5"]);
+    assert!(out(&dented).starts_with("outline 5 (H6: a dent): refused, 9: "));
+    assert_eq!(status(&dented), 1);
+    let wrong = program(&["row", SPECIMENS, "-1"]);
+    assert_eq!(err(&wrong), "robequarry: `-1` is not a row\nTry `robequarry --help`.\n");
+}
+
+#[test]
+fn bench_times_each_outline() {
+    let timed = program(&["bench", &file("bench.fit", &[record((0, 1), &PLUS), record((0, 0), &DENTED)].concat())]);
+    let lines = out(&timed);
+    let lines: Vec<Vec<&str>> = lines.lines().map(|line| line.split_whitespace().collect()).collect();
+    assert_eq!(lines.len(), 3);
+    assert!(lines[1][1].parse::<f64>().unwrap() > 0.0 && lines[1][2].parse::<f64>().unwrap() > 0.0);
+    assert_eq!((lines[2][0], lines[2][2], status(&timed)), ("12", "-", 1));
+}
+
+#[test]
+fn border_writes_an_outline_back() {
+    let plus = program(&["border", "0", "1", "1", "1", "1", "-1", "-1", "-1", "-1", "1"]);
+    assert_eq!((out(&plus).as_str(), status(&plus)), ("0 1 101030323212\n", 0));
+    assert_eq!(out(&program(&["border", "7", "9"])), "7 9 1032\n");
+    for (edges, number) in [(&["1", "1", "-1", "-1"][..], 17), (&["1", "0"], 16), (&["1"], 10)] {
+        let refused = program(&[&["border", "0", "0"], edges].concat());
+        assert!(out(&refused).starts_with(&format!("refused, {number}: ")), "{edges:?}");
+        assert_eq!(status(&refused), 1);
+    }
+    for wrong in [&["border"][..], &["border", "0"], &["border", "0", "x"], &["border", "0", "0", "40000", "0"]] {
+        assert_eq!(status(&program(wrong)), 2, "{wrong:?}");
+    }
+}
+
+/// Whatever `check` takes, `border` writes back from its edges: the same block.
+#[test]
+fn border_of_every_taken_specimen() {
+    use robequarry_program::input::Entries;
+    for entry in Entries::of(robequarry_program::gallery::SPECIMENS.as_bytes(), None) {
+        let Ok(edges) = entry.expect("our own text has no fault").outline.test() else {
+            continue;
+        };
+        let mut words = vec!["border".to_string(), edges.anchor().col.to_string(), edges.anchor().row.to_string()];
+        words.extend(edges.numbers().iter().map(i16::to_string));
+        let line = out(&program(&words.iter().map(String::as_str).collect::<Vec<_>>()));
+        let again = Entries::of(line.as_bytes(), None).next().expect("there is a line").expect("it has no fault");
+        assert_eq!(again.outline.test(), Ok(edges));
+    }
+}
+
+#[test]
+fn compare_says_which_lies_within() {
+    let file = file("blocks.txt", b"5 5 1032\n5 5 11003322\n7 5 1032\n6 5 10003222\n0 0 103\n");
+    for (first, second, word, inner) in [
+        ("0", "0", "equal", Some("inner: anchor (5, 5), edges none")),
+        ("0", "1", "first within second", Some("inner: anchor (5, 5), edges none")),
+        ("1", "0", "second within first", Some("inner: anchor (5, 5), edges none")),
+        ("1", "2", "no common cell", None),
+        ("1", "3", "crossing", None),
+    ] {
+        let compared = program(&["compare", &file, &file, "--first", first, "--second", second]);
+        let said = out(&compared);
+        let lines: Vec<&str> = said.lines().collect();
+        assert!(
+            lines[0].starts_with(&format!("first: outline {first}: taken"))
+                && lines[1].starts_with(&format!("second: outline {second}"))
+        );
+        assert!(lines[2].starts_with(&format!("{word} - ")), "{said}");
+        assert_eq!((lines.get(3).copied(), status(&compared)), (inner, 0));
+    }
+    let refused = program(&["compare", &file, &file, "--second", "4"]);
+    assert!(out(&refused)
+        .ends_with("second: outline 4: refused, 1: too few or too many letters - 3 letters; an outline has 4 to 612\n"));
+    assert_eq!(status(&refused), 1);
+    assert_eq!(status(&program(&["compare", &file])), 2);
+}
