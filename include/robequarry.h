@@ -208,7 +208,7 @@ void rq_pile_fresh(void *pile);
 /*
  * Sets a layer to an outline: 22, then 1 to 9, or taken with the fields of a taken test. A refusal alters nothing; else the pile is unchecked.
  *
- * Stack: about 40,000 bytes, as for all calls on a pile.
+ * Stack: about 41,400 bytes, as for all calls on a pile.
  */
 bool rq_pile_set(void *pile, uint8_t layer, uint16_t col, uint16_t row, const uint8_t *letters, size_t n, uint16_t *reply, size_t k);
 

@@ -19,7 +19,12 @@ struct Block {
 impl Block {
     fn any(random: &mut Random) -> Self {
         let number = |random: &mut Random, low, high| random.from_to(low, high) as i32;
-        Block { left: number(random, 0, 200), bottom: number(random, 0, 200), width: number(random, 1, 40), height: number(random, 1, 40) }
+        Block {
+            left: number(random, 0, 200),
+            bottom: number(random, 0, 200),
+            width: number(random, 1, 40),
+            height: number(random, 1, 40),
+        }
     }
 
     /// Every number moved on by so much, as far as the chart goes.

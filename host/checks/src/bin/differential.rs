@@ -309,11 +309,15 @@ fn random_piles(run: &mut Run, random: &mut Random) {
     let mut numbers = [0u64; 23];
     let mut passed = 0u64;
     for _ in 0..PILES {
-        let (mut library, mut plain, mut reference) = (robequarry::Pile::fresh(), plain::Pile::default(), reference::pile::Pile::default());
+        let (mut library, mut plain, mut reference) =
+            (robequarry::Pile::fresh(), plain::Pile::default(), reference::pile::Pile::default());
         for call in piles::calls(random) {
             let expected = reference.call(&call);
             let mut reply = [u16::MAX; REPLY + 2];
-            assert!(!library.call_into(&call, &mut reply[..REPLY - 1]) && reply == [u16::MAX; REPLY + 2], "no room: {call:?}");
+            assert!(
+                !library.call_into(&call, &mut reply[..REPLY - 1]) && reply == [u16::MAX; REPLY + 2],
+                "no room: {call:?}"
+            );
             assert!(library.call_into(&call, &mut reply), "room: {call:?}");
             assert_eq!(<[u16; REPLY]>::from(expected), reply[..REPLY], "library: {call:?}");
             assert_eq!(reply[REPLY..], [u16::MAX; 2], "what stands behind the reply: {call:?}");
@@ -323,7 +327,10 @@ fn random_piles(run: &mut Run, random: &mut Random) {
             run.compared += 1;
         }
     }
-    println!("{:>9} checks passed, {} named a section; 11, 12 and 22 were replied {}, {} and {} times", passed, numbers[21], numbers[11], numbers[12], numbers[22]);
+    println!(
+        "{:>9} checks passed, {} named a section; 11, 12 and 22 were replied {}, {} and {} times",
+        passed, numbers[21], numbers[11], numbers[12], numbers[22]
+    );
     let all = [8, 9, 11, 12, 21, 22].iter().all(|&number| numbers[number] > 0);
     assert!(all && passed > numbers[21] / 3 && numbers[21] > passed / 3, "what the lists reach");
 }

@@ -35,7 +35,9 @@ impl Default for Pile {
 impl Pile {
     pub fn call(&mut self, call: &PileCall) -> Fields {
         match call {
-            PileCall::Set(layer, _) | PileCall::SetEmpty(layer) | PileCall::Query(layer, _) if *layer >= LAYERS => numbered(22),
+            PileCall::Set(layer, _) | PileCall::SetEmpty(layer) | PileCall::Query(layer, _) if *layer >= LAYERS => {
+                numbered(22)
+            }
             PileCall::Set(layer, outline) => {
                 let outline = Outline { start: outline.start.into(), letters: outline.letters.clone() };
                 let reply = test(outline.start, &outline.letters, &mut [0; MOST_NUMBERS]);
@@ -67,7 +69,9 @@ impl Pile {
     pub fn check(&mut self) -> Fields {
         let dented = |kind, at| Fields { number: 21, piece: kind, place: at as u16, ..Fields::default() };
         let column = (0..ROWS).find(|&at| !is_clear(&self.column(at as u8)));
-        let dent = column.map(|at| dented(0, at)).or_else(|| (0..ROWS).find(|&at| !is_clear(&self.row(at))).map(|at| dented(1, at)));
+        let dent = column
+            .map(|at| dented(0, at))
+            .or_else(|| (0..ROWS).find(|&at| !is_clear(&self.row(at))).map(|at| dented(1, at)));
         self.passed = dent.is_none();
         dent.unwrap_or_default()
     }

@@ -23,7 +23,9 @@ impl Default for Pile {
 impl Pile {
     pub fn call(&mut self, call: &PileCall) -> Fields {
         match call {
-            PileCall::Set(layer, _) | PileCall::SetEmpty(layer) | PileCall::Query(layer, _) if *layer >= LAYERS => numbered(22),
+            PileCall::Set(layer, _) | PileCall::SetEmpty(layer) | PileCall::Query(layer, _) if *layer >= LAYERS => {
+                numbered(22)
+            }
             PileCall::Set(layer, outline) => {
                 let start = Point::from(outline.start);
                 let reply = test_into(start, &outline.letters, &mut [0; LONGEST_LIST]);

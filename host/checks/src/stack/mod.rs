@@ -8,8 +8,11 @@ use std::collections::HashSet;
 
 use robequarry::limits::{CALL, REPLY};
 use robequarry::raw::{self, HolderMemory};
+use robequarry::{Pile, PileCall};
 
 use crate::case::Case;
+use crate::piles;
+use crate::random::Random;
 
 /// Bytes of a painted stack, many times what a call should need.
 const SIZE: usize = 4 << 20;
@@ -21,8 +24,8 @@ const PAINTS: [u8; 2] = [0xa5, 0x5a];
 const CLOSE: u8 = 4;
 
 /// The most bytes of stack that each function needs for any of its inputs: the longest outlines, and every way through the test.
-pub fn needs() -> [(&'static str, usize); 6] {
-    let names = ["rq_test", "rq_loose_query", "rq_border", "rq_compare", "rq_replay", "rq_call"];
+pub fn needs() -> [(&'static str, usize); 7] {
+    let names = ["rq_test", "rq_loose_query", "rq_border", "rq_compare", "rq_replay", "rq_call", "rq_pile_set and the like"];
     let mut needs = names.map(|name| (name, 0));
     let mut stack = Stack::new();
     for case in inputs::all() {
@@ -38,8 +41,15 @@ pub fn needs() -> [(&'static str, usize); 6] {
             needs[5].1 = needs[5].1.max(stack.need_of_calls(bytes));
         }
     }
+    let mut random = Random::new(1);
+    for _ in 0..PILES {
+        needs[6].1 = needs[6].1.max(stack.need_of_a_pile(&piles::calls(&mut random)));
+    }
     needs
 }
+
+/// How many lists of calls on a pile are drawn.
+const PILES: usize = 8;
 
 struct Stack {
     bytes: Vec<u8>,
@@ -48,6 +58,18 @@ struct Stack {
 impl Stack {
     fn new() -> Self {
         Stack { bytes: vec![0; SIZE] }
+    }
+
+    /// How many bytes of stack the library needs for the calls on a pile.
+    fn need_of_a_pile(&mut self, calls: &[PileCall]) -> usize {
+        let mut pile = Pile::fresh();
+        let mut most = 0;
+        for call in calls {
+            most = most.max(self.depth(&mut || {
+                pile.call(call);
+            }));
+        }
+        most
     }
 
     /// How many bytes of stack the library needs for an input. Its lists are on the heap.
