@@ -47,7 +47,6 @@
  *   18  border: `letters` has no room for the letters
  *   19  the party is above 1
  *   20  the place is above 3; a close that it turns back ends its party's draft all the same
- *
  *   21  pile, check: a section is dented: piece 0 for a column and 1 for a row, place its column or row; the first among columns, then rows
  *   22  pile: the layer is above 15; before all others
  *

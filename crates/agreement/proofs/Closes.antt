@@ -69,7 +69,7 @@ module _ (p k : ℕ) (there : p < parties) (inside : k < places) (cs : List Call
   close-number : replyFields (replyAfter cs (by p (Close k))) .number ≡ verdictFields (verdictOf o) .number
   close-number = rw close-reply (closed-number (equalsWork o (lastTaken p k cs)) (verdictOf o))
 
-  -- "Same" exactly if the draft passes the test and encloses the same cells as the outline last taken (contract 7.7)
+  -- "Same" exactly for a draft that is taken and has the cells of the outline last taken (contract 7.7)
   pub close-same : (v : Outline) → lastTaken p k cs ≡ some v → (n : ℕ) (a : Point) → (replyAfter cs (by p (Close k)) ≡ Same n a) ↔ ((verdictOf o ≡ Taken n a) × SameCells o v)
   unfolding equalsWork
   close-same v last n a = (

@@ -1,7 +1,7 @@
 -- Every list of calls on a fresh holder gets the plain book's replies: the fresh holder stands for the fresh book, every call keeps that and replies as
 -- the book does, and the rest is induction over the list.
 use Prim.Native.Nat.{ℕ, _<_}
-use mathlib.Core.Path.{_≡_, refl, sym, ap₂, _∙_, subst}
+use mathlib.Core.Path.{_≡_, refl, ap₂, subst}
 use mathlib.Core.Bool.{Bool, true, false}
 use mathlib.Core.List.{List, [], _∷_}
 use borrow.Author.Tests.{leb-false}
@@ -16,7 +16,7 @@ use Rattle.holder.specs.Holder.{workOf, freshHolder, answerOf}
 use Rattle.holder.specs.Run.{handledFrom, handled, holderAfter, replyAfter}
 use Rattle.agreement.proofs.Works.{IsWork}
 use Rattle.agreement.proofs.Slots.{Represents, represents-fresh, represents-turned}
-use Rattle.agreement.proofs.Pages.{AgreesPage, act-agrees}
+use Rattle.agreement.proofs.Pages.{act-agrees}
 
 -- A call's answer is the book's, and the next holder stands for the next book
 abbrev Agrees : Answered → Answer → Type 0

@@ -13,7 +13,6 @@ use Rattle.border.proofs.JudgedLaws.{judged-verdict, judged-numbers}
 use Rattle.calls.specs.Calls.{parties, places, badPlace}
 use Rattle.calls.specs.declared.Action.{Action}
 use Rattle.calls.specs.declared.Action.the-variants.{Begin, Add, Drop, Clear, Close, Ask}
-use Rattle.calls.specs.declared.Reply.the-variants.{NoPlace}
 use Rattle.book.specs.Book.{Page, putDraft, putWork, OnDraft, OnPage, workAfter, closes, drafting as draftingPage, closing, acts}
 use Rattle.draft.specs.declared.Drafted.{Drafted}
 use Rattle.draft.specs.Draft.{outlineOf}
@@ -22,7 +21,7 @@ use Rattle.holder.specs.declared.Holder.{Holder}
 use Rattle.holder.specs.declared.Answered.{Answered}
 use Rattle.holder.specs.Holder.{draftOf, workOf, ended, closedHolder, closedBy, closeOf, drafting, actOf}
 use Rattle.agreement.proofs.Drafts.{IsDraft, AgreesDraft, ended-stands, begin-agrees, add-agrees, drop-agrees}
-use Rattle.agreement.proofs.Works.{IsWork, numbersOf, taken-working, removed-stands, closed-agrees, answered-asked}
+use Rattle.agreement.proofs.Works.{numbersOf, taken-working, removed-stands, closed-agrees, answered-asked}
 use Rattle.agreement.proofs.Slots.{Sized, HasPage, Turns, turns-nothing, turns-draft, turns-work, page-draft, page-work, page-kept}
 
 -- The answer to a call of party p is its page's

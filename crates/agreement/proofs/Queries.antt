@@ -13,7 +13,7 @@ use Rattle.chart.specs.declared.Point.{Point}
 use Rattle.chart.specs.declared.Refusal.the-variants.{Cell}
 use Rattle.convexity.specs.Reading.{block}
 use Rattle.polygon.specs.Loose.{badCell}
-use Rattle.calls.specs.Calls.{parties, places, badParty, badPlace, by}
+use Rattle.calls.specs.Calls.{parties, places, by}
 use Rattle.calls.specs.Replies.{replyFields}
 use Rattle.calls.specs.declared.Call.{Call}
 use Rattle.calls.specs.declared.Action.the-variants.{Ask}

@@ -29,7 +29,7 @@ use Rattle.convexity.proofs.AsSent.{edges-answer-sent}
 use Rattle.convexity.proofs.SameBlock.{SameEdges, same-cells-iff}
 use Rattle.spans.specs.declared.Span.{Span}
 use Rattle.spans.specs.declared.Span.the-variants.{None as Empty, Columns as Run}
-use Rattle.spans.specs.Spans.{spansOf, spanAt}
+use Rattle.spans.specs.Spans.{spansOf}
 use Rattle.spans.proofs.Exact.{spans-search}
 use Rattle.verdict.specs.Verdict.{verdictOf, lentAfter}
 use Rattle.verdict.proofs.VerdictLaws.{TakenFacts, taken-facts, taken-fits}

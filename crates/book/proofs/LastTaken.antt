@@ -1,7 +1,7 @@
 -- At work is the outline last taken: a call changes what is at work at a place exactly where it leaves a mark of it, and then to that mark.
 use Prim.Native.Nat.{ℕ}
 use mathlib.Core.Path.{_≡_, refl, sym, ap, _∙_}
-use mathlib.Core.Bool.{Bool, true, false, cond, _&&_}
+use mathlib.Core.Bool.{Bool, true, false, cond}
 use mathlib.Core.Option.{Option, none, some}
 use mathlib.Core.List.{List, [], _∷_, _++_, append-assoc, append-nil}
 use lib.Dec.{eqb}
@@ -14,7 +14,7 @@ use Rattle.chart.specs.declared.Refusal.the-variants.{Count, Start, Letter, Lea
 use Rattle.chart.specs.declared.Verdict.{Verdict}
 use Rattle.chart.specs.declared.Verdict.the-variants.{Taken, Refused}
 use Rattle.verdict.specs.Verdict.{verdictOf}
-use Rattle.book.specs.Book.{Book, Page, drafted, atWork, fresh, equalsWork, closedReply, workAfter, closes, acts, answer, bookAfter}
+use Rattle.book.specs.Book.{Book, Page, atWork, fresh, equalsWork, closedReply, workAfter, closes, acts, answer, bookAfter}
 use Rattle.book.specs.LastTaken.{left, mark, marks, lastOr, lastTaken}
 use Rattle.calls.specs.Calls.{badParty, badPlace}
 use Rattle.calls.specs.Replies.{replyFields}

@@ -23,7 +23,7 @@ use Rattle.calls.specs.Replies.{replyFields}
 use Rattle.calls.specs.declared.Call.{Call}
 use Rattle.calls.specs.declared.Action.{Action}
 use Rattle.calls.specs.declared.Action.the-variants.{Begin, Add, Drop, Clear, Close, Ask}
-use Rattle.calls.specs.declared.Question.the-variants.{Cell as OfCell, Row as OfRow}
+use Rattle.calls.specs.declared.Question.the-variants.{Cell as OfCell}
 use Rattle.polygon.specs.Loose.{badCell}
 use Rattle.book.specs.Book
 use Rattle.book.specs.Parties.{actsFrom}

@@ -1,6 +1,6 @@
 -- The outline last taken at a party's place in a list of calls (contract 8.3), read off the calls, their replies and the drafts, and not off what the book has at work.
 use Prim.Native.Nat.{ℕ}
-use mathlib.Core.Bool.{Bool, false, cond, _&&_}
+use mathlib.Core.Bool.{cond, _&&_}
 use mathlib.Core.Option.{Option, none}
 use mathlib.Core.List.{List, [], _∷_, _++_}
 use lib.Dec.{eqb}

@@ -9,8 +9,9 @@ use mathlib.Core.Option.{Option, none, some}
 use mathlib.Core.List.{List, [], _∷_}
 use lib.ListN.{length, getD, set, replicate, length-set, length-replicate, getD-replicate, List·getD-eq-default}
 use lib.Seq.{getD-set-same, getD-set-other}
-use lib.Dec.{eqb, leb, ltb}
-use borrow.Author.Tests.{lt-ltb, le-ltb, ltb-true, eq-eqb, ne-eqb, not-true, not-false}
+use lib.Dec.{leb, ltb}
+use borrow.Author.Tests.{lt-ltb, le-ltb, ltb-true, not-true, not-false}
+use Rattle.base.proofs.PutLaws.{put-here, put-elsewhere}
 use Rattle.base.proofs.BelowLaws.{and-right, not-held, first-found, first-before}
 use Rattle.chart.specs.Limits.{side}
 use Rattle.chart.specs.declared.Point.{Point}
@@ -117,8 +118,8 @@ module _ (b : PileBook) (p : Pile) (t : InStep b p) where
         size = length-set (p .layers) l s ∙ t .size;
         kept = λ i.
             elim (same-or-not i l) [
-              | inl e ↦ rw (e, eq-eqb l l refl, getD-set-same (p .layers) l s (record { first = []; past = [] }) (omega (arith, t .size))) k
-              | inr e ↦ rw (ne-eqb i l e, getD-set-other (p .layers) l i s (record { first = []; past = [] }) e) (t .kept i)
+              | inl e ↦ rw (e, put-here (b .layers) l v, getD-set-same (p .layers) l s (record { first = []; past = [] }) (omega (arith, t .size))) k
+              | inr e ↦ rw (put-elsewhere (b .layers) l v i e, getD-set-other (p .layers) l i s (record { first = []; past = [] }) e) (t .kept i)
             ];
         same = refl;
         whole-columns = λ e. absurd (true≢false (sym e));

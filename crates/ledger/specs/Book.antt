@@ -5,7 +5,8 @@ use mathlib.Core.Path.{_≡_}
 use mathlib.Core.Bool.{Bool, true, false, cond}
 use mathlib.Core.Option.{Option, none, some}
 use mathlib.Core.List.{List, [], _∷_}
-use lib.Dec.{eqb, ltb}
+use lib.Dec.{ltb}
+use Rattle.base.specs.Put.{put}
 use Rattle.chart.specs.Limits.{side}
 use Rattle.chart.specs.declared.Point.{Point}
 use Rattle.chart.specs.declared.Verdict.{Verdict}
@@ -41,7 +42,7 @@ fresh = record { layers = λ l. none; passed = false }
 
 -- The layer l is set, and the pile counts as unchecked
 unfoldable pub putLayer : PileBook → ℕ → Option Outline → PileBook
-putLayer b l v = record { layers = λ k. cond (eqb k l) v (b .layers k); passed = false }
+putLayer b l v = record { layers = put (b .layers) l v; passed = false }
 
 -- ---- what the layers mark
 
@@ -57,7 +58,7 @@ columnMarks ls c l r = marks (ls l) c r
 unfoldable pub rowMarks : Layers → ℕ → ℕ → ℕ → Bool
 rowMarks ls r l c = marks (ls l) c r
 
--- Some cell of the section lies in the hull of its marked cells and is not marked
+-- A cell is missing from the section's marked ones (contract 12.3)
 abbrev pub HasDent : (ℕ → ℕ → Bool) → Type 0
 HasDent marked = (x : Point) × Missing marked x
 

@@ -1,4 +1,4 @@
-// The sections of a pile, at a fixed column and at a fixed row, and the first that is dented.
+// The sections of a pile, by columns and by rows, and the first that is dented.
 use sections::LAYERS;
 use sections::Section;
 use sections::is_clear;

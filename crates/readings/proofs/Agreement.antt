@@ -139,7 +139,7 @@ module _ (a : Point) (es : List ℤ) (r : Reading) (held : Held r) where
     -- ---- when the answer is "undecided"
 
     module _ (good : badReading r ≡ false) where
-      -- Within the extremes, no computed side value at most -1/64, and one below 1/64
+      -- The extremes hold it, every computed side value is above -1/64, and some one is below 1/64
       pub undecided-iff : (locatedOf a es r ≡ Undecided) ↔ Open a es r
       unfolding locatedOf sided
       undecided-iff = (
@@ -161,7 +161,7 @@ module _ (a : Point) (es : List ℤ) (r : Reading) (held : Held r) where
             rw (good, on, o .within, none-far, some),
       )
 
-      -- Never where every exact value is 1/32 or more
+      -- It decides wherever all exact values reach 1/32
       pub decided-inside : ((e : Edge) → List·Memᴰ e (edgesAlong a es) → leZ (pos (2 ^ 144)) (exactSide r e) ≡ true) → locatedOf a es r ≡ Undecided → ⊥
       decided-inside h e =
           let o = undecided-iff .0 e in

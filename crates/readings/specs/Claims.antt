@@ -14,7 +14,7 @@ use Rattle.readings.specs.declared.Located.the-variants.{Inside, Outside
 use Rattle.readings.specs.Sides.{Edge, edgesAlong, exactSide, computedSide}
 use Rattle.readings.specs.Located.{withinExtremes, exactlyInside, locatedOf}
 
--- Within the extremes, with no computed side value at most -1/64, and one below 1/64
+-- When an answer is left open: the extremes hold the reading, every computed side value is above -1/64, and some one is below 1/64
 pub record Open (a : Point) (es : List ℤ) (r : Reading) : Type 0 where
   pub within : withinExtremes a es r ≡ true
   pub none-far : (e : Edge) → List·Memᴰ e (edgesAlong a es) → leZ (value binary32 (computedSide r e)) (negℤ (pos (2 ^ 143))) ≡ false
@@ -30,7 +30,7 @@ pub record Answers (a : Point) (es : List ℤ) (r : Reading) : Type 0 where
   pub outside : locatedOf a es r ≡ Outside → exactlyInside a es r ≡ false
   -- when the answer is "undecided"
   pub undecided : (locatedOf a es r ≡ Undecided) ↔ Open a es r
-  -- never where every exact value is 1/32 or more, nor where one is -1/32 or less
+  -- it decides wherever all exact values reach 1/32, and wherever one is down to -1/32
   pub inner : ((e : Edge) → List·Memᴰ e (edgesAlong a es) → leZ (pos (2 ^ 144)) (exactSide r e) ≡ true) → locatedOf a es r ≡ Undecided → ⊥
   pub outer : (e : Edge) → List·Memᴰ e (edgesAlong a es) → leZ (exactSide r e) (negℤ (pos (2 ^ 144))) ≡ true → locatedOf a es r ≡ Undecided → ⊥
 

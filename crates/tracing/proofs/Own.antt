@@ -1,4 +1,4 @@
--- Whoever starts from a taken outline gets its own clockwise letters begun at W: its anchor and edges meet none of 10, 11, 16 and 17, and their letters are the
+-- The border of a taken outline's edges is its own, clockwise from W: its anchor and edges meet none of 10, 11, 16 and 17, and their letters are the
 -- outline's reading from W.
 use Prim.Native.Nat.{ℕ, _+_, _*_, _≤_, _<_, _%_}
 use native.Mathlib.Nat.{mul-mod-right}

@@ -15,7 +15,7 @@ use Rattle.agreement.proofs.ListTheorem.{call-agrees}
 use Rattle.wire.specs.declared.Decoded.{Decoded}
 use Rattle.wire.specs.declared.Decoded.the-variants.{Call as Said, Nothing}
 use Rattle.wire.specs.Wire.{heard, responded, said}
-use Rattle.wire.specs.Live.{Lent, Heard, calledFrom, heardInBook, nextBook, bookedFrom}
+use Rattle.wire.specs.Live.{Lent, calledFrom, heardInBook, nextBook, bookedFrom}
 
 module _ (h : Holder) (b : Book) (k : Represents h b) where
   one-heard : (d : Decoded) (reply : List ℕ) → record { done = responded h d .done; reply = said h d reply } ≡ heardInBook b d reply

@@ -1,6 +1,5 @@
 -- The buffer holds the border and then its pieces, so the rest of the judgement is the border's.
 use native.Mathlib.Omega.{arith}
-use lib.ListN.{length}
 use borrow.Author.Needs.{needs}
 use Rattle.chart.specs.Outline.{outline}
 use Rattle.border.proofs.JudgedLaws.{Copied, copied-ready, copied-judged}

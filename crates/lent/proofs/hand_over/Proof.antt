@@ -1,5 +1,5 @@
 -- The test of the room decides.
-use mathlib.Core.Path.{refl, sym, _∙_}
+use mathlib.Core.Path.{sym}
 use borrow.Author.Tests.{le-leb, lt-leb}
 use Rattle.chart.proofs.ReplyLaws.{replyAfter-short}
 use Rattle.lent.specs.Lent.{handed, replied}

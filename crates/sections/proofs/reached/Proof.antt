@@ -1,8 +1,8 @@
 -- After the layers before i the fold has made i steps.
-use Prim.Native.Nat.{suc, _+_, _-_, _≤_}
+use Prim.Native.Nat.{_+_, _-_, _≤_}
 use native.Mathlib.Omega.{arith}
 use denote.Ref.{now}
-use mathlib.Core.Path.{_≡_, _∙_}
+use mathlib.Core.Path.{_≡_}
 use Rattle.sections.specs.Sections.{numbers, Bounded, fold, alone, joinedFrom, reached}
 use Rattle.sections.proofs.Folds.{fold-next, fold-none}
 use Rattle.sections.proofs.reached.Statement.{statement}

@@ -1,6 +1,4 @@
 -- Each part is its definition.
-use mathlib.Core.Path.{ap₂}
-use Rattle.chart.specs.declared.Point.{Point}
 use borrow.Author.Needs.{needs}
 use Rattle.wire.proofs.point.Statement.{statement}
 use Rattle.wire.proofs.point.Tie as tie
