@@ -31,6 +31,25 @@ pub enum Question {
     Cell(Point),
     // Row: which columns of it does it enclose?
     Row(u16),
+    // Reading: does the pair of floats lie inside its edges?
+    Reading(Reading),
+    // Piece: what has its drawing at this position?
+    Piece(u16),
+}
+
+// Angle and load in chart units: a cell's centre is at its whole column and row.
+pub struct Reading {
+    pub angle: f32,
+    pub load: f32,
+}
+
+// One piece of a drawing, by the cell at whose centre its point lies.
+pub enum Stroke {
+    Move(Point),
+    Line(Point),
+    Close,
+    // Past the last piece.
+    None,
 }
 
 // What a call answers.
@@ -39,10 +58,14 @@ pub enum Reply {
     Done,
     Inside,
     Outside,
+    // Reading: too near an edge to tell.
+    Undecided,
     // Row: the first and the last enclosed column.
     Columns { first: u16, last: u16 },
     // Row: no enclosed cell.
     None,
+    // Piece.
+    Drawn(Stroke),
     // A close took the draft: the count of edges, and the anchor.
     Taken { edges: u16, anchor: Point },
     Same { edges: u16, anchor: Point },

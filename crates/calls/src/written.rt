@@ -1,10 +1,22 @@
 // A reply written out: its number, its word and its fields (contract 4).
 use crate::Reply;
+use crate::Stroke;
 use chart::Fields;
 use chart::Point;
 use chart::reply;
 ghost use mathlib.Core.Path.{_≡_};
-ghost use Rattle.calls.specs.Replies.{replyFields};
+ghost use Rattle.calls.specs.Replies.{strokeFields, replyFields};
+
+fn of_stroke(s: Stroke) -> Fields
+    ensures { λ f. ⌜ f ≡ strokeFields s ⌝ }
+{
+    match s {
+        Stroke::Move(cell) => reply::accepted(8, 0, cell),
+        Stroke::Line(cell) => reply::accepted(9, 0, cell),
+        Stroke::Close => reply::said(10),
+        Stroke::None => reply::said(5),
+    }
+}
 
 pub fn of_reply(r: Reply) -> Fields
     ensures { λ f. ⌜ f ≡ replyFields r ⌝ }
@@ -13,6 +25,7 @@ pub fn of_reply(r: Reply) -> Fields
         Reply::Done => reply::said(0),
         Reply::Inside => reply::said(1),
         Reply::Outside => reply::said(2),
+        Reply::Undecided => reply::said(7),
         Reply::Columns { first, last } => reply::accepted(
             6,
             0,
@@ -22,6 +35,7 @@ pub fn of_reply(r: Reply) -> Fields
             },
         ),
         Reply::None => reply::said(5),
+        Reply::Drawn(stroke) => of_stroke(stroke),
         Reply::Taken { edges, anchor } => reply::accepted(3, edges, anchor),
         Reply::Same { edges, anchor } => reply::accepted(4, edges, anchor),
         Reply::Refused(why) => reply::of_refusal(why),
