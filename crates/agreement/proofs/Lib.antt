@@ -8,3 +8,4 @@ pub mod Parties
 pub mod Queries
 pub mod Closes
 pub mod Rows
+pub mod Readings

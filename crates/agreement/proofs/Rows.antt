@@ -12,14 +12,14 @@ use Rattle.chart.specs.Outline.{Outline}
 use Rattle.convexity.specs.Reading.{block}
 use Rattle.spans.specs.declared.Span.{Span}
 use Rattle.spans.specs.declared.Span.the-variants.{None as Empty, Columns as Run}
-use Rattle.spans.specs.Spans.{rowSpan, SpanExact}
+use Rattle.spans.specs.Spans.{rowSpan, SpanExact, spanReply}
 use Rattle.spans.proofs.Exact.{row-span-exact}
 use Rattle.calls.specs.Calls.{parties, places, by}
 use Rattle.calls.specs.declared.Call.{Call}
 use Rattle.calls.specs.declared.Action.the-variants.{Ask}
 use Rattle.calls.specs.declared.Question.the-variants.{Row as OfRow}
 use Rattle.calls.specs.declared.Reply.the-variants.{Columns, None}
-use Rattle.book.specs.Book.{columnsReply, askedRow, asks}
+use Rattle.book.specs.Book.{askedRow, asks}
 use Rattle.book.specs.LastTaken.{lastTaken}
 use Rattle.holder.specs.Run.{holderAfter, replyAfter}
 use Rattle.holder.specs.Holder.{workOf, freshHolder}
@@ -29,13 +29,13 @@ use Rattle.agreement.proofs.Queries.{ask-reply}
 
 -- What a reply says of a row, where the columns that it gives are exact
 module _ (marked : ℕ → ℕ → Bool) (r : ℕ) where
-  columns-said : (s : Span) → SpanExact marked r s → (a b : ℕ) → columnsReply s ≡ Columns a b → (c : ℕ) → (marked c r ≡ true) ↔ ((a ≤ c) × (c ≤ b))
-  unfolding SpanExact columnsReply
+  columns-said : (s : Span) → SpanExact marked r s → (a b : ℕ) → spanReply s ≡ Columns a b → (c : ℕ) → (marked c r ≡ true) ↔ ((a ≤ c) × (c ≤ b))
+  unfolding SpanExact spanReply
   columns-said Empty exact a b e c = let z : _≡_ {A = ℕ} 0 1 = cc in absurd (omega arith)
   columns-said (Run u v) exact a b e c = let p : u ≡ a = cc in let q : v ≡ b = cc in rw (sym p, sym q) (exact c)
 
-  none-said : (s : Span) → SpanExact marked r s → columnsReply s ≡ None → (c : ℕ) → marked c r ≡ false
-  unfolding SpanExact columnsReply
+  none-said : (s : Span) → SpanExact marked r s → spanReply s ≡ None → (c : ℕ) → marked c r ≡ false
+  unfolding SpanExact spanReply
   none-said Empty exact e c = exact c
   none-said (Run u v) exact e c = let z : _≡_ {A = ℕ} 0 1 = cc in absurd (omega arith)
 
@@ -44,7 +44,7 @@ module _ (p k : ℕ) (there : p < parties) (inside : k < places) (cs : List Call
   abbrev asking : Call
   asking = by p (Ask k (OfRow r))
 
-  row-reply : replyAfter cs asking ≡ columnsReply (rowSpan (block o) r)
+  row-reply : replyAfter cs asking ≡ spanReply (rowSpan (block o) r)
   unfolding asks askedRow
   row-reply = ask-reply p k there inside cs (OfRow r) ∙ ap (askedRow r) last ∙ rw (lt-leb side r row)
 

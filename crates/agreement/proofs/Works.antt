@@ -27,8 +27,6 @@ use Rattle.convexity.specs.Pieces.{edges, dentPiece, Reaches}
 use Rattle.convexity.proofs.Bounds.{edges-length}
 use Rattle.convexity.proofs.AsSent.{edges-answer-sent}
 use Rattle.convexity.proofs.SameBlock.{SameEdges, same-cells-iff}
-use Rattle.spans.specs.declared.Span.{Span}
-use Rattle.spans.specs.declared.Span.the-variants.{None as Empty, Columns as Run}
 use Rattle.spans.specs.Spans.{spansOf}
 use Rattle.spans.proofs.Exact.{spans-search}
 use Rattle.verdict.specs.Verdict.{verdictOf, lentAfter}
@@ -36,13 +34,14 @@ use Rattle.verdict.proofs.VerdictLaws.{TakenFacts, taken-facts, taken-fits}
 use Rattle.polygon.specs.Loose.{badCell}
 use Rattle.polygon.proofs.LooseCases.{inside-short}
 use Rattle.calls.specs.declared.Question.{Question}
-use Rattle.calls.specs.declared.Question.the-variants.{Cell as OfCell, Row as OfRow}
+use Rattle.calls.specs.declared.Question.the-variants.{Cell as OfCell, Row as OfRow, Reading as OfReading, Piece as OfPiece}
+use Rattle.calls.specs.declared.Reading.{Reading}
 use Rattle.calls.specs.declared.Reply.{Reply}
 use Rattle.calls.specs.declared.Reply.the-variants.{Taken as WasTaken, Same, Refused as WasRefused}
-use Rattle.book.specs.Book.{sameBlock, equalsWork, closedReply as closedInBook, asked, columnsReply, askedRow, asks}
+use Rattle.book.specs.Book.{sameBlock, equalsWork, closedReply as closedInBook, asked, askedRow, askedReading, askedPiece, asks}
 use Rattle.book.proofs.SameBlock.{same-block-iff}
 use Rattle.work.specs.declared.Work.{Work}
-use Rattle.work.specs.Work.{listed, workEdges, noWork, replaced, removed, hasEdges, located, spanReply, spanned, answered}
+use Rattle.work.specs.Work.{listed, workEdges, noWork, replaced, removed, hasEdges, located, spanned, readAt, drawnAt, answered}
 use Rattle.holder.specs.Holder.{closedReply}
 
 -- ---- the relation
@@ -185,16 +184,24 @@ located-asked w x (some o) k =
 
 -- ---- row
 
-span-replies : (s : Span) → spanReply s ≡ columnsReply s
-unfolding spanReply columnsReply
-span-replies Empty = refl
-span-replies (Run a b) = refl
-
 -- The rows at work are those of the outline at work
 spanned-asked : (w : Work) (r : ℕ) (o : Option Outline) → IsWork w o → spanned w r ≡ askedRow r o
 unfolding spanned askedRow
 spanned-asked w r none e = rw e
-spanned-asked w r (some o) k = rw (k .taken, k .spans, spans-search o (k .reaches) r, span-replies)
+spanned-asked w r (some o) k = rw (k .taken, k .spans, spans-search o (k .reaches) r)
+
+-- ---- reading and piece
+
+-- The anchor and the edges at work are those of the outline at work
+read-asked : (w : Work) (x : Reading) (o : Option Outline) → IsWork w o → readAt w x ≡ askedReading x o
+unfolding readAt askedReading
+read-asked w x none e = rw e
+read-asked w x (some o) k = rw (k .edges, k .anchor, k .taken)
+
+drawn-asked : (w : Work) (n : ℕ) (o : Option Outline) → IsWork w o → drawnAt w n ≡ askedPiece n o
+unfolding drawnAt askedPiece
+drawn-asked w n none e = rw e
+drawn-asked w n (some o) k = rw (k .edges, k .anchor, k .taken)
 
 -- ---- whatever is asked
 
@@ -202,3 +209,5 @@ pub answered-asked : (w : Work) (q : Question) (o : Option Outline) → IsWork w
 unfolding answered asks
 answered-asked w (OfCell x) o k = located-asked w x o k
 answered-asked w (OfRow r) o k = spanned-asked w r o k
+answered-asked w (OfReading x) o k = read-asked w x o k
+answered-asked w (OfPiece n) o k = drawn-asked w n o k

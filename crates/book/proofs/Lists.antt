@@ -63,7 +63,7 @@ H6 = 1 ∷ 1 ∷ 1 ∷ 0 ∷ 3 ∷ 3 ∷ 0 ∷ 0 ∷ 3 ∷ 2 ∷ 2 ∷ 2 ∷ []
 
 -- A name that opens the book, for the proofs that compute it
 opened : Bool
-unfolding at query draw replied done H3 H4 H3-back H6 computes replyFields badCell Book.fresh Book.equalsWork Book.begins Book.adds Book.drops Book.closedReply Book.workAfter Book.closes Book.asked Book.askedRow Book.columnsReply Book.asks Book.acts Book.answer actsFrom put Book.repliesFrom Book.replies
+unfolding at query draw replied done H3 H4 H3-back H6 computes replyFields badCell Book.fresh Book.equalsWork Book.begins Book.adds Book.drops Book.closedReply Book.workAfter Book.closes Book.asked Book.askedRow Book.asks Book.acts Book.answer actsFrom put Book.repliesFrom Book.replies
 opened = true
 
 -- The outlines of H3, of H4 and of H3 drawn backward are past 1 to 6 and have one border

@@ -14,20 +14,23 @@ use Rattle.chart.specs.declared.Refusal.the-variants.{Start, Letter, Cell}
 use Rattle.chart.specs.declared.Verdict.{Verdict}
 use Rattle.chart.specs.declared.Verdict.the-variants.{Taken, Refused}
 use Rattle.lattice.specs.Refusals.{badStart}
-use Rattle.convexity.specs.Reading.{block}
-use Rattle.spans.specs.declared.Span.{Span}
-use Rattle.spans.specs.declared.Span.the-variants.{None as Empty, Columns as Run}
-use Rattle.spans.specs.Spans.{rowSpan}
+use Rattle.convexity.specs.Reading.{border, block}
+use Rattle.convexity.specs.Pieces.{edges}
+use Rattle.spans.specs.Spans.{rowSpan, spanReply}
 use Rattle.verdict.specs.Verdict.{verdictOf}
 use Rattle.polygon.specs.Loose.{badCell}
+use Rattle.readings.specs.Located.{locatedOf}
+use Rattle.readings.specs.Replies.{locatedReply}
+use Rattle.drawing.specs.Drawing.{strokeAt}
 use Rattle.calls.specs.Calls.{badParty, badPlace}
 use Rattle.calls.specs.declared.Call.{Call}
 use Rattle.calls.specs.declared.Action.{Action}
 use Rattle.calls.specs.declared.Action.the-variants.{Begin, Add, Drop, Clear, Close, Ask}
 use Rattle.calls.specs.declared.Question.{Question}
-use Rattle.calls.specs.declared.Question.the-variants.{Cell as OfCell, Row as OfRow}
+use Rattle.calls.specs.declared.Question.the-variants.{Cell as OfCell, Row as OfRow, Reading as OfReading, Piece as OfPiece}
+use Rattle.calls.specs.declared.Reading.{Reading}
 use Rattle.calls.specs.declared.Reply.{Reply}
-use Rattle.calls.specs.declared.Reply.the-variants.{Done, Inside, Outside, Columns, None, Taken as WasTaken, Same, Refused as WasRefused, NothingAtWork, NoDraft, DraftOpen, DraftFull, NoParty, NoPlace}
+use Rattle.calls.specs.declared.Reply.the-variants.{Done, Inside, Outside, Drawn, Taken as WasTaken, Same, Refused as WasRefused, NothingAtWork, NoDraft, DraftOpen, DraftFull, NoParty, NoPlace}
 
 -- ---- the entries
 
@@ -120,17 +123,25 @@ asked x none = NothingAtWork
 asked x (some o) = cond (badCell x) (WasRefused Cell) (cond (block o (x .col) (x .row)) Inside Outside)
 
 -- Row (contract 7.9). 12 and 11 are asked in this order; then the first and the last enclosed column, by a search of the row's cells
-unfoldable pub columnsReply : Span → Reply
-columnsReply Empty = None
-columnsReply (Run a b) = Columns a b
-
 unfoldable pub askedRow : ℕ → Option Outline → Reply
 askedRow r none = NothingAtWork
-askedRow r (some o) = cond (leb side r) (WasRefused Cell) (columnsReply (rowSpan (block o) r))
+askedRow r (some o) = cond (leb side r) (WasRefused Cell) (spanReply (rowSpan (block o) r))
+
+-- Reading (contract 7.10). 12 is asked first; then the outline's anchor and edges answer, with 11 among their answers
+unfoldable pub askedReading : Reading → Option Outline → Reply
+askedReading x none = NothingAtWork
+askedReading x (some o) = locatedReply (locatedOf (border o .start) (edges (border o)) x)
+
+-- Piece (contract 7.11). 12 is asked first; then the drawing of the outline's anchor and edges is looked at
+unfoldable pub askedPiece : ℕ → Option Outline → Reply
+askedPiece n none = NothingAtWork
+askedPiece n (some o) = Drawn (strokeAt (border o .start) (edges (border o)) n)
 
 unfoldable pub asks : Question → Option Outline → Reply
 asks (OfCell x) w = asked x w
 asks (OfRow r) w = askedRow r w
+asks (OfReading x) w = askedReading x w
+asks (OfPiece n) w = askedPiece n w
 
 -- ---- the calls of a party
 
@@ -145,7 +156,7 @@ drafting g a = record { reply = a .reply; page = putDraft g (a .draft) }
 abbrev pub closing : Page → ℕ → OnWork → OnPage
 closing g k a = record { reply = a .reply; page = putWork (putDraft g none) k (a .work) }
 
--- Contract 7.3 to 7.9; a clear is 7.6. Where a place is named 20 comes first, and a close that it turns back ends the draft
+-- Contract 7.3 to 7.11; a clear is 7.6. Where a place is named 20 comes first, and a close that it turns back ends the draft
 unfoldable pub acts : Page → Action → OnPage
 acts g (Begin s) = drafting g (begins s (g .draft))
 acts g (Add a) = drafting g (adds a (g .draft))

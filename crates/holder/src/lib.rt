@@ -5,6 +5,7 @@ use calls::Call;
 use calls::PARTIES;
 use calls::PLACES;
 use calls::Question;
+use calls::Reading;
 use calls::Reply;
 use chart::Point;
 use chart::Verdict;
@@ -241,6 +242,18 @@ impl Holder {
         ensures { λ r. ⌜ r ≡ answerOf self (by party (Action.Ask place (Question.Row row))) ⌝ }
     {
         self.ask(party, place, Question::Row(row))
+    }
+
+    pub fn reading(self, party: u8, place: u8, reading: Reading) -> Answered
+        ensures { λ r. ⌜ r ≡ answerOf self (by party (Action.Ask place (Question.Reading reading))) ⌝ }
+    {
+        self.ask(party, place, Question::Reading(reading))
+    }
+
+    pub fn piece(self, party: u8, place: u8, position: u16) -> Answered
+        ensures { λ r. ⌜ r ≡ answerOf self (by party (Action.Ask place (Question.Piece position))) ⌝ }
+    {
+        self.ask(party, place, Question::Piece(position))
     }
 
     pub fn answer(self, call: Call) -> Answered

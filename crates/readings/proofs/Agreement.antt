@@ -17,7 +17,7 @@ use Rattle.rounding.proofs.Values.{Exact}
 use Rattle.rounding.proofs.Order.{le-value, lt-value}
 use Rattle.chart.specs.declared.Point.{Point}
 use Rattle.convexity.specs.Inside.{notNegative}
-use Rattle.readings.specs.declared.Reading.{Reading}
+use Rattle.calls.specs.declared.Reading.{Reading}
 use Rattle.readings.specs.declared.Located.{Located}
 use Rattle.readings.specs.declared.Located.the-variants.{Inside, Outside, Undecided, Refused}
 use Rattle.readings.specs.Sides.{Edge, edgesAlong, exactSide, computedSide}

@@ -14,7 +14,7 @@ use Rattle.chart.specs.Limits.{side}
 use Rattle.chart.specs.declared.Point.{Point}
 use Rattle.convexity.specs.Inside.{notNegative, sideValue, noneOutside, within, insideAt, insideEdges}
 use Rattle.polygon.proofs.Integers.{not-negative-machine}
-use Rattle.readings.specs.declared.Reading.{Reading}
+use Rattle.calls.specs.declared.Reading.{Reading}
 use Rattle.readings.specs.declared.Located.the-variants.{Inside, Outside}
 use Rattle.readings.specs.Sides.{edgesFrom, exactSide}
 use Rattle.readings.specs.Located.{Held, between, withinExtremes, exactlyInside, staysOn, locatedOf}

@@ -14,7 +14,7 @@ use Rattle.rounding.specs.Units.{value, inUnits}
 use Rattle.rounding.proofs.InUnits.{units-plus, units-times}
 use Rattle.chart.specs.declared.Point.{Point}
 use Rattle.convexity.specs.Inside.{notNegative, sideValue, colSteps, rowSteps, lowestMet, highestMet}
-use Rattle.readings.specs.declared.Reading.{Reading}
+use Rattle.calls.specs.declared.Reading.{Reading}
 use Rattle.readings.specs.declared.Located.the-variants.{Inside, Outside, Undecided}
 use Rattle.readings.specs.Sides.{Edge, edgesFrom, exactSide}
 use Rattle.readings.specs.Located.{Held, badReading, between, withinExtremes, exactlyInside, sided, staysOn, locatedOf}

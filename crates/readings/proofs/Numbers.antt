@@ -17,7 +17,7 @@ use Rattle.rounding.proofs.Values.{Exact, fits-exact}
 use Rattle.rounding.proofs.Near.{whole-exact, whole-is}
 use Rattle.rounding.proofs.Order.{le-value}
 use Rattle.chart.specs.Limits.{side}
-use Rattle.readings.specs.declared.Reading.{Reading}
+use Rattle.calls.specs.declared.Reading.{Reading}
 use Rattle.readings.specs.Located.{badNumber, badReading, cellNumber}
 
 -- ---- numbers that are not refused

@@ -15,7 +15,7 @@ use Rattle.convexity.proofs.StraightTurn.{NoBackStep}
 use Rattle.convexity.proofs.Shape.{shape}
 use Rattle.convexity.proofs.Inside.{Meets, IsCell, vertex-is-cell}
 use Rattle.convexity.proofs.Theorem.{edges-answer}
-use Rattle.readings.specs.declared.Reading.{Reading}
+use Rattle.calls.specs.declared.Reading.{Reading}
 use Rattle.readings.specs.declared.Located.the-variants.{Inside, Outside}
 use Rattle.readings.specs.Sides.{edgesFrom}
 use Rattle.readings.specs.Located.{Held, badReading, cellNumber, endsOn, staysOn, locatedOf}

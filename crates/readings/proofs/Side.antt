@@ -13,7 +13,7 @@ use Rattle.rounding.specs.Units.{value, inUnits}
 use Rattle.rounding.proofs.Values.{Exact}
 use Rattle.rounding.proofs.Near.{Near, sub-near, mul-near}
 use Rattle.convexity.specs.Inside.{sideValue}
-use Rattle.readings.specs.declared.Reading.{Reading}
+use Rattle.calls.specs.declared.Reading.{Reading}
 use Rattle.readings.specs.Sides.{Edge, exactSide, computedSide}
 use Rattle.readings.proofs.Numbers.{Good, Cell, few-digits, cell-size, small-exact, small-is}
 

@@ -22,7 +22,7 @@ use Rattle.convexity.specs.Inside.{minℤ, maxℤ, colSteps, rowSteps}
 use Rattle.polygon.specs.Loose.{badCell}
 use Rattle.polygon.proofs.Integers.{min-at-most, max-at-least}
 use Rattle.polygon.proofs.Spans.{meets, lowest-meets, highest-meets, drop-two}
-use Rattle.readings.specs.declared.Reading.{Reading}
+use Rattle.calls.specs.declared.Reading.{Reading}
 use Rattle.readings.specs.declared.Located.{Located}
 use Rattle.readings.specs.declared.Located.the-variants.{Inside, Outside, Undecided, Refused}
 use Rattle.readings.specs.declared.walk.Met.{Met}

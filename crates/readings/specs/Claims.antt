@@ -9,7 +9,7 @@ use lib.Signed.{leZ}
 use lib.Ieee.{binary32}
 use Rattle.rounding.specs.Units.{value, inUnits}
 use Rattle.chart.specs.declared.Point.{Point}
-use Rattle.readings.specs.declared.Reading.{Reading}
+use Rattle.calls.specs.declared.Reading.{Reading}
 use Rattle.readings.specs.declared.Located.the-variants.{Inside, Outside, Undecided}
 use Rattle.readings.specs.Sides.{Edge, edgesAlong, exactSide, computedSide}
 use Rattle.readings.specs.Located.{withinExtremes, exactlyInside, locatedOf}

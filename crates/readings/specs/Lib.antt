@@ -1,7 +1,7 @@
--- Side values at a reading, exact and computed; where a reading lies, and what is claimed of it; the answer written out; specimens; the parts of the walk that finds it.
+-- Side values at a reading, exact and computed; where a reading lies, and what is claimed of it; the answer as a reply; specimens; the parts of the walk that finds it.
 pub mod Sides
 pub mod Located
 pub mod Claims
-pub mod Fields
+pub mod Replies
 pub mod Specimens
 pub mod Walk

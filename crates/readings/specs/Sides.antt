@@ -5,7 +5,7 @@ use lib.Ieee.{Float, binary32, sub, mul, ofInt}
 use Rattle.rounding.specs.Units.{value, inUnits}
 use Rattle.chart.specs.declared.Point.{Point}
 use Rattle.convexity.specs.Inside.{sideValue}
-use Rattle.readings.specs.declared.Reading.{Reading}
+use Rattle.calls.specs.declared.Reading.{Reading}
 
 -- An edge (cols, rows) and the corner cell (col, row) that it leaves
 pub record Edge : Type 0 where

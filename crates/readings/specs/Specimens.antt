@@ -8,7 +8,8 @@ use Rattle.chart.specs.declared.Fields.{Fields}
 use Rattle.chart.specs.Fields.{numbered, said, inside, outside, undecided}
 use Rattle.chart.specs.Same.{sameFields}
 use Rattle.readings.specs.Located.{locatedOf, readingOf}
-use Rattle.readings.specs.Fields.{locatedFields}
+use Rattle.calls.specs.Replies.{replyFields}
+use Rattle.readings.specs.Replies.{locatedReply}
 
 at : ℕ → ℕ → Point
 at c r = record { col = c; row = r }
@@ -28,7 +29,7 @@ pub record Asked : Type 0 where
   pub fields : Fields
 
 unfoldable pub answered : Asked → Bool
-answered h = sameFields (locatedFields (locatedOf (h .anchor) (h .edges) (readingOf (h .angle) (h .load)))) (h .fields)
+answered h = sameFields (replyFields (locatedReply (locatedOf (h .anchor) (h .edges) (readingOf (h .angle) (h .load))))) (h .fields)
 
 ask : Point → List ℤ → ℕ → ℕ → Fields → Asked
 ask a es x y f = record { anchor = a; edges = es; angle = x; load = y; fields = f }

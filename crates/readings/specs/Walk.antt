@@ -4,7 +4,7 @@ use lib.IntN.{ℤ, _+ℤ_}
 use lib.Signed.{leZ}
 use lib.Ieee.{Float, binary32}
 use Rattle.rounding.specs.Units.{value, inUnits}
-use Rattle.readings.specs.declared.Reading.{Reading}
+use Rattle.calls.specs.declared.Reading.{Reading}
 use Rattle.readings.specs.declared.Located.{Located}
 use Rattle.readings.specs.declared.Located.the-variants.{Inside, Outside, Undecided}
 use Rattle.readings.specs.declared.walk.Met.{Met}

@@ -1,21 +1,19 @@
 // Readings between cells: where a pair of floats lies in a polygon of edges, in 32-bit arithmetic.
+use calls::Reading;
+use calls::Reply;
 use chart::Point;
+use chart::Refusal;
 use chart::SIDE;
 use walk::Passed;
 ghost use mathlib.Core.Path.{_≡_};
 ghost use lib.Ieee.{binary32, ofBits};
 ghost use Rattle.readings.specs.Located.{badNumber, locatedOf, readingOf};
+ghost use Rattle.readings.specs.Replies.{locatedReply};
 
 mod walk;
 
 // The last column and the last row.
 const LAST: u16 = SIDE - 1;
-
-// Angle and load in chart units: a cell's centre is at its whole column and row.
-pub struct Reading {
-    pub angle: f32,
-    pub load: f32,
-}
 
 // Where a reading lies. It is refused by 11.
 pub enum Located {
@@ -52,6 +50,18 @@ pub fn locate(anchor: Point, edges: &[i16], reading: Reading) -> Located
         i += 2;
     }
     walk::settle(at)
+}
+
+// The same as a call's reply.
+pub fn reply(located: Located) -> Reply
+    ensures { λ r. ⌜ r ≡ locatedReply located ⌝ }
+{
+    match located {
+        Located::Inside => Reply::Inside,
+        Located::Outside => Reply::Outside,
+        Located::Undecided => Reply::Undecided,
+        Located::Refused => Reply::Refused(Refusal::Cell),
+    }
 }
 
 // The number of a bit pattern. `from_bits` has none for the patterns of no number: that is made by 0 / 0.

@@ -1,7 +1,7 @@
 // The walk along a polygon's edges that finds where a reading lies.
 use crate::LAST;
 use crate::Located;
-use crate::Reading;
+use calls::Reading;
 ghost use mathlib.Core.Path.{_≡_};
 ghost use mathlib.Core.Bool.{true, false};
 ghost use lib.IntN.{_+ℤ_};

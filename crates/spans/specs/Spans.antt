@@ -11,6 +11,8 @@ use Rattle.base.specs.Below.{first, some}
 use Rattle.chart.specs.Limits.{side}
 use Rattle.chart.specs.Outline.{Outline}
 use Rattle.lattice.specs.Enclosed.{upAlong, downAlong}
+use Rattle.calls.specs.declared.Reply.{Reply}
+use Rattle.calls.specs.declared.Reply.the-variants.{Columns as ColumnsReply, None as NoColumns}
 use Rattle.rows.specs.Search.{keptColumn}
 use Rattle.rows.specs.Rows.{rows}
 use Rattle.spans.specs.declared.Span.{Span}
@@ -69,3 +71,8 @@ spanFrom a b = cond (ltb a b) (Columns a (b - 1)) None
 
 unfoldable pub spanAt : Spans → ℕ → Span
 spanAt s r = cond (leb side r) None (spanFrom (rows (s .first) r) (rows (s .past) r))
+
+-- As a reply (contract 7.9)
+unfoldable pub spanReply : Span → Reply
+spanReply None = NoColumns
+spanReply (Columns a b) = ColumnsReply a b

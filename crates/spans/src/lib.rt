@@ -1,4 +1,5 @@
 // The first and the last column that an outline encloses in each row.
+use calls::Reply;
 use chart::Point;
 use chart::SIDE;
 use rows::row_ends;
@@ -7,7 +8,7 @@ ghost use mathlib.Core.Path.{_≡_};
 ghost use mathlib.Core.Bool.{Bool};
 ghost use Rattle.chart.specs.Limits.{side};
 ghost use Rattle.chart.specs.Outline.{outline};
-ghost use Rattle.spans.specs.Spans.{lesser as lesserOf, greater as greaterOf, noSpans, spansOf, inSpans, spanAt};
+ghost use Rattle.spans.specs.Spans.{lesser as lesserOf, greater as greaterOf, noSpans, spansOf, inSpans, spanAt, spanReply};
 
 // The chart has this many rows of cells.
 pub const ROWS: usize = 255;
@@ -88,6 +89,16 @@ pub fn span_at(spans: Spans, row: u16) -> Span
         }
     } else {
         Span::None
+    }
+}
+
+// A row as a call's reply.
+pub fn reply(span: Span) -> Reply
+    ensures { λ r. ⌜ r ≡ spanReply span ⌝ }
+{
+    match span {
+        Span::None => Reply::None,
+        Span::Columns { first, last } => Reply::Columns { first, last },
     }
 }
 

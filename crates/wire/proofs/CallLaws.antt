@@ -15,17 +15,19 @@ use Rattle.wire.specs.declared.Decoded.{Decoded}
 use Rattle.wire.specs.declared.Decoded.the-variants.{Call as Said, Nothing}
 use Rattle.wire.specs.Wire.{callOf, heard, responded, said, respondOf, repliedTo}
 
--- A number that is none of 0 to 6 is no call
-pub callOf-none : (n p k x y : ℕ) → (n ≡ 0 → ⊥) → (n ≡ 1 → ⊥) → (n ≡ 2 → ⊥) → (n ≡ 3 → ⊥) → (n ≡ 4 → ⊥) → (n ≡ 5 → ⊥) → (n ≡ 6 → ⊥) → Nothing ≡ callOf n p k x y
+-- A number that is none of 0 to 8 is no call
+pub callOf-none : (n p k x y : ℕ) → (n ≡ 0 → ⊥) → (n ≡ 1 → ⊥) → (n ≡ 2 → ⊥) → (n ≡ 3 → ⊥) → (n ≡ 4 → ⊥) → (n ≡ 5 → ⊥) → (n ≡ 6 → ⊥) → (n ≡ 7 → ⊥) → (n ≡ 8 → ⊥) → Nothing ≡ callOf n p k x y
 unfolding callOf
-callOf-none zero p k x y h0 h1 h2 h3 h4 h5 h6 = absurd (h0 refl)
-callOf-none (suc zero) p k x y h0 h1 h2 h3 h4 h5 h6 = absurd (h1 refl)
-callOf-none (suc (suc zero)) p k x y h0 h1 h2 h3 h4 h5 h6 = absurd (h2 refl)
-callOf-none (suc (suc (suc zero))) p k x y h0 h1 h2 h3 h4 h5 h6 = absurd (h3 refl)
-callOf-none (suc (suc (suc (suc zero)))) p k x y h0 h1 h2 h3 h4 h5 h6 = absurd (h4 refl)
-callOf-none (suc (suc (suc (suc (suc zero))))) p k x y h0 h1 h2 h3 h4 h5 h6 = absurd (h5 refl)
-callOf-none (suc (suc (suc (suc (suc (suc zero)))))) p k x y h0 h1 h2 h3 h4 h5 h6 = absurd (h6 refl)
-callOf-none (suc (suc (suc (suc (suc (suc (suc n))))))) p k x y h0 h1 h2 h3 h4 h5 h6 = refl
+callOf-none zero p k x y h0 h1 h2 h3 h4 h5 h6 h7 h8 = absurd (h0 refl)
+callOf-none (suc zero) p k x y h0 h1 h2 h3 h4 h5 h6 h7 h8 = absurd (h1 refl)
+callOf-none (suc (suc zero)) p k x y h0 h1 h2 h3 h4 h5 h6 h7 h8 = absurd (h2 refl)
+callOf-none (suc (suc (suc zero))) p k x y h0 h1 h2 h3 h4 h5 h6 h7 h8 = absurd (h3 refl)
+callOf-none (suc (suc (suc (suc zero)))) p k x y h0 h1 h2 h3 h4 h5 h6 h7 h8 = absurd (h4 refl)
+callOf-none (suc (suc (suc (suc (suc zero))))) p k x y h0 h1 h2 h3 h4 h5 h6 h7 h8 = absurd (h5 refl)
+callOf-none (suc (suc (suc (suc (suc (suc zero)))))) p k x y h0 h1 h2 h3 h4 h5 h6 h7 h8 = absurd (h6 refl)
+callOf-none (suc (suc (suc (suc (suc (suc (suc zero))))))) p k x y h0 h1 h2 h3 h4 h5 h6 h7 h8 = absurd (h7 refl)
+callOf-none (suc (suc (suc (suc (suc (suc (suc (suc zero)))))))) p k x y h0 h1 h2 h3 h4 h5 h6 h7 h8 = absurd (h8 refl)
+callOf-none (suc (suc (suc (suc (suc (suc (suc (suc (suc n))))))))) p k x y h0 h1 h2 h3 h4 h5 h6 h7 h8 = refl
 
 -- ---- one call on a holder
 

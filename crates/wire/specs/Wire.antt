@@ -9,7 +9,8 @@ use Rattle.chart.specs.Fields.{replyAfter}
 use Rattle.calls.specs.Calls.{by}
 use Rattle.calls.specs.Replies.{replyFields}
 use Rattle.calls.specs.declared.Action.the-variants.{Begin, Add, Drop, Clear, Close, Ask}
-use Rattle.calls.specs.declared.Question.the-variants.{Cell as OfCell, Row as OfRow}
+use Rattle.calls.specs.declared.Question.the-variants.{Cell as OfCell, Row as OfRow, Reading as OfReading, Piece as OfPiece}
+use Rattle.readings.specs.Located.{readingOf}
 use Rattle.holder.specs.declared.Holder.{Holder}
 use Rattle.holder.specs.Holder.{answerOf}
 use Rattle.wire.specs.declared.Decoded.{Decoded}
@@ -36,8 +37,8 @@ letterOf x = x % 256
 abbrev pub pointOf : ℕ → ℕ → Point
 pointOf x y = record { col = shortOf x; row = shortOf y }
 
--- The call of a number, a party, a place and two numbers of 32 bits: 0 begin, 1 add, 2 drop, 3 clear, 4 close, 5 query, 6 row. A number above 6 is no
--- call
+-- The call of a number, a party, a place and two numbers of 32 bits: 0 begin, 1 add, 2 drop, 3 clear, 4 close, 5 query, 6 row, 7 reading, 8 piece. A
+-- number above 8 is no call
 unfoldable pub callOf : ℕ → ℕ → ℕ → ℕ → ℕ → Decoded
 callOf zero p k x y = Said (by p (Begin (pointOf x y)))
 callOf (suc zero) p k x y = Said (by p (Add (letterOf x)))
@@ -46,7 +47,9 @@ callOf (suc (suc (suc zero))) p k x y = Said (by p (Clear k))
 callOf (suc (suc (suc (suc zero)))) p k x y = Said (by p (Close k))
 callOf (suc (suc (suc (suc (suc zero))))) p k x y = Said (by p (Ask k (OfCell (pointOf x y))))
 callOf (suc (suc (suc (suc (suc (suc zero)))))) p k x y = Said (by p (Ask k (OfRow (shortOf x))))
-callOf (suc (suc (suc (suc (suc (suc (suc n))))))) p k x y = Nothing
+callOf (suc (suc (suc (suc (suc (suc (suc zero))))))) p k x y = Said (by p (Ask k (OfReading (readingOf x y))))
+callOf (suc (suc (suc (suc (suc (suc (suc (suc zero)))))))) p k x y = Said (by p (Ask k (OfPiece (shortOf x))))
+callOf (suc (suc (suc (suc (suc (suc (suc (suc (suc n))))))))) p k x y = Nothing
 
 -- The call of these bytes: none unless there are eleven
 unfoldable pub decoded : List ℕ → Decoded

@@ -7,6 +7,7 @@ use chart::Point;
 use chart::reply;
 use chart::reply::NUMBERS;
 use holder::Holder;
+use readings::from_bits;
 ghost use mathlib.Core.Path.{_≡_};
 ghost use Rattle.wire.specs.Wire.{long as longOf, shortOf, letterOf, pointOf, callOf, decoded as decodedOf, heard as heardOf, respondOf, repliedTo};
 
@@ -80,6 +81,8 @@ fn call_of(number: u8, party: u8, place: u8, x: u32, y: u32) -> Decoded
         4 => said(party, Action::Close { place }),
         5 => ask(party, place, Question::Cell(point(x, y))),
         6 => ask(party, place, Question::Row(short(x))),
+        7 => ask(party, place, Question::Reading(from_bits(x, y))),
+        8 => ask(party, place, Question::Piece(short(x))),
         _ => Decoded::Nothing,
     }
 }

@@ -1,4 +1,4 @@
--- What is at work as it is kept, and what is asked of it: an equation for every value of the struct (contract 7.6 to 7.8).
+-- What is at work as it is kept, and what is asked of it: an equation for every value of the struct (contract 7.6 to 7.11).
 use Prim.Native.Nat.{ℕ, _*_, min}
 use mathlib.Core.Bool.{Bool, true, false, cond, _&&_}
 use mathlib.Core.List.{List}
@@ -11,14 +11,16 @@ use Rattle.chart.specs.declared.Point.{Point}
 use Rattle.chart.specs.declared.Refusal.the-variants.{Cell}
 use Rattle.lattice.specs.Chart.{samePoint}
 use Rattle.polygon.specs.Loose.{badCell, insideList}
-use Rattle.spans.specs.declared.Span.{Span}
-use Rattle.spans.specs.declared.Span.the-variants.{None as Empty, Columns as Run}
 use Rattle.spans.specs.declared.Spans.{Spans}
-use Rattle.spans.specs.Spans.{noSpans, spanAt}
+use Rattle.spans.specs.Spans.{noSpans, spanAt, spanReply}
+use Rattle.readings.specs.Located.{locatedOf}
+use Rattle.readings.specs.Replies.{locatedReply}
+use Rattle.drawing.specs.Drawing.{strokeAt}
+use Rattle.calls.specs.declared.Reading.{Reading}
 use Rattle.calls.specs.declared.Question.{Question}
-use Rattle.calls.specs.declared.Question.the-variants.{Cell as OfCell, Row as OfRow}
+use Rattle.calls.specs.declared.Question.the-variants.{Cell as OfCell, Row as OfRow, Reading as OfReading, Piece as OfPiece}
 use Rattle.calls.specs.declared.Reply.{Reply}
-use Rattle.calls.specs.declared.Reply.the-variants.{Inside, Outside, Columns, None, Refused, NothingAtWork}
+use Rattle.calls.specs.declared.Reply.the-variants.{Inside, Outside, Drawn, Refused, NothingAtWork}
 use Rattle.work.specs.declared.Work.{Work}
 
 -- The numbers of n edges, of those that a list has space for
@@ -51,14 +53,20 @@ located w x =
     (cond (badCell x) (Refused Cell) (cond (insideList (w .anchor) (workEdges w) x) Inside Outside)) NothingAtWork
 
 -- 12, 11, or the columns of the row (contract 7.9)
-unfoldable pub spanReply : Span → Reply
-spanReply Empty = None
-spanReply (Run a b) = Columns a b
-
 unfoldable pub spanned : Work → ℕ → Reply
 spanned w r = cond (w .taken) (cond (leb side r) (Refused Cell) (spanReply (spanAt (w .spans) r))) NothingAtWork
+
+-- 12, or where the edges at work have the reading, 11 among it (contract 7.10)
+unfoldable pub readAt : Work → Reading → Reply
+readAt w x = cond (w .taken) (locatedReply (locatedOf (w .anchor) (workEdges w) x)) NothingAtWork
+
+-- 12, or the piece of the drawing (contract 7.11)
+unfoldable pub drawnAt : Work → ℕ → Reply
+drawnAt w n = cond (w .taken) (Drawn (strokeAt (w .anchor) (workEdges w) n)) NothingAtWork
 
 -- What is asked of it
 unfoldable pub answered : Work → Question → Reply
 answered w (OfCell x) = located w x
 answered w (OfRow r) = spanned w r
+answered w (OfReading x) = readAt w x
+answered w (OfPiece n) = drawnAt w n

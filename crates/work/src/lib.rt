@@ -1,5 +1,6 @@
-// What is at work: the anchor and the edges of the outline last taken, and what is asked of them (contract 7.6 to 7.8).
+// What is at work: the anchor and the edges of the outline last taken, and what is asked of them (contract 7.6 to 7.11).
 use calls::Question;
+use calls::Reading;
 use calls::Reply;
 use chart::MOST_NUMBERS;
 use chart::Point;
@@ -9,7 +10,6 @@ use polygon::bad_cell;
 use polygon::inside;
 use same::same_numbers;
 use same::same_point;
-use spans::Span;
 use spans::Spans;
 use spans::no_spans;
 use spans::span_at;
@@ -18,7 +18,7 @@ ghost use Prim.Native.Nat.{_*_, min};
 ghost use lib.ListN.{take};
 ghost use Rattle.chart.specs.Limits.{mostNumbers};
 ghost use Rattle.polygon.specs.Loose.{insideList};
-ghost use Rattle.work.specs.Work.{noWork, listed, workEdges, replaced, removed, hasEdges, located, spanReply, spanned, answered};
+ghost use Rattle.work.specs.Work.{noWork, listed, workEdges, replaced, removed, hasEdges, located, spanned, readAt, drawnAt, answered};
 
 // The outline last taken, if one was: its anchor, its edges, two numbers an edge, and its rows.
 #[repr(C)]
@@ -48,16 +48,6 @@ fn first(numbers: &[i16; MOST_NUMBERS], edges: usize) -> &[i16]
     let n = number_count(edges);
     let all = &numbers[..];
     &all[..n]
-}
-
-// A row written out as a reply.
-fn span_reply(span: Span) -> Reply
-    ensures { λ r. ⌜ r ≡ spanReply span ⌝ }
-{
-    match span {
-        Span::None => Reply::None,
-        Span::Columns { first, last } => Reply::Columns { first, last },
-    }
 }
 
 impl Work {
@@ -151,7 +141,33 @@ impl Work {
             return Reply::Refused(Refusal::Cell);
         }
         let spans = self.spans;
-        span_reply(span_at(spans, row))
+        spans::reply(span_at(spans, row))
+    }
+
+    // 12, or where the reading lies, 11 among it.
+    fn read(self, reading: Reading) -> Reply
+        ensures { λ r. ⌜ r ≡ readAt self reading ⌝ }
+    {
+        if !self.taken {
+            return Reply::NothingAtWork;
+        }
+        let anchor = self.anchor;
+        let edges = self.edges;
+        let list = first(&self.numbers, edges);
+        readings::reply(readings::locate(anchor, list, reading))
+    }
+
+    // 12, or the piece of the drawing at the position.
+    fn draw(self, position: u16) -> Reply
+        ensures { λ r. ⌜ r ≡ drawnAt self position ⌝ }
+    {
+        if !self.taken {
+            return Reply::NothingAtWork;
+        }
+        let anchor = self.anchor;
+        let edges = self.edges;
+        let list = first(&self.numbers, edges);
+        Reply::Drawn(drawing::stroke(anchor, list, position))
     }
 
     pub fn answer(self, question: Question) -> Reply
@@ -160,6 +176,8 @@ impl Work {
         match question {
             Question::Cell(cell) => self.locate(cell),
             Question::Row(row) => self.span(row),
+            Question::Reading(reading) => self.read(reading),
+            Question::Piece(position) => self.draw(position),
         }
     }
 }

@@ -1,4 +1,4 @@
--- Each arm is the call of its number, and after 0 to 6 only larger numbers are left.
+-- Each arm is the call of its number, and after 0 to 8 only larger numbers are left.
 use Rattle.wire.specs.Wire.{callOf}
 use Rattle.wire.proofs.CallLaws.{callOf-none}
 use borrow.Author.Needs.{needs}
@@ -38,6 +38,18 @@ short-requires c κs = search needs
 ask-requires-2 : tie.Need-ask-requires-2
 ask-requires-2 c κs = search needs
 
+from-bits-requires : tie.Need-from-bits-requires
+from-bits-requires c κs = search needs
+
+ask-requires-3 : tie.Need-ask-requires-3
+ask-requires-3 c κs = search needs
+
+short-requires-2 : tie.Need-short-requires-2
+short-requires-2 c κs = search needs
+
+ask-requires-4 : tie.Need-ask-requires-4
+ask-requires-4 c κs = search needs
+
 returns : tie.Need-returns
 unfolding callOf
 returns c = rw (c .said .ensures, c .before .point .ensures, c .before .before .match .keys1)
@@ -67,8 +79,17 @@ unfolding callOf
 returns-7 c = rw (c .ask2 .ensures, c .before .short .ensures, c .before .before .match .keys7)
 
 returns-8 : tie.Need-returns-8
-returns-8 c =
-    let r = c .match .rest in callOf-none _ _ _ _ _ (r .0 .0 .0 .0 .0 .0 .1) (r .0 .0 .0 .0 .0 .1) (r .0 .0 .0 .0 .1) (r .0 .0 .0 .1) (r .0 .0 .1) (r .0 .1) (r .1)
+unfolding callOf
+returns-8 c = rw (c .ask3 .ensures, c .before .from-bits .ensures, c .before .before .match .keys8)
+
+returns-9 : tie.Need-returns-9
+unfolding callOf
+returns-9 c = rw (c .ask4 .ensures, c .before .short2 .ensures, c .before .before .match .keys9)
+
+returns-10 : tie.Need-returns-10
+returns-10 c =
+    let r = c .match .rest in
+    callOf-none _ _ _ _ _ (r .0 .0 .0 .0 .0 .0 .0 .0 .1) (r .0 .0 .0 .0 .0 .0 .0 .1) (r .0 .0 .0 .0 .0 .0 .1) (r .0 .0 .0 .0 .0 .1) (r .0 .0 .0 .0 .1) (r .0 .0 .0 .1) (r .0 .0 .1) (r .0 .1) (r .1)
 
 pub call-of-spec : {M : Type 1} → statement M
 call-of-spec =
@@ -85,6 +106,10 @@ call-of-spec =
     ask-requires
     short-requires
     ask-requires-2
+    from-bits-requires
+    ask-requires-3
+    short-requires-2
+    ask-requires-4
     returns
     returns-2
     returns-3
@@ -92,4 +117,6 @@ call-of-spec =
     returns-5
     returns-6
     returns-7
-    returns-8)
+    returns-8
+    returns-9
+    returns-10)

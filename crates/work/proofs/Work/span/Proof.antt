@@ -17,13 +17,13 @@ returns-2 c = rw (not-false (c .before .before .before .args .self .taken) (c .b
 span-at-requires : tie.Need-span-at-requires
 span-at-requires c κs = search needs
 
-span-reply-requires : tie.Need-span-reply-requires
-span-reply-requires c κs = search needs
+reply-requires : tie.Need-reply-requires
+reply-requires c κs = search needs
 
 returns-3 : tie.Need-returns-3
 unfolding spanned
 returns-3 c =
-    rw (not-false (c .before .before .before .before .before .before .args .self .taken) (c .before .before .before .before .if1 .left), lt-leb _ _ (c .before .before .before .if2 .left)) (c .span-reply .ensures ∙ rw (c .before .span-at .ensures))
+    rw (not-false (c .before .before .before .before .before .before .args .self .taken) (c .before .before .before .before .if1 .left), lt-leb _ _ (c .before .before .before .if2 .left)) (c .reply .ensures ∙ rw (c .before .span-at .ensures))
 
 pub span-spec : {M : Type 1} → statement M
-span-spec = tie.close (tie.spec returns returns-2 span-at-requires span-reply-requires returns-3)
+span-spec = tie.close (tie.spec returns returns-2 span-at-requires reply-requires returns-3)

@@ -1,8 +1,8 @@
 -- Each arm is its clause.
-use Rattle.work.specs.Work.{spanReply}
+use Rattle.spans.specs.Spans.{spanReply}
 use borrow.Author.Needs.{needs}
-use Rattle.work.proofs.span_reply.Statement.{statement}
-use Rattle.work.proofs.span_reply.Tie as tie
+use Rattle.spans.proofs.reply.Statement.{statement}
+use Rattle.spans.proofs.reply.Tie as tie
 
 enum-told : tie.Need-enum-told
 enum-told c = search needs
@@ -18,5 +18,5 @@ returns-2 : tie.Need-returns-2
 unfolding spanReply
 returns-2 c = rw (c .before .span .given .1)
 
-pub span-reply-spec : {M : Type 1} → statement M
-span-reply-spec = tie.close (tie.spec enum-told enum-known-span returns returns-2)
+pub reply-spec : {M : Type 1} → statement M
+reply-spec = tie.close (tie.spec enum-told enum-known-span returns returns-2)

@@ -1,0 +1,24 @@
+-- The flag is asked first; then the list lent is that of the edges at work.
+use borrow.Author.Tests.{not-true, not-false}
+use Rattle.work.specs.Work.{workEdges, drawnAt}
+use borrow.Author.Needs.{needs}
+use Rattle.work.proofs.Work.draw.Statement.{statement}
+use Rattle.work.proofs.Work.draw.Tie as tie
+
+returns : tie.Need-returns
+unfolding drawnAt
+returns c = rw (not-true (c .before .args .t1 .taken) (c .if1 .taken))
+
+first-requires : tie.Need-first-requires
+first-requires c κs = search needs
+
+stroke-requires : tie.Need-stroke-requires
+stroke-requires c κs = search needs
+
+returns-2 : tie.Need-returns-2
+unfolding drawnAt workEdges
+returns-2 c =
+    rw (not-false (c .before .before .before .before .before .before .args .t1 .taken) (c .before .before .before .before .before .if1 .left), c .stroke .ensures, c .before .first .ensures)
+
+pub draw-spec : {M : Type 1} → statement M
+draw-spec = tie.close (tie.spec returns first-requires stroke-requires returns-2)

@@ -1,0 +1,32 @@
+-- The flag is asked first; then the list lent is that of the edges at work.
+use borrow.Author.Tests.{not-true, not-false}
+use Rattle.work.specs.Work.{workEdges, readAt}
+use borrow.Author.Needs.{needs}
+use Rattle.work.proofs.Work.read.Statement.{statement}
+use Rattle.work.proofs.Work.read.Tie as tie
+
+returns : tie.Need-returns
+unfolding readAt
+returns c = rw (not-true (c .before .args .t1 .taken) (c .if1 .taken))
+
+first-requires : tie.Need-first-requires
+first-requires c κs = search needs
+
+locate-requires : tie.Need-locate-requires
+locate-requires c κs = search needs
+
+reply-requires : tie.Need-reply-requires
+reply-requires c κs = search needs
+
+returns-2 : tie.Need-returns-2
+unfolding readAt workEdges
+returns-2 c =
+    rw (
+      not-false (c .before .before .before .before .before .before .before .args .t1 .taken) (c .before .before .before .before .before .before .if1 .left),
+      c .reply .ensures,
+      c .before .locate .ensures,
+      c .before .before .first .ensures,
+    )
+
+pub read-spec : {M : Type 1} → statement M
+read-spec = tie.close (tie.spec returns first-requires locate-requires reply-requires returns-2)
