@@ -48,3 +48,22 @@ replyFields DraftOpen = numbered 14
 replyFields DraftFull = numbered 15
 replyFields NoParty = numbered 19
 replyFields NoPlace = numbered 20
+
+-- The piece that a reply gives: none but that of a piece call gives one
+unfoldable pub strokeIn : Reply → Stroke
+strokeIn (Drawn s) = s
+strokeIn Done = NoStroke
+strokeIn Inside = NoStroke
+strokeIn Outside = NoStroke
+strokeIn Undecided = NoStroke
+strokeIn (Columns a b) = NoStroke
+strokeIn None = NoStroke
+strokeIn (Taken n a) = NoStroke
+strokeIn (Same n a) = NoStroke
+strokeIn (Refused f) = NoStroke
+strokeIn NothingAtWork = NoStroke
+strokeIn NoDraft = NoStroke
+strokeIn DraftOpen = NoStroke
+strokeIn DraftFull = NoStroke
+strokeIn NoParty = NoStroke
+strokeIn NoPlace = NoStroke

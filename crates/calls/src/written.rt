@@ -5,7 +5,18 @@ use chart::Fields;
 use chart::Point;
 use chart::reply;
 ghost use mathlib.Core.Path.{_≡_};
-ghost use Rattle.calls.specs.Replies.{strokeFields, replyFields};
+ghost use Rattle.calls.specs.Replies.{strokeIn, strokeFields, replyFields};
+
+// The piece that a reply gives: none but that of a piece call gives one.
+pub fn stroke_in(r: Reply) -> Stroke
+    ensures { λ s. ⌜ s ≡ strokeIn r ⌝ }
+{
+    if let Reply::Drawn(stroke) = r {
+        stroke
+    } else {
+        Stroke::None
+    }
+}
 
 fn of_stroke(s: Stroke) -> Fields
     ensures { λ f. ⌜ f ≡ strokeFields s ⌝ }

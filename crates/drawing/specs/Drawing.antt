@@ -1,9 +1,35 @@
+-- The drawing of an anchor and a list of edges, by the cells at whose centres its points lie: a move to the anchor, a line to the end of each edge but the last, and close.
 use Prim.Native.Nat.{ℕ}
-use mathlib.Core.List.{List}
-use lib.IntN.{ℤ}
+use mathlib.Core.Bool.{Bool, false, cond, _&&_}
+use mathlib.Core.List.{List, [], _∷_, _++_}
+use lib.Dec.{ltb}
+use lib.ListN.{getD}
+use lib.IntN.{ℤ, pos, negsuc, natAbs, _+ℤ_}
+use Rattle.chart.specs.Limits.{side}
 use Rattle.chart.specs.declared.Point.{Point}
 use Rattle.calls.specs.declared.Stroke.{Stroke}
-use Rattle.calls.specs.declared.Stroke.the-variants.{None}
+use Rattle.calls.specs.declared.Stroke.the-variants.{Move, Line, Close, None}
 
+-- A column or a row of the chart
+unfoldable pub onChart : ℤ → Bool
+onChart (pos n) = ltb n side
+onChart (negsuc n) = false
+
+-- A line to a cell of the chart; to none that is off it. No outline at work has a corner cell there
+unfoldable pub lineTo : ℤ → ℤ → Stroke
+lineTo x y = cond (onChart x && onChart y) (Line (record { col = natAbs x; row = natAbs y })) None
+
+-- A line to the end of each edge but the last, walking from (x, y). Two numbers an edge, columns then rows; an odd number at the end is no edge
+unfoldable pub linesFrom : List ℤ → ℤ → ℤ → List Stroke
+linesFrom [] x y = []
+linesFrom (dx ∷ []) x y = []
+linesFrom (dx ∷ dy ∷ []) x y = []
+linesFrom (dx ∷ dy ∷ ex ∷ []) x y = []
+linesFrom (dx ∷ dy ∷ ex ∷ ey ∷ es) x y = lineTo (x +ℤ dx) (y +ℤ dy) ∷ linesFrom (ex ∷ ey ∷ es) (x +ℤ dx) (y +ℤ dy)
+
+unfoldable pub drawing : Point → List ℤ → List Stroke
+drawing a es = Move a ∷ linesFrom es (pos (a .col)) (pos (a .row)) ++ (Close ∷ [])
+
+-- The piece at a position, counted from 0; none past the last
 unfoldable pub strokeAt : Point → List ℤ → ℕ → Stroke
-strokeAt a es n = None
+strokeAt a es n = getD (drawing a es) n None

@@ -1,11 +1,122 @@
-// stub
+// The drawing of a polygon of edges, piece by piece: by cells, and as the tablet's canvas takes it.
 use calls::Stroke;
 use chart::Point;
+use chart::SIDE;
 ghost use mathlib.Core.Path.{_≡_};
-ghost use Rattle.drawing.specs.Drawing.{strokeAt};
+ghost use Prim.Native.Nat.{_^_, _≤_};
+ghost use lib.IntN.{natAbs, _+ℤ_};
+ghost use Rattle.drawing.specs.Drawing.{onChart, lineTo, strokeAt};
+ghost use Rattle.drawing.specs.Points.{half as halfOf, pieceOf, pairAfter, pointAfter};
 
+// A piece of a drawing, with its point as two floats.
+pub enum Piece {
+    Move(f32, f32),
+    Line(f32, f32),
+    Close,
+    // Past the last piece.
+    None,
+}
+
+// One number of a cell, a step further: a position has 16 bits, so no sum of the steps before it is larger than 2^32.
+fn further(n: i64, d: i16) -> i64
+    requires { ⌜ natAbs n ≤ 2 ^ 32 ⌝ }
+    ensures { λ r. ⌜ r ≡ n +ℤ d ⌝ }
+{
+    n + (d as i64)
+}
+
+// A column or a row of the chart.
+fn on_chart(z: i64) -> bool
+    ensures { λ b. ⌜ b ≡ onChart z ⌝ }
+{
+    (0 <= z) & (z < SIDE as i64)
+}
+
+// A line to a cell of the chart; to none that is off it.
+fn line_to(x: i64, y: i64) -> Stroke
+    ensures { λ r. ⌜ r ≡ lineTo x y ⌝ }
+{
+    if on_chart(x) & on_chart(y) {
+        return Stroke::Line(Point {
+            col: x as u16,
+            row: y as u16,
+        });
+    }
+    Stroke::None
+}
+
+// The piece at a position of the drawing of an anchor and a list of edges.
 pub fn stroke(anchor: Point, edges: &[i16], position: u16) -> Stroke
     ensures { λ r. ⌜ r ≡ strokeAt anchor (now (edges .entry)) position ⌝ }
 {
-    Stroke::None
+    if position == 0 {
+        return Stroke::Move(anchor);
+    }
+    let mut x = anchor.col as i64;
+    let mut y = anchor.row as i64;
+    let mut left = position - 1;
+    let mut i = 0;
+    while i + 3 < edges.len() {
+        x = further(x, edges[i]);
+        y = further(y, edges[i + 1]);
+        if left == 0 {
+            return line_to(x, y);
+        }
+        left -= 1;
+        i += 2;
+    }
+    if left == 0 {
+        Stroke::Close
+    } else {
+        Stroke::None
+    }
+}
+
+// A column or a row, raised by one half.
+fn half(n: u16) -> f32
+    ensures { λ x. ⌜ x ≡ halfOf n ⌝ }
+{
+    (n as f32) + 0.5
+}
+
+// A piece with its point.
+pub fn piece_of(stroke: Stroke) -> Piece
+    ensures { λ r. ⌜ r ≡ pieceOf stroke ⌝ }
+{
+    match stroke {
+        Stroke::Move(cell) => Piece::Move(half(cell.col), half(cell.row)),
+        Stroke::Line(cell) => Piece::Line(half(cell.col), half(cell.row)),
+        Stroke::Close => Piece::Close,
+        Stroke::None => Piece::None,
+    }
+}
+
+// The same with its point.
+pub fn piece_at(anchor: Point, edges: &[i16], position: u16) -> Piece
+    ensures { λ r. ⌜ r ≡ pieceOf (strokeAt anchor (now (edges .entry)) position) ⌝ }
+{
+    piece_of(stroke(anchor, edges, position))
+}
+
+// Writes two numbers to the front of a lent list that has room for them.
+fn write_pair(x: f32, y: f32, point: &mut [f32])
+    ensures { λ r. ⌜ now (point .exit) ≡ pairAfter x y (now (point .entry)) ⌝ }
+{
+    if point.len() < 2 {
+        return;
+    }
+    point[0] = x;
+    point[1] = y;
+}
+
+// Writes the point of a piece to the front of a lent list. A piece without one leaves the list as it is.
+pub fn write_point(piece: Piece, point: &mut [f32])
+    ensures { λ r. ⌜ now (point .exit) ≡ pointAfter piece (now (point .entry)) ⌝ }
+{
+    match piece {
+        Piece::Move(x, y) => write_pair(x, y, point),
+        Piece::Line(x, y) => write_pair(x, y, point),
+        Piece::Close => {}
+        Piece::None => {}
+    }
 }

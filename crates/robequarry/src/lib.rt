@@ -15,6 +15,7 @@ use pile::Pile;
 use sections::LAYERS;
 use spans::ROWS;
 use tracing::written::of_traced;
+use wire::draw;
 use wire::respond;
 ghost use mathlib.Core.Path.{_≡_};
 ghost use mathlib.Core.Bool.{true};
@@ -27,7 +28,8 @@ ghost use Rattle.tracing.specs.Named.{BorderNamed};
 ghost use Rattle.nesting.specs.Cells.{polygon};
 ghost use Rattle.compare.specs.Compared.{CellsNamed};
 ghost use Rattle.holder.specs.Holder.{freshHolder};
-ghost use Rattle.wire.specs.Wire.{respondOf, repliedTo};
+ghost use Rattle.wire.specs.Wire.{replyWidth, respondOf, repliedTo};
+ghost use Rattle.wire.specs.Drawn.{pointDrawn, pieceReplied};
 ghost use Rattle.replay.specs.Script.{callsRead, repliesAfter};
 ghost use Rattle.pile.specs.Pile.{freshPile, setOf, emptyOf, checkOf};
 ghost use Rattle.lent.specs.Lent.{handed, replied, asked};
@@ -169,6 +171,23 @@ pub extern "C" fn rq_call(holder: &mut Holder, call: &[u8], reply: &mut [u16]) -
     let responded = respond(*holder, call, reply);
     *holder = responded.holder;
     responded.done
+}
+
+// Gives the piece of a drawing at a position, with its point in a list lent for it, and says whether the reply had room: where it had not, nothing is altered.
+#[no_mangle]
+pub extern "C" fn rq_piece(
+    holder: &Holder,
+    party: u8,
+    place: u8,
+    position: u16,
+    point: &mut [f32],
+    reply: &mut [u16],
+) -> bool
+    ensures { λ r. ⌜ (r ≡ leb replyWidth (length (now (reply .entry))))
+        × (now (point .exit) ≡ pointDrawn (now (holder .entry)) party place position (now (point .entry)) (now (reply .entry)))
+        × (now (reply .exit) ≡ pieceReplied (now (holder .entry)) party place position (now (reply .entry))) ⌝ }
+{
+    draw(*holder, party, place, position, point, reply)
 }
 
 // How many bytes a pile is, as C lays out its fields: two bytes for each row of each layer, and whether it passed.

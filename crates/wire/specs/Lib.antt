@@ -1,3 +1,4 @@
--- One call as bytes, and calls made one by one.
+-- One call as bytes; calls made one by one; a piece with its point.
 pub mod Wire
 pub mod Live
+pub mod Drawn

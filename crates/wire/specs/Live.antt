@@ -38,3 +38,12 @@ nextBook b (Said c) = answer b c .next
 unfoldable pub bookedFrom : Book → List Lent → List Heard
 bookedFrom b [] = []
 bookedFrom b (x ∷ xs) = heardInBook b (heard (x .call) (length (x .reply))) (x .reply) ∷ bookedFrom (nextBook b (heard (x .call) (length (x .reply)))) xs
+
+-- The holder and the book that the calls leave
+unfoldable pub holderLeft : Holder → List Lent → Holder
+holderLeft h [] = h
+holderLeft h (x ∷ xs) = holderLeft (respondOf h (x .call) (x .reply) .holder) xs
+
+unfoldable pub bookLeft : Book → List Lent → Book
+bookLeft b [] = b
+bookLeft b (x ∷ xs) = bookLeft (nextBook b (heard (x .call) (length (x .reply)))) xs

@@ -3,13 +3,19 @@ use calls::Action;
 use calls::Call;
 use calls::Question;
 use calls::written::of_reply;
+use calls::written::stroke_in;
 use chart::Point;
 use chart::reply;
 use chart::reply::NUMBERS;
+use drawing::piece_of;
+use drawing::write_point;
 use holder::Holder;
 use readings::from_bits;
 ghost use mathlib.Core.Path.{_≡_};
-ghost use Rattle.wire.specs.Wire.{long as longOf, shortOf, letterOf, pointOf, callOf, decoded as decodedOf, heard as heardOf, respondOf, repliedTo};
+ghost use lib.ListN.{length};
+ghost use lib.Dec.{leb};
+ghost use Rattle.wire.specs.Drawn.{pointDrawn, pieceReplied};
+ghost use Rattle.wire.specs.Wire.{long as longOf, shortOf, letterOf, pointOf, callOf, replyWidth, decoded as decodedOf, heard as heardOf, respondOf, repliedTo};
 
 // How many bytes a call is.
 pub const BYTES: usize = 11;
@@ -125,4 +131,26 @@ pub fn respond(holder: Holder, call: &[u8], reply: &mut [u16]) -> Responded
     reply::write(of_reply(said), reply);
     let holder = answered.holder;
     Responded { done: true, holder }
+}
+
+// Answers a piece on a holder, and writes the reply, and the point of a piece that has one. Where the reply has no room, nothing is altered.
+pub fn draw(
+    holder: Holder,
+    party: u8,
+    place: u8,
+    position: u16,
+    point: &mut [f32],
+    reply: &mut [u16],
+) -> bool
+    ensures { λ r. ⌜ (r ≡ leb replyWidth (length (now (reply .entry))))
+        × (now (point .exit) ≡ pointDrawn holder party place position (now (point .entry)) (now (reply .entry)))
+        × (now (reply .exit) ≡ pieceReplied holder party place position (now (reply .entry))) ⌝ }
+{
+    if reply.len() < NUMBERS {
+        return false;
+    }
+    let answered = holder.piece(party, place, position);
+    let said = answered.reply;
+    write_point(piece_of(stroke_in(said)), point);
+    reply::write(of_reply(said), reply)
 }

@@ -1,0 +1,17 @@
+-- The sum of the definition: the bits of 0.5 are those of 1 * 2 ^ -1.
+use borrow.Author.Needs.{needs}
+use mathlib.Core.Path.{refl}
+use lib.Ieee.{ofBits}
+use Rattle.drawing.specs.Points.{half}
+use Rattle.drawing.proofs.half.Statement.{statement}
+use Rattle.drawing.proofs.half.Tie as tie
+
+int-to-float-result : tie.Need-int-to-float-result
+int-to-float-result c = search needs
+
+returns : tie.Need-returns
+unfolding half ofBits
+returns c = refl
+
+pub half-spec : {M : Type 1} → statement M
+half-spec = tie.close (tie.spec int-to-float-result returns)

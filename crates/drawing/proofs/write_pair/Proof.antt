@@ -1,0 +1,26 @@
+-- Two stores from the front on leave the two numbers and then what stood behind them.
+use borrow.Author.Needs.{needs}
+use native.Mathlib.Omega.{arith}
+use mathlib.Core.Path.{sym}
+use Rattle.drawing.proofs.Points.{pair-short, pair-sets}
+use Rattle.drawing.proofs.write_pair.Statement.{statement}
+use Rattle.drawing.proofs.write_pair.Tie as tie
+
+returns : tie.Need-returns
+returns c = sym (pair-short _ _ _ (omega arith))
+
+slice-write-point : tie.Need-slice-write-point
+slice-write-point c = search needs
+
+slice-write-point-2 : tie.Need-slice-write-point-2
+slice-write-point-2 c = search needs
+
+same-length : tie.Need-same-length
+same-length c = search needs
+
+returns-2 : tie.Need-returns-2
+returns-2 c = pair-sets _ _ _ (omega arith)
+
+pub write-pair-spec : {M : Type 1} → statement M
+write-pair-spec =
+    tie.close (tie.spec returns slice-write-point slice-write-point-2 same-length returns-2)

@@ -1,0 +1,33 @@
+-- A piece as the tablet takes it: columns and rows as floats, raised by one half.
+use Prim.Native.Nat.{ℕ}
+use mathlib.Core.Bool.{false}
+use mathlib.Core.List.{List, [], _∷_}
+use lib.IntN.{pos, negsuc}
+use lib.Ieee.{Float, fin, binary32, add, ofInt}
+use Rattle.calls.specs.declared.Stroke.{Stroke}
+use Rattle.calls.specs.declared.Stroke.the-variants.{Move, Line, Close, None}
+use Rattle.drawing.specs.declared.Piece.{Piece}
+use Rattle.drawing.specs.declared.Piece.the-variants.{Move as MoveTo, Line as LineTo, Close as Closed, None as NoPiece}
+
+-- n and one half. One half is the float 1 * 2 ^ -1
+unfoldable pub half : ℕ → Float
+half n = add binary32 (ofInt binary32 (pos n)) (fin false 1 (negsuc 0))
+
+unfoldable pub pieceOf : Stroke → Piece
+pieceOf (Move c) = MoveTo (half (c .col)) (half (c .row))
+pieceOf (Line c) = LineTo (half (c .col)) (half (c .row))
+pieceOf Close = Closed
+pieceOf None = NoPiece
+
+-- Two numbers at the front of a lent list that has room for them; what stands behind them is as it was
+unfoldable pub pairAfter : Float → Float → List Float → List Float
+pairAfter x y [] = []
+pairAfter x y (a ∷ []) = a ∷ []
+pairAfter x y (a ∷ b ∷ l) = x ∷ y ∷ l
+
+-- A lent list after a piece: a move and a line have a point
+unfoldable pub pointAfter : Piece → List Float → List Float
+pointAfter (MoveTo x y) l = pairAfter x y l
+pointAfter (LineTo x y) l = pairAfter x y l
+pointAfter Closed l = l
+pointAfter NoPiece l = l
