@@ -9,3 +9,4 @@ pub mod Queries
 pub mod Closes
 pub mod Rows
 pub mod Readings
+pub mod Pieces

@@ -1,7 +1,7 @@
 -- The walk to a position, edge by edge: the piece there of the edges that are left is the one wanted of all.
 use Prim.Native.Nat.{ℕ, zero, suc, _+_, _-_, _*_, _^_, _≤_, _<_}
 use native.Mathlib.Omega.{arith}
-use mathlib.Core.Path.{_≡_, refl, sym, ap, _∙_}
+use mathlib.Core.Path.{_≡_, refl, ap, _∙_}
 use mathlib.Core.List.{List, [], _∷_, _++_}
 use lib.ListN.{length, drop, getD, length-drop}
 use lib.IntN.{ℤ, pos, natAbs, _+ℤ_}

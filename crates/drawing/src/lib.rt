@@ -45,7 +45,7 @@ fn line_to(x: i64, y: i64) -> Stroke
     Stroke::None
 }
 
-// The piece at a position of the drawing of an anchor and a list of edges.
+// The piece at a position of the drawing of an anchor and a list of edges: a line for each edge but the last, and close.
 pub fn stroke(anchor: Point, edges: &[i16], position: u16) -> Stroke
     ensures { λ r. ⌜ r ≡ strokeAt anchor (now (edges .entry)) position ⌝ }
 {
@@ -91,7 +91,7 @@ pub fn piece_of(stroke: Stroke) -> Piece
     }
 }
 
-// The same with its point.
+// The piece at a position, with its point.
 pub fn piece_at(anchor: Point, edges: &[i16], position: u16) -> Piece
     ensures { λ r. ⌜ r ≡ pieceOf (strokeAt anchor (now (edges .entry)) position) ⌝ }
 {

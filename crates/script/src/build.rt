@@ -9,12 +9,18 @@ pub struct Script {
     pub place: u8,
 }
 
-fn low(n: u16) -> u8 {
+// What the bytes that a call does not name are.
+const LAST_TWO: u32 = 0x0909_0000;
+
+const LAST_THREE: u32 = 0x0909_0900;
+
+fn low(n: u32) -> u8 {
     (n % 256) as u8
 }
 
-fn high(n: u16) -> u8 {
-    (n / 256) as u8
+// A number of two bytes, and bytes that the call does not name.
+fn short(n: u16) -> u32 {
+    LAST_TWO + n as u32
 }
 
 // The letter that a digit stands for.
@@ -39,48 +45,61 @@ impl Script {
         self
     }
 
-    // One more call, where there is space for it. The bytes that no call names are 9.
-    fn put(mut self, number: u8, x: u16, y: u16) -> Self {
+    // One more call, where there is space for it.
+    fn put(mut self, number: u8, x: u32, y: u32) -> Self {
         let at = self.end;
         if at <= SIZE - 11 {
             self.bytes[at] = number;
             self.bytes[at + 1] = self.party;
             self.bytes[at + 2] = self.place;
             self.bytes[at + 3] = low(x);
-            self.bytes[at + 4] = high(x);
+            self.bytes[at + 4] = low(x / 256);
+            self.bytes[at + 5] = low(x / 65536);
+            self.bytes[at + 6] = low(x / 16777216);
             self.bytes[at + 7] = low(y);
-            self.bytes[at + 8] = high(y);
+            self.bytes[at + 8] = low(y / 256);
+            self.bytes[at + 9] = low(y / 65536);
+            self.bytes[at + 10] = low(y / 16777216);
             self.end = at + 11;
         }
         self
     }
 
     pub fn begin(self, col: u16, row: u16) -> Self {
-        self.put(0, col, row)
+        self.put(0, short(col), short(row))
     }
 
     pub fn add(self, a: u8) -> Self {
-        self.put(1, a as u16, 0)
+        self.put(1, LAST_THREE + a as u32, LAST_TWO)
     }
 
     pub fn drop(self) -> Self {
-        self.put(2, 0, 0)
+        self.put(2, LAST_TWO, LAST_TWO)
     }
 
     pub fn clear(self) -> Self {
-        self.put(3, 0, 0)
+        self.put(3, LAST_TWO, LAST_TWO)
     }
 
     pub fn close(self) -> Self {
-        self.put(4, 0, 0)
+        self.put(4, LAST_TWO, LAST_TWO)
     }
 
     pub fn query(self, col: u16, row: u16) -> Self {
-        self.put(5, col, row)
+        self.put(5, short(col), short(row))
     }
 
     pub fn row(self, row: u16) -> Self {
-        self.put(6, row, 0)
+        self.put(6, short(row), LAST_TWO)
+    }
+
+    // By the bits of two floats.
+    pub fn reading(self, angle: u32, load: u32) -> Self {
+        self.put(7, angle, load)
+    }
+
+    pub fn piece(self, position: u16) -> Self {
+        self.put(8, short(position), LAST_TWO)
     }
 
     // The letters of a word of digits.

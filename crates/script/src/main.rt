@@ -193,6 +193,47 @@ fn rows(s: Script) -> Script {
     s.at(2, 2).row(0).at(1, 4).row(0).at(1, 2).clear().row(1)
 }
 
+// Readings with H3 at a place: 12 and 11 in their order; in the middle, at a corner, on an edge, a hundredth outside it, a tenth inside it, a cell outside, past the last
+// column. H2, which is flat: on its line, at -0, just above it, and past its end. H1: its centre, at -0, and just beside it.
+fn readings(s: Script) -> Script {
+    let s = s.at(0, 1)
+        .reading(0x7fc0_0000, 0)
+        .outline(0, 1, b"101030323212");
+    let s = s.reading(0x7fc0_0000, 0).reading(0, 0xff80_0001);
+    let s = s.reading(0x7f80_0000, 0).reading(0, 0xff80_0000);
+    let s = s.reading(0x8000_0001, 0).reading(0, 0x437e_0001);
+    let s = s.reading(0x3f80_0000, 0x3f80_0000);
+    let s = s.reading(0x3f80_0000, 0x4000_0000);
+    let s = s.reading(0x3f00_0000, 0x3fc0_0000);
+    let s = s.reading(0x3f00_0000, 0x3fc1_47ae);
+    let s = s.reading(0x3f00_0000, 0x3fb3_3333);
+    let s = s.reading(0, 0x4000_0000).reading(0x4020_0000, 0x3f80_0000);
+    let s = s.at(2, 1).reading(0, 0).at(0, 4).reading(0, 0).at(0, 1);
+    let s = s.outline(0, 0, b"10003222").reading(0x3f80_0000, 0);
+    let s = s.reading(0x8000_0000, 0).reading(0x3f80_0000, 1);
+    let s = s.reading(0x4040_0000, 0).outline(0, 0, b"1032");
+    let s = s.reading(0, 0).reading(0x8000_0000, 0x8000_0000);
+    s.reading(1, 0).reading(0x437e_0000, 0x437e_0000).clear()
+}
+
+// The pieces of H1, H2, H3 and H5: a move, a line for each edge but the last, close, and none past that. 19, 20 and 12 in their order.
+fn pieces(s: Script) -> Script {
+    let s = s.at(0, 3).piece(0).outline(0, 0, b"1032");
+    let s = s.piece(0).piece(1).piece(2).outline(0, 0, b"10003222");
+    let s = s.piece(0).piece(1).piece(2).piece(3);
+    let s = s.outline(0, 1, b"101030323212").piece(0).piece(1).piece(2);
+    let s = s.piece(3).piece(4).piece(5).piece(65535);
+    let s = s.outline(0, 0, b"11030322").piece(0).piece(1).piece(2);
+    let s = s.piece(3).piece(4);
+    s.at(2, 4)
+        .piece(0)
+        .at(0, 4)
+        .piece(0)
+        .at(0, 3)
+        .clear()
+        .piece(0)
+}
+
 fn script() -> Script {
     let s = without_draft(Script::new());
     let s = drafts(s);
@@ -202,7 +243,8 @@ fn script() -> Script {
     let s = kept(s);
     let s = dents(s);
     let s = long(s);
-    rows(both(s))
+    let s = rows(both(s));
+    pieces(readings(s))
 }
 
 // Replays a script and writes the replies.

@@ -1,0 +1,68 @@
+-- Which piece stands at which position, for every anchor and list: there are as many lines as edges, less one.
+use Prim.Native.Nat.{ℕ, zero, suc, _-_, _/_, _<_, max}
+use native.Mathlib.Omega.{arith}
+use mathlib.Core.Path.{_≡_, refl, ap, _∙_}
+use mathlib.Core.List.{List, [], _∷_, _++_}
+use lib.ListN.{length, getD, length-append, List·getD-eq-default, List·getD-append}
+use lib.Seq.{getD-at}
+use lib.IntN.{ℤ, pos, _+ℤ_}
+use Rattle.chart.specs.declared.Point.{Point}
+use Rattle.calls.specs.declared.Stroke.{Stroke}
+use Rattle.calls.specs.declared.Stroke.the-variants.{Move, Close, None}
+use Rattle.drawing.specs.Drawing.{lineTo, linesFrom, strokeAt}
+use Rattle.drawing.specs.Claims.{Cell, cellOf, cornersFrom, corners}
+use Rattle.drawing.proofs.Walks.{strokeFrom, stroke-first, stroke-later}
+
+lines-length : (es : List ℤ) (x y : ℤ) → length (linesFrom es x y) ≡ length es / 2 - 1
+unfolding linesFrom
+lines-length [] x y = omega arith
+lines-length (dx ∷ []) x y = omega arith
+lines-length (dx ∷ dy ∷ []) x y = omega arith
+lines-length (dx ∷ dy ∷ ex ∷ []) x y = omega arith
+lines-length (dx ∷ dy ∷ ex ∷ ey ∷ es) x y = omega (arith, lines-length (ex ∷ ey ∷ es) (x +ℤ dx) (y +ℤ dy))
+
+-- A line to a cell, on the chart or off it
+abbrev pub lineToCell : Cell → Stroke
+lineToCell c = lineTo (c .0) (c .1)
+
+-- Line n leads to the corner cell that is reached after n + 1 edges
+lines-at : (es : List ℤ) (x y : ℤ) (n : ℕ) (d : Cell) → suc n < length es / 2 → getD (linesFrom es x y) n None ≡ lineToCell (getD (cornersFrom es x y) (suc n) d)
+unfolding linesFrom cornersFrom
+lines-at [] x y n d h = absurd (omega arith)
+lines-at (dx ∷ []) x y n d h = absurd (omega arith)
+lines-at (dx ∷ dy ∷ []) x y n d h = absurd (omega arith)
+lines-at (dx ∷ dy ∷ ex ∷ []) x y n d h = absurd (omega arith)
+lines-at (dx ∷ dy ∷ ex ∷ ey ∷ es) x y zero d h = refl
+lines-at (dx ∷ dy ∷ ex ∷ ey ∷ es) x y (suc n) d h = lines-at (ex ∷ ey ∷ es) (x +ℤ dx) (y +ℤ dy) n d (omega arith)
+
+module _ (a : Point) (es : List ℤ) where
+  -- First the move to the anchor
+  pub position-move : strokeAt a es 0 ≡ Move a
+  position-move = stroke-first a es
+
+  -- Then, for each edge but the last, a line to the corner cell that is reached after n edges
+  pub position-line : (n : ℕ) → 0 < n → n < length es / 2 → strokeAt a es n ≡ lineToCell (getD (corners a es) n (cellOf a))
+  unfolding strokeFrom
+  position-line zero l h = absurd (omega arith)
+  position-line (suc n) l h =
+      stroke-later a es n
+      ∙ List·getD-append (linesFrom es (pos (a .col)) (pos (a .row))) (Close ∷ []) None n (omega (arith, lines-length es (pos (a .col)) (pos (a .row))))
+      ∙ lines-at es (pos (a .col)) (pos (a .row)) n (cellOf a) h
+
+  -- Then close: behind the last line, or behind the move where there is no line
+  pub position-close : strokeAt a es (max 1 (length es / 2)) ≡ Close
+  unfolding strokeFrom
+  position-close =
+      let n : max 1 (length es / 2) ≡ suc (length es / 2 - 1) = omega arith in
+      ap (strokeAt a es) n
+      ∙ stroke-later a es (length es / 2 - 1)
+      ∙ getD-at (linesFrom es (pos (a .col)) (pos (a .row))) Close [] None (length es / 2 - 1) (lines-length es (pos (a .col)) (pos (a .row)))
+
+  -- Then nothing
+  pub position-none : (n : ℕ) → max 1 (length es / 2) < n → strokeAt a es n ≡ None
+  unfolding strokeFrom
+  position-none zero h = absurd (omega arith)
+  position-none (suc n) h =
+      stroke-later a es n
+      ∙ List·getD-eq-default (linesFrom es (pos (a .col)) (pos (a .row)) ++ (Close ∷ [])) None
+      (simp length-append (omega (arith, lines-length es (pos (a .col)) (pos (a .row)))))

@@ -1,0 +1,71 @@
+-- What is claimed of the drawing of an outline that was taken: its points are the corner cells of the edges, raised by one half exactly, and their hull is the outline's block
+-- (contract 2.5 and 3.17).
+use Prim.Native.Nat.{ℕ, _+_, _*_, _^_, _<_}
+use mathlib.Core.Path.{_≡_}
+use mathlib.Core.Logic.{_↔_}
+use mathlib.Core.Bool.{Bool, true, false}
+use mathlib.Core.List.{List, [], _∷_, _++_, map, List·Memᴰ}
+use lib.IntN.{ℤ, pos, _+ℤ_}
+use lib.Dec.{T}
+use lib.Ieee.{Float, binary32, fits}
+use lib.Ieee.Scale.{finite}
+use Rattle.rounding.specs.Units.{value}
+use Rattle.chart.specs.Limits.{side}
+use Rattle.chart.specs.declared.Point.{Point}
+use Rattle.lattice.specs.Hull.{InTriangle}
+use Rattle.turning.specs.Turning.{badTurning}
+use Rattle.calls.specs.declared.Stroke.the-variants.{Move, Line, Close}
+use Rattle.drawing.specs.Drawing.{drawing}
+use Rattle.drawing.specs.Points.{half}
+
+-- The float x is n raised by one half, exactly. In units of 2 ^ -149 one half is 2 ^ 148
+pub record Raised (n : ℕ) (x : Float) : Type 0 where
+  pub held : T (fits binary32 x)
+  pub number : T (finite x)
+  pub exact : value binary32 x ≡ pos ((2 * n + 1) * 2 ^ 148)
+
+-- A cell, on the chart or off it: its column and its row
+abbrev pub Cell : Type 0
+Cell = ℤ × ℤ
+
+abbrev pub cellOf : Point → Cell
+cellOf p = (pos (p .col), pos (p .row))
+
+-- The corner cells in the order of the walk: where it starts, and where each edge ends
+unfoldable pub cornersFrom : List ℤ → ℤ → ℤ → List Cell
+cornersFrom [] x y = (x, y) ∷ []
+cornersFrom (dx ∷ []) x y = (x, y) ∷ []
+cornersFrom (dx ∷ dy ∷ es) x y = (x, y) ∷ cornersFrom es (x +ℤ dx) (y +ℤ dy)
+
+abbrev pub corners : Point → List ℤ → List Cell
+corners a es = cornersFrom es (pos (a .col)) (pos (a .row))
+
+-- Where there is an edge, the walk ends at the anchor again
+unfoldable pub again : Point → List ℤ → List Cell
+again a [] = []
+again a (dx ∷ []) = []
+again a (dx ∷ dy ∷ es) = cellOf a ∷ []
+
+-- Some three of these cells, which need not be different, have x in their triangle
+pub record InHullOf (ps : List Point) (x : Point) : Type 0 where
+  pub p : Point
+  pub q : Point
+  pub t : Point
+  pub p-listed : List·Memᴰ p ps
+  pub q-listed : List·Memᴰ q ps
+  pub t-listed : List·Memᴰ t ps
+  pub triangle : InTriangle x p q t
+
+pub record Draws (a : Point) (es : List ℤ) (marked : ℕ → ℕ → Bool) : Type 0 where
+  -- The cells that the lines lead to. There is a line to each, and nothing else between the move and close
+  pub ends : List Point
+  pub pieces : drawing a es ≡ Move a ∷ map Line ends ++ (Close ∷ [])
+  -- The move's cell and theirs are the corner cells in the order of the walk, without the last, which is the anchor again
+  pub met : corners a es ≡ map cellOf (a ∷ ends) ++ again a es
+  -- They are cells of the chart, and their floats are exact
+  pub on-chart : (p : Point) → List·Memᴰ p (a ∷ ends) → (p .col < side) × (p .row < side)
+  pub raised : (p : Point) → List·Memᴰ p (a ∷ ends) → Raised (p .col) (half (p .col)) × Raised (p .row) (half (p .row))
+  -- The edges between them are not nil, turn strictly clockwise, and lead back to the anchor
+  pub turning : badTurning es ≡ false
+  -- A cell is marked exactly if it lies in the hull of the points
+  pub hull : (x : Point) → x .col < side → x .row < side → (marked (x .col) (x .row) ≡ true) ↔ InHullOf (a ∷ ends) x
