@@ -1,5 +1,5 @@
 -- What is claimed of the drawing of an outline that was taken: its points are the corner cells of the edges, raised by one half exactly, and their hull is the outline's block
--- (contract 2.5 and 3.17).
+-- (contract 8.8).
 use Prim.Native.Nat.{ℕ, _+_, _*_, _^_, _<_}
 use mathlib.Core.Path.{_≡_}
 use mathlib.Core.Logic.{_↔_}

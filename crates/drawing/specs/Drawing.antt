@@ -1,4 +1,4 @@
--- The drawing of an anchor and a list of edges, by the cells at whose centres its points lie: a move to the anchor, a line to the end of each edge but the last, and close.
+-- The drawing of an anchor and a list of edges, by the cells at whose centres its points lie: a move to the anchor, a line to the end of each edge but the last, and close (contract 3.22).
 use Prim.Native.Nat.{ℕ}
 use mathlib.Core.Bool.{Bool, false, cond, _&&_}
 use mathlib.Core.List.{List, [], _∷_, _++_}

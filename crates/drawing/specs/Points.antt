@@ -1,4 +1,4 @@
--- A piece as the tablet takes it: columns and rows as floats, raised by one half.
+-- A piece as the tablet takes it: columns and rows as floats, raised by one half (contract 3.22).
 use Prim.Native.Nat.{ℕ}
 use mathlib.Core.Bool.{false}
 use mathlib.Core.List.{List, [], _∷_}

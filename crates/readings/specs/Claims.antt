@@ -1,4 +1,4 @@
--- What is claimed of a reading that is not refused, in units of 2 ^ -149 (contract 3.20): 1/64 is 2 ^ 143 of them, and 1/32 is 2 ^ 144.
+-- What is claimed of a reading that is not refused, in units of 2 ^ -149 (contract 8.7): 1/64 is 2 ^ 143 of them, and 1/32 is 2 ^ 144.
 use Prim.Native.Nat.{_^_, _<_}
 use mathlib.Core.Path.{_≡_}
 use mathlib.Core.Logic.{_↔_}

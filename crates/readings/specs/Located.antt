@@ -1,4 +1,4 @@
--- Where a reading lies (contract 3.18, 3.19 and 5.2): exactly inside, and the answer from computed side values.
+-- Where a reading lies (contract 3.20, 3.21 and 5.2): exactly inside, and the answer from computed side values.
 use Prim.Native.Nat.{ℕ, _-_}
 use mathlib.Core.Bool.{Bool, true, false, not, cond, _&&_, _||_}
 use mathlib.Core.List.{List}

@@ -1,4 +1,4 @@
--- The side values of a walk of edges at a reading: exact, in units of 2 ^ -149, and as the machine computes them (contract 3.16 and 3.17).
+-- The side values of a walk of edges at a reading: exact, in units of 2 ^ -149, and as the machine computes them (contract 3.18 and 3.19).
 use mathlib.Core.List.{List, [], _∷_}
 use lib.IntN.{ℤ, pos, _+ℤ_}
 use lib.Ieee.{Float, binary32, sub, mul, ofInt}
