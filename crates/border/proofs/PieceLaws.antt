@@ -1,20 +1,22 @@
 -- One law for each of the refusals 8 and 9 and one for an outline taken: the definition is a list of tests, and the first that holds decides.
 use Prim.Native.Nat.{ℕ, _+_, _*_, _≤_, _<_}
 use native.Mathlib.Numerals.{add-one}
+use native.Mathlib.Decide.{decLe}
 use native.Mathlib.Omega.{arith}
 use mathlib.Core.Path.{_≡_, refl, sym, ap, _∙_}
 use mathlib.Core.Bool.{Bool, true, false}
-use mathlib.Core.List.{List, _++_}
+use mathlib.Core.List.{List}
 use lib.ListN.{length, getD, take, drop, length-replicate}
-use lib.Seq.{length-take-le}
+use lib.Seq.{length-take-le, take-at}
 use lib.IntN.{ℤ, pos}
 use lib.Dec.{ltb}
-use borrow.Author.Tests.{lt-ltb}
+use borrow.Author.Tests.{lt-ltb, le-ltb}
 use Rattle.chart.specs.Limits.{side, longest, mostNumbers}
 use Rattle.chart.specs.declared.Point.{Point}
 use Rattle.chart.specs.Outline.{Outline, outline}
 use Rattle.chart.specs.declared.Refusal.{Refusal}
 use Rattle.chart.specs.declared.Refusal.the-variants.{BackStep, Dent}
+use Rattle.chart.specs.declared.Verdict.{Verdict}
 use Rattle.chart.specs.declared.Verdict.the-variants.{Taken, Refused}
 use Rattle.lattice.specs.Chart.{cornerAt, size}
 use Rattle.lattice.specs.Refusals.{Simple, Stays}
@@ -31,13 +33,12 @@ use Rattle.convexity.proofs.Shape.{straight-of, shape}
 use Rattle.convexity.proofs.Reading.{simple-reading}
 use Rattle.convexity.proofs.Bounds.{edges-length}
 use Rattle.convexity.proofs.EdgeBound.{edges-at-most-100}
-use Rattle.verdict.specs.Verdict.{backStepIn, cellFound, dentIn, turnVerdict, lentAfter}
-use Rattle.border.specs.declared.Judged.{Judged}
+use Rattle.verdict.specs.Verdict.{backStepIn, cellFound, dentIn, turnVerdict, withRoom, lentAfter}
 use Rattle.border.specs.Cutting.{Laid, SentTo}
 use Rattle.border.specs.BackSteps.{StepIs, FoundAt}
 use Rattle.border.specs.Dents.{DentIs, EdgesAre, DentRead}
 use Rattle.border.specs.Turning.{FromWest, Turning, Straight, dentAs}
-use Rattle.border.specs.Judged.{zeros, judgedAs, judgedTurn}
+use Rattle.border.specs.Judged.{Lent, Said, SaidOfTurn, zeros}
 
 -- ---- the turn
 
@@ -110,31 +111,44 @@ module _ {v : ℕ} {o : Outline} {cuts : List ℕ} (h : Straight v o cuts) where
 
 -- ---- the answers
 
--- An outline as it is judged, by its verdict
-pub as-refused : (f : Refusal) (es : List ℤ) → record { verdict = Refused f; numbers = zeros } ≡ judgedAs (Refused f) es
-unfolding judgedAs lentAfter
-as-refused f es = refl
+-- A refusal leaves the lent list as it was
+pub said-refused : {v : Verdict} (es before : List ℤ) {f : Refusal} → Refused f ≡ v → Said v es before before (Refused f)
+unfolding withRoom lentAfter
+said-refused es before e = record { verdict = e; lent = rw (sym e) refl }
 
-as-taken : (n : ℕ) (a : Point) (es : List ℤ) {after : List ℤ} → after ≡ es ++ drop (length es) zeros → record { verdict = Taken n a; numbers = after } ≡ judgedAs (Taken n a) es
-unfolding judgedAs lentAfter
-as-taken n a es e = ap (λ (l : List ℤ). record { verdict = Taken n a; numbers = l }) e
+-- A taken outline's edges are lent where there is room for them
+said-taken : {v : Verdict} {es before after : List ℤ} {n : ℕ} {a : Point} → Taken n a ≡ v → length es ≡ 2 * n → Lent es (2 * n) before after → Said v es before after (Taken n a)
+unfolding withRoom lentAfter
+said-taken {v} {es} {before} {after} {n} {a} e size l =
+    record {
+      verdict = e;
+      lent =
+          rw (sym e)
+          (elim (decLe (2 * n) (length before)) [
+            | yes h ↦ rw (le-ltb (length before) (2 * n) h) (rw size (l .room h))
+            | no h ↦ let k : length before < 2 * n = omega arith in rw (lt-ltb (length before) (2 * n) k) (l .none k)
+          ]);
+    }
 
 module _ (forward : Bool) (v : ℕ) (o : Outline) where
-  turn-back-step : {k i : ℕ} → StepIs o k i → k < 4 → judgedAs (Refused (BackStep (k + 1) (sentFrom forward (size o) v i))) (edges o) ≡ judgedTurn forward v o
-  unfolding judgedTurn turnVerdict backStepIn
+  abbrev said : Verdict
+  said = turnVerdict (sentFrom forward (size o) v) o
+
+  turn-back-step : {k i : ℕ} → StepIs o k i → k < 4 → Refused (BackStep (k + 1) (sentFrom forward (size o) v i)) ≡ said
+  unfolding turnVerdict backStepIn
   turn-back-step {k} h l =
       let b : ltb (backStepPiece o) 4 ≡ true = lt-ltb (backStepPiece o) 4 (omega (arith, h .piece)) in
       rw (b, add-one k, h .at, h .piece)
 
   module _ (b : ltb (backStepPiece o) 4 ≡ false) where
-    turn-dent : {k i l : ℕ} → DentIs o k i l → k < 4 → judgedAs (Refused (dentAs forward v o k i l)) (edges o) ≡ judgedTurn forward v o
-    unfolding judgedTurn turnVerdict dentIn dentAs
+    turn-dent : {k i l : ℕ} → DentIs o k i l → k < 4 → Refused (dentAs forward v o k i l) ≡ said
+    unfolding turnVerdict dentIn dentAs
     turn-dent {k} h l =
         let c : ltb (dentPiece o) 4 ≡ true = lt-ltb (dentPiece o) 4 (omega (arith, h .piece)) in
         rw (b, c, add-one k, h .at, h .size, h .piece)
 
-    turn-taken : dentPiece o ≡ 4 → judgedAs (Taken (edgeCount o) (o .start)) (edges o) ≡ judgedTurn forward v o
-    unfolding judgedTurn turnVerdict
+    turn-taken : dentPiece o ≡ 4 → Taken (edgeCount o) (o .start) ≡ said
+    unfolding turnVerdict
     turn-taken c = rw (b, c)
 
 -- ---- the turn in the buffer
@@ -147,12 +161,12 @@ module _ {v : ℕ} {s : Point} {n : ℕ} {buffer cuts : List ℕ} (h : Turning v
   turn-size = length-take-le n buffer (h .within)
 
   -- 8
-  pub step-judged : {forward : Bool} {k i place : ℕ} → FoundAt buffer cuts k i → SentTo forward n v i place → {r : Judged} → ((es : List ℤ) → r ≡ judgedAs (Refused (BackStep (k + 1) place)) es)
-      → r ≡ judgedTurn forward v t
-  step-judged {forward} {k} {i} {place} e p {r} q =
+  pub step-said : {forward : Bool} {k i place : ℕ} → FoundAt buffer cuts k i → SentTo forward n v i place → (before : List ℤ)
+      → SaidOfTurn forward v t before before (Refused (BackStep (k + 1) place))
+  step-said {forward} {k} {i} {place} e p before =
       let d : place ≡ sentFrom forward (size t) v i =
       place-sent (h .ready .turn) (h .ready .place) (omega (arith, e .at-le, h .ready .sized)) (rw turn-size p) in
-      q (edges t) ∙ rw d (turn-back-step forward v t (e .step t (h .ready .laid)) (e .piece-lt))
+      said-refused (edges t) before (rw d (turn-back-step forward v t (e .step t (h .ready .laid)) (e .piece-lt)))
 
   pub none-straight : backStepPiece t ≡ 4 → ltb (backStepPiece t) 4 ≡ false
   none-straight e = rw e
@@ -163,14 +177,15 @@ module _ {v : ℕ} {s : Point} {n : ℕ} {buffer cuts : List ℕ} (h : Turning v
         record { turn = h .ready .turn; place = h .ready .place; clockwise = h .ready .clockwise; straight = b; places = h .ready .laid .places }
 
     -- 9
-    pub dent-judged : (forward : Bool) {k i l : ℕ} → DentRead buffer cuts k i l → {r : Judged} → ((es : List ℤ) → r ≡ judgedAs (Refused (dentAs forward v t k i l)) es)
-        → r ≡ judgedTurn forward v t
-    dent-judged forward e q =
-        q (edges t) ∙ turn-dent forward v t b (e .dent t (turn-walked (h .ready .turn) .short) (h .ready .laid)) (e .piece-lt)
+    pub dent-said : (forward : Bool) {k i l : ℕ} → DentRead buffer cuts k i l → {f : Refusal} → f ≡ dentAs forward v t k i l → (before : List ℤ)
+        → SaidOfTurn forward v t before before (Refused f)
+    dent-said forward e q before =
+        said-refused (edges t) before
+        (ap Refused q ∙ turn-dent forward v t b (e .dent t (turn-walked (h .ready .turn) .short) (h .ready .laid)) (e .piece-lt))
 
     -- Taken
-    module _ {after : List ℤ} {m : ℕ} (e : (o : Outline) → size o ≤ longest → Laid o cuts buffer → EdgesAre o zeros after m) where
-      abbrev found : EdgesAre t zeros after m
+    module _ {numbers : List ℤ} {m : ℕ} (e : (o : Outline) → size o ≤ longest → Laid o cuts buffer → EdgesAre o zeros numbers m) where
+      abbrev found : EdgesAre t zeros numbers m
       found = e t (turn-walked (h .ready .turn) .short) (h .ready .laid)
 
       room : 2 * edgeCount t ≤ length zeros
@@ -179,8 +194,13 @@ module _ {v : ℕ} {s : Point} {n : ℕ} {buffer cuts : List ℕ} (h : Turning v
       pub count-le : 2 * m ≤ mostNumbers
       count-le = omega (arith, found .count room, count-bounded straight-of-turning (found .none))
 
-      pub edges-judged : (forward : Bool) → record { verdict = Taken m s; numbers = after } ≡ judgedTurn forward v t
-      edges-judged forward =
-          let size : length (edges t) ≡ 2 * m = edges-length t ∙ ap (λ (k : ℕ). 2 * k) (sym (found .count room)) in
-          as-taken m s (edges t) (found .list room ∙ rw size) ∙
-          ap (λ (k : ℕ). judgedAs (Taken k s) (edges t)) (found .count room) ∙ turn-taken forward v t b (found .none)
+      edges-size : length (edges t) ≡ 2 * m
+      edges-size = edges-length t ∙ ap (λ (k : ℕ). 2 * k) (sym (found .count room))
+
+      first-numbers : take (2 * m) numbers ≡ edges t
+      first-numbers = ap (take (2 * m)) (found .list room) ∙ take-at (edges t) (drop (2 * m) zeros) (2 * m) edges-size
+
+      pub edges-said : (forward : Bool) {before after : List ℤ} → Lent (take (2 * m) numbers) (2 * m) before after → SaidOfTurn forward v t before after (Taken m s)
+      edges-said forward {before} {after} l =
+          said-taken (ap (λ (k : ℕ). Taken k s) (found .count room) ∙ turn-taken forward v t b (found .none)) edges-size
+          (rw first-numbers at l)

@@ -11,16 +11,16 @@ use survey::Surveyed;
 ghost use Prim.Native.Nat.{_*_, _≤_, _<_};
 ghost use mathlib.Core.Path.{_≡_};
 ghost use mathlib.Core.Bool.{false};
-ghost use mathlib.Core.List.{List};
-ghost use lib.ListN.{take};
-ghost use lib.IntN.{ℤ};
+ghost use mathlib.Core.List.{_++_};
+ghost use lib.ListN.{length, take, drop};
 ghost use lib.Dec.{ltb};
 ghost use Rattle.chart.specs.Limits.{longest};
 ghost use Rattle.chart.specs.Outline.{outline};
 ghost use Rattle.lattice.specs.Refusals.{Simple};
 ghost use Rattle.convexity.specs.Pieces.{backStepPiece};
+ghost use Rattle.verdict.specs.Verdict.{verdictOf, edgesAfter};
 ghost use Rattle.border.specs.Turning.{Turning, Straight, dentAs};
-ghost use Rattle.border.specs.Judged.{judgedAs, judgedTurn, judgedBorder, judgedOf};
+ghost use Rattle.border.specs.Judged.{Lent, SaidOfTurn, SaidOfBorder, judgedOf};
 
 mod back_steps;
 mod cut;
@@ -28,18 +28,26 @@ mod dents;
 mod edge;
 mod frame;
 
-// What is said of an outline by refusals 1 to 9, and its edges, two numbers an edge and then zeros: all zeros where it is refused.
-pub struct Judged {
-    pub verdict: Verdict,
-    pub numbers: [i16; MOST_NUMBERS],
+// Copies the first n numbers of a list to the lent one.
+fn copy_edges(list: &[i16], n: usize, lent: &mut [i16])
+    requires { ⌜ (n ≤ length (now list)) × (n ≤ length (now lent)) ⌝ }
+    ensures { λ _. ⌜ now (lent .exit) ≡ take n (now (list .entry)) ++ drop n (now (lent .entry)) ⌝ }
+{
+    let mut i = 0;
+    while i < n {
+        let number = list[i];
+        lent[i] = number;
+        i += 1;
+    }
 }
 
-fn refused(why: Refusal) -> Judged
-    ensures { λ r. ⌜ ((es : List ℤ) → r ≡ judgedAs (Verdict.Refused why) es) ⌝ }
+// Lends the first n numbers of a list where there is room for them.
+fn lend(list: &[i16], n: usize, lent: &mut [i16])
+    requires { ⌜ n ≤ length (now list) ⌝ }
+    ensures { λ _. ⌜ Lent (take n (now (list .entry))) n (now (lent .entry)) (now (lent .exit)) ⌝ }
 {
-    Judged {
-        verdict: Verdict::Refused(why),
-        numbers: [0; MOST_NUMBERS],
+    if n <= lent.len() {
+        copy_edges(list, n, lent);
     }
 }
 
@@ -62,10 +70,10 @@ fn dent(turn: Turn, letters: &[u8], piece: usize, at: usize, length: usize) -> R
 }
 
 // 9, of a turn without back-steps, or the edges.
-fn edges(turn: Turn, buffer: &[u8]) -> Judged
+fn edges(turn: Turn, buffer: &[u8], lent: &mut [i16]) -> Verdict
     requires { ⌜ Turning (turn .place) (turn .west) (turn .count) (now buffer) (turn .at) ⌝ }
     requires { ⌜ ltb (backStepPiece (outline (turn .west) (take (turn .count) (now buffer)))) 4 ≡ false ⌝ }
-    ensures { λ r. ⌜ r ≡ judgedTurn (turn .forward) (turn .place) (outline (turn .west) (take (turn .count) (now (buffer .entry)))) ⌝ }
+    ensures { λ r. ⌜ SaidOfTurn (turn .forward) (turn .place) (outline (turn .west) (take (turn .count) (now (buffer .entry)))) (now (lent .entry)) (now (lent .exit)) r ⌝ }
 {
     let mut numbers = [0i16; MOST_NUMBERS];
     let factored = dents::read(turn, buffer, &mut numbers);
@@ -73,40 +81,40 @@ fn edges(turn: Turn, buffer: &[u8]) -> Judged
     let anchor = turn.west;
     match factored {
         Factored::Dent { piece, at, length } => {
-            refused(dent(turn, &buffer[..count], piece, at, length))
+            Verdict::Refused(dent(turn, &buffer[..count], piece, at, length))
         }
-        Factored::Edges { edges } => Judged {
-            verdict: Verdict::Taken {
+        Factored::Edges { edges } => {
+            lend(&numbers, 2 * edges, lent);
+            Verdict::Taken {
                 edges: edges as u16,
                 anchor,
-            },
-            numbers,
-        },
+            }
+        }
     }
 }
 
 // 8 and 9, of a clockwise turn, or the edges.
-fn pieces(turn: Turn, buffer: &[u8]) -> Judged
+fn pieces(turn: Turn, buffer: &[u8], lent: &mut [i16]) -> Verdict
     requires { ⌜ Turning (turn .place) (turn .west) (turn .count) (now buffer) (turn .at) ⌝ }
-    ensures { λ r. ⌜ r ≡ judgedTurn (turn .forward) (turn .place) (outline (turn .west) (take (turn .count) (now (buffer .entry)))) ⌝ }
+    ensures { λ r. ⌜ SaidOfTurn (turn .forward) (turn .place) (outline (turn .west) (take (turn .count) (now (buffer .entry)))) (now (lent .entry)) (now (lent .exit)) r ⌝ }
 {
     let found = back_steps::first(turn, buffer);
     match found {
         BackStep::At { piece, at } => {
             let place = cut::sent(turn.count, turn.place, turn.forward, at);
-            refused(Refusal::BackStep {
+            Verdict::Refused(Refusal::BackStep {
                 piece: (piece + 1) as u16,
                 place: place as u16,
             })
         }
-        BackStep::None => edges(turn, buffer),
+        BackStep::None => edges(turn, buffer, lent),
     }
 }
 
 // 8 and 9, of an outline that passes 1 to 6, or the edges: its letters are read once round from W on into a buffer, clockwise.
-fn read(start: Point, letters: &[u8]) -> Judged
+fn read(start: Point, letters: &[u8], lent: &mut [i16]) -> Verdict
     requires { ⌜ Simple (outline start (now letters)) ⌝ }
-    ensures { λ r. ⌜ r ≡ judgedBorder (outline start (now (letters .entry))) ⌝ }
+    ensures { λ r. ⌜ SaidOfBorder (outline start (now (letters .entry))) (now (lent .entry)) (now (lent .exit)) r ⌝ }
 {
     let count = letters.len();
     let cuts = corners::cut_places(start, letters);
@@ -125,16 +133,36 @@ fn read(start: Point, letters: &[u8]) -> Judged
         count,
         at,
     };
-    pieces(turn, &buffer)
+    pieces(turn, &buffer, lent)
 }
 
-// The first of refusals 1 to 9 that applies, or the edges (contract 5 and 3.12).
-pub fn judge(start: Point, letters: &[u8]) -> Judged
-    ensures { λ r. ⌜ r ≡ judgedOf (outline start (now (letters .entry))) ⌝ }
+// The first of refusals 1 to 9 that applies, or the edges (contract 5 and 3.12), which stand first in a lent list with room for them. The list is
+// unaltered where there is none, and where the outline is refused.
+pub fn judge(start: Point, letters: &[u8], lent: &mut [i16]) -> Verdict
+    ensures { λ r. ⌜ r ≡ verdictOf (outline start (now (letters .entry))) ⌝ }
+    ensures { λ r. ⌜ now (lent .exit) ≡ edgesAfter (outline start (now (letters .entry))) (now (lent .entry)) ⌝ }
 {
     let surveyed = survey::survey(start, letters);
     match surveyed {
-        Surveyed::Refused(why) => refused(why),
-        Surveyed::Passed => read(start, letters),
+        Surveyed::Refused(why) => Verdict::Refused(why),
+        Surveyed::Passed => read(start, letters, lent),
+    }
+}
+
+// What is said of an outline by refusals 1 to 9, and its edges, two numbers an edge and then zeros: all zeros where it is refused.
+pub struct Judged {
+    pub verdict: Verdict,
+    pub numbers: [i16; MOST_NUMBERS],
+}
+
+// The judgement as a value.
+pub fn judgement(start: Point, letters: &[u8]) -> Judged
+    ensures { λ r. ⌜ r ≡ judgedOf (outline start (now (letters .entry))) ⌝ }
+{
+    let mut list = [0i16; MOST_NUMBERS];
+    let verdict = judge(start, letters, &mut list);
+    Judged {
+        verdict,
+        numbers: list,
     }
 }

@@ -2,7 +2,7 @@
 use native.Mathlib.Omega.{arith}
 use borrow.Author.Needs.{needs}
 use Rattle.chart.specs.Outline.{outline}
-use Rattle.border.proofs.JudgedLaws.{Copied, copied-ready, copied-judged}
+use Rattle.border.proofs.JudgedLaws.{Copied, copied-ready, copied-said}
 use Rattle.border.proofs.read.Statement.{statement}
 use Rattle.border.proofs.read.Tie as tie
 
@@ -48,12 +48,15 @@ slice-aggregate-pieces c = search needs
 
 pieces-requires : tie.Need-pieces-requires
 pieces-requires c κs =
-    let filled = c .before .before in copied-ready (copied (filled .before .before .before)) (filled .fill-rounds .ensures) (filled .fill-rounds .kept .0)
+    let filled = c .before .before .before in copied-ready (copied (filled .before .before .before)) (filled .fill-rounds .ensures) (filled .fill-rounds .kept .0)
+
+same-length : tie.Need-same-length
+same-length c = search needs
 
 returns : tie.Need-returns
 returns c =
-    let filled = c .before .before .before in
-    copied-judged (copied (filled .before .before .before)) (filled .fill-rounds .ensures) (filled .fill-rounds .kept .0) (c .pieces .ensures)
+    let filled = c .before .before .before .before .before in
+    copied-said (copied (filled .before .before .before)) (filled .fill-rounds .ensures) (filled .fill-rounds .kept .0) (c .before .pieces .ensures)
 
 pub read-spec : {M : Type 1} → statement M
 read-spec =
@@ -68,4 +71,5 @@ read-spec =
     fill-rounds-requires
     slice-aggregate-pieces
     pieces-requires
+    same-length
     returns)
