@@ -29,6 +29,7 @@ use Rattle.verdict.specs.Verdict.{turnVerdict, borderVerdict, afterSurvey, verd
 use Rattle.verdict.proofs.VerdictLaws.{taken-fits}
 use Rattle.corners.specs.declared.Cuts.{Cuts}
 use Rattle.corners.specs.Found.{CutsOf}
+use Rattle.border.specs.declared.cut.Turn.{Turn}
 use Rattle.border.specs.Cutting.{readTurn, readPlace, Rounded}
 use Rattle.border.specs.Turning.{Ready, Turning}
 use Rattle.border.specs.Judged.{Said, SaidOfTurn, SaidOfBorder, zeros, judgedOf}
@@ -117,22 +118,29 @@ module _ {o : Outline} {cuts : Cuts} {v : ℕ} {buffer : List ℕ} (h : Copied o
     v-lt : v < size (border o)
     v-lt = omega (arith, place-is, border-length, length-reading o, west-first (reading o) (walked (reading o) (simple-reading o (h .simple))) .below)
 
-    ready : Ready v (border o) after (cuts .at)
+    abbrev told : Turn
+    told = record { forward = forward; place = v; west = p; bottom = cuts .bottom; top = cuts .top; count = size o; at = cuts .at }
+
+    ready : Ready told (border o) after
     ready =
-        let f = from-west o (h .simple) in
         let n = border-length in
         let around = h .cuts-of .around in
         record {
-          turn = f;
-          place = v-lt;
-          clockwise = clockwise-reading o (h .simple);
+          read =
+              record {
+                walk = from-west o (h .simple);
+                place = v-lt;
+                clockwise = clockwise-reading o (h .simple);
+                bottom = h .cuts-of .bottom (h .simple);
+                top = h .cuts-of .top (h .simple);
+              };
           laid =
               laid-of {before = buffer} (omega (arith, d .long)) (h .cuts-of .places (h .simple)) (omega arith) (rw border-length (ap (λ (v : Outline). v .letters) border-is))
               (omega (arith, d .short, h .sized)) (rw border-length rounded) kept;
           sized = omega (arith, kept, h .sized);
         }
 
-    pub copied-ready : Turning v p (size o) after (cuts .at)
+    pub copied-ready : Turning told after
     copied-ready = record { within = omega (arith, kept, letters-fit); ready = rw border-after ready }
 
     -- 8 and 9, or taken

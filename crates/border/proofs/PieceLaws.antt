@@ -6,7 +6,7 @@ use native.Mathlib.Omega.{arith}
 use mathlib.Core.Path.{_≡_, refl, sym, ap, _∙_}
 use mathlib.Core.Bool.{Bool, true, false}
 use mathlib.Core.List.{List}
-use lib.ListN.{length, getD, take, drop, length-replicate}
+use lib.ListN.{length, take, drop, length-replicate}
 use lib.Seq.{length-take-le, take-at}
 use lib.IntN.{ℤ, pos}
 use lib.Dec.{ltb}
@@ -19,25 +19,26 @@ use Rattle.chart.specs.declared.Refusal.the-variants.{BackStep, Dent}
 use Rattle.chart.specs.declared.Verdict.{Verdict}
 use Rattle.chart.specs.declared.Verdict.the-variants.{Taken, Refused}
 use Rattle.lattice.specs.Chart.{cornerAt, size}
-use Rattle.lattice.specs.Refusals.{Simple, Stays}
+use Rattle.lattice.specs.Refusals.{Simple}
 use Rattle.lattice.proofs.WalkLaws.{Walked, walked, simple-of-walked}
 use Rattle.rows.specs.Search.{foundCell}
 use Rattle.rows.proofs.RowLaws.{found-missing}
 use Rattle.convexity.specs.Frame.{frameOf, along}
-use Rattle.convexity.specs.Cut.{cornerPlace, cutCorner, turn, clockwise}
+use Rattle.convexity.specs.Cut.{cornerPlace, turn, clockwise}
 use Rattle.convexity.specs.Reading.{reading, border, sentFrom}
 use Rattle.convexity.specs.Pieces.{backStepPiece, dentPiece, edges, edgeCount}
 use Rattle.convexity.proofs.StraightTurn.{NoBackStep}
 use Rattle.convexity.proofs.Extreme.{cornerPlace-lt, cornerPlace-first, not-before-earlier, turn-of}
-use Rattle.convexity.proofs.Shape.{straight-of, shape}
+use Rattle.convexity.proofs.Shape.{straight-of}
 use Rattle.convexity.proofs.Reading.{simple-reading}
 use Rattle.convexity.proofs.Bounds.{edges-length}
 use Rattle.convexity.proofs.EdgeBound.{edges-at-most-100}
 use Rattle.verdict.specs.Verdict.{backStepIn, cellFound, dentIn, turnVerdict, withRoom, lentAfter}
+use Rattle.border.specs.declared.cut.Turn.{Turn}
 use Rattle.border.specs.Cutting.{Laid, SentTo}
 use Rattle.border.specs.BackSteps.{StepIs, FoundAt}
 use Rattle.border.specs.Dents.{DentIs, EdgesAre, DentRead}
-use Rattle.border.specs.Turning.{FromWest, Turning, Straight, dentAs}
+use Rattle.border.specs.Turning.{FromWest, ReadAs, Turning, dentAs}
 use Rattle.border.specs.Judged.{Lent, Said, SaidOfTurn, zeros}
 
 -- ---- the turn
@@ -67,47 +68,25 @@ module _ {o : Outline} (h : FromWest o) where
   place-sent : {forward : Bool} {v i r : ℕ} → v < size o → i ≤ 4 * longest → SentTo forward (size o) v i r → r ≡ sentFrom forward (size o) v i
   place-sent l k e = e .place (omega (arith, turn-walked .long)) (omega (arith, turn-walked .short)) l k
 
--- ---- a turn without back-steps
+-- ---- the cell of a dent
 
-module _ {v : ℕ} {o : Outline} {cuts : List ℕ} (h : Straight v o cuts) where
-  straight-clear : NoBackStep o
-  straight-clear = turn-clear (h .turn) (h .clockwise) (h .straight)
-
-  -- The cut places of N and S are those of the corners
-  north-place : getD cuts 1 0 ≡ cornerPlace o 1
-  unfolding cutCorner
-  north-place = h .places 1 (omega arith) ∙ shape o straight-clear .corners 1 (omega arith)
-
-  south-place : getD cuts 3 0 ≡ cornerPlace o 3
-  unfolding cutCorner
-  south-place = h .places 3 (omega arith) ∙ shape o straight-clear .corners 3 (omega arith)
-
-  pub north-within : getD cuts 1 0 ≤ size o
-  north-within = omega (arith, north-place, turn-walked (h .turn) .long, cornerPlace-lt o 1 (omega (arith, turn-walked (h .turn) .long)))
-
-  pub south-within : getD cuts 3 0 ≤ size o
-  south-within = omega (arith, south-place, turn-walked (h .turn) .long, cornerPlace-lt o 3 (omega (arith, turn-walked (h .turn) .long)))
-
+module _ {t : Turn} {o : Outline} (h : ReadAs t o) where
   -- The cell that the search names, between the rows of S and N
-  cell-found : {bottom top cell : Point} → (Stays o → bottom ≡ cornerAt o (getD cuts 3 0)) → (Stays o → top ≡ cornerAt o (getD cuts 1 0))
-      → cell ≡ foundCell o (bottom .row) (top .row) → cell ≡ cellFound o
+  cell-found : {cell : Point} → cell ≡ foundCell o (t .bottom) (t .top) → cell ≡ cellFound o
   unfolding cellFound
-  cell-found {bottom} {top} {cell} b e f =
-      let p : bottom ≡ cornerAt o (cornerPlace o 3) = b (h .turn .simple .stays) ∙ ap (cornerAt o) south-place in
-      let q : top ≡ cornerAt o (cornerPlace o 1) = e (h .turn .simple .stays) ∙ ap (cornerAt o) north-place in
-      f ∙ rw (p, q)
-      (found-missing o (h .turn .simple .started) (h .turn .simple .stays) (cornerAt o (cornerPlace o 3) .row) (cornerAt o (cornerPlace o 1) .row)
-      (bottom-le-top (h .turn)) (top-le-side (h .turn)))
+  cell-found f =
+      f ∙ rw (h .bottom, h .top)
+      (found-missing o (h .walk .simple .started) (h .walk .simple .stays) (cornerAt o (cornerPlace o 3) .row) (cornerAt o (cornerPlace o 1) .row)
+      (bottom-le-top (h .walk)) (top-le-side (h .walk)))
 
-  pub dent-named : (k i l : ℕ) {forward : Bool} {place : ℕ} {bottom top cell : Point} → i ≤ 4 * longest → SentTo forward (size o) v i place
-      → (Stays o → bottom ≡ cornerAt o (getD cuts 3 0)) → (Stays o → top ≡ cornerAt o (getD cuts 1 0)) → cell ≡ foundCell o (bottom .row) (top .row)
-      → Dent (k + 1) place l cell ≡ dentAs forward v o k i l
+  pub dent-named : (k i l : ℕ) {forward : Bool} {place : ℕ} {cell : Point} → i ≤ 4 * longest → SentTo forward (size o) (t .place) i place
+      → cell ≡ foundCell o (t .bottom) (t .top) → Dent (k + 1) place l cell ≡ dentAs forward (t .place) o k i l
   unfolding dentAs
-  dent-named k i l m e b u f = rw (cell-found b u f, place-sent (h .turn) (h .place) m e)
+  dent-named k i l m e f = rw (cell-found f, place-sent (h .walk) (h .place) m e)
 
-  -- There is room for its edges
-  pub count-bounded : dentPiece o ≡ 4 → 2 * edgeCount o ≤ mostNumbers
-  count-bounded smooth = edges-at-most-100 o straight-clear smooth
+  -- Without a back-step there is room for its edges
+  count-bounded : ltb (backStepPiece o) 4 ≡ false → dentPiece o ≡ 4 → 2 * edgeCount o ≤ mostNumbers
+  count-bounded b smooth = edges-at-most-100 o (turn-clear (h .walk) (h .clockwise) b) smooth
 
 -- ---- the answers
 
@@ -153,54 +132,54 @@ module _ (forward : Bool) (v : ℕ) (o : Outline) where
 
 -- ---- the turn in the buffer
 
-module _ {v : ℕ} {s : Point} {n : ℕ} {buffer cuts : List ℕ} (h : Turning v s n buffer cuts) where
-  abbrev t : Outline
-  t = outline s (take n buffer)
+module _ {t : Turn} {buffer : List ℕ} (h : Turning t buffer) where
+  abbrev walk : Outline
+  walk = outline (t .west) (take (t .count) buffer)
 
-  pub turn-size : size t ≡ n
-  turn-size = length-take-le n buffer (h .within)
+  abbrev read : ReadAs t walk
+  read = h .ready .read
+
+  pub turn-size : size walk ≡ t .count
+  turn-size = length-take-le (t .count) buffer (h .within)
 
   -- 8
-  pub step-said : {forward : Bool} {k i place : ℕ} → FoundAt buffer cuts k i → SentTo forward n v i place → (before : List ℤ)
-      → SaidOfTurn forward v t before before (Refused (BackStep (k + 1) place))
+  pub step-said : {forward : Bool} {k i place : ℕ} → FoundAt buffer (t .at) k i → SentTo forward (t .count) (t .place) i place → (before : List ℤ)
+      → SaidOfTurn forward (t .place) walk before before (Refused (BackStep (k + 1) place))
   step-said {forward} {k} {i} {place} e p before =
-      let d : place ≡ sentFrom forward (size t) v i =
-      place-sent (h .ready .turn) (h .ready .place) (omega (arith, e .at-le, h .ready .sized)) (rw turn-size p) in
-      said-refused (edges t) before (rw d (turn-back-step forward v t (e .step t (h .ready .laid)) (e .piece-lt)))
+      let d : place ≡ sentFrom forward (size walk) (t .place) i =
+      place-sent (read .walk) (read .place) (omega (arith, e .at-le, h .ready .sized)) (rw turn-size p) in
+      said-refused (edges walk) before (rw d (turn-back-step forward (t .place) walk (e .step walk (h .ready .laid)) (e .piece-lt)))
 
-  pub none-straight : backStepPiece t ≡ 4 → ltb (backStepPiece t) 4 ≡ false
+  pub none-straight : backStepPiece walk ≡ 4 → ltb (backStepPiece walk) 4 ≡ false
   none-straight e = rw e
 
-  module _ (b : ltb (backStepPiece t) 4 ≡ false) where
-    pub straight-of-turning : Straight v t cuts
-    straight-of-turning =
-        record { turn = h .ready .turn; place = h .ready .place; clockwise = h .ready .clockwise; straight = b; places = h .ready .laid .places }
-
+  module _ (b : ltb (backStepPiece walk) 4 ≡ false) where
     -- 9
-    pub dent-said : (forward : Bool) {k i l : ℕ} → DentRead buffer cuts k i l → {f : Refusal} → f ≡ dentAs forward v t k i l → (before : List ℤ)
-        → SaidOfTurn forward v t before before (Refused f)
+    pub dent-said : (forward : Bool) {k i l : ℕ} → DentRead buffer (t .at) k i l → {f : Refusal} → f ≡ dentAs forward (t .place) walk k i l → (before : List ℤ)
+        → SaidOfTurn forward (t .place) walk before before (Refused f)
     dent-said forward e q before =
-        said-refused (edges t) before
-        (ap Refused q ∙ turn-dent forward v t b (e .dent t (turn-walked (h .ready .turn) .short) (h .ready .laid)) (e .piece-lt))
+        said-refused (edges walk) before
+        (ap Refused q ∙ turn-dent forward (t .place) walk b (e .dent walk (turn-walked (read .walk) .short) (h .ready .laid)) (e .piece-lt))
 
     -- Taken
-    module _ {numbers : List ℤ} {m : ℕ} (e : (o : Outline) → size o ≤ longest → Laid o cuts buffer → EdgesAre o zeros numbers m) where
-      abbrev found : EdgesAre t zeros numbers m
-      found = e t (turn-walked (h .ready .turn) .short) (h .ready .laid)
+    module _ {numbers : List ℤ} {m : ℕ} (e : (o : Outline) → size o ≤ longest → Laid o (t .at) buffer → EdgesAre o zeros numbers m) where
+      abbrev found : EdgesAre walk zeros numbers m
+      found = e walk (turn-walked (read .walk) .short) (h .ready .laid)
 
-      room : 2 * edgeCount t ≤ length zeros
-      room = rw (length-replicate mostNumbers (pos 0)) (omega (arith, count-bounded straight-of-turning (found .none)))
+      room : 2 * edgeCount walk ≤ length zeros
+      room = rw (length-replicate mostNumbers (pos 0)) (omega (arith, count-bounded read b (found .none)))
 
       pub count-le : 2 * m ≤ mostNumbers
-      count-le = omega (arith, found .count room, count-bounded straight-of-turning (found .none))
+      count-le = omega (arith, found .count room, count-bounded read b (found .none))
 
-      edges-size : length (edges t) ≡ 2 * m
-      edges-size = edges-length t ∙ ap (λ (k : ℕ). 2 * k) (sym (found .count room))
+      edges-size : length (edges walk) ≡ 2 * m
+      edges-size = edges-length walk ∙ ap (λ (k : ℕ). 2 * k) (sym (found .count room))
 
-      first-numbers : take (2 * m) numbers ≡ edges t
-      first-numbers = ap (take (2 * m)) (found .list room) ∙ take-at (edges t) (drop (2 * m) zeros) (2 * m) edges-size
+      first-numbers : take (2 * m) numbers ≡ edges walk
+      first-numbers = ap (take (2 * m)) (found .list room) ∙ take-at (edges walk) (drop (2 * m) zeros) (2 * m) edges-size
 
-      pub edges-said : (forward : Bool) {before after : List ℤ} → Lent (take (2 * m) numbers) (2 * m) before after → SaidOfTurn forward v t before after (Taken m s)
+      pub edges-said : (forward : Bool) {before after : List ℤ} → Lent (take (2 * m) numbers) (2 * m) before after
+          → SaidOfTurn forward (t .place) walk before after (Taken m (t .west))
       edges-said forward {before} {after} l =
-          said-taken (ap (λ (k : ℕ). Taken k s) (found .count room) ∙ turn-taken forward v t b (found .none)) edges-size
+          said-taken (ap (λ (k : ℕ). Taken k (t .west)) (found .count room) ∙ turn-taken forward (t .place) walk b (found .none)) edges-size
           (rw first-numbers at l)

@@ -19,7 +19,7 @@ ghost use Rattle.chart.specs.Outline.{outline};
 ghost use Rattle.lattice.specs.Refusals.{Simple};
 ghost use Rattle.convexity.specs.Pieces.{backStepPiece};
 ghost use Rattle.verdict.specs.Verdict.{verdictOf, edgesAfter};
-ghost use Rattle.border.specs.Turning.{Turning, Straight, dentAs};
+ghost use Rattle.border.specs.Turning.{Turning, ReadAs, dentAs};
 ghost use Rattle.border.specs.Judged.{Lent, SaidOfTurn, SaidOfBorder, judgedOf};
 
 mod back_steps;
@@ -53,25 +53,22 @@ fn lend(list: &[i16], n: usize, lent: &mut [i16])
 
 // 9: the dent of `length` letters that stands `at` letters from W on in a piece, counted from 0.
 fn dent(turn: Turn, letters: &[u8], piece: usize, at: usize, length: usize) -> Refusal
-    requires { ⌜ Straight (turn .place) (outline (turn .west) (now letters)) (turn .at) ⌝ }
+    requires { ⌜ ReadAs turn (outline (turn .west) (now letters)) ⌝ }
     requires { ⌜ (piece < 4) × (at ≤ 4 * longest) × (length ≤ 4 * longest) ⌝ }
     ensures { λ r. ⌜ r ≡ dentAs (turn .forward) (turn .place) (outline (turn .west) (now (letters .entry))) piece at length ⌝ }
 {
-    let cuts = turn.at;
-    let bottom = cut::corner_at(turn.west, letters, cuts[3]).row;
-    let top = cut::corner_at(turn.west, letters, cuts[1]).row;
     let place = cut::sent(letters.len(), turn.place, turn.forward, at);
     Refusal::Dent {
         piece: (piece + 1) as u16,
         place: place as u16,
         length: length as u16,
-        cell: rows::missing_cell(turn.west, letters, bottom, top),
+        cell: rows::missing_cell(turn.west, letters, turn.bottom, turn.top),
     }
 }
 
 // 9, of a turn without back-steps, or the edges.
 fn edges(turn: Turn, buffer: &[u8], lent: &mut [i16]) -> Verdict
-    requires { ⌜ Turning (turn .place) (turn .west) (turn .count) (now buffer) (turn .at) ⌝ }
+    requires { ⌜ Turning turn (now buffer) ⌝ }
     requires { ⌜ ltb (backStepPiece (outline (turn .west) (take (turn .count) (now buffer)))) 4 ≡ false ⌝ }
     ensures { λ r. ⌜ SaidOfTurn (turn .forward) (turn .place) (outline (turn .west) (take (turn .count) (now (buffer .entry)))) (now (lent .entry)) (now (lent .exit)) r ⌝ }
 {
@@ -95,7 +92,7 @@ fn edges(turn: Turn, buffer: &[u8], lent: &mut [i16]) -> Verdict
 
 // 8 and 9, of a clockwise turn, or the edges.
 fn pieces(turn: Turn, buffer: &[u8], lent: &mut [i16]) -> Verdict
-    requires { ⌜ Turning (turn .place) (turn .west) (turn .count) (now buffer) (turn .at) ⌝ }
+    requires { ⌜ Turning turn (now buffer) ⌝ }
     ensures { λ r. ⌜ SaidOfTurn (turn .forward) (turn .place) (outline (turn .west) (take (turn .count) (now (buffer .entry)))) (now (lent .entry)) (now (lent .exit)) r ⌝ }
 {
     let found = back_steps::first(turn, buffer);
@@ -120,6 +117,8 @@ fn read(start: Point, letters: &[u8], lent: &mut [i16]) -> Verdict
     let cuts = corners::cut_places(start, letters);
     let found = cuts.place;
     let west = cuts.west;
+    let bottom = cuts.bottom;
+    let top = cuts.top;
     let forward = cuts.forward;
     let at = cuts.at;
     let place = cut::read_place(count, found, forward);
@@ -130,6 +129,8 @@ fn read(start: Point, letters: &[u8], lent: &mut [i16]) -> Verdict
         forward,
         place,
         west,
+        bottom,
+        top,
         count,
         at,
     };

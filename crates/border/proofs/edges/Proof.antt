@@ -6,7 +6,7 @@ use borrow.Author.Needs.{needs}
 use Rattle.border.specs.declared.dents.Factored.{Factored}
 use Rattle.border.specs.Dents.{FactorsRead}
 use Rattle.border.specs.Judged.{zeros}
-use Rattle.border.proofs.PieceLaws.{turn-size, straight-of-turning, dent-said, count-le, edges-said}
+use Rattle.border.proofs.PieceLaws.{turn-size, dent-said, count-le, edges-said}
 use Rattle.border.proofs.edges.Statement.{statement}
 use Rattle.border.proofs.edges.Tie as tie
 
@@ -32,7 +32,7 @@ dent-requires c κs =
     let start = c .before .before .before .before .before .before .before .before .before in
     let d = factored (c .before .before .before .before .before .before) (c .before .before .factored .given .1) in
     let size = start .pre .0 .ready .sized in
-    (straight-of-turning (start .pre .0) (start .pre .1), (d .piece-lt, omega (arith, d .at-le), omega (arith, d .size-le)))
+    (start .pre .0 .ready .read, (d .piece-lt, omega (arith, d .at-le), omega (arith, d .size-le)))
 
 enum-known-factored-2 : tie.Need-enum-known-factored-2
 enum-known-factored-2 c = search needs
