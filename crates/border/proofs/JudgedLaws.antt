@@ -1,11 +1,11 @@
--- The letters copied from W's place on, forward or backward, are the border, and the buffer read on to the last cut place holds its pieces.
+-- The letters copied from W's place on, forward or backward, are the border, so what is said of them is said of it.
 use Prim.Native.Nat.{ℕ, _-_, _*_, _≤_, _<_}
 use native.Mathlib.Decide.{decLt}
 use native.Mathlib.Omega.{arith}
 use mathlib.Core.Path.{_≡_, refl, sym, ap, subst, _∙_}
 use mathlib.Core.Bool.{Bool, true, false, cond}
 use mathlib.Core.List.{List}
-use lib.ListN.{length, getD, take, length-replicate}
+use lib.ListN.{length, take, length-replicate}
 use lib.Seq.{length-take-le}
 use lib.IntN.{ℤ, pos}
 use lib.Dec.{eqb}
@@ -30,10 +30,9 @@ use Rattle.verdict.proofs.VerdictLaws.{taken-fits}
 use Rattle.corners.specs.declared.Cuts.{Cuts}
 use Rattle.corners.specs.Found.{CutsOf}
 use Rattle.border.specs.declared.cut.Turn.{Turn}
-use Rattle.border.specs.Cutting.{readTurn, readPlace, Rounded}
-use Rattle.border.specs.Turning.{Ready, Turning}
+use Rattle.border.specs.Cutting.{readTurn, readPlace}
+use Rattle.border.specs.Turning.{ReadAs}
 use Rattle.border.specs.Judged.{Said, SaidOfTurn, SaidOfBorder, zeros, judgedOf}
-use Rattle.border.proofs.BackStepLaws.{laid-of}
 use Rattle.border.proofs.PieceLaws.{from-west, said-refused}
 
 -- What the code knows when the letters are copied: W as sent, the way that the letters are read and the cut places, W's place v in what is read, and the buffer
@@ -41,8 +40,8 @@ pub record Copied (o : Outline) (cuts : Cuts) (v : ℕ) (buffer : List ℕ) : Ty
   pub simple : Simple o
   pub cuts-of : CutsOf o cuts
   pub place : v ≡ readPlace (cuts .forward) (size o) (cuts .place)
-  pub letters : cuts .place ≤ size o → size o ≤ 4 * longest → take (size o) buffer ≡ readTurn (cuts .forward) (cuts .place) (o .letters)
-  pub sized : length buffer ≡ 4 * longest
+  pub letters : cuts .place ≤ size o → size o ≤ longest → take (size o) buffer ≡ readTurn (cuts .forward) (cuts .place) (o .letters)
+  pub sized : length buffer ≡ longest
 
 module _ {o : Outline} {cuts : Cuts} {v : ℕ} {buffer : List ℕ} (h : Copied o cuts v buffer) where
   abbrev found : ℕ
@@ -111,44 +110,32 @@ module _ {o : Outline} {cuts : Cuts} {v : ℕ} {buffer : List ℕ} (h : Copied o
   border-length : size (border o) ≡ size o
   border-length = ap size (sym border-is) ∙ length-take-le (size o) buffer letters-fit
 
-  module _ {after : List ℕ} (rounded : Rounded buffer (size o) (getD (cuts .at) 4 0) after) (kept : length after ≡ length buffer) where
-    border-after : outline p (take (size o) after) ≡ border o
-    border-after = ap (outline p) (rounded .same) ∙ border-is
+  v-lt : v < size (border o)
+  v-lt = omega (arith, place-is, border-length, length-reading o, west-first (reading o) (walked (reading o) (simple-reading o (h .simple))) .below)
 
-    v-lt : v < size (border o)
-    v-lt = omega (arith, place-is, border-length, length-reading o, west-first (reading o) (walked (reading o) (simple-reading o (h .simple))) .below)
+  abbrev told : Turn
+  told = record { forward = forward; place = v; west = p; bottom = cuts .bottom; top = cuts .top; at = cuts .at }
 
-    abbrev told : Turn
-    told = record { forward = forward; place = v; west = p; bottom = cuts .bottom; top = cuts .top; count = size o; at = cuts .at }
+  ready : ReadAs told (border o)
+  ready =
+      record {
+        walk = from-west o (h .simple);
+        place = v-lt;
+        clockwise = clockwise-reading o (h .simple);
+        bottom = h .cuts-of .bottom (h .simple);
+        top = h .cuts-of .top (h .simple);
+        places = h .cuts-of .places (h .simple);
+      }
 
-    ready : Ready told (border o) after
-    ready =
-        let n = border-length in
-        let around = h .cuts-of .around in
-        record {
-          read =
-              record {
-                walk = from-west o (h .simple);
-                place = v-lt;
-                clockwise = clockwise-reading o (h .simple);
-                bottom = h .cuts-of .bottom (h .simple);
-                top = h .cuts-of .top (h .simple);
-              };
-          laid =
-              laid-of {before = buffer} (omega (arith, d .long)) (h .cuts-of .places (h .simple)) (omega arith) (rw border-length (ap (λ (v : Outline). v .letters) border-is))
-              (omega (arith, d .short, h .sized)) (rw border-length rounded) kept;
-          sized = omega (arith, kept, h .sized);
-        }
+  pub copied-ready : ReadAs told (outline p (take (size o) buffer))
+  copied-ready = rw border-is ready
 
-    pub copied-ready : Turning told after
-    copied-ready = record { within = omega (arith, kept, letters-fit); ready = rw border-after ready }
-
-    -- 8 and 9, or taken
-    pub copied-said : {lent₀ lent₁ : List ℤ} {r : Verdict} → SaidOfTurn forward v (outline p (take (size o) after)) lent₀ lent₁ r → SaidOfBorder o lent₀ lent₁ r
-    unfolding borderVerdict placeSent
-    copied-said {lent₀} {lent₁} {r} e =
-        subst (λ (place : ℕ → ℕ). Said (turnVerdict place (border o)) (edges (border o)) lent₀ lent₁ r) (λ z. sentFrom (way-is z) (border-length z) (place-is z))
-        (subst (λ (t : Outline). SaidOfTurn forward v t lent₀ lent₁ r) border-after e)
+  -- 8 and 9, or taken
+  pub copied-said : {before after : List ℤ} {r : Verdict} → SaidOfTurn forward v (outline p (take (size o) buffer)) before after r → SaidOfBorder o before after r
+  unfolding borderVerdict placeSent
+  copied-said {before} {after} {r} e =
+      subst (λ (place : ℕ → ℕ). Said (turnVerdict place (border o)) (edges (border o)) before after r) (λ z. sentFrom (way-is z) (border-length z) (place-is z))
+      (subst (λ (t : Outline). SaidOfTurn forward v t before after r) border-is e)
 
 -- ---- the judgement
 

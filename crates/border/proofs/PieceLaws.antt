@@ -7,13 +7,13 @@ use mathlib.Core.Path.{_≡_, refl, sym, ap, _∙_}
 use mathlib.Core.Bool.{Bool, true, false}
 use mathlib.Core.List.{List}
 use lib.ListN.{length, take, drop, length-replicate}
-use lib.Seq.{length-take-le, take-at}
+use lib.Seq.{take-at}
 use lib.IntN.{ℤ, pos}
 use lib.Dec.{ltb}
 use borrow.Author.Tests.{lt-ltb, le-ltb}
 use Rattle.chart.specs.Limits.{side, longest, mostNumbers}
 use Rattle.chart.specs.declared.Point.{Point}
-use Rattle.chart.specs.Outline.{Outline, outline}
+use Rattle.chart.specs.Outline.{Outline}
 use Rattle.chart.specs.declared.Refusal.{Refusal}
 use Rattle.chart.specs.declared.Refusal.the-variants.{BackStep, Dent}
 use Rattle.chart.specs.declared.Verdict.{Verdict}
@@ -26,10 +26,10 @@ use Rattle.rows.proofs.RowLaws.{found-missing}
 use Rattle.convexity.specs.Frame.{frameOf, along}
 use Rattle.convexity.specs.Cut.{cornerPlace, turn, clockwise}
 use Rattle.convexity.specs.Reading.{reading, border, sentFrom}
-use Rattle.convexity.specs.Pieces.{backStepPiece, dentPiece, edges, edgeCount}
+use Rattle.convexity.specs.Pieces.{rounds, backStepPiece, dentPiece, edges, edgeCount}
 use Rattle.convexity.proofs.StraightTurn.{NoBackStep}
 use Rattle.convexity.proofs.Extreme.{cornerPlace-lt, cornerPlace-first, not-before-earlier, turn-of}
-use Rattle.convexity.proofs.Shape.{straight-of}
+use Rattle.convexity.proofs.Shape.{straight-of, shape}
 use Rattle.convexity.proofs.Reading.{simple-reading}
 use Rattle.convexity.proofs.Bounds.{edges-length}
 use Rattle.convexity.proofs.EdgeBound.{edges-at-most-100}
@@ -38,7 +38,9 @@ use Rattle.border.specs.declared.cut.Turn.{Turn}
 use Rattle.border.specs.Cutting.{Laid, SentTo}
 use Rattle.border.specs.BackSteps.{StepIs, FoundAt}
 use Rattle.border.specs.Dents.{DentIs, EdgesAre, DentRead}
-use Rattle.border.specs.Turning.{FromWest, ReadAs, Turning, dentAs}
+use Rattle.border.specs.Turning.{FromWest, ReadAs, dentAs}
+use Rattle.border.proofs.Buffer.{length-rounds}
+use Rattle.border.proofs.BackStepLaws.{laid-round, laid-once}
 use Rattle.border.specs.Judged.{Lent, Said, SaidOfTurn, zeros}
 
 -- ---- the turn
@@ -84,10 +86,6 @@ module _ {t : Turn} {o : Outline} (h : ReadAs t o) where
   unfolding dentAs
   dent-named k i l m e f = rw (cell-found f, place-sent (h .walk) (h .place) m e)
 
-  -- Without a back-step there is room for its edges
-  count-bounded : ltb (backStepPiece o) 4 ≡ false → dentPiece o ≡ 4 → 2 * edgeCount o ≤ mostNumbers
-  count-bounded b smooth = edges-at-most-100 o (turn-clear (h .walk) (h .clockwise) b) smooth
-
 -- ---- the answers
 
 -- A refusal leaves the lent list as it was
@@ -130,56 +128,59 @@ module _ (forward : Bool) (v : ℕ) (o : Outline) where
     unfolding turnVerdict
     turn-taken c = rw (b, c)
 
--- ---- the turn in the buffer
+-- ---- what is said of the turn
 
-module _ {t : Turn} {buffer : List ℕ} (h : Turning t buffer) where
-  abbrev walk : Outline
-  walk = outline (t .west) (take (t .count) buffer)
-
-  abbrev read : ReadAs t walk
-  read = h .ready .read
-
-  pub turn-size : size walk ≡ t .count
-  turn-size = length-take-le (t .count) buffer (h .within)
+module _ {t : Turn} {o : Outline} (h : ReadAs t o) where
+  pub short : size o ≤ longest
+  short = turn-walked (h .walk) .short
 
   -- 8
-  pub step-said : {forward : Bool} {k i place : ℕ} → FoundAt buffer (t .at) k i → SentTo forward (t .count) (t .place) i place → (before : List ℤ)
-      → SaidOfTurn forward (t .place) walk before before (Refused (BackStep (k + 1) place))
+  pub step-said : {forward : Bool} {k i place : ℕ} → FoundAt (rounds (o .letters)) (t .at) k i → SentTo forward (size o) (t .place) i place → (before : List ℤ)
+      → SaidOfTurn forward (t .place) o before before (Refused (BackStep (k + 1) place))
   step-said {forward} {k} {i} {place} e p before =
-      let d : place ≡ sentFrom forward (size walk) (t .place) i =
-      place-sent (read .walk) (read .place) (omega (arith, e .at-le, h .ready .sized)) (rw turn-size p) in
-      said-refused (edges walk) before (rw d (turn-back-step forward (t .place) walk (e .step walk (h .ready .laid)) (e .piece-lt)))
+      let d : place ≡ sentFrom forward (size o) (t .place) i =
+      place-sent (h .walk) (h .place) (omega (arith, e .at-le, length-rounds (o .letters), short)) p in
+      said-refused (edges o) before (rw d (turn-back-step forward (t .place) o (e .step o (laid-round (h .places))) (e .piece-lt)))
 
-  pub none-straight : backStepPiece walk ≡ 4 → ltb (backStepPiece walk) 4 ≡ false
-  none-straight e = rw e
+  pub none-straight : ((v : Outline) → Laid v (t .at) (rounds (o .letters)) → backStepPiece v ≡ 4) → ltb (backStepPiece o) 4 ≡ false
+  none-straight e = rw (e o (laid-round (h .places)))
 
-  module _ (b : ltb (backStepPiece walk) 4 ≡ false) where
+  module _ (b : ltb (backStepPiece o) 4 ≡ false) where
+    clear : NoBackStep o
+    clear = turn-clear (h .walk) (h .clockwise) b
+
+    -- The pieces go once round
+    laid : Laid o (t .at) (o .letters)
+    laid = laid-once (h .places) (shape o clear .round)
+
     -- 9
-    pub dent-said : (forward : Bool) {k i l : ℕ} → DentRead buffer (t .at) k i l → {f : Refusal} → f ≡ dentAs forward (t .place) walk k i l → (before : List ℤ)
-        → SaidOfTurn forward (t .place) walk before before (Refused f)
+    pub dent-said : (forward : Bool) {k i l : ℕ} → DentRead (o .letters) (t .at) k i l → {f : Refusal} → f ≡ dentAs forward (t .place) o k i l → (before : List ℤ)
+        → SaidOfTurn forward (t .place) o before before (Refused f)
     dent-said forward e q before =
-        said-refused (edges walk) before
-        (ap Refused q ∙ turn-dent forward (t .place) walk b (e .dent walk (turn-walked (read .walk) .short) (h .ready .laid)) (e .piece-lt))
+        said-refused (edges o) before (ap Refused q ∙ turn-dent forward (t .place) o b (e .dent o short laid) (e .piece-lt))
 
     -- Taken
-    module _ {numbers : List ℤ} {m : ℕ} (e : (o : Outline) → size o ≤ longest → Laid o (t .at) buffer → EdgesAre o zeros numbers m) where
-      abbrev found : EdgesAre walk zeros numbers m
-      found = e walk (turn-walked (read .walk) .short) (h .ready .laid)
+    module _ {numbers : List ℤ} {m : ℕ} (e : (v : Outline) → size v ≤ longest → Laid v (t .at) (o .letters) → EdgesAre v zeros numbers m) where
+      abbrev found : EdgesAre o zeros numbers m
+      found = e o short laid
 
-      room : 2 * edgeCount walk ≤ length zeros
-      room = rw (length-replicate mostNumbers (pos 0)) (omega (arith, count-bounded read b (found .none)))
+      bounded : 2 * edgeCount o ≤ mostNumbers
+      bounded = edges-at-most-100 o clear (found .none)
+
+      room : 2 * edgeCount o ≤ length zeros
+      room = rw (length-replicate mostNumbers (pos 0)) bounded
 
       pub count-le : 2 * m ≤ mostNumbers
-      count-le = omega (arith, found .count room, count-bounded read b (found .none))
+      count-le = omega (arith, found .count room, bounded)
 
-      edges-size : length (edges walk) ≡ 2 * m
-      edges-size = edges-length walk ∙ ap (λ (k : ℕ). 2 * k) (sym (found .count room))
+      edges-size : length (edges o) ≡ 2 * m
+      edges-size = edges-length o ∙ ap (λ (k : ℕ). 2 * k) (sym (found .count room))
 
-      first-numbers : take (2 * m) numbers ≡ edges walk
-      first-numbers = ap (take (2 * m)) (found .list room) ∙ take-at (edges walk) (drop (2 * m) zeros) (2 * m) edges-size
+      first-numbers : take (2 * m) numbers ≡ edges o
+      first-numbers = ap (take (2 * m)) (found .list room) ∙ take-at (edges o) (drop (2 * m) zeros) (2 * m) edges-size
 
       pub edges-said : (forward : Bool) {before after : List ℤ} → Lent (take (2 * m) numbers) (2 * m) before after
-          → SaidOfTurn forward (t .place) walk before after (Taken m (t .west))
+          → SaidOfTurn forward (t .place) o before after (Taken m (o .start))
       edges-said forward {before} {after} l =
-          said-taken (ap (λ (k : ℕ). Taken k (t .west)) (found .count room) ∙ turn-taken forward (t .place) walk b (found .none)) edges-size
+          said-taken (ap (λ (k : ℕ). Taken k (o .start)) (found .count room) ∙ turn-taken forward (t .place) o b (found .none)) edges-size
           (rw first-numbers at l)

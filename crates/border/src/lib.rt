@@ -1,8 +1,8 @@
 // The border of an outline, cut in four and read as edges: refusals 8 and 9 behind the survey's 1 to 6.
 use crate::back_steps::BackStep;
-use crate::cut::ROUNDS;
 use crate::cut::Turn;
 use crate::dents::Factored;
+use chart::LONGEST;
 use chart::MOST_NUMBERS;
 use chart::Point;
 use chart::Refusal;
@@ -19,7 +19,7 @@ ghost use Rattle.chart.specs.Outline.{outline};
 ghost use Rattle.lattice.specs.Refusals.{Simple};
 ghost use Rattle.convexity.specs.Pieces.{backStepPiece};
 ghost use Rattle.verdict.specs.Verdict.{verdictOf, edgesAfter};
-ghost use Rattle.border.specs.Turning.{Turning, ReadAs, dentAs};
+ghost use Rattle.border.specs.Turning.{ReadAs, dentAs};
 ghost use Rattle.border.specs.Judged.{Lent, SaidOfTurn, SaidOfBorder, judgedOf};
 
 mod back_steps;
@@ -67,18 +67,17 @@ fn dent(turn: Turn, letters: &[u8], piece: usize, at: usize, length: usize) -> R
 }
 
 // 9, of a turn without back-steps, or the edges.
-fn edges(turn: Turn, buffer: &[u8], lent: &mut [i16]) -> Verdict
-    requires { ⌜ Turning turn (now buffer) ⌝ }
-    requires { ⌜ ltb (backStepPiece (outline (turn .west) (take (turn .count) (now buffer)))) 4 ≡ false ⌝ }
-    ensures { λ r. ⌜ SaidOfTurn (turn .forward) (turn .place) (outline (turn .west) (take (turn .count) (now (buffer .entry)))) (now (lent .entry)) (now (lent .exit)) r ⌝ }
+fn edges(turn: Turn, letters: &[u8], lent: &mut [i16]) -> Verdict
+    requires { ⌜ ReadAs turn (outline (turn .west) (now letters)) ⌝ }
+    requires { ⌜ ltb (backStepPiece (outline (turn .west) (now letters))) 4 ≡ false ⌝ }
+    ensures { λ r. ⌜ SaidOfTurn (turn .forward) (turn .place) (outline (turn .west) (now (letters .entry))) (now (lent .entry)) (now (lent .exit)) r ⌝ }
 {
     let mut numbers = [0i16; MOST_NUMBERS];
-    let factored = dents::read(turn, buffer, &mut numbers);
-    let count = turn.count;
+    let factored = dents::read(turn, letters, &mut numbers);
     let anchor = turn.west;
     match factored {
         Factored::Dent { piece, at, length } => {
-            Verdict::Refused(dent(turn, &buffer[..count], piece, at, length))
+            Verdict::Refused(dent(turn, letters, piece, at, length))
         }
         Factored::Edges { edges } => {
             lend(&numbers, 2 * edges, lent);
@@ -91,20 +90,20 @@ fn edges(turn: Turn, buffer: &[u8], lent: &mut [i16]) -> Verdict
 }
 
 // 8 and 9, of a clockwise turn, or the edges.
-fn pieces(turn: Turn, buffer: &[u8], lent: &mut [i16]) -> Verdict
-    requires { ⌜ Turning turn (now buffer) ⌝ }
-    ensures { λ r. ⌜ SaidOfTurn (turn .forward) (turn .place) (outline (turn .west) (take (turn .count) (now (buffer .entry)))) (now (lent .entry)) (now (lent .exit)) r ⌝ }
+fn pieces(turn: Turn, letters: &[u8], lent: &mut [i16]) -> Verdict
+    requires { ⌜ ReadAs turn (outline (turn .west) (now letters)) ⌝ }
+    ensures { λ r. ⌜ SaidOfTurn (turn .forward) (turn .place) (outline (turn .west) (now (letters .entry))) (now (lent .entry)) (now (lent .exit)) r ⌝ }
 {
-    let found = back_steps::first(turn, buffer);
+    let found = back_steps::first(turn, letters);
     match found {
         BackStep::At { piece, at } => {
-            let place = cut::sent(turn.count, turn.place, turn.forward, at);
+            let place = cut::sent(letters.len(), turn.place, turn.forward, at);
             Verdict::Refused(Refusal::BackStep {
                 piece: (piece + 1) as u16,
                 place: place as u16,
             })
         }
-        BackStep::None => edges(turn, buffer, lent),
+        BackStep::None => edges(turn, letters, lent),
     }
 }
 
@@ -122,19 +121,17 @@ fn read(start: Point, letters: &[u8], lent: &mut [i16]) -> Verdict
     let forward = cuts.forward;
     let at = cuts.at;
     let place = cut::read_place(count, found, forward);
-    let mut buffer = [0u8; ROUNDS];
+    let mut buffer = [0u8; LONGEST];
     cut::fill_turn(letters, found, forward, &mut buffer);
-    cut::fill_rounds(&mut buffer, count, at[4]);
     let turn = Turn {
         forward,
         place,
         west,
         bottom,
         top,
-        count,
         at,
     };
-    pieces(turn, &buffer, lent)
+    pieces(turn, &buffer[..count], lent)
 }
 
 // The first of refusals 1 to 9 that applies, or the edges (contract 5 and 3.12), which stand first in a lent list with room for them. The list is

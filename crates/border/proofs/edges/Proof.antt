@@ -6,7 +6,7 @@ use borrow.Author.Needs.{needs}
 use Rattle.border.specs.declared.dents.Factored.{Factored}
 use Rattle.border.specs.Dents.{FactorsRead}
 use Rattle.border.specs.Judged.{zeros}
-use Rattle.border.proofs.PieceLaws.{turn-size, dent-said, count-le, edges-said}
+use Rattle.border.proofs.PieceLaws.{short, dent-said, count-le, edges-said}
 use Rattle.border.proofs.edges.Statement.{statement}
 use Rattle.border.proofs.edges.Tie as tie
 
@@ -18,21 +18,19 @@ read-requires c κs = search needs
 
 -- What the four pieces are read as
 module _ {f : Factored} (c : tie.After-read) (e : c .read .result ≡ f) where
-  factored : FactorsRead (c .before .before .before .args .buffer .now) (c .before .before .before .args .turn .at) zeros (c .read .last .1 .1 .0) f
+  factored : FactorsRead (c .before .before .before .args .letters .now) (c .before .before .before .args .turn .at) zeros (c .read .last .1 .1 .0) f
   factored = subst (FactorsRead _ _ _ _) e (c .read .ensures)
 
 enum-known-factored : tie.Need-enum-known-factored
 enum-known-factored c = search needs
 
-slice-aggregate-dent : tie.Need-slice-aggregate-dent
-slice-aggregate-dent c = sym (turn-size (c .before .before .before .before .before .before .before .before .before .pre .0))
-
 dent-requires : tie.Need-dent-requires
 dent-requires c κs =
-    let start = c .before .before .before .before .before .before .before .before .before in
-    let d = factored (c .before .before .before .before .before .before) (c .before .before .factored .given .1) in
-    let size = start .pre .0 .ready .sized in
-    (start .pre .0 .ready .read, (d .piece-lt, omega (arith, d .at-le), omega (arith, d .size-le)))
+    let read = c .before .before .before .before .before in
+    let start = read .before .before .before in
+    let d = factored read (c .before .factored .given .1) in
+    let small = short (start .pre .0) in
+    (start .pre .0, (d .piece-lt, omega (arith, d .at-le), omega (arith, d .size-le)))
 
 enum-known-factored-2 : tie.Need-enum-known-factored-2
 enum-known-factored-2 c = search needs
@@ -52,17 +50,17 @@ lend-requires c κs =
     let start = read .before .before .before in
     omega (arith, count-le (start .pre .0) (start .pre .1) (factored read (c .before .before .before .factored2 .given .1)), read .read .kept .1 .1 .0)
 
-cast-t24 : tie.Need-cast-t24
-cast-t24 c =
+cast-t21 : tie.Need-cast-t21
+cast-t21 c =
     let read = c .before .before .before .before .before .before .before .before .before in
     let start = read .before .before .before in
     omega (arith, count-le (start .pre .0) (start .pre .1) (factored read (c .before .before .before .before .before .factored2 .given .1)))
 
 returns : tie.Need-returns
 returns c =
-    let read = c .before .before .before .before .before .before .before in
+    let read = c .before .before .before .before .before .before in
     let start = read .before .before .before in
-    dent-said (start .pre .0) (start .pre .1) _ (factored read (c .before .before .before .factored .given .1)) (c .dent .ensures) _
+    dent-said (start .pre .0) (start .pre .1) _ (factored read (c .before .before .factored .given .1)) (c .dent .ensures) _
 
 same-length : tie.Need-same-length
 same-length c = search needs
@@ -80,13 +78,12 @@ edges-spec =
     slice-aggregate-read
     read-requires
     enum-known-factored
-    slice-aggregate-dent
     dent-requires
     enum-known-factored-2
     slice-aggregate-lend
     mul-lend
     lend-requires
-    cast-t24
+    cast-t21
     returns
     same-length
     returns-2)

@@ -2,18 +2,19 @@
 use native.Mathlib.Omega.{arith}
 use mathlib.Core.Path.{_≡_, subst}
 use borrow.Author.Needs.{needs}
+use Rattle.convexity.specs.Pieces.{rounds}
 use Rattle.border.specs.declared.back_steps.BackStep.{BackStep}
 use Rattle.border.specs.BackSteps.{Found}
-use Rattle.border.proofs.PieceLaws.{step-said, none-straight}
+use Rattle.border.proofs.PieceLaws.{short, step-said, none-straight}
 use Rattle.border.proofs.pieces.Statement.{statement}
 use Rattle.border.proofs.pieces.Tie as tie
 
 first-requires : tie.Need-first-requires
-first-requires c κs = search needs
+first-requires c κs = short (c .before .pre)
 
 -- What the search for a back-step finds
 module _ {b : BackStep} (c : tie.After-first) (e : c .first .result ≡ b) where
-  found : Found (c .before .before .args .buffer .now) (c .before .before .args .turn .at) b
+  found : Found (rounds (c .before .before .args .letters .now)) (c .before .before .args .turn .at) b
   found = subst (Found _ _) e (c .first .ensures)
 
 enum-known-found : tie.Need-enum-known-found
@@ -37,7 +38,7 @@ enum-told c = search needs
 edges-requires : tie.Need-edges-requires
 edges-requires c κs =
     let start = c .before .before .before .before .before in
-    (start .pre, none-straight (start .pre) (found (c .before .before .before) (c .before .enum-told .given .1) _ (start .pre .ready .laid)))
+    (start .pre, none-straight (start .pre) (found (c .before .before .before) (c .before .enum-told .given .1)))
 
 returns : tie.Need-returns
 returns c =
