@@ -6,8 +6,8 @@ use native.Mathlib.Omega.{arith}
 use mathlib.Core.Path.{_≡_, refl, sym, ap, _∙_}
 use mathlib.Core.Bool.{Bool, true, false}
 use mathlib.Core.List.{List, [], _∷_}
-use lib.ListN.{length, getD, take, drop, length-take}
-use lib.Seq.{take-take, take-nil}
+use lib.ListN.{length, getD, take, drop, length-take, length-drop}
+use lib.Seq.{take-take, take-nil, take-all, getD-take, getD-drop}
 use lib.Dec.{ltb, eqb}
 use borrow.Author.Tests.{lt-ltb, le-ltb, eq-eqb, ne-eqb}
 use Rattle.base.specs.Below.{first}
@@ -19,9 +19,10 @@ use Rattle.convexity.specs.Cut.{cut}
 use Rattle.convexity.specs.Pieces.{rounds, piece, isBackStep, backStepAt, backStepPiece}
 use Rattle.border.specs.declared.frame.Pair.{Pair}
 use Rattle.border.specs.declared.back_steps.BackStep.the-variants.{None}
-use Rattle.border.specs.Cutting.{PairOf, Rounded, Laid}
-use Rattle.border.specs.BackSteps.{Found, FoundAt}
-use Rattle.border.proofs.CutLaws.{cut-le-cut}
+use Rattle.border.specs.Cutting.{PairOf, Laid}
+use Rattle.border.specs.BackSteps.{part, Within, Found, FoundAt}
+use Rattle.border.proofs.Buffer.{length-rounds, take-rounds}
+use Rattle.border.proofs.CutLaws.{cut-le-cut, cut-le}
 
 -- ---- the letters of one piece
 
@@ -102,18 +103,29 @@ module _ {o : Outline} {at buffer : List ℕ} (h : Laid o at buffer) where
       ∙ ap (λ (u : List ℕ). take (cut o (suc k) - cut o k) (drop (cut o k) u)) (h .letters)
       ∙ part-of-take (cut o k) (cut o (suc k)) (cut o 4) (rounds (o .letters)) m n)
 
--- The pieces lie so in a buffer that begins with the turn and was then filled round and round up to the last cut place
-pub laid-of :
-    {o : Outline} {at before after : List ℕ} → 0 < size o → ((k : ℕ) → k ≤ 4 → getD at k 0 ≡ cut o k) → getD at 4 0 ≤ 4 * size o → take (size o) before ≡ o .letters
-    → getD at 4 0 ≤ length before → Rounded before (size o) (getD at 4 0) after → length after ≡ length before → Laid o at after
-laid-of {o} {at} {before} {after} some places around begins room rounded kept =
-    let last = places 4 (omega arith) in
-    let same = rounded .read some around room in
-    record {
-      places = places;
-      within = omega arith;
-      letters = rw (← last) (same ∙ ap (λ (u : List ℕ). take (getD at 4 0) (rounds u)) begins);
-    }
+-- Read round and round, the letters of a turn hold its pieces
+pub laid-round : {o : Outline} {at : List ℕ} → ((k : ℕ) → k ≤ 4 → getD at k 0 ≡ cut o k) → Laid o at (rounds (o .letters))
+laid-round {o} places = record { places = places; within = omega (arith, length-rounds (o .letters), cut-le o 4); letters = refl }
+
+-- Read once, where they go once round
+pub laid-once : {o : Outline} {at : List ℕ} → ((k : ℕ) → k ≤ 4 → getD at k 0 ≡ cut o k) → cut o 4 ≡ size o → Laid o at (o .letters)
+laid-once {o} places round = record { places = places; within = omega arith; letters = sym (take-rounds (o .letters) (cut o 4) (omega arith)) }
+
+-- ---- a part of the letters read round and round
+
+module _ {from to : ℕ} {letters : List ℕ} (h : Within from to letters) where
+  pub part-length : length (part from to (rounds letters)) ≡ to - from
+  part-length = let n = length-rounds letters in let r = h .round in let m = h .rises in simp (length-take, length-drop) (omega arith)
+
+  pub part-letter : (i : ℕ) → i < to - from → getD (part from to (rounds letters)) i 0 ≡ getD (rounds letters) (from + i) 0
+  part-letter i l = rw (getD-take, getD-drop)
+
+  -- Before the end of the letters it is a part of them
+  pub part-once : to ≤ length letters → part from to letters ≡ part from to (rounds letters)
+  part-once l =
+      let e : take (length letters) (rounds letters) ≡ letters =
+      take-rounds letters (length letters) (omega arith) ∙ take-all (length letters) letters (omega arith) in
+      ap (part from to) (sym e) ∙ part-of-take from to (length letters) (rounds letters) (h .rises) l
 
 -- The piece has a back-step
 abbrev pub hasBackStep : Outline → ℕ → Bool

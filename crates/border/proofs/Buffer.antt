@@ -1,20 +1,19 @@
 -- The buffer of letters: one letter a turn is stored behind those already right, so the whole comes out right.
 use Prim.Native.Nat.{ℕ, _+_, _-_, _*_, _≤_, _<_}
 use native.Mathlib.Numerals.{add-one}
-use native.Mathlib.Decide.{decLe}
 use native.Mathlib.Omega.{arith}
 use mathlib.Core.Path.{_≡_, refl, sym, ap, _∙_}
 use mathlib.Core.Bool.{Bool, true, false}
 use mathlib.Core.List.{List, [], _∷_, _++_, append-assoc}
-use lib.ListN.{length, getD, take, set, length-set, length-append, length-take, List·getD-append}
-use lib.Seq.{take-suc, take-suc-set, take-set-le, take-all, take-take, take-append-le, getD-take, getD-append-add, length-take-le}
+use lib.ListN.{length, getD, take, set, length-set, length-append, List·getD-append}
+use lib.Seq.{take-suc, take-suc-set, take-all, take-append-le, getD-append-add}
 use Rattle.chart.specs.Outline.{outline}
 use Rattle.lattice.specs.Chart.{rotation}
 use Rattle.lattice.proofs.WalkLaws.{point, length-rotation, letter-rotation-before, letter-rotation-after}
 use Rattle.convexity.specs.Reading.{opposite}
 use Rattle.convexity.specs.Pieces.{rounds}
 use Rattle.convexity.proofs.Reading.{length-backward, letter-backward}
-use Rattle.border.specs.Cutting.{readTurn, Rounded}
+use Rattle.border.specs.Cutting.{readTurn}
 
 -- A letter stored behind i right ones
 store : (l r : List ℕ) (i a : ℕ) → i < length l → i < length r → a ≡ getD r i 0 → take i l ≡ take i r → take (i + 1) (set l i a) ≡ take (i + 1) r
@@ -77,65 +76,31 @@ letter-round t i h =
     let e : u ++ t ≡ t ++ u = simp append-assoc in
     getD-append-add t u i 0 ∙ sym (List·getD-append u t 0 i l) ∙ ap (λ (v : List ℕ). getD v i 0) e
 
-take-rounds : (t : List ℕ) (i : ℕ) → i ≤ length t → take i (rounds t) ≡ take i t
+pub take-rounds : (t : List ℕ) (i : ℕ) → i ≤ length t → take i (rounds t) ≡ take i t
 unfolding rounds
 take-rounds t i h = take-append-le i t (t ++ (t ++ t)) h
 
--- The first n letters of the buffer are as before, and its first i are those read on
-pub record Rounding (before : List ℕ) (n end : ℕ) (buffer : List ℕ) (i : ℕ) : Type 0 where
-  pub sized : length buffer ≡ length before
-  pub passed : n ≤ i
-  pub before-end : n < i → i ≤ end
-  pub same : take n buffer ≡ take n before
-  pub letters : n ≤ length before → i ≤ 4 * n → take i buffer ≡ take i (rounds (take n before))
+-- A letter read on up to three rounds is one of the letters
+module _ (t : List ℕ) (i : ℕ) where
+  pub letter-once : i < length t → getD t i 0 ≡ getD (rounds t) i 0
+  unfolding rounds
+  letter-once h = sym (List·getD-append t (t ++ (t ++ t)) 0 i h)
 
-pub rounding-start : (before : List ℕ) (n end : ℕ) → Rounding before n end before n
-rounding-start before n end =
-    record {
-      sized = refl;
-      passed = omega arith;
-      before-end = λ h. omega arith;
-      same = refl;
-      letters = λ h l.
-          let m = length-take-le n before h in
-          sym (take-rounds (take n before) n (omega arith) ∙ take-all n (take n before) (omega arith));
-    }
+  -- One round less
+  back : length t ≤ i → i < 4 * length t → getD (rounds t) (i - length t) 0 ≡ getD (rounds t) i 0
+  back h l =
+      let e : length t + (i - length t) ≡ i = omega arith in
+      sym (letter-round t (i - length t) (omega arith)) ∙ ap (λ (j : ℕ). getD (rounds t) j 0) e
 
-module _ {before : List ℕ} {n end : ℕ} {buffer : List ℕ} {i : ℕ} (t : Rounding before n end buffer i) where
-  pub rounding-next : 0 < n → end ≤ length before → i < end → Rounding before n end (set buffer i (getD buffer (i - n) 0)) (i + 1)
-  rounding-next pos room h =
-      record {
-        sized = simp length-set (t .sized);
-        passed = omega (arith, t .passed);
-        before-end = λ l. omega arith;
-        same = take-set-le n buffer i (getD buffer (i - n) 0) (t .passed) ∙ t .same;
-        letters = λ k l.
-            let r : List ℕ = rounds (take n before) in
-            let m : length (take n before) ≡ n = length-take-le n before k in
-            let same = t .letters k (omega arith) in
-            let back : i ≡ length (take n before) + (i - n) = omega (arith, t .passed) in
-            let letter : getD buffer (i - n) 0 ≡ getD r i 0 =
-            sym (getD-take i buffer (i - n) 0 (omega (arith, t .passed)))
-            ∙ ap (λ (u : List ℕ). getD u (i - n) 0) same
-            ∙ getD-take i r (i - n) 0 (omega (arith, t .passed))
-            ∙ sym (letter-round (take n before) (i - n) (omega arith))
-            ∙ ap (λ (j : ℕ). getD r j 0) (sym back) in
-            store buffer r i (getD buffer (i - n) 0) (omega (arith, t .sized)) (omega (arith, length-rounds (take n before))) letter same;
-      }
+pub letter-twice : (t : List ℕ) (i : ℕ) → length t ≤ i → i < 2 * length t → getD t (i - length t) 0 ≡ getD (rounds t) i 0
+letter-twice t i h l = letter-once t (i - length t) (omega arith) ∙ back t i h (omega arith)
 
-  pub rounding-end : end ≤ i → Rounded before n end buffer
-  rounding-end h = record { same = t .same; read = λ pos l room. elim (decLe n end) [ yes k ↦ full k l room | no k ↦ part (omega arith) room ] }
-    where
-      full : n ≤ end → end ≤ 4 * n → end ≤ length before → take end buffer ≡ take end (rounds (take n before))
-      full k l room =
-          let e : i ≡ end = elim (decLe i n) [ yes m ↦ omega (arith, t .passed) | no m ↦ omega (arith, t .before-end (omega arith)) ] in
-          rw (← e) (t .letters (omega arith) (omega arith))
+pub letter-thrice : (t : List ℕ) (i : ℕ) → 2 * length t ≤ i → i < 3 * length t → getD t (i - 2 * length t) 0 ≡ getD (rounds t) i 0
+letter-thrice t i h l =
+    let e : i - 2 * length t ≡ i - length t - length t = omega arith in
+    ap (λ (j : ℕ). getD t j 0) e ∙ letter-twice t (i - length t) (omega arith) (omega arith) ∙ back t i (omega arith) (omega arith)
 
-      part : end < n → end ≤ length before → take end buffer ≡ take end (rounds (take n before))
-      part k room =
-          sym (take-take end n buffer (omega arith)) ∙ ap (take end) (t .same)
-          ∙ sym (take-rounds (take n before) end (simp length-take (omega arith)))
-
--- Nothing is altered
-pub rounded-same : (before : List ℕ) (n end : ℕ) → (0 < n → end ≤ length before → ⊥) → Rounded before n end before
-rounded-same before n end h = record { same = refl; read = λ pos l room. absurd (h pos room) }
+pub letter-fourth : (t : List ℕ) (i : ℕ) → 3 * length t ≤ i → i < 4 * length t → getD t (i - 3 * length t) 0 ≡ getD (rounds t) i 0
+letter-fourth t i h l =
+    let e : i - 3 * length t ≡ i - length t - 2 * length t = omega arith in
+    ap (λ (j : ℕ). getD t j 0) e ∙ letter-thrice t (i - length t) (omega arith) (omega arith) ∙ back t i (omega arith) (omega arith)

@@ -1,19 +1,20 @@
--- The letters copied from W's place on, forward or backward, are the border, and the buffer read on to the last cut place holds its pieces.
+-- The letters copied from W's place on, forward or backward, are the border, so what is said of them is said of it.
 use Prim.Native.Nat.{ℕ, _-_, _*_, _≤_, _<_}
 use native.Mathlib.Decide.{decLt}
 use native.Mathlib.Omega.{arith}
-use mathlib.Core.Path.{_≡_, refl, sym, ap, _∙_}
+use mathlib.Core.Path.{_≡_, refl, sym, ap, subst, _∙_}
 use mathlib.Core.Bool.{Bool, true, false, cond}
 use mathlib.Core.List.{List}
-use lib.ListN.{length, getD, take}
+use lib.ListN.{length, take, length-replicate}
 use lib.Seq.{length-take-le}
-use lib.IntN.{ℤ}
+use lib.IntN.{ℤ, pos}
 use lib.Dec.{eqb}
-use borrow.Author.Tests.{ne-eqb}
-use Rattle.chart.specs.Limits.{longest}
+use borrow.Author.Tests.{ne-eqb, le-ltb}
+use Rattle.chart.specs.Limits.{longest, mostNumbers}
 use Rattle.chart.specs.declared.Point.{Point}
 use Rattle.chart.specs.declared.Refusal.{Refusal}
-use Rattle.chart.specs.declared.Verdict.the-variants.{Refused}
+use Rattle.chart.specs.declared.Verdict.{Verdict}
+use Rattle.chart.specs.declared.Verdict.the-variants.{Taken, Refused}
 use Rattle.chart.specs.Outline.{Outline, outline}
 use Rattle.lattice.specs.Chart.{cornerAt, size, letterAt}
 use Rattle.lattice.specs.Refusals.{Simple}
@@ -24,23 +25,23 @@ use Rattle.convexity.specs.Cut.{westPlace, turn, clockwise}
 use Rattle.convexity.specs.Reading.{reversed, reading, border, sentFrom, placeSent}
 use Rattle.convexity.specs.Pieces.{edges}
 use Rattle.convexity.proofs.Reading.{leaving-west, west-first, west-place-first, west-place-later, reading-clockwise, reading-backward, length-reading, simple-reading, clockwise-reading, turn-reading}
-use Rattle.verdict.specs.Verdict.{turnVerdict, borderVerdict, afterSurvey, verdictOf, lentAfter}
-use Rattle.border.specs.declared.Judged.{Judged}
+use Rattle.verdict.specs.Verdict.{turnVerdict, borderVerdict, afterSurvey, verdictOf, withRoom, testOf, lentAfter, edgesAfter}
+use Rattle.verdict.proofs.VerdictLaws.{taken-fits}
 use Rattle.corners.specs.declared.Cuts.{Cuts}
 use Rattle.corners.specs.Found.{CutsOf}
-use Rattle.border.specs.Cutting.{readTurn, readPlace, Rounded}
-use Rattle.border.specs.Turning.{Ready, Turning}
-use Rattle.border.specs.Judged.{zeros, judgedAs, judgedTurn, judgedBorder, judgedOf}
-use Rattle.border.proofs.BackStepLaws.{laid-of}
-use Rattle.border.proofs.PieceLaws.{from-west}
+use Rattle.border.specs.declared.cut.Turn.{Turn}
+use Rattle.border.specs.Cutting.{readTurn, readPlace}
+use Rattle.border.specs.Turning.{ReadAs}
+use Rattle.border.specs.Judged.{Said, SaidOfTurn, SaidOfBorder, zeros, judgedOf}
+use Rattle.border.proofs.PieceLaws.{from-west, said-refused}
 
 -- What the code knows when the letters are copied: W as sent, the way that the letters are read and the cut places, W's place v in what is read, and the buffer
 pub record Copied (o : Outline) (cuts : Cuts) (v : ℕ) (buffer : List ℕ) : Type 0 where
   pub simple : Simple o
   pub cuts-of : CutsOf o cuts
   pub place : v ≡ readPlace (cuts .forward) (size o) (cuts .place)
-  pub letters : cuts .place ≤ size o → size o ≤ 4 * longest → take (size o) buffer ≡ readTurn (cuts .forward) (cuts .place) (o .letters)
-  pub sized : length buffer ≡ 4 * longest
+  pub letters : cuts .place ≤ size o → size o ≤ longest → take (size o) buffer ≡ readTurn (cuts .forward) (cuts .place) (o .letters)
+  pub sized : length buffer ≡ longest
 
 module _ {o : Outline} {cuts : Cuts} {v : ℕ} {buffer : List ℕ} (h : Copied o cuts v buffer) where
   abbrev found : ℕ
@@ -109,54 +110,68 @@ module _ {o : Outline} {cuts : Cuts} {v : ℕ} {buffer : List ℕ} (h : Copied o
   border-length : size (border o) ≡ size o
   border-length = ap size (sym border-is) ∙ length-take-le (size o) buffer letters-fit
 
-  module _ {after : List ℕ} (rounded : Rounded buffer (size o) (getD (cuts .at) 4 0) after) (kept : length after ≡ length buffer) where
-    border-after : outline p (take (size o) after) ≡ border o
-    border-after = ap (outline p) (rounded .same) ∙ border-is
+  v-lt : v < size (border o)
+  v-lt = omega (arith, place-is, border-length, length-reading o, west-first (reading o) (walked (reading o) (simple-reading o (h .simple))) .below)
 
-    v-lt : v < size (border o)
-    v-lt = omega (arith, place-is, border-length, length-reading o, west-first (reading o) (walked (reading o) (simple-reading o (h .simple))) .below)
+  abbrev told : Turn
+  told = record { forward = forward; place = v; west = p; bottom = cuts .bottom; top = cuts .top; at = cuts .at }
 
-    ready : Ready v (border o) after (cuts .at)
-    ready =
-        let f = from-west o (h .simple) in
-        let n = border-length in
-        let around = h .cuts-of .around in
-        record {
-          turn = f;
-          place = v-lt;
-          clockwise = clockwise-reading o (h .simple);
-          laid =
-              laid-of {before = buffer} (omega (arith, d .long)) (h .cuts-of .places (h .simple)) (omega arith) (rw border-length (ap (λ (v : Outline). v .letters) border-is))
-              (omega (arith, d .short, h .sized)) (rw border-length rounded) kept;
-          sized = omega (arith, kept, h .sized);
-        }
+  ready : ReadAs told (border o)
+  ready =
+      record {
+        walk = from-west o (h .simple);
+        place = v-lt;
+        clockwise = clockwise-reading o (h .simple);
+        bottom = h .cuts-of .bottom (h .simple);
+        top = h .cuts-of .top (h .simple);
+        places = h .cuts-of .places (h .simple);
+      }
 
-    pub copied-ready : Turning v p (size o) after (cuts .at)
-    copied-ready = record { within = omega (arith, kept, letters-fit); ready = rw border-after ready }
+  pub copied-ready : ReadAs told (outline p (take (size o) buffer))
+  copied-ready = rw border-is ready
 
-    -- 8 and 9, or taken
-    pub copied-judged : {r : Judged} → r ≡ judgedTurn forward v (outline p (take (size o) after)) → r ≡ judgedBorder o
-    unfolding judgedTurn judgedBorder borderVerdict placeSent
-    copied-judged e =
-        e ∙ ap (judgedTurn forward v) border-after
-        ∙ λ z. judgedAs (turnVerdict (sentFrom (way-is z) (border-length z) (place-is z)) (border o)) (edges (border o))
+  -- 8 and 9, or taken
+  pub copied-said : {before after : List ℤ} {r : Verdict} → SaidOfTurn forward v (outline p (take (size o) buffer)) before after r → SaidOfBorder o before after r
+  unfolding borderVerdict placeSent
+  copied-said {before} {after} {r} e =
+      subst (λ (place : ℕ → ℕ). Said (turnVerdict place (border o)) (edges (border o)) before after r) (λ z. sentFrom (way-is z) (border-length z) (place-is z))
+      (subst (λ (t : Outline). SaidOfTurn forward v t before after r) border-is e)
 
 -- ---- the judgement
 
-module _ (o : Outline) where
-  pub judged-stopped : {f : Refusal} → surveyOf o ≡ Stopped f → {r : Judged} → ((es : List ℤ) → r ≡ judgedAs (Refused f) es) → r ≡ judgedOf o
-  unfolding judgedOf verdictOf afterSurvey
-  judged-stopped h e = e (edges (border o)) ∙ rw h
+-- All that is said of an outline and lent
+abbrev SaidOf : Outline → List ℤ → List ℤ → Verdict → Type 0
+SaidOf o = Said (verdictOf o) (edges (border o))
 
-  pub judged-passed : surveyOf o ≡ Passed → {r : Judged} → r ≡ judgedBorder o → r ≡ judgedOf o
-  unfolding judgedOf judgedBorder verdictOf afterSurvey
-  judged-passed h e = e ∙ rw h
+module _ (o : Outline) where
+  pub stopped-said : {f : Refusal} → surveyOf o ≡ Stopped f → (before : List ℤ) → SaidOf o before before (Refused f)
+  unfolding verdictOf afterSurvey
+  stopped-said h before = said-refused (edges (border o)) before (rw h refl)
+
+  pub passed-said : surveyOf o ≡ Passed → {before after : List ℤ} {r : Verdict} → SaidOfBorder o before after r → SaidOf o before after r
+  unfolding verdictOf afterSurvey
+  passed-said h e = rw h e
+
+  pub said-edges : {before after : List ℤ} {r : Verdict} → SaidOf o before after r → after ≡ edgesAfter o before
+  unfolding edgesAfter testOf
+  said-edges e = e .lent
+
+  -- A list of zeros has room for all edges that there can be
+  zeros-room : (v : Verdict) → verdictOf o ≡ v → withRoom (length zeros) v ≡ v
+  unfolding withRoom
+  zeros-room (Refused f) e = refl
+  zeros-room (Taken n a) e =
+      rw (le-ltb (length zeros) (2 * n) (rw (length-replicate mostNumbers (pos 0)) (taken-fits o n a e)))
+
+  pub judged-of : {r : Verdict} {after : List ℤ} → r ≡ verdictOf o → after ≡ edgesAfter o zeros → record { verdict = r; numbers = after } ≡ judgedOf o
+  unfolding judgedOf edgesAfter testOf
+  judged-of v e = λ z. record { verdict = v z; numbers = (e ∙ ap (λ (x : Verdict). lentAfter x (edges (border o)) zeros) (zeros-room (verdictOf o) refl)) z }
 
   -- The two parts of a judgement
   pub judged-verdict : judgedOf o .verdict ≡ verdictOf o
-  unfolding judgedOf judgedAs
+  unfolding judgedOf
   judged-verdict = refl
 
   pub judged-numbers : judgedOf o .numbers ≡ lentAfter (verdictOf o) (edges (border o)) zeros
-  unfolding judgedOf judgedAs
+  unfolding judgedOf
   judged-numbers = refl

@@ -1,43 +1,47 @@
 -- One law for each of the refusals 8 and 9 and one for an outline taken: the definition is a list of tests, and the first that holds decides.
 use Prim.Native.Nat.{ℕ, _+_, _*_, _≤_, _<_}
 use native.Mathlib.Numerals.{add-one}
+use native.Mathlib.Decide.{decLe}
 use native.Mathlib.Omega.{arith}
 use mathlib.Core.Path.{_≡_, refl, sym, ap, _∙_}
 use mathlib.Core.Bool.{Bool, true, false}
-use mathlib.Core.List.{List, _++_}
-use lib.ListN.{length, getD, take, drop, length-replicate}
-use lib.Seq.{length-take-le}
+use mathlib.Core.List.{List}
+use lib.ListN.{length, take, drop, length-replicate}
+use lib.Seq.{take-at}
 use lib.IntN.{ℤ, pos}
 use lib.Dec.{ltb}
-use borrow.Author.Tests.{lt-ltb}
+use borrow.Author.Tests.{lt-ltb, le-ltb}
 use Rattle.chart.specs.Limits.{side, longest, mostNumbers}
 use Rattle.chart.specs.declared.Point.{Point}
-use Rattle.chart.specs.Outline.{Outline, outline}
+use Rattle.chart.specs.Outline.{Outline}
 use Rattle.chart.specs.declared.Refusal.{Refusal}
 use Rattle.chart.specs.declared.Refusal.the-variants.{BackStep, Dent}
+use Rattle.chart.specs.declared.Verdict.{Verdict}
 use Rattle.chart.specs.declared.Verdict.the-variants.{Taken, Refused}
 use Rattle.lattice.specs.Chart.{cornerAt, size}
-use Rattle.lattice.specs.Refusals.{Simple, Stays}
+use Rattle.lattice.specs.Refusals.{Simple}
 use Rattle.lattice.proofs.WalkLaws.{Walked, walked, simple-of-walked}
 use Rattle.rows.specs.Search.{foundCell}
 use Rattle.rows.proofs.RowLaws.{found-missing}
 use Rattle.convexity.specs.Frame.{frameOf, along}
-use Rattle.convexity.specs.Cut.{cornerPlace, cutCorner, turn, clockwise}
+use Rattle.convexity.specs.Cut.{cornerPlace, turn, clockwise}
 use Rattle.convexity.specs.Reading.{reading, border, sentFrom}
-use Rattle.convexity.specs.Pieces.{backStepPiece, dentPiece, edges, edgeCount}
+use Rattle.convexity.specs.Pieces.{rounds, backStepPiece, dentPiece, edges, edgeCount}
 use Rattle.convexity.proofs.StraightTurn.{NoBackStep}
 use Rattle.convexity.proofs.Extreme.{cornerPlace-lt, cornerPlace-first, not-before-earlier, turn-of}
 use Rattle.convexity.proofs.Shape.{straight-of, shape}
 use Rattle.convexity.proofs.Reading.{simple-reading}
 use Rattle.convexity.proofs.Bounds.{edges-length}
 use Rattle.convexity.proofs.EdgeBound.{edges-at-most-100}
-use Rattle.verdict.specs.Verdict.{backStepIn, cellFound, dentIn, turnVerdict, lentAfter}
-use Rattle.border.specs.declared.Judged.{Judged}
+use Rattle.verdict.specs.Verdict.{backStepIn, cellFound, dentIn, turnVerdict, withRoom, lentAfter}
+use Rattle.border.specs.declared.cut.Turn.{Turn}
 use Rattle.border.specs.Cutting.{Laid, SentTo}
 use Rattle.border.specs.BackSteps.{StepIs, FoundAt}
 use Rattle.border.specs.Dents.{DentIs, EdgesAre, DentRead}
-use Rattle.border.specs.Turning.{FromWest, Turning, Straight, dentAs}
-use Rattle.border.specs.Judged.{zeros, judgedAs, judgedTurn}
+use Rattle.border.specs.Turning.{FromWest, ReadAs, dentAs}
+use Rattle.border.proofs.Buffer.{length-rounds}
+use Rattle.border.proofs.BackStepLaws.{laid-round, laid-once}
+use Rattle.border.specs.Judged.{Lent, Said, SaidOfTurn, zeros}
 
 -- ---- the turn
 
@@ -66,121 +70,117 @@ module _ {o : Outline} (h : FromWest o) where
   place-sent : {forward : Bool} {v i r : ℕ} → v < size o → i ≤ 4 * longest → SentTo forward (size o) v i r → r ≡ sentFrom forward (size o) v i
   place-sent l k e = e .place (omega (arith, turn-walked .long)) (omega (arith, turn-walked .short)) l k
 
--- ---- a turn without back-steps
+-- ---- the cell of a dent
 
-module _ {v : ℕ} {o : Outline} {cuts : List ℕ} (h : Straight v o cuts) where
-  straight-clear : NoBackStep o
-  straight-clear = turn-clear (h .turn) (h .clockwise) (h .straight)
-
-  -- The cut places of N and S are those of the corners
-  north-place : getD cuts 1 0 ≡ cornerPlace o 1
-  unfolding cutCorner
-  north-place = h .places 1 (omega arith) ∙ shape o straight-clear .corners 1 (omega arith)
-
-  south-place : getD cuts 3 0 ≡ cornerPlace o 3
-  unfolding cutCorner
-  south-place = h .places 3 (omega arith) ∙ shape o straight-clear .corners 3 (omega arith)
-
-  pub north-within : getD cuts 1 0 ≤ size o
-  north-within = omega (arith, north-place, turn-walked (h .turn) .long, cornerPlace-lt o 1 (omega (arith, turn-walked (h .turn) .long)))
-
-  pub south-within : getD cuts 3 0 ≤ size o
-  south-within = omega (arith, south-place, turn-walked (h .turn) .long, cornerPlace-lt o 3 (omega (arith, turn-walked (h .turn) .long)))
-
+module _ {t : Turn} {o : Outline} (h : ReadAs t o) where
   -- The cell that the search names, between the rows of S and N
-  cell-found : {bottom top cell : Point} → (Stays o → bottom ≡ cornerAt o (getD cuts 3 0)) → (Stays o → top ≡ cornerAt o (getD cuts 1 0))
-      → cell ≡ foundCell o (bottom .row) (top .row) → cell ≡ cellFound o
+  cell-found : {cell : Point} → cell ≡ foundCell o (t .bottom) (t .top) → cell ≡ cellFound o
   unfolding cellFound
-  cell-found {bottom} {top} {cell} b e f =
-      let p : bottom ≡ cornerAt o (cornerPlace o 3) = b (h .turn .simple .stays) ∙ ap (cornerAt o) south-place in
-      let q : top ≡ cornerAt o (cornerPlace o 1) = e (h .turn .simple .stays) ∙ ap (cornerAt o) north-place in
-      f ∙ rw (p, q)
-      (found-missing o (h .turn .simple .started) (h .turn .simple .stays) (cornerAt o (cornerPlace o 3) .row) (cornerAt o (cornerPlace o 1) .row)
-      (bottom-le-top (h .turn)) (top-le-side (h .turn)))
+  cell-found f =
+      f ∙ rw (h .bottom, h .top)
+      (found-missing o (h .walk .simple .started) (h .walk .simple .stays) (cornerAt o (cornerPlace o 3) .row) (cornerAt o (cornerPlace o 1) .row)
+      (bottom-le-top (h .walk)) (top-le-side (h .walk)))
 
-  pub dent-named : (k i l : ℕ) {forward : Bool} {place : ℕ} {bottom top cell : Point} → i ≤ 4 * longest → SentTo forward (size o) v i place
-      → (Stays o → bottom ≡ cornerAt o (getD cuts 3 0)) → (Stays o → top ≡ cornerAt o (getD cuts 1 0)) → cell ≡ foundCell o (bottom .row) (top .row)
-      → Dent (k + 1) place l cell ≡ dentAs forward v o k i l
+  pub dent-named : (k i l : ℕ) {forward : Bool} {place : ℕ} {cell : Point} → i ≤ 4 * longest → SentTo forward (size o) (t .place) i place
+      → cell ≡ foundCell o (t .bottom) (t .top) → Dent (k + 1) place l cell ≡ dentAs forward (t .place) o k i l
   unfolding dentAs
-  dent-named k i l m e b u f = rw (cell-found b u f, place-sent (h .turn) (h .place) m e)
-
-  -- There is room for its edges
-  pub count-bounded : dentPiece o ≡ 4 → 2 * edgeCount o ≤ mostNumbers
-  count-bounded smooth = edges-at-most-100 o straight-clear smooth
+  dent-named k i l m e f = rw (cell-found f, place-sent (h .walk) (h .place) m e)
 
 -- ---- the answers
 
--- An outline as it is judged, by its verdict
-pub as-refused : (f : Refusal) (es : List ℤ) → record { verdict = Refused f; numbers = zeros } ≡ judgedAs (Refused f) es
-unfolding judgedAs lentAfter
-as-refused f es = refl
+-- A refusal leaves the lent list as it was
+pub said-refused : {v : Verdict} (es before : List ℤ) {f : Refusal} → Refused f ≡ v → Said v es before before (Refused f)
+unfolding withRoom lentAfter
+said-refused es before e = record { verdict = e; lent = rw (sym e) refl }
 
-as-taken : (n : ℕ) (a : Point) (es : List ℤ) {after : List ℤ} → after ≡ es ++ drop (length es) zeros → record { verdict = Taken n a; numbers = after } ≡ judgedAs (Taken n a) es
-unfolding judgedAs lentAfter
-as-taken n a es e = ap (λ (l : List ℤ). record { verdict = Taken n a; numbers = l }) e
+-- A taken outline's edges are lent where there is room for them
+said-taken : {v : Verdict} {es before after : List ℤ} {n : ℕ} {a : Point} → Taken n a ≡ v → length es ≡ 2 * n → Lent es (2 * n) before after → Said v es before after (Taken n a)
+unfolding withRoom lentAfter
+said-taken {v} {es} {before} {after} {n} {a} e size l =
+    record {
+      verdict = e;
+      lent =
+          rw (sym e)
+          (elim (decLe (2 * n) (length before)) [
+            | yes h ↦ rw (le-ltb (length before) (2 * n) h) (rw size (l .room h))
+            | no h ↦ let k : length before < 2 * n = omega arith in rw (lt-ltb (length before) (2 * n) k) (l .none k)
+          ]);
+    }
 
 module _ (forward : Bool) (v : ℕ) (o : Outline) where
-  turn-back-step : {k i : ℕ} → StepIs o k i → k < 4 → judgedAs (Refused (BackStep (k + 1) (sentFrom forward (size o) v i))) (edges o) ≡ judgedTurn forward v o
-  unfolding judgedTurn turnVerdict backStepIn
+  abbrev said : Verdict
+  said = turnVerdict (sentFrom forward (size o) v) o
+
+  turn-back-step : {k i : ℕ} → StepIs o k i → k < 4 → Refused (BackStep (k + 1) (sentFrom forward (size o) v i)) ≡ said
+  unfolding turnVerdict backStepIn
   turn-back-step {k} h l =
       let b : ltb (backStepPiece o) 4 ≡ true = lt-ltb (backStepPiece o) 4 (omega (arith, h .piece)) in
       rw (b, add-one k, h .at, h .piece)
 
   module _ (b : ltb (backStepPiece o) 4 ≡ false) where
-    turn-dent : {k i l : ℕ} → DentIs o k i l → k < 4 → judgedAs (Refused (dentAs forward v o k i l)) (edges o) ≡ judgedTurn forward v o
-    unfolding judgedTurn turnVerdict dentIn dentAs
+    turn-dent : {k i l : ℕ} → DentIs o k i l → k < 4 → Refused (dentAs forward v o k i l) ≡ said
+    unfolding turnVerdict dentIn dentAs
     turn-dent {k} h l =
         let c : ltb (dentPiece o) 4 ≡ true = lt-ltb (dentPiece o) 4 (omega (arith, h .piece)) in
         rw (b, c, add-one k, h .at, h .size, h .piece)
 
-    turn-taken : dentPiece o ≡ 4 → judgedAs (Taken (edgeCount o) (o .start)) (edges o) ≡ judgedTurn forward v o
-    unfolding judgedTurn turnVerdict
+    turn-taken : dentPiece o ≡ 4 → Taken (edgeCount o) (o .start) ≡ said
+    unfolding turnVerdict
     turn-taken c = rw (b, c)
 
--- ---- the turn in the buffer
+-- ---- what is said of the turn
 
-module _ {v : ℕ} {s : Point} {n : ℕ} {buffer cuts : List ℕ} (h : Turning v s n buffer cuts) where
-  abbrev t : Outline
-  t = outline s (take n buffer)
-
-  pub turn-size : size t ≡ n
-  turn-size = length-take-le n buffer (h .within)
+module _ {t : Turn} {o : Outline} (h : ReadAs t o) where
+  pub short : size o ≤ longest
+  short = turn-walked (h .walk) .short
 
   -- 8
-  pub step-judged : {forward : Bool} {k i place : ℕ} → FoundAt buffer cuts k i → SentTo forward n v i place → {r : Judged} → ((es : List ℤ) → r ≡ judgedAs (Refused (BackStep (k + 1) place)) es)
-      → r ≡ judgedTurn forward v t
-  step-judged {forward} {k} {i} {place} e p {r} q =
-      let d : place ≡ sentFrom forward (size t) v i =
-      place-sent (h .ready .turn) (h .ready .place) (omega (arith, e .at-le, h .ready .sized)) (rw turn-size p) in
-      q (edges t) ∙ rw d (turn-back-step forward v t (e .step t (h .ready .laid)) (e .piece-lt))
+  pub step-said : {forward : Bool} {k i place : ℕ} → FoundAt (rounds (o .letters)) (t .at) k i → SentTo forward (size o) (t .place) i place → (before : List ℤ)
+      → SaidOfTurn forward (t .place) o before before (Refused (BackStep (k + 1) place))
+  step-said {forward} {k} {i} {place} e p before =
+      let d : place ≡ sentFrom forward (size o) (t .place) i =
+      place-sent (h .walk) (h .place) (omega (arith, e .at-le, length-rounds (o .letters), short)) p in
+      said-refused (edges o) before (rw d (turn-back-step forward (t .place) o (e .step o (laid-round (h .places))) (e .piece-lt)))
 
-  pub none-straight : backStepPiece t ≡ 4 → ltb (backStepPiece t) 4 ≡ false
-  none-straight e = rw e
+  pub none-straight : ((v : Outline) → Laid v (t .at) (rounds (o .letters)) → backStepPiece v ≡ 4) → ltb (backStepPiece o) 4 ≡ false
+  none-straight e = rw (e o (laid-round (h .places)))
 
-  module _ (b : ltb (backStepPiece t) 4 ≡ false) where
-    pub straight-of-turning : Straight v t cuts
-    straight-of-turning =
-        record { turn = h .ready .turn; place = h .ready .place; clockwise = h .ready .clockwise; straight = b; places = h .ready .laid .places }
+  module _ (b : ltb (backStepPiece o) 4 ≡ false) where
+    clear : NoBackStep o
+    clear = turn-clear (h .walk) (h .clockwise) b
+
+    -- The pieces go once round
+    laid : Laid o (t .at) (o .letters)
+    laid = laid-once (h .places) (shape o clear .round)
 
     -- 9
-    pub dent-judged : (forward : Bool) {k i l : ℕ} → DentRead buffer cuts k i l → {r : Judged} → ((es : List ℤ) → r ≡ judgedAs (Refused (dentAs forward v t k i l)) es)
-        → r ≡ judgedTurn forward v t
-    dent-judged forward e q =
-        q (edges t) ∙ turn-dent forward v t b (e .dent t (turn-walked (h .ready .turn) .short) (h .ready .laid)) (e .piece-lt)
+    pub dent-said : (forward : Bool) {k i l : ℕ} → DentRead (o .letters) (t .at) k i l → {f : Refusal} → f ≡ dentAs forward (t .place) o k i l → (before : List ℤ)
+        → SaidOfTurn forward (t .place) o before before (Refused f)
+    dent-said forward e q before =
+        said-refused (edges o) before (ap Refused q ∙ turn-dent forward (t .place) o b (e .dent o short laid) (e .piece-lt))
 
     -- Taken
-    module _ {after : List ℤ} {m : ℕ} (e : (o : Outline) → size o ≤ longest → Laid o cuts buffer → EdgesAre o zeros after m) where
-      abbrev found : EdgesAre t zeros after m
-      found = e t (turn-walked (h .ready .turn) .short) (h .ready .laid)
+    module _ {numbers : List ℤ} {m : ℕ} (e : (v : Outline) → size v ≤ longest → Laid v (t .at) (o .letters) → EdgesAre v zeros numbers m) where
+      abbrev found : EdgesAre o zeros numbers m
+      found = e o short laid
 
-      room : 2 * edgeCount t ≤ length zeros
-      room = rw (length-replicate mostNumbers (pos 0)) (omega (arith, count-bounded straight-of-turning (found .none)))
+      bounded : 2 * edgeCount o ≤ mostNumbers
+      bounded = edges-at-most-100 o clear (found .none)
+
+      room : 2 * edgeCount o ≤ length zeros
+      room = rw (length-replicate mostNumbers (pos 0)) bounded
 
       pub count-le : 2 * m ≤ mostNumbers
-      count-le = omega (arith, found .count room, count-bounded straight-of-turning (found .none))
+      count-le = omega (arith, found .count room, bounded)
 
-      pub edges-judged : (forward : Bool) → record { verdict = Taken m s; numbers = after } ≡ judgedTurn forward v t
-      edges-judged forward =
-          let size : length (edges t) ≡ 2 * m = edges-length t ∙ ap (λ (k : ℕ). 2 * k) (sym (found .count room)) in
-          as-taken m s (edges t) (found .list room ∙ rw size) ∙
-          ap (λ (k : ℕ). judgedAs (Taken k s) (edges t)) (found .count room) ∙ turn-taken forward v t b (found .none)
+      edges-size : length (edges o) ≡ 2 * m
+      edges-size = edges-length o ∙ ap (λ (k : ℕ). 2 * k) (sym (found .count room))
+
+      first-numbers : take (2 * m) numbers ≡ edges o
+      first-numbers = ap (take (2 * m)) (found .list room) ∙ take-at (edges o) (drop (2 * m) zeros) (2 * m) edges-size
+
+      pub edges-said : (forward : Bool) {before after : List ℤ} → Lent (take (2 * m) numbers) (2 * m) before after
+          → SaidOfTurn forward (t .place) o before after (Taken m (o .start))
+      edges-said forward {before} {after} l =
+          said-taken (ap (λ (k : ℕ). Taken k (o .start)) (found .count room) ∙ turn-taken forward (t .place) o b (found .none)) edges-size
+          (rw first-numbers at l)

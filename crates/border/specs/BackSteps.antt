@@ -1,14 +1,31 @@
 -- What the search for the first back-step promises, for every turn whose pieces lie in the buffer between the cut places.
-use Prim.Native.Nat.{ℕ, _+_, _≤_, _<_}
+use Prim.Native.Nat.{ℕ, _+_, _-_, _*_, _≤_, _<_}
 use mathlib.Core.Path.{_≡_}
 use mathlib.Core.List.{List}
-use lib.ListN.{length}
+use lib.ListN.{length, getD, take, drop}
+use Rattle.base.specs.Below.{first}
+use Rattle.chart.specs.Limits.{longest}
 use Rattle.chart.specs.Outline.{Outline}
+use Rattle.convexity.specs.Frame.{frameOf}
 use Rattle.convexity.specs.Cut.{cut}
-use Rattle.convexity.specs.Pieces.{backStepAt, backStepPiece}
+use Rattle.convexity.specs.Pieces.{isBackStep, backStepAt, backStepPiece}
 use Rattle.border.specs.declared.back_steps.BackStep.{BackStep}
 use Rattle.border.specs.declared.back_steps.BackStep.the-variants.{None, At}
 use Rattle.border.specs.Cutting.{Laid}
+
+-- The letters of a list from a place on up to another
+abbrev pub part : ℕ → ℕ → List ℕ → List ℕ
+part from to letters = take (to - from) (drop from letters)
+
+-- How many letters of piece k stand before its first back-step
+abbrev pub straightFor : ℕ → List ℕ → ℕ
+straightFor k piece = first (λ i. isBackStep (frameOf k) (getD piece i 0)) (length piece)
+
+-- Two places of letters read four times round, of which there are not too many
+pub record Within (from to : ℕ) (letters : List ℕ) : Type 0 where
+  pub short : length letters ≤ longest
+  pub rises : from ≤ to
+  pub round : to ≤ 4 * length letters
 
 -- The first back-step stands in piece k, i letters from W on
 pub record StepIs (o : Outline) (k i : ℕ) : Type 0 where

@@ -35,11 +35,6 @@ Turned forward w from before after = from ≤ length w → length w ≤ length b
 unfoldable pub readPlace : Bool → ℕ → ℕ → ℕ
 readPlace forward n w = cond forward w (cond (eqb w 0) 0 (n - w))
 
--- A buffer's first n letters stay, and its letters up to end are those read on, past their end to their beginning
-pub record Rounded (before : List ℕ) (n end : ℕ) (after : List ℕ) : Type 0 where
-  pub same : take n after ≡ take n before
-  pub read : 0 < n → end ≤ 4 * n → end ≤ length before → take end after ≡ take end (rounds (take n before))
-
 -- The pieces of a turn o lie in a buffer between the cut places
 pub record Laid (o : Outline) (at buffer : List ℕ) : Type 0 where
   pub places : (k : ℕ) → k ≤ 4 → getD at k 0 ≡ cut o k

@@ -1,8 +1,9 @@
--- The verdict of an outline together with its edges, which stand first in a list of zeros; all zeros where it is refused.
-use Prim.Native.Nat.{ℕ}
+-- What is said of an outline, and what a lent list gets; and the two as one value, with a list of zeros lent.
+use Prim.Native.Nat.{ℕ, _≤_, _<_}
+use mathlib.Core.Path.{_≡_}
 use mathlib.Core.Bool.{Bool}
-use mathlib.Core.List.{List}
-use lib.ListN.{replicate}
+use mathlib.Core.List.{List, _++_}
+use lib.ListN.{length, drop, replicate}
 use lib.IntN.{ℤ, pos}
 use Rattle.chart.specs.Limits.{mostNumbers}
 use Rattle.chart.specs.declared.Verdict.{Verdict}
@@ -10,23 +11,30 @@ use Rattle.chart.specs.Outline.{Outline}
 use Rattle.lattice.specs.Chart.{size}
 use Rattle.convexity.specs.Reading.{border, sentFrom}
 use Rattle.convexity.specs.Pieces.{edges}
-use Rattle.verdict.specs.Verdict.{turnVerdict, borderVerdict, verdictOf, lentAfter}
+use Rattle.verdict.specs.Verdict.{turnVerdict, borderVerdict, verdictOf, withRoom, lentAfter}
 use Rattle.border.specs.declared.Judged.{Judged}
+
+-- The numbers es, n of them, stand first in a lent list with room for them, and any other is as it was
+pub record Lent (es : List ℤ) (n : ℕ) (before after : List ℤ) : Type 0 where
+  pub room : n ≤ length before → after ≡ es ++ drop n before
+  pub none : length before < n → after ≡ before
+
+-- The verdict v is said, and the edges es are lent where it takes the outline and there is room
+pub record Said (v : Verdict) (es before after : List ℤ) (r : Verdict) : Type 0 where
+  pub verdict : r ≡ v
+  pub lent : after ≡ lentAfter (withRoom (length before) v) es before
+
+-- Of a turn o, read forward or backward from the list as sent, where W's letter stands at v in what is read
+abbrev pub SaidOfTurn : Bool → ℕ → Outline → List ℤ → List ℤ → Verdict → Type 0
+SaidOfTurn forward v o = Said (turnVerdict (sentFrom forward (size o) v) o) (edges o)
+
+-- Of an outline that passes refusals 1 to 6
+abbrev pub SaidOfBorder : Outline → List ℤ → List ℤ → Verdict → Type 0
+SaidOfBorder o = Said (borderVerdict o) (edges (border o))
 
 abbrev pub zeros : List ℤ
 zeros = replicate mostNumbers (pos 0)
 
-unfoldable pub judgedAs : Verdict → List ℤ → Judged
-judgedAs v es = record { verdict = v; numbers = lentAfter v es zeros }
-
--- Of a turn o, read forward or backward from the list as sent, where W's letter stands at v in what is read
-unfoldable pub judgedTurn : Bool → ℕ → Outline → Judged
-judgedTurn forward v o = judgedAs (turnVerdict (sentFrom forward (size o) v) o) (edges o)
-
--- Of an outline that passes refusals 1 to 6
-unfoldable pub judgedBorder : Outline → Judged
-judgedBorder o = judgedAs (borderVerdict o) (edges (border o))
-
--- Of every outline
+-- The judgement of every outline as a value
 unfoldable pub judgedOf : Outline → Judged
-judgedOf o = judgedAs (verdictOf o) (edges (border o))
+judgedOf o = record { verdict = verdictOf o; numbers = lentAfter (verdictOf o) (edges (border o)) zeros }

@@ -1,16 +1,16 @@
 // The first back-step of the pieces (contract 3.5).
 use crate::cut::Turn;
 use crate::frame;
+ghost use Prim.Native.Nat.{_*_, _≤_, _<_};
 ghost use mathlib.Core.Path.{_≡_};
 ghost use lib.ListN.{length, getD};
-ghost use Rattle.base.specs.Below.{first as firstBelow};
-ghost use Rattle.convexity.specs.Frame.{frameOf};
-ghost use Rattle.convexity.specs.Pieces.{isBackStep};
-ghost use Rattle.border.specs.BackSteps.{Found};
+ghost use Rattle.chart.specs.Limits.{longest};
+ghost use Rattle.convexity.specs.Pieces.{rounds};
+ghost use Rattle.border.specs.BackSteps.{part, straightFor, Within, Found};
 
 // How many letters of piece k stand before its first back-step: all of them where it has none.
 fn straight_for(piece: &[u8], k: usize) -> usize
-    ensures { λ r. ⌜ r ≡ firstBelow (λ i. isBackStep (frameOf k) (getD (now (piece .entry)) i 0)) (length (now (piece .entry))) ⌝ }
+    ensures { λ r. ⌜ r ≡ straightFor k (now (piece .entry)) ⌝ }
 {
     let f = frame::pair_at(k);
     let mut i = 0;
@@ -24,27 +24,73 @@ fn straight_for(piece: &[u8], k: usize) -> usize
     i
 }
 
+// Letter i of those read on past their end, as often round as four pieces can reach.
+fn letter_round(letters: &[u8], i: usize) -> u8
+    requires { ⌜ (length (now letters) ≤ longest) × (i < 4 * length (now letters)) ⌝ }
+    ensures { λ r. ⌜ r ≡ getD (rounds (now (letters .entry))) i 0 ⌝ }
+{
+    let n = letters.len();
+    if i < n {
+        return letters[i];
+    }
+    if i < 2 * n {
+        return letters[i - n];
+    }
+    if i < 3 * n {
+        return letters[i - 2 * n];
+    }
+    letters[i - 3 * n]
+}
+
+// The same for a piece that goes on past the end of the letters.
+fn straight_round(letters: &[u8], from: usize, to: usize, k: usize) -> usize
+    requires { ⌜ Within from to (now letters) ⌝ }
+    ensures { λ r. ⌜ r ≡ straightFor k (part from to (rounds (now (letters .entry)))) ⌝ }
+{
+    let f = frame::pair_at(k);
+    let mut i = 0;
+    while i < to - from {
+        let letter = letter_round(letters, from + i);
+        if letter != f.earlier && letter != f.later {
+            return i;
+        }
+        i += 1;
+    }
+    i
+}
+
+// The same for a piece between two places of the letters read round and round. Only with a back-step does one go on past their end.
+fn straight(letters: &[u8], from: usize, to: usize, k: usize) -> usize
+    requires { ⌜ Within from to (now letters) ⌝ }
+    ensures { λ r. ⌜ r ≡ straightFor k (part from to (rounds (now (letters .entry)))) ⌝ }
+{
+    if to <= letters.len() {
+        return straight_for(&letters[from..to], k);
+    }
+    straight_round(letters, from, to, k)
+}
+
 pub(crate) enum BackStep {
     None,
     // In a piece, counted from 0, so many letters from W on.
     At { piece: usize, at: usize },
 }
 
-// The first back-step along the four pieces, which lie in the buffer between the cut places.
-pub(crate) fn first(turn: Turn, buffer: &[u8]) -> BackStep
-    ensures { λ r. ⌜ Found (now (buffer .entry)) (turn .at) r ⌝ }
+// The first back-step along the four pieces, which lie between the cut places in the letters read round and round.
+pub(crate) fn first(turn: Turn, letters: &[u8]) -> BackStep
+    requires { ⌜ length (now letters) ≤ longest ⌝ }
+    ensures { λ r. ⌜ Found (rounds (now (letters .entry))) (turn .at) r ⌝ }
 {
     let at = turn.at;
     let mut k = 0;
     while k < 4 {
         let from = at[k];
         let to = at[k + 1];
-        if to < from || buffer.len() < to {
+        if to < from || 4 * letters.len() < to {
             return BackStep::None;
         }
-        let piece = &buffer[from..to];
-        let i = straight_for(piece, k);
-        if i < piece.len() {
+        let i = straight(letters, from, to, k);
+        if i < to - from {
             return BackStep::At {
                 piece: k,
                 at: from + i,

@@ -1,32 +1,15 @@
 // The letters of an outline read from W on, and places in them.
 use chart::LONGEST;
 use chart::Point;
-use lattice::walk;
 ghost use Prim.Native.Nat.{_<_, _≤_};
 ghost use mathlib.Core.Path.{_≡_};
 ghost use lib.ListN.{length, getD};
-ghost use Rattle.chart.specs.Outline.{outline};
-ghost use Rattle.lattice.specs.Chart.{cornerAt, rotation};
-ghost use Rattle.lattice.specs.Refusals.{Stays};
+ghost use Rattle.lattice.specs.Chart.{rotation};
 ghost use Rattle.convexity.specs.Reading.{opposite as oppositeOf};
-ghost use Rattle.border.specs.Cutting.{readTurn, Turned, readPlace, Rounded, SentTo};
+ghost use Rattle.border.specs.Cutting.{readTurn, Turned, readPlace, SentTo};
 
-// A buffer that holds the letters as often round as four pieces can reach.
-pub(crate) const ROUNDS: usize = 4 * LONGEST;
-
-// The corner from which the letter at a place leaves.
-pub(crate) fn corner_at(s: Point, w: &[u8], place: usize) -> Point
-    requires { ⌜ place ≤ length (now w) ⌝ }
-    ensures { λ r. ⌜ (Stays (outline s (now (w .entry))) → r ≡ cornerAt (outline s (now (w .entry))) place) ⌝ }
-{
-    let mut p = s;
-    let mut i = 0;
-    while i < place {
-        p = walk::step(p, w[i]);
-        i += 1;
-    }
-    p
-}
+// As far as four pieces can reach.
+const ROUNDS: usize = 4 * LONGEST;
 
 // The letter of the way back.
 fn opposite(letter: u8) -> u8
@@ -87,27 +70,14 @@ pub(crate) fn read_place(n: usize, w: usize, forward: bool) -> usize
     if w == 0 { 0 } else { n - w }
 }
 
-// Reads the first n letters on past their end: each letter up to `end` is the one n before it.
-pub(crate) fn fill_rounds(turn: &mut [u8], n: usize, end: usize)
-    ensures { λ r. ⌜ Rounded (now (turn .entry)) n end (now (turn .exit)) ⌝ }
-{
-    if n == 0 || turn.len() < end {
-        return;
-    }
-    let mut i = n;
-    while i < end {
-        turn[i] = turn[i - n];
-        i += 1;
-    }
-}
-
-// An outline read from W on: whether forward, the place of W's letter in what is read, the corner W, how many letters there are, and the
-// five cut places, the last of which is W's again.
+// An outline read from W on: whether forward, the place of W's letter in what is read, the corner W, the rows of S and N, and the five cut
+// places, the last of which is W's again.
 pub(crate) struct Turn {
     pub(crate) forward: bool,
     pub(crate) place: usize,
     pub(crate) west: Point,
-    pub(crate) count: usize,
+    pub(crate) bottom: u16,
+    pub(crate) top: u16,
     pub(crate) at: [usize; 5],
 }
 

@@ -18,7 +18,7 @@ use Rattle.convexity.proofs.Extreme.{cornerPlace-lt, turn-of}
 use Rattle.convexity.proofs.Reading.{corner-backward, turn-reading, simple-reading, length-backward, leaving-west}
 use Rattle.convexity.proofs.Corners.{corner-reading}
 use Rattle.corners.specs.declared.Corners.{Corners}
-use Rattle.corners.specs.Found.{cornerOf, placeRead, PlaceFound, CornersFound, CutsOf}
+use Rattle.corners.specs.Found.{cornerOf, rowOf, placeRead, PlaceFound, CornersFound, CutsOf}
 use Rattle.corners.proofs.CutLaws.{ahead-on, ahead-round, sums-around, sums-places}
 
 pub ahead-lt : (n a b : ℕ) → a < n → b < n → ahead n a b < n
@@ -145,13 +145,19 @@ module _ {o : Outline} {f : Corners} (h : CornersFound o f) (some : 0 < size o) 
       south-le : south ≤ size o
       south-le = omega (arith, es, read-below way (h .south))
 
-      pub cuts-of : {p : Point} → p ≡ cornerOf (f .west .number)
-          → CutsOf o (record { place = f .west .place; west = p; forward = way; at = 0 ∷ a ∷ (a + b) ∷ (a + b + c) ∷ (a + b + c + d) ∷ [] })
-      cuts-of g =
+      -- The row of the first corner of piece k, as the border is read
+      row-is : (k : ℕ) {p r : ℕ} → PlaceFound o k p → (Simple o → r ≡ cornerAt o p .row) → Simple o → r ≡ cornerAt (border o) (cornerPlace (border o) k) .row
+      row-is k t g s = g s ∙ ap (λ (i : ℕ). cornerAt o i .row) (t .place s) ∙ ap (λ (q : Point). q .row) (sym (corner-reading o s k))
+
+      pub cuts-of : {p : Point} {bottom top : ℕ} → p ≡ cornerOf (f .west .number) → bottom ≡ rowOf (f .south .number) → top ≡ rowOf (f .north .number)
+          → CutsOf o (record { place = f .west .place; west = p; bottom = bottom; top = top; forward = way; at = 0 ∷ a ∷ (a + b) ∷ (a + b + c) ∷ (a + b + c + d) ∷ [] })
+      cuts-of g bottom-is top-is =
           record {
             within = h .west .within;
             place = h .west .place;
             corner = λ s. g ∙ h .corner s;
+            bottom = row-is 3 (h .south) (λ s. bottom-is ∙ h .bottom s);
+            top = row-is 1 (h .north) (λ s. top-is ∙ h .top s);
             way = λ s. e;
             five = refl;
             around = sums-around north-le east-le south-le ea eb ec ed;
@@ -160,12 +166,14 @@ module _ {o : Outline} {f : Corners} (h : CornersFound o f) (some : 0 < size o) 
           }
 
 -- No letters, or too many
-pub no-cuts : (o : Outline) → (Simple o → ⊥) → (p : Point) → CutsOf o (record { place = 0; west = p; forward = false; at = replicate 5 0 })
+pub no-cuts : (o : Outline) → (Simple o → ⊥) → (p : Point) → CutsOf o (record { place = 0; west = p; bottom = 0; top = 0; forward = false; at = replicate 5 0 })
 no-cuts o h p =
     record {
       within = omega arith;
       place = λ s. absurd (h s);
       corner = λ s. absurd (h s);
+      bottom = λ s. absurd (h s);
+      top = λ s. absurd (h s);
       way = λ s. absurd (h s);
       five = refl;
       around = omega arith;

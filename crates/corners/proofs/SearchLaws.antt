@@ -15,7 +15,7 @@ use Rattle.convexity.specs.Frame.{frameOf}
 use Rattle.convexity.specs.Cut.{before, least, cornerPlace}
 use Rattle.corners.specs.declared.Best.{Best}
 use Rattle.corners.specs.Numbers.{colNumber, rowNumber}
-use Rattle.corners.specs.Found.{lowerOf, higherOf, cornerOf, PlaceFound}
+use Rattle.corners.specs.Found.{lowerOf, higherOf, cornerOf, rowOf, PlaceFound}
 use Rattle.corners.proofs.NumberLaws.{Numbering, LeastFirst, GreatestFirst}
 
 on-chart : (o : Outline) → Simple o → (i : ℕ) → i ≤ size o → OnChart (cornerAt o i)
@@ -118,6 +118,13 @@ tracked-corner {o} {n} {b} t e s =
     let h = on-chart o s (b .place) (omega (arith, t .within)) in
     let f = t .kept s .number in
     point-eq (cornerOf (b .number)) (cornerAt o (b .place)) (omega (arith, h .col, h .row)) (omega (arith, h .col, h .row))
+
+-- Its row from its number by rows
+pub tracked-row : {o : Outline} {k n : ℕ} {b : Best} → Tracked o k rowNumber n b → n ≡ size o → Simple o → rowOf (b .number) ≡ cornerAt o (b .place) .row
+tracked-row {o} {k} {n} {b} t e s =
+    let h = on-chart o s (b .place) (omega (arith, t .within)) in
+    let f = t .kept s .number in
+    omega (arith, h .col, h .row)
 
 -- ---- what the walk keeps
 

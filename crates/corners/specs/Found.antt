@@ -4,6 +4,7 @@ use mathlib.Core.Path.{_≡_}
 use mathlib.Core.Bool.{Bool, cond}
 use lib.ListN.{length, getD}
 use lib.Dec.{ltb, eqb}
+use Rattle.chart.specs.Limits.{side}
 use Rattle.chart.specs.declared.Point.{Point}
 use Rattle.chart.specs.Outline.{Outline}
 use Rattle.lattice.specs.Chart.{cornerAt, size, letterAt}
@@ -25,6 +26,10 @@ higherOf b number place = cond (ltb (b .number) number) (record { place = place;
 abbrev pub cornerOf : ℕ → Point
 cornerOf n = record { col = n / 256 % 256; row = n % 256 }
 
+-- The row of the corner with a number by rows
+abbrev pub rowOf : ℕ → ℕ
+rowOf n = side - n / 256 % 256
+
 -- How many letters lead from place w to place p of n letters, read forward or backward
 unfoldable pub placeRead : Bool → ℕ → ℕ → ℕ → ℕ
 placeRead forward n w p = cond forward (ahead n w p) (ahead n p w)
@@ -40,12 +45,16 @@ pub record CornersFound (o : Outline) (r : Corners) : Type 0 where
   pub north : PlaceFound o 1 (r .north .place)
   pub east : PlaceFound o 2 (r .east .place)
   pub south : PlaceFound o 3 (r .south .place)
+  pub top : Simple o → rowOf (r .north .number) ≡ cornerAt o (r .north .place) .row
+  pub bottom : Simple o → rowOf (r .south .number) ≡ cornerAt o (r .south .place) .row
 
--- W as sent, which way the letters are read, and the five cut places of the border
+-- W as sent, which way the letters are read, and of the border the rows of S and N and the five cut places
 pub record CutsOf (o : Outline) (r : Cuts) : Type 0 where
   pub within : r .place ≤ size o - 1
   pub place : Simple o → r .place ≡ cornerPlace o 0
   pub corner : Simple o → r .west ≡ cornerAt o (r .place)
+  pub bottom : Simple o → r .bottom ≡ cornerAt (border o) (cornerPlace (border o) 3) .row
+  pub top : Simple o → r .top ≡ cornerAt (border o) (cornerPlace (border o) 1) .row
   pub way : Simple o → r .forward ≡ eqb (letterAt o (r .place)) 1
   pub five : length (r .at) ≡ 5
   pub around : getD (r .at) 4 0 ≤ 4 * size o

@@ -9,7 +9,7 @@ ghost use Rattle.chart.specs.Limits.{side};
 ghost use Rattle.chart.specs.Outline.{outline};
 ghost use Rattle.convexity.specs.Cut.{ahead as aheadOf};
 ghost use Rattle.corners.specs.Numbers.{colNumber, rowNumber, colStride, rowStride};
-ghost use Rattle.corners.specs.Found.{lowerOf, higherOf, cornerOf, placeRead, CornersFound, CutsOf};
+ghost use Rattle.corners.specs.Found.{lowerOf, higherOf, cornerOf, rowOf, placeRead, CornersFound, CutsOf};
 
 // A corner's number by columns and then by rows: W has the least, E the greatest.
 fn col_number(p: Point) -> usize
@@ -139,6 +139,13 @@ fn corner_of(number: usize) -> Point
     }
 }
 
+// The row of the corner with a number by rows.
+fn row_of(number: usize) -> u16
+    ensures { λ r. ⌜ r ≡ rowOf number ⌝ }
+{
+    SIDE - (number / 256 % 256) as u16
+}
+
 // How many letters lead from place a on to place b, past the end of n letters where needed.
 fn ahead(n: usize, a: usize, b: usize) -> usize
     requires { ⌜ a ≤ n ⌝ }
@@ -158,11 +165,13 @@ fn place_read(n: usize, forward: bool, w: usize, p: usize) -> usize
     ahead(n, p, w)
 }
 
-// The place of W's letter as sent, the corner W, whether the letters are read forward, and the five cut places of the border, the last of which is W's
-// again.
+// The place of W's letter as sent, the corner W, the rows of S and N, whether the letters are read forward, and the five cut places of the border, the last
+// of which is W's again.
 pub struct Cuts {
     pub place: usize,
     pub west: Point,
+    pub bottom: u16,
+    pub top: u16,
     pub forward: bool,
     pub at: [usize; 5],
 }
@@ -175,6 +184,8 @@ pub fn cut_places(s: Point, w: &[u8]) -> Cuts
         return Cuts {
             place: 0,
             west: s,
+            bottom: 0,
+            top: 0,
             forward: false,
             at: [0; 5],
         };
@@ -193,6 +204,8 @@ pub fn cut_places(s: Point, w: &[u8]) -> Cuts
     Cuts {
         place,
         west: corner_of(found.west.number),
+        bottom: row_of(found.south.number),
+        top: row_of(found.north.number),
         forward,
         at: [0, first, second, third, fourth],
     }

@@ -73,7 +73,7 @@ impl Draft {
         let start = self.start;
         let count = self.count;
         let sent = first(&self.letters, count);
-        border::judge(start, sent)
+        border::judgement(start, sent)
     }
 
     // The first and the last column that it encloses in each row.

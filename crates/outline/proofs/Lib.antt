@@ -1,2 +1,2 @@
--- Lending the edges, and the test by what is said of the outline.
+-- The test by what is said of the outline.
 pub mod TestLaws

@@ -1,6 +1,6 @@
 -- What a set says, by the layer and by what is said of the outline: a law for each return.
 use Prim.Native.Nat.{ℕ, _≤_, _<_}
-use mathlib.Core.Path.{_≡_, sym, ap, _∙_}
+use mathlib.Core.Path.{_≡_, sym, _∙_}
 use borrow.Author.Tests.{lt-ltb, le-ltb}
 use Rattle.chart.specs.Outline.{Outline}
 use Rattle.chart.specs.declared.Point.{Point}
@@ -8,9 +8,6 @@ use Rattle.chart.specs.declared.Refusal.{Refusal}
 use Rattle.chart.specs.declared.Verdict.{Verdict}
 use Rattle.chart.specs.declared.Verdict.the-variants.{Taken, Refused}
 use Rattle.verdict.specs.Verdict.{verdictOf}
-use Rattle.border.specs.declared.Judged.{Judged}
-use Rattle.border.specs.Judged.{judgedOf}
-use Rattle.border.proofs.JudgedLaws.{judged-verdict}
 use Rattle.spans.specs.declared.Spans.{Spans}
 use Rattle.spans.specs.Spans.{spansOf}
 use Rattle.pile.specs.declared.Pile.{Pile}
@@ -27,15 +24,12 @@ module _ (p : Pile) (l : ℕ) (o : Outline) where
   unfolding setOf
   set-as h v e = rw (le-ltb 15 l h, e)
 
-  module _ (h : l ≤ 15) (j : Judged) (e : j ≡ judgedOf o) where
-    said : (v : Verdict) → j .verdict ≡ v → verdictOf o ≡ v
-    said v f = sym (judged-verdict o) ∙ ap (λ (i : Judged). i .verdict) (sym e) ∙ f
-
-    pub set-refused : (f : Refusal) → j .verdict ≡ Refused f → _≡_ {A = Piled} (record { reply = Said (Refused f); pile = p }) (setOf p l o)
+  module _ (h : l ≤ 15) {r : Verdict} (e : r ≡ verdictOf o) where
+    pub set-refused : (f : Refusal) → r ≡ Refused f → _≡_ {A = Piled} (record { reply = Said (Refused f); pile = p }) (setOf p l o)
     unfolding setAs
-    set-refused f g = set-as h (Refused f) (said (Refused f) g)
+    set-refused f g = set-as h (Refused f) (sym e ∙ g)
 
-    pub set-taken : (n : ℕ) (a : Point) → j .verdict ≡ Taken n a → (s : Spans) → s ≡ spansOf o → (q : Pile) → q ≡ put p l s
+    pub set-taken : (n : ℕ) (a : Point) → r ≡ Taken n a → (s : Spans) → s ≡ spansOf o → (q : Pile) → q ≡ put p l s
         → _≡_ {A = Piled} (record { reply = Said (Taken n a); pile = q }) (setOf p l o)
     unfolding setAs
-    set-taken n a g s d q k = rw (k, d) (set-as h (Taken n a) (said (Taken n a) g))
+    set-taken n a g s d q k = rw (k, d) (set-as h (Taken n a) (sym e ∙ g))

@@ -81,8 +81,9 @@ impl Pile {
                 pile: self,
             };
         }
-        let judged = judge(start, letters);
-        let verdict = judged.verdict;
+        // No edges are asked for.
+        let mut none = [0i16; 0];
+        let verdict = judge(start, letters, &mut none);
         match verdict {
             Verdict::Refused(why) => Piled {
                 reply: PileReply::Judged(Verdict::Refused(why)),

@@ -1,13 +1,12 @@
--- The factors are read as edges; the first dent is named, and where there is none the edges stand first in the list of zeros.
+-- The factors are read as edges into a list of zeros; the first dent is named, and where there is none the edges are lent.
 use native.Mathlib.Omega.{arith}
-use mathlib.Core.Path.{_≡_, sym, ap, subst, _∙_}
+use mathlib.Core.Path.{_≡_, sym, subst}
+use lib.ListN.{length-replicate}
 use borrow.Author.Needs.{needs}
-use Rattle.chart.specs.declared.Refusal.{Refusal}
-use Rattle.chart.specs.declared.Verdict.the-variants.{Refused}
 use Rattle.border.specs.declared.dents.Factored.{Factored}
 use Rattle.border.specs.Dents.{FactorsRead}
-use Rattle.border.specs.Judged.{zeros, judgedAs}
-use Rattle.border.proofs.PieceLaws.{turn-size, straight-of-turning, dent-judged, count-le, edges-judged}
+use Rattle.border.specs.Judged.{zeros}
+use Rattle.border.proofs.PieceLaws.{short, dent-said, count-le, edges-said}
 use Rattle.border.proofs.edges.Statement.{statement}
 use Rattle.border.proofs.edges.Tie as tie
 
@@ -19,46 +18,58 @@ read-requires c κs = search needs
 
 -- What the four pieces are read as
 module _ {f : Factored} (c : tie.After-read) (e : c .read .result ≡ f) where
-  factored : FactorsRead (c .before .before .before .args .buffer .now) (c .before .before .before .args .turn .at) zeros (c .read .last .1 .1 .0) f
+  factored : FactorsRead (c .before .before .before .args .letters .now) (c .before .before .before .args .turn .at) zeros (c .read .last .1 .1 .0) f
   factored = subst (FactorsRead _ _ _ _) e (c .read .ensures)
 
 enum-known-factored : tie.Need-enum-known-factored
 enum-known-factored c = search needs
 
-slice-aggregate-dent : tie.Need-slice-aggregate-dent
-slice-aggregate-dent c = sym (turn-size (c .before .before .before .before .before .before .before .before .before .pre .0))
-
 dent-requires : tie.Need-dent-requires
 dent-requires c κs =
-    let start = c .before .before .before .before .before .before .before .before .before in
-    let d = factored (c .before .before .before .before .before .before) (c .before .before .factored .given .1) in
-    let size = start .pre .0 .ready .sized in
-    (straight-of-turning (start .pre .0) (start .pre .1), (d .piece-lt, omega (arith, d .at-le), omega (arith, d .size-le)))
-
-refused-requires : tie.Need-refused-requires
-refused-requires c κs = search needs
+    let read = c .before .before .before .before .before in
+    let start = read .before .before .before in
+    let d = factored read (c .before .factored .given .1) in
+    let small = short (start .pre .0) in
+    (start .pre .0, (d .piece-lt, omega (arith, d .at-le), omega (arith, d .size-le)))
 
 enum-known-factored-2 : tie.Need-enum-known-factored-2
 enum-known-factored-2 c = search needs
 
-cast-t17 : tie.Need-cast-t17
-cast-t17 c =
-    let read = c .before .before .before .before .before in
+slice-aggregate-lend : tie.Need-slice-aggregate-lend
+slice-aggregate-lend c = search needs
+
+mul-lend : tie.Need-mul-lend
+mul-lend c =
+    let read = c .before .before .before .before .before .before in
     let start = read .before .before .before in
-    omega (arith, count-le (start .pre .0) (start .pre .1) (factored read (c .before .factored2 .given .1)))
+    omega (arith, count-le (start .pre .0) (start .pre .1) (factored read (c .before .before .factored2 .given .1)))
+
+lend-requires : tie.Need-lend-requires
+lend-requires c κs =
+    let read = c .before .before .before .before .before .before .before in
+    let start = read .before .before .before in
+    omega (arith, count-le (start .pre .0) (start .pre .1) (factored read (c .before .before .before .factored2 .given .1)), read .read .kept .1 .1 .0)
+
+cast-t21 : tie.Need-cast-t21
+cast-t21 c =
+    let read = c .before .before .before .before .before .before .before .before .before in
+    let start = read .before .before .before in
+    omega (arith, count-le (start .pre .0) (start .pre .1) (factored read (c .before .before .before .before .before .factored2 .given .1)))
 
 returns : tie.Need-returns
 returns c =
-    let read = c .before .before .before .before .before .before .before .before in
+    let read = c .before .before .before .before .before .before in
     let start = read .before .before .before in
-    dent-judged (start .pre .0) (start .pre .1) _ (factored read (c .before .before .before .before .factored .given .1))
-    (λ es. c .refused .ensures es ∙ ap (λ (f : Refusal). judgedAs (Refused f) es) (c .before .dent .ensures))
+    dent-said (start .pre .0) (start .pre .1) _ (factored read (c .before .before .factored .given .1)) (c .dent .ensures) _
+
+same-length : tie.Need-same-length
+same-length c = search needs
 
 returns-2 : tie.Need-returns-2
 returns-2 c =
-    let read = c .before .before .before .before .before in
+    let read = c .before .before .before .before .before .before .before .before .before in
     let start = read .before .before .before in
-    edges-judged (start .pre .0) (start .pre .1) (factored read (c .before .factored2 .given .1)) _
+    edges-said (start .pre .0) (start .pre .1) (factored read (c .before .before .before .before .before .factored2 .given .1)) _ (c .before .lend .ensures)
 
 pub edges-spec : {M : Type 1} → statement M
 edges-spec =
@@ -67,10 +78,12 @@ edges-spec =
     slice-aggregate-read
     read-requires
     enum-known-factored
-    slice-aggregate-dent
     dent-requires
-    refused-requires
     enum-known-factored-2
-    cast-t17
+    slice-aggregate-lend
+    mul-lend
+    lend-requires
+    cast-t21
     returns
+    same-length
     returns-2)

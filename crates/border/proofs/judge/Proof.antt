@@ -2,7 +2,7 @@
 use mathlib.Core.Path.{sym, _∙_}
 use borrow.Author.Needs.{needs}
 use Rattle.survey.proofs.SurveyLaws.{survey-simple}
-use Rattle.border.proofs.JudgedLaws.{judged-stopped, judged-passed}
+use Rattle.border.proofs.JudgedLaws.{stopped-said, passed-said, said-edges}
 use Rattle.border.proofs.judge.Statement.{statement}
 use Rattle.border.proofs.judge.Tie as tie
 
@@ -12,22 +12,25 @@ survey-requires c κs = search needs
 enum-known-surveyed : tie.Need-enum-known-surveyed
 enum-known-surveyed c = search needs
 
-refused-requires : tie.Need-refused-requires
-refused-requires c κs = search needs
-
 enum-told : tie.Need-enum-told
 enum-told c = search needs
 
 read-requires : tie.Need-read-requires
-read-requires c κs = survey-simple _ (sym (c .before .before .survey .ensures) ∙ c .enum-told .given .1)
+read-requires c κs = survey-simple _ (sym (c .before .before .before .survey .ensures) ∙ c .before .enum-told .given .1)
 
 returns : tie.Need-returns
 returns c =
-    let tested = c .before .before .before .before in
-    judged-stopped _ (sym (tested .survey .ensures) ∙ c .before .before .surveyed .given .1) (c .refused .ensures)
+    let s = stopped-said _ (sym (c .before .before .before .survey .ensures) ∙ c .before .surveyed .given .1) _ in
+    (s .verdict, said-edges _ s)
+
+same-length : tie.Need-same-length
+same-length c = search needs
 
 returns-2 : tie.Need-returns-2
-returns-2 c = judged-passed _ (sym (c .before .before .before .survey .ensures) ∙ c .before .enum-told .given .1) (c .read .ensures)
+returns-2 c =
+    let told = c .before .before .before in
+    let s = passed-said _ (sym (told .before .before .survey .ensures) ∙ told .enum-told .given .1) (c .before .read .ensures) in
+    (s .verdict, said-edges _ s)
 
 pub judge-spec : {M : Type 1} → statement M
 judge-spec =
@@ -35,8 +38,8 @@ judge-spec =
     (tie.spec
     survey-requires
     enum-known-surveyed
-    refused-requires
     enum-told
     read-requires
     returns
+    same-length
     returns-2)

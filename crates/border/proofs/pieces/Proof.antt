@@ -2,18 +2,19 @@
 use native.Mathlib.Omega.{arith}
 use mathlib.Core.Path.{_≡_, subst}
 use borrow.Author.Needs.{needs}
+use Rattle.convexity.specs.Pieces.{rounds}
 use Rattle.border.specs.declared.back_steps.BackStep.{BackStep}
 use Rattle.border.specs.BackSteps.{Found}
-use Rattle.border.proofs.PieceLaws.{step-judged, none-straight}
+use Rattle.border.proofs.PieceLaws.{short, step-said, none-straight}
 use Rattle.border.proofs.pieces.Statement.{statement}
 use Rattle.border.proofs.pieces.Tie as tie
 
 first-requires : tie.Need-first-requires
-first-requires c κs = search needs
+first-requires c κs = short (c .before .pre)
 
 -- What the search for a back-step finds
 module _ {b : BackStep} (c : tie.After-first) (e : c .first .result ≡ b) where
-  found : Found (c .before .before .args .buffer .now) (c .before .before .args .turn .at) b
+  found : Found (rounds (c .before .before .args .letters .now)) (c .before .before .args .turn .at) b
   found = subst (Found _ _) e (c .first .ensures)
 
 enum-known-found : tie.Need-enum-known-found
@@ -22,30 +23,30 @@ enum-known-found c = search needs
 sent-requires : tie.Need-sent-requires
 sent-requires c κs = search needs
 
-add-t8 : tie.Need-add-t8
-add-t8 c = omega (arith, found (c .before .before .before .before) (c .before .before .found .given .1) .piece-lt)
-
-cast-t9 : tie.Need-cast-t9
-cast-t9 c = omega (arith, found (c .before .before .before .before) (c .before .before .found .given .1) .piece-lt)
+add-t9 : tie.Need-add-t9
+add-t9 c = omega (arith, found (c .before .before .before .before) (c .before .before .found .given .1) .piece-lt)
 
 cast-t10 : tie.Need-cast-t10
-cast-t10 c = search needs
+cast-t10 c = omega (arith, found (c .before .before .before .before) (c .before .before .found .given .1) .piece-lt)
 
-refused-requires : tie.Need-refused-requires
-refused-requires c κs = search needs
+cast-t11 : tie.Need-cast-t11
+cast-t11 c = search needs
 
 enum-told : tie.Need-enum-told
 enum-told c = search needs
 
 edges-requires : tie.Need-edges-requires
 edges-requires c κs =
-    let start = c .before .before .before .before in
-    (start .pre, none-straight (start .pre) (found (c .before .before) (c .enum-told .given .1) _ (start .pre .ready .laid)))
+    let start = c .before .before .before .before .before in
+    (start .pre, none-straight (start .pre) (found (c .before .before .before) (c .before .enum-told .given .1)))
 
 returns : tie.Need-returns
 returns c =
-    let first = c .before .before .before .before .before in
-    step-judged (first .before .before .pre) (found first (c .before .before .before .found .given .1)) (c .before .sent .ensures) (c .refused .ensures)
+    let first = c .before .before .before .before in
+    step-said (first .before .before .pre) (found first (c .before .before .found .given .1)) (c .sent .ensures) _
+
+same-length : tie.Need-same-length
+same-length c = search needs
 
 returns-2 : tie.Need-returns-2
 returns-2 c = search needs
@@ -57,11 +58,11 @@ pieces-spec =
     first-requires
     enum-known-found
     sent-requires
-    add-t8
-    cast-t9
+    add-t9
     cast-t10
-    refused-requires
+    cast-t11
     enum-told
     edges-requires
     returns
+    same-length
     returns-2)

@@ -1,8 +1,10 @@
--- The buffer holds the border and then its pieces, so the rest of the judgement is the border's.
+-- The buffer holds the border, so the rest of the judgement is the border's.
 use native.Mathlib.Omega.{arith}
+use mathlib.Core.Path.{sym}
+use lib.Seq.{length-take-le}
 use borrow.Author.Needs.{needs}
 use Rattle.chart.specs.Outline.{outline}
-use Rattle.border.proofs.JudgedLaws.{Copied, copied-ready, copied-judged}
+use Rattle.border.proofs.JudgedLaws.{Copied, letters-fit, copied-ready, copied-said}
 use Rattle.border.proofs.read.Statement.{statement}
 use Rattle.border.proofs.read.Tie as tie
 
@@ -34,26 +36,20 @@ copied c =
       sized = c .fill-turn .kept .1 .1 .1 .0;
     }
 
-slice-aggregate-fill-rounds : tie.Need-slice-aggregate-fill-rounds
-slice-aggregate-fill-rounds c = search needs
-
-array-read-fill-rounds : tie.Need-array-read-fill-rounds
-array-read-fill-rounds c = search needs
-
-fill-rounds-requires : tie.Need-fill-rounds-requires
-fill-rounds-requires c κs = search needs
+array-share-prefix-buffer : tie.Need-array-share-prefix-buffer
+array-share-prefix-buffer c = let fit = letters-fit (copied (c .before)) in omega (arith, c .before .fill-turn .kept .1 .1 .1 .0)
 
 slice-aggregate-pieces : tie.Need-slice-aggregate-pieces
-slice-aggregate-pieces c = search needs
+slice-aggregate-pieces c = sym (length-take-le _ _ (letters-fit (copied (c .before .before))))
 
 pieces-requires : tie.Need-pieces-requires
-pieces-requires c κs =
-    let filled = c .before .before in copied-ready (copied (filled .before .before .before)) (filled .fill-rounds .ensures) (filled .fill-rounds .kept .0)
+pieces-requires c κs = copied-ready (copied (c .before .before .before))
+
+same-length : tie.Need-same-length
+same-length c = search needs
 
 returns : tie.Need-returns
-returns c =
-    let filled = c .before .before .before in
-    copied-judged (copied (filled .before .before .before)) (filled .fill-rounds .ensures) (filled .fill-rounds .kept .0) (c .pieces .ensures)
+returns c = copied-said (copied (c .before .before .before .before .before)) (c .before .pieces .ensures)
 
 pub read-spec : {M : Type 1} → statement M
 read-spec =
@@ -63,9 +59,8 @@ read-spec =
     read-place-requires
     slice-aggregate-fill-turn
     fill-turn-requires
-    slice-aggregate-fill-rounds
-    array-read-fill-rounds
-    fill-rounds-requires
+    array-share-prefix-buffer
     slice-aggregate-pieces
     pieces-requires
+    same-length
     returns)

@@ -85,9 +85,16 @@ add-fourth c =
 corner-of-requires : tie.Need-corner-of-requires
 corner-of-requires c κs = search needs
 
+row-of-requires : tie.Need-row-of-requires
+row-of-requires c κs = search needs
+
+row-of-requires-2 : tie.Need-row-of-requires-2
+row-of-requires-2 c κs = search needs
+
 returns-2 : tie.Need-returns-2
 returns-2 c =
-    let fourth = c .before in
+    let west = c .before .before in
+    let fourth = west .before in
     let third = fourth .before in
     let second = third .before in
     let first = second .before in
@@ -96,7 +103,7 @@ returns-2 c =
     let north = east .before in
     let found = north .before .before in
     cuts-of (found .find-corners .ensures) (omega arith) refl (north .place-read .ensures) (east .place-read2 .ensures) (south .place-read3 .ensures)
-    (first .ahead .ensures) (second .ahead2 .ensures) (third .ahead3 .ensures) (fourth .ahead4 .ensures) (c .corner-of .ensures)
+    (first .ahead .ensures) (second .ahead2 .ensures) (third .ahead3 .ensures) (fourth .ahead4 .ensures) (west .corner-of .ensures) (c .before .row-of .ensures) (c .row-of2 .ensures)
 
 pub cut-places-spec : {M : Type 1} → statement M
 cut-places-spec =
@@ -116,4 +123,6 @@ cut-places-spec =
     ahead-requires-4
     add-fourth
     corner-of-requires
+    row-of-requires
+    row-of-requires-2
     returns-2)

@@ -8,7 +8,7 @@ use Rattle.chart.specs.declared.Point.{Point}
 use Rattle.chart.specs.Outline.{outline}
 use Rattle.corners.specs.Numbers.{colNumber, rowNumber}
 use Rattle.corners.proofs.NumberLaws.{by-col, by-row, stride-small, west-least, north-least, east-greatest, south-greatest}
-use Rattle.corners.proofs.SearchLaws.{Scan, numbered-start, numbered-next, tracked-start, tracked-lower, tracked-higher, tracked-end, tracked-corner}
+use Rattle.corners.proofs.SearchLaws.{Scan, numbered-start, numbered-next, tracked-start, tracked-lower, tracked-higher, tracked-end, tracked-corner, tracked-row}
 use Rattle.corners.proofs.find_corners.Statement.{statement}
 use Rattle.corners.proofs.find_corners.Tie as tie
 
@@ -99,7 +99,15 @@ returns c =
     let start = rows .before .before .before in
     let inv = c .before .loop .inv (start .args .s) (rows .before .col-number .ensures) (rows .row-number .ensures) in
     let all : c .before .loop .i ≡ length (start .args .w .now) = omega (arith, inv .passed, c .loop-test .left) in
-    record { west = tracked-end (inv .west) all; corner = tracked-corner (inv .west) all; north = tracked-end (inv .north) all; east = tracked-end (inv .east) all; south = tracked-end (inv .south) all }
+    record {
+      west = tracked-end (inv .west) all;
+      corner = tracked-corner (inv .west) all;
+      north = tracked-end (inv .north) all;
+      east = tracked-end (inv .east) all;
+      south = tracked-end (inv .south) all;
+      top = tracked-row (inv .north) all;
+      bottom = tracked-row (inv .south) all;
+    }
 
 pub find-corners-spec : {M : Type 1} → statement M
 find-corners-spec =

@@ -8,12 +8,12 @@ use Rattle.draft.proofs.Draft.judge.Tie as tie
 first-requires : tie.Need-first-requires
 first-requires c κs = search needs
 
-judge-requires : tie.Need-judge-requires
-judge-requires c κs = search needs
+judgement-requires : tie.Need-judgement-requires
+judgement-requires c κs = search needs
 
 returns : tie.Need-returns
 unfolding outlineOf
-returns c = c .judge .ensures ∙ rw (c .before .first .ensures)
+returns c = c .judgement .ensures ∙ rw (c .before .first .ensures)
 
 pub judge-spec : {M : Type 1} → statement M
-judge-spec = tie.close (tie.spec first-requires judge-requires returns)
+judge-spec = tie.close (tie.spec first-requires judgement-requires returns)

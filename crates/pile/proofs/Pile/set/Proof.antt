@@ -8,6 +8,9 @@ use Rattle.pile.proofs.Pile.set.Tie as tie
 returns : tie.Need-returns
 returns c = set-high _ _ _ (c .if1 .taken)
 
+slice-aggregate-judge : tie.Need-slice-aggregate-judge
+slice-aggregate-judge c = search needs
+
 judge-requires : tie.Need-judge-requires
 judge-requires c κs = search needs
 
@@ -24,11 +27,15 @@ put-requires : tie.Need-put-requires
 put-requires c κs = search needs
 
 returns-2 : tie.Need-returns-2
-returns-2 c = set-refused _ _ _ (omega (arith, c .before .before .before .before .if1 .left)) (c .before .before .before .judge .result) (c .before .before .before .judge .ensures) _ (c .before .verdict .given .1)
+returns-2 c =
+    let judged = c .before .before .before .before in
+    set-refused _ _ _ (omega (arith, judged .before .before .if1 .left)) (judged .judge .ensures .0) _ (c .before .verdict .given .1)
 
 returns-3 : tie.Need-returns-3
 returns-3 c =
-    set-taken _ _ _ (omega (arith, c .before .before .before .before .before .before .if1 .left)) (c .before .before .before .before .before .judge .result) (c .before .before .before .before .before .judge .ensures) _ _ (c .before .before .before .verdict2 .given .1) _ (c .before .spans-of .ensures) _
+    let told = c .before .before .before in
+    let judged = told .before .before .before in
+    set-taken _ _ _ (omega (arith, judged .before .before .if1 .left)) (judged .judge .ensures .0) _ _ (told .verdict2 .given .1) _ (c .before .spans-of .ensures) _
     (c .put .ensures)
 
 pub set-spec : {M : Type 1} → statement M
@@ -36,6 +43,7 @@ set-spec =
     tie.close
     (tie.spec
     returns
+    slice-aggregate-judge
     judge-requires
     enum-known-verdict
     enum-known-verdict-2

@@ -11,14 +11,14 @@ use mir.Syntax.{w16}
 use mir.ValLaws.{toZ-ofZ}
 use lib.Seq.{paste, paste-zero, paste-suc, length-paste}
 use borrow.Author.Needs.{needs}
-use Rattle.outline.proofs.copy_edges.Statement.{statement}
-use Rattle.outline.proofs.copy_edges.Tie as tie
+use Rattle.border.proofs.copy_edges.Statement.{statement}
+use Rattle.border.proofs.copy_edges.Tie as tie
 
 abbrev Inv-loop : tie.InvT-loop
-Inv-loop list n edges₀ i₀ edges i = (i ≤ n) × (edges ≡ paste edges₀ 0 list i)
+Inv-loop list n lent₀ i₀ lent i = (i ≤ n) × (lent ≡ paste lent₀ 0 list i)
 
 abbrev μ-loop : tie.MeasureT-loop
-μ-loop list n edges₀ i₀ edges i = n - i
+μ-loop list n lent₀ i₀ lent i = n - i
 
 loop-holds : tie.Need-loop-holds Inv-loop μ-loop
 loop-holds c = (search needs, paste-zero _ 0 (c .args .list .now))
@@ -33,10 +33,10 @@ mul-number-2 : tie.Need-mul-number-2 Inv-loop μ-loop
 mul-number-2 c = search needs
 
 -- The lent list keeps its length
-kept : (c : tie.At-loop Inv-loop μ-loop) → length (c .loop .edges) ≡ length (c .before .args .edges .now)
+kept : (c : tie.At-loop Inv-loop μ-loop) → length (c .loop .lent) ≡ length (c .before .args .lent .now)
 kept c =
     let a = c .before .args in
-    ap length (c .loop .inv .1) ∙ length-paste (a .edges .now) 0 (a .list .now) (c .loop .i) (omega (arith, c .loop .inv .0)) (omega (arith, c .loop .inv .0))
+    ap length (c .loop .inv .1) ∙ length-paste (a .lent .now) 0 (a .list .now) (c .loop .i) (omega (arith, c .loop .inv .0)) (omega (arith, c .loop .inv .0))
 
 slice-set-from-number : tie.Need-slice-set-from-number Inv-loop μ-loop
 slice-set-from-number c = omega (arith, kept (c .before .before))
@@ -52,7 +52,7 @@ loop-again c =
     let turn = c .before in
     let a = turn .before .before .args in
     let i = turn .before .loop .i in
-    let d = a .edges .now in
+    let d = a .lent .now in
     let l = a .list .now in (
       search needs,
       rw (toZ-ofZ w16 (getD l i (pos 0)) (record { sfits = c .number .given }))

@@ -1,2 +1,0 @@
--- What a lent list gets.
-pub mod Lent
