@@ -1,0 +1,45 @@
+-- 20, 13, or what the verdict on the draft makes of it.
+use mathlib.Core.Path.{sym, _∙_}
+use borrow.Author.Tests.{not-true, not-false}
+use Rattle.slots.specs.Slots.{closeOf}
+use borrow.Author.Needs.{needs}
+use Rattle.slots.proofs.close.Statement.{statement}
+use Rattle.slots.proofs.close.Tie as tie
+
+bad-place-requires : tie.Need-bad-place-requires
+bad-place-requires c κs = search needs
+
+end-requires : tie.Need-end-requires
+end-requires c κs = search needs
+
+returns : tie.Need-returns
+unfolding closeOf
+returns c = rw (sym (c .before .before .bad-place .ensures) ∙ c .before .if1 .taken, c .end .ensures)
+
+returns-2 : tie.Need-returns-2
+unfolding closeOf
+returns-2 c = rw (sym (c .before .before .before .bad-place .ensures) ∙ c .before .before .if1 .left, not-true (c .before .before .before .before .args .draft .begun) (c .if2 .taken))
+
+judge-requires : tie.Need-judge-requires
+judge-requires c κs = search needs
+
+close-by-requires : tie.Need-close-by-requires
+close-by-requires c κs = search needs
+
+returns-3 : tie.Need-returns-3
+unfolding closeOf
+returns-3 c =
+    rw (sym (c .before .before .before .before .before .bad-place .ensures) ∙ c .before .before .before .before .if1 .left, c .close-by .ensures, c .before .judge .ensures)
+    (rw (not-false (c .before .before .before .before .before .before .args .draft .begun) (c .before .before .if2 .left)))
+
+pub close-spec : {M : Type 1} → statement M
+close-spec =
+    tie.close
+    (tie.spec
+    bad-place-requires
+    end-requires
+    returns
+    returns-2
+    judge-requires
+    close-by-requires
+    returns-3)

@@ -1,0 +1,2 @@
+-- What a call does to a draft and a work.
+pub mod Slots
