@@ -1,58 +1,27 @@
--- The cell that a close names is the verdict's, whatever the holder; a close that asks no verdict names none.
+-- The cell that a close names is that of the close of its party's draft, whatever the holder.
 use Prim.Native.Nat.{ℕ}
 use native.Mathlib.Omega.{arith}
 use mathlib.Core.Path.{_≡_}
 use mathlib.Core.Bool.{Bool, true, false, cond}
-use mathlib.Core.List.{List}
-use lib.IntN.{ℤ}
-use Rattle.chart.specs.declared.Verdict.{Verdict}
-use Rattle.chart.specs.declared.Verdict.the-variants.{Taken, Refused}
 use Rattle.chart.specs.Outline.{Outline}
-use Rattle.chart.specs.Fields.{verdictFields}
-use Rattle.verdict.specs.Verdict.{verdictOf}
 use Rattle.verdict.specs.Named.{CellNamed}
-use Rattle.verdict.proofs.Cells.{verdict-named}
-use Rattle.border.specs.Judged.{judgedOf}
-use Rattle.border.proofs.JudgedLaws.{judged-verdict}
-use Rattle.calls.specs.Calls.{badParty, badPlace, by}
+use Rattle.calls.specs.Calls.{badParty, by}
 use Rattle.calls.specs.Replies.{replyFields}
 use Rattle.calls.specs.declared.Action.the-variants.{Close}
-use Rattle.calls.specs.declared.Reply.the-variants.{Taken as WasTaken, Same}
 use Rattle.draft.specs.Draft.{outlineOf}
-use Rattle.work.specs.declared.Work.{Work}
-use Rattle.work.specs.Work.{listed, hasEdges}
+use Rattle.slots.specs.Slots.{actedOf}
+use Rattle.slots.proofs.CloseLaws.{close-named}
 use Rattle.holder.specs.declared.Holder.{Holder}
 use Rattle.holder.specs.declared.Answered.{Answered}
-use Rattle.holder.specs.Holder.{draftOf, workOf, closedReply, closedBy, closeOf, actOf, answerOf}
-
-closed-named : (o : Outline) (w : Work) (es : List ℤ) (v : Verdict) → CellNamed o (verdictFields v) → CellNamed o (replyFields (closedReply w es v))
-unfolding closedReply replyFields
-closed-named o w es (Refused f) c = c
-closed-named o w es (Taken n a) c = go (hasEdges w a (listed es n))
-  where
-    go : (t : Bool) → CellNamed o (replyFields (cond t (Same n a) (WasTaken n a)))
-    go true = record { anchor = c .anchor; missing = c .missing }
-    go false = record { anchor = c .anchor; missing = c .missing }
+use Rattle.holder.specs.Holder.{draftOf, workOf, reachedBy, actOf, answerOf}
 
 either-named : (o : Outline) (b : Bool) (x y : Answered) → CellNamed o (replyFields (x .reply)) → CellNamed o (replyFields (y .reply))
     → CellNamed o (replyFields (cond b x y .reply))
 either-named o true x y c d = c
 either-named o false x y c d = d
 
--- What a close promises of its answer
-abbrev pub Promised : Holder → ℕ → ℕ → Answered → Type 0
-Promised h p k r = (r ≡ answerOf h (by p (Close k))) × CellNamed (outlineOf (draftOf h p)) (replyFields (r .reply))
-
-module _ (h : Holder) (p k : ℕ) where
-  close-named : CellNamed (outlineOf (draftOf h p)) (replyFields (answerOf h (by p (Close k)) .reply))
-  unfolding answerOf actOf closeOf closedBy replyFields
-  close-named =
-      let o : Outline = outlineOf (draftOf h p) in
-      either-named o (badParty p) _ _ (record { anchor = λ z. absurd (omega (arith, z)); missing = λ z. absurd (omega (arith, z)) })
-      (either-named o (badPlace k) _ _ (record { anchor = λ z. absurd (omega (arith, z)); missing = λ z. absurd (omega (arith, z)) })
-      (either-named o (draftOf h p .begun) _ _
-      (rw (judged-verdict o) (closed-named o (workOf h p k) (judgedOf o .numbers) (verdictOf o) (verdict-named o)))
-      (record { anchor = λ z. absurd (omega (arith, z)); missing = λ z. absurd (omega (arith, z)) })))
-
-  pub promised : (r : Answered) → r ≡ answerOf h (by p (Close k)) → Promised h p k r
-  promised r e = (e, rw e close-named)
+pub answer-named : (h : Holder) (p k : ℕ) (r : Answered) → r ≡ answerOf h (by p (Close k)) → CellNamed (outlineOf (draftOf h p)) (replyFields (r .reply))
+unfolding answerOf actOf actedOf replyFields
+answer-named h p k r e =
+    rw e (either-named (outlineOf (draftOf h p)) (badParty p) _ _ (record { anchor = λ z. absurd (omega (arith, z)); missing = λ z. absurd (omega (arith, z)) })
+    (close-named (draftOf h p) (workOf h p (reachedBy (Close k))) k))

@@ -1,3 +1,3 @@
--- The cases of a call; the cell that a close names.
-pub mod Cases
+-- The places that there are; the cell that a close names.
+pub mod Places
 pub mod CloseLaws

@@ -1,82 +1,79 @@
--- Each arm is the call that the definition names.
-use Rattle.holder.proofs.Cases.{does}
+-- 19, or the two slots are read, acted on and written: the party is below two and the place below four, so they are slots of the holder.
+use native.Mathlib.Omega.{arith}
+use mathlib.Core.Path.{sym, _∙_}
+use Rattle.holder.specs.Holder.{draftOf, workOf, withDraft, withWork, blankDraft, blankWork, actOf, answerOf}
+use Rattle.holder.proofs.Places.{there-party, there-place}
 use borrow.Author.Needs.{needs}
 use Rattle.holder.proofs.Holder.answer.Statement.{statement}
 use Rattle.holder.proofs.Holder.answer.Tie as tie
 
-enum-known-action : tie.Need-enum-known-action
-enum-known-action c = search needs
-
-begin-requires : tie.Need-begin-requires
-begin-requires c κs = search needs
-
-enum-known-action-2 : tie.Need-enum-known-action-2
-enum-known-action-2 c = search needs
-
-add-requires : tie.Need-add-requires
-add-requires c κs = search needs
-
-enum-told : tie.Need-enum-told
-enum-told c = search needs
-
-drop-requires : tie.Need-drop-requires
-drop-requires c κs = search needs
-
-enum-known-action-3 : tie.Need-enum-known-action-3
-enum-known-action-3 c = search needs
-
-clear-requires : tie.Need-clear-requires
-clear-requires c κs = search needs
-
-enum-known-action-4 : tie.Need-enum-known-action-4
-enum-known-action-4 c = search needs
-
-close-requires : tie.Need-close-requires
-close-requires c κs = search needs
-
-enum-known-action-5 : tie.Need-enum-known-action-5
-enum-known-action-5 c = search needs
-
-ask-requires : tie.Need-ask-requires
-ask-requires c κs = search needs
+bad-party-requires : tie.Need-bad-party-requires
+bad-party-requires c κs = search needs
 
 returns : tie.Need-returns
-returns c = does _ _ _ _ (c .begin .ensures) (c .before .before .action .given .1)
+unfolding answerOf
+returns c = rw (sym (c .before .bad-party .ensures) ∙ c .if1 .taken)
+
+cast-at : tie.Need-cast-at
+cast-at c = search needs
+
+mul-slot : tie.Need-mul-slot
+mul-slot c = search needs
+
+reached-requires : tie.Need-reached-requires
+reached-requires c κs = search needs
+
+add-slot : tie.Need-add-slot
+add-slot c = omega (arith, there-party (c .before .before .before .args .call .party) (c .before .before .bad-party .ensures) (c .before .if1 .left), there-place (c .before .before .before .args .call .action) (c .reached .result) (c .reached .ensures))
+
+mul-act : tie.Need-mul-act
+mul-act c = search needs
+
+element-copy-out-act : tie.Need-element-copy-out-act
+element-copy-out-act c = omega (arith, there-party (c .before .before .before .args .call .party) (c .before .before .bad-party .ensures) (c .before .if1 .left), there-place (c .before .before .before .args .call .action) (c .reached .result) (c .reached .ensures))
+
+mul-act-2 : tie.Need-mul-act-2
+mul-act-2 c = omega (arith, there-party (c .before .before .before .before .args .call .party) (c .before .before .before .bad-party .ensures) (c .before .before .if1 .left), there-place (c .before .before .before .before .args .call .action) (c .before .reached .result) (c .before .reached .ensures))
+
+element-copy-out-act-2 : tie.Need-element-copy-out-act-2
+element-copy-out-act-2 c = omega (arith, there-party (c .before .before .before .before .args .call .party) (c .before .before .before .bad-party .ensures) (c .before .before .if1 .left), there-place (c .before .before .before .before .args .call .action) (c .before .reached .result) (c .before .reached .ensures))
+
+act-requires : tie.Need-act-requires
+act-requires c κs = search needs
+
+mul-draft : tie.Need-mul-draft
+mul-draft c = search needs
+
+element-set-from-draft : tie.Need-element-set-from-draft
+element-set-from-draft c = omega (arith, there-party (c .before .before .before .before .before .before .before .before .args .call .party) (c .before .before .before .before .before .before .before .bad-party .ensures) (c .before .before .before .before .before .before .if1 .left), there-place (c .before .before .before .before .before .before .before .before .args .call .action) (c .before .before .before .before .before .reached .result) (c .before .before .before .before .before .reached .ensures))
+
+mul-work : tie.Need-mul-work
+mul-work c = omega (arith, there-party (c .before .before .before .before .before .before .before .before .args .call .party) (c .before .before .before .before .before .before .before .bad-party .ensures) (c .before .before .before .before .before .before .if1 .left), there-place (c .before .before .before .before .before .before .before .before .args .call .action) (c .before .before .before .before .before .reached .result) (c .before .before .before .before .before .reached .ensures))
+
+element-set-from-work : tie.Need-element-set-from-work
+element-set-from-work c = omega (arith, there-party (c .before .before .before .before .before .before .before .before .args .call .party) (c .before .before .before .before .before .before .before .bad-party .ensures) (c .before .before .before .before .before .before .if1 .left), there-place (c .before .before .before .before .before .before .before .before .args .call .action) (c .before .before .before .before .before .reached .result) (c .before .before .before .before .before .reached .ensures))
 
 returns-2 : tie.Need-returns-2
-returns-2 c = does _ _ _ _ (c .add .ensures) (c .before .before .action2 .given .1)
-
-returns-3 : tie.Need-returns-3
-returns-3 c = does _ _ _ _ (c .drop .ensures) (c .before .enum-told .given .1)
-
-returns-4 : tie.Need-returns-4
-returns-4 c = does _ _ _ _ (c .clear .ensures) (c .before .before .action3 .given .1)
-
-returns-5 : tie.Need-returns-5
-returns-5 c = does _ _ _ _ (c .close .ensures .0) (c .before .before .action4 .given .1)
-
-returns-6 : tie.Need-returns-6
-returns-6 c = does _ _ _ _ (c .ask .ensures) (c .before .before .action5 .given .1)
+unfolding answerOf actOf draftOf workOf withDraft withWork blankDraft blankWork
+returns-2 c = rw (sym (c .before .before .before .before .before .before .before .bad-party .ensures) ∙ c .before .before .before .before .before .before .if1 .left, c .before .before .act .ensures, c .before .before .before .before .before .reached .ensures)
 
 pub answer-spec : {M : Type 1} → statement M
 answer-spec =
     tie.close
     (tie.spec
-    enum-known-action
-    begin-requires
-    enum-known-action-2
-    add-requires
-    enum-told
-    drop-requires
-    enum-known-action-3
-    clear-requires
-    enum-known-action-4
-    close-requires
-    enum-known-action-5
-    ask-requires
+    bad-party-requires
     returns
-    returns-2
-    returns-3
-    returns-4
-    returns-5
-    returns-6)
+    cast-at
+    mul-slot
+    reached-requires
+    add-slot
+    mul-act
+    element-copy-out-act
+    mul-act-2
+    element-copy-out-act-2
+    act-requires
+    mul-draft
+    element-set-from-draft
+    mul-work
+    element-set-from-work
+    returns-2)

@@ -1,0 +1,16 @@
+-- The test is the definition's.
+use borrow.Author.Tests.{le-leb, lt-leb}
+use Rattle.holder.specs.Holder.{keptPlace}
+use Rattle.holder.proofs.kept.Statement.{statement}
+use Rattle.holder.proofs.kept.Tie as tie
+
+returns : tie.Need-returns
+unfolding keptPlace
+returns c = rw (le-leb _ _ (c .if1 .taken))
+
+returns-2 : tie.Need-returns-2
+unfolding keptPlace
+returns-2 c = rw (lt-leb _ _ (c .if1 .left))
+
+pub kept-spec : {M : Type 1} → statement M
+kept-spec = tie.close (tie.spec returns returns-2)

@@ -1,0 +1,76 @@
+-- Each arm is its clause.
+use Rattle.holder.specs.Holder.{reachedBy}
+use borrow.Author.Needs.{needs}
+use Rattle.holder.proofs.reached.Statement.{statement}
+use Rattle.holder.proofs.reached.Tie as tie
+
+enum-told : tie.Need-enum-told
+enum-told c = search needs
+
+enum-told-2 : tie.Need-enum-told-2
+enum-told-2 c = search needs
+
+enum-told-3 : tie.Need-enum-told-3
+enum-told-3 c = search needs
+
+enum-known-action : tie.Need-enum-known-action
+enum-known-action c = search needs
+
+kept-requires : tie.Need-kept-requires
+kept-requires c κs = search needs
+
+enum-known-action-2 : tie.Need-enum-known-action-2
+enum-known-action-2 c = search needs
+
+kept-requires-2 : tie.Need-kept-requires-2
+kept-requires-2 c κs = search needs
+
+enum-known-action-3 : tie.Need-enum-known-action-3
+enum-known-action-3 c = search needs
+
+kept-requires-3 : tie.Need-kept-requires-3
+kept-requires-3 c κs = search needs
+
+returns : tie.Need-returns
+unfolding reachedBy
+returns c = rw (c .enum-told .given .1)
+
+returns-2 : tie.Need-returns-2
+unfolding reachedBy
+returns-2 c = rw (c .enum-told2 .given .1)
+
+returns-3 : tie.Need-returns-3
+unfolding reachedBy
+returns-3 c = rw (c .enum-told3 .given .1)
+
+returns-4 : tie.Need-returns-4
+unfolding reachedBy
+returns-4 c = rw (c .before .before .action .given .1) (c .kept .ensures)
+
+returns-5 : tie.Need-returns-5
+unfolding reachedBy
+returns-5 c = rw (c .before .before .action2 .given .1) (c .kept2 .ensures)
+
+returns-6 : tie.Need-returns-6
+unfolding reachedBy
+returns-6 c = rw (c .before .before .action3 .given .1) (c .kept3 .ensures)
+
+pub reached-spec : {M : Type 1} → statement M
+reached-spec =
+    tie.close
+    (tie.spec
+    enum-told
+    enum-told-2
+    enum-told-3
+    enum-known-action
+    kept-requires
+    enum-known-action-2
+    kept-requires-2
+    enum-known-action-3
+    kept-requires-3
+    returns
+    returns-2
+    returns-3
+    returns-4
+    returns-5
+    returns-6)

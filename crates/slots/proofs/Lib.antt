@@ -1,0 +1,2 @@
+-- The cell that a close names.
+pub mod CloseLaws
