@@ -12,10 +12,11 @@ use Rattle.book.specs.LastTaken.{lastTaken}
 use Rattle.book.proofs.LastTaken.{work-last-taken}
 use Rattle.holder.specs.declared.Holder.{Holder}
 use Rattle.holder.specs.declared.Answered.{Answered}
-use Rattle.holder.specs.Holder.{workOf, freshHolder, answerOf}
+use Rattle.holder.specs.Holder.{workOf, freshHolder, reachedBy, actOf, answerOf}
+use Rattle.holder.proofs.Places.{reached-below}
 use Rattle.holder.specs.Run.{handledFrom, handled, holderAfter, replyAfter}
 use Rattle.agreement.proofs.Works.{IsWork}
-use Rattle.agreement.proofs.Slots.{Represents, represents-fresh, represents-turned}
+use Rattle.agreement.proofs.Slots.{Represents, represents-fresh, written-turns, written-page, represents-turned}
 use Rattle.agreement.proofs.Pages.{act-agrees}
 
 -- A call's answer is the book's, and the next holder stands for the next book
@@ -23,15 +24,21 @@ abbrev Agrees : Answered → Answer → Type 0
 Agrees a n = (a .reply ≡ n .reply) × Represents (a .holder) (n .next)
 
 pub call-agrees : (h : Holder) (b : Book) → Represents h b → (c : Call) → Agrees (answerOf h c) (answer b c)
-unfolding answerOf answer
+unfolding answerOf actOf answer
 call-agrees h b k c = go (badParty (c .party)) refl
   where
     go : (t : Bool) → badParty (c .party) ≡ t → Agrees (answerOf h c) (answer b c)
     go true e = rw e (refl, k)
     go false e =
         let there : c .party < parties = leb-false parties (c .party) e in
-        let a = act-agrees (c .party) there h (k .sized) (b (c .party)) (k .pages (c .party) there) (c .action) in
-        rw e (a .reply, represents-turned (c .party) h _ b _ k (a .turns) (a .page))
+        let page = k .pages (c .party) there in
+        let at : reachedBy (c .action) < places = reached-below (c .action) in
+        let a = act-agrees (b (c .party)) _ _ (page .draft) (c .action) (page .works (reachedBy (c .action)) at) in
+        rw e (
+          a .reply,
+          represents-turned (c .party) h _ b _ k (written-turns (c .party) (reachedBy (c .action)) there at h (k .sized) _ _)
+              (written-page (c .party) (reachedBy (c .action)) there at h (k .sized) _ _ (b (c .party)) _ page (a .draft) (a .work) (a .others)),
+        )
 
 -- ---- the list theorem
 

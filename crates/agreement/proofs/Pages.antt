@@ -1,119 +1,111 @@
--- Each action of a party replies as the book's page does, leaves the holder with the book's next page, and touches no other party's slots.
+-- Each action of a party, done to its draft and to the work at hand, replies as the book's page does and leaves the page's next draft and next work there; every other work of the page stays.
 use Prim.Native.Nat.{ℕ, _<_}
-use mathlib.Core.Path.{_≡_, refl, sym, subst}
+use mathlib.Core.Path.{_≡_, refl, sym, ap, _∙_, subst}
 use mathlib.Core.Bool.{Bool, true, false, cond, true≢false}
 use mathlib.Core.Option.{Option, none, some}
-use borrow.Author.Tests.{leb-false}
+use Rattle.base.proofs.PutLaws.{put-here, put-elsewhere, put-same}
 use Rattle.chart.specs.Outline.{Outline}
 use Rattle.chart.specs.declared.Verdict.{Verdict}
 use Rattle.chart.specs.declared.Verdict.the-variants.{Taken, Refused}
 use Rattle.verdict.specs.Verdict.{verdictOf}
 use Rattle.border.specs.Judged.{judgedOf}
 use Rattle.border.proofs.JudgedLaws.{judged-verdict, judged-numbers}
-use Rattle.calls.specs.Calls.{parties, places, badPlace}
+use Rattle.calls.specs.Calls.{badPlace}
 use Rattle.calls.specs.declared.Action.{Action}
 use Rattle.calls.specs.declared.Action.the-variants.{Begin, Add, Drop, Clear, Close, Ask}
-use Rattle.book.specs.Book.{Page, putDraft, putWork, OnDraft, OnPage, workAfter, closes, drafting as draftingPage, closing, acts}
+use Rattle.calls.specs.declared.Question.{Question}
+use Rattle.calls.specs.declared.Reply.{Reply}
+use Rattle.calls.specs.declared.Reply.the-variants.{Done, NoDraft, NoPlace}
+use Rattle.book.specs.Book.{Page, putDraft, putWork, OnDraft, OnPage, workAfter, closes, asks, drafting, closing, acts}
+use Rattle.draft.specs.declared.Draft.{Draft}
 use Rattle.draft.specs.declared.Drafted.{Drafted}
-use Rattle.draft.specs.Draft.{outlineOf}
-use Rattle.work.specs.Work.{removed}
-use Rattle.holder.specs.declared.Holder.{Holder}
-use Rattle.holder.specs.declared.Answered.{Answered}
-use Rattle.holder.specs.Holder.{draftOf, workOf, ended, closedHolder, closedBy, closeOf, drafting, actOf}
+use Rattle.draft.specs.Draft.{outlineOf, endOf}
+use Rattle.work.specs.declared.Work.{Work}
+use Rattle.work.specs.Work.{removed, answered}
+use Rattle.slots.specs.declared.Acted.{Acted}
+use Rattle.slots.specs.Slots.{acted, redrafted, clearOf, closedWork, closedBy, closeOf, askOf, actedOf}
+use Rattle.holder.specs.Holder.{keptPlace, reachedBy}
 use Rattle.agreement.proofs.Drafts.{IsDraft, AgreesDraft, ended-stands, begin-agrees, add-agrees, drop-agrees}
-use Rattle.agreement.proofs.Works.{numbersOf, taken-working, removed-stands, closed-agrees, answered-asked}
-use Rattle.agreement.proofs.Slots.{Sized, HasPage, Turns, turns-nothing, turns-draft, turns-work, page-draft, page-work, page-kept}
+use Rattle.agreement.proofs.Works.{IsWork, numbersOf, taken-working, removed-stands, closed-agrees, answered-asked}
 
--- The answer to a call of party p is its page's
-pub record AgreesPage (p : ℕ) (h : Holder) (a : Answered) (n : OnPage) : Type 0 where
+-- What was done to a draft and to the work at place k is what the page's call did
+pub record AgreesPage (g : Page) (k : ℕ) (a : Acted) (n : OnPage) : Type 0 where
   pub reply : a .reply ≡ n .reply
-  pub turns : Turns p h (a .holder)
-  pub page : HasPage (a .holder) p (n .page)
+  pub draft : IsDraft (a .draft) (n .page .draft)
+  pub work : IsWork (a .work) (n .page .works k)
+  pub others : (j : ℕ) → (j ≡ k → ⊥) → n .page .works j ≡ g .works j
 
-module _ (p : ℕ) (there : p < parties) (h : Holder) (s : Sized h) (g : Page) (k : HasPage h p g) where
-  -- ---- tests: the draft's flag is known, or both sides test the same
+module _ (g : Page) (d : Draft) (w : Work) (draft : IsDraft d (g .draft)) where
+  -- ---- begin, add and drop leave every work
 
-  if-true : (t : Bool) (x y : Answered) {n : OnPage} → t ≡ true → AgreesPage p h x n → AgreesPage p h (cond t x y) n
-  if-true true x y e a = a
-  if-true false x y e a = absurd (true≢false (sym e))
+  redraft-agrees : (k : ℕ) → IsWork w (g .works k) → (x : Drafted) (n : OnDraft) → AgreesDraft x n → AgreesPage g k (redrafted x w) (drafting g n)
+  redraft-agrees k work x n (said, is) = record { reply = said; draft = is; work = work; others = λ j e. refl }
 
-  if-false : (t : Bool) (x y : Answered) {n : OnPage} → t ≡ false → AgreesPage p h y n → AgreesPage p h (cond t x y) n
-  if-false true x y e a = absurd (true≢false e)
-  if-false false x y e a = a
+  -- ---- clear
 
-  either : {x y : Answered} {m n : OnPage} (t : Bool) → AgreesPage p h x m → (t ≡ false → AgreesPage p h y n) → AgreesPage p h (cond t x y) (cond t m n)
-  either true a b = a
-  either false a b = b refl
-
-  -- ---- begin, add and drop
-
-  redrafted : (x : Drafted) (n : OnDraft) → AgreesDraft x n → AgreesPage p h (drafting h p x) (draftingPage g n)
-  redrafted x n (said, is) =
-      record {
-        reply = said;
-        turns = turns-draft p there h h (turns-nothing p there h s) (x .draft);
-        page = page-draft p there h s g k (x .draft) (n .draft) is;
-      }
+  clear-agrees : (k : ℕ) → IsWork w (g .works (keptPlace k)) → AgreesPage g (keptPlace k) (clearOf d w k) (acts g (Clear k))
+  unfolding keptPlace clearOf acts
+  clear-agrees k work = go (badPlace k) work
+    where
+      go : (t : Bool) → IsWork w (g .works (cond t 0 k))
+          → AgreesPage g (cond t 0 k) (cond t (acted NoPlace d w) (acted Done d (removed w))) (cond t (record { reply = NoPlace; page = g }) (record { reply = Done; page = putWork g k none }))
+      go true work = record { reply = refl; draft = draft; work = work; others = λ j e. refl }
+      go false work = record { reply = refl; draft = draft; work = rw (put-here (g .works) k none) (removed-stands w); others = put-elsewhere (g .works) k none }
 
   -- ---- close
 
-  -- The draft is over
-  ended-page : HasPage (ended h p) p (putDraft g none)
-  unfolding ended
-  ended-page = page-draft p there h s g k _ none (ended-stands (k .draft))
+  -- What a close leaves: no draft, and a work that stands for the book's
+  leaves : (k : ℕ) (a : Acted) (r : Reply) (v : Option Outline) → a .reply ≡ r → IsDraft (a .draft) none → IsWork (a .work) v → AgreesPage g k a (closing g k (record { reply = r; work = v }))
+  leaves k a r v said over is = record { reply = said; draft = over; work = rw (put-here (g .works) k v) is; others = put-elsewhere (g .works) k v }
 
-  ended-turns : Turns p h (ended h p)
-  unfolding ended
-  ended-turns = turns-draft p there h h (turns-nothing p there h s) _
+  -- The work is the draft's outline exactly if that was taken
+  closed-stands : (v : Option Outline) → IsWork w v → (o : Outline) (t : Verdict) → outlineOf d ≡ o → verdictOf o ≡ t → IsWork (closedWork d w (numbersOf o t) t) (workAfter v o t)
+  unfolding closedWork workAfter
+  closed-stands v work o (Refused f) own e = work
+  closed-stands v work o (Taken n a) own e = rw own (taken-working o n a e)
 
-  module _ (i : ℕ) (inside : i < places) where
-    -- The holder that a close leaves has the draft at work exactly if it was taken
-    closed-turns : (o : Outline) (v : Verdict) → Turns p h (closedHolder h p i (numbersOf o v) v)
-    unfolding closedHolder
-    closed-turns o (Refused f) = ended-turns
-    closed-turns o (Taken n a) = turns-work p there h (ended h p) ended-turns i inside _
+  -- The draft's flag is known
+  flagged : (b : Bool) (k : ℕ) (x y : Acted) (n : OnPage) → d .begun ≡ b → AgreesPage g k (cond b x y) n → AgreesPage g k (cond (d .begun) x y) n
+  flagged b k x y n e = subst (λ (t : Bool). AgreesPage g k (cond t x y) n) (sym e)
 
-    closed-page : (o : Outline) (v : Verdict) → outlineOf (draftOf h p) ≡ o → verdictOf o ≡ v → HasPage (closedHolder h p i (numbersOf o v) v) p (putWork (putDraft g none) i (workAfter (g .works i) o v))
-    unfolding closedHolder workAfter
-    closed-page o (Refused f) own e = page-kept i ended-page
-    closed-page o (Taken n a) own e = rw own (page-work p there (ended h p) (ended-turns .sized) (putDraft g none) ended-page i inside _ (some o) (taken-working o n a e))
+  judged-agrees : (k : ℕ) → IsWork w (g .works k) → (o : Option Outline) → IsDraft d o
+      → AgreesPage g k (cond (d .begun) (closedBy d w (judgedOf (outlineOf d))) (acted NoDraft d w)) (closing g k (closes o (g .works k)))
+  unfolding closedBy closes
+  judged-agrees k work none is = flagged false k _ _ _ (is .stands) (leaves k (acted NoDraft d w) NoDraft (g .works k) refl is work)
+  judged-agrees k work (some o) is =
+      let own : outlineOf d ≡ o = is .stands .outline in
+      flagged true k _ _ _ (is .stands .begun)
+      (subst (λ (x : Outline). AgreesPage g k (closedBy d w (judgedOf x)) (closing g k (closes (some o) (g .works k)))) (sym own)
+      (rw (judged-verdict o, judged-numbers o)
+      (leaves k _ _ _ (closed-agrees w (g .works k) work o (verdictOf o) refl) (ended-stands is) (closed-stands (g .works k) work o (verdictOf o) own refl))))
 
-    close-agrees : AgreesPage p h (closeOf h p i) (closing g i (closes (g .draft) (g .works i)))
-    unfolding closeOf closes closedBy
-    close-agrees = go (g .draft) (k .draft)
-      where
-        go : (d : Option Outline) → IsDraft (draftOf h p) d → AgreesPage p h (closeOf h p i) (closing g i (closes d (g .works i)))
-        go none is = if-false (draftOf h p .begun) _ _ (is .stands) (record { reply = refl; turns = turns-nothing p there h s; page = page-kept i (record { draft = is; works = k .works }) })
-        go (some o) is =
-            if-true (draftOf h p .begun) _ _ (is .stands .begun)
-            (subst (λ (x : Outline). AgreesPage p h (closedBy h p i (judgedOf x)) (closing g i (closes (some o) (g .works i)))) (sym (is .stands .outline)) closed)
-          where
-            closed : AgreesPage p h (closedBy h p i (judgedOf o)) (closing g i (closes (some o) (g .works i)))
-            closed =
-                rw (judged-verdict o, judged-numbers o) (record {
-                  reply = closed-agrees (workOf h p i) (g .works i) (k .works i inside) o (verdictOf o) refl;
-                  turns = closed-turns o (verdictOf o);
-                  page = closed-page o (verdictOf o) (is .stands .outline) refl;
-                })
+  close-agrees : (k : ℕ) → IsWork w (g .works (keptPlace k)) → AgreesPage g (keptPlace k) (closeOf d w k) (acts g (Close k))
+  unfolding keptPlace closeOf acts
+  close-agrees k work = go (badPlace k) work
+    where
+      go : (t : Bool) → IsWork w (g .works (cond t 0 k))
+          → AgreesPage g (cond t 0 k) (cond t (acted NoPlace (endOf d) w) (cond (d .begun) (closedBy d w (judgedOf (outlineOf d))) (acted NoDraft d w)))
+          (cond t (record { reply = NoPlace; page = putDraft g none }) (closing g k (closes (g .draft) (g .works k))))
+      go true work = record { reply = refl; draft = ended-stands draft; work = work; others = λ j e. refl }
+      go false work = judged-agrees k work (g .draft) draft
+
+  -- ---- what is asked of the work
+
+  ask-agrees : (k : ℕ) (q : Question) → IsWork w (g .works (keptPlace k)) → AgreesPage g (keptPlace k) (askOf d w k q) (acts g (Ask k q))
+  unfolding keptPlace askOf acts
+  ask-agrees k q work = record { reply = said (badPlace k) work; draft = draft; work = work; others = λ j e. refl }
+    where
+      said : (t : Bool) → IsWork w (g .works (cond t 0 k)) → cond t NoPlace (answered w q) ≡ cond t NoPlace (asks q (g .works k))
+      said true work = refl
+      said false work = answered-asked w q (g .works k) work
 
   -- ---- every action
 
-  pub act-agrees : (a : Action) → AgreesPage p h (actOf h p a) (acts g a)
-  unfolding actOf acts
-  act-agrees (Begin x) = redrafted _ _ (begin-agrees (draftOf h p) (g .draft) (k .draft) x)
-  act-agrees (Add a) = redrafted _ _ (add-agrees (draftOf h p) (g .draft) (k .draft) a)
-  act-agrees Drop = redrafted _ _ (drop-agrees (draftOf h p) (g .draft) (k .draft))
-  act-agrees (Clear i) =
-      either (badPlace i) (record { reply = refl; turns = turns-nothing p there h s; page = k }) λ e.
-      let inside : i < places = leb-false places i e in
-      record {
-        reply = refl;
-        turns = turns-work p there h h (turns-nothing p there h s) i inside _;
-        page = page-work p there h s g k i inside _ none (removed-stands (workOf h p i));
-      }
-  act-agrees (Close i) = either (badPlace i) (record { reply = refl; turns = ended-turns; page = ended-page }) λ e. close-agrees i (leb-false places i e)
-  act-agrees (Ask i q) = record { reply = said (badPlace i) refl; turns = turns-nothing p there h s; page = k }
-    where
-      said : (t : Bool) → badPlace i ≡ t → actOf h p (Ask i q) .reply ≡ acts g (Ask i q) .reply
-      said true e = rw e
-      said false e = rw (e, answered-asked (workOf h p i) q (g .works i) (k .works i (leb-false places i e)))
+  pub act-agrees : (a : Action) → IsWork w (g .works (reachedBy a)) → AgreesPage g (reachedBy a) (actedOf d w a) (acts g a)
+  unfolding reachedBy actedOf acts
+  act-agrees (Begin s) work = redraft-agrees 0 work _ _ (begin-agrees d (g .draft) draft s)
+  act-agrees (Add a) work = redraft-agrees 0 work _ _ (add-agrees d (g .draft) draft a)
+  act-agrees Drop work = redraft-agrees 0 work _ _ (drop-agrees d (g .draft) draft)
+  act-agrees (Clear k) work = clear-agrees k work
+  act-agrees (Close k) work = close-agrees k work
+  act-agrees (Ask k q) work = ask-agrees k q work

@@ -1,18 +1,16 @@
--- A holder's slots stand for a party's page, and a write to one leaves all others as they were: no two parties and places share a slot.
+-- A holder's slots stand for a party's page, and a write to two of them leaves all others as they were: no two parties and places share a slot.
 use Prim.Native.Nat.{ℕ, _*_, _<_}
 use native.Mathlib.Omega.{arith}
 use mathlib.Core.Path.{_≡_, refl, sym, _∙_}
 use mathlib.Core.Bool.{Bool, true, false, true≢false}
-use mathlib.Core.Option.{Option}
 use lib.ListN.{length, set, replicate, length-set, length-replicate, getD-replicate}
 use lib.Seq.{getD-set-same, getD-set-other}
 use lib.Dec.{eqb}
 use borrow.Author.Tests.{eqb-true, eq-eqb}
 use Rattle.base.specs.Put.{put}
-use Rattle.base.proofs.PutLaws.{put-here, put-elsewhere, put-same}
-use Rattle.chart.specs.Outline.{Outline}
+use Rattle.base.proofs.PutLaws.{put-here, put-elsewhere}
 use Rattle.calls.specs.Calls.{parties, places}
-use Rattle.book.specs.Book.{Book, Page, putDraft, putWork, fresh}
+use Rattle.book.specs.Book.{Book, Page, fresh}
 use Rattle.draft.specs.declared.Draft.{Draft}
 use Rattle.draft.specs.Draft.{noDraft}
 use Rattle.work.specs.declared.Work.{Work}
@@ -57,56 +55,37 @@ represents-fresh =
       };
     }
 
--- ---- writes
+-- ---- the two slots of a call, written
 
 differ : (m n : ℕ) → eqb m n ≡ false → m ≡ n → ⊥
 differ m n e q = true≢false (sym (eq-eqb m n q) ∙ e)
 
-module _ (p : ℕ) (there : p < parties) (h : Holder) where
-  pub turns-nothing : Sized h → Turns p h h
-  turns-nothing s = record { sized = s; drafts = λ q e. refl; works = λ q k e l. refl }
+module _ (p k : ℕ) (there : p < parties) (inside : k < places) (h : Holder) (s : Sized h) (d : Draft) (w : Work) where
+  abbrev next : Holder
+  next = withWork (withDraft h p d) p k w
 
-  module _ (n : Holder) (t : Turns p h n) where
-    pub turns-draft : (d : Draft) → Turns p h (withDraft n p d)
-    unfolding withDraft draftOf workOf
-    turns-draft d =
-        record {
-          sized = record { drafts = length-set (n .drafts) p d ∙ t .sized .drafts; works = t .sized .works };
-          drafts = λ q e. getD-set-other (n .drafts) p q d blankDraft e ∙ t .drafts q e;
-          works = t .works;
-        }
+  pub written-turns : Turns p h next
+  unfolding withDraft withWork draftOf workOf
+  written-turns =
+      record {
+        sized = record { drafts = length-set (h .drafts) p d ∙ s .drafts; works = length-set (h .works) (slot p k) w ∙ s .works };
+        drafts = λ q e. getD-set-other (h .drafts) p q d blankDraft e;
+        works = λ q j e m. getD-set-other (h .works) (slot p k) (slot q j) w blankWork (λ t. e (omega (arith, t)));
+      }
 
-    pub turns-work : (k : ℕ) → k < places → (w : Work) → Turns p h (withWork n p k w)
-    unfolding withWork draftOf workOf
-    turns-work k l w =
-        record {
-          sized = record { drafts = t .sized .drafts; works = length-set (n .works) (slot p k) w ∙ t .sized .works };
-          drafts = t .drafts;
-          works = λ q j e m. getD-set-other (n .works) (slot p k) (slot q j) w blankWork (λ s. e (omega (arith, s))) ∙ t .works q j e m;
-        }
-
--- The page after a write
-module _ (p : ℕ) (there : p < parties) (h : Holder) (s : Sized h) (g : Page) (k : HasPage h p g) where
-  pub page-draft : (d : Draft) (o : Option Outline) → IsDraft d o → HasPage (withDraft h p d) p (putDraft g o)
-  unfolding withDraft draftOf workOf
-  page-draft d o is = record { draft = rw (getD-set-same (h .drafts) p d blankDraft (omega (arith, s .drafts))) is; works = k .works }
-
-  pub page-work : (i : ℕ) → i < places → (w : Work) (o : Option Outline) → IsWork w o → HasPage (withWork h p i w) p (putWork g i o)
-  unfolding withWork draftOf workOf
-  page-work i l w o is = record { draft = k .draft; works = works }
+  -- They stand for a page whose other works are those of the page before
+  pub written-page : (g n : Page) → HasPage h p g → IsDraft d (n .draft) → IsWork w (n .works k) → ((j : ℕ) → (j ≡ k → ⊥) → n .works j ≡ g .works j) → HasPage next p n
+  unfolding withDraft withWork draftOf workOf
+  written-page g n was draft work others = record { draft = rw (getD-set-same (h .drafts) p d blankDraft (omega (arith, s .drafts))) draft; works = works }
     where
-      works : (j : ℕ) → j < places → IsWork (workOf (withWork h p i w) p j) (put (g .works) i o j)
-      works j m = go (eqb j i) refl
+      works : (j : ℕ) → j < places → IsWork (workOf next p j) (n .works j)
+      works j m = go (eqb j k) refl
         where
-          go : (t : Bool) → eqb j i ≡ t → IsWork (workOf (withWork h p i w) p j) (put (g .works) i o j)
-          go true e = rw (eqb-true j i e, getD-set-same (h .works) (slot p i) w blankWork (omega (arith, s .works)), put-here (g .works) i o) is
+          go : (t : Bool) → eqb j k ≡ t → IsWork (workOf next p j) (n .works j)
+          go true e = rw (eqb-true j k e, getD-set-same (h .works) (slot p k) w blankWork (omega (arith, s .works))) work
           go false e =
-              let apart : j ≡ i → ⊥ = differ j i e in
-              rw (getD-set-other (h .works) (slot p i) (slot p j) w blankWork (λ q. apart (omega (arith, q))), put-elsewhere (g .works) i o j apart) (k .works j m)
-
--- Put again what is at work already
-pub page-kept : {h : Holder} {p : ℕ} {g : Page} (i : ℕ) → HasPage h p g → HasPage h p (putWork g i (g .works i))
-page-kept {g = g} i k = record { draft = k .draft; works = λ j m. rw (put-same (g .works) i j) (k .works j m) }
+              let apart : j ≡ k → ⊥ = differ j k e in
+              rw (getD-set-other (h .works) (slot p k) (slot p j) w blankWork (λ t. apart (omega (arith, t))), others j apart) (was .works j m)
 
 -- ---- the book after a call of party p
 

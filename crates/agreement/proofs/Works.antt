@@ -42,7 +42,7 @@ use Rattle.book.specs.Book.{sameBlock, equalsWork, closedReply as closedInBook,
 use Rattle.book.proofs.SameBlock.{same-block-iff}
 use Rattle.work.specs.declared.Work.{Work}
 use Rattle.work.specs.Work.{listed, workEdges, noWork, replaced, removed, hasEdges, located, spanned, readAt, drawnAt, answered}
-use Rattle.holder.specs.Holder.{closedReply}
+use Rattle.slots.specs.Slots.{closedReply}
 
 -- ---- the relation
 
