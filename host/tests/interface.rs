@@ -1,7 +1,9 @@
 //! The safe interface's own part: lists as types, the holder's memory, the refusals' words.
 
 use robequarry::limits::{CALL, LAST_CORNER, LONGEST, LONGEST_LIST, PARTIES, PLACES, REPLY};
-use robequarry::{raw, Action, Answer, Cell, Comparison, Corner, Edges, Holder, Nesting, Outline, Refusal, Taken, TurnedBack};
+use robequarry::{
+    raw, Action, Answer, Cell, Comparison, Corner, Edges, Holder, Nesting, Outline, Refusal, Taken, TurnedBack,
+};
 
 const BAR: [u8; 8] = [1, 0, 0, 0, 3, 2, 2, 2];
 const CELL: [u8; 4] = [1, 0, 3, 2];

@@ -112,10 +112,9 @@ impl Bench {
                 self.against_itself(&flipped, taken, "refusal/taking".to_string(), REFUSAL_GOAL);
             }
         }
-        for (few, many) in [(150, 600)] {
-            let of = |letters| takings.iter().find(|set| set.letters == letters).expect("one of the lengths");
-            self.against_itself(of(many), of(few), format!("{many}/{few}"), GROWTH_GOAL);
-        }
+        let (few, many) = (150, 600);
+        let of = |letters| takings.iter().find(|set| set.letters == letters).expect("one of the lengths");
+        self.against_itself(of(many), of(few), format!("{many}/{few}"), GROWTH_GOAL);
     }
 
     /// Lists that are no outlines.

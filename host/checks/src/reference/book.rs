@@ -147,7 +147,7 @@ fn span(work: &Outline, row: u16) -> Option<(u16, u16)> {
     let inside = |&col: &u16| encloses(work.start, &work.letters, (i32::from(col), i32::from(row)));
     let mut columns = (0..SIDE).filter(inside);
     let first = columns.next()?;
-    Some((first, columns.last().unwrap_or(first)))
+    Some((first, columns.next_back().unwrap_or(first)))
 }
 
 /// Whether two outlines past refusals 1 to 6 enclose the same cells.

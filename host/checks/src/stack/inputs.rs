@@ -129,12 +129,14 @@ fn draw_and_ask(outline: &Outline) -> Case {
     let begin = Action::Begin(outline.start.into());
     let draw = || std::iter::once(begin).chain(adds.clone());
     let query = |cell: Point| Action::Query { place, cell: cell.into() };
-    let asked = [query(outline.start), query(Point::new(SIDE, SIDE)), Action::Query { place: PLACES, cell: outline.start.into() }];
+    let asked =
+        [query(outline.start), query(Point::new(SIDE, SIDE)), Action::Query { place: PLACES, cell: outline.start.into() }];
     let once = || draw().chain([Action::Close { place }]).chain(asked);
     let more = [Action::Add(0), begin, Action::Close { place: PLACES }, begin];
     let away = [Action::Drop, Action::Clear { place }, Action::Drop, Action::Close { place }, Action::Add(0)];
     let actions: Vec<Action> = once().chain(once()).chain(draw()).chain(more).chain(away).chain(asked).collect();
-    let bytes = Call::script([0, 1, PARTIES].into_iter().flat_map(|party| actions.iter().map(move |action| action.by(party))));
+    let bytes =
+        Call::script([0, 1, PARTIES].into_iter().flat_map(|party| actions.iter().map(move |action| action.by(party))));
     let room = bytes.len() / CALL * REPLY;
     Case::Script { bytes, room }
 }
