@@ -1,17 +1,19 @@
-use crate::codec::{Action, Call, Fields, COLUMNS, INSIDE, NONE, OUTSIDE, SAME, TAKEN};
+use crate::codec::{Action, Call, Fields, COLUMNS, INSIDE, NONE, OUTSIDE, SAME, TAKEN, UNDECIDED};
 use crate::limits::REPLY;
 use crate::raw::HolderMemory;
-use crate::{Cell, Corner, Refusal, Taken};
+use crate::{Cell, Corner, Reading, Refusal, Taken};
 
 /// What a call that was not turned back answers.
 #[derive(Clone, Copy, Debug, PartialEq, Eq, Hash)]
 pub enum Answer {
     /// Begin, add, drop or clear was done.
     Done,
-    /// The outline at work encloses the cell.
+    /// The outline at work encloses the cell; the reading lies inside its edges.
     Inside,
-    /// The outline at work does not enclose the cell.
+    /// The outline at work does not enclose the cell; the reading lies outside its edges.
     Outside,
+    /// The reading lies too near an edge of the outline at work to tell.
+    Undecided,
     /// The outline at work encloses these columns of the row, the first and the last, and every one between.
     Columns { first: u16, last: u16 },
     /// The outline at work encloses no cell of the row.
@@ -22,6 +24,15 @@ pub enum Answer {
     Same(Taken),
 }
 
+/// Where a reading lies to the edges of an outline. Inside and outside are exactly so, however near the edge.
+#[derive(Clone, Copy, Debug, PartialEq, Eq, Hash)]
+pub enum Located {
+    Inside,
+    Outside,
+    /// Too near an edge to tell in arithmetic of 32 bits: its side value is less than 1/32 from 0.
+    Undecided,
+}
+
 /// What a call answers.
 pub type Reply = Result<Answer, Refusal>;
 
@@ -30,7 +41,7 @@ pub type Reply = Result<Answer, Refusal>;
 /// It owns the memory of a holder of the library, and each call here is one call there.
 ///
 /// ```
-/// use robequarry::{Answer, Cell, Corner, Holder, Refusal};
+/// use robequarry::{Answer, Cell, Corner, Holder, Located, Refusal};
 ///
 /// let (mut holder, knee) = (Holder::new(), 0);
 /// holder.begin(knee, Corner::new(0, 0))?;
@@ -42,6 +53,8 @@ pub type Reply = Result<Answer, Refusal>;
 /// assert!(!holder.query(knee, 3, Cell::new(3, 0))?);
 /// assert_eq!(holder.row(knee, 3, 0)?, Some((0, 2)));
 /// assert_eq!(holder.row(knee, 3, 1)?, None);
+/// assert_eq!(holder.reading(knee, 3, 1.5, 0.0)?, Located::Undecided);
+/// assert_eq!(holder.reading(knee, 3, 1.5, 0.25)?, Located::Outside);
 /// assert_eq!(holder.drop_draft(knee), Err(Refusal::NoDraft));
 /// assert_eq!(holder.query(1, 3, Cell::new(2, 0)), Err(Refusal::NothingAtWork));
 /// # Ok::<(), Refusal>(())
@@ -101,27 +114,41 @@ impl Holder {
         })
     }
 
+    /// Where a reading lies to the outline at work at a place, whose edges lead from cell centre to cell centre. On an edge it is
+    /// undecided, so on a bar of one row or column it is never inside; one cell alone has its centre inside.
+    pub fn reading(&mut self, party: u8, place: u8, angle: f32, load: f32) -> Result<Located, Refusal> {
+        let reading = Reading::new(angle, load);
+        Ok(match self.call(Action::Reading { place, reading }.by(party))? {
+            Answer::Inside => Located::Inside,
+            Answer::Undecided => Located::Undecided,
+            _ => Located::Outside,
+        })
+    }
+
     /// Makes one call.
     pub fn call(&mut self, call: Call) -> Reply {
         let mut numbers = [0; REPLY];
         assert!(self.memory.call(&call.bytes(), &mut numbers), "these bytes are a call, and its reply has room");
-        reply(numbers.into())
+        let fields = numbers.into();
+        let refusal = match call.action {
+            Action::Reading { .. } => Refusal::of_reading(fields),
+            _ => Refusal::of(fields),
+        };
+        refusal.map_or(Ok(answer(fields)), Err)
     }
 }
 
-/// One reply of the library.
-fn reply(fields: Fields) -> Reply {
-    if let Some(refusal) = Refusal::of(fields) {
-        return Err(refusal);
-    }
+/// A reply of the library that is no refusal.
+fn answer(fields: Fields) -> Answer {
     let taken = Taken::of(fields);
-    Ok(match fields.word {
+    match fields.word {
         INSIDE => Answer::Inside,
         OUTSIDE => Answer::Outside,
+        UNDECIDED => Answer::Undecided,
         COLUMNS => Answer::Columns { first: fields.col, last: fields.row },
         NONE => Answer::None,
         TAKEN => Answer::Taken(taken),
         SAME => Answer::Same(taken),
         _ => Answer::Done,
-    })
+    }
 }

@@ -26,6 +26,19 @@ _Static_assert(sizeof(struct pile) == RQ_PILE_BYTES && _Alignof(struct pile) == 
         if (!(fact)) return __LINE__; \
     } while (0)
 
+/* A reading at place 2 of party 1, as bytes: each float by its bits, low byte first. */
+static void reading(uint8_t call[RQ_CALL], float angle, float load) {
+    const float numbers[] = {angle, load};
+    call[0] = 7;
+    call[1] = 1;
+    call[2] = 2;
+    for (int i = 0; i < 2; i++) {
+        uint32_t bits;
+        memcpy(&bits, &numbers[i], sizeof bits);
+        for (int j = 0; j < 4; j++) call[3 + 4 * i + j] = (uint8_t)(bits >> 8 * j);
+    }
+}
+
 int main(void) {
     /* H3: a plus, taken with four edges. */
     const uint8_t plus[] = {1, 0, 1, 0, 3, 0, 3, 2, 3, 2, 1, 2};
@@ -85,6 +98,26 @@ int main(void) {
         for (int j = 0; j < RQ_REPLY; j++) EXPECT(reply[j] == replies[RQ_REPLY * i + j]);
     }
     EXPECT(!rq_call(memory, script, RQ_CALL - 1, reply, RQ_REPLY) && !rq_call(memory, script, RQ_CALL, reply, RQ_REPLY - 1));
+
+    /* Readings: the one cell's centre alone is inside; with the plus in its place, its middle is, and an edge is undecided. */
+    uint8_t call[RQ_CALL];
+    reading(call, 0.0f, -0.0f);
+    EXPECT(rq_call(memory, call, RQ_CALL, reply, RQ_REPLY) && reply[0] == 0 && reply[1] == RQ_INSIDE);
+    reading(call, 0.25f, 0.0f);
+    EXPECT(rq_call(memory, call, RQ_CALL, reply, RQ_REPLY) && reply[1] == RQ_OUTSIDE);
+    reading(call, 0.0f, -0.25f);
+    EXPECT(rq_call(memory, call, RQ_CALL, reply, RQ_REPLY) && reply[0] == 11 && reply[1] == RQ_NO_WORD);
+    const uint8_t begin[] = {0, 1, 0, 0, 0, 0, 0, 1, 0, 0, 0}, close[] = {4, 1, 2, 0, 0, 0, 0, 0, 0, 0, 0};
+    EXPECT(rq_call(memory, begin, RQ_CALL, reply, RQ_REPLY));
+    for (size_t i = 0; i < sizeof plus; i++) {
+        const uint8_t add[RQ_CALL] = {1, 1, 0, plus[i]};
+        EXPECT(rq_call(memory, add, RQ_CALL, reply, RQ_REPLY));
+    }
+    EXPECT(rq_call(memory, close, RQ_CALL, reply, RQ_REPLY) && reply[1] == RQ_TAKEN);
+    reading(call, 1.25f, 0.75f);
+    EXPECT(rq_call(memory, call, RQ_CALL, reply, RQ_REPLY) && reply[1] == RQ_INSIDE);
+    reading(call, 0.5f, 1.5f);
+    EXPECT(rq_call(memory, call, RQ_CALL, reply, RQ_REPLY) && reply[0] == 0 && reply[1] == RQ_UNDECIDED);
     EXPECT(memory[RQ_HOLDER_BYTES / 8] == 0x5a5a5a5a5a5a5a5a);
 
     /* A pile: cells (0, 1), (1, 2), (2, 0) of column 9, as layer and row, leave (1, 1) out. */

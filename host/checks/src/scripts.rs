@@ -1,13 +1,29 @@
 //! Random scripts of calls for the holder.
 
 use robequarry::limits::{CALL, LONGEST, REPLY};
-use robequarry::Action;
+use robequarry::{Action, Call, Reading};
 
 use crate::case::Case;
 use crate::draw::{reversed, rotated};
 use crate::garbage::{any_outline, cell};
 use crate::random::Random;
-use crate::{Outline, Point};
+use crate::reference::readings::Polygon;
+use crate::{sensors, Outline, Point};
+
+/// The calls that draw an outline and close it at a place.
+pub fn to_work(outline: &Outline, party: u8, place: u8) -> Vec<u8> {
+    let adds = outline.letters.iter().map(|&letter| Action::Add(letter));
+    let actions = std::iter::once(Action::Begin(outline.start.into())).chain(adds).chain([Action::Close { place }]);
+    Call::script(actions.map(|action| action.by(party)))
+}
+
+/// An outline drawn and closed, and then asked about.
+pub fn asking(outline: &Outline, party: u8, place: u8, asked: impl IntoIterator<Item = Action>) -> Case {
+    let asked = Call::script(asked.into_iter().map(|action| action.by(party)));
+    let bytes = [to_work(outline, party, place), asked].concat();
+    let room = bytes.len() / CALL * REPLY;
+    Case::Script { bytes, room }
+}
 
 /// A script that is being written.
 struct Script<'a> {
@@ -99,6 +115,10 @@ impl Script<'_> {
         self.call(Action::Row { place: self.place, row });
     }
 
+    fn reading(&mut self, reading: Reading) {
+        self.call(Action::Reading { place: self.place, reading });
+    }
+
     fn query(&mut self, cell: Point) {
         self.call(Action::Query { place: self.place, cell: cell.into() });
     }
@@ -163,15 +183,20 @@ impl Script<'_> {
     fn queries(&mut self) {
         for _ in 0..self.random.from_to(1, 4) {
             let cell = cell(self.random);
-            if self.random.once_in(3) {
-                self.row(cell.row);
-            } else {
-                self.query(cell);
+            match self.random.below(4) {
+                0 => self.row(cell.row),
+                1 => self.reading_near(&Polygon::new(cell, [])),
+                _ => self.query(cell),
             }
         }
     }
 
-    /// Cells at an outline's border, where the answers differ.
+    fn reading_near(&mut self, polygon: &Polygon) {
+        let reading = sensors::reading(self.random, polygon);
+        self.reading(reading);
+    }
+
+    /// Cells at an outline's border, and readings at its edges, where the answers differ.
     fn queries_near(&mut self, outline: &Outline) {
         let mut at = (i32::from(outline.start.col), i32::from(outline.start.row));
         for &letter in &outline.letters {
@@ -184,6 +209,11 @@ impl Script<'_> {
                 if self.random.once_in(3) {
                     self.row(cell.row);
                 }
+            }
+        }
+        if let Some(polygon) = Polygon::of(outline) {
+            for _ in 0..self.random.below(4) {
+                self.reading_near(&polygon);
             }
         }
     }
@@ -217,13 +247,13 @@ impl Script<'_> {
 
     fn unknown(&mut self) {
         let mut bytes = self.any_call();
-        bytes[0] = [7, 8, 128, 255][self.random.below(4)];
+        bytes[0] = [8, 9, 128, 255][self.random.below(4)];
         self.bytes.extend(bytes);
     }
 
     fn any_bytes(&mut self) {
         for _ in 0..self.random.below(50) {
-            let byte = if self.random.once_in(3) { self.random.any() as u8 } else { self.random.below(7) as u8 };
+            let byte = if self.random.once_in(3) { self.random.any() as u8 } else { self.random.below(8) as u8 };
             self.bytes.push(byte);
         }
     }

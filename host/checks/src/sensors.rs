@@ -2,32 +2,52 @@
 //! no number.
 
 use robequarry::limits::LAST_CELL;
+use robequarry::Reading;
 
 use crate::random::Random;
-use crate::reference::readings::{Patterns, Polygon};
+use crate::reference::readings::Polygon;
 
 /// Two numbers, most often near one of the polygon's edges.
-pub fn reading(random: &mut Random, polygon: &Polygon) -> Patterns {
-    if polygon.edges.is_empty() || random.once_in(4) {
-        return Patterns { angle: pattern(random), load: pattern(random) };
+pub fn reading(random: &mut Random, polygon: &Polygon) -> Reading {
+    let (x, y) = near(random, polygon);
+    let (angle, load) = (beside(random, x), beside(random, y));
+    match random.below(12) {
+        0 | 1 => Reading { angle: pattern(random), load: pattern(random) },
+        2 => Reading { angle, load: pattern(random) },
+        3 => Reading { angle: pattern(random), load },
+        _ => Reading { angle, load },
+    }
+}
+
+/// A point on an edge, at its ends or beyond them, or off it by so much that its side value is about 1/64 or 1/32; without an edge,
+/// the cell's centre.
+fn near(random: &mut Random, polygon: &Polygon) -> (f32, f32) {
+    if polygon.edges.is_empty() {
+        let (col, row) = polygon.met[0];
+        return (col as f32, row as f32);
     }
     let edge = polygon.edges[random.below(polygon.edges.len())];
-    // A point on the edge or beyond its ends, or a corner cell; then some steps of the last binary digit away from it.
+    let (dx, dy) = (edge.step.0 as f32, edge.step.1 as f32);
     let along = match random.below(4) {
         0 => 0.0,
         1 => 1.0,
         2 => random.below(17) as f32 / 16.0,
         _ => 1.5 * random.fraction() as f32 - 0.25,
     };
-    let mut number = |from: i64, step: i64| beside(random, (from as f32 + along * step as f32).max(0.0));
-    Patterns { angle: number(edge.from.0, edge.step.0), load: number(edge.from.1, edge.step.1) }
+    let value = [0.0, 0.0, 1.0, -1.0, 2.0, -2.0][random.below(6)] / 64.0;
+    let (across, up) = match random.below(3) {
+        0 if dy != 0.0 => (value / dy, 0.0),
+        1 if dx != 0.0 => (0.0, -value / dx),
+        _ => (value * dy / (dx * dx + dy * dy), -value * dx / (dx * dx + dy * dy)),
+    };
+    (edge.from.0 as f32 + along * dx + across, edge.from.1 as f32 + along * dy + up)
 }
 
-/// The pattern of a number of 0 or more, or one near it.
+/// The pattern of a number, or one near it; of 0 or one just above it where the number is below.
 fn beside(random: &mut Random, number: f32) -> u32 {
-    let reach = [0, 1, 4, 1 << 9, 1 << 13, 1 << 17][random.below(6)];
+    let reach = [0, 0, 1, 4, 1 << 9, 1 << 13, 1 << 17][random.below(7)];
     let steps = random.below(2 * reach + 1) as i64 - reach as i64;
-    (i64::from(number.to_bits()) + steps).max(0) as u32
+    (i64::from(number.max(0.0).to_bits()) + steps).max(0) as u32
 }
 
 /// A pattern of any class.
@@ -45,7 +65,7 @@ fn pattern(random: &mut Random) -> u32 {
         // Infinite, the largest finite number, the patterns of no number; of either sign.
         4 => {
             (random.below(2) as u32) << 31
-                | [0x7f80_0000, 0x7f7f_ffff, 0x7f80_0001, 0x7fc0_0000, 0x7fff_ffff][random.below(5)]
+                | [0x7f80_0000, 0x7f7f_ffff, 0x7f80_0001, 0x7fbf_ffff, 0x7fc0_0000, 0x7fff_ffff][random.below(6)]
         }
         // A negative number of the chart's size.
         5 => (-last * random.fraction() as f32).to_bits(),

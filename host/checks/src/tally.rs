@@ -10,7 +10,7 @@ const NUMBERS: usize = LAST_REFUSAL as usize + 1;
 const WORDS: usize = CROSSING as usize + 1;
 
 /// The words that some input reaches, and their names.
-const NAMES: [(usize, &str); 12] = [
+const NAMES: [(usize, &str); 13] = [
     (0, "no word"),
     (1, "inside"),
     (2, "outside"),
@@ -18,6 +18,7 @@ const NAMES: [(usize, &str); 12] = [
     (4, "same"),
     (5, "none"),
     (6, "columns"),
+    (7, "undecided"),
     (11, "equal"),
     (12, "first within"),
     (13, "second within"),
@@ -84,7 +85,7 @@ impl Tally {
             ("loose queries", &self.loose_queries, &[0, 10, 11, 16], &[0, 1, 2]),
             ("borders", &self.borders, &[0, 10, 11, 16, 17, 18], &[0]),
             ("comparisons", &self.comparisons, &[0, 10, 11, 16], &[0, 11, 12, 13, 14, 15]),
-            ("calls", &self.calls, &[0, 1, 2, 3, 4, 5, 6, 8, 9, 11, 12, 13, 14, 15, 19, 20], &[0, 1, 2, 3, 4, 5, 6]),
+            ("calls", &self.calls, &[0, 1, 2, 3, 4, 5, 6, 8, 9, 11, 12, 13, 14, 15, 19, 20], &[0, 1, 2, 3, 4, 5, 6, 7]),
         ];
         let line = |name: &str, cells: [String; 5]| {
             println!("{name:>16}{}", cells.iter().map(|cell| format!(" {cell:>14}")).collect::<String>());

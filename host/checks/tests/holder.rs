@@ -1,6 +1,6 @@
 //! The Rust holder, one library call for each of its own, against the plain book.
 
-use robequarry::codec::{COLUMNS, INSIDE, NONE, OUTSIDE, SAME, TAKEN};
+use robequarry::codec::{COLUMNS, INSIDE, NONE, OUTSIDE, SAME, TAKEN, UNDECIDED};
 use robequarry::limits::REPLY;
 use robequarry::{Answer, Call, Holder, Refusal, Reply, Taken};
 use robequarry_checks::case::Case;
@@ -17,6 +17,7 @@ fn fields(reply: Reply) -> Fields {
         Ok(Answer::Done) => numbered(0),
         Ok(Answer::Inside) => said(INSIDE),
         Ok(Answer::Outside) => said(OUTSIDE),
+        Ok(Answer::Undecided) => said(UNDECIDED),
         Ok(Answer::Columns { first, last }) => Fields { col: first, row: last, ..said(COLUMNS) },
         Ok(Answer::None) => said(NONE),
         Ok(Answer::Taken(taken)) => closed(TAKEN, taken),

@@ -2,10 +2,10 @@
 
 use robequarry::codec::{COLUMNS, INSIDE, NONE, OUTSIDE, SAME, TAKEN};
 use robequarry::limits::{CALL, LAST_LETTER, LONGEST, MOST_NUMBERS, PARTIES, PLACES, REPLY, SIDE};
-use robequarry::{Action, Call};
+use robequarry::{Action, Call, Reading};
 
 use super::test::{find_edges, Edges};
-use super::{chart, loose};
+use super::{chart, loose, readings};
 use crate::reply::{numbered, placed, said, taken};
 use crate::{Fields, Point};
 
@@ -57,6 +57,7 @@ impl Holder {
             Action::Close { place } => party.close(place.into()),
             Action::Query { place, cell } => party.query(place.into(), cell.into()),
             Action::Row { place, row } => party.row(place.into(), row),
+            Action::Reading { place, reading } => party.reading(place.into(), reading),
         }
     }
 
@@ -187,6 +188,16 @@ impl Party {
         } else {
             said(NONE)
         }
+    }
+
+    fn reading(&self, place: usize, reading: Reading) -> Fields {
+        let Some(work) = self.works.get(place) else {
+            return numbered(20);
+        };
+        if !work.taken {
+            return numbered(12);
+        }
+        readings::located(work.anchor, work.edges.list(), reading)
     }
 }
 

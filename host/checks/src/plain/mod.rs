@@ -9,6 +9,7 @@ mod compare;
 mod holder;
 mod loose;
 mod pile;
+mod readings;
 mod test;
 mod tracing;
 mod words;

@@ -2,10 +2,11 @@
 
 use robequarry::codec::{COLUMNS, INSIDE, NONE, OUTSIDE, SAME, TAKEN};
 use robequarry::limits::{LONGEST, PARTIES, PLACES, REPLY, SIDE};
-use robequarry::{Action, Call};
+use robequarry::{Action, Call, Reading};
 
 use super::calls;
 use super::cells::{encloses, Enclosed};
+use super::readings::{located, Polygon};
 use super::walk::{is_bad_start, is_no_letter};
 use crate::reply::{numbered, placed, said};
 use crate::{Fields, Outline, Point};
@@ -43,6 +44,7 @@ impl Page {
             Action::Close { place } => self.close(place.into()),
             Action::Query { place, cell } => self.query(place.into(), cell.into()),
             Action::Row { place, row } => self.row(place.into(), row),
+            Action::Reading { place, reading } => self.reading(place.into(), reading),
         }
     }
 
@@ -139,6 +141,17 @@ impl Page {
             Some((first, last)) => Fields { col: first, row: last, ..said(COLUMNS) },
             None => said(NONE),
         }
+    }
+
+    /// Contract 7.10, by the edges of the work.
+    fn reading(&self, place: usize, reading: Reading) -> Fields {
+        let Some(work) = self.works.get(place) else {
+            return numbered(20);
+        };
+        let Some(work) = work else {
+            return numbered(12);
+        };
+        located(&Polygon::of(work).expect("a work was taken"), reading)
     }
 }
 

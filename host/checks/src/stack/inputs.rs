@@ -1,7 +1,7 @@
 //! The inputs whose need of stack is measured, the same in each run.
 
 use robequarry::limits::{CALL, LAST_CORNER, LAST_LETTER, LONGEST, LONGEST_LIST, PARTIES, PLACES, REPLY, SHORTEST, SIDE};
-use robequarry::{Action, Call};
+use robequarry::{Action, Call, Cell, Reading};
 
 use crate::case::{Case, Polygon};
 use crate::draw::{reversed, round_outline, whole_chart, with_a_cell_flipped, Shape};
@@ -121,16 +121,24 @@ fn comparisons(outlines: &[Outline]) -> Vec<Case> {
     cases
 }
 
-/// An outline drawn and closed twice, with queries after each close; once more, with a letter and a begin too many; and then the
+/// An outline drawn and closed twice, and asked about after each close; once more, with a letter and a begin too many; and then the
 /// calls that take things away, each where there is something to take and where there is not.
 fn draw_and_ask(outline: &Outline) -> Case {
     let place = 1;
     let adds = outline.letters.iter().map(|&letter| Action::Add(letter));
     let begin = Action::Begin(outline.start.into());
     let draw = || std::iter::once(begin).chain(adds.clone());
-    let query = |cell: Point| Action::Query { place, cell: cell.into() };
-    let asked =
-        [query(outline.start), query(Point::new(SIDE, SIDE)), Action::Query { place: PLACES, cell: outline.start.into() }];
+    let Point { col, row } = outline.start;
+    let query = |col, row| Action::Query { place, cell: Cell::new(col, row) };
+    let reading = |angle: u16, load: u16| Action::Reading { place, reading: Reading::new(angle.into(), load.into()) };
+    let asked = [
+        query(col, row),
+        query(SIDE, SIDE),
+        Action::Query { place: PLACES, cell: outline.start.into() },
+        Action::Row { place, row },
+        reading(col, row),
+        reading(SIDE, SIDE),
+    ];
     let once = || draw().chain([Action::Close { place }]).chain(asked);
     let more = [Action::Add(0), begin, Action::Close { place: PLACES }, begin];
     let away = [Action::Drop, Action::Clear { place }, Action::Drop, Action::Close { place }, Action::Add(0)];
