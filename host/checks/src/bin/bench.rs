@@ -18,10 +18,10 @@ use std::env;
 use std::hint::black_box;
 use std::process::exit;
 
-use robequarry::limits::{CALL, LONGEST, LONGEST_LIST, REPLY, SIDE};
+use robequarry::limits::{CALL, LAST_CELL, LONGEST, LONGEST_LIST, REPLY, SIDE};
 use robequarry::pile::LAYERS;
 use robequarry::raw::HolderMemory;
-use robequarry::{Action, Call, Edges, Holder, Pile, PileCall};
+use robequarry::{Action, Call, Edges, Holder, Pile, PileCall, Reading};
 use robequarry_checks::case::Polygon;
 use robequarry_checks::draw::{reversed, round_outline, with_a_cell_flipped};
 use robequarry_checks::engine::{Engine, Library, Plain};
@@ -160,7 +160,7 @@ impl Bench {
         }
     }
 
-    /// Queries, adds, a close and a border, of one outline.
+    /// Queries, rows, readings, adds, a close and a border, of one outline.
     fn calls(&mut self, random: &mut Random) {
         let outline = taken(random, DRAWN);
         let cells: Vec<Point> = (0..1024).map(|_| random.cell()).collect();
@@ -181,6 +181,10 @@ impl Bench {
         self.add_call("live query", live(&closed, &queries));
         let rows = Call::script((0..SIDE).map(|row| Action::Row { place, row }.by(party)));
         self.add_call("live row", live(&closed, &rows));
+        let mut number = || f32::from(LAST_CELL) * random.fraction() as f32;
+        let readings = (0..cells.len()).map(|_| Reading::new(number(), number()));
+        let readings = Call::script(readings.map(|reading| Action::Reading { place, reading }.by(party)));
+        self.add_call("live reading", live(&closed, &readings));
         // A letter that is turned back, and a full draft, cost as much as one that is added; so the draft may stay as it is.
         self.add_call("live add", live(&begun, &adds));
         self.add_call("live begin, adds and close", live_round(&closed));
