@@ -13,6 +13,9 @@ pub const SAME: u16 = 4;
 pub const NONE: u16 = 5;
 pub const COLUMNS: u16 = 6;
 pub const UNDECIDED: u16 = 7;
+pub const MOVE: u16 = 8;
+pub const LINE: u16 = 9;
+pub const CLOSE: u16 = 10;
 pub const EQUAL: u16 = 11;
 pub const FIRST_WITHIN: u16 = 12;
 pub const SECOND_WITHIN: u16 = 13;
@@ -24,7 +27,7 @@ pub const CROSSING: u16 = 15;
 pub struct Fields {
     /// 0, or the refusal's number.
     pub number: u16,
-    /// [`NO_WORD`] to [`UNDECIDED`]; of a comparison, [`EQUAL`] to [`CROSSING`].
+    /// [`NO_WORD`] to [`CLOSE`]; of a comparison, [`EQUAL`] to [`CROSSING`].
     pub word: u16,
     pub place: u16,
     pub piece: u16,
@@ -72,7 +75,7 @@ pub struct Call {
     pub action: Action,
 }
 
-/// What a call does for its party (contract 7.3 to 7.10). A place above 3 is turned back.
+/// What a call does for its party (contract 7.3 to 7.11). A place above 3 is turned back.
 #[derive(Clone, Copy, Debug, PartialEq, Eq, Hash)]
 pub enum Action {
     /// Opens a draft without letters.
@@ -91,6 +94,8 @@ pub enum Action {
     Row { place: u8, row: u16 },
     /// Asks where a reading lies to what is at work at a place.
     Reading { place: u8, reading: Reading },
+    /// Asks for the piece at a position of the drawing of what is at work at a place.
+    Piece { place: u8, position: u16 },
 }
 
 impl Action {
@@ -129,6 +134,7 @@ impl Call {
             Action::Reading { place, reading } => {
                 put(7, Some(place), &reading.angle.to_le_bytes(), &reading.load.to_le_bytes())
             }
+            Action::Piece { place, position } => put(8, Some(place), &position.to_le_bytes(), &[]),
         }
         bytes
     }
@@ -150,6 +156,7 @@ impl Call {
                 let (angle, load) = (u32::from_le_bytes([a, b, c, d]), u32::from_le_bytes([e, f, g, h]));
                 Action::Reading { place, reading: Reading { angle, load } }
             }
+            8 => Action::Piece { place, position: x },
             _ => return None,
         };
         Some(action.by(party))
@@ -175,7 +182,7 @@ const Y: usize = 7;
 mod tests {
     use super::*;
 
-    const CALLS: [(Call, [u8; CALL]); 8] = [
+    const CALLS: [(Call, [u8; CALL]); 9] = [
         (Action::Begin(Corner::new(0x0102, 0x0304)).by(0), [0, 0, 0, 2, 1, 0, 0, 4, 3, 0, 0]),
         (Action::Add(9).by(1), [1, 1, 0, 9, 0, 0, 0, 0, 0, 0, 0]),
         (Action::Drop.by(255), [2, 255, 0, 0, 0, 0, 0, 0, 0, 0, 0]),
@@ -187,6 +194,7 @@ mod tests {
             Action::Reading { place: 3, reading: Reading { angle: 0x4030_2010, load: 0xff80_0001 } }.by(1),
             [7, 1, 3, 0x10, 0x20, 0x30, 0x40, 1, 0, 0x80, 0xff],
         ),
+        (Action::Piece { place: 2, position: 0x8001 }.by(0), [8, 0, 2, 1, 0x80, 0, 0, 0, 0, 0, 0]),
     ];
 
     #[test]
@@ -197,7 +205,7 @@ mod tests {
             assert_eq!(Call::read(call.bytes_over([77; CALL])), Some(call));
         }
         assert_eq!(Action::Add(9).by(1).bytes_over([77; CALL]), [1, 1, 77, 9, 77, 77, 77, 77, 77, 77, 77]);
-        assert!((8..=u8::MAX).all(|call| Call::read([call, 0, 0, 0, 0, 0, 0, 0, 0, 0, 0]).is_none()));
+        assert!((9..=u8::MAX).all(|call| Call::read([call, 0, 0, 0, 0, 0, 0, 0, 0, 0, 0]).is_none()));
     }
 
     #[test]
@@ -205,8 +213,8 @@ mod tests {
         let calls = CALLS.map(|(call, _)| call);
         let script = Call::script(calls);
         assert!(Call::each(&script).eq(calls));
-        assert!(Call::each(&script[..script.len() - 1]).eq(calls[..7].iter().copied()));
-        assert!(Call::each(&[&script[..2 * CALL], &[8; CALL], &script[..]].concat()).eq(calls[..2].iter().copied()));
+        assert!(Call::each(&script[..script.len() - 1]).eq(calls[..8].iter().copied()));
+        assert!(Call::each(&[&script[..2 * CALL], &[9; CALL], &script[..]].concat()).eq(calls[..2].iter().copied()));
     }
 
     #[test]

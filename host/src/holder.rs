@@ -1,4 +1,4 @@
-use crate::codec::{Action, Call, Fields, COLUMNS, INSIDE, NONE, OUTSIDE, SAME, TAKEN, UNDECIDED};
+use crate::codec::{Action, Call, Fields, CLOSE, COLUMNS, INSIDE, LINE, MOVE, NONE, OUTSIDE, SAME, TAKEN, UNDECIDED};
 use crate::limits::REPLY;
 use crate::raw::HolderMemory;
 use crate::{Cell, Corner, Reading, Refusal, Taken};
@@ -16,8 +16,14 @@ pub enum Answer {
     Undecided,
     /// The outline at work encloses these columns of the row, the first and the last, and every one between.
     Columns { first: u16, last: u16 },
-    /// The outline at work encloses no cell of the row.
+    /// The outline at work encloses no cell of the row; its drawing has no piece at the position.
     None,
+    /// The drawing of the outline at work begins at the centre of this cell.
+    Move(Cell),
+    /// It goes on by a line to the centre of this cell.
+    Line(Cell),
+    /// It is closed.
+    Close,
     /// The draft is now at work.
     Taken(Taken),
     /// The draft is now at work, and encloses the cells that were enclosed before.
@@ -33,6 +39,20 @@ pub enum Located {
     Undecided,
 }
 
+/// A piece of the drawing of an outline's edges, as a canvas takes them. A point is the centre of a cell, where the cell's lower left
+/// corner has its whole column and row: these numbers, each raised by one half.
+#[derive(Clone, Copy, Debug, PartialEq)]
+pub enum Piece {
+    /// Move to a point, with which a drawing begins.
+    Move(f32, f32),
+    /// A line to a point.
+    Line(f32, f32),
+    /// Close, with which a drawing ends.
+    Close,
+    /// The drawing has ended.
+    None,
+}
+
 /// What a call answers.
 pub type Reply = Result<Answer, Refusal>;
 
@@ -41,7 +61,7 @@ pub type Reply = Result<Answer, Refusal>;
 /// It owns the memory of a holder of the library, and each call here is one call there.
 ///
 /// ```
-/// use robequarry::{Answer, Cell, Corner, Holder, Located, Refusal};
+/// use robequarry::{Answer, Cell, Corner, Holder, Located, Piece, Refusal};
 ///
 /// let (mut holder, knee) = (Holder::new(), 0);
 /// holder.begin(knee, Corner::new(0, 0))?;
@@ -55,6 +75,10 @@ pub type Reply = Result<Answer, Refusal>;
 /// assert_eq!(holder.row(knee, 3, 1)?, None);
 /// assert_eq!(holder.reading(knee, 3, 1.5, 0.0)?, Located::Undecided);
 /// assert_eq!(holder.reading(knee, 3, 1.5, 0.25)?, Located::Outside);
+/// assert_eq!(holder.piece(knee, 3, 0)?, Piece::Move(0.5, 0.5));
+/// assert_eq!(holder.piece(knee, 3, 1)?, Piece::Line(2.5, 0.5));
+/// assert_eq!(holder.piece(knee, 3, 2)?, Piece::Close);
+/// assert_eq!(holder.piece(knee, 3, 3)?, Piece::None);
 /// assert_eq!(holder.drop_draft(knee), Err(Refusal::NoDraft));
 /// assert_eq!(holder.query(1, 3, Cell::new(2, 0)), Err(Refusal::NothingAtWork));
 /// # Ok::<(), Refusal>(())
@@ -125,6 +149,24 @@ impl Holder {
         })
     }
 
+    /// The piece at a position, counted from 0, of the drawing of the outline at work at a place: a move to its anchor, a line to the
+    /// end of each edge but the last, and a close. The holder stays as it is.
+    pub fn piece(&mut self, party: u8, place: u8, position: u16) -> Result<Piece, Refusal> {
+        let (mut point, mut numbers) = ([0.0; 2], [0; REPLY]);
+        assert!(self.memory.piece(party, place, position, &mut point, &mut numbers), "the reply has room");
+        let fields = Fields::from(numbers);
+        if let Some(refusal) = Refusal::of(fields) {
+            return Err(refusal);
+        }
+        let [x, y] = point;
+        Ok(match fields.word {
+            MOVE => Piece::Move(x, y),
+            LINE => Piece::Line(x, y),
+            CLOSE => Piece::Close,
+            _ => Piece::None,
+        })
+    }
+
     /// Makes one call.
     pub fn call(&mut self, call: Call) -> Reply {
         let mut numbers = [0; REPLY];
@@ -140,13 +182,16 @@ impl Holder {
 
 /// A reply of the library that is no refusal.
 fn answer(fields: Fields) -> Answer {
-    let taken = Taken::of(fields);
+    let (taken, cell) = (Taken::of(fields), Cell::new(fields.col, fields.row));
     match fields.word {
         INSIDE => Answer::Inside,
         OUTSIDE => Answer::Outside,
         UNDECIDED => Answer::Undecided,
         COLUMNS => Answer::Columns { first: fields.col, last: fields.row },
         NONE => Answer::None,
+        MOVE => Answer::Move(cell),
+        LINE => Answer::Line(cell),
+        CLOSE => Answer::Close,
         TAKEN => Answer::Taken(taken),
         SAME => Answer::Same(taken),
         _ => Answer::Done,

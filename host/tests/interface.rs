@@ -2,7 +2,7 @@
 
 use robequarry::limits::{CALL, LAST_CORNER, LONGEST, LONGEST_LIST, PARTIES, PLACES, REPLY};
 use robequarry::{
-    raw, Action, Answer, Cell, Comparison, Corner, Edges, Holder, Located, Nesting, Outline, Reading, Refusal, Taken,
+    raw, Action, Answer, Cell, Comparison, Corner, Edges, Holder, Located, Nesting, Outline, Piece, Reading, Refusal, Taken,
     TurnedBack,
 };
 
@@ -187,6 +187,31 @@ fn readings() {
 }
 
 #[test]
+fn pieces() {
+    let mut holder = Holder::new();
+    assert_eq!(holder.piece(KNEE, 0, 0), Err(Refusal::NothingAtWork));
+    // A draft in the making stays as it is.
+    holder.begin(ANKLE, Corner::new(0, 0)).unwrap();
+    draw(&mut holder, 0, (253, 252), &[1, 1, 0, 3, 0, 3, 2, 2]).unwrap();
+    let mut at = |position| holder.piece(KNEE, 0, position);
+    assert_eq!(at(0), Ok(Piece::Move(253.5, 252.5)));
+    assert_eq!(at(1), Ok(Piece::Line(253.5, 253.5)));
+    assert_eq!(at(2), Ok(Piece::Line(254.5, 252.5)));
+    assert_eq!((at(3), at(4), at(u16::MAX)), (Ok(Piece::Close), Ok(Piece::None), Ok(Piece::None)));
+    draw(&mut holder, 1, (9, 9), &CELL).unwrap();
+    let mut at = |position| holder.piece(KNEE, 1, position);
+    assert_eq!((at(0), at(1), at(2)), (Ok(Piece::Move(9.5, 9.5)), Ok(Piece::Close), Ok(Piece::None)));
+    // A call has the cell.
+    let mut call = |position| holder.call(Action::Piece { place: 0, position }.by(KNEE));
+    assert_eq!((call(0), call(2)), (Ok(Answer::Move(Cell::new(253, 252))), Ok(Answer::Line(Cell::new(254, 252)))));
+    assert_eq!((call(3), call(4)), (Ok(Answer::Close), Ok(Answer::None)));
+    assert_eq!(holder.piece(PARTIES, PLACES, 0), Err(Refusal::Party));
+    assert_eq!(holder.piece(ANKLE, PLACES, 0), Err(Refusal::Place));
+    assert_eq!(holder.piece(ANKLE, 0, 0), Err(Refusal::NothingAtWork));
+    assert_eq!(holder.begin(ANKLE, Corner::new(0, 0)), Err(Refusal::DraftOpen));
+}
+
+#[test]
 fn comparisons() {
     let edges = |col, row, numbers: &[i16]| Edges::new(Cell::new(col, row), numbers);
     let square = edges(4, 4, &[0, 2, 2, 0, 0, -2, -2, 0]);
@@ -228,7 +253,7 @@ fn bytes_that_are_no_call() {
     let mut memory = raw::HolderMemory::fresh();
     let drop = Action::Drop.by(KNEE).bytes();
     let mut reply = [5; REPLY + 1];
-    for bytes in [&drop[..CALL - 1], &[], &[&drop[..], &[0]].concat(), &[8, 0, 0, 0, 0, 0, 0, 0, 0, 0, 0]] {
+    for bytes in [&drop[..CALL - 1], &[], &[&drop[..], &[0]].concat(), &[9, 0, 0, 0, 0, 0, 0, 0, 0, 0, 0]] {
         assert!(!memory.call(bytes, &mut reply), "{bytes:?}");
     }
     assert!(!memory.call(&Action::Begin(Corner::new(0, 0)).by(KNEE).bytes(), &mut reply[..REPLY - 1]));

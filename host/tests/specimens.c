@@ -118,6 +118,23 @@ int main(void) {
     EXPECT(rq_call(memory, call, RQ_CALL, reply, RQ_REPLY) && reply[1] == RQ_INSIDE);
     reading(call, 0.5f, 1.5f);
     EXPECT(rq_call(memory, call, RQ_CALL, reply, RQ_REPLY) && reply[0] == 0 && reply[1] == RQ_UNDECIDED);
+
+    /* The plus in pieces: a move to the anchor, three lines, a close. Each point is the reply's cell and one half. */
+    float point[] = {-1.0f, -1.0f, -1.0f};
+    for (uint8_t position = 0; position < 6; position++) {
+        const uint8_t piece[RQ_CALL] = {8, 1, 2, position};
+        const uint16_t words[] = {RQ_MOVE, RQ_LINE, RQ_LINE, RQ_LINE, RQ_CLOSE, RQ_NONE};
+        EXPECT(rq_piece(memory, 1, 2, position, point, 2, reply, RQ_REPLY) && reply[0] == 0 && reply[1] == words[position]);
+        EXPECT(position > 3 || (point[0] == reply[5] + 0.5f && point[1] == reply[6] + 0.5f));
+        uint16_t called[RQ_REPLY];
+        EXPECT(rq_call(memory, piece, RQ_CALL, called, RQ_REPLY) && memcmp(called, reply, sizeof reply) == 0);
+    }
+    EXPECT(point[0] == 1.5f && point[1] == 0.5f && point[2] == -1.0f);
+    EXPECT(rq_piece(memory, 1, 2, 0, point, 1, reply, RQ_REPLY) && reply[1] == RQ_MOVE && reply[6] == 1 && point[0] == 1.5f);
+    EXPECT(!rq_piece(memory, 1, 2, 0, point, 2, reply, RQ_REPLY - 1) && point[0] == 1.5f);
+    EXPECT(rq_piece(memory, 2, 4, 0, point, 2, reply, RQ_REPLY) && reply[0] == 19);
+    EXPECT(rq_piece(memory, 0, 4, 0, point, 2, reply, RQ_REPLY) && reply[0] == 20);
+    EXPECT(rq_piece(memory, 0, 2, 0, point, 2, reply, RQ_REPLY) && reply[0] == 12 && point[0] == 1.5f);
     EXPECT(memory[RQ_HOLDER_BYTES / 8] == 0x5a5a5a5a5a5a5a5a);
 
     /* A pile: cells (0, 1), (1, 2), (2, 0) of column 9, as layer and row, leave (1, 1) out. */

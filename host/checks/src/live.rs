@@ -29,6 +29,13 @@ impl AtWork {
         reply.into()
     }
 
+    /// What is said of a position of the drawing, with the point in floats.
+    pub fn piece(&mut self, position: u16, point: &mut [f32]) -> Fields {
+        let mut reply = [0; REPLY];
+        assert!(self.holder.piece(self.party, self.place, position, point, &mut reply), "there is room");
+        reply.into()
+    }
+
     /// What is said of a reading.
     pub fn reading(&mut self, reading: Reading) -> Fields {
         self.call(Action::Reading { place: self.place, reading }.by(self.party))

@@ -5,7 +5,7 @@ use robequarry::limits::{CALL, LAST_LETTER, LONGEST, MOST_NUMBERS, PARTIES, PLAC
 use robequarry::{Action, Call, Reading};
 
 use super::test::{find_edges, Edges};
-use super::{chart, loose, readings};
+use super::{chart, loose, pieces, readings};
 use crate::reply::{numbered, placed, said, taken};
 use crate::{Fields, Point};
 
@@ -58,6 +58,7 @@ impl Holder {
             Action::Query { place, cell } => party.query(place.into(), cell.into()),
             Action::Row { place, row } => party.row(place.into(), row),
             Action::Reading { place, reading } => party.reading(place.into(), reading),
+            Action::Piece { place, position } => party.piece(place.into(), position),
         }
     }
 
@@ -74,6 +75,17 @@ impl Holder {
             return false;
         };
         self.answer(call).write(reply)
+    }
+
+    /// A piece with its point. False, with nothing altered, if the reply has no room.
+    #[inline]
+    pub fn piece(&mut self, party: u8, place: u8, position: u16, point: &mut [f32], reply: &mut [u16]) -> bool {
+        let piece = self.answer(Action::Piece { place, position }.by(party));
+        let written = piece.write(reply);
+        if written {
+            pieces::write_point(piece, point);
+        }
+        written
     }
 }
 
@@ -198,6 +210,16 @@ impl Party {
             return numbered(12);
         }
         readings::located(work.anchor, work.edges.list(), reading)
+    }
+
+    fn piece(&self, place: usize, position: u16) -> Fields {
+        let Some(work) = self.works.get(place) else {
+            return numbered(20);
+        };
+        if !work.taken {
+            return numbered(12);
+        }
+        pieces::piece(work.anchor, work.edges.list(), position)
     }
 }
 

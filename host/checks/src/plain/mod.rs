@@ -8,6 +8,7 @@ mod climb;
 mod compare;
 mod holder;
 mod loose;
+mod pieces;
 mod pile;
 mod readings;
 mod test;

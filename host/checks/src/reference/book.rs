@@ -6,6 +6,7 @@ use robequarry::{Action, Call, Reading};
 
 use super::calls;
 use super::cells::{encloses, Enclosed};
+use super::pieces::piece;
 use super::readings::{located, Polygon};
 use super::walk::{is_bad_start, is_no_letter};
 use crate::reply::{numbered, placed, said};
@@ -45,6 +46,7 @@ impl Page {
             Action::Query { place, cell } => self.query(place.into(), cell.into()),
             Action::Row { place, row } => self.row(place.into(), row),
             Action::Reading { place, reading } => self.reading(place.into(), reading),
+            Action::Piece { place, position } => self.piece(place.into(), position),
         }
     }
 
@@ -152,6 +154,17 @@ impl Page {
             return numbered(12);
         };
         located(&Polygon::of(work).expect("a work was taken"), reading)
+    }
+
+    /// Contract 7.11, by the edges of the work.
+    fn piece(&self, place: usize, position: u16) -> Fields {
+        let Some(work) = self.works.get(place) else {
+            return numbered(20);
+        };
+        let Some(work) = work else {
+            return numbered(12);
+        };
+        piece(&Polygon::of(work).expect("a work was taken"), position)
     }
 }
 

@@ -3,7 +3,7 @@
 use robequarry::limits::{CALL, LAST_CORNER, LAST_LETTER, LONGEST, LONGEST_LIST, PARTIES, PLACES, REPLY, SHORTEST, SIDE};
 use robequarry::{Action, Call, Cell, Reading};
 
-use crate::case::{Case, Polygon};
+use crate::case::{Asked, Case, Polygon};
 use crate::draw::{reversed, round_outline, whole_chart, with_a_cell_flipped, Shape};
 use crate::random::Random;
 use crate::reference::calls;
@@ -21,6 +21,7 @@ pub fn all() -> Vec<Case> {
     cases.extend(loose_queries(&outlines));
     cases.extend(comparisons(&outlines));
     cases.extend(outlines.iter().map(draw_and_ask));
+    cases.extend(outlines.iter().flat_map(pieces));
     for _ in 0..DRAWN {
         cases.push(garbage::spoilt_test(&mut random));
         cases.push(garbage::loose(&mut random));
@@ -138,6 +139,8 @@ fn draw_and_ask(outline: &Outline) -> Case {
         Action::Row { place, row },
         reading(col, row),
         reading(SIDE, SIDE),
+        Action::Piece { place, position: 0 },
+        Action::Piece { place, position: u16::MAX },
     ];
     let once = || draw().chain([Action::Close { place }]).chain(asked);
     let more = [Action::Add(0), begin, Action::Close { place: PLACES }, begin];
@@ -147,6 +150,19 @@ fn draw_and_ask(outline: &Outline) -> Case {
         Call::script([0, 1, PARTIES].into_iter().flat_map(|party| actions.iter().map(move |action| action.by(party))));
     let room = bytes.len() / CALL * REPLY;
     Case::Script { bytes, room }
+}
+
+/// The first piece, the last line, the close and what is past it, with their points; and each refusal.
+fn pieces(outline: &Outline) -> Vec<Case> {
+    let (party, place) = (1, 3);
+    let edges = calls::test(outline.start, &outline.letters).edges.len() as u16;
+    let ask = |party, place, position| {
+        let asked = Asked { party, place, position };
+        Case::Piece { script: scripts::to_work(outline, party, place), asked, lent: 2, room: REPLY }
+    };
+    let mut cases: Vec<Case> = [0, edges.max(1) - 1, edges, edges + 1].map(|position| ask(party, place, position)).to_vec();
+    cases.extend([ask(PARTIES, place, 0), ask(party, PLACES, 0)]);
+    cases
 }
 
 #[cfg(test)]
