@@ -16,6 +16,7 @@
 
 use std::env;
 use std::hint::black_box;
+use std::ops::Range;
 use std::process::exit;
 
 use robequarry::limits::{CALL, LAST_CELL, LONGEST, LONGEST_LIST, REPLY, SIDE};
@@ -160,7 +161,7 @@ impl Bench {
         }
     }
 
-    /// Queries, rows, readings, adds, a close and a border, of one outline.
+    /// Queries, rows, readings, pieces, adds, a close and a border, of one outline.
     fn calls(&mut self, random: &mut Random) {
         let outline = taken(random, DRAWN);
         let cells: Vec<Point> = (0..1024).map(|_| random.cell()).collect();
@@ -185,6 +186,10 @@ impl Bench {
         let readings = (0..cells.len()).map(|_| Reading::new(number(), number()));
         let readings = Call::script(readings.map(|reading| Action::Reading { place, reading }.by(party)));
         self.add_call("live reading", live(&closed, &readings));
+        let positions = 0..polygon(&outline).edges.len() as u16 / 2 + 1;
+        let pieces = Call::script(positions.clone().map(|position| Action::Piece { place, position }.by(party)));
+        self.add_call("live piece", live(&closed, &pieces));
+        self.add_call("piece with its floats", live_piece(&closed, party, place, positions));
         // A letter that is turned back, and a full draft, cost as much as one that is added; so the draft may stay as it is.
         self.add_call("live add", live(&begun, &adds));
         self.add_call("live begin, adds and close", live_round(&closed));
@@ -388,6 +393,30 @@ fn live(before: &[u8], calls: &[u8]) -> Timed {
     };
     let mut by_plain = || {
         black_box(plain.call(black_box(other_turns.next().expect("there are calls")), &mut other_reply));
+    };
+    let race = race([&mut by_library, &mut by_plain]);
+    (race.least(0), race.ratio(0, 1))
+}
+
+/// A piece with its point, on a live holder after some calls.
+fn live_piece(before: &[u8], party: u8, place: u8, positions: Range<u16>) -> Timed {
+    let mut reply = [0; REPLY];
+    let (mut library, mut plain) = (HolderMemory::fresh(), plain::Holder::new());
+    for call in before.chunks_exact(CALL) {
+        library.call(call, &mut reply);
+        plain.call(call, &mut reply);
+    }
+    let (mut turns, mut other_turns) = (positions.clone().cycle(), positions.cycle());
+    let (mut point, mut other_point, mut other_reply) = ([0.0; 2], [0.0; 2], [0; REPLY]);
+    let mut by_library = || {
+        let position = black_box(turns.next().expect("there are positions"));
+        black_box(library.piece(party, place, position, &mut point, &mut reply));
+        black_box(&point);
+    };
+    let mut by_plain = || {
+        let position = black_box(other_turns.next().expect("there are positions"));
+        black_box(plain.piece(party, place, position, &mut other_point, &mut other_reply));
+        black_box(&other_point);
     };
     let race = race([&mut by_library, &mut by_plain]);
     (race.least(0), race.ratio(0, 1))

@@ -39,6 +39,7 @@ const LOOSE: usize = 120_000;
 const BORDERS: usize = 60_000;
 const COMPARISONS: usize = 16_000;
 const READ: usize = 3_000;
+const PIECES: usize = 6_000;
 const SCRIPTS: usize = 24_000;
 const PILES: usize = 300;
 
@@ -100,6 +101,7 @@ fn run(seed: u64) {
     run.random_section(&format!("{COMPARISONS} comparisons"), seed + 250, comparisons);
     run.random_section(&format!("readings at {READ} outlines"), seed + 600, readings);
     run.random_section("centres of whole charts", seed + 650, centres);
+    run.random_section(&format!("{PIECES} pieces of drawings"), seed + 700, pieces);
     run.random_section(&format!("{SCRIPTS} scripts of calls"), seed + 300, random_scripts);
     run.random_section(&format!("{PILES} lists of calls on a pile"), seed + 500, random_piles);
 
@@ -341,6 +343,16 @@ fn centres(run: &mut Run, random: &mut Random) {
                 exit(1);
             }
             run.compared += 1;
+        }
+    }
+}
+
+fn pieces(run: &mut Run, random: &mut Random) {
+    for _ in 0..PIECES / 8 {
+        let outline = any_taken(random);
+        let edges = Polygon::of(&outline).expect("it is taken").edges.len();
+        for _ in 0..8 {
+            run.compare(&scripts::piece(random, &outline, edges));
         }
     }
 }
