@@ -53,7 +53,8 @@ fn outlines(random: &mut Random) -> Vec<Outline> {
     outlines.push(of([&round.letters[..], &[LAST_LETTER + 1]].concat()));
     outlines.push(of(vec![1; LONGEST]));
     outlines.push(of(round.letters[1..].to_vec()));
-    outlines.push(of(round.letters.repeat(2)));
+    let half = round_outline(random, 300);
+    outlines.push(Outline { letters: half.letters.repeat(2), ..half });
     outlines.push(reversed(&round));
     outlines
 }
