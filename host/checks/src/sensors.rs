@@ -19,33 +19,35 @@ pub fn reading(random: &mut Random, polygon: &Polygon) -> Reading {
     }
 }
 
-/// A point on an edge, at its ends or beyond them, or off it by so much that its side value is about 1/64 or 1/32; without an edge,
-/// the cell's centre.
+/// A point on an edge, at its ends or beyond them, or off it by so much that its side value is 1/64 or 1/32, as nearly as floats can;
+/// without an edge, the cell's centre.
 fn near(random: &mut Random, polygon: &Polygon) -> (f32, f32) {
     if polygon.edges.is_empty() {
         let (col, row) = polygon.met[0];
         return (col as f32, row as f32);
     }
     let edge = polygon.edges[random.below(polygon.edges.len())];
-    let (dx, dy) = (edge.step.0 as f32, edge.step.1 as f32);
-    let along = match random.below(4) {
+    let [col, row, cols, rows] = [edge.from.0, edge.from.1, edge.step.0, edge.step.1].map(|number| number as f64);
+    let along = match random.below(5) {
         0 => 0.0,
         1 => 1.0,
-        2 => random.below(17) as f32 / 16.0,
-        _ => 1.5 * random.fraction() as f32 - 0.25,
+        2 => random.below(17) as f64 / 16.0,
+        _ => 1.5 * random.fraction() - 0.25,
     };
-    let value = [0.0, 0.0, 1.0, -1.0, 2.0, -2.0][random.below(6)] / 64.0;
-    let (across, up) = match random.below(3) {
-        0 if dy != 0.0 => (value / dy, 0.0),
-        1 if dx != 0.0 => (0.0, -value / dx),
-        _ => (value * dy / (dx * dx + dy * dy), -value * dx / (dx * dx + dy * dy)),
-    };
-    (edge.from.0 as f32 + along * dx + across, edge.from.1 as f32 + along * dy + up)
+    let value = [0.0, 1.0, 1.0, -1.0, -1.0, 2.0, -2.0][random.below(7)] / 64.0;
+    // One number is a float already, and the other is the one that makes this value of it.
+    if cols != 0.0 && (rows == 0.0 || random.once_in(2)) {
+        let x = (col + along * cols) as f32;
+        (x, (row + (rows * (f64::from(x) - col) - value) / cols) as f32)
+    } else {
+        let y = (row + along * rows) as f32;
+        ((col + (cols * (f64::from(y) - row) + value) / rows) as f32, y)
+    }
 }
 
 /// The pattern of a number, or one near it; of 0 or one just above it where the number is below.
 fn beside(random: &mut Random, number: f32) -> u32 {
-    let reach = [0, 0, 1, 4, 1 << 9, 1 << 13, 1 << 17][random.below(7)];
+    let reach = [0, 0, 0, 1, 4, 1 << 9, 1 << 13, 1 << 17][random.below(8)];
     let steps = random.below(2 * reach + 1) as i64 - reach as i64;
     (i64::from(number.max(0.0).to_bits()) + steps).max(0) as u32
 }

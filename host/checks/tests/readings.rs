@@ -10,13 +10,13 @@ use robequarry_checks::live::AtWork;
 use robequarry_checks::random::Random;
 use robequarry_checks::reference::cells::Enclosed;
 use robequarry_checks::reference::readings::{
-    broken_claim, located, rounded, value, values, whole, Edge, Polygon, SIXTY_FOURTH,
+    broken_claim, located, rounded, value, values, whole, Edge, Polygon, Values, SIXTY_FOURTH,
 };
 use robequarry_checks::reference::wide::Wide;
-use robequarry_checks::reply::numbered;
+use robequarry_checks::reply::{numbered, said};
 use robequarry_checks::scripts::asking;
 use robequarry_checks::specimens::specimen;
-use robequarry_checks::{sensors, Fields, Outline, Point};
+use robequarry_checks::{polygons, sensors, Fields, Outline, Point};
 
 /// A float of a size at which no step of a side value overflows.
 fn any_float(random: &mut Random) -> f32 {
@@ -76,33 +76,63 @@ fn holds(polygon: &Polygon, reading: Reading) -> Option<u16> {
     Some(word)
 }
 
-/// Every answer to a reading is met, and some that would be others if a step were fused or none rounded.
+/// The library's words are the reference's, of which the contract's claims hold. All of them are met.
 #[test]
 fn claims_of_taken_outlines() {
     let random = &mut Random::new(2);
-    let (mut words, mut fused, mut unrounded) = ([0; 8], 0, 0);
+    let mut words = [0; 8];
     for _ in 0..600 {
-        let polygon = Polygon::of(&any_taken(random)).expect("it is taken");
+        let outline = any_taken(random);
+        let polygon = Polygon::of(&outline).expect("it is taken");
+        let mut at_work = AtWork::new(&outline, 0, 3);
         for _ in 0..60 {
             let reading = sensors::reading(random, &polygon);
             let word = holds(&polygon, reading);
+            assert_eq!(at_work.reading(reading), word.map_or(numbered(11), said), "{reading:?} {outline:?}");
             words[usize::from(word.unwrap_or(0))] += 1;
-            let Some((word, values)) = word.zip(values(reading)) else {
-                assert_eq!(located(&polygon, reading), numbered(11));
-                continue;
-            };
-            let in_one_step = |edge| {
-                let [rows, across, cols, up] = parts(edge, reading);
-                exact(rows.mul_add(across, -(cols * up)))
-            };
-            fused += u32::from(word_by(&polygon, reading, in_one_step) != word);
-            unrounded += u32::from(word_by(&polygon, reading, |edge| edge.exact(values)) != word);
         }
     }
-    for word in [0, INSIDE, OUTSIDE, UNDECIDED] {
-        assert!(words[usize::from(word)] > 2_000, "{words:?}");
+    assert!([0, INSIDE, OUTSIDE, UNDECIDED].iter().all(|&word| words[usize::from(word)] > 2_000), "{words:?}");
+}
+
+/// The words for a reading if one product were fused with the difference, or the other one, or if nothing were rounded.
+fn other_words(polygon: &Polygon, reading: Reading, values: Values) -> [u16; 3] {
+    let first = |edge| {
+        let [rows, across, cols, up] = parts(edge, reading);
+        exact(rows.mul_add(across, -(cols * up)))
+    };
+    let second = |edge| {
+        let [rows, across, cols, up] = parts(edge, reading);
+        exact((-cols).mul_add(up, rows * across))
+    };
+    let sides: [&dyn Fn(Edge) -> Wide; 3] = [&first, &second, &|edge| edge.exact(values)];
+    sides.map(|side| word_by(polygon, reading, side))
+}
+
+/// Each step is rounded, by itself: along long edges there are readings whose words turn on that.
+#[test]
+fn words_that_rounding_decides() {
+    let random = &mut Random::new(5);
+    let mut decided = [0; 3];
+    for _ in 0..3_000 {
+        let Some(outline) = polygons::outline(random) else {
+            continue;
+        };
+        let polygon = Polygon::of(&outline).expect("a border is taken");
+        for _ in 0..40 {
+            let reading = sensors::reading(random, &polygon);
+            let Some(values) = values(reading) else {
+                continue;
+            };
+            let word = polygon.word(values);
+            let others = other_words(&polygon, reading, values).map(|other| other != word);
+            if others.contains(&true) {
+                assert_eq!(AtWork::new(&outline, 1, 1).reading(reading), said(word), "{reading:?} {outline:?}");
+                decided = std::array::from_fn(|i| decided[i] + u32::from(others[i]));
+            }
+        }
     }
-    assert!(fused > 0 && unrounded > 0, "{fused} {unrounded}");
+    assert!(decided.iter().all(|&count| count > 20), "{decided:?}");
 }
 
 /// Any edge between two cells, at any two numbers: the bound does not need a polygon.

@@ -8,7 +8,7 @@ use robequarry::limits::{LAST_CELL, LAST_CORNER, LONGEST, MOST_NUMBERS, SIDE};
 use crate::grid::{Grid, Pinch};
 use crate::random::Random;
 use crate::reference::cells::Enclosed;
-use crate::{plain, Outline, Point};
+use crate::{plain, polygons, Outline, Point};
 
 /// What is drawn.
 #[derive(Clone, Copy, Debug, PartialEq)]
@@ -186,14 +186,16 @@ pub fn bar(random: &mut Random) -> Outline {
     put_on_chart(random, letters)
 }
 
-/// A drawn outline that is taken: mostly one of some edges, now and then a bar or a cell.
+/// An outline that is taken: a bar or a cell, one of few and long edges, or one that is drawn.
 pub fn any_taken(random: &mut Random) -> Outline {
     loop {
-        let outline = match random.below(6) {
+        let outline = match random.below(8) {
             0 => bar(random),
-            shape => {
-                [Shape::Ellipse, Shape::Ellipse, Shape::Polygon, Shape::ManySided, Shape::Words][shape - 1].draw(random)
-            }
+            1 | 2 => match polygons::outline(random) {
+                Some(outline) => outline,
+                None => continue,
+            },
+            shape => [Shape::Ellipse, Shape::Polygon, Shape::ManySided, Shape::Words][shape % 4].draw(random),
         };
         if plain::test(outline.start, &outline.letters, &mut [0; MOST_NUMBERS]).number == 0 {
             return outline;
