@@ -95,7 +95,8 @@ Files hold one or more outlines, numbered from 0, in one of two forms:
   fitting file   records of bytes: 4B 4F, column, row, the count of letters (two bytes, low first), the letters
 A file shows its form by itself; --text or --fitting says it. The file `-` is standard input.
 
-Exit status: 0 if every outline is taken, 1 if one is refused, 2 if something is wrong with the call or the file.";
+Exit status: 0 if every outline is taken, 1 if one, or what is asked of it, is refused, 2 if something is wrong with the call or
+the file.";
 
 /// Runs a call of the program, and gives its exit status.
 pub fn run(words: Vec<OsString>) -> u8 {
