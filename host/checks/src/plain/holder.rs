@@ -2,7 +2,7 @@
 
 use robequarry::codec::{COLUMNS, INSIDE, NONE, OUTSIDE, SAME, TAKEN};
 use robequarry::limits::{CALL, LAST_LETTER, LONGEST, MOST_NUMBERS, PARTIES, PLACES, REPLY, SIDE};
-use robequarry::{Action, Call, Reading};
+use robequarry::{Action, Call};
 
 use super::test::{find_edges, Edges};
 use super::{chart, loose, pieces, readings};
@@ -55,10 +55,14 @@ impl Holder {
             Action::Drop => party.drop_draft(),
             Action::Clear { place } => party.clear(place.into()),
             Action::Close { place } => party.close(place.into()),
-            Action::Query { place, cell } => party.query(place.into(), cell.into()),
-            Action::Row { place, row } => party.row(place.into(), row),
-            Action::Reading { place, reading } => party.reading(place.into(), reading),
-            Action::Piece { place, position } => party.piece(place.into(), position),
+            Action::Query { place, cell } => party.ask(place, |work| work.query(cell.into())),
+            Action::Row { place, row } => party.ask(place, |work| work.row(row)),
+            Action::Reading { place, reading } => {
+                party.ask(place, |work| readings::located(work.anchor, work.edges.list(), reading))
+            }
+            Action::Piece { place, position } => {
+                party.ask(place, |work| pieces::piece(work.anchor, work.edges.list(), position))
+            }
         }
     }
 
@@ -171,28 +175,28 @@ impl Party {
         Fields { word: if same { SAME } else { TAKEN }, ..taken(work.edges.count, anchor) }
     }
 
-    fn query(&self, place: usize, cell: Point) -> Fields {
-        let Some(work) = self.works.get(place) else {
-            return numbered(20);
-        };
-        if !work.taken {
-            return numbered(12);
+    /// 20, 12, or what is said of the work.
+    #[inline]
+    fn ask(&self, place: u8, answer: impl FnOnce(&Work) -> Fields) -> Fields {
+        match self.works.get(usize::from(place)) {
+            None => numbered(20),
+            Some(work) if !work.taken => numbered(12),
+            Some(work) => answer(work),
         }
+    }
+}
+
+impl Work {
+    fn query(&self, cell: Point) -> Fields {
         if loose::is_off_chart(cell) {
             return numbered(11);
         }
-        let inside = loose::is_inside(work.anchor, work.edges.list(), cell);
+        let inside = loose::is_inside(self.anchor, self.edges.list(), cell);
         said(if inside { INSIDE } else { OUTSIDE })
     }
 
-    fn row(&self, place: usize, row: u16) -> Fields {
-        let Some(work) = self.works.get(place) else {
-            return numbered(20);
-        };
-        if !work.taken {
-            return numbered(12);
-        }
-        let Some(&(first, past)) = work.spans.get(usize::from(row)) else {
+    fn row(&self, row: u16) -> Fields {
+        let Some(&(first, past)) = self.spans.get(usize::from(row)) else {
             return numbered(11);
         };
         if first < past {
@@ -200,26 +204,6 @@ impl Party {
         } else {
             said(NONE)
         }
-    }
-
-    fn reading(&self, place: usize, reading: Reading) -> Fields {
-        let Some(work) = self.works.get(place) else {
-            return numbered(20);
-        };
-        if !work.taken {
-            return numbered(12);
-        }
-        readings::located(work.anchor, work.edges.list(), reading)
-    }
-
-    fn piece(&self, place: usize, position: u16) -> Fields {
-        let Some(work) = self.works.get(place) else {
-            return numbered(20);
-        };
-        if !work.taken {
-            return numbered(12);
-        }
-        pieces::piece(work.anchor, work.edges.list(), position)
     }
 }
 
