@@ -5,6 +5,7 @@ use robequarry::raw::HolderMemory;
 use robequarry::{Action, Call};
 
 use crate::case::{Asked, Polygon};
+use crate::live::after;
 use crate::{plain, reference, Fields, Point};
 
 pub trait Engine {
@@ -63,8 +64,7 @@ impl Engine for Library {
     }
 
     fn piece(&self, script: &[u8], Asked { party, place, position }: Asked, point: &mut [f32], reply: &mut [u16]) -> bool {
-        let mut holder = HolderMemory::fresh();
-        script.chunks(CALL).all(|call| holder.call(call, &mut [0; REPLY]));
+        let mut holder = after(script);
         let before = holder.clone();
         let answered = holder.piece(party, place, position, point, reply);
         assert!(holder == before, "a piece leaves the holder as it is");

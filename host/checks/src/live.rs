@@ -1,4 +1,4 @@
-//! A live holder of the library, with an outline at work.
+//! A live holder of the library.
 
 use robequarry::limits::{CALL, REPLY};
 use robequarry::raw::HolderMemory;
@@ -7,6 +7,14 @@ use robequarry::{Action, Call, Reading};
 use crate::scripts::to_work;
 use crate::{Fields, Outline};
 
+/// The holder that a script leaves, up to what is no call.
+pub fn after(script: &[u8]) -> HolderMemory {
+    let mut holder = HolderMemory::fresh();
+    script.chunks(CALL).all(|call| holder.call(call, &mut [0; REPLY]));
+    holder
+}
+
+/// One with an outline at work.
 pub struct AtWork {
     pub holder: HolderMemory,
     pub party: u8,
@@ -16,11 +24,7 @@ pub struct AtWork {
 impl AtWork {
     /// The holder after the calls that draw an outline and close it.
     pub fn new(outline: &Outline, party: u8, place: u8) -> Self {
-        let mut holder = HolderMemory::fresh();
-        for call in to_work(outline, party, place).chunks_exact(CALL) {
-            assert!(holder.call(call, &mut [0; REPLY]), "these are calls");
-        }
-        AtWork { holder, party, place }
+        AtWork { holder: after(&to_work(outline, party, place)), party, place }
     }
 
     pub fn call(&mut self, call: Call) -> Fields {

@@ -4,6 +4,11 @@ use crate::{Outline, Point};
 
 const FILE: &str = include_str!("../../program/specimens.txt");
 
+/// H1, H2, H3, H5 and the one with as many edges as any: those that are taken, each once.
+pub fn taken() -> Vec<Outline> {
+    ["H1", "H2", "H3", "H5", "As many edges"].map(specimen).to_vec()
+}
+
 /// The outline whose name begins so: `H3`, or `As many edges`.
 pub fn specimen(name: &str) -> Outline {
     let named = |line: &&str| line.split_once('#').is_some_and(|(_, after)| after.trim().starts_with(name));

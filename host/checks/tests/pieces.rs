@@ -13,11 +13,11 @@ use robequarry_checks::reference::pieces::{piece, pieces, point};
 use robequarry_checks::reference::readings::Polygon;
 use robequarry_checks::reply::numbered;
 use robequarry_checks::scripts::{self, to_work};
-use robequarry_checks::specimens::specimen;
+use robequarry_checks::specimens::{self, specimen};
 use robequarry_checks::{Fields, Outline};
 
 fn outlines(random: &mut Random) -> Vec<Outline> {
-    let mut outlines = ["H1", "H2", "H3", "H5", "As many edges"].map(specimen).to_vec();
+    let mut outlines = specimens::taken();
     outlines.extend((0..60).map(|_| any_taken(random)));
     outlines
 }
@@ -34,7 +34,7 @@ fn drawing(outline: &Outline) -> (Vec<u16>, Vec<(u16, u16)>) {
 }
 
 #[test]
-fn specimens() {
+fn drawings_of_specimens() {
     let drawing = |name| drawing(&specimen(name));
     assert_eq!(drawing("H1"), (vec![MOVE, CLOSE, NONE], vec![(0, 0)]));
     assert_eq!(drawing("H2"), (vec![MOVE, LINE, CLOSE, NONE], vec![(0, 0), (2, 0)]));

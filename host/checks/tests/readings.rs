@@ -2,7 +2,7 @@
 //! answer.
 
 use robequarry::codec::{INSIDE, OUTSIDE, UNDECIDED};
-use robequarry::limits::{LAST_CELL, MOST_EDGES, PARTIES, PLACES, SIDE};
+use robequarry::limits::{LAST_CELL, PARTIES, PLACES, SIDE};
 use robequarry::{Action, Reading};
 use robequarry_checks::draw::{any_taken, bar};
 use robequarry_checks::engine::{Engine, Library, Live, Plain, Reference};
@@ -15,7 +15,7 @@ use robequarry_checks::reference::readings::{
 use robequarry_checks::reference::wide::Wide;
 use robequarry_checks::reply::{numbered, said};
 use robequarry_checks::scripts::asking;
-use robequarry_checks::specimens::specimen;
+use robequarry_checks::specimens::{self, specimen};
 use robequarry_checks::{polygons, sensors, Fields, Outline, Point};
 
 /// A float of a size at which no step of a side value overflows.
@@ -164,11 +164,9 @@ fn every_engine_answers_as_the_book() {
     }
 }
 
-/// Five specimens, the one with as many edges as any among them, and some drawn outlines.
+/// The specimens that are taken, and some drawn outlines.
 fn outlines(random: &mut Random) -> Vec<Outline> {
-    let most = specimen("As many edges");
-    assert_eq!(Polygon::of(&most).map(|polygon| polygon.edges.len()), Some(MOST_EDGES));
-    let mut outlines = vec![specimen("H1"), specimen("H2"), specimen("H3"), specimen("H5"), most];
+    let mut outlines = specimens::taken();
     outlines.extend((0..6).map(|_| any_taken(random)));
     outlines
 }

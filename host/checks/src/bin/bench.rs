@@ -27,6 +27,7 @@ use robequarry_checks::case::Polygon;
 use robequarry_checks::draw::{reversed, round_outline, with_a_cell_flipped};
 use robequarry_checks::engine::{Engine, Library, Plain};
 use robequarry_checks::hull_and_count::{is_convex, Of};
+use robequarry_checks::live::after;
 use robequarry_checks::random::Random;
 use robequarry_checks::report::{Goal, Ratio, Report, Row};
 use robequarry_checks::timing::{race, Race};
@@ -378,14 +379,18 @@ fn each_more(shorter: &[u8], longer: &[u8], count: usize) -> Timed {
     (nanoseconds, race.median(|times| (times[0] - times[1]) / (times[2] - times[3])))
 }
 
+/// The library's holder and the rival's, after some calls.
+fn holders(before: &[u8]) -> (HolderMemory, plain::Holder) {
+    let mut plain = plain::Holder::new();
+    for call in before.chunks_exact(CALL) {
+        plain.call(call, &mut [0; REPLY]);
+    }
+    (after(before), plain)
+}
+
 /// A call on a live holder: after some calls, those of another script in turns.
 fn live(before: &[u8], calls: &[u8]) -> Timed {
-    let mut reply = [0; REPLY];
-    let (mut library, mut plain) = (HolderMemory::fresh(), plain::Holder::new());
-    for call in before.chunks_exact(CALL) {
-        library.call(call, &mut reply);
-        plain.call(call, &mut reply);
-    }
+    let (mut library, mut plain) = holders(before);
     let (mut turns, mut other_turns) = (calls.chunks_exact(CALL).cycle(), calls.chunks_exact(CALL).cycle());
     let (mut reply, mut other_reply) = ([0; REPLY], [0; REPLY]);
     let mut by_library = || {
@@ -400,14 +405,10 @@ fn live(before: &[u8], calls: &[u8]) -> Timed {
 
 /// A piece with its point, on a live holder after some calls.
 fn live_piece(before: &[u8], party: u8, place: u8, positions: Range<u16>) -> Timed {
-    let mut reply = [0; REPLY];
-    let (mut library, mut plain) = (HolderMemory::fresh(), plain::Holder::new());
-    for call in before.chunks_exact(CALL) {
-        library.call(call, &mut reply);
-        plain.call(call, &mut reply);
-    }
+    let (mut library, mut plain) = holders(before);
     let (mut turns, mut other_turns) = (positions.clone().cycle(), positions.cycle());
-    let (mut point, mut other_point, mut other_reply) = ([0.0; 2], [0.0; 2], [0; REPLY]);
+    let (mut point, mut other_point) = ([0.0; 2], [0.0; 2]);
+    let (mut reply, mut other_reply) = ([0; REPLY], [0; REPLY]);
     let mut by_library = || {
         let position = black_box(turns.next().expect("there are positions"));
         black_box(library.piece(party, place, position, &mut point, &mut reply));

@@ -28,7 +28,7 @@ use robequarry_checks::reference::cells::Enclosed;
 use robequarry_checks::reference::readings::{broken_claim, located, values, Polygon};
 use robequarry_checks::scripts;
 use robequarry_checks::sensors;
-use robequarry_checks::specimens::specimen;
+use robequarry_checks::specimens;
 use robequarry_checks::tally::Tally;
 use robequarry_checks::walks;
 use robequarry_checks::{Outline, Point};
@@ -328,7 +328,7 @@ fn readings(run: &mut Run, random: &mut Random) {
 
 /// Readings at the centres of all cells: inside means enclosed, and outside not.
 fn centres(run: &mut Run, random: &mut Random) {
-    let mut outlines = vec![specimen("H1"), specimen("H2"), specimen("H3"), specimen("H5"), specimen("As many edges")];
+    let mut outlines = specimens::taken();
     outlines.extend((0..12).map(|_| any_taken(random)));
     for outline in outlines {
         let polygon = Polygon::of(&outline).expect("it is taken");

@@ -11,6 +11,7 @@ use robequarry::raw::{self, HolderMemory};
 use robequarry::{Pile, PileCall};
 
 use crate::case::Case;
+use crate::live::after;
 use crate::piles;
 use crate::random::Random;
 
@@ -118,8 +119,7 @@ impl Stack {
                 })
             }
             Case::Piece { script, asked, lent, room } => {
-                let mut holder = HolderMemory::fresh();
-                script.chunks(CALL).all(|call| holder.call(call, &mut [0; REPLY]));
+                let mut holder = after(script);
                 let (mut point, mut reply) = (vec![0.0; *lent], vec![0; *room]);
                 self.depth(&mut || {
                     holder.piece(asked.party, asked.place, asked.position, &mut point, &mut reply);
