@@ -15,7 +15,7 @@
  * A reply is seven numbers, in this order. Those that a reply does not name are 0.
  *
  *   0 number   0, or the number of the refusal
- *   1 word     RQ_NO_WORD, RQ_INSIDE, RQ_OUTSIDE, RQ_TAKEN, RQ_SAME, RQ_NONE or RQ_COLUMNS; of a comparison RQ_EQUAL to RQ_CROSSING
+ *   1 word     RQ_NO_WORD to RQ_CLOSE; of a comparison RQ_EQUAL to RQ_CROSSING
  *   2 place
  *   3 piece    1 to 4; in 21, 0 or 1; of a comparison, whose list is the inner one's: 1, 2, or 0
  *   4 length
@@ -36,8 +36,8 @@
  *       row of the lowest missing cell, the leftmost of its row
  *   10  test: `edges` has no room for two numbers of each edge: place, the count of edges;
  *       loose query, border, compare: the list has an odd count of numbers, or more than RQ_NUMBERS
- *   11  a cell number is above 254; compare, after 16: the walk leaves the chart
- *   12  query, row: nothing is at work at the place
+ *   11  a cell number is above 254; compare, after 16: the walk leaves the chart; reading: a number is none, infinite, below 0 or above 254
+ *   12  query, row, reading, piece: nothing is at work at the place
  *   13  add, close, drop: there is no draft
  *   14  begin: a draft is open
  *   15  add: the draft has RQ_LETTERS letters
@@ -78,7 +78,10 @@ enum {
     RQ_PILE_BYTES = 8161 /* bytes of a pile, as rq_pile_bytes() says */
 };
 
-enum { RQ_NO_WORD = 0, RQ_INSIDE = 1, RQ_OUTSIDE = 2, RQ_TAKEN = 3, RQ_SAME = 4, RQ_NONE = 5, RQ_COLUMNS = 6 };
+enum { RQ_NO_WORD = 0, RQ_INSIDE = 1, RQ_OUTSIDE = 2, RQ_TAKEN = 3, RQ_SAME = 4, RQ_NONE = 5, RQ_COLUMNS = 6, RQ_UNDECIDED = 7 };
+
+/* The words of a piece, beside RQ_NONE. */
+enum { RQ_MOVE = 8, RQ_LINE = 9, RQ_CLOSE = 10 };
 
 /* The words of a comparison. */
 enum { RQ_EQUAL = 11, RQ_FIRST_WITHIN = 12, RQ_SECOND_WITHIN = 13, RQ_NO_COMMON = 14, RQ_CROSSING = 15 };
@@ -155,6 +158,17 @@ bool rq_compare(uint16_t anchor_col_1, uint16_t anchor_row_1, const int16_t *edg
  *   5 query   a cell, the first two bytes of x and of y; the word is "inside" if the outline at work at the place encloses it, else "outside"
  *   6 row     a row, the first two bytes of x; the word is "columns" with the first enclosed column as column and the last as row, where
  *             every one between is enclosed too, or "none"
+ *   7 reading two floats of 32 bits, whose bits are x and y: angle and load in chart units, in which a cell's centre is at its whole column and
+ *             row. The word is "inside" or "outside" of the edges of the outline at work at the place, or "undecided"
+ *   8 piece   a position, the first two bytes of x, counted from 0 in the drawing of the outline at work at the place. The word is "move" at
+ *             first, with the anchor as column and row; then "line" with the cell at which an edge ends, for each edge but the last; then "close";
+ *             then "none". So with e edges position e is the close, and without an edge position 1
+ *
+ * A reading (X, Y). An edge (dx, dy) that leaves the cell (x, y) has there the side value dy (X - x) - dx (Y - y), computed in floats of 32 bits, each
+ * step rounded to nearest, ties to even. The word is "outside" where X is not between the lowest and the highest column of the cells at which
+ * edges meet, or Y not between their rows, or some computed value is at most -1/64; else "undecided" where some computed value is below 1/64;
+ * else "inside". One cell alone has its centre inside. A computed value is less than 1/64 from the exact one, so that "inside" and "outside"
+ * are exactly so, and "undecided" is never said where every exact value is at least 1/32 or one is at most -1/32. -0 is 0.
  *
  * A party's replies depend on its own calls alone. A call that 19 or 20 turns back alters nothing, but that a close ends its party's draft.
  */
@@ -162,10 +176,10 @@ bool rq_compare(uint16_t anchor_col_1, uint16_t anchor_row_1, const int16_t *edg
 /*
  * Runs a script of calls, one after the other, on a fresh holder, which has no draft and nothing at work, and writes a reply for each.
  *
- * The run ends before a call with a number above 6, before one that the script's end cuts, and before one whose reply has no room in
+ * The run ends before a call with a number above 8, before one that the script's end cuts, and before one whose reply has no room in
  * the k numbers of `replies`. Returns how many replies were written; what stands behind them is unaltered.
  *
- * Stack: about 88,100 bytes.
+ * Stack: about 100,900 bytes.
  */
 size_t rq_replay(const uint8_t *script, size_t n, uint16_t *replies, size_t k);
 
@@ -181,12 +195,24 @@ void rq_fresh(void *holder);
 /*
  * Makes one call of RQ_CALL bytes on a holder that rq_fresh made, and leaves it as the call says.
  *
- * False, with nothing altered, unless n is RQ_CALL, the call's number is at most 6 and k is at least RQ_REPLY. Else true; the reply stands
+ * False, with nothing altered, unless n is RQ_CALL, the call's number is at most 8 and k is at least RQ_REPLY. Else true; the reply stands
  * first in `reply`, the rest is unaltered. Calls one after the other have the replies that a script of them has.
  *
- * Stack: about 87,200 bytes.
+ * Stack: about 99,900 bytes.
  */
 bool rq_call(void *holder, const uint8_t *call, size_t n, uint16_t *reply, size_t k);
+
+/*
+ * Gives the piece at a position of a drawing: the reply is that of call 8, and the point is given in floats of 32 bits as well.
+ *
+ * Where the word is "move" or "line" and p is at least 2, the column and the row of the cell, each raised by one half, stand first in `point`: the
+ * floats are exactly these halves. The rest of it, and else all of it, is unaltered. The holder stays as it is. Refused by 19, 20 and 12.
+ *
+ * False, with nothing altered, if k is below RQ_REPLY. Else true; the reply stands first in `reply`, the rest is unaltered.
+ *
+ * Stack: about 35,900 bytes.
+ */
+bool rq_piece(void *holder, uint8_t party, uint8_t place, uint16_t position, float *point, size_t p, uint16_t *reply, size_t k);
 
 /*
  * Calls on a pile of RQ_LAYERS layers, each empty or one taken outline. A section at a fixed column, or at a fixed row, is a plane of layers by cells;

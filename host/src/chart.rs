@@ -19,6 +19,16 @@ pub struct Cell {
     pub row: u16,
 }
 
+/// Angle and load as two sensors give them, in chart units: the centre of a cell is at its whole column and row. The two floats are
+/// kept as bits, so that readings are the same exactly if the same bits are sent.
+///
+/// Any bits make one; a number that is none, infinite, below 0 or above [`LAST_CELL`](crate::limits::LAST_CELL) is turned back.
+#[derive(Clone, Copy, Debug, PartialEq, Eq, Hash)]
+pub struct Reading {
+    pub angle: u32,
+    pub load: u32,
+}
+
 impl Corner {
     pub const fn new(col: u16, row: u16) -> Self {
         Corner { col, row }
@@ -28,6 +38,12 @@ impl Corner {
 impl Cell {
     pub const fn new(col: u16, row: u16) -> Self {
         Cell { col, row }
+    }
+}
+
+impl Reading {
+    pub fn new(angle: f32, load: f32) -> Self {
+        Reading { angle: angle.to_bits(), load: load.to_bits() }
     }
 }
 

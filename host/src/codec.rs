@@ -2,7 +2,7 @@
 //! in its checks turns either into numbers or back.
 
 use crate::limits::{CALL, REPLY};
-use crate::{Cell, Corner};
+use crate::{Cell, Corner, Reading};
 
 /// The words of a reply (contract 4.3).
 pub const NO_WORD: u16 = 0;
@@ -13,6 +13,9 @@ pub const SAME: u16 = 4;
 pub const NONE: u16 = 5;
 pub const COLUMNS: u16 = 6;
 pub const UNDECIDED: u16 = 7;
+pub const MOVE: u16 = 8;
+pub const LINE: u16 = 9;
+pub const CLOSE: u16 = 10;
 pub const EQUAL: u16 = 11;
 pub const FIRST_WITHIN: u16 = 12;
 pub const SECOND_WITHIN: u16 = 13;
@@ -24,7 +27,7 @@ pub const CROSSING: u16 = 15;
 pub struct Fields {
     /// 0, or the refusal's number.
     pub number: u16,
-    /// [`NO_WORD`], [`INSIDE`], [`OUTSIDE`], [`TAKEN`], [`SAME`] or [`UNDECIDED`], of a comparison [`EQUAL`] to [`CROSSING`]; a test's is none.
+    /// [`NO_WORD`] to [`CLOSE`]; of a comparison, [`EQUAL`] to [`CROSSING`].
     pub word: u16,
     pub place: u16,
     pub piece: u16,
@@ -72,7 +75,7 @@ pub struct Call {
     pub action: Action,
 }
 
-/// What a call does for its party (contract 7.3 to 7.8). A place above 3 is turned back.
+/// What a call does for its party (contract 7.3 to 7.11). A place above 3 is turned back.
 #[derive(Clone, Copy, Debug, PartialEq, Eq, Hash)]
 pub enum Action {
     /// Opens a draft without letters.
@@ -89,6 +92,10 @@ pub enum Action {
     Query { place: u8, cell: Cell },
     /// Asks which columns of a row what is at work at a place encloses.
     Row { place: u8, row: u16 },
+    /// Asks where a reading lies to what is at work at a place.
+    Reading { place: u8, reading: Reading },
+    /// Asks for the piece at a position of the drawing of what is at work at a place.
+    Piece { place: u8, position: u16 },
 }
 
 impl Action {
@@ -124,6 +131,10 @@ impl Call {
             Action::Close { place } => put(4, Some(place), &[], &[]),
             Action::Query { place, cell } => put(5, Some(place), &cell.col.to_le_bytes(), &cell.row.to_le_bytes()),
             Action::Row { place, row } => put(6, Some(place), &row.to_le_bytes(), &[]),
+            Action::Reading { place, reading } => {
+                put(7, Some(place), &reading.angle.to_le_bytes(), &reading.load.to_le_bytes())
+            }
+            Action::Piece { place, position } => put(8, Some(place), &position.to_le_bytes(), &[]),
         }
         bytes
     }
@@ -131,16 +142,21 @@ impl Call {
     /// The call that stands in these bytes; none if there is no call of that number.
     #[inline]
     pub fn read(bytes: [u8; CALL]) -> Option<Call> {
-        let [number, party, place, ..] = bytes;
-        let (x, y) = (u16::from_le_bytes([bytes[X], bytes[X + 1]]), u16::from_le_bytes([bytes[Y], bytes[Y + 1]]));
+        let [number, party, place, a, b, c, d, e, f, g, h] = bytes;
+        let (x, y) = (u16::from_le_bytes([a, b]), u16::from_le_bytes([e, f]));
         let action = match number {
             0 => Action::Begin(Corner::new(x, y)),
-            1 => Action::Add(bytes[X]),
+            1 => Action::Add(a),
             2 => Action::Drop,
             3 => Action::Clear { place },
             4 => Action::Close { place },
             5 => Action::Query { place, cell: Cell::new(x, y) },
             6 => Action::Row { place, row: x },
+            7 => {
+                let (angle, load) = (u32::from_le_bytes([a, b, c, d]), u32::from_le_bytes([e, f, g, h]));
+                Action::Reading { place, reading: Reading { angle, load } }
+            }
+            8 => Action::Piece { place, position: x },
             _ => return None,
         };
         Some(action.by(party))
@@ -166,7 +182,7 @@ const Y: usize = 7;
 mod tests {
     use super::*;
 
-    const CALLS: [(Call, [u8; CALL]); 7] = [
+    const CALLS: [(Call, [u8; CALL]); 9] = [
         (Action::Begin(Corner::new(0x0102, 0x0304)).by(0), [0, 0, 0, 2, 1, 0, 0, 4, 3, 0, 0]),
         (Action::Add(9).by(1), [1, 1, 0, 9, 0, 0, 0, 0, 0, 0, 0]),
         (Action::Drop.by(255), [2, 255, 0, 0, 0, 0, 0, 0, 0, 0, 0]),
@@ -174,6 +190,11 @@ mod tests {
         (Action::Close { place: 4 }.by(0), [4, 0, 4, 0, 0, 0, 0, 0, 0, 0, 0]),
         (Action::Query { place: 2, cell: Cell::new(0xff, 0x100) }.by(1), [5, 1, 2, 0xff, 0, 0, 0, 0, 1, 0, 0]),
         (Action::Row { place: 1, row: 0x201 }.by(0), [6, 0, 1, 1, 2, 0, 0, 0, 0, 0, 0]),
+        (
+            Action::Reading { place: 3, reading: Reading { angle: 0x4030_2010, load: 0xff80_0001 } }.by(1),
+            [7, 1, 3, 0x10, 0x20, 0x30, 0x40, 1, 0, 0x80, 0xff],
+        ),
+        (Action::Piece { place: 2, position: 0x8001 }.by(0), [8, 0, 2, 1, 0x80, 0, 0, 0, 0, 0, 0]),
     ];
 
     #[test]
@@ -184,7 +205,7 @@ mod tests {
             assert_eq!(Call::read(call.bytes_over([77; CALL])), Some(call));
         }
         assert_eq!(Action::Add(9).by(1).bytes_over([77; CALL]), [1, 1, 77, 9, 77, 77, 77, 77, 77, 77, 77]);
-        assert!((7..=u8::MAX).all(|call| Call::read([call, 0, 0, 0, 0, 0, 0, 0, 0, 0, 0]).is_none()));
+        assert!((9..=u8::MAX).all(|call| Call::read([call, 0, 0, 0, 0, 0, 0, 0, 0, 0, 0]).is_none()));
     }
 
     #[test]
@@ -192,8 +213,8 @@ mod tests {
         let calls = CALLS.map(|(call, _)| call);
         let script = Call::script(calls);
         assert!(Call::each(&script).eq(calls));
-        assert!(Call::each(&script[..script.len() - 1]).eq(calls[..6].iter().copied()));
-        assert!(Call::each(&[&script[..2 * CALL], &[7; CALL], &script[..]].concat()).eq(calls[..2].iter().copied()));
+        assert!(Call::each(&script[..script.len() - 1]).eq(calls[..8].iter().copied()));
+        assert!(Call::each(&[&script[..2 * CALL], &[9; CALL], &script[..]].concat()).eq(calls[..2].iter().copied()));
     }
 
     #[test]

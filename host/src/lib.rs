@@ -21,8 +21,9 @@
 //! ```
 //!
 //! [`Edges::compare`] says which of two hulls lies within the other. A [`Holder`] keeps, for each party, a draft, letter by letter, and
-//! the outlines at work. [`raw`] has the library's functions as they are, on plain lists of numbers; [`codec`] reads and writes these,
-//! and [`limits`] names what bounds them.
+//! the outlines at work; it says where a [reading](Holder::reading) of two sensors lies among their edges, and gives them
+//! [piece by piece](Holder::piece) to a canvas. [`raw`] has the library's functions as they are, on plain lists of numbers; [`codec`]
+//! reads and writes these, and [`limits`] names what bounds them.
 //!
 //! A [`Pile`] keeps sixteen layers, and says whether they go over into one another without a dent.
 //!
@@ -38,10 +39,10 @@ pub mod pile;
 pub mod raw;
 mod refusal;
 
-pub use chart::{Cell, Corner};
+pub use chart::{Cell, Corner, Reading};
 pub use codec::{Action, Call};
 pub use comparison::{Comparison, Nesting, TurnedBack};
-pub use holder::{Answer, Holder, Reply};
+pub use holder::{Answer, Holder, Located, Piece, Reply};
 pub use outline::{Edges, Outline, Taken, Verdict};
 pub use pile::{Pile, PileCall};
 pub use refusal::Refusal;

@@ -58,6 +58,17 @@ mod library {
         pub fn rq_fresh(holder: *mut u64);
 
         pub fn rq_call(holder: *mut u64, call: *const u8, n: usize, reply: *mut u16, k: usize) -> bool;
+
+        pub fn rq_piece(
+            holder: *mut u64,
+            party: u8,
+            place: u8,
+            position: u16,
+            point: *mut f32,
+            p: usize,
+            reply: *mut u16,
+            k: usize,
+        ) -> bool;
     }
 }
 
@@ -160,7 +171,7 @@ pub fn holder_bytes() -> usize {
 }
 
 /// The memory that a holder lives in.
-#[derive(Clone, Debug)]
+#[derive(Clone, Debug, PartialEq, Eq)]
 pub struct HolderMemory(Box<[u64]>);
 
 impl HolderMemory {
@@ -182,5 +193,25 @@ impl HolderMemory {
     pub fn call(&mut self, call: &[u8], reply: &mut [u16]) -> bool {
         // SAFETY: as above, and each pointer comes with the length of its own slice. The memory is this holder's alone.
         unsafe { library::rq_call(self.0.as_mut_ptr(), call.as_ptr(), call.len(), reply.as_mut_ptr(), reply.len()) }
+    }
+
+    /// Gives a piece of a drawing. Its point, of a move or a line, stands first in `point` where that has room for two numbers.
+    ///
+    /// False, with nothing altered, if `reply` has no room for a reply.
+    #[inline]
+    pub fn piece(&mut self, party: u8, place: u8, position: u16, point: &mut [f32], reply: &mut [u16]) -> bool {
+        // SAFETY: as above.
+        unsafe {
+            library::rq_piece(
+                self.0.as_mut_ptr(),
+                party,
+                place,
+                position,
+                point.as_mut_ptr(),
+                point.len(),
+                reply.as_mut_ptr(),
+                reply.len(),
+            )
+        }
     }
 }

@@ -31,6 +31,8 @@ pub enum Refusal {
     List,
     /// 11: a cell off the chart.
     Cell,
+    /// 11, of a reading: a number that is none or is off the chart.
+    Reading,
     /// 12: nothing is at work.
     NothingAtWork,
     /// 13: there is no draft.
@@ -64,7 +66,7 @@ impl Refusal {
             Refusal::BackStep { .. } => 8,
             Refusal::Dent { .. } => 9,
             Refusal::Room { .. } | Refusal::List => 10,
-            Refusal::Cell => 11,
+            Refusal::Cell | Refusal::Reading => 11,
             Refusal::NothingAtWork => 12,
             Refusal::NoDraft => 13,
             Refusal::DraftOpen => 14,
@@ -118,6 +120,14 @@ impl Refusal {
             other => other,
         }
     }
+
+    /// The refusal in a reply to a reading, where 11 is about its two numbers.
+    pub(crate) fn of_reading(fields: Fields) -> Option<Refusal> {
+        match Refusal::of(fields) {
+            Some(Refusal::Cell) => Some(Refusal::Reading),
+            other => other,
+        }
+    }
 }
 
 impl fmt::Display for Refusal {
@@ -138,6 +148,7 @@ impl fmt::Display for Refusal {
             Refusal::Room { edges } => write!(f, "the lent list has no room for {edges} edges"),
             Refusal::List => write!(f, "the list has an odd count of numbers, or more than {LONGEST_LIST}"),
             Refusal::Cell => write!(f, "a cell number is above {LAST_CELL}"),
+            Refusal::Reading => write!(f, "a number of the reading is none, or not from 0 to {LAST_CELL}"),
             Refusal::NothingAtWork => write!(f, "nothing is at work"),
             Refusal::NoDraft => write!(f, "there is no draft"),
             Refusal::DraftOpen => write!(f, "a draft is open"),

@@ -1,7 +1,10 @@
 //! The safe interface's own part: lists as types, the holder's memory, the refusals' words.
 
 use robequarry::limits::{CALL, LAST_CORNER, LONGEST, LONGEST_LIST, PARTIES, PLACES, REPLY};
-use robequarry::{raw, Action, Answer, Cell, Comparison, Corner, Edges, Holder, Nesting, Outline, Refusal, Taken, TurnedBack};
+use robequarry::{
+    raw, Action, Answer, Cell, Comparison, Corner, Edges, Holder, Located, Nesting, Outline, Piece, Reading, Refusal, Taken,
+    TurnedBack,
+};
 
 const BAR: [u8; 8] = [1, 0, 0, 0, 3, 2, 2, 2];
 const CELL: [u8; 4] = [1, 0, 3, 2];
@@ -158,6 +161,57 @@ fn parties_and_places_stand_apart() {
 }
 
 #[test]
+fn readings() {
+    let mut holder = Holder::new();
+    assert_eq!(holder.reading(KNEE, 1, 1.0, 1.0), Err(Refusal::NothingAtWork));
+    // Five cells by five, from (5, 5): the edges run round the centres of the outer cells.
+    let square = [[1; 5], [0; 5], [3; 5], [2; 5]].concat();
+    draw(&mut holder, 1, (5, 5), &square).unwrap();
+    let mut at = |angle, load| holder.reading(KNEE, 1, angle, load);
+    assert_eq!(at(7.25, 8.5), Ok(Located::Inside));
+    assert_eq!(at(5.0, 7.0), Ok(Located::Undecided));
+    assert_eq!(at(4.999, 7.0), Ok(Located::Outside));
+    assert_eq!(at(9.0, 9.0), Ok(Located::Undecided));
+    assert_eq!(at(0.0, -0.0), Ok(Located::Outside));
+    for bad in [-f32::MIN_POSITIVE, 254.5, f32::INFINITY, f32::NEG_INFINITY, f32::NAN, -f32::NAN] {
+        assert_eq!((at(bad, 7.0), at(7.0, bad)), (Err(Refusal::Reading), Err(Refusal::Reading)), "{bad}");
+    }
+    // 19, 20, 12 and then 11; a call has the answers of all calls.
+    assert_eq!(holder.reading(PARTIES, PLACES, f32::NAN, 0.0), Err(Refusal::Party));
+    assert_eq!(holder.reading(ANKLE, PLACES, f32::NAN, 0.0), Err(Refusal::Place));
+    assert_eq!(holder.reading(ANKLE, 1, f32::NAN, 0.0), Err(Refusal::NothingAtWork));
+    let reading = Reading::new(5.0, 7.0);
+    assert_eq!(holder.call(Action::Reading { place: 1, reading }.by(KNEE)), Ok(Answer::Undecided));
+    assert_eq!(Refusal::Reading.to_string(), "a number of the reading is none, or not from 0 to 254");
+    assert_eq!(Refusal::Reading.number(), 11);
+}
+
+#[test]
+fn pieces() {
+    let mut holder = Holder::new();
+    assert_eq!(holder.piece(KNEE, 0, 0), Err(Refusal::NothingAtWork));
+    // A draft in the making stays as it is.
+    holder.begin(ANKLE, Corner::new(0, 0)).unwrap();
+    draw(&mut holder, 0, (253, 252), &[1, 1, 0, 3, 0, 3, 2, 2]).unwrap();
+    let mut at = |position| holder.piece(KNEE, 0, position);
+    assert_eq!(at(0), Ok(Piece::Move(253.5, 252.5)));
+    assert_eq!(at(1), Ok(Piece::Line(253.5, 253.5)));
+    assert_eq!(at(2), Ok(Piece::Line(254.5, 252.5)));
+    assert_eq!((at(3), at(4), at(u16::MAX)), (Ok(Piece::Close), Ok(Piece::None), Ok(Piece::None)));
+    draw(&mut holder, 1, (9, 9), &CELL).unwrap();
+    let mut at = |position| holder.piece(KNEE, 1, position);
+    assert_eq!((at(0), at(1), at(2)), (Ok(Piece::Move(9.5, 9.5)), Ok(Piece::Close), Ok(Piece::None)));
+    // A call has the cell.
+    let mut call = |position| holder.call(Action::Piece { place: 0, position }.by(KNEE));
+    assert_eq!((call(0), call(2)), (Ok(Answer::Move(Cell::new(253, 252))), Ok(Answer::Line(Cell::new(254, 252)))));
+    assert_eq!((call(3), call(4)), (Ok(Answer::Close), Ok(Answer::None)));
+    assert_eq!(holder.piece(PARTIES, PLACES, 0), Err(Refusal::Party));
+    assert_eq!(holder.piece(ANKLE, PLACES, 0), Err(Refusal::Place));
+    assert_eq!(holder.piece(ANKLE, 0, 0), Err(Refusal::NothingAtWork));
+    assert_eq!(holder.begin(ANKLE, Corner::new(0, 0)), Err(Refusal::DraftOpen));
+}
+
+#[test]
 fn comparisons() {
     let edges = |col, row, numbers: &[i16]| Edges::new(Cell::new(col, row), numbers);
     let square = edges(4, 4, &[0, 2, 2, 0, 0, -2, -2, 0]);
@@ -199,7 +253,7 @@ fn bytes_that_are_no_call() {
     let mut memory = raw::HolderMemory::fresh();
     let drop = Action::Drop.by(KNEE).bytes();
     let mut reply = [5; REPLY + 1];
-    for bytes in [&drop[..CALL - 1], &[], &[&drop[..], &[0]].concat(), &[7, 0, 0, 0, 0, 0, 0, 0, 0, 0, 0]] {
+    for bytes in [&drop[..CALL - 1], &[], &[&drop[..], &[0]].concat(), &[9, 0, 0, 0, 0, 0, 0, 0, 0, 0, 0]] {
         assert!(!memory.call(bytes, &mut reply), "{bytes:?}");
     }
     assert!(!memory.call(&Action::Begin(Corner::new(0, 0)).by(KNEE).bytes(), &mut reply[..REPLY - 1]));

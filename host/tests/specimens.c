@@ -26,6 +26,19 @@ _Static_assert(sizeof(struct pile) == RQ_PILE_BYTES && _Alignof(struct pile) == 
         if (!(fact)) return __LINE__; \
     } while (0)
 
+/* A reading at place 2 of party 1, as bytes: each float by its bits, low byte first. */
+static void reading(uint8_t call[RQ_CALL], float angle, float load) {
+    const float numbers[] = {angle, load};
+    call[0] = 7;
+    call[1] = 1;
+    call[2] = 2;
+    for (int i = 0; i < 2; i++) {
+        uint32_t bits;
+        memcpy(&bits, &numbers[i], sizeof bits);
+        for (int j = 0; j < 4; j++) call[3 + 4 * i + j] = (uint8_t)(bits >> 8 * j);
+    }
+}
+
 int main(void) {
     /* H3: a plus, taken with four edges. */
     const uint8_t plus[] = {1, 0, 1, 0, 3, 0, 3, 2, 3, 2, 1, 2};
@@ -85,6 +98,43 @@ int main(void) {
         for (int j = 0; j < RQ_REPLY; j++) EXPECT(reply[j] == replies[RQ_REPLY * i + j]);
     }
     EXPECT(!rq_call(memory, script, RQ_CALL - 1, reply, RQ_REPLY) && !rq_call(memory, script, RQ_CALL, reply, RQ_REPLY - 1));
+
+    /* Readings: the one cell's centre alone is inside; with the plus in its place, its middle is, and an edge is undecided. */
+    uint8_t call[RQ_CALL];
+    reading(call, 0.0f, -0.0f);
+    EXPECT(rq_call(memory, call, RQ_CALL, reply, RQ_REPLY) && reply[0] == 0 && reply[1] == RQ_INSIDE);
+    reading(call, 0.25f, 0.0f);
+    EXPECT(rq_call(memory, call, RQ_CALL, reply, RQ_REPLY) && reply[1] == RQ_OUTSIDE);
+    reading(call, 0.0f, -0.25f);
+    EXPECT(rq_call(memory, call, RQ_CALL, reply, RQ_REPLY) && reply[0] == 11 && reply[1] == RQ_NO_WORD);
+    const uint8_t begin[] = {0, 1, 0, 0, 0, 0, 0, 1, 0, 0, 0}, close[] = {4, 1, 2, 0, 0, 0, 0, 0, 0, 0, 0};
+    EXPECT(rq_call(memory, begin, RQ_CALL, reply, RQ_REPLY));
+    for (size_t i = 0; i < sizeof plus; i++) {
+        const uint8_t add[RQ_CALL] = {1, 1, 0, plus[i]};
+        EXPECT(rq_call(memory, add, RQ_CALL, reply, RQ_REPLY));
+    }
+    EXPECT(rq_call(memory, close, RQ_CALL, reply, RQ_REPLY) && reply[1] == RQ_TAKEN);
+    reading(call, 1.25f, 0.75f);
+    EXPECT(rq_call(memory, call, RQ_CALL, reply, RQ_REPLY) && reply[1] == RQ_INSIDE);
+    reading(call, 0.5f, 1.5f);
+    EXPECT(rq_call(memory, call, RQ_CALL, reply, RQ_REPLY) && reply[0] == 0 && reply[1] == RQ_UNDECIDED);
+
+    /* The plus in pieces: a move to the anchor, three lines, a close. Each point is the reply's cell and one half. */
+    float point[] = {-1.0f, -1.0f, -1.0f};
+    for (uint8_t position = 0; position < 6; position++) {
+        const uint8_t piece[RQ_CALL] = {8, 1, 2, position};
+        const uint16_t words[] = {RQ_MOVE, RQ_LINE, RQ_LINE, RQ_LINE, RQ_CLOSE, RQ_NONE};
+        EXPECT(rq_piece(memory, 1, 2, position, point, 2, reply, RQ_REPLY) && reply[0] == 0 && reply[1] == words[position]);
+        EXPECT(position > 3 || (point[0] == reply[5] + 0.5f && point[1] == reply[6] + 0.5f));
+        uint16_t called[RQ_REPLY];
+        EXPECT(rq_call(memory, piece, RQ_CALL, called, RQ_REPLY) && memcmp(called, reply, sizeof reply) == 0);
+    }
+    EXPECT(point[0] == 1.5f && point[1] == 0.5f && point[2] == -1.0f);
+    EXPECT(rq_piece(memory, 1, 2, 0, point, 1, reply, RQ_REPLY) && reply[1] == RQ_MOVE && reply[6] == 1 && point[0] == 1.5f);
+    EXPECT(!rq_piece(memory, 1, 2, 0, point, 2, reply, RQ_REPLY - 1) && point[0] == 1.5f);
+    EXPECT(rq_piece(memory, 2, 4, 0, point, 2, reply, RQ_REPLY) && reply[0] == 19);
+    EXPECT(rq_piece(memory, 0, 4, 0, point, 2, reply, RQ_REPLY) && reply[0] == 20);
+    EXPECT(rq_piece(memory, 0, 2, 0, point, 2, reply, RQ_REPLY) && reply[0] == 12 && point[0] == 1.5f);
     EXPECT(memory[RQ_HOLDER_BYTES / 8] == 0x5a5a5a5a5a5a5a5a);
 
     /* A pile: cells (0, 1), (1, 2), (2, 0) of column 9, as layer and row, leave (1, 1) out. */

@@ -8,7 +8,8 @@ use robequarry::limits::{LAST_LETTER, REPLY};
 use crate::engine::Engine;
 use crate::{Fields, Outline, Point};
 
-/// An input. `lent` and `room` are the lengths of the list for edges or for letters, and of the list for replies.
+/// An input. `lent` and `room` are the lengths of the list for edges, for letters or for a point, and of the list for replies. A piece
+/// is asked for on the holder that its script leaves.
 #[derive(Clone, Debug, PartialEq)]
 pub enum Case {
     Test { outline: Outline, lent: usize, room: usize },
@@ -16,6 +17,15 @@ pub enum Case {
     Border { anchor: Point, edges: Vec<i16>, lent: usize, room: usize },
     Compare { first: Polygon, second: Polygon, room: usize },
     Script { bytes: Vec<u8>, room: usize },
+    Piece { script: Vec<u8>, asked: Asked, lent: usize, room: usize },
+}
+
+/// Whose drawing is asked for, and for which of its pieces.
+#[derive(Clone, Copy, Debug, PartialEq)]
+pub struct Asked {
+    pub party: u8,
+    pub place: u8,
+    pub position: u16,
 }
 
 /// An anchor and a list of edges.
@@ -31,6 +41,8 @@ pub struct Outcome {
     pub returned: usize,
     pub edges: Vec<i16>,
     pub letters: Vec<u8>,
+    /// The bits of floats.
+    pub point: Vec<u32>,
     pub replies: Vec<u16>,
 }
 
@@ -44,15 +56,22 @@ fn letter_filler(i: usize) -> u8 {
     filler(i) as u8 | 0x80
 }
 
+/// The same in a list for a point, as bits: no half.
+fn point_filler(i: usize) -> u32 {
+    u32::from(filler(i)) << 8 | 0xff
+}
+
 impl Case {
     pub fn run(&self, engine: &dyn Engine) -> Outcome {
-        let (lent_edges, lent_letters, room) = match *self {
-            Case::Test { lent, room, .. } => (lent, 0, room),
-            Case::Border { lent, room, .. } => (0, lent, room),
-            Case::Loose { room, .. } | Case::Compare { room, .. } | Case::Script { room, .. } => (0, 0, room),
+        let (lent_edges, lent_letters, lent_point, room) = match *self {
+            Case::Test { lent, room, .. } => (lent, 0, 0, room),
+            Case::Border { lent, room, .. } => (0, lent, 0, room),
+            Case::Piece { lent, room, .. } => (0, 0, lent, room),
+            Case::Loose { room, .. } | Case::Compare { room, .. } | Case::Script { room, .. } => (0, 0, 0, room),
         };
         let mut edges: Vec<i16> = (0..lent_edges).map(|i| filler(i) as i16).collect();
         let mut letters: Vec<u8> = (0..lent_letters).map(letter_filler).collect();
+        let mut point: Vec<f32> = (0..lent_point).map(|i| f32::from_bits(point_filler(i))).collect();
         let mut replies: Vec<u16> = (0..room).map(filler).collect();
         let returned = match self {
             Case::Test { outline, .. } => {
@@ -62,8 +81,10 @@ impl Case {
             Case::Border { anchor, edges, .. } => usize::from(engine.border(*anchor, edges, &mut letters, &mut replies)),
             Case::Compare { first, second, .. } => usize::from(engine.compare(first, second, &mut replies)),
             Case::Script { bytes, .. } => engine.replay(bytes, &mut replies),
+            Case::Piece { script, asked, .. } => usize::from(engine.piece(script, *asked, &mut point, &mut replies)),
         };
-        Outcome { returned, edges, letters, replies }
+        let point = point.into_iter().map(f32::to_bits).collect();
+        Outcome { returned, edges, letters, point, replies }
     }
 }
 
@@ -87,6 +108,10 @@ impl fmt::Display for Outcome {
         write!(f, ", edges {:?}", &self.edges[..edges.map_or(0, |last| last + 1)])?;
         let letters = self.letters.iter().enumerate().rposition(|(i, &letter)| letter != letter_filler(i));
         write!(f, ", letters {}", bytes_as_text(&self.letters[..letters.map_or(0, |last| last + 1)]))?;
+        let point = self.point.iter().enumerate().rposition(|(i, &bits)| bits != point_filler(i));
+        let point: Vec<f32> =
+            self.point[..point.map_or(0, |last| last + 1)].iter().map(|&bits| f32::from_bits(bits)).collect();
+        write!(f, ", point {point:?}")?;
         let altered = (written..).zip(rest).filter(|&(i, &number)| number != filler(i)).count();
         write!(f, ", {altered} numbers altered behind the replies")
     }
@@ -155,6 +180,9 @@ impl fmt::Display for Case {
                 write!(f, "compare {} {} {one} {} {} {other} {room}", a.col, a.row, b.col, b.row)
             }
             Case::Script { bytes, room } => write!(f, "script {} {room}", bytes_as_text(bytes)),
+            Case::Piece { script, asked: Asked { party, place, position }, lent, room } => {
+                write!(f, "piece {} {party} {place} {position} {lent} {room}", bytes_as_text(script))
+            }
         }
     }
 }
@@ -188,12 +216,19 @@ impl FromStr for Case {
                 room: number(room)?,
             }),
             ["script", bytes, room] => Ok(Case::Script { bytes: bytes_from_text(bytes)?, room: number(room)? }),
+            ["piece", script, party, place, position, lent, room] => Ok(Case::Piece {
+                script: bytes_from_text(script)?,
+                asked: Asked { party: number(party)?, place: number(place)?, position: number(position)? },
+                lent: number(lent)?,
+                room: number(room)?,
+            }),
             _ => {
                 let lines = [
                     "test COL ROW LETTERS LENT ROOM",
                     "loose COL ROW EDGES COL ROW ROOM",
                     "border COL ROW EDGES LENT ROOM",
                     "compare COL ROW EDGES COL ROW EDGES ROOM",
+                    "piece BYTES PARTY PLACE POSITION LENT ROOM",
                 ];
                 Err(format!("a line is `{}` or `script BYTES ROOM`", lines.join("`, `")))
             }
@@ -219,6 +254,8 @@ mod tests {
             "compare 0 0 1,1,-1,-1 0 1 - 7",
             "script x0000000000040000000006 14",
             "script - 0",
+            "piece x0400000000000000000000 1 3 65535 2 7",
+            "piece - 0 0 0 0 0",
         ];
         for line in lines {
             assert_eq!(line.parse::<Case>().map(|case| case.to_string()), Ok(line.to_string()));

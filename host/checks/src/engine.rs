@@ -2,8 +2,10 @@
 
 use robequarry::limits::{CALL, REPLY};
 use robequarry::raw::HolderMemory;
+use robequarry::{Action, Call};
 
-use crate::case::Polygon;
+use crate::case::{Asked, Polygon};
+use crate::live::after;
 use crate::{plain, reference, Fields, Point};
 
 pub trait Engine {
@@ -18,6 +20,9 @@ pub trait Engine {
     fn compare(&self, first: &Polygon, second: &Polygon, reply: &mut [u16]) -> bool;
 
     fn replay(&self, script: &[u8], replies: &mut [u16]) -> usize;
+
+    /// A piece with its point, after the calls of a script.
+    fn piece(&self, script: &[u8], asked: Asked, point: &mut [f32], reply: &mut [u16]) -> bool;
 }
 
 /// The proved library.
@@ -57,6 +62,14 @@ impl Engine for Library {
     fn replay(&self, script: &[u8], replies: &mut [u16]) -> usize {
         robequarry::raw::replay(script, replies)
     }
+
+    fn piece(&self, script: &[u8], Asked { party, place, position }: Asked, point: &mut [f32], reply: &mut [u16]) -> bool {
+        let mut holder = after(script);
+        let before = holder.clone();
+        let answered = holder.piece(party, place, position, point, reply);
+        assert!(holder == before, "a piece leaves the holder as it is");
+        answered
+    }
 }
 
 impl Engine for Live {
@@ -92,6 +105,10 @@ impl Engine for Live {
         }
         written
     }
+
+    fn piece(&self, script: &[u8], asked: Asked, point: &mut [f32], reply: &mut [u16]) -> bool {
+        Library.piece(script, asked, point, reply)
+    }
 }
 
 impl Engine for Reference {
@@ -118,6 +135,19 @@ impl Engine for Reference {
     fn replay(&self, script: &[u8], replies: &mut [u16]) -> usize {
         reference::book::replay(script, replies)
     }
+
+    fn piece(&self, script: &[u8], Asked { party, place, position }: Asked, point: &mut [f32], reply: &mut [u16]) -> bool {
+        let mut book = reference::book::Book::default();
+        for call in Call::each(script) {
+            book.answer(call);
+        }
+        let piece = book.answer(Action::Piece { place, position }.by(party));
+        let written = piece.write(reply);
+        if let (true, Some(bits), Some(front)) = (written, reference::pieces::point(piece), point.first_chunk_mut()) {
+            *front = bits.map(f32::from_bits);
+        }
+        written
+    }
 }
 
 impl Engine for Plain {
@@ -143,6 +173,12 @@ impl Engine for Plain {
 
     fn replay(&self, script: &[u8], replies: &mut [u16]) -> usize {
         plain::replay(script, replies)
+    }
+
+    fn piece(&self, script: &[u8], Asked { party, place, position }: Asked, point: &mut [f32], reply: &mut [u16]) -> bool {
+        let mut holder = plain::Holder::new();
+        script.chunks(CALL).all(|call| holder.call(call, &mut [0; REPLY]));
+        holder.piece(party, place, position, point, reply)
     }
 }
 

@@ -3,9 +3,10 @@
 //! - [`mod@reference`] is docs/CONTRACT.md once more, in the plainest Rust: every definition as written, nothing clever.
 //! - [`plain`] is the library's algorithm in plain Rust: the benchmark's first rival. It is held to the reference too.
 //! - [`hull_and_count`] is the usual way to test convexity: the benchmark's second rival.
-//! - [`engine`] gives all of them, and the library, one face; [`case`] is one input for it, which can be written as a line.
-//!   Limits, and replies and calls as numbers, are those of the crate `robequarry`.
-//! - [`walks`], [`draw`], [`polygons`], [`sensors`], [`garbage`], [`scripts`] and [`piles`] make the inputs, from the numbers of [`random`].
+//! - [`engine`] gives all of them, and the library, one face; [`case`] is one input for it, which can be written as a line. [`live`] is
+//!   a holder of the library. Limits, and replies and calls as numbers, are those of the crate `robequarry`.
+//! - [`walks`], [`draw`], [`polygons`], [`sensors`], [`garbage`], [`scripts`] and [`piles`] make the inputs, from the numbers of [`random`];
+//!   [`specimens`] has those of the contract.
 //! - [`timing`] and [`stack`] measure; [`report`] prints what was timed, and [`tally`] what was reached.
 
 pub mod case;
@@ -14,6 +15,7 @@ pub mod engine;
 pub mod garbage;
 pub mod grid;
 pub mod hull_and_count;
+pub mod live;
 pub mod piles;
 pub mod plain;
 pub mod point;
@@ -24,6 +26,7 @@ pub mod reply;
 pub mod report;
 pub mod scripts;
 pub mod sensors;
+pub mod specimens;
 pub mod stack;
 pub mod tally;
 pub mod timing;

@@ -1,12 +1,12 @@
 //! Lists of edges that lead once round, and lists that nearly do.
 
-use robequarry::limits::{LAST_CELL, LONGEST_LIST};
+use robequarry::limits::{LAST_CELL, LONGEST, LONGEST_LIST};
 
 use crate::case::{Case, Polygon};
 use crate::garbage::{cell, letter_room, room};
 use crate::random::Random;
 use crate::reference::edges::{bad_turning, corner_cells, sooner, steps, Step};
-use crate::Point;
+use crate::{plain, Outline, Point};
 
 /// Edges that lead once round clockwise from up, or none: any steps, the one that closes them, in the order of their directions,
 /// those of one direction added up.
@@ -105,6 +105,17 @@ fn placed(random: &mut Random, edges: &[i16], near: Option<Point>) -> Point {
     let col = number(cells.iter().map(|cell| cell.0).collect(), near.map(|near| near.col));
     let row = number(cells.iter().map(|cell| cell.1).collect(), near.map(|near| near.row));
     Point::new(col, row)
+}
+
+/// The outline of a few edges that may be long, if there is one.
+pub fn outline(random: &mut Random) -> Option<Outline> {
+    let reach = [20, 60, 120][random.below(3)];
+    let edges = once_round(random, reach, 6);
+    let anchor = placed(random, &edges, None);
+    let mut letters = vec![0; LONGEST];
+    let reply = plain::border(anchor, &edges, &mut letters);
+    letters.truncate(reply.place.into());
+    (reply.number == 0).then_some(Outline { start: anchor, letters })
 }
 
 /// The same edges, some of them changed by a little, and closed again.

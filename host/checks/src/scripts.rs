@@ -1,13 +1,49 @@
 //! Random scripts of calls for the holder.
 
 use robequarry::limits::{CALL, LONGEST, REPLY};
-use robequarry::Action;
+use robequarry::{Action, Call, Reading};
 
-use crate::case::Case;
+use crate::case::{Asked, Case};
 use crate::draw::{reversed, rotated};
-use crate::garbage::{any_outline, cell};
+use crate::garbage::{any_outline, cell, room};
 use crate::random::Random;
-use crate::{Outline, Point};
+use crate::reference::readings::Polygon;
+use crate::{sensors, Outline, Point};
+
+/// The calls that draw an outline and close it at a place.
+pub fn to_work(outline: &Outline, party: u8, place: u8) -> Vec<u8> {
+    let adds = outline.letters.iter().map(|&letter| Action::Add(letter));
+    let actions = std::iter::once(Action::Begin(outline.start.into())).chain(adds).chain([Action::Close { place }]);
+    Call::script(actions.map(|action| action.by(party)))
+}
+
+/// A position in the drawing of so many edges, or past it.
+pub fn position(random: &mut Random, edges: usize) -> u16 {
+    match random.below(4) {
+        0 => random.from_to(0, edges + 2) as u16,
+        1 => (edges + random.below(4)).saturating_sub(2) as u16,
+        2 => [0, 1, 255, 256, 32_768, u16::MAX][random.below(6)],
+        _ => random.from_to(0, edges) as u16,
+    }
+}
+
+/// An outline drawn and closed, and then a piece of it asked for; now and then of another party or place.
+pub fn piece(random: &mut Random, outline: &Outline, edges: usize) -> Case {
+    let (party, place) = (random.below(2) as u8, random.below(4) as u8);
+    let mut other = |of: u8| if random.once_in(8) { [0, 1, 2, 3, 4, u8::MAX][random.below(6)] } else { of };
+    let (asked_party, asked_place) = (other(party), other(place));
+    let asked = Asked { party: asked_party, place: asked_place, position: position(random, edges) };
+    let lent = [2, 2, 2, 3, 5, 1, 0][random.below(7)];
+    Case::Piece { script: to_work(outline, party, place), asked, lent, room: room(random) }
+}
+
+/// An outline drawn and closed, and then asked about.
+pub fn asking(outline: &Outline, party: u8, place: u8, asked: impl IntoIterator<Item = Action>) -> Case {
+    let asked = Call::script(asked.into_iter().map(|action| action.by(party)));
+    let bytes = [to_work(outline, party, place), asked].concat();
+    let room = bytes.len() / CALL * REPLY;
+    Case::Script { bytes, room }
+}
 
 /// A script that is being written.
 struct Script<'a> {
@@ -99,6 +135,14 @@ impl Script<'_> {
         self.call(Action::Row { place: self.place, row });
     }
 
+    fn reading(&mut self, reading: Reading) {
+        self.call(Action::Reading { place: self.place, reading });
+    }
+
+    fn piece(&mut self, position: u16) {
+        self.call(Action::Piece { place: self.place, position });
+    }
+
     fn query(&mut self, cell: Point) {
         self.call(Action::Query { place: self.place, cell: cell.into() });
     }
@@ -163,15 +207,26 @@ impl Script<'_> {
     fn queries(&mut self) {
         for _ in 0..self.random.from_to(1, 4) {
             let cell = cell(self.random);
-            if self.random.once_in(3) {
-                self.row(cell.row);
-            } else {
-                self.query(cell);
+            match self.random.below(5) {
+                0 => self.row(cell.row),
+                1 => self.reading_near(&Polygon::new(cell, [])),
+                2 => self.piece_near(0),
+                _ => self.query(cell),
             }
         }
     }
 
-    /// Cells at an outline's border, where the answers differ.
+    fn piece_near(&mut self, edges: usize) {
+        let position = position(self.random, edges);
+        self.piece(position);
+    }
+
+    fn reading_near(&mut self, polygon: &Polygon) {
+        let reading = sensors::reading(self.random, polygon);
+        self.reading(reading);
+    }
+
+    /// Cells at an outline's border, readings at its edges, where the answers differ, and pieces of its drawing.
     fn queries_near(&mut self, outline: &Outline) {
         let mut at = (i32::from(outline.start.col), i32::from(outline.start.row));
         for &letter in &outline.letters {
@@ -184,6 +239,12 @@ impl Script<'_> {
                 if self.random.once_in(3) {
                     self.row(cell.row);
                 }
+            }
+        }
+        if let Some(polygon) = Polygon::of(outline) {
+            for _ in 0..self.random.below(4) {
+                self.reading_near(&polygon);
+                self.piece_near(polygon.edges.len());
             }
         }
     }
@@ -217,13 +278,13 @@ impl Script<'_> {
 
     fn unknown(&mut self) {
         let mut bytes = self.any_call();
-        bytes[0] = [7, 8, 128, 255][self.random.below(4)];
+        bytes[0] = [9, 10, 128, 255][self.random.below(4)];
         self.bytes.extend(bytes);
     }
 
     fn any_bytes(&mut self) {
         for _ in 0..self.random.below(50) {
-            let byte = if self.random.once_in(3) { self.random.any() as u8 } else { self.random.below(7) as u8 };
+            let byte = if self.random.once_in(3) { self.random.any() as u8 } else { self.random.below(9) as u8 };
             self.bytes.push(byte);
         }
     }

@@ -2,32 +2,54 @@
 //! no number.
 
 use robequarry::limits::LAST_CELL;
+use robequarry::Reading;
 
 use crate::random::Random;
-use crate::reference::readings::{Patterns, Polygon};
+use crate::reference::readings::Polygon;
 
 /// Two numbers, most often near one of the polygon's edges.
-pub fn reading(random: &mut Random, polygon: &Polygon) -> Patterns {
-    if polygon.edges.is_empty() || random.once_in(4) {
-        return Patterns { angle: pattern(random), load: pattern(random) };
+pub fn reading(random: &mut Random, polygon: &Polygon) -> Reading {
+    let (x, y) = near(random, polygon);
+    let (angle, load) = (beside(random, x), beside(random, y));
+    match random.below(12) {
+        0 | 1 => Reading { angle: pattern(random), load: pattern(random) },
+        2 => Reading { angle, load: pattern(random) },
+        3 => Reading { angle: pattern(random), load },
+        _ => Reading { angle, load },
     }
-    let edge = polygon.edges[random.below(polygon.edges.len())];
-    // A point on the edge or beyond its ends, or a corner cell; then some steps of the last binary digit away from it.
-    let along = match random.below(4) {
-        0 => 0.0,
-        1 => 1.0,
-        2 => random.below(17) as f32 / 16.0,
-        _ => 1.5 * random.fraction() as f32 - 0.25,
-    };
-    let mut number = |from: i64, step: i64| beside(random, (from as f32 + along * step as f32).max(0.0));
-    Patterns { angle: number(edge.from.0, edge.step.0), load: number(edge.from.1, edge.step.1) }
 }
 
-/// The pattern of a number of 0 or more, or one near it.
+/// A point on an edge, at its ends or beyond them, or off it by so much that its side value is 1/64 or 1/32, as nearly as floats can;
+/// without an edge, the cell's centre.
+fn near(random: &mut Random, polygon: &Polygon) -> (f32, f32) {
+    if polygon.edges.is_empty() {
+        let (col, row) = polygon.met[0];
+        return (col as f32, row as f32);
+    }
+    let edge = polygon.edges[random.below(polygon.edges.len())];
+    let [col, row, cols, rows] = [edge.from.0, edge.from.1, edge.step.0, edge.step.1].map(|number| number as f64);
+    let along = match random.below(5) {
+        0 => 0.0,
+        1 => 1.0,
+        2 => random.below(17) as f64 / 16.0,
+        _ => 1.5 * random.fraction() - 0.25,
+    };
+    let value = [0.0, 1.0, 1.0, -1.0, -1.0, 2.0, -2.0][random.below(7)] / 64.0;
+    // One number is a float already, and the other is the one that makes this value of it.
+    if cols != 0.0 && (rows == 0.0 || random.once_in(2)) {
+        let x = (col + along * cols) as f32;
+        (x, (row + (rows * (f64::from(x) - col) - value) / cols) as f32)
+    } else {
+        let y = (row + along * rows) as f32;
+        ((col + (cols * (f64::from(y) - row) + value) / rows) as f32, y)
+    }
+}
+
+/// The pattern of a number, or one near it; of 0 or one just above it where the number is below.
 fn beside(random: &mut Random, number: f32) -> u32 {
-    let reach = [0, 1, 4, 1 << 9, 1 << 13, 1 << 17][random.below(6)];
+    let reach = [0, 0, 0, 1, 4, 1 << 9, 1 << 13, 1 << 17][random.below(8)];
     let steps = random.below(2 * reach + 1) as i64 - reach as i64;
-    (i64::from(number.to_bits()) + steps).max(0) as u32
+    (i64::from(number.max(0.0).to_bits()) + steps).max(0) as u32
 }
 
 /// A pattern of any class.
@@ -45,7 +67,7 @@ fn pattern(random: &mut Random) -> u32 {
         // Infinite, the largest finite number, the patterns of no number; of either sign.
         4 => {
             (random.below(2) as u32) << 31
-                | [0x7f80_0000, 0x7f7f_ffff, 0x7f80_0001, 0x7fc0_0000, 0x7fff_ffff][random.below(5)]
+                | [0x7f80_0000, 0x7f7f_ffff, 0x7f80_0001, 0x7fbf_ffff, 0x7fc0_0000, 0x7fff_ffff][random.below(6)]
         }
         // A negative number of the chart's size.
         5 => (-last * random.fraction() as f32).to_bits(),

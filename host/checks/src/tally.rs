@@ -10,7 +10,7 @@ const NUMBERS: usize = LAST_REFUSAL as usize + 1;
 const WORDS: usize = CROSSING as usize + 1;
 
 /// The words that some input reaches, and their names.
-const NAMES: [(usize, &str); 12] = [
+const NAMES: [(usize, &str); 16] = [
     (0, "no word"),
     (1, "inside"),
     (2, "outside"),
@@ -18,6 +18,10 @@ const NAMES: [(usize, &str); 12] = [
     (4, "same"),
     (5, "none"),
     (6, "columns"),
+    (7, "undecided"),
+    (8, "move"),
+    (9, "line"),
+    (10, "close"),
     (11, "equal"),
     (12, "first within"),
     (13, "second within"),
@@ -46,6 +50,7 @@ pub struct Tally {
     pub borders: Replies,
     pub comparisons: Replies,
     pub calls: Replies,
+    pub pieces: Replies,
     /// Inputs whose reply list had no room.
     pub no_room: u64,
     /// The most letters, and the most edges, of a taken test.
@@ -62,6 +67,7 @@ impl Tally {
             Case::Border { .. } => &mut self.borders,
             Case::Compare { .. } => &mut self.comparisons,
             Case::Script { .. } => &mut self.calls,
+            Case::Piece { .. } => &mut self.pieces,
         };
         for reply in outcome.fields() {
             replies.count(reply);
@@ -79,14 +85,20 @@ impl Tally {
     /// The table of numbers and words, and a complaint for each that some input reaches and none of these did.
     pub fn report(&self) -> Vec<String> {
         // What no input reaches: a test knows no state, a loose query no outline, and a holder has room for every edge.
-        let reached: [(&str, &Replies, &[usize], &[usize]); 5] = [
+        let reached: [(&str, &Replies, &[usize], &[usize]); 6] = [
             ("tests", &self.tests, &[0, 1, 2, 3, 4, 5, 6, 8, 9, 10], &[0]),
             ("loose queries", &self.loose_queries, &[0, 10, 11, 16], &[0, 1, 2]),
             ("borders", &self.borders, &[0, 10, 11, 16, 17, 18], &[0]),
             ("comparisons", &self.comparisons, &[0, 10, 11, 16], &[0, 11, 12, 13, 14, 15]),
-            ("calls", &self.calls, &[0, 1, 2, 3, 4, 5, 6, 8, 9, 11, 12, 13, 14, 15, 19, 20], &[0, 1, 2, 3, 4, 5, 6]),
+            (
+                "calls",
+                &self.calls,
+                &[0, 1, 2, 3, 4, 5, 6, 8, 9, 11, 12, 13, 14, 15, 19, 20],
+                &[0, 1, 2, 3, 4, 5, 6, 7, 8, 9, 10],
+            ),
+            ("pieces", &self.pieces, &[0, 12, 19, 20], &[0, 5, 8, 9, 10]),
         ];
-        let line = |name: &str, cells: [String; 5]| {
+        let line = |name: &str, cells: [String; 6]| {
             println!("{name:>16}{}", cells.iter().map(|cell| format!(" {cell:>14}")).collect::<String>());
         };
         line("number", reached.map(|(name, ..)| name.to_string()));

@@ -1,6 +1,6 @@
 //! The Rust holder, one library call for each of its own, against the plain book.
 
-use robequarry::codec::{COLUMNS, INSIDE, NONE, OUTSIDE, SAME, TAKEN};
+use robequarry::codec::{CLOSE, COLUMNS, INSIDE, LINE, MOVE, NONE, OUTSIDE, SAME, TAKEN, UNDECIDED};
 use robequarry::limits::REPLY;
 use robequarry::{Answer, Call, Holder, Refusal, Reply, Taken};
 use robequarry_checks::case::Case;
@@ -17,8 +17,12 @@ fn fields(reply: Reply) -> Fields {
         Ok(Answer::Done) => numbered(0),
         Ok(Answer::Inside) => said(INSIDE),
         Ok(Answer::Outside) => said(OUTSIDE),
+        Ok(Answer::Undecided) => said(UNDECIDED),
         Ok(Answer::Columns { first, last }) => Fields { col: first, row: last, ..said(COLUMNS) },
         Ok(Answer::None) => said(NONE),
+        Ok(Answer::Move(cell)) => Fields { col: cell.col, row: cell.row, ..said(MOVE) },
+        Ok(Answer::Line(cell)) => Fields { col: cell.col, row: cell.row, ..said(LINE) },
+        Ok(Answer::Close) => said(CLOSE),
         Ok(Answer::Taken(taken)) => closed(TAKEN, taken),
         Ok(Answer::Same(taken)) => closed(SAME, taken),
         Err(refusal) => refused(refusal),

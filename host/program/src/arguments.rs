@@ -75,7 +75,7 @@ fn option(word: &OsString) -> Option<&str> {
         "-n" => Some("--outline"),
         "-h" => Some("--help"),
         "-" => None,
-        _ => (word.starts_with('-') && word.parse::<i64>().is_err()).then_some(word),
+        _ => (word.starts_with('-') && word.parse::<f32>().is_err()).then_some(word),
     }
 }
 
@@ -94,8 +94,8 @@ mod tests {
 
     #[test]
     fn plain_words_and_options() {
-        let arguments = parse(&["a", "-o", "b", "--outline", "3", "-1", "-", "--", "-x"]).unwrap();
-        assert_eq!(arguments.plain, ["a", "-1", "-", "-x"]);
+        let arguments = parse(&["a", "-o", "b", "--outline", "3", "-1", "-0.5", "-", "--", "-x"]).unwrap();
+        assert_eq!(arguments.plain, ["a", "-1", "-0.5", "-", "-x"]);
         assert_eq!((arguments.out, arguments.outline), (Some("b".into()), Some(3)));
         assert!(parse(&["-h"]).unwrap().help);
     }

@@ -186,6 +186,28 @@ fn rows_of_a_block() {
 }
 
 #[test]
+fn readings_in_words() {
+    let plus = |angle: &str, load: &str| {
+        let said = program(&["reading", SPECIMENS, angle, load, "-n", "2"]);
+        (out(&said), status(&said))
+    };
+    assert_eq!(plus("1.25", "0.75"), ("angle 1.25, load 0.75: inside - within the hull\n".to_string(), 0));
+    assert_eq!(plus("0", "2"), ("angle 0, load 2: outside - not within the hull\n".to_string(), 0));
+    let near = "angle 0.5, load 1.5: undecided - too near an edge of the hull to tell\n";
+    assert_eq!(plus("5e-1", "1.5"), (near.to_string(), 0));
+    for (angle, load) in [("-0.5", "1"), ("1", "254.001"), ("nan", "1"), ("1", "-inf"), ("1e99", "1")] {
+        let refused = "refused, 11: a number of the reading is none, or not from 0 to 254\n";
+        assert_eq!(plus(angle, load), (refused.to_string(), 1), "{angle} {load}");
+    }
+    let dented = program(&["reading", SPECIMENS, "1", "1", "-n", "5"]);
+    assert!(out(&dented).starts_with("outline 5 (H6: a dent): refused, 9: "));
+    assert_eq!(status(&dented), 1);
+    let wrong = program(&["reading", SPECIMENS, "1", "x"]);
+    assert_eq!(err(&wrong), "robequarry: `x` is not a load\nTry `robequarry --help`.\n");
+    assert_eq!(status(&program(&["reading", SPECIMENS, "1"])), 2);
+}
+
+#[test]
 fn bench_times_each_outline() {
     let timed = program(&["bench", &file("bench.fit", &[record((0, 1), &PLUS), record((0, 0), &DENTED)].concat())]);
     let lines = out(&timed);

@@ -16,16 +16,18 @@
 
 use std::env;
 use std::hint::black_box;
+use std::ops::Range;
 use std::process::exit;
 
-use robequarry::limits::{CALL, LONGEST, LONGEST_LIST, REPLY, SIDE};
+use robequarry::limits::{CALL, LAST_CELL, LONGEST, LONGEST_LIST, REPLY, SIDE};
 use robequarry::pile::LAYERS;
 use robequarry::raw::HolderMemory;
-use robequarry::{Action, Call, Edges, Holder, Pile, PileCall};
+use robequarry::{Action, Call, Edges, Holder, Pile, PileCall, Reading};
 use robequarry_checks::case::Polygon;
 use robequarry_checks::draw::{reversed, round_outline, with_a_cell_flipped};
 use robequarry_checks::engine::{Engine, Library, Plain};
 use robequarry_checks::hull_and_count::{is_convex, Of};
+use robequarry_checks::live::after;
 use robequarry_checks::random::Random;
 use robequarry_checks::report::{Goal, Ratio, Report, Row};
 use robequarry_checks::timing::{race, Race};
@@ -112,10 +114,9 @@ impl Bench {
                 self.against_itself(&flipped, taken, "refusal/taking".to_string(), REFUSAL_GOAL);
             }
         }
-        for (few, many) in [(150, 600)] {
-            let of = |letters| takings.iter().find(|set| set.letters == letters).expect("one of the lengths");
-            self.against_itself(of(many), of(few), format!("{many}/{few}"), GROWTH_GOAL);
-        }
+        let (few, many) = (150, 600);
+        let of = |letters| takings.iter().find(|set| set.letters == letters).expect("one of the lengths");
+        self.against_itself(of(many), of(few), format!("{many}/{few}"), GROWTH_GOAL);
     }
 
     /// Lists that are no outlines.
@@ -161,7 +162,7 @@ impl Bench {
         }
     }
 
-    /// Queries, adds, a close and a border, of one outline.
+    /// Queries, rows, readings, pieces, adds, a close and a border, of one outline.
     fn calls(&mut self, random: &mut Random) {
         let outline = taken(random, DRAWN);
         let cells: Vec<Point> = (0..1024).map(|_| random.cell()).collect();
@@ -182,6 +183,14 @@ impl Bench {
         self.add_call("live query", live(&closed, &queries));
         let rows = Call::script((0..SIDE).map(|row| Action::Row { place, row }.by(party)));
         self.add_call("live row", live(&closed, &rows));
+        let mut number = || f32::from(LAST_CELL) * random.fraction() as f32;
+        let readings = (0..cells.len()).map(|_| Reading::new(number(), number()));
+        let readings = Call::script(readings.map(|reading| Action::Reading { place, reading }.by(party)));
+        self.add_call("live reading", live(&closed, &readings));
+        let positions = 0..polygon(&outline).edges.len() as u16 / 2 + 1;
+        let pieces = Call::script(positions.clone().map(|position| Action::Piece { place, position }.by(party)));
+        self.add_call("live piece", live(&closed, &pieces));
+        self.add_call("piece with its floats", live_piece(&closed, party, place, positions));
         // A letter that is turned back, and a full draft, cost as much as one that is added; so the draft may stay as it is.
         self.add_call("live add", live(&begun, &adds));
         self.add_call("live begin, adds and close", live_round(&closed));
@@ -370,14 +379,18 @@ fn each_more(shorter: &[u8], longer: &[u8], count: usize) -> Timed {
     (nanoseconds, race.median(|times| (times[0] - times[1]) / (times[2] - times[3])))
 }
 
+/// The library's holder and the rival's, after some calls.
+fn holders(before: &[u8]) -> (HolderMemory, plain::Holder) {
+    let mut plain = plain::Holder::new();
+    for call in before.chunks_exact(CALL) {
+        plain.call(call, &mut [0; REPLY]);
+    }
+    (after(before), plain)
+}
+
 /// A call on a live holder: after some calls, those of another script in turns.
 fn live(before: &[u8], calls: &[u8]) -> Timed {
-    let mut reply = [0; REPLY];
-    let (mut library, mut plain) = (HolderMemory::fresh(), plain::Holder::new());
-    for call in before.chunks_exact(CALL) {
-        library.call(call, &mut reply);
-        plain.call(call, &mut reply);
-    }
+    let (mut library, mut plain) = holders(before);
     let (mut turns, mut other_turns) = (calls.chunks_exact(CALL).cycle(), calls.chunks_exact(CALL).cycle());
     let (mut reply, mut other_reply) = ([0; REPLY], [0; REPLY]);
     let mut by_library = || {
@@ -385,6 +398,26 @@ fn live(before: &[u8], calls: &[u8]) -> Timed {
     };
     let mut by_plain = || {
         black_box(plain.call(black_box(other_turns.next().expect("there are calls")), &mut other_reply));
+    };
+    let race = race([&mut by_library, &mut by_plain]);
+    (race.least(0), race.ratio(0, 1))
+}
+
+/// A piece with its point, on a live holder after some calls.
+fn live_piece(before: &[u8], party: u8, place: u8, positions: Range<u16>) -> Timed {
+    let (mut library, mut plain) = holders(before);
+    let (mut turns, mut other_turns) = (positions.clone().cycle(), positions.cycle());
+    let (mut point, mut other_point) = ([0.0; 2], [0.0; 2]);
+    let (mut reply, mut other_reply) = ([0; REPLY], [0; REPLY]);
+    let mut by_library = || {
+        let position = black_box(turns.next().expect("there are positions"));
+        black_box(library.piece(party, place, position, &mut point, &mut reply));
+        black_box(&point);
+    };
+    let mut by_plain = || {
+        let position = black_box(other_turns.next().expect("there are positions"));
+        black_box(plain.piece(party, place, position, &mut other_point, &mut other_reply));
+        black_box(&other_point);
     };
     let race = race([&mut by_library, &mut by_plain]);
     (race.least(0), race.ratio(0, 1))

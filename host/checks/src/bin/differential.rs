@@ -10,12 +10,14 @@ use std::io::{read_to_string, stdin};
 use std::process::exit;
 use std::time::Instant;
 
-use robequarry::codec::INSIDE;
+use robequarry::codec::{INSIDE, OUTSIDE};
 use robequarry::limits::{LAST_CELL, LAST_CORNER, LONGEST, LONGEST_LIST, REPLY, SIDE};
-use robequarry_checks::case::{Case, Polygon};
-use robequarry_checks::draw::{rotated, Shape};
+use robequarry::{Action, Reading};
+use robequarry_checks::case::{self, Case};
+use robequarry_checks::draw::{any_taken, rotated, Shape};
 use robequarry_checks::engine::{Engine, Library, Live, Plain, Reference};
 use robequarry_checks::garbage;
+use robequarry_checks::live::AtWork;
 use robequarry_checks::piles;
 use robequarry_checks::plain;
 use robequarry_checks::polygons;
@@ -23,7 +25,10 @@ use robequarry_checks::random::Random;
 use robequarry_checks::reference;
 use robequarry_checks::reference::border::reading;
 use robequarry_checks::reference::cells::Enclosed;
+use robequarry_checks::reference::readings::{broken_claim, located, values, Polygon};
 use robequarry_checks::scripts;
+use robequarry_checks::sensors;
+use robequarry_checks::specimens;
 use robequarry_checks::tally::Tally;
 use robequarry_checks::walks;
 use robequarry_checks::{Outline, Point};
@@ -33,6 +38,8 @@ const SPOILT: usize = 120_000;
 const LOOSE: usize = 120_000;
 const BORDERS: usize = 60_000;
 const COMPARISONS: usize = 16_000;
+const READ: usize = 3_000;
+const PIECES: usize = 6_000;
 const SCRIPTS: usize = 24_000;
 const PILES: usize = 300;
 
@@ -92,6 +99,9 @@ fn run(seed: u64) {
     run.random_section(&format!("{BORDERS} borders"), seed + 400, borders);
     run.section("every two small polygons", every_two_small_polygons);
     run.random_section(&format!("{COMPARISONS} comparisons"), seed + 250, comparisons);
+    run.random_section(&format!("readings at {READ} outlines"), seed + 600, readings);
+    run.random_section("centres of whole charts", seed + 650, centres);
+    run.random_section(&format!("{PIECES} pieces of drawings"), seed + 700, pieces);
     run.random_section(&format!("{SCRIPTS} scripts of calls"), seed + 300, random_scripts);
     run.random_section(&format!("{PILES} lists of calls on a pile"), seed + 500, random_piles);
 
@@ -282,8 +292,8 @@ fn every_two_small_polygons(run: &mut Run) {
     for one in &small {
         for other in &small {
             for code in 0..25 {
-                let first = Polygon { anchor: Point::new(4, 4), edges: one.clone() };
-                let second = Polygon { anchor: Point::new(2 + code % 5, 2 + code / 5), edges: other.clone() };
+                let first = case::Polygon { anchor: Point::new(4, 4), edges: one.clone() };
+                let second = case::Polygon { anchor: Point::new(2 + code % 5, 2 + code / 5), edges: other.clone() };
                 run.compare(&Case::Compare { first, second, room: REPLY });
             }
         }
@@ -294,6 +304,56 @@ fn comparisons(run: &mut Run, random: &mut Random) {
     for _ in 0..COMPARISONS {
         let case = polygons::pair(random);
         run.compare(&case);
+    }
+}
+
+/// Readings among the edges of taken outlines, and what the contract says of each (7.10).
+fn readings(run: &mut Run, random: &mut Random) {
+    for _ in 0..READ {
+        let outline = any_taken(random);
+        let polygon = Polygon::of(&outline).expect("it is taken");
+        let asked: Vec<Reading> = (0..24).map(|_| sensors::reading(random, &polygon)).collect();
+        let place = random.below(4) as u8;
+        let actions = asked.iter().map(|&reading| Action::Reading { place, reading });
+        run.compare(&scripts::asking(&outline, random.below(2) as u8, place, actions));
+        for reading in asked {
+            let broken = values(reading).and_then(|values| broken_claim(&polygon, values, polygon.word(values)));
+            if let Some(claim) = broken {
+                println!("the reference contradicts contract 7.10, {claim}: {reading:?} {outline:?}");
+                exit(1);
+            }
+        }
+    }
+}
+
+/// Readings at the centres of all cells: inside means enclosed, and outside not.
+fn centres(run: &mut Run, random: &mut Random) {
+    let mut outlines = specimens::taken();
+    outlines.extend((0..12).map(|_| any_taken(random)));
+    for outline in outlines {
+        let polygon = Polygon::of(&outline).expect("it is taken");
+        let enclosed = Enclosed::of(outline.start, &outline.letters);
+        let mut at_work = AtWork::new(&outline, 0, 3);
+        for (col, row) in (0..SIDE).flat_map(|col| (0..SIDE).map(move |row| (col, row))) {
+            let reading = Reading::new(col.into(), row.into());
+            let (reply, expected) = (at_work.reading(reading), located(&polygon, reading));
+            let contradicted = if enclosed.has((col.into(), row.into())) { OUTSIDE } else { INSIDE };
+            if reply != expected || reply.word == contradicted {
+                println!("at the centre of ({col}, {row}): {reply:?}, not {expected:?}: {outline:?}");
+                exit(1);
+            }
+            run.compared += 1;
+        }
+    }
+}
+
+fn pieces(run: &mut Run, random: &mut Random) {
+    for _ in 0..PIECES / 8 {
+        let outline = any_taken(random);
+        let edges = Polygon::of(&outline).expect("it is taken").edges.len();
+        for _ in 0..8 {
+            run.compare(&scripts::piece(random, &outline, edges));
+        }
     }
 }
 

@@ -41,10 +41,9 @@ fn main() {
                     break flipped;
                 }
             },
-            "letters" => Outline {
-                start: Point::new(SIDE / 2, SIDE / 2),
-                letters: (0..letters).map(|_| random.letter()).collect(),
-            },
+            "letters" => {
+                Outline { start: Point::new(SIDE / 2, SIDE / 2), letters: (0..letters).map(|_| random.letter()).collect() }
+            }
             _ => panic!("no such kind"),
         })
         .collect();

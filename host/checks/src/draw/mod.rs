@@ -3,12 +3,12 @@
 mod cells;
 mod letters;
 
-use robequarry::limits::{LAST_CELL, LAST_CORNER, LONGEST, SIDE};
+use robequarry::limits::{LAST_CELL, LAST_CORNER, LONGEST, MOST_NUMBERS, SIDE};
 
 use crate::grid::{Grid, Pinch};
 use crate::random::Random;
 use crate::reference::cells::Enclosed;
-use crate::{Outline, Point};
+use crate::{plain, polygons, Outline, Point};
 
 /// What is drawn.
 #[derive(Clone, Copy, Debug, PartialEq)]
@@ -175,6 +175,32 @@ fn shift(random: &mut Random, (low, high): (i32, i32)) -> u16 {
         _ => least,
     };
     shift.clamp(0, last) as u16
+}
+
+/// A bar of one row or one column, or a single cell, anywhere.
+pub fn bar(random: &mut Random) -> Outline {
+    let length = if random.once_in(4) { 1 } else { random.from_to(2, usize::from(SIDE)) };
+    let [across, back] = if random.once_in(2) { [length, 1] } else { [1, length] };
+    let sides = [(1, back), (0, across), (3, back), (2, across)];
+    let letters = sides.iter().flat_map(|&(letter, times)| std::iter::repeat_n(letter, times)).collect();
+    put_on_chart(random, letters)
+}
+
+/// An outline that is taken: a bar or a cell, one of few and long edges, or one that is drawn.
+pub fn any_taken(random: &mut Random) -> Outline {
+    loop {
+        let outline = match random.below(8) {
+            0 => bar(random),
+            1 | 2 => match polygons::outline(random) {
+                Some(outline) => outline,
+                None => continue,
+            },
+            shape => [Shape::Ellipse, Shape::Polygon, Shape::ManySided, Shape::Words][shape % 4].draw(random),
+        };
+        if plain::test(outline.start, &outline.letters, &mut [0; MOST_NUMBERS]).number == 0 {
+            return outline;
+        }
+    }
 }
 
 /// The outline of all cells of the chart, from its lower left corner.

@@ -5,7 +5,7 @@ use robequarry::limits::{CALL, LAST_LETTER, LONGEST, MOST_NUMBERS, PARTIES, PLAC
 use robequarry::{Action, Call};
 
 use super::test::{find_edges, Edges};
-use super::{chart, loose};
+use super::{chart, loose, pieces, readings};
 use crate::reply::{numbered, placed, said, taken};
 use crate::{Fields, Point};
 
@@ -55,8 +55,14 @@ impl Holder {
             Action::Drop => party.drop_draft(),
             Action::Clear { place } => party.clear(place.into()),
             Action::Close { place } => party.close(place.into()),
-            Action::Query { place, cell } => party.query(place.into(), cell.into()),
-            Action::Row { place, row } => party.row(place.into(), row),
+            Action::Query { place, cell } => party.ask(place, |work| work.query(cell.into())),
+            Action::Row { place, row } => party.ask(place, |work| work.row(row)),
+            Action::Reading { place, reading } => {
+                party.ask(place, |work| readings::located(work.anchor, work.edges.list(), reading))
+            }
+            Action::Piece { place, position } => {
+                party.ask(place, |work| pieces::piece(work.anchor, work.edges.list(), position))
+            }
         }
     }
 
@@ -73,6 +79,17 @@ impl Holder {
             return false;
         };
         self.answer(call).write(reply)
+    }
+
+    /// A piece with its point. False, with nothing altered, if the reply has no room.
+    #[inline]
+    pub fn piece(&mut self, party: u8, place: u8, position: u16, point: &mut [f32], reply: &mut [u16]) -> bool {
+        let piece = self.answer(Action::Piece { place, position }.by(party));
+        let written = piece.write(reply);
+        if written {
+            pieces::write_point(piece, point);
+        }
+        written
     }
 }
 
@@ -158,28 +175,28 @@ impl Party {
         Fields { word: if same { SAME } else { TAKEN }, ..taken(work.edges.count, anchor) }
     }
 
-    fn query(&self, place: usize, cell: Point) -> Fields {
-        let Some(work) = self.works.get(place) else {
-            return numbered(20);
-        };
-        if !work.taken {
-            return numbered(12);
+    /// 20, 12, or what is said of the work.
+    #[inline]
+    fn ask(&self, place: u8, answer: impl FnOnce(&Work) -> Fields) -> Fields {
+        match self.works.get(usize::from(place)) {
+            None => numbered(20),
+            Some(work) if !work.taken => numbered(12),
+            Some(work) => answer(work),
         }
+    }
+}
+
+impl Work {
+    fn query(&self, cell: Point) -> Fields {
         if loose::is_off_chart(cell) {
             return numbered(11);
         }
-        let inside = loose::is_inside(work.anchor, work.edges.list(), cell);
+        let inside = loose::is_inside(self.anchor, self.edges.list(), cell);
         said(if inside { INSIDE } else { OUTSIDE })
     }
 
-    fn row(&self, place: usize, row: u16) -> Fields {
-        let Some(work) = self.works.get(place) else {
-            return numbered(20);
-        };
-        if !work.taken {
-            return numbered(12);
-        }
-        let Some(&(first, past)) = work.spans.get(usize::from(row)) else {
+    fn row(&self, row: u16) -> Fields {
+        let Some(&(first, past)) = self.spans.get(usize::from(row)) else {
             return numbered(11);
         };
         if first < past {

@@ -6,6 +6,8 @@ use robequarry::{Action, Call};
 
 use super::calls;
 use super::cells::{encloses, Enclosed};
+use super::pieces::piece;
+use super::readings::{located, Polygon};
 use super::walk::{is_bad_start, is_no_letter};
 use crate::reply::{numbered, placed, said};
 use crate::{Fields, Outline, Point};
@@ -41,8 +43,19 @@ impl Page {
             Action::Drop => self.drop_draft(),
             Action::Clear { place } => self.clear(place.into()),
             Action::Close { place } => self.close(place.into()),
-            Action::Query { place, cell } => self.query(place.into(), cell.into()),
-            Action::Row { place, row } => self.row(place.into(), row),
+            Action::Query { place, cell } => self.ask(place, |work| query(work, cell.into())),
+            Action::Row { place, row } => self.ask(place, |work| columns(work, row)),
+            Action::Reading { place, reading } => self.ask(place, |work| located(&polygon(work), reading)),
+            Action::Piece { place, position } => self.ask(place, |work| piece(&polygon(work), position)),
+        }
+    }
+
+    /// 20, 12, or what is said of the work.
+    fn ask(&self, place: u8, answer: impl FnOnce(&Outline) -> Fields) -> Fields {
+        match self.works.get(usize::from(place)) {
+            None => numbered(20),
+            Some(None) => numbered(12),
+            Some(Some(work)) => answer(work),
         }
     }
 
@@ -108,38 +121,31 @@ impl Page {
         *work = Some(draft);
         Fields { word, ..reply }
     }
+}
 
-    /// Contract 7.8, by the cells that the work encloses.
-    fn query(&self, place: usize, cell: Point) -> Fields {
-        let Some(work) = self.works.get(place) else {
-            return numbered(20);
-        };
-        let Some(work) = work else {
-            return numbered(12);
-        };
-        if calls::off_chart(cell) {
-            return numbered(11);
-        }
-        let inside = encloses(work.start, &work.letters, (i32::from(cell.col), i32::from(cell.row)));
-        said(if inside { INSIDE } else { OUTSIDE })
+/// Contract 7.8, by the cells that the work encloses.
+fn query(work: &Outline, cell: Point) -> Fields {
+    if calls::off_chart(cell) {
+        return numbered(11);
     }
+    let inside = encloses(work.start, &work.letters, (i32::from(cell.col), i32::from(cell.row)));
+    said(if inside { INSIDE } else { OUTSIDE })
+}
 
-    /// Contract 7.9, by the cells that the work encloses.
-    fn row(&self, place: usize, row: u16) -> Fields {
-        let Some(work) = self.works.get(place) else {
-            return numbered(20);
-        };
-        let Some(work) = work else {
-            return numbered(12);
-        };
-        if row >= SIDE {
-            return numbered(11);
-        }
-        match span(work, row) {
-            Some((first, last)) => Fields { col: first, row: last, ..said(COLUMNS) },
-            None => said(NONE),
-        }
+/// Contract 7.9, by the cells that the work encloses.
+fn columns(work: &Outline, row: u16) -> Fields {
+    if row >= SIDE {
+        return numbered(11);
     }
+    match span(work, row) {
+        Some((first, last)) => Fields { col: first, row: last, ..said(COLUMNS) },
+        None => said(NONE),
+    }
+}
+
+/// The edges by which contract 7.10 and 7.11 answer.
+fn polygon(work: &Outline) -> Polygon {
+    Polygon::of(work).expect("a work was taken")
 }
 
 /// The first and the last column of a row that an outline encloses, by asking every cell.
@@ -147,7 +153,7 @@ fn span(work: &Outline, row: u16) -> Option<(u16, u16)> {
     let inside = |&col: &u16| encloses(work.start, &work.letters, (i32::from(col), i32::from(row)));
     let mut columns = (0..SIDE).filter(inside);
     let first = columns.next()?;
-    Some((first, columns.last().unwrap_or(first)))
+    Some((first, columns.next_back().unwrap_or(first)))
 }
 
 /// Whether two outlines past refusals 1 to 6 enclose the same cells.

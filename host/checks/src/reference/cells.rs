@@ -122,6 +122,11 @@ impl Hull {
         Hull { corners }
     }
 
+    /// The corners anticlockwise, from the lowest of the leftmost column on.
+    pub fn corners(&self) -> &[Cell] {
+        &self.corners
+    }
+
     /// Left of, or on, each side, and within the lowest and highest columns and rows: the latter matters if the hull is flat.
     pub fn has(&self, x: Cell) -> bool {
         let next = self.corners.iter().cycle().skip(1);

@@ -83,6 +83,5 @@ fn is_dented(marked: impl Fn(usize, i32) -> bool) -> bool {
     let (low, high) = (marks.iter().map(|m| m.1).min().unwrap_or(0), marks.iter().map(|m| m.1).max().unwrap_or(0));
     let hull = Hull::of(marks);
     let open = |&(layer, at): &(i32, i32)| (low..=high).contains(&at) && !marked(layer as usize, at);
-    let dented = cells().filter(open).any(|cell| hull.has(cell));
-    dented
+    cells().filter(open).any(|cell| hull.has(cell))
 }

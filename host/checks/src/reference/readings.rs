@@ -1,11 +1,14 @@
-//! Readings between cells (contract 3.16 to 3.19), in whole multiples of 2^-149. No float of the machine is used.
+//! Readings between cells (contract 7.10), in whole multiples of 2^-149. No float of the machine is used.
 
 use robequarry::codec::{INSIDE, OUTSIDE, UNDECIDED};
 use robequarry::limits::LAST_CELL;
+use robequarry::Reading;
 
+use super::calls;
+use super::edges::Step;
 use super::wide::Wide;
 use crate::reply::{numbered, said};
-use crate::{Fields, Point};
+use crate::{Fields, Outline, Point};
 
 /// One, 1/32 and 1/64 are 2 to the power of these, in units.
 const ONE: u32 = 149;
@@ -14,13 +17,6 @@ pub const SIXTY_FOURTH: u32 = 143;
 
 /// Binary digits that a float of 32 bits keeps.
 const KEPT: u32 = 24;
-
-/// The bit patterns of angle and load.
-#[derive(Clone, Copy, Debug, PartialEq, Eq)]
-pub struct Patterns {
-    pub angle: u32,
-    pub load: u32,
-}
 
 /// A finite number of 32 bits in units; none for what is infinite or no number.
 pub fn value(pattern: u32) -> Option<Wide> {
@@ -68,12 +64,12 @@ pub struct Edge {
 pub type Values = (Wide, Wide);
 
 impl Edge {
-    /// The exact side value, in units (contract 3.16).
+    /// The exact side value, in units.
     pub fn exact(self, (x, y): Values) -> Wide {
         (x - whole(self.from.0)) * self.step.1 - (y - whole(self.from.1)) * self.step.0
     }
 
-    /// The computed one: the same steps, each rounded (contract 3.17).
+    /// The computed one: the same steps, each rounded.
     pub fn computed(self, (x, y): Values) -> Wide {
         let across = rounded(rounded(x - whole(self.from.0)) * self.step.1);
         let up = rounded(rounded(y - whole(self.from.1)) * self.step.0);
@@ -81,23 +77,30 @@ impl Edge {
     }
 }
 
-/// The polygon of an anchor and a list of edges: its edges, and the corner cells met.
+/// The polygon of an anchor and edges: its edges, and the corner cells met.
 pub struct Polygon {
     pub edges: Vec<Edge>,
-    met: Vec<(i64, i64)>,
+    pub met: Vec<(i64, i64)>,
 }
 
 impl Polygon {
-    pub fn new(anchor: Point, steps: &[i16]) -> Self {
+    pub fn new(anchor: Point, steps: impl IntoIterator<Item = Step>) -> Self {
         let mut from = (i64::from(anchor.col), i64::from(anchor.row));
         let (mut edges, mut met) = (Vec::new(), vec![from]);
-        for step in steps.chunks_exact(2) {
-            let step = (i64::from(step[0]), i64::from(step[1]));
+        for (cols, rows) in steps {
+            let step = (i64::from(cols), i64::from(rows));
             edges.push(Edge { step, from });
             from = (from.0 + step.0, from.1 + step.1);
             met.push(from);
         }
         Polygon { edges, met }
+    }
+
+    /// That of an outline, if it is taken.
+    pub fn of(outline: &Outline) -> Option<Self> {
+        let tested = calls::test(outline.start, &outline.letters);
+        let anchor = Point::new(tested.reply.col, tested.reply.row);
+        (tested.reply.number == 0).then(|| Polygon::new(anchor, tested.edges))
     }
 
     /// Within the extreme columns and rows, exactly.
@@ -109,19 +112,18 @@ impl Polygon {
         between(self.met.iter().map(|m| m.0).collect(), x) && between(self.met.iter().map(|m| m.1).collect(), y)
     }
 
-    /// Contract 3.18.
+    /// Within the extremes, and no exact side value is below 0.
     pub fn is_exactly_inside(&self, values: Values) -> bool {
         self.spans(values) && self.edges.iter().all(|edge| !edge.exact(values).is_negative())
     }
 
-    /// The word for a reading that is not refused (contract 3.19).
+    /// The word for a reading that is not refused, by the computed side values.
     pub fn word(&self, values: Values) -> u16 {
         let bound = Wide::power_of_two(SIXTY_FOURTH);
-        let computed: Vec<Wide> = self.edges.iter().map(|edge| edge.computed(values)).collect();
-        if !self.spans(values) || computed.iter().any(|&v| v <= -bound) {
-            return OUTSIDE;
-        }
-        if computed.iter().any(|&v| v < bound) {
+        let mut computed = self.edges.iter().map(|edge| edge.computed(values));
+        if !self.spans(values) || computed.clone().any(|v| v <= -bound) {
+            OUTSIDE
+        } else if computed.any(|v| v < bound) {
             UNDECIDED
         } else {
             INSIDE
@@ -130,15 +132,35 @@ impl Polygon {
 }
 
 /// The reading's values; none if it meets refusal 11.
-pub fn values(patterns: Patterns) -> Option<Values> {
+pub fn values(reading: Reading) -> Option<Values> {
     let number = |pattern| value(pattern).filter(|&v| Wide::ZERO <= v && v <= whole(i64::from(LAST_CELL)));
-    Some((number(patterns.angle)?, number(patterns.load)?))
+    Some((number(reading.angle)?, number(reading.load)?))
 }
 
 /// What is said of a reading with the edges of a taken outline.
-pub fn reading(anchor: Point, steps: &[i16], patterns: Patterns) -> Fields {
-    match values(patterns) {
+pub fn located(polygon: &Polygon, reading: Reading) -> Fields {
+    match values(reading) {
         None => numbered(11),
-        Some(values) => said(Polygon::new(anchor, steps).word(values)),
+        Some(values) => said(polygon.word(values)),
     }
+}
+
+/// The first statement of the contract about the answer to a reading that does not hold; none if all do.
+pub fn broken_claim(polygon: &Polygon, values: Values, word: u16) -> Option<&'static str> {
+    let (bound, twice) = (Wide::power_of_two(SIXTY_FOURTH), Wide::power_of_two(THIRTY_SECOND));
+    let exact: Vec<Wide> = polygon.edges.iter().map(|edge| edge.exact(values)).collect();
+    let computed: Vec<Wide> = polygon.edges.iter().map(|edge| edge.computed(values)).collect();
+    let inside = polygon.is_exactly_inside(values);
+    let open = polygon.spans(values) && computed.iter().all(|&v| v > -bound) && computed.iter().any(|&v| v < bound);
+    let clear = exact.iter().all(|&v| v >= twice) || exact.iter().any(|&v| v <= -twice);
+    let claims = [
+        ("a computed side value is less than 1/64 from the exact one", {
+            computed.iter().zip(&exact).all(|(&one, &other)| (one - other).size() < bound)
+        }),
+        ("what is said to be inside is exactly inside", word != INSIDE || inside),
+        ("what is said to be outside is not exactly inside", word != OUTSIDE || !inside),
+        ("undecided is within the extremes, no value at most -1/64 and one below 1/64", (word == UNDECIDED) == open),
+        ("never undecided where every exact value is 1/32 or one is -1/32", word != UNDECIDED || !clear),
+    ];
+    claims.into_iter().find(|(_, holds)| !holds).map(|(claim, _)| claim)
 }

@@ -29,18 +29,19 @@ impl Wide {
     /// The number with its sign, times 2 to the power of `exponent`.
     pub fn times_power_of_two(self, exponent: u32) -> Self {
         assert!(self.digits() + exponent <= BITS, "no value is as long");
-        let mut size = [0; LIMBS];
-        for at in 0..BITS - exponent {
-            if self.digit(at) {
-                set(&mut size, at + exponent);
-            }
-        }
-        Wide::new(self.negative, size)
+        let (limbs, bits) = ((exponent / 64) as usize, exponent % 64);
+        let limb = |i: Option<usize>| i.map_or(0, |i| u128::from(self.size[i]));
+        let shifted = |i: usize| {
+            let two = limb(i.checked_sub(limbs)) << 64 | limb(i.checked_sub(limbs + 1));
+            (two << bits >> 64) as u64
+        };
+        Wide::new(self.negative, std::array::from_fn(shifted))
     }
 
     /// How many binary digits the size has.
     pub fn digits(self) -> u32 {
-        (0..BITS).rev().find(|&at| self.digit(at)).map_or(0, |at| at + 1)
+        let last = self.size.iter().rposition(|&limb| limb != 0);
+        last.map_or(0, |i| 64 * (i as u32 + 1) - self.size[i].leading_zeros())
     }
 
     /// The binary digit of the size that counts 2 to the power of `at`.
@@ -48,13 +49,13 @@ impl Wide {
         self.size[(at / 64) as usize] >> (at % 64) & 1 == 1
     }
 
-    /// The size without its lowest `count` binary digits, which become 0.
+    /// The number without the lowest `count` binary digits of its size, which become 0.
     pub fn without_lowest(self, count: u32) -> Self {
-        let mut size = [0; LIMBS];
-        for at in (count..BITS).filter(|&at| self.digit(at)) {
-            set(&mut size, at);
-        }
-        Wide::new(self.negative, size)
+        let kept = |i: usize| match count.saturating_sub(64 * i as u32) {
+            dropped @ 0..64 => self.size[i] >> dropped << dropped,
+            _ => 0,
+        };
+        Wide::new(self.negative, std::array::from_fn(kept))
     }
 
     pub fn is_negative(self) -> bool {
@@ -65,10 +66,6 @@ impl Wide {
     pub fn size(self) -> Self {
         Wide::new(false, self.size)
     }
-}
-
-fn set(size: &mut [u64; LIMBS], at: u32) {
-    size[(at / 64) as usize] |= 1 << (at % 64);
 }
 
 /// The sum of two sizes.
@@ -209,6 +206,18 @@ mod tests {
             let high = a >> 64;
             assert_eq!(wide(high).times_power_of_two(exponent), wide(high << exponent), "{high} {exponent}");
             assert_eq!(wide(a).without_lowest(exponent).size(), wide((a.unsigned_abs() >> exponent << exponent) as i128));
+        }
+    }
+    #[test]
+    fn powers_of_two_are_doublings() {
+        let random = &mut Random::new(3);
+        for _ in 0..20_000 {
+            let (a, low) = (wide(any(random)), wide(any(random).abs()));
+            let exponent = random.from_to(low.digits() as usize, 190) as u32;
+            let doubled = (0..exponent).fold(a, |sum, _| sum + sum);
+            assert_eq!(a.times_power_of_two(exponent), doubled, "{a:?} {exponent}");
+            assert_eq!(doubled.digits(), if a == Wide::ZERO { 0 } else { a.digits() + exponent });
+            assert_eq!((doubled.size() + low).without_lowest(exponent), doubled.size(), "{a:?} {low:?} {exponent}");
         }
     }
 }

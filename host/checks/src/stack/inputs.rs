@@ -1,9 +1,9 @@
 //! The inputs whose need of stack is measured, the same in each run.
 
 use robequarry::limits::{CALL, LAST_CORNER, LAST_LETTER, LONGEST, LONGEST_LIST, PARTIES, PLACES, REPLY, SHORTEST, SIDE};
-use robequarry::{Action, Call};
+use robequarry::{Action, Call, Cell, Reading};
 
-use crate::case::{Case, Polygon};
+use crate::case::{Asked, Case, Polygon};
 use crate::draw::{reversed, round_outline, whole_chart, with_a_cell_flipped, Shape};
 use crate::random::Random;
 use crate::reference::calls;
@@ -21,6 +21,7 @@ pub fn all() -> Vec<Case> {
     cases.extend(loose_queries(&outlines));
     cases.extend(comparisons(&outlines));
     cases.extend(outlines.iter().map(draw_and_ask));
+    cases.extend(outlines.iter().flat_map(pieces));
     for _ in 0..DRAWN {
         cases.push(garbage::spoilt_test(&mut random));
         cases.push(garbage::loose(&mut random));
@@ -52,7 +53,8 @@ fn outlines(random: &mut Random) -> Vec<Outline> {
     outlines.push(of([&round.letters[..], &[LAST_LETTER + 1]].concat()));
     outlines.push(of(vec![1; LONGEST]));
     outlines.push(of(round.letters[1..].to_vec()));
-    outlines.push(of(round.letters.repeat(2)));
+    let half = round_outline(random, 300);
+    outlines.push(Outline { letters: half.letters.repeat(2), ..half });
     outlines.push(reversed(&round));
     outlines
 }
@@ -121,22 +123,47 @@ fn comparisons(outlines: &[Outline]) -> Vec<Case> {
     cases
 }
 
-/// An outline drawn and closed twice, with queries after each close; once more, with a letter and a begin too many; and then the
+/// An outline drawn and closed twice, and asked about after each close; once more, with a letter and a begin too many; and then the
 /// calls that take things away, each where there is something to take and where there is not.
 fn draw_and_ask(outline: &Outline) -> Case {
     let place = 1;
     let adds = outline.letters.iter().map(|&letter| Action::Add(letter));
     let begin = Action::Begin(outline.start.into());
     let draw = || std::iter::once(begin).chain(adds.clone());
-    let query = |cell: Point| Action::Query { place, cell: cell.into() };
-    let asked = [query(outline.start), query(Point::new(SIDE, SIDE)), Action::Query { place: PLACES, cell: outline.start.into() }];
+    let Point { col, row } = outline.start;
+    let query = |col, row| Action::Query { place, cell: Cell::new(col, row) };
+    let reading = |angle: u16, load: u16| Action::Reading { place, reading: Reading::new(angle.into(), load.into()) };
+    let asked = [
+        query(col, row),
+        query(SIDE, SIDE),
+        Action::Query { place: PLACES, cell: outline.start.into() },
+        Action::Row { place, row },
+        reading(col, row),
+        reading(SIDE, SIDE),
+        Action::Piece { place, position: 0 },
+        Action::Piece { place, position: u16::MAX },
+    ];
     let once = || draw().chain([Action::Close { place }]).chain(asked);
     let more = [Action::Add(0), begin, Action::Close { place: PLACES }, begin];
     let away = [Action::Drop, Action::Clear { place }, Action::Drop, Action::Close { place }, Action::Add(0)];
     let actions: Vec<Action> = once().chain(once()).chain(draw()).chain(more).chain(away).chain(asked).collect();
-    let bytes = Call::script([0, 1, PARTIES].into_iter().flat_map(|party| actions.iter().map(move |action| action.by(party))));
+    let bytes =
+        Call::script([0, 1, PARTIES].into_iter().flat_map(|party| actions.iter().map(move |action| action.by(party))));
     let room = bytes.len() / CALL * REPLY;
     Case::Script { bytes, room }
+}
+
+/// The first piece, the last line, the close and what is past it, with their points; and each refusal.
+fn pieces(outline: &Outline) -> Vec<Case> {
+    let (party, place) = (1, 3);
+    let edges = calls::test(outline.start, &outline.letters).edges.len() as u16;
+    let ask = |party, place, position| {
+        let asked = Asked { party, place, position };
+        Case::Piece { script: scripts::to_work(outline, party, place), asked, lent: 2, room: REPLY }
+    };
+    let mut cases: Vec<Case> = [0, edges.max(1) - 1, edges, edges + 1].map(|position| ask(party, place, position)).to_vec();
+    cases.extend([ask(PARTIES, place, 0), ask(party, PLACES, 0)]);
+    cases
 }
 
 #[cfg(test)]

@@ -11,6 +11,7 @@ use robequarry::raw::{self, HolderMemory};
 use robequarry::{Pile, PileCall};
 
 use crate::case::Case;
+use crate::live::after;
 use crate::piles;
 use crate::random::Random;
 
@@ -24,8 +25,17 @@ const PAINTS: [u8; 2] = [0xa5, 0x5a];
 const CLOSE: u8 = 4;
 
 /// The most bytes of stack that each function needs for any of its inputs: the longest outlines, and every way through the test.
-pub fn needs() -> [(&'static str, usize); 7] {
-    let names = ["rq_test", "rq_loose_query", "rq_border", "rq_compare", "rq_replay", "rq_call", "rq_pile_set and the like"];
+pub fn needs() -> [(&'static str, usize); 8] {
+    let names = [
+        "rq_test",
+        "rq_loose_query",
+        "rq_border",
+        "rq_compare",
+        "rq_replay",
+        "rq_piece",
+        "rq_call",
+        "rq_pile_set and the like",
+    ];
     let mut needs = names.map(|name| (name, 0));
     let mut stack = Stack::new();
     for case in inputs::all() {
@@ -35,15 +45,16 @@ pub fn needs() -> [(&'static str, usize); 7] {
             Case::Border { .. } => 2,
             Case::Compare { .. } => 3,
             Case::Script { .. } => 4,
+            Case::Piece { .. } => 5,
         };
         needs[function].1 = needs[function].1.max(stack.need(&case));
         if let Case::Script { bytes, .. } = &case {
-            needs[5].1 = needs[5].1.max(stack.need_of_calls(bytes));
+            needs[6].1 = needs[6].1.max(stack.need_of_calls(bytes));
         }
     }
     let mut random = Random::new(1);
     for _ in 0..PILES {
-        needs[6].1 = needs[6].1.max(stack.need_of_a_pile(&piles::calls(&mut random)));
+        needs[7].1 = needs[7].1.max(stack.need_of_a_pile(&piles::calls(&mut random)));
     }
     needs
 }
@@ -105,6 +116,13 @@ impl Stack {
                 let mut replies = vec![0; *room];
                 self.depth(&mut || {
                     raw::replay(bytes, &mut replies);
+                })
+            }
+            Case::Piece { script, asked, lent, room } => {
+                let mut holder = after(script);
+                let (mut point, mut reply) = (vec![0.0; *lent], vec![0; *room]);
+                self.depth(&mut || {
+                    holder.piece(asked.party, asked.place, asked.position, &mut point, &mut reply);
                 })
             }
         }

@@ -2,7 +2,7 @@ use std::ffi::OsString;
 
 use robequarry::{Cell, Edges};
 
-use super::{number, Command, Console, Failure, Status};
+use super::{number, refused, Command, Console, Failure, Status};
 use crate::arguments::Arguments;
 use crate::engine;
 use crate::text;
@@ -33,9 +33,6 @@ fn run(arguments: &Arguments, console: &mut Console) -> Result<Status, Failure> 
             console.line(text::line(&outline).expect("the library writes letters"))?;
             Ok(Status::Taken)
         }
-        Err(refusal) => {
-            console.line(format_args!("refused, {}: {refusal}", refusal.number()))?;
-            Ok(Status::Refused)
-        }
+        Err(refusal) => refused(refusal, console),
     }
 }

@@ -10,8 +10,9 @@ pub const COMMAND: Command = Command {
     summary: "draw one outline: block, pieces, edges, or why it is refused",
     help: "\
 Draws one outline as an SVG that stands alone: the chart with its axes, the marked cells, the border with its four pieces, the
-corners W, N, E, S, and the hull's edges from the anchor. Of a refused outline it shows the reason where it is: the letter, the
-back-step, or the dented factor with its chord and the missing cells. The picture is written for a refused outline as well.
+corners W, N, E, S, and the hull's edges from the anchor, as the tablet draws them. Of a refused outline it shows the reason
+where it is: the letter, the back-step, or the dented factor with its chord and the missing cells. The picture is written for a
+refused outline as well.
 
   -o, --out FILE    where to write the picture; `-` is standard output
   -n, --outline N   the outline with this number; without it, the first",

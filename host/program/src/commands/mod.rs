@@ -7,6 +7,7 @@ mod compare;
 mod draw;
 mod explain;
 mod gallery;
+mod reading;
 mod row;
 
 use std::ffi::{OsStr, OsString};
@@ -14,9 +15,13 @@ use std::io;
 use std::path::{Path, PathBuf};
 use std::str::FromStr;
 
+use robequarry::Refusal;
+
 use crate::arguments::Arguments;
 use crate::console;
+use crate::engine::AtWork;
 use crate::input::{self, Entries, Entry};
+use crate::verdict::Said;
 
 type Console = console::Console<io::Stdout, io::Stderr>;
 
@@ -69,6 +74,7 @@ const COMMANDS: &[&Command] = &[
     &explain::COMMAND,
     &draw::COMMAND,
     &row::COMMAND,
+    &reading::COMMAND,
     &compare::COMMAND,
     &border::COMMAND,
     &bench::COMMAND,
@@ -89,7 +95,8 @@ Files hold one or more outlines, numbered from 0, in one of two forms:
   fitting file   records of bytes: 4B 4F, column, row, the count of letters (two bytes, low first), the letters
 A file shows its form by itself; --text or --fitting says it. The file `-` is standard input.
 
-Exit status: 0 if every outline is taken, 1 if one is refused, 2 if something is wrong with the call or the file.";
+Exit status: 0 if every outline is taken, 1 if one, or what is asked of it, is refused, 2 if something is wrong with the call or
+the file.";
 
 /// Runs a call of the program, and gives its exit status.
 pub fn run(words: Vec<OsString>) -> u8 {
@@ -205,4 +212,22 @@ fn one(path: &Path, arguments: &Arguments, wanted: Option<usize>) -> Result<(usi
         _ => format!("its outlines are numbered 0 to {}", read - 1),
     };
     Err(Failure::File(path.to_path_buf(), format!("there is no outline {number}: {holds}")))
+}
+
+/// One outline of a file at work on a holder; none where it is refused, and that is said.
+fn at_work(path: &Path, arguments: &Arguments, console: &mut Console) -> Result<Option<AtWork>, Failure> {
+    let (number, entry) = one(path, arguments, arguments.outline)?;
+    let verdict = entry.outline.test();
+    if verdict.is_err() {
+        let said = Said::of(&entry.outline, &verdict);
+        console.line(format_args!("{}: {} - {}", title(number, &entry), said.what, said.place))?;
+        return Ok(None);
+    }
+    Ok(Some(AtWork::of(&entry.outline).expect("what a test takes a holder takes")))
+}
+
+/// Says why the library refused what was asked.
+fn refused(refusal: Refusal, console: &mut Console) -> Result<Status, Failure> {
+    console.line(format_args!("refused, {}: {refusal}", refusal.number()))?;
+    Ok(Status::Refused)
 }

@@ -3,10 +3,11 @@
 use robequarry::limits::LAST_CORNER;
 use robequarry::{Outline, Refusal, Verdict};
 
+use crate::engine::AtWork;
 use crate::explain::told;
 use crate::story::{Piece, Rows, Story, NAMES};
 use crate::verdict::at;
-use crate::walk::{corner_cells, corners, start, step, walkable, Point};
+use crate::walk::{corners, start, step, walkable, Point};
 
 #[derive(Default)]
 pub struct Drawing {
@@ -19,8 +20,8 @@ pub struct Drawing {
     /// W, N, E and S.
     pub names: Vec<(&'static str, Point)>,
     pub start: Option<Point>,
-    /// The cells at which edges meet, the anchor at both ends.
-    pub edges: Vec<Point>,
+    /// The points of the hull's drawing, centres of cells in columns and rows; the anchor's is at both ends.
+    pub edges: Vec<(f64, f64)>,
     pub missing: Vec<Point>,
     /// The missing cell that the refusal names.
     pub named: Option<Point>,
@@ -58,7 +59,8 @@ impl Drawing {
         let cell = |&(col, row): &Point| [(col, row), (col + 1, row + 1)];
         let mut all: Vec<Point> =
             self.walk.iter().chain(self.pieces.iter().flat_map(|(_, corners)| corners)).copied().collect();
-        all.extend(self.missing.iter().chain(&self.edges).flat_map(cell));
+        let corner_cells: Vec<Point> = self.edges.iter().map(|&(x, y)| (x as i32, y as i32)).collect();
+        all.extend(self.missing.iter().chain(&corner_cells).flat_map(cell));
         all.extend(self.start);
         match self.fault {
             Some(Fault { kind: Kind::Step(a, b) | Kind::Gap(a, b), .. }) => all.extend([a, b]),
@@ -77,7 +79,10 @@ fn block(outline: &Outline, verdict: &Verdict) -> Drawing {
     drawing.names = story.pieces.iter().zip(NAMES).map(|(piece, name)| (name, story.corners[piece.from])).collect();
     drawing.pieces = story.pieces.iter().map(piece).collect();
     match verdict {
-        Ok(edges) => drawing.edges = corner_cells(edges),
+        Ok(_) => {
+            let drawn = AtWork::of(outline).and_then(|mut at_work| at_work.drawing());
+            drawing.edges = drawn.expect("what a test takes a holder takes, and draws");
+        }
         Err(refusal) => {
             drawing.missing = story.missing();
             reason(&mut drawing, &story, *refusal);

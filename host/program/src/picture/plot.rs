@@ -115,7 +115,7 @@ fn lines(svg: &mut Svg, drawing: &Drawing, frame: &Frame) {
     }
     stroke(svg, frame, EDGE, &[], |svg| {
         if !drawing.edges.is_empty() {
-            svg.path("edges", &centres(&drawing.edges));
+            svg.path("edges", &drawing.edges);
         }
     });
     if let [first, .., last] = drawing.factor[..] {
@@ -143,7 +143,7 @@ fn stroke(svg: &mut Svg, frame: &Frame, width: f64, dashes: &[f64], draw: impl F
 /// Marks of a fixed size: arrow heads, the anchor, the start, the named cell, the fault.
 fn marks(svg: &mut Svg, drawing: &Drawing, frame: &Frame) {
     for pair in drawing.edges.windows(2) {
-        let (from, to) = (frame.centre(pair[0]), frame.centre(pair[1]));
+        let (from, to) = (frame.at(pair[0]), frame.at(pair[1]));
         if (to.0 - from.0).hypot(to.1 - from.1) >= 24.0 {
             arrow(svg, "arrow", from, to, 0.62, 6.0);
         }
@@ -154,7 +154,7 @@ fn marks(svg: &mut Svg, drawing: &Drawing, frame: &Frame) {
         svg.empty("rect", &[("class", &"start"), ("x", &x), ("y", &y), ("width", &9), ("height", &9)]);
     }
     if let Some(&anchor) = drawing.edges.first() {
-        let at = frame.centre(anchor);
+        let at = frame.at(anchor);
         svg.open("g", &[("stroke-width", &2)]);
         svg.circle("anchor", at, 6.0);
         svg.close();

@@ -1,0 +1,25 @@
+//! A piece of the drawing of edges, by a walk along those before it.
+
+use robequarry::codec::{CLOSE, LINE, MOVE, NONE};
+
+use crate::reply::said;
+use crate::{Fields, Point};
+
+pub fn piece(anchor: Point, edges: &[i16], position: u16) -> Fields {
+    let (position, close) = (usize::from(position), (edges.len() / 2).max(1));
+    if position >= close {
+        return said(if position == close { CLOSE } else { NONE });
+    }
+    let mut at = anchor;
+    for edge in edges.chunks_exact(2).take(position) {
+        at = Point::new(at.col.wrapping_add_signed(edge[0]), at.row.wrapping_add_signed(edge[1]));
+    }
+    Fields { col: at.col, row: at.row, ..said(if position == 0 { MOVE } else { LINE }) }
+}
+
+/// Writes the point of a move or a line at the front of a list, if it has room there.
+pub fn write_point(piece: Fields, list: &mut [f32]) {
+    if let (MOVE | LINE, Some(front)) = (piece.word, list.first_chunk_mut()) {
+        *front = [f32::from(piece.col) + 0.5, f32::from(piece.row) + 0.5];
+    }
+}
