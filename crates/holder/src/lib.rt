@@ -9,6 +9,7 @@ use calls::Reply;
 use chart::Point;
 use draft::Draft;
 use slots::act;
+use slots::bad_place;
 use work::Work;
 ghost use mathlib.Core.Path.{_≡_};
 ghost use Rattle.verdict.specs.Named.{CellNamed};
@@ -52,7 +53,7 @@ fn bad_party(party: u8) -> bool
 fn kept(place: u8) -> usize
     ensures { λ r. ⌜ r ≡ keptPlace place ⌝ }
 {
-    if PLACES <= place as usize {
+    if bad_place(place) {
         return 0;
     }
     place as usize
@@ -146,36 +147,57 @@ impl Holder {
         })
     }
 
-    fn ask(self, party: u8, place: u8, question: Question) -> Answered
-        ensures { λ r. ⌜ r ≡ answerOf self (by party (Action.Ask place question)) ⌝ }
+    pub fn query(self, party: u8, place: u8, cell: Point) -> Answered
+        ensures { λ r. ⌜ r ≡ answerOf self (by party (Action.Ask place (Question.Cell cell))) ⌝ }
     {
+        let question = Question::Cell(cell);
         self.answer(Call {
             party,
             action: Action::Ask { place, question },
         })
     }
 
-    pub fn query(self, party: u8, place: u8, cell: Point) -> Answered
-        ensures { λ r. ⌜ r ≡ answerOf self (by party (Action.Ask place (Question.Cell cell))) ⌝ }
-    {
-        self.ask(party, place, Question::Cell(cell))
-    }
-
     pub fn row(self, party: u8, place: u8, row: u16) -> Answered
         ensures { λ r. ⌜ r ≡ answerOf self (by party (Action.Ask place (Question.Row row))) ⌝ }
     {
-        self.ask(party, place, Question::Row(row))
+        let question = Question::Row(row);
+        self.answer(Call {
+            party,
+            action: Action::Ask { place, question },
+        })
     }
 
     pub fn reading(self, party: u8, place: u8, reading: Reading) -> Answered
         ensures { λ r. ⌜ r ≡ answerOf self (by party (Action.Ask place (Question.Reading reading))) ⌝ }
     {
-        self.ask(party, place, Question::Reading(reading))
+        let question = Question::Reading(reading);
+        self.answer(Call {
+            party,
+            action: Action::Ask { place, question },
+        })
     }
 
     pub fn piece(self, party: u8, place: u8, position: u16) -> Answered
         ensures { λ r. ⌜ r ≡ answerOf self (by party (Action.Ask place (Question.Piece position))) ⌝ }
     {
-        self.ask(party, place, Question::Piece(position))
+        let question = Question::Piece(position);
+        self.answer(Call {
+            party,
+            action: Action::Ask { place, question },
+        })
+    }
+
+    // The reply alone to what is asked of a work: no question alters the holder.
+    pub fn ask(self, party: u8, place: u8, question: Question) -> Reply
+        ensures { λ r. ⌜ r ≡ answerOf self (by party (Action.Ask place question)) .reply ⌝ }
+    {
+        if bad_party(party) {
+            return Reply::NoParty;
+        }
+        if bad_place(place) {
+            return Reply::NoPlace;
+        }
+        let work = self.works[PLACES * party as usize + place as usize];
+        work.answer(question)
     }
 }

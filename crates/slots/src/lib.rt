@@ -22,7 +22,7 @@ pub struct Acted {
 }
 
 // 20.
-fn bad_place(place: u8) -> bool
+pub fn bad_place(place: u8) -> bool
     ensures { λ r. ⌜ r ≡ badPlaceOf place ⌝ }
 {
     PLACES <= place as usize

@@ -149,8 +149,7 @@ pub fn draw(
     if reply.len() < NUMBERS {
         return false;
     }
-    let answered = holder.piece(party, place, position);
-    let said = answered.reply;
+    let said = holder.ask(party, place, Question::Piece(position));
     write_point(piece_of(stroke_in(said)), point);
     reply::write(of_reply(said), reply)
 }

@@ -1,16 +1,20 @@
 -- The test is the definition's.
-use borrow.Author.Tests.{le-leb, lt-leb}
+use mathlib.Core.Path.{sym, _∙_}
 use Rattle.holder.specs.Holder.{keptPlace}
+use borrow.Author.Needs.{needs}
 use Rattle.holder.proofs.kept.Statement.{statement}
 use Rattle.holder.proofs.kept.Tie as tie
 
+bad-place-requires : tie.Need-bad-place-requires
+bad-place-requires c κs = search needs
+
 returns : tie.Need-returns
 unfolding keptPlace
-returns c = rw (le-leb _ _ (c .if1 .taken))
+returns c = rw (sym (c .before .bad-place .ensures) ∙ c .if1 .taken)
 
 returns-2 : tie.Need-returns-2
 unfolding keptPlace
-returns-2 c = rw (lt-leb _ _ (c .if1 .left))
+returns-2 c = rw (sym (c .before .bad-place .ensures) ∙ c .if1 .left)
 
 pub kept-spec : {M : Type 1} → statement M
-kept-spec = tie.close (tie.spec returns returns-2)
+kept-spec = tie.close (tie.spec bad-place-requires returns returns-2)

@@ -11,8 +11,8 @@ returns : tie.Need-returns
 unfolding pointDrawn pointFor pieceReplied replyAfter
 returns c = (rw (lt-leb _ _ (c .if1 .taken)), rw (lt-leb _ _ (c .if1 .taken)), rw (lt-leb _ _ (c .if1 .taken)))
 
-piece-requires : tie.Need-piece-requires
-piece-requires c κs = search needs
+ask-requires : tie.Need-ask-requires
+ask-requires c κs = search needs
 
 stroke-in-requires : tie.Need-stroke-in-requires
 stroke-in-requires c κs = search needs
@@ -41,8 +41,8 @@ returns-2 c =
     let at = c .before .before .before .before .before .before .before in
     let found = at .before .before .before .before in (
       c .before .before .write .ensures .0,
-      at .write-point .ensures ∙ rw (le-leb _ _ (found .before .if1 .left), at .before .before .piece-of .ensures, at .before .before .before .stroke-in .ensures, found .piece .ensures),
-      c .before .before .write .ensures .1 ∙ rw (c .before .before .before .before .of-reply .ensures, found .piece .ensures),
+      at .write-point .ensures ∙ rw (le-leb _ _ (found .before .if1 .left), at .before .before .piece-of .ensures, at .before .before .before .stroke-in .ensures, found .ask .ensures),
+      c .before .before .write .ensures .1 ∙ rw (c .before .before .before .before .of-reply .ensures, found .ask .ensures),
     )
 
 pub draw-spec : {M : Type 1} → statement M
@@ -50,7 +50,7 @@ draw-spec =
     tie.close
     (tie.spec
     returns
-    piece-requires
+    ask-requires
     stroke-in-requires
     piece-of-requires
     write-point-requires
