@@ -95,7 +95,7 @@ enum { RQ_EQUAL = 11, RQ_FIRST_WITHIN = 12, RQ_SECOND_WITHIN = 13, RQ_NO_COMMON 
  *
  * False, with nothing altered, if k is below RQ_REPLY. Else true; the reply stands first in `reply`, the rest is unaltered.
  *
- * Stack: about 14,300 bytes.
+ * Stack: about 12,600 bytes.
  */
 bool rq_test(uint16_t col, uint16_t row, const uint8_t *letters, size_t n, int16_t *edges, size_t m, uint16_t *reply, size_t k);
 
@@ -125,7 +125,7 @@ bool rq_loose_query(uint16_t anchor_col, uint16_t anchor_row, const int16_t *edg
  *
  * False, with nothing altered, if k is below RQ_REPLY. Else true; the reply stands first in `reply`, the rest is unaltered.
  *
- * Stack: about 13,300 bytes.
+ * Stack: about 11,600 bytes.
  */
 bool rq_border(uint16_t anchor_col, uint16_t anchor_row, const int16_t *edges, size_t m, uint8_t *letters, size_t n, uint16_t *reply,
                size_t k);
@@ -179,7 +179,7 @@ bool rq_compare(uint16_t anchor_col_1, uint16_t anchor_row_1, const int16_t *edg
  * The run ends before a call with a number above 8, before one that the script's end cuts, and before one whose reply has no room in
  * the k numbers of `replies`. Returns how many replies were written; what stands behind them is unaltered.
  *
- * Stack: about 100,900 bytes.
+ * Stack: about 71,000 bytes.
  */
 size_t rq_replay(const uint8_t *script, size_t n, uint16_t *replies, size_t k);
 
@@ -198,7 +198,7 @@ void rq_fresh(void *holder);
  * False, with nothing altered, unless n is RQ_CALL, the call's number is at most 8 and k is at least RQ_REPLY. Else true; the reply stands
  * first in `reply`, the rest is unaltered. Calls one after the other have the replies that a script of them has.
  *
- * Stack: about 99,900 bytes.
+ * Stack: about 70,100 bytes.
  */
 bool rq_call(void *holder, const uint8_t *call, size_t n, uint16_t *reply, size_t k);
 
@@ -210,9 +210,9 @@ bool rq_call(void *holder, const uint8_t *call, size_t n, uint16_t *reply, size_
  *
  * False, with nothing altered, if k is below RQ_REPLY. Else true; the reply stands first in `reply`, the rest is unaltered.
  *
- * Stack: about 35,900 bytes.
+ * Stack: about 9,800 bytes.
  */
-bool rq_piece(void *holder, uint8_t party, uint8_t place, uint16_t position, float *point, size_t p, uint16_t *reply, size_t k);
+bool rq_piece(const void *holder, uint8_t party, uint8_t place, uint16_t position, float *point, size_t p, uint16_t *reply, size_t k);
 
 /*
  * Calls on a pile of RQ_LAYERS layers, each empty or one taken outline. A section at a fixed column, or at a fixed row, is a plane of layers by cells;

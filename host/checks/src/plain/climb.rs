@@ -63,16 +63,16 @@ fn climb(first: &Columns, bottom: usize, top: usize) -> Option<(i32, usize)> {
     None
 }
 
-/// The row above `i` to which the line from row `i` leans furthest left, the last among equals.
+/// The row above `i` to which the line from row `i` leans furthest left, the last among equals. How far that is stays in hand.
 fn furthest_left(first: &Columns, i: usize, top: usize) -> usize {
-    let mut j = i + 1;
-    for k in i + 2..top {
-        let (near, far) = ((j - i) as i32, (k - i) as i32);
-        if (first[k] - first[i]) * near <= (first[j] - first[i]) * far {
-            j = k;
+    let from = first[i];
+    let (mut near, mut left) = (1, first[i + 1] - from);
+    for (far, &col) in (2..).zip(&first[i + 2..top]) {
+        if (col - from) * near <= left * far {
+            (near, left) = (far, col - from);
         }
     }
-    j
+    i + near as usize
 }
 
 /// Whether a row begins right of the first column that is not left of the line from row `i` to row `j`: with no division.
