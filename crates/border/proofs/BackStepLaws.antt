@@ -4,7 +4,7 @@ use native.Mathlib.Nat.{zero-add, suc-add}
 use native.Mathlib.Numerals.{add-one}
 use native.Mathlib.Omega.{arith}
 use mathlib.Core.Path.{_≡_, refl, sym, ap, _∙_}
-use mathlib.Core.Bool.{Bool, true, false}
+use mathlib.Core.Bool.{Bool, true, false, not, _&&_, _||_}
 use mathlib.Core.List.{List, [], _∷_}
 use lib.ListN.{length, getD, take, drop, length-take, length-drop}
 use lib.Seq.{take-take, take-nil, take-all, getD-take, getD-drop}
@@ -48,6 +48,15 @@ module _ {f : Frame} {r : Pair} (h : PairOf f r) (a : ℕ) where
       let e : eqb a (r .earlier) ≡ false = ne-eqb a (r .earlier) x in
       let l : eqb a (r .later) ≡ true = eq-eqb a (r .later) y in
       cc
+
+  -- A letter that is none of the two, as the code asks it
+  pub back-step-is : (not (eqb a (r .earlier)) && not (eqb a (r .later))) ≡ isBackStep f a
+  unfolding isBackStep
+  back-step-is = rw (h .earlier, h .later) (neither (eqb a (f .earlier)) (eqb a (f .later)))
+    where
+      neither : (x y : Bool) → (not x && not y) ≡ not (x || y)
+      neither true y = refl
+      neither false y = refl
 
 -- The first i letters of a piece have no back-step
 pub record Passed (letters : List ℕ) (k i : ℕ) : Type 0 where

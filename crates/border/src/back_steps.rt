@@ -3,13 +3,27 @@ use crate::cut::Turn;
 use crate::frame;
 ghost use Prim.Native.Nat.{_*_, _≤_, _<_};
 ghost use mathlib.Core.Path.{_≡_};
+ghost use mathlib.Core.Bool.{false};
 ghost use lib.ListN.{length, getD};
 ghost use Rattle.chart.specs.Limits.{longest};
 ghost use Rattle.convexity.specs.Pieces.{rounds};
 ghost use Rattle.border.specs.BackSteps.{part, straightFor, Within, Found};
 
-// How many letters of piece k stand before its first back-step: all of them where it has none.
-fn straight_for(piece: &[u8], k: usize) -> usize
+// Whether some letter of piece k is a back-step: all are looked at, so that many are at once.
+fn some_bent(piece: &[u8], k: usize) -> bool
+    ensures { λ r. ⌜ (r ≡ false → length (now (piece .entry)) ≡ straightFor k (now (piece .entry))) ⌝ }
+{
+    let f = frame::pair_at(k);
+    let mut found = false;
+    let mut i = 0;
+    while i < piece.len() {
+        found = found | ((piece[i] != f.earlier) & (piece[i] != f.later));
+        i += 1;
+    }
+    found
+}
+
+fn first_bent(piece: &[u8], k: usize) -> usize
     ensures { λ r. ⌜ r ≡ straightFor k (now (piece .entry)) ⌝ }
 {
     let f = frame::pair_at(k);
@@ -22,6 +36,16 @@ fn straight_for(piece: &[u8], k: usize) -> usize
         i += 1;
     }
     i
+}
+
+// How many letters of piece k stand before its first back-step: all of them where it has none. The place is looked for only where there is one.
+fn straight_for(piece: &[u8], k: usize) -> usize
+    ensures { λ r. ⌜ r ≡ straightFor k (now (piece .entry)) ⌝ }
+{
+    if some_bent(piece, k) {
+        return first_bent(piece, k);
+    }
+    piece.len()
 }
 
 // Letter i of those read on past their end, as often round as four pieces can reach.
