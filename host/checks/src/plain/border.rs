@@ -128,5 +128,9 @@ const ROW_STEPS: [u16; 4] = [1, (WIDTH as u16).wrapping_neg(), 1u16.wrapping_neg
 
 /// The index of a piece's first letter that is none of its two.
 pub fn first_stray(piece: &[u8], pair: Pair) -> Option<usize> {
+    // All letters at once; the place is looked for only where there is one.
+    if !piece.iter().fold(false, |bent, &letter| bent | ((letter != pair.earlier) & (letter != pair.later))) {
+        return None;
+    }
     piece.iter().position(|&letter| letter != pair.earlier && letter != pair.later)
 }
