@@ -1,9 +1,9 @@
 -- Each action of a party, done to its draft and to the work at hand, replies as the book's page does and leaves the page's next draft and next work there; every other work of the page stays.
-use Prim.Native.Nat.{ℕ, _<_}
-use mathlib.Core.Path.{_≡_, refl, sym, ap, _∙_, subst}
-use mathlib.Core.Bool.{Bool, true, false, cond, true≢false}
+use Prim.Native.Nat.{ℕ}
+use mathlib.Core.Path.{_≡_, refl, sym, subst}
+use mathlib.Core.Bool.{Bool, true, false, cond}
 use mathlib.Core.Option.{Option, none, some}
-use Rattle.base.proofs.PutLaws.{put-here, put-elsewhere, put-same}
+use Rattle.base.proofs.PutLaws.{put-here, put-elsewhere}
 use Rattle.chart.specs.Outline.{Outline}
 use Rattle.chart.specs.declared.Verdict.{Verdict}
 use Rattle.chart.specs.declared.Verdict.the-variants.{Taken, Refused}

@@ -1,7 +1,6 @@
 -- The factors are read as edges into a list of zeros; the first dent is named, and where there is none the edges are lent.
 use native.Mathlib.Omega.{arith}
-use mathlib.Core.Path.{_≡_, sym, subst}
-use lib.ListN.{length-replicate}
+use mathlib.Core.Path.{_≡_, subst}
 use borrow.Author.Needs.{needs}
 use Rattle.border.specs.declared.dents.Factored.{Factored}
 use Rattle.border.specs.Dents.{FactorsRead}

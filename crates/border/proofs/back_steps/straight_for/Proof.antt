@@ -1,5 +1,4 @@
 -- Where no letter is a back-step all are passed, and else the search tells.
-use mathlib.Core.Path.{refl}
 use borrow.Author.Needs.{needs}
 use Rattle.border.proofs.back_steps.straight_for.Statement.{statement}
 use Rattle.border.proofs.back_steps.straight_for.Tie as tie
