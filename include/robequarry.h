@@ -167,8 +167,8 @@ bool rq_compare(uint16_t anchor_col_1, uint16_t anchor_row_1, const int16_t *edg
  * A reading (X, Y). An edge (dx, dy) that leaves the cell (x, y) has there the side value dy (X - x) - dx (Y - y), computed in floats of 32 bits, each
  * step rounded to nearest, ties to even. The word is "outside" where X is not between the lowest and the highest column of the cells at which
  * edges meet, or Y not between their rows, or some computed value is at most -1/64; else "undecided" where some computed value is below 1/64;
- * else "inside". One cell alone has its centre inside. A computed value is less than 1/64 from the exact one, so that "inside" and "outside"
- * are exactly so, and "undecided" is never said where every exact value is at least 1/32 or one is at most -1/32. -0 is 0.
+ * else "inside". One cell alone has its centre inside. Rounding moves no value by as much as 1/64: so "inside" and "outside" hold exactly, and a
+ * reading is decided once its exact values all reach 1/32, or one has fallen to -1/32. -0 is 0.
  *
  * A party's replies depend on its own calls alone. A call that 19 or 20 turns back alters nothing, but that a close ends its party's draft.
  */
