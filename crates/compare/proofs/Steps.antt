@@ -2,25 +2,19 @@
 use Prim.Native.Nat.{ℕ, _+_, _<_, _≤_}
 use native.Mathlib.Omega.{arith}
 use mathlib.Core.Path.{_≡_, refl, sym, ap, _∙_}
-use mathlib.Core.Bool.{Bool, true, false, false≢true, not, _&&_, _||_, and-eq-true-iff}
+use mathlib.Core.Bool.{Bool, true, false, false≢true, _&&_, and-eq-true-iff}
 use mathlib.Core.List.{List, [], _∷_}
-use native.Mathlib.Decide.{decLe}
-use borrow.Author.Tests.{le-leb, lt-leb}
 use lib.ListN.{length, drop, getD, length-drop}
-use lib.Dec.{T, leb}
 use lib.IntN.{ℤ, pos, negsuc, natAbs, _+ℤ_}
-use lib.Signed.{nonNeg}
-use mir.Syntax.{w16}
-use mir.Val.{Fits}
 use Rattle.chart.specs.Limits.{side}
 use Rattle.base.proofs.IntegerOrder.{up}
 use Rattle.chart.specs.declared.Point.{Point}
-use Rattle.polygon.specs.Loose.{badCell}
 use Rattle.polygon.proofs.Spans.{drop-two}
-use Rattle.turning.specs.CornerHull.{Met}
-use Rattle.nesting.specs.Corners.{everyCorner, chartNumber, onChart, cornersOnChart}
+use Rattle.turning.specs.CornerHull.{chartNumber, onChart, Met}
+use Rattle.turning.proofs.OnChart.{on-parts}
+use Rattle.nesting.specs.Corners.{everyCorner, cornersOnChart}
 use Rattle.nesting.specs.Rows.{startAt}
-use Rattle.nesting.proofs.CornerTests.{Place, place, number, every-met}
+use Rattle.nesting.proofs.CornerTests.{Place, place, every-met}
 use Rattle.compare.specs.Step.{kept, steppedTo}
 
 -- ---- one number
@@ -37,9 +31,6 @@ kept-off z e = rw e
 pub kept-on : (z : ℤ) → chartNumber z ≡ true → natAbs z ≡ kept z
 kept-on z e = ap natAbs (kept-is z e)
 
-pub kept-size : (z : ℤ) → chartNumber z ≡ true → T (nonNeg z) × Fits w16 (natAbs z)
-kept-size z e = let h = number z e in rw (h .1) (tt, record { fits = omega (arith, h .2) })
-
 off : chartNumber (pos side) ≡ false
 unfolding chartNumber
 off = refl
@@ -53,19 +44,6 @@ kept-number z = go (chartNumber z) refl
 
 -- ---- corner cells
 
-or-not : (s t : Bool) → (s || t) ≡ not (not s && not t)
-or-not true t = refl
-or-not false true = refl
-or-not false false = refl
-
-number-bad : (n : ℕ) → chartNumber (pos n) ≡ not (leb side n)
-unfolding chartNumber
-number-bad n = rw (le-leb 0 n (omega arith)) (elim (decLe side n) [ yes h ↦ rw (le-leb side n h) (lt-leb n 254 (omega arith)) | no h ↦ rw (lt-leb side n (omega arith)) (le-leb n 254 (omega arith)) ])
-
-pub bad-cell : (p : Point) → badCell p ≡ not (onChart (pos (p .col)) (pos (p .row)))
-unfolding badCell onChart
-bad-cell p = rw (number-bad (p .col), number-bad (p .row)) (or-not (leb side (p .col)) (leb side (p .row)))
-
 corner-off : (f : ℤ → ℤ → Bool) (es : List ℤ) (x y : ℤ) → f x y ≡ false → everyCorner f es x y ≡ false
 unfolding everyCorner
 corner-off f [] x y e = e
@@ -77,10 +55,6 @@ unfolding everyCorner
 short f [] x y h = refl
 short f (dx ∷ []) x y h = refl
 short f (dx ∷ dy ∷ es) x y h = absurd (omega arith)
-
-on-parts : (z w : ℤ) → onChart z w ≡ true → (chartNumber z ≡ true) × (chartNumber w ≡ true)
-unfolding onChart
-on-parts z w e = and-eq-true-iff (chartNumber z) (chartNumber w) .0 e
 
 on-chart-by : (z z′ w w′ : ℤ) → chartNumber z ≡ chartNumber z′ → chartNumber w ≡ chartNumber w′ → onChart z w ≡ onChart z′ w′
 unfolding onChart

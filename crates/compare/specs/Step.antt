@@ -4,7 +4,7 @@ use mathlib.Core.Bool.{cond}
 use lib.IntN.{ℤ, pos, _+ℤ_}
 use Rattle.chart.specs.Limits.{side}
 use Rattle.chart.specs.declared.Point.{Point}
-use Rattle.nesting.specs.Corners.{chartNumber}
+use Rattle.turning.specs.CornerHull.{chartNumber}
 use Rattle.nesting.specs.Rows.{startAt}
 
 -- A column or a row of the chart as it is, and any other number as the first that is none

@@ -1,15 +1,13 @@
 -- A test over the corner cells says what is meant: every corner met by the walk passes it, or some corner fails it.
-use Prim.Native.Nat.{ℕ, _<_, _-_}
-use native.Mathlib.Omega.{arith}
+use Prim.Native.Nat.{ℕ, _<_}
 use mathlib.Core.Path.{_≡_, refl}
 use mathlib.Core.Bool.{Bool, true, false, _&&_, and-eq-true-iff}
 use mathlib.Core.List.{List, [], _∷_}
-use lib.IntN.{ℤ, pos, negsuc, _+ℤ_}
-use lib.Signed.{leZ}
+use lib.IntN.{ℤ, pos, _+ℤ_}
 use Rattle.chart.specs.Limits.{side}
-use Rattle.base.proofs.IntegerOrder.{at-most-iff}
-use Rattle.turning.specs.CornerHull.{Met}
-use Rattle.nesting.specs.Corners.{everyCorner, chartNumber, onChart}
+use Rattle.turning.specs.CornerHull.{onChart, Met}
+use Rattle.turning.proofs.OnChart.{number, on-parts}
+use Rattle.nesting.specs.Corners.{everyCorner}
 
 pub every-met : (f : ℤ → ℤ → Bool) {es : List ℤ} {x y u v : ℤ} → Met es x y u v → everyCorner f es x y ≡ true → f u v ≡ true
 unfolding everyCorner
@@ -53,15 +51,9 @@ pub record Place (u v : ℤ) : Type 0 where
   pub colBelow : col < side
   pub rowBelow : row < side
 
-pub number : (z : ℤ) → chartNumber z ≡ true → (n : ℕ) × (z ≡ pos n) × (n < side)
-unfolding chartNumber
-number (pos n) e = (n, refl, omega (arith, at-most-iff (pos n) (pos (side - 1)) .0 (and-eq-true-iff (leZ (pos 0) (pos n)) (leZ (pos n) (pos (side - 1))) .0 e .1)))
-number (negsuc n) e = absurd (omega (arith, at-most-iff (pos 0) (negsuc n) .0 (and-eq-true-iff (leZ (pos 0) (negsuc n)) (leZ (negsuc n) (pos (side - 1))) .0 e .0)))
-
 pub place : (u v : ℤ) → onChart u v ≡ true → Place u v
-unfolding onChart
 place u v e =
-    let a = and-eq-true-iff (chartNumber u) (chartNumber v) .0 e in
+    let a = on-parts u v e in
     let p = number u (a .0) in
     let q = number v (a .1) in
     record { col = p .0; row = q .0; isCol = p .1; isRow = q .1; colBelow = p .2; rowBelow = q .2 }

@@ -1,9 +1,20 @@
 -- The corner cells that a walk of edges meets, on the chart and off it, and their hull (contract 3.17).
-use Prim.Native.Nat.{ℕ, _+_, _<_}
+use Prim.Native.Nat.{ℕ, _+_, _-_, _<_}
 use mathlib.Core.Path.{_≡_}
+use mathlib.Core.Bool.{Bool, _&&_}
 use mathlib.Core.List.{List, _∷_}
 use lib.IntN.{ℤ, pos, _+ℤ_, _*ℤ_}
+use lib.Signed.{leZ}
+use Rattle.chart.specs.Limits.{side}
 use Rattle.chart.specs.declared.Point.{Point}
+
+-- A column or a row of the chart
+unfoldable pub chartNumber : ℤ → Bool
+chartNumber z = leZ (pos 0) z && leZ z (pos (side - 1))
+
+-- A cell of the chart
+unfoldable pub onChart : ℤ → ℤ → Bool
+onChart u v = chartNumber u && chartNumber v
 
 -- The walk of the edges from (x, y) meets (u, v): its start, or the end of an edge
 pub data Met : List ℤ → ℤ → ℤ → ℤ → ℤ → Type 0 where

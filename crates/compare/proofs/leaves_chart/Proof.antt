@@ -11,9 +11,10 @@ use mir.Val.{SFits}
 use mir.ValLaws.{toZ-ofZ}
 use borrow.Author.Needs.{needs}
 use borrow.Author.Tests.{not-true, not-false}
-use Rattle.nesting.specs.Corners.{onChart}
+use Rattle.turning.specs.CornerHull.{onChart}
+use Rattle.polygon.proofs.OnChart.{bad-cell}
 use Rattle.compare.specs.Step.{steppedTo}
-use Rattle.compare.proofs.Steps.{bad-cell, Leaving, leaving-start, leaving-further, leaving-off, leaving-end}
+use Rattle.compare.proofs.Steps.{Leaving, leaving-start, leaving-further, leaving-off, leaving-end}
 use Rattle.compare.proofs.leaves_chart.Statement.{statement}
 use Rattle.compare.proofs.leaves_chart.Tie as tie
 

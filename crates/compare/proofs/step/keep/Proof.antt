@@ -4,8 +4,9 @@ use mathlib.Core.Path.{_≡_}
 use mathlib.Core.Bool.{true, false}
 use mir.Syntax.{w32}
 use mir.ValLaws.{toZ-ofZ}
-use Rattle.nesting.specs.Corners.{chartNumber}
-use Rattle.compare.proofs.Steps.{kept-size, kept-on, kept-off}
+use Rattle.turning.specs.CornerHull.{chartNumber}
+use Rattle.turning.proofs.OnChart.{number-fits}
+use Rattle.compare.proofs.Steps.{kept-on, kept-off}
 use Rattle.compare.proofs.step.keep.Statement.{statement}
 use Rattle.compare.proofs.step.keep.Tie as tie
 
@@ -21,7 +22,7 @@ cast-if1 : tie.Need-cast-if1
 cast-if1 c = search needs
 
 cast-result : tie.Need-cast-result
-cast-result c = rw (toZ-ofZ w32 _ (c .before .fits .z)) (kept-size _ (on c))
+cast-result c = rw (toZ-ofZ w32 _ (c .before .fits .z)) (number-fits _ (on c))
 
 returns : tie.Need-returns
 returns c = rw (toZ-ofZ w32 _ (c .before .fits .z)) (kept-on _ (on c))

@@ -1,0 +1,19 @@
+-- 11 refuses a cell exactly where it is none of the chart: its numbers are natural, so each is one of the chart's unless it is too large.
+use mathlib.Core.Path.{_≡_, refl}
+use mathlib.Core.Bool.{Bool, true, false, not, _&&_, _||_}
+use lib.Dec.{leb}
+use lib.IntN.{pos}
+use Rattle.chart.specs.Limits.{side}
+use Rattle.chart.specs.declared.Point.{Point}
+use Rattle.turning.specs.CornerHull.{onChart}
+use Rattle.turning.proofs.OnChart.{number-is}
+use Rattle.polygon.specs.Loose.{badCell}
+
+pub bad-cell : (p : Point) → badCell p ≡ not (onChart (pos (p .col)) (pos (p .row)))
+unfolding badCell onChart
+bad-cell p = rw (number-is (p .col), number-is (p .row)) (either (leb side (p .col)) (leb side (p .row)))
+  where
+    either : (s t : Bool) → (s || t) ≡ not (not s && not t)
+    either true t = refl
+    either false true = refl
+    either false false = refl
