@@ -3,7 +3,7 @@ use Prim.Native.Nat.{_+_, _≤_}
 use native.Mathlib.Omega.{arith}
 use mathlib.Core.Path.{_≡_, sym, ap, subst}
 use mathlib.Core.Logic.{⊎-elim}
-use mathlib.Core.Bool.{true, _&&_, and-eq-true-iff}
+use mathlib.Core.Bool.{true, and-eq-true-iff}
 use mathlib.Core.List.{List, [], _∷_, List·Memᴰ, List·Memᴰ·cases-cons, List·Memᴰ·not-nil}
 use lib.IntN.{ℤ, pos, natAbs, _+ℤ_}
 use Rattle.base.specs.Each.{all}
@@ -11,8 +11,10 @@ use Rattle.base.proofs.IntegerOrder.{up, down}
 use Rattle.base.proofs.Differences.{is-self, is-eq, is-add}
 use Rattle.base.proofs.Sizes.{size-at-most}
 use Rattle.chart.specs.declared.Point.{Point}
+use Rattle.turning.specs.CornerHull.{onChart}
+use Rattle.turning.proofs.OnChart.{on-parts}
 use Rattle.readings.specs.Sides.{Edge, edgesFrom, edgesAlong}
-use Rattle.readings.specs.Located.{cellNumber, endsOn, staysOn}
+use Rattle.readings.specs.Located.{endsOn, staysOn}
 use Rattle.readings.proofs.Numbers.{Cell, cell-of}
 use Rattle.readings.proofs.Side.{Small}
 
@@ -26,8 +28,8 @@ unfolding edgesFrom all endsOn
 from-small [] x y p q h e m = absurd (List·Memᴰ·not-nil m)
 from-small (dx ∷ []) x y p q h e m = absurd (List·Memᴰ·not-nil m)
 from-small (dx ∷ dy ∷ es) x y p q h e m =
-    let both = and-eq-true-iff (cellNumber (x +ℤ dx) && cellNumber (y +ℤ dy)) (all endsOn (edgesFrom es (x +ℤ dx) (y +ℤ dy))) .0 h in
-    let ends = and-eq-true-iff (cellNumber (x +ℤ dx)) (cellNumber (y +ℤ dy)) .0 (both .0) in
+    let both = and-eq-true-iff (onChart (x +ℤ dx) (y +ℤ dy)) (all endsOn (edgesFrom es (x +ℤ dx) (y +ℤ dy))) .0 h in
+    let ends = on-parts (x +ℤ dx) (y +ℤ dy) (both .0) in
     let px = cell-of (x +ℤ dx) (ends .0) in
     let py = cell-of (y +ℤ dy) (ends .1) in
     ⊎-elim
@@ -38,6 +40,6 @@ from-small (dx ∷ dy ∷ es) x y p q h e m =
 pub stays-small : (a : Point) (es : List ℤ) → staysOn a es ≡ true → (e : Edge) → List·Memᴰ e (edgesAlong a es) → Small e
 unfolding staysOn
 stays-small a es h =
-    let both = and-eq-true-iff (cellNumber (pos (a .col)) && cellNumber (pos (a .row))) (all endsOn (edgesAlong a es)) .0 h in
-    let at = and-eq-true-iff (cellNumber (pos (a .col))) (cellNumber (pos (a .row))) .0 (both .0) in
+    let both = and-eq-true-iff (onChart (pos (a .col)) (pos (a .row))) (all endsOn (edgesAlong a es)) .0 h in
+    let at = on-parts (pos (a .col)) (pos (a .row)) (both .0) in
     from-small es (pos (a .col)) (pos (a .row)) (cell-of _ (at .0)) (cell-of _ (at .1)) (both .1)

@@ -1,8 +1,7 @@
 -- A number that is not refused is finite, so it has a value in units; floats compare as values do, and a cell's number is a float, exactly.
 use Prim.Native.Nat.{ℕ, _*_, _^_, _≤_, _<_}
-use native.Mathlib.Nat.{lt-of-le-of-lt}
-use native.Mathlib.Omega.{arith}
-use mathlib.Core.Path.{_≡_, refl, sym}
+use native.Mathlib.Nat.{le-of-suc-le-suc, lt-of-le-of-lt}
+use mathlib.Core.Path.{_≡_, refl}
 use mathlib.Core.Bool.{Bool, true, false, not, _&&_, _||_, and-eq-true-iff, true≢false}
 use lib.IntN.{ℤ, pos, negsuc, natAbs}
 use lib.Signed.{leZ}
@@ -10,15 +9,16 @@ use lib.Dec.{T, lit≤}
 use lib.Ieee.{Float, nan, inf, fin, binary32, prec, fits, le, lt, eq, ofInt}
 use mir.Syntax.{w16}
 use mir.Val.{SFits}
-use borrow.Author.Tests.{leb-true, le-leb, not-false}
+use borrow.Author.Tests.{leb-true, not-false}
 use Rattle.base.proofs.Sizes.{fits-size}
 use Rattle.rounding.specs.Units.{negative, units, value, inUnits}
 use Rattle.rounding.proofs.Values.{Exact, fits-exact}
 use Rattle.rounding.proofs.Near.{whole-exact, whole-is}
 use Rattle.rounding.proofs.Order.{le-value}
-use Rattle.chart.specs.Limits.{side}
+use Rattle.turning.specs.CornerHull.{chartNumber}
+use Rattle.turning.proofs.OnChart.{number}
 use Rattle.calls.specs.declared.Reading.{Reading}
-use Rattle.readings.specs.Located.{badNumber, badReading, cellNumber}
+use Rattle.readings.specs.Located.{badNumber, badReading}
 
 -- ---- numbers that are not refused
 
@@ -96,24 +96,14 @@ pub record Cell (z : ℤ) : Type 0 where
   pub is : z ≡ pos n
   pub small : n ≤ 254
 
-pub cell-below : (n : ℕ) → cellNumber (pos n) ≡ true → n ≤ 254
-unfolding cellNumber
-cell-below n h = leb-true n 254 (and-eq-true-iff (leZ (pos 0) (pos n)) (leZ (pos n) (pos 254)) .0 h .1)
-
-pub cell-of : (z : ℤ) → cellNumber z ≡ true → Cell z
-unfolding cellNumber
-cell-of (pos n) h = record { n = n; is = refl; small = cell-below n h }
-cell-of (negsuc n) h = absurd (true≢false (sym h))
-
-pub cell-on : (n : ℕ) → n < side → cellNumber (pos n) ≡ true
-unfolding cellNumber
-cell-on n h = rw (le-leb 0 n (omega arith), le-leb n 254 (omega arith))
+pub cell-of : (z : ℤ) → chartNumber z ≡ true → Cell z
+cell-of z h = let p = number z h in record { n = p .0; is = p .1; small = le-of-suc-le-suc (p .2) }
 
 pub cell-size : {z : ℤ} → Cell z → natAbs z ≤ 254
 cell-size c = rw (c .is) (c .small)
 
 -- It fits 16 bits with a sign
-pub cell-fits : (z : ℤ) → cellNumber z ≡ true → SFits w16 z
+pub cell-fits : (z : ℤ) → chartNumber z ≡ true → SFits w16 z
 cell-fits z h = fits-size w16 z (lt-of-le-of-lt (cell-size (cell-of z h)) (lit≤ tt))
 
 -- It has no more digits than the format keeps

@@ -2,7 +2,7 @@
 use Prim.Native.Nat.{_<_}
 use mathlib.Core.Path.{_≡_, refl, sym, _∙_}
 use mathlib.Core.Logic.{inl, inr}
-use mathlib.Core.Bool.{Bool, true, false, _&&_, and-eq-true-iff, true≢false}
+use mathlib.Core.Bool.{Bool, true, false, and-eq-true-iff, true≢false}
 use mathlib.Core.List.{List, [], _∷_}
 use lib.IntN.{ℤ, pos, _+ℤ_}
 use Rattle.base.specs.Each.{all}
@@ -15,39 +15,41 @@ use Rattle.convexity.proofs.StraightTurn.{NoBackStep}
 use Rattle.convexity.proofs.Shape.{shape}
 use Rattle.convexity.proofs.Inside.{Meets, IsCell, vertex-is-cell}
 use Rattle.convexity.proofs.Theorem.{edges-answer}
+use Rattle.turning.specs.CornerHull.{onChart}
+use Rattle.turning.proofs.OnChart.{number-on}
 use Rattle.calls.specs.declared.Reading.{Reading}
 use Rattle.readings.specs.declared.Located.the-variants.{Inside, Outside}
 use Rattle.readings.specs.Sides.{edgesFrom}
-use Rattle.readings.specs.Located.{Held, badReading, cellNumber, endsOn, staysOn, locatedOf}
+use Rattle.readings.specs.Located.{Held, badReading, endsOn, staysOn, locatedOf}
 use Rattle.readings.specs.Claims.{Answers, Centred}
-use Rattle.readings.proofs.Numbers.{cell-on}
 use Rattle.readings.proofs.Agreement.{answers}
 use Rattle.readings.proofs.Centre.{centre-inside, centre-outside}
 
 -- A vertex off the chart
 abbrev Off : ℤ → ℤ → Type 0
-Off v w = (cellNumber v && cellNumber w) ≡ false
+Off v w = onChart v w ≡ false
 
 on-of : (b : Bool) → (b ≡ false → ⊥) → b ≡ true
 on-of true h = refl
 on-of false h = absurd (h refl)
 
-none-off : (es : List ℤ) (x y : ℤ) → (Meets Off es x y → ⊥) → ((cellNumber x && cellNumber y) ≡ true) × (all endsOn (edgesFrom es x y) ≡ true)
+none-off : (es : List ℤ) (x y : ℤ) → (Meets Off es x y → ⊥) → (onChart x y ≡ true) × (all endsOn (edgesFrom es x y) ≡ true)
 unfolding Meets all endsOn edgesFrom
 none-off [] x y h = (on-of _ h, refl)
 none-off (dx ∷ []) x y h = (on-of _ h, refl)
 none-off (dx ∷ dy ∷ es) x y h =
     let rest = none-off es (x +ℤ dx) (y +ℤ dy) (λ m. h (inr m)) in
-    (on-of _ (λ p. h (inl p)), and-eq-true-iff (cellNumber (x +ℤ dx) && cellNumber (y +ℤ dy)) _ .1 rest)
+    (on-of _ (λ p. h (inl p)), and-eq-true-iff (onChart (x +ℤ dx) (y +ℤ dy)) _ .1 rest)
 
-on-cell : {v w : ℤ} → IsCell v w → (cellNumber v && cellNumber w) ≡ true
-on-cell c = rw (c .col-is, c .row-is, cell-on (c .cell .col) (c .col-on), cell-on (c .cell .row) (c .row-on))
+on-cell : {v w : ℤ} → IsCell v w → onChart v w ≡ true
+unfolding onChart
+on-cell c = rw (c .col-is, c .row-is, number-on (c .cell .col) (c .col-on), number-on (c .cell .row) (c .row-on))
 
 module _ (o : Outline) (straight : NoBackStep o) where
   pub edges-stay : staysOn (o .start) (edges o) ≡ true
   unfolding staysOn
   edges-stay =
-      and-eq-true-iff (cellNumber (pos (o .start .col)) && cellNumber (pos (o .start .row))) _ .1
+      and-eq-true-iff (onChart (pos (o .start .col)) (pos (o .start .row))) _ .1
       (none-off (edges o) (pos (o .start .col)) (pos (o .start .row)) λ m.
       let (v, w, c, off) = vertex-is-cell o (shape o straight) Off m in
       true≢false (sym (on-cell c) ∙ off))

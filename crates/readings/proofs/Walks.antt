@@ -1,27 +1,25 @@
 -- The walk, edge by edge, ends with the answer: what was met so far and what is yet to be met are tested apart, since a lowest number is at most x where one of the numbers
 -- met is.
-use Prim.Native.Nat.{ℕ, _+_, _≤_, _<_, suc-le-suc}
-use native.Mathlib.Decide.{decLt}
+use Prim.Native.Nat.{ℕ, _+_, _≤_, _<_}
 use native.Mathlib.Omega.{arith}
-use mathlib.Core.Path.{_≡_, refl, sym, ap, _∙_}
-use mathlib.Core.Bool.{Bool, true, false, not, cond, _&&_, _||_, or-false, or-assoc, and-true, and-eq-true-iff}
+use mathlib.Core.Path.{_≡_, refl, sym, _∙_}
+use mathlib.Core.Bool.{Bool, true, false, not, cond, _&&_, _||_, or-false, or-assoc, and-true}
 use mathlib.Core.List.{List, [], _∷_}
-use lib.Dec.{leb}
 use lib.ListN.{length, drop, getD, length-drop}
 use lib.IntN.{ℤ, pos, _+ℤ_}
 use lib.Signed.{leZ}
 use lib.Ieee.{Float, binary32}
-use borrow.Author.Tests.{le-leb, lt-leb}
+use borrow.Author.Tests.{not-true, not-false}
 use Rattle.base.specs.Each.{all, any}
-use Rattle.base.proofs.BelowLaws.{not-held}
 use Rattle.rounding.specs.Units.{value, inUnits}
 use Rattle.rounding.proofs.InUnits.{units-le}
-use Rattle.chart.specs.Limits.{side}
 use Rattle.chart.specs.declared.Point.{Point}
 use Rattle.convexity.specs.Inside.{minℤ, maxℤ, colSteps, rowSteps}
+use Rattle.turning.specs.CornerHull.{onChart}
 use Rattle.polygon.specs.Loose.{badCell}
 use Rattle.polygon.proofs.Integers.{min-at-most, max-at-least}
 use Rattle.polygon.proofs.Spans.{meets, lowest-meets, highest-meets, drop-two}
+use Rattle.polygon.proofs.OnChart.{bad-cell}
 use Rattle.calls.specs.declared.Reading.{Reading}
 use Rattle.readings.specs.declared.Located.{Located}
 use Rattle.readings.specs.declared.Located.the-variants.{Inside, Outside, Undecided, Refused}
@@ -30,8 +28,7 @@ use Rattle.readings.specs.declared.walk.Walk.{Walk}
 use Rattle.readings.specs.declared.walk.Passed.{Passed}
 use Rattle.readings.specs.declared.walk.Passed.the-variants.{Out, On}
 use Rattle.readings.specs.Sides.{edgesFrom}
-use Rattle.readings.specs.Located.{badReading, between, withinExtremes, far, near, sided, cellNumber, endsOn, staysOn, locatedOf}
-use Rattle.readings.proofs.Numbers.{cell-below, cell-on}
+use Rattle.readings.specs.Located.{badReading, between, withinExtremes, far, near, sided, endsOn, staysOn, locatedOf}
 use Rattle.readings.specs.Walk.{met, arrived, noneMet, begun, edgeOf, stepped, passed, settled}
 
 -- ---- one coordinate
@@ -123,17 +120,17 @@ from-whole (dx ∷ dy ∷ es) w r =
     let e = edgeOf w dx dy in
     let rest = edgesFrom es x y in
     rw (between-step (w .cols) dx (colSteps es) (w .x) (r .angle), between-step (w .rows) dy (rowSteps es) (w .y) (r .load))
-    (one-more (cellNumber x && cellNumber y) (far r e) (all endsOn rest) (betweenFrom (w′ .cols) (colSteps es) x (r .angle) && betweenFrom (w′ .rows) (rowSteps es) y (r .load))
+    (one-more (onChart x y) (far r e) (all endsOn rest) (betweenFrom (w′ .cols) (colSteps es) x (r .angle) && betweenFrom (w′ .rows) (rowSteps es) y (r .load))
     (any (far r) rest) (w .near) (near r e) (any (near r) rest) w′ (λ w′. from es w′ r) (from-whole es w′ r))
 
 -- The walk from an anchor on the chart finds where a reading that is not refused lies
 pub walk-locates :
-    (a : Point) (es : List ℤ) (r : Reading) → badReading r ≡ false → cellNumber (pos (a .col)) ≡ true → cellNumber (pos (a .row)) ≡ true
+    (a : Point) (es : List ℤ) (r : Reading) → badReading r ≡ false → onChart (pos (a .col)) (pos (a .row)) ≡ true
     → from es (begun (pos (a .col)) (pos (a .row)) r) r ≡ locatedOf a es r
 unfolding begun arrived whole locatedOf sided staysOn withinExtremes
-walk-locates a es r good c d =
+walk-locates a es r good on =
     from-whole es (begun (pos (a .col)) (pos (a .row)) r) r
-    ∙ sym (rw (good, c, d, between-from (colSteps es) (pos (a .col)) (r .angle), between-from (rowSteps es) (pos (a .row)) (r .load)) refl)
+    ∙ sym (rw (good, on, between-from (colSteps es) (pos (a .col)) (r .angle), between-from (rowSteps es) (pos (a .row)) (r .load)) refl)
 
 -- ---- before the walk
 
@@ -141,28 +138,12 @@ pub located-bad : (a : Point) (es : List ℤ) (r : Reading) → badReading r ≡
 unfolding locatedOf
 located-bad a es r b = rw b
 
--- A number is a column's or a row's unless it is too large
-cell-number-is : (n : ℕ) → cellNumber (pos n) ≡ not (leb side n)
-cell-number-is n =
-    elim (decLt n side) [
-      | yes h ↦ cell-on n h ∙ ap not (sym (lt-leb side n h))
-      | no h ↦ rw (le-leb side n (omega arith)) (not-held (cellNumber (pos n)) (λ on. h (suc-le-suc (cell-below n on))))
-    ]
-
-anchor-is : (a : Point) → (cellNumber (pos (a .col)) && cellNumber (pos (a .row))) ≡ not (badCell a)
-unfolding badCell
-anchor-is a = rw (cell-number-is (a .col), cell-number-is (a .row)) (neither (leb side (a .col)) (leb side (a .row)))
-  where
-    neither : (b c : Bool) → (not b && not c) ≡ not (b || c)
-    neither true c = refl
-    neither false c = refl
-
-pub anchor-on : (a : Point) → badCell a ≡ false → (cellNumber (pos (a .col)) ≡ true) × (cellNumber (pos (a .row)) ≡ true)
-anchor-on a h = and-eq-true-iff _ _ .0 (anchor-is a ∙ ap not h)
+pub anchor-on : (a : Point) → badCell a ≡ false → onChart (pos (a .col)) (pos (a .row)) ≡ true
+anchor-on a h = not-false _ (sym (bad-cell a) ∙ h)
 
 pub located-off : (a : Point) (es : List ℤ) (r : Reading) → badReading r ≡ false → badCell a ≡ true → Outside ≡ locatedOf a es r
 unfolding locatedOf staysOn
-located-off a es r g b = rw (g, anchor-is a, b)
+located-off a es r g b = rw (g, not-true (onChart (pos (a .col)) (pos (a .row))) (sym (bad-cell a) ∙ b))
 
 -- ---- a turn of the loop
 

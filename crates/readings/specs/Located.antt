@@ -11,6 +11,7 @@ use Rattle.rounding.specs.Units.{value, inUnits}
 use Rattle.chart.specs.Limits.{side}
 use Rattle.chart.specs.declared.Point.{Point}
 use Rattle.convexity.specs.Inside.{notNegative, colSteps, rowSteps, lowestMet, highestMet}
+use Rattle.turning.specs.CornerHull.{onChart}
 use Rattle.calls.specs.declared.Reading.{Reading}
 use Rattle.readings.specs.declared.Located.{Located}
 use Rattle.readings.specs.declared.Located.the-variants.{Inside, Outside, Undecided, Refused}
@@ -59,17 +60,13 @@ sided a es r =
     (cond (any (near r) (edgesAlong a es)) Undecided Inside)
     Outside
 
--- A column or a row of the chart
-unfoldable pub cellNumber : ℤ → Bool
-cellNumber z = leZ (pos 0) z && leZ z (pos (side - 1))
-
 -- An edge that ends at a cell of the chart
 unfoldable pub endsOn : Edge → Bool
-endsOn e = cellNumber (e .col +ℤ e .cols) && cellNumber (e .row +ℤ e .rows)
+endsOn e = onChart (e .col +ℤ e .cols) (e .row +ℤ e .rows)
 
 -- A walk that stays on the chart: the anchor is one of its cells, and so is the end of every edge
 unfoldable pub staysOn : Point → List ℤ → Bool
-staysOn a es = cellNumber (pos (a .col)) && cellNumber (pos (a .row)) && all endsOn (edgesAlong a es)
+staysOn a es = onChart (pos (a .col)) (pos (a .row)) && all endsOn (edgesAlong a es)
 
 -- The answer for every anchor, list and pair of floats. No reading is inside a list whose walk leaves the chart; no outline at work has one
 unfoldable pub locatedOf : Point → List ℤ → Reading → Located

@@ -4,6 +4,7 @@ use lib.IntN.{ℤ, _+ℤ_}
 use lib.Signed.{leZ}
 use lib.Ieee.{Float, binary32}
 use Rattle.rounding.specs.Units.{value, inUnits}
+use Rattle.turning.specs.CornerHull.{onChart}
 use Rattle.calls.specs.declared.Reading.{Reading}
 use Rattle.readings.specs.declared.Located.{Located}
 use Rattle.readings.specs.declared.Located.the-variants.{Inside, Outside, Undecided}
@@ -12,7 +13,7 @@ use Rattle.readings.specs.declared.walk.Walk.{Walk}
 use Rattle.readings.specs.declared.walk.Passed.{Passed}
 use Rattle.readings.specs.declared.walk.Passed.the-variants.{Out, On}
 use Rattle.readings.specs.Sides.{Edge}
-use Rattle.readings.specs.Located.{cellNumber, far, near}
+use Rattle.readings.specs.Located.{far, near}
 
 -- One number more is met: some number met is at or under x, some is at or over it
 unfoldable pub met : Met → ℤ → Float → Met
@@ -43,7 +44,7 @@ stepped w dx dy r = arrived w (w .x +ℤ dx) (w .y +ℤ dy) (near r (edgeOf w dx
 
 unfoldable pub passed : Walk → ℤ → ℤ → Reading → Passed
 passed w dx dy r =
-    cond (cellNumber (w .x +ℤ dx) && cellNumber (w .y +ℤ dy)) (cond (far r (edgeOf w dx dy)) Out (On (stepped w dx dy r))) Out
+    cond (onChart (w .x +ℤ dx) (w .y +ℤ dy)) (cond (far r (edgeOf w dx dy)) Out (On (stepped w dx dy r))) Out
 
 -- What the walk says at its end
 unfoldable pub settled : Walk → Located

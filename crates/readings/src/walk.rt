@@ -5,8 +5,9 @@ use calls::Reading;
 ghost use mathlib.Core.Path.{_≡_};
 ghost use mathlib.Core.Bool.{true, false};
 ghost use lib.IntN.{_+ℤ_};
+ghost use Rattle.turning.specs.CornerHull.{chartNumber, onChart};
 ghost use Rattle.readings.specs.Sides.{computedSide};
-ghost use Rattle.readings.specs.Located.{badNumber, badReading, cellNumber};
+ghost use Rattle.readings.specs.Located.{badNumber, badReading};
 ghost use Rattle.readings.specs.Walk.{met, arrived, begun, passed, settled};
 
 // Below this, and above its negative, a computed side value leaves open on which side of the edge the reading lies.
@@ -35,7 +36,7 @@ pub(crate) enum Passed {
 
 // One number more is met.
 fn meet(m: Met, n: i16, x: f32) -> Met
-    requires { ⌜ (cellNumber n ≡ true) × (badNumber x ≡ false) ⌝ }
+    requires { ⌜ (chartNumber n ≡ true) × (badNumber x ≡ false) ⌝ }
     ensures { λ r. ⌜ r ≡ met m n x ⌝ }
 {
     let c = n as f32;
@@ -53,8 +54,8 @@ fn sum(n: i16, d: i16) -> i32
 }
 
 // A column or a row of the chart.
-fn cell_number(z: i32) -> bool
-    ensures { λ b. ⌜ b ≡ cellNumber z ⌝ }
+fn chart_number(z: i32) -> bool
+    ensures { λ b. ⌜ b ≡ chartNumber z ⌝ }
 {
     (0 <= z) & (z <= LAST as i32)
 }
@@ -68,7 +69,7 @@ fn side(dx: i16, dy: i16, x: i16, y: i16, r: Reading) -> f32
 
 // The walk one corner cell further.
 fn arrive(w: Walk, x: i16, y: i16, near: bool, r: Reading) -> Walk
-    requires { ⌜ (cellNumber x ≡ true) × (cellNumber y ≡ true) × (badReading r ≡ false) ⌝ }
+    requires { ⌜ (onChart x y ≡ true) × (badReading r ≡ false) ⌝ }
     ensures { λ v. ⌜ v ≡ arrived w x y near r ⌝ }
 {
     Walk {
@@ -82,7 +83,7 @@ fn arrive(w: Walk, x: i16, y: i16, near: bool, r: Reading) -> Walk
 
 // The walk at its start.
 pub(crate) fn begin(x: i16, y: i16, r: Reading) -> Walk
-    requires { ⌜ (cellNumber x ≡ true) × (cellNumber y ≡ true) × (badReading r ≡ false) ⌝ }
+    requires { ⌜ (onChart x y ≡ true) × (badReading r ≡ false) ⌝ }
     ensures { λ w. ⌜ w ≡ begun x y r ⌝ }
 {
     let none = Met {
@@ -106,7 +107,7 @@ pub(crate) fn pass(w: Walk, dx: i16, dy: i16, r: Reading) -> Passed
 {
     let x = sum(w.x, dx);
     let y = sum(w.y, dy);
-    if !(cell_number(x) & cell_number(y)) {
+    if !(chart_number(x) & chart_number(y)) {
         return Passed::Out;
     }
     let v = side(dx, dy, w.x, w.y, r);

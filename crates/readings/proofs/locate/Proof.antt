@@ -9,8 +9,10 @@ use lib.ListN.{length, drop, getD}
 use lib.IntN.{ℤ, pos}
 use mir.Syntax.{w16}
 use mir.ValLaws.{toZ-ofZ}
+use Rattle.turning.specs.CornerHull.{onChart}
+use Rattle.turning.proofs.OnChart.{on-parts}
 use Rattle.readings.specs.declared.walk.Passed.{Passed}
-use Rattle.readings.specs.Located.{badReading, cellNumber, locatedOf}
+use Rattle.readings.specs.Located.{badReading, locatedOf}
 use Rattle.readings.specs.Walk.{passed}
 use Rattle.readings.proofs.Numbers.{cell-fits}
 use Rattle.readings.proofs.Walks.{after, from, walk-locates, located-bad, anchor-on, located-off, from-edge, from-end}
@@ -36,7 +38,7 @@ good c = sym (bad-is (c .before)) ∙ c .if1 .left
 -- The anchor is on the chart
 anchored : (c : tie.Else2 Inv-loop μ-loop) →
     let a = c .before .before .before .before .before .args .anchor in
-    (cellNumber (pos (a .col)) ≡ true) × (cellNumber (pos (a .row)) ≡ true)
+    onChart (pos (a .col)) (pos (a .row)) ≡ true
 anchored c = anchor-on (c .before .before .before .before .before .args .anchor) (sym (c .before .bad-cell .ensures) ∙ c .if2 .left)
 
 -- The walk from the anchor finds where the reading lies
@@ -47,9 +49,9 @@ rule : (c : tie.After-begin Inv-loop μ-loop) →
 rule c =
     let e = c .before .before .before in
     let a = e .before .before .before .before .before .args in
-    let on = anchored e in
+    let on = on-parts _ _ (anchored e) in
     let start = simp (toZ-ofZ w16 (pos (a .anchor .col)) (cell-fits _ (on .0)), toZ-ofZ w16 (pos (a .anchor .row)) (cell-fits _ (on .1))) at (c .begin .ensures) in
-    rw start (walk-locates (a .anchor) (a .edges .now) (a .reading) (good (e .before .before)) (on .0) (on .1))
+    rw start (walk-locates (a .anchor) (a .edges .now) (a .reading) (good (e .before .before)) (anchored e))
 
 -- A turn's edge, and the pass along it
 abbrev Turn : Type 0
@@ -104,17 +106,17 @@ returns-2 : tie.Need-returns-2 Inv-loop μ-loop
 returns-2 c = located-off _ _ _ (good (c .before .before)) (sym (c .before .bad-cell .ensures) ∙ c .if2 .taken)
 
 cast-begin : tie.Need-cast-begin Inv-loop μ-loop
-cast-begin c = cell-fits _ (anchored (c .before) .0)
+cast-begin c = cell-fits _ (on-parts _ _ (anchored (c .before)) .0)
 
 cast-begin-2 : tie.Need-cast-begin-2 Inv-loop μ-loop
-cast-begin-2 c = cell-fits _ (anchored (c .before .before) .1)
+cast-begin-2 c = cell-fits _ (on-parts _ _ (anchored (c .before .before)) .1)
 
 begin-requires : tie.Need-begin-requires Inv-loop μ-loop
 begin-requires c κs =
     let e = c .before .before in
     let a = e .before .before .before .before .before .args .anchor in
-    let on = anchored e in
-    simp (toZ-ofZ w16 (pos (a .col)) (cell-fits _ (on .0)), toZ-ofZ w16 (pos (a .row)) (cell-fits _ (on .1))) (on .0, on .1, good (e .before .before))
+    let on = on-parts _ _ (anchored e) in
+    simp (toZ-ofZ w16 (pos (a .col)) (cell-fits _ (on .0)), toZ-ofZ w16 (pos (a .row)) (cell-fits _ (on .1))) (anchored e, good (e .before .before))
 
 loop-holds : tie.Need-loop-holds Inv-loop μ-loop
 loop-holds c = (omega arith, refl)

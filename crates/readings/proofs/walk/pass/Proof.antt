@@ -2,14 +2,16 @@
 use borrow.Author.Needs.{needs}
 use borrow.Author.Tests.{not-true, not-false}
 use mathlib.Core.Path.{_≡_, sym, ap, ap₂, _∙_}
-use mathlib.Core.Bool.{true, false, _&&_, and-eq-true-iff}
+use mathlib.Core.Bool.{true, false, _&&_}
 use lib.IntN.{negsuc, _+ℤ_}
 use lib.Ieee.{Float, fin, binary32, ofBits, neg, le, lt}
 use mir.Syntax.{w16, w32}
-use mir.Val.{toZ, ofZ}
+use mir.Val.{SFits, toZ, ofZ}
 use mir.ValLaws.{toZ-ofZ}
+use Rattle.turning.specs.CornerHull.{onChart}
+use Rattle.turning.proofs.OnChart.{on-parts}
 use Rattle.readings.specs.Sides.{computedSide}
-use Rattle.readings.specs.Located.{cellNumber, far, near}
+use Rattle.readings.specs.Located.{far, near}
 use Rattle.readings.specs.Walk.{edgeOf, stepped, passed}
 use Rattle.readings.proofs.Numbers.{cell-fits}
 use Rattle.readings.proofs.walk.pass.Statement.{statement}
@@ -29,16 +31,28 @@ y-is c =
     ∙ simp (toZ-ofZ w16 (s .args .w .y) (record { sfits = c .before .struct-told2 .given .1 .0 .1 }), toZ-ofZ w16 (s .args .dy) (s .fits .dy)) at (c .sum2 .ensures)
 
 -- It is on the chart
-on-is : (c : tie.After-cell-number2) →
+on-is : (c : tie.After-chart-number2) →
     let a = c .before .before .before .before .before .before .args in
-    (c .before .cell-number .result && c .cell-number2 .result) ≡ (cellNumber (a .w .x +ℤ a .dx) && cellNumber (a .w .y +ℤ a .dy))
+    (c .before .chart-number .result && c .chart-number2 .result) ≡ onChart (a .w .x +ℤ a .dx) (a .w .y +ℤ a .dy)
+unfolding onChart
 on-is c =
-    ap₂ _&&_ (rw (x-is (c .before .before .before .before)) at (c .before .cell-number .ensures)) (rw (y-is (c .before .before)) at (c .cell-number2 .ensures))
+    ap₂ _&&_ (rw (x-is (c .before .before .before .before)) at (c .before .chart-number .ensures)) (rw (y-is (c .before .before)) at (c .chart-number2 .ensures))
 
 ends-on : (c : tie.Else1) →
     let a = c .before .before .before .before .before .before .before .args in
-    (cellNumber (a .w .x +ℤ a .dx) ≡ true) × (cellNumber (a .w .y +ℤ a .dy) ≡ true)
-ends-on c = and-eq-true-iff _ _ .0 (sym (on-is (c .before)) ∙ not-false (c .before .before .cell-number .result && c .before .cell-number2 .result) (c .if1 .left))
+    onChart (a .w .x +ℤ a .dx) (a .w .y +ℤ a .dy) ≡ true
+ends-on c = sym (on-is (c .before)) ∙ not-false (c .before .before .chart-number .result && c .before .chart-number2 .result) (c .if1 .left)
+
+-- So its numbers fit 16 bits
+x-fits : (c : tie.Else1) →
+    let a = c .before .before .before .before .before .before .before .args in
+    SFits w16 (a .w .x +ℤ a .dx)
+x-fits c = cell-fits _ (on-parts _ _ (ends-on c) .0)
+
+y-fits : (c : tie.Else1) →
+    let a = c .before .before .before .before .before .before .before .args in
+    SFits w16 (a .w .y +ℤ a .dy)
+y-fits c = cell-fits _ (on-parts _ _ (ends-on c) .1)
 
 -- The computed side value, and its two comparisons
 side-is : (c : tie.After-side) →
@@ -73,15 +87,15 @@ sum-requires c κs = search needs
 sum-requires-2 : tie.Need-sum-requires-2
 sum-requires-2 c κs = search needs
 
-cell-number-requires : tie.Need-cell-number-requires
-cell-number-requires c κs = search needs
+chart-number-requires : tie.Need-chart-number-requires
+chart-number-requires c κs = search needs
 
-cell-number-requires-2 : tie.Need-cell-number-requires-2
-cell-number-requires-2 c κs = search needs
+chart-number-requires-2 : tie.Need-chart-number-requires-2
+chart-number-requires-2 c κs = search needs
 
 returns : tie.Need-returns
 unfolding passed
-returns c = rw (sym (on-is (c .before)) ∙ not-true (c .before .before .cell-number .result && c .before .cell-number2 .result) (c .if1 .taken))
+returns c = rw (sym (on-is (c .before)) ∙ not-true (c .before .before .chart-number .result && c .before .chart-number2 .result) (c .if1 .taken))
 
 side-requires : tie.Need-side-requires
 side-requires c κs = search needs
@@ -90,17 +104,17 @@ returns-2 : tie.Need-returns-2
 unfolding passed
 returns-2 c =
     let e = c .before .before .before .before in
-    rw (ends-on e .0, ends-on e .1, sym (far-is (c .before)) ∙ c .if2 .taken)
+    rw (ends-on e, sym (far-is (c .before)) ∙ c .if2 .taken)
 
 cast-arrive : tie.Need-cast-arrive
 cast-arrive c =
     let e = c .before .before .before .before in
-    rw (x-is (e .before .before .before .before .before)) (cell-fits _ (ends-on e .0))
+    rw (x-is (e .before .before .before .before .before)) (x-fits e)
 
 cast-arrive-2 : tie.Need-cast-arrive-2
 cast-arrive-2 c =
     let e = c .before .before .before .before in
-    rw (y-is (e .before .before .before)) (cell-fits _ (ends-on e .1))
+    rw (y-is (e .before .before .before)) (y-fits e)
 
 arrive-requires : tie.Need-arrive-requires
 arrive-requires c κs =
@@ -109,23 +123,22 @@ arrive-requires c κs =
     simp (
       x-is (e .before .before .before .before .before),
       y-is (e .before .before .before),
-      toZ-ofZ w16 _ (cell-fits _ (ends-on e .0)),
-      toZ-ofZ w16 _ (cell-fits _ (ends-on e .1)),
-    ) (ends-on e .0, ends-on e .1, s .pre)
+      toZ-ofZ w16 _ (x-fits e),
+      toZ-ofZ w16 _ (y-fits e),
+    ) (ends-on e, s .pre)
 
 returns-3 : tie.Need-returns-3
 unfolding passed stepped
 returns-3 c =
     let e = c .before .before .before .before .before in
     rw (
-      ends-on e .0,
-      ends-on e .1,
+      ends-on e,
       sym (far-is (c .before .before)) ∙ c .before .if2 .left,
       simp (
         x-is (e .before .before .before .before .before),
         y-is (e .before .before .before),
-        toZ-ofZ w16 _ (cell-fits _ (ends-on e .0)),
-        toZ-ofZ w16 _ (cell-fits _ (ends-on e .1)),
+        toZ-ofZ w16 _ (x-fits e),
+        toZ-ofZ w16 _ (y-fits e),
         near-is (c .before .before),
       ) at (c .arrive .ensures),
     )
@@ -136,8 +149,8 @@ pass-spec =
     (tie.spec
     sum-requires
     sum-requires-2
-    cell-number-requires
-    cell-number-requires-2
+    chart-number-requires
+    chart-number-requires-2
     returns
     side-requires
     returns-2
