@@ -4,14 +4,14 @@ use mathlib.Core.Path.{_≡_, refl, sym, ap, ap₂, subst, subst₂}
 use mathlib.Core.Logic.{_↔_, ⊎-elim}
 use mathlib.Core.List.{List, [], _∷_, _++_, map, List·Memᴰ, List·Memᴰ·head, List·Memᴰ·tail, List·Memᴰ·not-nil, List·Memᴰ·cases-cons, List·Memᴰ·append-cases, List·Memᴰ·eq-of-singleton, Memᴰ·append-left, Memᴰ·map, Memᴰ·of-map}
 use lib.IntN.{ℤ, pos, natAbs, _+ℤ_, _*ℤ_}
-use borrow.Author.Tests.{lt-ltb}
 use Rattle.chart.specs.declared.Point.{Point}
 use Rattle.convexity.specs.Inside.{colSteps, rowSteps}
 use Rattle.convexity.proofs.Signed.{reached}
 use Rattle.convexity.proofs.Inside.{IsCell}
-use Rattle.turning.specs.CornerHull.{Met, start, after, CornersHold}
+use Rattle.turning.specs.CornerHull.{onChart, Met, start, after, CornersHold}
+use Rattle.turning.proofs.OnChart.{number-on}
 use Rattle.calls.specs.declared.Stroke.the-variants.{Line}
-use Rattle.drawing.specs.Drawing.{onChart, lineTo, linesFrom}
+use Rattle.drawing.specs.Drawing.{lineTo, linesFrom}
 use Rattle.drawing.specs.Claims.{Cell, cellOf, cornersFrom, corners, again, InHullOf}
 
 -- ---- a cell of the chart
@@ -21,7 +21,7 @@ point u v = record { col = natAbs u; row = natAbs v }
 
 line-cell : {u v : ℤ} → IsCell u v → lineTo u v ≡ Line (point u v)
 unfolding lineTo onChart
-line-cell c = rw (c .col-is, c .row-is, lt-ltb _ _ (c .col-on), lt-ltb _ _ (c .row-on))
+line-cell c = rw (c .col-is, c .row-is, number-on _ (c .col-on), number-on _ (c .row-on))
 
 point-cell : {u v : ℤ} → IsCell u v → cellOf (point u v) ≡ (u, v)
 point-cell c = rw (c .col-is, c .row-is)

@@ -6,8 +6,9 @@ use mathlib.Core.List.{[], _∷_}
 use lib.IntN.{pos, negsuc}
 use lib.Ieee.{fin, add, ofInt}
 use Rattle.chart.specs.declared.Point.{Point}
+use Rattle.turning.specs.CornerHull.{chartNumber, onChart}
 use Rattle.calls.specs.declared.Stroke.the-variants.{Move, Line, Close}
-use Rattle.drawing.specs.Drawing.{onChart, lineTo, linesFrom, drawing}
+use Rattle.drawing.specs.Drawing.{lineTo, linesFrom, drawing}
 use Rattle.drawing.specs.Points.{half}
 
 abbrev at : ℕ → ℕ → Point
@@ -19,13 +20,13 @@ unfolding drawing linesFrom
 one-cell = refl
 
 flat : drawing (at 0 0) (pos 2 ∷ pos 0 ∷ negsuc 1 ∷ pos 0 ∷ []) ≡ Move (at 0 0) ∷ Line (at 2 0) ∷ Close ∷ []
-unfolding drawing linesFrom lineTo onChart
+unfolding drawing linesFrom lineTo onChart chartNumber
 flat = refl
 
 diamond :
     drawing (at 0 1) (pos 1 ∷ pos 1 ∷ pos 1 ∷ negsuc 0 ∷ negsuc 0 ∷ negsuc 0 ∷ negsuc 0 ∷ pos 1 ∷ [])
     ≡ Move (at 0 1) ∷ Line (at 1 2) ∷ Line (at 2 1) ∷ Line (at 1 0) ∷ Close ∷ []
-unfolding drawing linesFrom lineTo onChart
+unfolding drawing linesFrom lineTo onChart chartNumber
 diamond = refl
 
 -- 1/2, 5/2 and 509/2

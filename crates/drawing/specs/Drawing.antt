@@ -1,23 +1,17 @@
 -- The drawing of an anchor and a list of edges, by the cells at whose centres its points lie: a move to the anchor, a line to the end of each edge but the last, and close (contract 3.22).
 use Prim.Native.Nat.{ℕ}
-use mathlib.Core.Bool.{Bool, false, cond, _&&_}
+use mathlib.Core.Bool.{cond}
 use mathlib.Core.List.{List, [], _∷_, _++_}
-use lib.Dec.{ltb}
 use lib.ListN.{getD}
-use lib.IntN.{ℤ, pos, negsuc, natAbs, _+ℤ_}
-use Rattle.chart.specs.Limits.{side}
+use lib.IntN.{ℤ, pos, natAbs, _+ℤ_}
 use Rattle.chart.specs.declared.Point.{Point}
+use Rattle.turning.specs.CornerHull.{onChart}
 use Rattle.calls.specs.declared.Stroke.{Stroke}
 use Rattle.calls.specs.declared.Stroke.the-variants.{Move, Line, Close, None}
 
--- A column or a row of the chart
-unfoldable pub onChart : ℤ → Bool
-onChart (pos n) = ltb n side
-onChart (negsuc n) = false
-
 -- A line to a cell of the chart; to none that is off it. No outline at work has a corner cell there
 unfoldable pub lineTo : ℤ → ℤ → Stroke
-lineTo x y = cond (onChart x && onChart y) (Line (record { col = natAbs x; row = natAbs y })) None
+lineTo x y = cond (onChart x y) (Line (record { col = natAbs x; row = natAbs y })) None
 
 -- A line to the end of each edge but the last, walking from (x, y). Two numbers an edge, columns then rows; an odd number at the end is no edge
 unfoldable pub linesFrom : List ℤ → ℤ → ℤ → List Stroke

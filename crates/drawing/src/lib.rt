@@ -5,8 +5,12 @@ use chart::SIDE;
 ghost use mathlib.Core.Path.{_≡_};
 ghost use Prim.Native.Nat.{_^_, _≤_};
 ghost use lib.IntN.{natAbs, _+ℤ_};
-ghost use Rattle.drawing.specs.Drawing.{onChart, lineTo, strokeAt};
+ghost use Rattle.turning.specs.CornerHull.{chartNumber};
+ghost use Rattle.drawing.specs.Drawing.{lineTo, strokeAt};
 ghost use Rattle.drawing.specs.Points.{half as halfOf, pieceOf, pairAfter, pointAfter};
+
+// The last column and the last row.
+const LAST: u16 = SIDE - 1;
 
 // A piece of a drawing, with its point as two floats.
 pub enum Piece {
@@ -26,17 +30,17 @@ fn further(n: i64, d: i16) -> i64
 }
 
 // A column or a row of the chart.
-fn on_chart(z: i64) -> bool
-    ensures { λ b. ⌜ b ≡ onChart z ⌝ }
+fn chart_number(z: i64) -> bool
+    ensures { λ b. ⌜ b ≡ chartNumber z ⌝ }
 {
-    (0 <= z) & (z < SIDE as i64)
+    (0 <= z) & (z <= LAST as i64)
 }
 
 // A line to a cell of the chart; to none that is off it.
 fn line_to(x: i64, y: i64) -> Stroke
     ensures { λ r. ⌜ r ≡ lineTo x y ⌝ }
 {
-    if on_chart(x) & on_chart(y) {
+    if chart_number(x) & chart_number(y) {
         return Stroke::Line(Point {
             col: x as u16,
             row: y as u16,

@@ -1,0 +1,17 @@
+-- The two tests of the definition.
+use borrow.Author.Needs.{needs}
+use mir.Syntax.{w64}
+use mir.ValLaws.{toZ-ofZ}
+use Rattle.turning.specs.CornerHull.{chartNumber}
+use Rattle.drawing.proofs.chart_number.Statement.{statement}
+use Rattle.drawing.proofs.chart_number.Tie as tie
+
+cast-result : tie.Need-cast-result
+cast-result c = search needs
+
+returns : tie.Need-returns
+unfolding chartNumber
+returns c = simp (toZ-ofZ w64 (c .args .z) (c .fits .z))
+
+pub chart-number-spec : {M : Type 1} → statement M
+chart-number-spec = tie.close (tie.spec cast-result returns)
