@@ -105,7 +105,7 @@ module _ (p k : ℕ) (there : p < parties) (inside : k < places) (cs : List Call
       pub reading-close : (e : Edge) → List·Memᴰ e (edgesAlong a es) → natAbs (value binary32 (computedSide x e) -ℤ exactSide x e) < 2 ^ 143
       reading-close = answers .close
 
-      -- "Inside" and "outside" agree with exactly inside
+      -- "Inside" is said only where the reading is exactly inside, and "outside" only where it is not
       pub reading-inside : reply ≡ Inside → exactlyInside a es x ≡ true
       unfolding locatedReply
       reading-inside e = answers .inside (is-found IsInside .0 e)
@@ -114,7 +114,7 @@ module _ (p k : ℕ) (there : p < parties) (inside : k < places) (cs : List Call
       unfolding locatedReply
       reading-outside e = answers .outside (is-found IsOutside .0 e)
 
-      -- "Undecided" exactly within the extremes, with no computed value at most -1/64 and one below 1/64
+      -- The third word is for the strip along the edges: the extremes hold the reading, and its smallest computed value is above -1/64 and below 1/64
       pub reading-undecided : (reply ≡ Undecided) ↔ Open a es x
       unfolding locatedReply
       reading-undecided = (
@@ -122,7 +122,7 @@ module _ (p k : ℕ) (there : p < parties) (inside : k < places) (cs : List Call
         λ left. is-found IsUndecided .1 (answers .undecided .1 left),
       )
 
-      -- Never where every exact value is 1/32 or more, nor where one is -1/32 or less
+      -- A reading is decided once its exact values all reach 1/32, and also once a single one is down to -1/32
       pub reading-inner : ((e : Edge) → List·Memᴰ e (edgesAlong a es) → leZ (pos (2 ^ 144)) (exactSide x e) ≡ true) → reply ≡ Undecided → ⊥
       unfolding locatedReply
       reading-inner h e = answers .inner h (is-found IsUndecided .0 e)

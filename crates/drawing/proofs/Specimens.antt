@@ -14,7 +14,7 @@ use Rattle.drawing.specs.Points.{half}
 abbrev at : ℕ → ℕ → Point
 at c r = record { col = c; row = r }
 
--- A single cell has a move and a close
+-- One cell has no line
 one-cell : drawing (at 0 0) [] ≡ Move (at 0 0) ∷ Close ∷ []
 unfolding drawing linesFrom
 one-cell = refl

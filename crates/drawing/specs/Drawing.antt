@@ -1,4 +1,5 @@
--- The drawing of an anchor and a list of edges, by the cells at whose centres its points lie: a move to the anchor, a line to the end of each edge but the last, and close (contract 3.22).
+-- The drawing of an anchor and a list of edges, by the cells at whose centres its points lie: a move, which goes to the anchor, a line for each edge that is not the last, and close, which
+-- stands for that one (contract 3.22).
 use Prim.Native.Nat.{ℕ}
 use mathlib.Core.Bool.{cond}
 use mathlib.Core.List.{List, [], _∷_, _++_}
@@ -13,7 +14,7 @@ use Rattle.calls.specs.declared.Stroke.the-variants.{Move, Line, Close, None}
 unfoldable pub lineTo : ℤ → ℤ → Stroke
 lineTo x y = cond (onChart x y) (Line (record { col = natAbs x; row = natAbs y })) None
 
--- A line to the end of each edge but the last, walking from (x, y). Two numbers an edge, columns then rows; an odd number at the end is no edge
+-- The lines of a walk from (x, y): for each edge that another follows, to the cell at which it ends. Two numbers an edge, columns then rows; an odd number at the end is no edge
 unfoldable pub linesFrom : List ℤ → ℤ → ℤ → List Stroke
 linesFrom [] x y = []
 linesFrom (dx ∷ []) x y = []

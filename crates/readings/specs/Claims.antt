@@ -25,7 +25,7 @@ pub record Open (a : Point) (es : List ℤ) (r : Reading) : Type 0 where
 pub record Answers (a : Point) (es : List ℤ) (r : Reading) : Type 0 where
   -- a computed side value is less than 1/64 from the exact one
   pub close : (e : Edge) → List·Memᴰ e (edgesAlong a es) → natAbs (value binary32 (computedSide r e) -ℤ exactSide r e) < 2 ^ 143
-  -- "inside" and "outside" agree with exactly inside
+  -- "inside" is said only where the reading is exactly inside, and "outside" only where it is not
   pub inside : locatedOf a es r ≡ Inside → exactlyInside a es r ≡ true
   pub outside : locatedOf a es r ≡ Outside → exactlyInside a es r ≡ false
   -- when the answer is "undecided"
