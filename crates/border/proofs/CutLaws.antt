@@ -11,7 +11,7 @@ use Rattle.lattice.specs.Chart.{cornerAt, size}
 use Rattle.convexity.specs.Frame.{frameOf}
 use Rattle.convexity.specs.Cut.{before, least, cornerPlace, ahead, cutCorner, cut}
 use Rattle.convexity.proofs.Extreme.{least-lt}
-use Rattle.corners.proofs.CutLaws.{ahead-le}
+use Rattle.cuts.proofs.CutLaws.{ahead-le}
 
 least-le : (lt : ℕ → ℕ → Bool) (n : ℕ) → least lt n ≤ n - 1
 unfolding least

@@ -20,56 +20,70 @@ use Rattle.lattice.specs.Chart.{cornerAt, size, letterAt}
 use Rattle.lattice.specs.Refusals.{Simple}
 use Rattle.lattice.proofs.WalkLaws.{Walked, walked, outline-eq}
 use Rattle.survey.specs.declared.Surveyed.the-variants.{Passed, Refused as Stopped}
-use Rattle.survey.specs.Survey.{surveyOf}
-use Rattle.convexity.specs.Cut.{westPlace, turn, clockwise}
+use Rattle.survey.specs.declared.Corners.{Corners}
+use Rattle.survey.specs.Survey.{cornersOf, surveyOf}
+use Rattle.convexity.specs.Cut.{cornerPlace, westPlace, turn, clockwise}
 use Rattle.convexity.specs.Reading.{reversed, reading, border, sentFrom, placeSent}
 use Rattle.convexity.specs.Pieces.{edges}
 use Rattle.convexity.proofs.Reading.{leaving-west, west-first, west-place-first, west-place-later, reading-clockwise, reading-backward, length-reading, simple-reading, clockwise-reading, turn-reading}
+use Rattle.convexity.proofs.Corners.{corner-reading}
 use Rattle.verdict.specs.Verdict.{turnVerdict, borderVerdict, afterSurvey, verdictOf, withRoom, testOf, lentAfter, edgesAfter}
 use Rattle.verdict.proofs.VerdictLaws.{taken-fits}
-use Rattle.corners.specs.declared.Cuts.{Cuts}
-use Rattle.corners.specs.Found.{CutsOf}
+use Rattle.cuts.specs.declared.Cuts.{Cuts}
+use Rattle.cuts.specs.Cuts.{CutsOf}
 use Rattle.border.specs.declared.cut.Turn.{Turn}
 use Rattle.border.specs.Cutting.{readTurn, readPlace}
 use Rattle.border.specs.Turning.{ReadAs}
 use Rattle.border.specs.Judged.{Said, SaidOfTurn, SaidOfBorder, zeros, judgedOf}
 use Rattle.border.proofs.PieceLaws.{from-west, said-refused}
 
--- What the code knows when the letters are copied: W as sent, the way that the letters are read and the cut places, W's place v in what is read, and the buffer
-pub record Copied (o : Outline) (cuts : Cuts) (v : ℕ) (buffer : List ℕ) : Type 0 where
+-- What the code knows when the letters are copied: the corners, the way that the letters are read and the cut places, W's place v in what is read, and the buffer
+pub record Copied (o : Outline) (f : Corners) (cuts : Cuts) (v : ℕ) (buffer : List ℕ) : Type 0 where
   pub simple : Simple o
+  pub corners : f ≡ cornersOf o
   pub cuts-of : CutsOf o cuts
-  pub place : v ≡ readPlace (cuts .forward) (size o) (cuts .place)
-  pub letters : cuts .place ≤ size o → size o ≤ longest → take (size o) buffer ≡ readTurn (cuts .forward) (cuts .place) (o .letters)
+  pub place : v ≡ readPlace (cuts .forward) (size o) (f .west)
+  pub letters : f .west ≤ size o → size o ≤ longest → take (size o) buffer ≡ readTurn (cuts .forward) (f .west) (o .letters)
   pub sized : length buffer ≡ longest
 
-module _ {o : Outline} {cuts : Cuts} {v : ℕ} {buffer : List ℕ} (h : Copied o cuts v buffer) where
+module _ {o : Outline} {f : Corners} {cuts : Cuts} {v : ℕ} {buffer : List ℕ} (h : Copied o f cuts v buffer) where
   abbrev found : ℕ
-  found = cuts .place
+  found = f .west
 
   abbrev forward : Bool
   forward = cuts .forward
 
   abbrev p : Point
-  p = cuts .west
+  p = f .corner
 
   d : Walked o
   d = walked o (h .simple)
-
-  found-lt : found < size o
-  found-lt = omega (arith, h .cuts-of .within, d .long)
 
   pub letters-fit : size o ≤ length buffer
   letters-fit = omega (arith, h .sized, d .short)
 
   found-is : found ≡ westPlace o
-  unfolding westPlace
-  found-is = h .cuts-of .place (h .simple)
+  unfolding westPlace cornersOf
+  found-is = ap (λ (c : Corners). c .west) (h .corners)
 
-  -- Clockwise is read forward
-  pub way-is : forward ≡ clockwise (turn o)
-  unfolding clockwise
-  way-is = h .cuts-of .way (h .simple) ∙ ap (λ (a : ℕ). eqb a 1) (ap (letterAt o) found-is ∙ sym (leaving-west o d))
+  found-lt : found < size o
+  found-lt = omega (arith, found-is, west-first o d .below)
+
+  corner-is : p ≡ cornerAt o (westPlace o)
+  unfolding westPlace cornersOf
+  corner-is = ap (λ (c : Corners). c .corner) (h .corners)
+
+  -- The rows of S and N, as the border is read
+  bottom-is : f .bottom ≡ cornerAt (border o) (cornerPlace (border o) 3) .row
+  unfolding cornersOf
+  bottom-is = ap (λ (c : Corners). c .bottom) (h .corners) ∙ ap (λ (q : Point). q .row) (sym (corner-reading o (h .simple) 3))
+
+  top-is : f .top ≡ cornerAt (border o) (cornerPlace (border o) 1) .row
+  unfolding cornersOf
+  top-is = ap (λ (c : Corners). c .top) (h .corners) ∙ ap (λ (q : Point). q .row) (sym (corner-reading o (h .simple) 1))
+
+  way-is : forward ≡ clockwise (turn o)
+  way-is = h .cuts-of .way
 
   -- W's letter stands at v in the reading
   place-is : v ≡ westPlace (reading o)
@@ -92,7 +106,7 @@ module _ {o : Outline} {cuts : Cuts} {v : ℕ} {buffer : List ℕ} (h : Copied o
   border-is : outline p (take (size o) buffer) ≡ border o
   unfolding turn readTurn
   border-is =
-      outline-eq (outline p (take (size o) buffer)) (readOutline forward) (h .cuts-of .corner (h .simple) ∙ ap (cornerAt o) found-is ∙ same-start forward)
+      outline-eq (outline p (take (size o) buffer)) (readOutline forward) (corner-is ∙ same-start forward)
       (h .letters (omega (arith, found-lt)) (omega (arith, d .short)) ∙ ap (λ (i : ℕ). readTurn forward i (o .letters)) found-is ∙ same-letters forward)
       ∙ ap readOutline way-is ∙ sym (turn-reading o (h .simple))
     where
@@ -114,7 +128,7 @@ module _ {o : Outline} {cuts : Cuts} {v : ℕ} {buffer : List ℕ} (h : Copied o
   v-lt = omega (arith, place-is, border-length, length-reading o, west-first (reading o) (walked (reading o) (simple-reading o (h .simple))) .below)
 
   abbrev told : Turn
-  told = record { forward = forward; place = v; west = p; bottom = cuts .bottom; top = cuts .top; at = cuts .at }
+  told = record { forward = forward; place = v; west = p; bottom = f .bottom; top = f .top; at = cuts .at }
 
   ready : ReadAs told (border o)
   ready =
@@ -122,9 +136,9 @@ module _ {o : Outline} {cuts : Cuts} {v : ℕ} {buffer : List ℕ} (h : Copied o
         walk = from-west o (h .simple);
         place = v-lt;
         clockwise = clockwise-reading o (h .simple);
-        bottom = h .cuts-of .bottom (h .simple);
-        top = h .cuts-of .top (h .simple);
-        places = h .cuts-of .places (h .simple);
+        bottom = bottom-is;
+        top = top-is;
+        places = h .cuts-of .places;
       }
 
   pub copied-ready : ReadAs told (outline p (take (size o) buffer))
@@ -148,7 +162,7 @@ module _ (o : Outline) where
   unfolding verdictOf afterSurvey
   stopped-said h before = said-refused (edges (border o)) before (rw h refl)
 
-  pub passed-said : surveyOf o ≡ Passed → {before after : List ℤ} {r : Verdict} → SaidOfBorder o before after r → SaidOf o before after r
+  pub passed-said : {c : Corners} → surveyOf o ≡ Passed c → {before after : List ℤ} {r : Verdict} → SaidOfBorder o before after r → SaidOf o before after r
   unfolding verdictOf afterSurvey
   passed-said h e = rw h e
 

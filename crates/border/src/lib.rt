@@ -7,6 +7,7 @@ use chart::MOST_NUMBERS;
 use chart::Point;
 use chart::Refusal;
 use chart::Verdict;
+use survey::Corners;
 use survey::Surveyed;
 ghost use Prim.Native.Nat.{_*_, _≤_, _<_};
 ghost use mathlib.Core.Path.{_≡_};
@@ -18,6 +19,7 @@ ghost use Rattle.chart.specs.Limits.{longest};
 ghost use Rattle.chart.specs.Outline.{outline};
 ghost use Rattle.lattice.specs.Refusals.{Simple};
 ghost use Rattle.convexity.specs.Pieces.{backStepPiece};
+ghost use Rattle.survey.specs.Survey.{cornersOf};
 ghost use Rattle.verdict.specs.Verdict.{verdictOf, edgesAfter};
 ghost use Rattle.border.specs.Turning.{ReadAs, dentAs};
 ghost use Rattle.border.specs.Judged.{Lent, SaidOfTurn, SaidOfBorder, judgedOf};
@@ -107,28 +109,26 @@ fn pieces(turn: Turn, letters: &[u8], lent: &mut [i16]) -> Verdict
     }
 }
 
-// 8 and 9, of an outline that passes 1 to 6, or the edges: its letters are read once round from W on into a buffer, clockwise.
-fn read(start: Point, letters: &[u8], lent: &mut [i16]) -> Verdict
+// 8 and 9, of an outline that passes 1 to 6, with its corners, or the edges: its letters are read once round from W on into a buffer, clockwise.
+fn read(start: Point, letters: &[u8], found: Corners, lent: &mut [i16]) -> Verdict
     requires { ⌜ Simple (outline start (now letters)) ⌝ }
+    requires { ⌜ found ≡ cornersOf (outline start (now letters)) ⌝ }
     ensures { λ r. ⌜ SaidOfBorder (outline start (now (letters .entry))) (now (lent .entry)) (now (lent .exit)) r ⌝ }
 {
     let count = letters.len();
-    let cuts = corners::cut_places(start, letters);
-    let found = cuts.place;
-    let west = cuts.west;
-    let bottom = cuts.bottom;
-    let top = cuts.top;
+    let cuts = cuts::cut_places(letters, found);
     let forward = cuts.forward;
     let at = cuts.at;
-    let place = cut::read_place(count, found, forward);
+    let west = found.corner;
+    let place = cut::read_place(count, found.west, forward);
     let mut buffer = [0u8; LONGEST];
-    cut::fill_turn(letters, found, forward, &mut buffer);
+    cut::fill_turn(letters, found.west, forward, &mut buffer);
     let turn = Turn {
         forward,
         place,
         west,
-        bottom,
-        top,
+        bottom: found.bottom,
+        top: found.top,
         at,
     };
     pieces(turn, &buffer[..count], lent)
@@ -143,7 +143,7 @@ pub fn judge(start: Point, letters: &[u8], lent: &mut [i16]) -> Verdict
     let surveyed = survey::survey(start, letters);
     match surveyed {
         Surveyed::Refused(why) => Verdict::Refused(why),
-        Surveyed::Passed => read(start, letters, lent),
+        Surveyed::Passed(found) => read(start, letters, found, lent),
     }
 }
 

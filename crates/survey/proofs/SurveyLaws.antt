@@ -1,29 +1,21 @@
 -- One law for each of the refusals 1 to 6, and one for an outline that passes them: the definition is a list of tests, and the first that holds decides.
-use Prim.Native.Nat.{ℕ, _-_, _≤_, _<_}
+use Prim.Native.Nat.{ℕ, _+_, _-_, _*_, _/_, _≤_, _<_}
 use native.Mathlib.Omega.{arith}
-use mathlib.Core.Path.{_≡_, refl, ap, _∙_}
-use mathlib.Core.Bool.{Bool, true, false}
-use mathlib.Core.List.{List}
-use lib.ListN.{length}
-use lib.Dec.{ltb}
-use borrow.Author.Tests.{lt-ltb, le-ltb, ltb-false}
-use Rattle.chart.specs.Limits.{longest}
+use mathlib.Core.Path.{_≡_, refl, sym, ap, _∙_}
+use mathlib.Core.Bool.{Bool, true, false, not}
+use lib.Dec.{ltb, eqb}
+use borrow.Author.Tests.{lt-ltb, le-ltb}
 use Rattle.lattice.specs.Refusals.{badCount, badStart, letterPlace, leavingPlace, Stays, unclosed, touchingPlace, Simple}
-use Rattle.lattice.proofs.WalkLaws.{or-left, or-right}
 use Rattle.chart.specs.declared.Refusal.{Refusal}
 use Rattle.chart.specs.declared.Refusal.the-variants.{Count, Start, Letter, Leaves, Unclosed, Touches}
 use Rattle.chart.specs.Outline.{Outline}
-use Rattle.lattice.specs.Chart.{size}
+use Rattle.lattice.specs.Chart.{walk, size}
 use Rattle.survey.specs.declared.Surveyed.the-variants.{Passed, Refused as Stopped}
-use Rattle.survey.specs.Survey.{surveyOf}
-
-pub counted-short : (w : List ℕ) → badCount w ≡ false → length w ≤ longest
-unfolding badCount
-counted-short w h = ltb-false longest (length w) (or-right (ltb (length w) 4) (ltb longest (length w)) h)
-
-pub counted-long : (w : List ℕ) → badCount w ≡ false → 4 ≤ length w
-unfolding badCount
-counted-long w h = ltb-false (length w) 4 (or-left (ltb (length w) 4) (ltb longest (length w)) h)
+use Rattle.survey.specs.declared.Corners.{Corners}
+use Rattle.survey.specs.Numbers.{colNumber}
+use Rattle.survey.specs.Survey.{cornersOf, surveyOf}
+use Rattle.survey.specs.Walks.{Begun}
+use Rattle.survey.proofs.WalkLaws.{away-unclosed}
 
 -- A place below the bound, and one at it
 found : {i p n : ℕ} → i ≡ p → i < n → ltb p n ≡ true
@@ -70,16 +62,16 @@ module _ (o : Outline) where
           pub survey-touches-at : unclosed o ≡ false → {i : ℕ} → i ≡ touchingPlace o → i < size o - 1 → Stopped (Touches i) ≡ surveyOf o
           survey-touches-at c e h = ap (λ (i : ℕ). Stopped (Touches i)) e ∙ survey-touches c (found e h)
 
-  pub survey-passed : Simple o → Passed ≡ surveyOf o
+  pub survey-passed : Simple o → Passed (cornersOf o) ≡ surveyOf o
   unfolding surveyOf
   survey-passed h = rw (h .counted, h .started, h .lettered, h .stays, h .closed, h .simple)
 
   -- A test that would stop the outline fails where it passes
-  fails : {f : Refusal} (b : Bool) → surveyOf o ≡ Passed → (b ≡ true → Stopped f ≡ surveyOf o) → b ≡ false
+  fails : {f : Refusal} {c : Corners} (b : Bool) → surveyOf o ≡ Passed c → (b ≡ true → Stopped f ≡ surveyOf o) → b ≡ false
   fails true p k = let e = k refl in let z : _≡_ {A = ℕ} 0 1 = cc in absurd (omega arith)
   fails false p k = refl
 
-  pub survey-simple : surveyOf o ≡ Passed → Simple o
+  pub survey-simple : {c : Corners} → surveyOf o ≡ Passed c → Simple o
   survey-simple p =
       let a = fails (badCount (o .letters)) p survey-count in
       let b = fails (badStart (o .start)) p (survey-start a) in
@@ -88,3 +80,40 @@ module _ (o : Outline) where
       let e = fails (unclosed o) p (survey-unclosed a b c d) in
       let f = fails (ltb (touchingPlace o) (size o - 1)) p (survey-touches a b c d e) in
       record { counted = a; started = b; lettered = c; stays = d; closed = e; simple = f }
+
+  pub survey-corners : {c : Corners} → surveyOf o ≡ Passed c → c ≡ cornersOf o
+  survey-corners {c} p = let e : Passed c ≡ Passed (cornersOf o) = sym p ∙ sym (survey-passed (survey-simple p)) in cc
+
+  -- ---- past 1, 2 and 3
+
+  module _ (b : Begun o) where
+    pub walk-leaves : {i : ℕ} → i ≡ leavingPlace o → i < size o → Stopped (Leaves i) ≡ surveyOf o
+    walk-leaves = survey-leaves-at (b .counted) (b .started) (b .lettered)
+
+    -- The number of the corner at which a walk that stays ends tells whether it is closed
+    module _ (t : Stays o) {n : ℕ} (e : n ≡ colNumber (walk (o .start) (o .letters)) (size o)) where
+      abbrev away : Bool
+      away = not (eqb (n / 65536) (o .start .col * 65536 + o .start .row))
+
+      pub walk-unclosed : away ≡ true → Stopped Unclosed ≡ surveyOf o
+      walk-unclosed h = survey-unclosed (b .counted) (b .started) (b .lettered) t (sym (away-unclosed o b t e) ∙ h)
+
+      module _ (h : away ≡ false) where
+        closed : unclosed o ≡ false
+        closed = sym (away-unclosed o b t e) ∙ h
+
+        pub walk-touches : {i : ℕ} → i ≡ touchingPlace o → i < size o - 1 → Stopped (Touches i) ≡ surveyOf o
+        walk-touches = survey-touches-at (b .counted) (b .started) (b .lettered) t closed
+
+        pub walk-passed : touchingPlace o ≡ size o - 1 → {c : Corners} → c ≡ cornersOf o → Passed c ≡ surveyOf o
+        walk-passed m f =
+            ap (λ (c : Corners). Passed c) f
+            ∙ survey-passed
+            (record {
+              counted = b .counted;
+              started = b .started;
+              lettered = b .lettered;
+              stays = t;
+              closed = closed;
+              simple = le-ltb (touchingPlace o) (size o - 1) (omega (arith, m));
+            })

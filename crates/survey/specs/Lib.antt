@@ -1,4 +1,4 @@
--- Refusals 1 to 6 as one answer; corners as numbers; a walk by them.
-pub mod Survey
+-- Refusals 1 to 6 as one answer, with the corners of an outline that passes them; corners as numbers; a walk by them.
 pub mod Numbers
+pub mod Survey
 pub mod Walks

@@ -1,28 +1,61 @@
--- The corners of the chart as numbers, and what a letter adds to such a number: 0 right, 1 up, 2 left, 3 down.
-use Prim.Native.Nat.{ℕ, zero, suc, _+_, _*_, _/_, _%_}
-use mathlib.Core.Bool.{Bool, _||_}
+-- The corner at a place of a walk as a number, by columns and by rows, with what a letter adds to it: 0 right, 1 up, 2 left, 3 down.
+-- The place has the lowest sixteen bits, and every letter adds one to it.
+use Prim.Native.Nat.{ℕ, zero, suc, _+_, _-_, _*_, _/_, _%_}
+use mathlib.Core.Bool.{Bool, cond, _||_}
 use lib.Dec.{ltb}
+use Rattle.chart.specs.Limits.{side}
 use Rattle.chart.specs.declared.Point.{Point}
+use Rattle.survey.specs.declared.Corners.{Corners}
 
--- Row by row, below 65,536; a letter adds modulo 65,536
-abbrev pub numberOf : Point → ℕ
-numberOf p = p .row * 256 + p .col
+-- By columns and then by rows, sixteen bits each, by sums modulo 2^64. W has the least number, E the greatest
+abbrev pub colNumber : Point → ℕ → ℕ
+colNumber p i = p .col * 4294967296 + p .row * 65536 + i
 
-abbrev pub strideOf : ℕ → ℕ
-strideOf zero = 1
-strideOf (suc zero) = 256
-strideOf (suc (suc zero)) = 65535
-strideOf (suc (suc (suc a))) = 65280
+abbrev pub colStride : ℕ → ℕ
+colStride zero = 4294967297
+colStride (suc zero) = 65537
+colStride (suc (suc zero)) = 18446744069414584321
+colStride (suc (suc (suc a))) = 18446744073709486081
 
--- With sixteen bits for the row and for the column; a letter adds modulo 2^32. Off the chart one of the two is above 255, also below 0
-abbrev pub wideOf : Point → ℕ
-wideOf p = p .row * 65536 + p .col
-
-abbrev pub wideStride : ℕ → ℕ
-wideStride zero = 1
-wideStride (suc zero) = 65536
-wideStride (suc (suc zero)) = 4294967295
-wideStride (suc (suc (suc a))) = 4294901760
-
+-- Off the chart the row or the column is above 255, also below 0
 unfoldable pub offChart : ℕ → Bool
-offChart x = ltb 255 (x % 65536) || ltb 255 (x / 65536)
+offChart n = ltb 255 (n / 65536 % 65536) || ltb 255 (n / 4294967296)
+
+-- By rows from the top and then by columns, eight bits each, by sums modulo 2^32. N has the least number, S the greatest
+abbrev pub rowNumber : Point → ℕ → ℕ
+rowNumber p i = (side - p .row) * 16777216 + p .col * 65536 + i
+
+abbrev pub rowStride : ℕ → ℕ
+rowStride zero = 65537
+rowStride (suc zero) = 4278190081
+rowStride (suc (suc zero)) = 4294901761
+rowStride (suc (suc (suc a))) = 16777217
+
+-- The lower and the higher of two numbers, the one in hand among equals
+unfoldable pub lowerOf : ℕ → ℕ → ℕ
+lowerOf best number = cond (ltb number best) number best
+
+unfoldable pub higherOf : ℕ → ℕ → ℕ
+higherOf best number = cond (ltb best number) number best
+
+-- Read back: the place, the corner of a number by columns, and the row of one by rows
+abbrev pub placeOf : ℕ → ℕ
+placeOf n = n % 65536
+
+abbrev pub cornerOf : ℕ → Point
+cornerOf n = record { col = n / 4294967296 % 65536; row = n / 65536 % 65536 }
+
+abbrev pub rowOf : ℕ → ℕ
+rowOf n = side - n / 16777216 % 256
+
+abbrev pub cornersFrom : ℕ → ℕ → ℕ → ℕ → Corners
+cornersFrom west north east south =
+    record {
+      west = placeOf west;
+      north = placeOf north;
+      east = placeOf east;
+      south = placeOf south;
+      corner = cornerOf west;
+      bottom = rowOf south;
+      top = rowOf north;
+    }

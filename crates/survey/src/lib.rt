@@ -1,19 +1,73 @@
-// Refusals 1 to 6: whether the letters are a simple closed walk on the chart.
+// Refusals 1 to 6: whether the letters are a simple closed walk on the chart; and its W, N, E and S.
+use crate::walk::Walk;
 use chart::Point;
 use chart::Refusal;
 ghost use mathlib.Core.Path.{_≡_};
 ghost use Rattle.chart.specs.Outline.{outline};
 ghost use Rattle.survey.specs.Survey.{surveyOf};
+ghost use Rattle.survey.specs.Walks.{Begun, MetAt};
 
 pub mod checks;
+mod walk;
+
+// The places of the letters that leave W, N, E and S, the corner W, and the rows of S and N.
+pub struct Corners {
+    pub west: usize,
+    pub north: usize,
+    pub east: usize,
+    pub south: usize,
+    pub corner: Point,
+    pub bottom: u16,
+    pub top: u16,
+}
 
 // What refusals 1 to 6 say.
 pub enum Surveyed {
-    Passed,
+    Passed(Corners),
     Refused(Refusal),
 }
 
-// The first of refusals 1 to 6 that applies (contract 5).
+// The first of 4, 5 and 6, of a walk that met a corner.
+fn touched(start: Point, letters: &[u8], place: usize, number: u64) -> Surveyed
+    requires { ⌜ Begun (outline start (now letters)) × MetAt (outline start (now letters)) place number ⌝ }
+    ensures { λ r. ⌜ r ≡ surveyOf (outline start (now (letters .entry))) ⌝ }
+{
+    let rest = walk::walk_on(letters, place, number);
+    let leaving = rest.leaves;
+    if leaving < letters.len() {
+        return Surveyed::Refused(Refusal::Leaves {
+            place: leaving as u16,
+        });
+    }
+    if walk::ends_away(start, rest.end) {
+        return Surveyed::Refused(Refusal::Unclosed);
+    }
+    Surveyed::Refused(Refusal::Touches {
+        place: (place - 1) as u16,
+    })
+}
+
+// 4, 5 and 6, where 1, 2 and 3 do not apply, and the corners.
+fn walked(start: Point, letters: &[u8]) -> Surveyed
+    requires { ⌜ Begun (outline start (now letters)) ⌝ }
+    ensures { λ r. ⌜ r ≡ surveyOf (outline start (now (letters .entry))) ⌝ }
+{
+    let walk = walk::along(start, letters);
+    match walk {
+        Walk::Leaves { place } => Surveyed::Refused(Refusal::Leaves {
+            place: place as u16,
+        }),
+        Walk::Meets { place, number } => touched(start, letters, place, number),
+        Walk::Round { end, corners } => {
+            if walk::ends_away(start, end) {
+                return Surveyed::Refused(Refusal::Unclosed);
+            }
+            Surveyed::Passed(corners)
+        }
+    }
+}
+
+// The first of refusals 1 to 6 that applies (contract 5), or W, N, E and S.
 pub fn survey(start: Point, letters: &[u8]) -> Surveyed
     ensures { λ r. ⌜ r ≡ surveyOf (outline start (now (letters .entry))) ⌝ }
 {
@@ -29,21 +83,5 @@ pub fn survey(start: Point, letters: &[u8]) -> Surveyed
             place: letter as u16,
         });
     }
-    let walk = checks::walk_along(start, letters);
-    let leaving = walk.leaves;
-    if leaving < letters.len() {
-        return Surveyed::Refused(Refusal::Leaves {
-            place: leaving as u16,
-        });
-    }
-    if checks::ends_away(start, walk.end) {
-        return Surveyed::Refused(Refusal::Unclosed);
-    }
-    let touching = checks::touching_place(start, letters);
-    if touching < letters.len() - 1 {
-        return Surveyed::Refused(Refusal::Touches {
-            place: touching as u16,
-        });
-    }
-    Surveyed::Passed
+    walked(start, letters)
 }

@@ -46,7 +46,7 @@ borderVerdict o = turnVerdict (placeSent o) (border o)
 
 -- What 1 to 6 say, or else what is said further on
 unfoldable pub afterSurvey : Surveyed → Verdict → Verdict
-afterSurvey Passed v = v
+afterSurvey (Passed c) v = v
 afterSurvey (Stopped f) v = Refused f
 
 -- 1 to 9, or taken: what a close asks, in the holder and in the plain book

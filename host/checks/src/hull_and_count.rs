@@ -22,7 +22,7 @@ pub enum Of {
 
 /// Whether the outline is past refusals 1 to 6 and its hull holds no more cells than it encloses.
 pub fn is_convex(start: Point, letters: &[u8], of: Of) -> bool {
-    if plain::walk_refusal(start, letters).is_some() {
+    if plain::survey(start, letters).is_err() {
         return false;
     }
     // The area counts the enclosed cells, which are on the right hand of a clockwise walk and on the left hand of any other.

@@ -4,6 +4,7 @@ use mathlib.Core.Path.{sym}
 use lib.Seq.{length-take-le}
 use borrow.Author.Needs.{needs}
 use Rattle.chart.specs.Outline.{outline}
+use Rattle.cuts.proofs.ReadLaws.{found-places}
 use Rattle.border.proofs.JudgedLaws.{Copied, letters-fit, copied-ready, copied-said}
 use Rattle.border.proofs.read.Statement.{statement}
 use Rattle.border.proofs.read.Tie as tie
@@ -12,7 +13,9 @@ cut-places-requires : tie.Need-cut-places-requires
 cut-places-requires c κs = search needs
 
 read-place-requires : tie.Need-read-place-requires
-read-place-requires c κs = omega (arith, c .before .before .cut-places .ensures .within)
+read-place-requires c κs =
+    let start = c .before .before .before .before in
+    omega (arith, found-places (start .pre .0) (start .pre .1) .west)
 
 slice-aggregate-fill-turn : tie.Need-slice-aggregate-fill-turn
 slice-aggregate-fill-turn c = search needs
@@ -24,13 +27,15 @@ fill-turn-requires c κs = search needs
 copied : (c : tie.After-fill-turn)
     → let cuts = c .before .before .before .before .before in
     let start = cuts .before .before in
-    Copied (outline (start .args .start) (start .args .letters .now)) (cuts .cut-places .result) (c .before .before .read-place .result) (c .fill-turn .last .1 .1 .1 .0)
+    Copied (outline (start .args .start) (start .args .letters .now)) (start .args .found) (cuts .cut-places .result) (c .before .before .read-place .result) (c .fill-turn .last .1 .1 .1 .0)
 copied c =
     let place = c .before .before in
     let cuts = place .before .before .before in
+    let start = cuts .before .before in
     record {
-      simple = cuts .before .before .pre;
-      cuts-of = cuts .cut-places .ensures;
+      simple = start .pre .0;
+      corners = start .pre .1;
+      cuts-of = cuts .cut-places .ensures (start .args .start) (start .pre .0) (start .pre .1);
       place = place .read-place .ensures;
       letters = c .fill-turn .ensures;
       sized = c .fill-turn .kept .1 .1 .1 .0;

@@ -1,8 +1,8 @@
 //! The border read once round from W, and its four pieces.
 
-use robequarry::limits::{LAST_CORNER, LONGEST};
+use robequarry::limits::LONGEST;
 
-use super::chart::WIDTH;
+use super::chart::Corners;
 use crate::Point;
 
 /// The two letters of a piece.
@@ -37,15 +37,13 @@ pub struct Turn {
 }
 
 impl Turn {
-    pub fn new(start: Point, letters: &[u8]) -> Self {
-        let corners = Corners::new(start, letters);
-        let (number, place) = corners.west;
-        let west = Point::new(number / WIDTH as u16, number % WIDTH as u16);
+    pub fn new(letters: &[u8], corners: Corners) -> Self {
+        let (west, place) = (corners.corner, corners.west);
         let count = letters.len();
         let backward = letters[place] != 1;
         // As far ahead of W, or, read backward, as far behind it.
         let ahead = |from: usize, to: usize| if from <= to { to - from } else { to + count - from };
-        let read = |(_, to)| if backward { ahead(to, place) } else { ahead(place, to) };
+        let read = |to| if backward { ahead(to, place) } else { ahead(place, to) };
         let cut_places = [0, read(corners.north), read(corners.east), read(corners.south), count];
         let mut turn = Turn { letters: [0; LONGEST], count, west, west_place: place, backward, cut_places };
         let (before, after) = letters.split_at(place);
@@ -77,54 +75,6 @@ impl Turn {
         }
     }
 }
-
-/// A number of a corner, and the place of the letter that leaves it.
-type Numbered = (u16, usize);
-
-/// W, N, E and S of an outline, in one walk.
-struct Corners {
-    west: Numbered,
-    north: Numbered,
-    east: Numbered,
-    south: Numbered,
-}
-
-impl Corners {
-    fn new(start: Point, letters: &[u8]) -> Self {
-        let (mut by_col, mut by_row) = (col_number(start), row_number(start));
-        let (mut west, mut north, mut east, mut south) = ((by_col, 0), (by_row, 0), (by_col, 0), (by_row, 0));
-        for (place, &letter) in letters.iter().enumerate() {
-            if by_col < west.0 {
-                west = (by_col, place);
-            }
-            if by_row < north.0 {
-                north = (by_row, place);
-            }
-            if by_col > east.0 {
-                east = (by_col, place);
-            }
-            if by_row > south.0 {
-                south = (by_row, place);
-            }
-            by_col = by_col.wrapping_add(COL_STEPS[usize::from(letter & 3)]);
-            by_row = by_row.wrapping_add(ROW_STEPS[usize::from(letter & 3)]);
-        }
-        Corners { west, north, east, south }
-    }
-}
-
-/// The number of a corner by columns: W has the least, E the greatest; and by rows from the top: N has the least, S the greatest.
-fn col_number(corner: Point) -> u16 {
-    corner.col * WIDTH as u16 + corner.row
-}
-
-fn row_number(corner: Point) -> u16 {
-    (LAST_CORNER - corner.row) * WIDTH as u16 + corner.col
-}
-
-/// What a letter adds to either.
-const COL_STEPS: [u16; 4] = [WIDTH as u16, 1, (WIDTH as u16).wrapping_neg(), 1u16.wrapping_neg()];
-const ROW_STEPS: [u16; 4] = [1, (WIDTH as u16).wrapping_neg(), 1u16.wrapping_neg(), WIDTH as u16];
 
 /// The index of a piece's first letter that is none of its two.
 pub fn first_stray(piece: &[u8], pair: Pair) -> Option<usize> {

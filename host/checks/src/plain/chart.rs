@@ -1,4 +1,4 @@
-//! Refusals 1 to 6, a pass over the letters each.
+//! Refusals 1 to 6 and the corners W, N, E and S, in one walk.
 
 use robequarry::limits::{LAST_CORNER, LAST_LETTER, LONGEST, SHORTEST};
 
@@ -8,13 +8,6 @@ use crate::{Fields, Point};
 /// Corners in a row, which is a power of 2, and on the chart.
 pub const WIDTH: usize = LAST_CORNER as usize + 1;
 const CORNERS: usize = WIDTH * WIDTH;
-
-/// The number of a corner is its row times the width and its column; a letter adds one of these to it.
-const STEPS: [u16; 4] = [1, WIDTH as u16, 1u16.wrapping_neg(), (WIDTH as u16).wrapping_neg()];
-
-/// The same with sixteen bits for the row and for the column, so that a walk off the chart shows in the upper eight of either.
-const WIDE_STEPS: [u32; 4] = [1, 1 << 16, 1u32.wrapping_neg(), (1u32 << 16).wrapping_neg()];
-const OFF_CHART: u32 = 0xFF00_FF00;
 
 /// The corner that a letter reaches. Above the last corner in a number, beyond the sign too, if it is off the chart.
 #[inline]
@@ -30,54 +23,86 @@ pub fn is_off_chart(corner: Point) -> bool {
     corner.col > LAST_CORNER || corner.row > LAST_CORNER
 }
 
-/// The first of refusals 1 to 6 that applies.
-pub fn refusal(start: Point, letters: &[u8]) -> Option<Fields> {
+/// W, N, E and S: the place of the letter that leaves each, and the corner W.
+pub struct Corners {
+    pub west: usize,
+    pub north: usize,
+    pub east: usize,
+    pub south: usize,
+    pub corner: Point,
+}
+
+/// The first of refusals 1 to 6 that applies, or the corners.
+pub fn survey(start: Point, letters: &[u8]) -> Result<Corners, Fields> {
     if letters.len() < SHORTEST || letters.len() > LONGEST {
-        return Some(numbered(1));
+        return Err(numbered(1));
     }
     if is_off_chart(start) {
-        return Some(numbered(2));
+        return Err(numbered(2));
     }
     // All letters at once, and one by one only where there is a place to find.
     if letters.iter().fold(0, |all, &letter| all | letter) > LAST_LETTER {
         let place = letters.iter().position(|&letter| letter > LAST_LETTER);
-        return place.map(|place| placed(3, place));
+        return Err(placed(3, place.unwrap_or_default()));
     }
-    match end_of_walk(start, letters) {
-        Err(place) => return Some(placed(4, place)),
-        Ok(end) if end != start => return Some(numbered(5)),
-        Ok(_) => {}
-    }
-    first_touch(start, letters).map(|place| placed(6, place))
+    walk(start, letters)
 }
 
-/// The corner at which the walk ends, or the place of the first letter that leaves the chart.
-fn end_of_walk(start: Point, letters: &[u8]) -> Result<Point, usize> {
-    let mut at = u32::from(start.row) << 16 | u32::from(start.col);
-    for (place, &letter) in letters.iter().enumerate() {
-        at = at.wrapping_add(WIDE_STEPS[usize::from(letter & 3)]);
-        if at & OFF_CHART != 0 {
-            return Err(place);
-        }
-    }
-    Ok(Point::new(at as u16, (at >> 16) as u16))
-}
+/// A corner by columns and then by rows, and its place, sixteen bits each: W has the least number, E the greatest, and one off the chart shows in the upper eight bits of
+/// its column or its row. And by rows from the top and then by columns, eight bits each, and its place: N has the least, S the greatest.
+const COL_STEPS: [u64; 4] = [(1 << 32) + 1, (1 << 16) + 1, (1u64 << 32).wrapping_neg() + 1, (1u64 << 16).wrapping_neg() + 1];
+const ROW_STEPS: [u32; 4] = [(1 << 16) + 1, (1u32 << 24).wrapping_neg() + 1, (1u32 << 16).wrapping_neg() + 1, (1 << 24) + 1];
+const OFF_CHART: u64 = 0xFFFF_FF00_FF00_0000;
 
-/// The place of the first letter, the last left out, that reaches a corner already met. One bit a corner, those of neighbours in
-/// different words.
-fn first_touch(start: Point, letters: &[u8]) -> Option<usize> {
+/// Refusals 4, 5 and 6 and the corners in one walk. One bit for each corner met, those of neighbours in different words.
+fn walk(start: Point, letters: &[u8]) -> Result<Corners, Fields> {
     const WORDS: usize = CORNERS / 64;
     let mut met = [0u64; WORDS];
-    let mut at = start.row * WIDTH as u16 + start.col;
-    met[usize::from(at) % WORDS] = 1 << (usize::from(at) / WORDS);
-    for (place, &letter) in letters[..letters.len() - 1].iter().enumerate() {
-        at = at.wrapping_add(STEPS[usize::from(letter & 3)]);
-        let word = &mut met[usize::from(at) % WORDS];
-        let bit = 1 << (usize::from(at) / WORDS);
+    let first = u64::from(start.col) << 32 | u64::from(start.row) << 16;
+    let mut by_col = first;
+    let mut by_row = u32::from(LAST_CORNER - start.row) << 24 | u32::from(start.col) << 16;
+    let (mut west, mut north, mut east, mut south) = (by_col, by_row, by_col, by_row);
+    for (place, &letter) in letters.iter().enumerate() {
+        let number = (by_row >> 16) as usize;
+        let word = &mut met[number % WORDS];
+        let bit = 1 << (number / WORDS);
         if *word & bit != 0 {
-            return Some(place);
+            return Err(touched(first, letters, place, by_col));
         }
         *word |= bit;
+        west = west.min(by_col);
+        north = north.min(by_row);
+        east = east.max(by_col);
+        south = south.max(by_row);
+        by_col = by_col.wrapping_add(COL_STEPS[usize::from(letter & 3)]);
+        by_row = by_row.wrapping_add(ROW_STEPS[usize::from(letter & 3)]);
+        if by_col & OFF_CHART != 0 {
+            return Err(placed(4, place));
+        }
     }
-    None
+    if by_col >> 16 != first >> 16 {
+        return Err(numbered(5));
+    }
+    Ok(Corners {
+        west: usize::from(west as u16),
+        north: usize::from(north as u16),
+        east: usize::from(east as u16),
+        south: usize::from(south as u16),
+        corner: Point::new((west >> 32) as u16, (west >> 16) as u16),
+    })
+}
+
+/// Of a walk that met the corner at a place before: the rest leaves the chart, or ends elsewhere, or the letter that led there is refused.
+#[cold]
+fn touched(first: u64, letters: &[u8], from: usize, mut by_col: u64) -> Fields {
+    for (place, &letter) in letters.iter().enumerate().skip(from) {
+        by_col = by_col.wrapping_add(COL_STEPS[usize::from(letter & 3)]);
+        if by_col & OFF_CHART != 0 {
+            return placed(4, place);
+        }
+    }
+    if by_col >> 16 != first >> 16 {
+        return numbered(5);
+    }
+    placed(6, from - 1)
 }

@@ -15,7 +15,7 @@ mod test;
 mod tracing;
 mod words;
 
-pub use chart::refusal as walk_refusal;
+pub use chart::survey;
 pub use compare::compare;
 pub use holder::{replay, Holder};
 pub use loose::loose_query;

@@ -38,10 +38,8 @@ pub fn test(start: Point, letters: &[u8], lent: &mut [i16]) -> Fields {
 
 /// The edges of an outline, from the anchor that it gives, or the first of refusals 1 to 9.
 pub fn find_edges(start: Point, letters: &[u8], edges: &mut Edges) -> Result<Point, Fields> {
-    if let Some(refusal) = chart::refusal(start, letters) {
-        return Err(refusal);
-    }
-    let turn = Turn::new(start, letters);
+    let corners = chart::survey(start, letters)?;
+    let turn = Turn::new(letters, corners);
     let cut = turn.cut_places;
     for (k, &pair) in PAIRS.iter().enumerate() {
         if let Some(i) = first_stray(&turn.letters()[cut[k]..cut[k + 1]], pair) {

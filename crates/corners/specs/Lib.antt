@@ -1,3 +1,0 @@
--- Corners as two numbers, and what is found by them.
-pub mod Numbers
-pub mod Found

@@ -1,0 +1,120 @@
+-- The cut places are the sums that define them, of the corners' places as the border is read.
+use Prim.Native.Nat.{_≤_}
+use native.Mathlib.Omega.{arith}
+use mathlib.Core.Logic.{⊎-elim}
+use mathlib.Core.Path.{_≡_, refl, sym, _∙_}
+use mathlib.Core.Bool.{true≢false}
+use lib.ListN.{length, getD}
+use lib.Dec.{eqb}
+use borrow.Author.Needs.{needs}
+use borrow.Author.Tests.{not-true, not-false}
+use Rattle.chart.specs.Limits.{longest}
+use Rattle.lattice.proofs.WalkLaws.{walked}
+use Rattle.cuts.proofs.CutLaws.{steps-le}
+use Rattle.cuts.proofs.ReadLaws.{read-lt, Places, below-places, places-below, found-places, cuts-of}
+use Rattle.cuts.proofs.cut_places.Statement.{statement}
+use Rattle.cuts.proofs.cut_places.Tie as tie
+
+are-below-requires : tie.Need-are-below-requires
+are-below-requires c κs = search needs
+
+-- The corners of a walk pass both tests
+returns : tie.Need-returns
+returns c s simple h =
+    absurd
+    (⊎-elim (λ w. omega (arith, walked _ simple .short, w .taken))
+    (λ w. true≢false (sym (places-below _ _ (found-places simple h)) ∙ sym (w .1 .ensures) ∙ not-true _ (w .2 .taken)))
+    (c .if1 .came))
+
+-- Past them the four places stand in the list, which is not too long
+places : (c : tie.Else2) → Places (length (c .before .before .before .before .args .letters .now)) (c .before .before .before .before .args .found)
+places c = below-places _ _ (sym (c .before .are-below .ensures) ∙ not-false _ (c .if2 .left))
+
+shared-slice-read-forward : tie.Need-shared-slice-read-forward
+shared-slice-read-forward c = places (c .before) .west
+
+place-read-requires : tie.Need-place-read-requires
+place-read-requires c κs = let p = places (c .before) in (omega (arith, p .west), omega (arith, p .north))
+
+place-read-requires-2 : tie.Need-place-read-requires-2
+place-read-requires-2 c κs = let p = places (c .before .before) in (omega (arith, p .west), omega (arith, p .east))
+
+place-read-requires-3 : tie.Need-place-read-requires-3
+place-read-requires-3 c κs = let p = places (c .before .before .before) in (omega (arith, p .west), omega (arith, p .south))
+
+-- So do the three places that are read
+within : (c : tie.After-place-read3)
+    → let n = length (c .before .before .before .before .before .before .before .before .args .letters .now) in
+    (c .before .before .place-read .result ≤ n) × (c .before .place-read2 .result ≤ n) × (c .place-read3 .result ≤ n) × (n ≤ longest)
+within c =
+    let past = c .before .before .before .before in
+    let a = past .before .before .before .before .args in
+    let n = length (a .letters .now) in
+    let f = a .found in
+    let way = eqb (getD (a .letters .now) (f .west) 0) 1 in
+    let p = places past in (
+      omega (arith, c .before .before .place-read .ensures, read-lt way n (f .west) (f .north) (p .west) (p .north)),
+      omega (arith, c .before .place-read2 .ensures, read-lt way n (f .west) (f .east) (p .west) (p .east)),
+      omega (arith, c .place-read3 .ensures, read-lt way n (f .west) (f .south) (p .west) (p .south)),
+      omega (arith, past .before .before .if1 .left),
+    )
+
+ahead-requires : tie.Need-ahead-requires
+ahead-requires c κs = search needs
+
+ahead-requires-2 : tie.Need-ahead-requires-2
+ahead-requires-2 c κs = within (c .before) .0
+
+add-second : tie.Need-add-second
+add-second c =
+    let h = within (c .before .before) in
+    let small = steps-le (h .0) (h .1) (h .2) in
+    omega (arith, h .3, small, c .ahead2 .ensures, c .before .ahead .ensures)
+
+ahead-requires-3 : tie.Need-ahead-requires-3
+ahead-requires-3 c κs = within (c .before .before) .1
+
+add-third : tie.Need-add-third
+add-third c =
+    let h = within (c .before .before .before) in
+    let small = steps-le (h .0) (h .1) (h .2) in
+    omega (arith, h .3, small, c .ahead3 .ensures, c .before .ahead2 .ensures, c .before .before .ahead .ensures)
+
+ahead-requires-4 : tie.Need-ahead-requires-4
+ahead-requires-4 c κs = within (c .before .before .before) .2
+
+add-fourth : tie.Need-add-fourth
+add-fourth c =
+    let h = within (c .before .before .before .before) in
+    let small = steps-le (h .0) (h .1) (h .2) in
+    omega (arith, h .3, small, c .ahead4 .ensures, c .before .ahead3 .ensures, c .before .before .ahead2 .ensures, c .before .before .before .ahead .ensures)
+
+returns-2 : tie.Need-returns-2
+returns-2 c s simple h =
+    let third = c .before in
+    let second = third .before in
+    let first = second .before in
+    let south = first .before in
+    let east = south .before in
+    let north = east .before in
+    cuts-of simple h refl (north .place-read .ensures) (east .place-read2 .ensures) (south .place-read3 .ensures) (first .ahead .ensures) (second .ahead2 .ensures) (third .ahead3 .ensures)
+    (c .ahead4 .ensures)
+
+pub cut-places-spec : {M : Type 1} → statement M
+cut-places-spec =
+    tie.close
+    (tie.spec
+    are-below-requires
+    returns
+    shared-slice-read-forward
+    place-read-requires
+    place-read-requires-2
+    place-read-requires-3
+    ahead-requires
+    ahead-requires-2
+    add-second
+    ahead-requires-3
+    add-third
+    ahead-requires-4
+    add-fourth
+    returns-2)

@@ -1,0 +1,159 @@
+-- On the chart a letter's stride leads from a corner's number to the next one's, and off it to a number that shows it. The order of the numbers, from below or from above, is that of a
+-- piece's frame: the first digit decides, among equals the second, and the place only between two visits of a corner.
+use Prim.Native.Nat.{ℕ, zero, suc, _+_, _-_, _*_, _/_, _%_, _≤_, _<_}
+use native.Mathlib.Decide.{decLt}
+use native.Mathlib.Omega.{arith}
+use mathlib.Core.Path.{_≡_, refl}
+use mathlib.Core.Bool.{Bool, true, false, _&&_, _||_}
+use lib.Dec.{ltb, eqb}
+use borrow.Author.Tests.{ltb-true, ltb-false, lt-ltb, le-ltb, leb-true, leb-false, eqb-true, eqb-false}
+use Rattle.chart.specs.Limits.{side}
+use Rattle.chart.specs.declared.Point.{Point}
+use Rattle.lattice.specs.Chart.{step, leaves}
+use Rattle.lattice.proofs.WalkLaws.{point-eq, OnChart}
+use Rattle.convexity.specs.Frame.{frameOf, along}
+use Rattle.convexity.specs.Cut.{before}
+use Rattle.survey.specs.Numbers.{colNumber, colStride, offChart, rowNumber, rowStride}
+
+-- ---- one step
+
+module _ (p : Point) (i : ℕ) (h : OnChart p) (small : i < 65535) where
+  pub col-stays : offChart (colNumber p i) ≡ false
+  unfolding offChart
+  col-stays = rw (le-ltb 255 (colNumber p i / 65536 % 65536) (omega arith), le-ltb 255 (colNumber p i / 4294967296) (omega arith))
+
+  module _ (a : ℕ) (l : a < 4) where
+    pub col-next : leaves p a ≡ false → (colNumber p i + colStride a) % 18446744073709551616 ≡ colNumber (step p a) (i + 1)
+    unfolding leaves step
+    col-next = go a l
+      where
+        go : (a : ℕ) → a < 4 → leaves p a ≡ false → (colNumber p i + colStride a) % 18446744073709551616 ≡ colNumber (step p a) (i + 1)
+        go zero l e = omega (arith, leb-false side (p .col) e)
+        go (suc zero) l e = omega (arith, leb-false side (p .row) e)
+        go (suc (suc zero)) l e = omega (arith, eqb-false (p .col) 0 e)
+        go (suc (suc (suc zero))) l e = omega (arith, eqb-false (p .row) 0 e)
+        go (suc (suc (suc (suc a)))) l e = absurd (omega arith)
+
+    pub row-next : leaves p a ≡ false → (rowNumber p i + rowStride a) % 4294967296 ≡ rowNumber (step p a) (i + 1)
+    unfolding leaves step
+    row-next = go a l
+      where
+        go : (a : ℕ) → a < 4 → leaves p a ≡ false → (rowNumber p i + rowStride a) % 4294967296 ≡ rowNumber (step p a) (i + 1)
+        go zero l e = omega (arith, leb-false side (p .col) e)
+        go (suc zero) l e = omega (arith, leb-false side (p .row) e)
+        go (suc (suc zero)) l e = omega (arith, eqb-false (p .col) 0 e)
+        go (suc (suc (suc zero))) l e = omega (arith, eqb-false (p .row) 0 e)
+        go (suc (suc (suc (suc a)))) l e = absurd (omega arith)
+
+-- A number above 255 in its row, or in its column
+off-row : (n : ℕ) → 255 < n / 65536 % 65536 → offChart n ≡ true
+unfolding offChart
+off-row n h = rw (lt-ltb 255 (n / 65536 % 65536) h)
+
+off-col : (n : ℕ) → 255 < n / 4294967296 → offChart n ≡ true
+unfolding offChart
+off-col n h = go (ltb 255 (n / 65536 % 65536))
+  where
+    go : (b : Bool) → (b || ltb 255 (n / 4294967296)) ≡ true
+    go true = refl
+    go false = lt-ltb 255 (n / 4294967296) h
+
+pub col-leaves : (p : Point) (i : ℕ) → OnChart p → i < 65535 → (a : ℕ) → a < 4 → leaves p a ≡ true → offChart ((colNumber p i + colStride a) % 18446744073709551616) ≡ true
+unfolding leaves
+col-leaves p i h s zero l e = off-col ((colNumber p i + colStride 0) % 18446744073709551616) (omega (arith, leb-true side (p .col) e))
+col-leaves p i h s (suc zero) l e = off-row ((colNumber p i + colStride 1) % 18446744073709551616) (omega (arith, leb-true side (p .row) e))
+col-leaves p i h s (suc (suc zero)) l e = off-col ((colNumber p i + colStride 2) % 18446744073709551616) (omega (arith, eqb-true (p .col) 0 e))
+col-leaves p i h s (suc (suc (suc zero))) l e = off-row ((colNumber p i + colStride 3) % 18446744073709551616) (omega (arith, eqb-true (p .row) 0 e))
+col-leaves p i h s (suc (suc (suc (suc a)))) l e = absurd (omega arith)
+
+-- ---- the numbers of the set
+
+pub row-injective : (p q : Point) (i j : ℕ) → OnChart p → OnChart q → i < 65536 → j < 65536 → rowNumber p i / 65536 ≡ rowNumber q j / 65536 → p ≡ q
+row-injective p q i j h k l m e = point-eq p q (omega arith) (omega arith)
+
+-- ---- the order of a frame
+
+-- Two numbers whose order is that of their first digits, and among equals that of their second ones
+lexical : (a b d e x y : ℕ) → (a < b → x < y) → (b < a → y ≤ x) → (a ≡ b → d < e → x < y) → (a ≡ b → e ≤ d → y ≤ x)
+    → ltb x y ≡ (ltb a b || (eqb a b && ltb d e))
+lexical a b d e x y below above less more =
+    elim (decLt a b) [
+      | yes l ↦ rw (lt-ltb a b l, lt-ltb x y (below l))
+      | no n ↦ rw (le-ltb a b (omega arith)) (level (eqb a b) refl (ltb d e) refl n)
+    ]
+  where
+    level : (u : Bool) → eqb a b ≡ u → (v : Bool) → ltb d e ≡ v → (a < b → ⊥) → ltb x y ≡ (u && v)
+    level true g true h n = lt-ltb x y (less (eqb-true a b g) (ltb-true d e h))
+    level true g false h n = le-ltb x y (more (eqb-true a b g) (ltb-false d e h))
+    level false g v h n = le-ltb x y (above (omega (arith, eqb-false a b g)))
+
+-- Two visits: of corners p and q, at places i and j, the first of which is the later one
+pub record Visits (p q : Point) (i j : ℕ) : Type 0 where
+  pub here : OnChart p
+  pub there : OnChart q
+  pub order : j ≤ i
+  pub small : i < 65536
+  pub once : p ≡ q → i ≡ j
+
+-- The first corner in the frame of piece k has the least number, or the greatest
+abbrev pub LeastFirst : ℕ → (Point → ℕ → ℕ) → Type 0
+LeastFirst k f = (p q : Point) (i j : ℕ) → Visits p q i j → ltb (f p i) (f q j) ≡ before (frameOf k) p q
+
+abbrev pub GreatestFirst : ℕ → (Point → ℕ → ℕ) → Type 0
+GreatestFirst k f = (p q : Point) (i j : ℕ) → Visits p q i j → ltb (f q j) (f p i) ≡ before (frameOf k) p q
+
+-- Among equals of both digits the two are one visit
+once-at : {p q : Point} {i j : ℕ} → Visits p q i j → p .col ≡ q .col → p .row ≡ q .row → i ≡ j
+once-at {p} {q} v e f = v .once (point-eq p q e f)
+
+pub west-least : LeastFirst 0 colNumber
+unfolding before frameOf along
+west-least p q i j v =
+    let h = v .here in
+    let k = v .there in
+    lexical (p .col) (q .col) (p .row) (q .row) (colNumber p i) (colNumber q j)
+    (λ l. omega (arith, h .col, h .row, k .col, k .row, v .order, v .small))
+    (λ l. omega (arith, h .col, h .row, k .col, k .row, v .order, v .small))
+    (λ l m. omega (arith, h .col, h .row, k .col, k .row, v .order, v .small))
+    (λ l m. omega (arith, h .col, h .row, k .col, k .row, v .order, v .small))
+
+pub north-least : LeastFirst 1 rowNumber
+unfolding before frameOf along
+north-least p q i j v =
+    let h = v .here in
+    let k = v .there in
+    lexical (side - p .row) (side - q .row) (p .col) (q .col) (rowNumber p i) (rowNumber q j)
+    (λ l. omega (arith, h .col, h .row, k .col, k .row, v .order, v .small))
+    (λ l. omega (arith, h .col, h .row, k .col, k .row, v .order, v .small))
+    (λ l m. omega (arith, h .col, h .row, k .col, k .row, v .order, v .small))
+    (λ l m. omega (arith, h .col, h .row, k .col, k .row, v .order, v .small))
+
+pub east-greatest : GreatestFirst 2 colNumber
+unfolding before frameOf along
+east-greatest p q i j v =
+    let h = v .here in
+    let k = v .there in
+    lexical (side - p .col) (side - q .col) (side - p .row) (side - q .row) (colNumber q j) (colNumber p i)
+    (λ l. omega (arith, h .col, h .row, k .col, k .row, v .order, v .small))
+    (λ l. omega (arith, h .col, h .row, k .col, k .row, v .order, v .small))
+    (λ l m. omega (arith, h .col, h .row, k .col, k .row, v .order, v .small))
+    (λ l m.
+    elim (decLt (p .row) (q .row)) [
+      | yes n ↦ omega (arith, h .col, h .row, k .col, k .row, v .order, v .small)
+      | no n ↦ omega (arith, h .col, h .row, k .col, k .row, once-at v (omega (arith, h .col, k .col)) (omega (arith, h .row, k .row)))
+    ])
+
+pub south-greatest : GreatestFirst 3 rowNumber
+unfolding before frameOf along
+south-greatest p q i j v =
+    let h = v .here in
+    let k = v .there in
+    lexical (p .row) (q .row) (side - p .col) (side - q .col) (rowNumber q j) (rowNumber p i)
+    (λ l. omega (arith, h .col, h .row, k .col, k .row, v .order, v .small))
+    (λ l. omega (arith, h .col, h .row, k .col, k .row, v .order, v .small))
+    (λ l m. omega (arith, h .col, h .row, k .col, k .row, v .order, v .small))
+    (λ l m.
+    elim (decLt (p .col) (q .col)) [
+      | yes n ↦ omega (arith, h .col, h .row, k .col, k .row, v .order, v .small)
+      | no n ↦ omega (arith, h .col, h .row, k .col, k .row, once-at v (omega (arith, h .col, k .col)) l)
+    ])

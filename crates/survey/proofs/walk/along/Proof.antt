@@ -1,0 +1,176 @@
+-- The loop keeps where the walk stands, the corners met, and the least and the greatest numbers of those passed; the first letter that leaves the chart, and the first corner met again, end it.
+use Prim.Native.Nat.{_-_, _/_, _<_}
+use native.Mathlib.Omega.{arith}
+use mathlib.Core.Path.{_≡_, sym, ap, _∙_}
+use lib.ListN.{length}
+use borrow.Author.Needs.{needs}
+use Rattle.chart.specs.declared.Point.{Point}
+use Rattle.chart.specs.Outline.{outline}
+use Rattle.lattice.proofs.WalkCode.{start-on-chart}
+use Rattle.survey.specs.Numbers.{colNumber, rowNumber, offChart}
+use Rattle.survey.specs.Walks.{Begun, WalkedAs}
+use Rattle.survey.proofs.AlongLaws.{Along, along-start, along-meets, along-leaves, along-next, along-round}
+use Rattle.survey.proofs.walk.along.Statement.{statement}
+use Rattle.survey.proofs.walk.along.Tie as tie
+
+abbrev Inv-loop : tie.InvT-loop
+Inv-loop w met₀ by-col₀ by-row₀ west₀ north₀ east₀ south₀ i₀ met by-col by-row west north east south i =
+    (by-row < 4294967296) × ((s : Point) → by-col₀ ≡ colNumber s 0 → by-row₀ ≡ rowNumber s 0 → Begun (outline s w) → Along (outline s w) i by-col by-row met west north east south)
+
+abbrev μ-loop : tie.MeasureT-loop
+μ-loop w met₀ by-col₀ by-row₀ west₀ north₀ east₀ south₀ i₀ met by-col by-row west north east south i = length w - i
+
+none-requires : tie.Need-none-requires Inv-loop μ-loop
+none-requires c κs = search needs
+
+col-number-requires : tie.Need-col-number-requires Inv-loop μ-loop
+col-number-requires c κs = search needs
+
+row-number-requires : tie.Need-row-number-requires Inv-loop μ-loop
+row-number-requires c κs = let h = start-on-chart _ (c .before .before .before .pre .started) in (h .col, h .row)
+
+cast-north : tie.Need-cast-north Inv-loop μ-loop
+cast-north c = search needs
+
+cast-south : tie.Need-cast-south Inv-loop μ-loop
+cast-south c = search needs
+
+loop-holds : tie.Need-loop-holds Inv-loop μ-loop
+loop-holds c =
+    let cols = c .before in
+    let start = cols .before .before .before in
+    let h = start-on-chart _ (start .pre .started) in
+    (omega (arith, c .row-number .ensures, h .col, h .row), λ s e f b. rw (cols .before .none .ensures) (along-start _ b e f))
+
+cast-mark : tie.Need-cast-mark Inv-loop μ-loop
+cast-mark c = omega (arith, c .before .before .loop .inv .0)
+
+mark-requires : tie.Need-mark-requires Inv-loop μ-loop
+mark-requires c κs = search needs
+
+returns : tie.Need-returns Inv-loop μ-loop
+unfolding WalkedAs
+returns c =
+    let turn = c .before .before .before in
+    let at = turn .before in
+    let rows = at .before in
+    let cols = rows .before in
+    let start = cols .before .before .before in
+    along-meets _ (start .pre) (at .loop .inv .1 (start .args .s) (cols .col-number .ensures) (rows .row-number .ensures) (start .pre)) (turn .loop-test .taken) (sym (c .before .mark .ensures .0) ∙ c .if1 .taken)
+
+lower-requires : tie.Need-lower-requires Inv-loop μ-loop
+lower-requires c κs = search needs
+
+cast-lower : tie.Need-cast-lower Inv-loop μ-loop
+cast-lower c = omega (arith, c .before .before .before .before .before .loop .inv .0)
+
+lower-requires-2 : tie.Need-lower-requires-2 Inv-loop μ-loop
+lower-requires-2 c κs = search needs
+
+higher-requires : tie.Need-higher-requires Inv-loop μ-loop
+higher-requires c κs = search needs
+
+cast-higher : tie.Need-cast-higher Inv-loop μ-loop
+cast-higher c = omega (arith, c .before .before .before .before .before .before .before .loop .inv .0)
+
+higher-requires-2 : tie.Need-higher-requires-2 Inv-loop μ-loop
+higher-requires-2 c κs = search needs
+
+shared-slice-read-letter : tie.Need-shared-slice-read-letter Inv-loop μ-loop
+shared-slice-read-letter c = search needs
+
+col-stride-requires : tie.Need-col-stride-requires Inv-loop μ-loop
+col-stride-requires c κs = search needs
+
+wrapping-add-u64-requires : tie.Need-wrapping-add-u64-requires Inv-loop μ-loop
+wrapping-add-u64-requires c κs = search needs
+
+row-stride-requires : tie.Need-row-stride-requires Inv-loop μ-loop
+row-stride-requires c κs = search needs
+
+wrapping-add-u32-requires : tie.Need-wrapping-add-u32-requires Inv-loop μ-loop
+wrapping-add-u32-requires c κs = search needs
+
+is-off-chart-requires : tie.Need-is-off-chart-requires Inv-loop μ-loop
+is-off-chart-requires c κs = search needs
+
+returns-2 : tie.Need-returns-2 Inv-loop μ-loop
+unfolding WalkedAs
+returns-2 c =
+    let sum = c .before .before .before .before in
+    let turn = sum .before .before .before .before .before .before .before .before .before .before in
+    let at = turn .before in
+    let rows = at .before in
+    let cols = rows .before in
+    let start = cols .before .before .before in
+    along-leaves _ (start .pre) (at .loop .inv .1 (start .args .s) (cols .col-number .ensures) (rows .row-number .ensures) (start .pre)) (turn .loop-test .taken) (sum .before .col-stride .ensures)
+    (sym (ap offChart (sum .wrapping-add-u64 .ensures)) ∙ sym (c .before .is-off-chart .ensures) ∙ c .if2 .taken)
+
+add-i : tie.Need-add-i Inv-loop μ-loop
+add-i c = search needs
+
+loop-less : tie.Need-loop-less Inv-loop μ-loop
+loop-less c = search needs
+
+loop-again : tie.Need-loop-again Inv-loop μ-loop
+loop-again c =
+    let row = c .before .before in
+    let col = row .before .before in
+    let south = col .before .before .before in
+    let east = south .before in
+    let north = east .before in
+    let west = north .before in
+    let mark = west .before .before in
+    let turn = mark .before .before in (
+      omega (arith, row .wrapping-add-u32 .ensures),
+      λ s e f b.
+          rw (row .wrapping-add-u32 .ensures, col .wrapping-add-u64 .ensures, west .lower .ensures, north .lower2 .ensures, east .higher .ensures, south .higher2 .ensures, mark .mark .ensures .1)
+          (along-next _ b (turn .before .loop .inv .1 s e f b) (turn .loop-test .taken) (col .before .col-stride .ensures) (sym (mark .mark .ensures .0) ∙ west .before .if1 .left) (row .before .row-stride .ensures)
+          (sym (ap offChart (col .wrapping-add-u64 .ensures)) ∙ sym (c .before .is-off-chart .ensures) ∙ c .if2 .left)),
+    )
+
+corners-from-requires : tie.Need-corners-from-requires Inv-loop μ-loop
+corners-from-requires c κs = search needs
+
+returns-3 : tie.Need-returns-3 Inv-loop μ-loop
+unfolding WalkedAs
+returns-3 c =
+    let at = c .before .before in
+    let rows = at .before in
+    let cols = rows .before in
+    let start = cols .before .before .before in
+    along-round _ (start .pre) (at .loop .inv .1 (start .args .s) (cols .col-number .ensures) (rows .row-number .ensures) (start .pre)) (c .before .loop-test .left) (c .corners-from .ensures)
+
+pub along-spec : {M : Type 1} → statement M
+along-spec =
+    tie.close
+    (tie.spec
+    Inv-loop
+    μ-loop
+    none-requires
+    col-number-requires
+    row-number-requires
+    cast-north
+    cast-south
+    loop-holds
+    cast-mark
+    mark-requires
+    returns
+    lower-requires
+    cast-lower
+    lower-requires-2
+    higher-requires
+    cast-higher
+    higher-requires-2
+    shared-slice-read-letter
+    col-stride-requires
+    wrapping-add-u64-requires
+    row-stride-requires
+    wrapping-add-u32-requires
+    is-off-chart-requires
+    returns-2
+    add-i
+    loop-less
+    loop-again
+    corners-from-requires
+    returns-3)

@@ -1,0 +1,12 @@
+-- The two tests are those of the definition.
+use mathlib.Core.Path.{refl}
+use Rattle.survey.specs.Numbers.{offChart}
+use Rattle.survey.proofs.walk.is_off_chart.Statement.{statement}
+use Rattle.survey.proofs.walk.is_off_chart.Tie as tie
+
+returns : tie.Need-returns
+unfolding offChart
+returns c = refl
+
+pub is-off-chart-spec : {M : Type 1} → statement M
+is-off-chart-spec = tie.close (tie.spec returns)

@@ -1,0 +1,69 @@
+-- While no letter leaves the chart, the number in hand is that of the corner reached.
+use Prim.Native.Nat.{_-_}
+use mathlib.Core.Path.{sym, ap, _∙_}
+use lib.ListN.{length}
+use borrow.Author.Needs.{needs}
+use Rattle.survey.specs.Numbers.{offChart}
+use Rattle.survey.proofs.WalkLaws.{Further, further-next, further-leaves, further-end}
+use Rattle.survey.proofs.walk.walk_on.Statement.{statement}
+use Rattle.survey.proofs.walk.walk_on.Tie as tie
+
+abbrev Inv-loop : tie.InvT-loop
+Inv-loop w from number by-col₀ i₀ by-col i = Further w i₀ by-col₀ i by-col
+
+abbrev μ-loop : tie.MeasureT-loop
+μ-loop w from number by-col₀ i₀ by-col i = length w - i
+
+loop-holds : tie.Need-loop-holds Inv-loop μ-loop
+loop-holds c = λ s b h. h
+
+shared-slice-read-col-stride : tie.Need-shared-slice-read-col-stride Inv-loop μ-loop
+shared-slice-read-col-stride c = search needs
+
+col-stride-requires : tie.Need-col-stride-requires Inv-loop μ-loop
+col-stride-requires c κs = search needs
+
+wrapping-add-u64-requires : tie.Need-wrapping-add-u64-requires Inv-loop μ-loop
+wrapping-add-u64-requires c κs = search needs
+
+is-off-chart-requires : tie.Need-is-off-chart-requires Inv-loop μ-loop
+is-off-chart-requires c κs = search needs
+
+returns : tie.Need-returns Inv-loop μ-loop
+returns c =
+    let added = c .before .before in
+    let turn = added .before .before .before in
+    further-leaves (turn .before .loop .inv) (turn .loop-test .taken) (added .before .col-stride .ensures) (sym (ap offChart (added .wrapping-add-u64 .ensures)) ∙ sym (c .before .is-off-chart .ensures) ∙ c .if1 .taken)
+
+add-i : tie.Need-add-i Inv-loop μ-loop
+add-i c = search needs
+
+loop-less : tie.Need-loop-less Inv-loop μ-loop
+loop-less c = search needs
+
+loop-again : tie.Need-loop-again Inv-loop μ-loop
+loop-again c =
+    let added = c .before .before in
+    let turn = added .before .before .before in
+    rw (added .wrapping-add-u64 .ensures)
+    (further-next (turn .before .loop .inv) (turn .loop-test .taken) (added .before .col-stride .ensures) (sym (ap offChart (added .wrapping-add-u64 .ensures)) ∙ sym (c .before .is-off-chart .ensures) ∙ c .if1 .left))
+
+returns-2 : tie.Need-returns-2 Inv-loop μ-loop
+returns-2 c = further-end (c .before .loop .inv) (c .loop-test .left)
+
+pub walk-on-spec : {M : Type 1} → statement M
+walk-on-spec =
+    tie.close
+    (tie.spec
+    Inv-loop
+    μ-loop
+    loop-holds
+    shared-slice-read-col-stride
+    col-stride-requires
+    wrapping-add-u64-requires
+    is-off-chart-requires
+    returns
+    add-i
+    loop-less
+    loop-again
+    returns-2)

@@ -1,0 +1,169 @@
+// One walk along the letters as sent, for refusals 4, 5 and 6 and for W, N, E and S. The corner in hand is two numbers with its place in them; the corners met are a set of
+// numbers, and of those passed the least and the greatest number of either kind are kept.
+use crate::Corners;
+use chart::Point;
+use chart::SIDE;
+ghost use Prim.Native.Nat.{_*_, _+_, _/_, _%_, _≤_};
+ghost use mathlib.Core.Path.{_≡_};
+ghost use mathlib.Core.Bool.{not};
+ghost use lib.Dec.{eqb};
+ghost use Rattle.chart.specs.Limits.{side};
+ghost use Rattle.chart.specs.declared.Point.{Point};
+ghost use Rattle.chart.specs.Outline.{outline};
+ghost use Rattle.survey.specs.Numbers.{colNumber, colStride, offChart, rowNumber, rowStride, lowerOf, higherOf, cornersFrom};
+ghost use Rattle.survey.specs.Walks.{Begun, Out, RestOf, WalkedAs};
+
+// The numbers of the corner at which a walk begins.
+fn col_number(p: Point) -> u64
+    ensures { λ r. ⌜ r ≡ colNumber p 0 ⌝ }
+{
+    (p.col as u64) * 4294967296 + (p.row as u64) * 65536
+}
+
+fn row_number(p: Point) -> u32
+    requires { ⌜ (p .col ≤ side) × (p .row ≤ side) ⌝ }
+    ensures { λ r. ⌜ r ≡ rowNumber p 0 ⌝ }
+{
+    ((SIDE - p.row) as u32) * 16777216 + (p.col as u32) * 65536
+}
+
+// What a letter adds to either.
+fn col_stride(letter: u8) -> u64
+    ensures { λ r. ⌜ r ≡ colStride (letter % 4) ⌝ }
+{
+    match letter % 4 {
+        0 => 4294967297,
+        1 => 65537,
+        2 => 18446744069414584321,
+        _ => 18446744073709486081,
+    }
+}
+
+fn row_stride(letter: u8) -> u32
+    ensures { λ r. ⌜ r ≡ rowStride (letter % 4) ⌝ }
+{
+    match letter % 4 {
+        0 => 65537,
+        1 => 4278190081,
+        2 => 4294901761,
+        _ => 16777217,
+    }
+}
+
+fn is_off_chart(number: u64) -> bool
+    ensures { λ r. ⌜ r ≡ offChart number ⌝ }
+{
+    (255 < number / 65536 % 65536) | (255 < number / 4294967296)
+}
+
+fn lower(best: u64, number: u64) -> u64
+    ensures { λ r. ⌜ r ≡ lowerOf best number ⌝ }
+{
+    if number < best { number } else { best }
+}
+
+fn higher(best: u64, number: u64) -> u64
+    ensures { λ r. ⌜ r ≡ higherOf best number ⌝ }
+{
+    if best < number { number } else { best }
+}
+
+// W, N, E and S from their numbers.
+fn corners_from(west: u64, north: u64, east: u64, south: u64) -> Corners
+    ensures { λ r. ⌜ r ≡ cornersFrom west north east south ⌝ }
+{
+    Corners {
+        west: (west % 65536) as usize,
+        north: (north % 65536) as usize,
+        east: (east % 65536) as usize,
+        south: (south % 65536) as usize,
+        corner: Point {
+            col: (west / 4294967296 % 65536) as u16,
+            row: (west / 65536 % 65536) as u16,
+        },
+        bottom: SIDE - (south / 16777216 % 256) as u16,
+        top: SIDE - (north / 16777216 % 256) as u16,
+    }
+}
+
+// How a walk ends.
+pub(crate) enum Walk {
+    // The letter at this place leaves the chart.
+    Leaves { place: usize },
+    // The corner at this place, with this number, was met before: the rest is not walked.
+    Meets { place: usize, number: u64 },
+    // All letters are walked, and lead to the corner with this number.
+    Round { end: u64, corners: Corners },
+}
+
+pub(crate) fn along(s: Point, w: &[u8]) -> Walk
+    requires { ⌜ Begun (outline s (now w)) ⌝ }
+    ensures { λ r. ⌜ WalkedAs (outline s (now (w .entry))) r ⌝ }
+{
+    let mut met = flags::none();
+    let mut by_col = col_number(s);
+    let mut by_row = row_number(s);
+    let mut west = by_col;
+    let mut north = by_row as u64;
+    let mut east = by_col;
+    let mut south = by_row as u64;
+    let mut i = 0;
+    while i < w.len() {
+        if flags::mark(&mut met, (by_row / 65536) as usize) {
+            return Walk::Meets {
+                place: i,
+                number: by_col,
+            };
+        }
+        west = lower(west, by_col);
+        north = lower(north, by_row as u64);
+        east = higher(east, by_col);
+        south = higher(south, by_row as u64);
+        let letter = w[i];
+        by_col = std::num::wrapping_add_u64(by_col, col_stride(letter));
+        by_row = std::num::wrapping_add_u32(by_row, row_stride(letter));
+        if is_off_chart(by_col) {
+            return Walk::Leaves { place: i };
+        }
+        i += 1;
+    }
+    Walk::Round {
+        end: by_col,
+        corners: corners_from(west, north, east, south),
+    }
+}
+
+// The place of the first letter that leaves the chart, and the number of the corner reached where none does.
+pub(crate) struct Rest {
+    pub(crate) leaves: usize,
+    pub(crate) end: u64,
+}
+
+// 4, and what 5 has to know, of a walk that met a corner: from the corner at a place on, with its number.
+pub(crate) fn walk_on(w: &[u8], from: usize, number: u64) -> Rest
+    ensures { λ r. ⌜ ((s : Point) → Begun (outline s (now (w .entry))) → Out (outline s (now (w .entry))) from number → RestOf (outline s (now (w .entry))) r) ⌝ }
+{
+    let mut by_col = number;
+    let mut i = from;
+    while i < w.len() {
+        by_col = std::num::wrapping_add_u64(by_col, col_stride(w[i]));
+        if is_off_chart(by_col) {
+            return Rest {
+                leaves: i,
+                end: by_col,
+            };
+        }
+        i += 1;
+    }
+    Rest {
+        leaves: i,
+        end: by_col,
+    }
+}
+
+// 5. The walk ends at another corner than its start.
+pub(crate) fn ends_away(s: Point, end: u64) -> bool
+    ensures { λ r. ⌜ r ≡ not (eqb (end / 65536) (s .col * 65536 + s .row)) ⌝ }
+{
+    end / 65536 != (s.col as u64) * 65536 + (s.row as u64)
+}
