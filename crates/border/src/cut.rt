@@ -1,12 +1,12 @@
 // The letters of an outline read from W on, and places in them.
 use chart::LONGEST;
 use chart::Point;
-ghost use Prim.Native.Nat.{_<_, _≤_};
+ghost use Prim.Native.Nat.{_+_, _≤_};
 ghost use mathlib.Core.Path.{_≡_};
-ghost use lib.ListN.{length, getD};
-ghost use Rattle.lattice.specs.Chart.{rotation};
-ghost use Rattle.convexity.specs.Reading.{opposite as oppositeOf};
-ghost use Rattle.border.specs.Cutting.{readTurn, Turned, readPlace, SentTo};
+ghost use lib.ListN.{length};
+ghost use lib.Seq.{paste};
+ghost use Rattle.convexity.specs.Reading.{opposite as oppositeOf, backward};
+ghost use Rattle.border.specs.Cutting.{Turned, readPlace, SentTo};
 
 // As far as four pieces can reach.
 const ROUNDS: usize = 4 * LONGEST;
@@ -15,33 +15,32 @@ const ROUNDS: usize = 4 * LONGEST;
 fn opposite(letter: u8) -> u8
     ensures { λ r. ⌜ r ≡ oppositeOf letter ⌝ }
 {
-    match letter {
-        0 => 2,
-        1 => 3,
-        2 => 0,
-        _ => 1,
+    if letter < 4 { (letter + 2) % 4 } else { 1 }
+}
+
+// Copies a list into another, from a place of it on.
+fn copy(list: &[u8], turn: &mut [u8], to: usize)
+    requires { ⌜ to + length (now list) ≤ length (now turn) ⌝ }
+    ensures { λ _. ⌜ now (turn .exit) ≡ paste (now (turn .entry)) to (now (list .entry)) (length (now (list .entry))) ⌝ }
+{
+    let mut i = 0;
+    while i < list.len() {
+        turn[to + i] = list[i];
+        i += 1;
     }
 }
 
-// Letter i from a place on, past the list's end to its beginning.
-fn letter_on(w: &[u8], from: usize, i: usize) -> u8
-    requires { ⌜ (from ≤ length (now w)) × (i < length (now w)) ⌝ }
-    ensures { λ r. ⌜ r ≡ getD (rotation from (now (w .entry))) i 0 ⌝ }
+// The same for the walk backward.
+fn copy_back(list: &[u8], turn: &mut [u8], to: usize)
+    requires { ⌜ to + length (now list) ≤ length (now turn) ⌝ }
+    ensures { λ _. ⌜ now (turn .exit) ≡ paste (now (turn .entry)) to (backward (now (list .entry))) (length (now (list .entry))) ⌝ }
 {
-    let rest = w.len() - from;
-    let at = if i < rest { from + i } else { i - rest };
-    w[at]
-}
-
-// Letter i of the letters from a place on, read forward or backward.
-fn letter_read(w: &[u8], from: usize, forward: bool, i: usize) -> u8
-    requires { ⌜ (from ≤ length (now w)) × (i < length (now w)) ⌝ }
-    ensures { λ r. ⌜ r ≡ getD (readTurn forward from (now (w .entry))) i 0 ⌝ }
-{
-    if forward {
-        return letter_on(w, from, i);
+    let n = list.len();
+    let mut i = 0;
+    while i < n {
+        turn[to + i] = opposite(list[n - 1 - i]);
+        i += 1;
     }
-    opposite(letter_on(w, from, w.len() - 1 - i))
 }
 
 // Copies the letters from a place on, past the list's end to its beginning, or the same walk backward.
@@ -52,11 +51,13 @@ pub(crate) fn fill_turn(w: &[u8], from: usize, forward: bool, turn: &mut [u8])
     if turn.len() < n || n < from {
         return;
     }
-    let mut i = 0;
-    while i < n {
-        turn[i] = letter_read(w, from, forward, i);
-        i += 1;
+    if forward {
+        copy(&w[from..], turn, 0);
+        copy(&w[..from], turn, n - from);
+        return;
     }
+    copy_back(&w[..from], turn, 0);
+    copy_back(&w[from..], turn, from);
 }
 
 // The place of the letter that leaves a corner in what is read, from its place in the list as sent.

@@ -1,84 +1,114 @@
--- The loop stores, one letter a turn, the letters from a place on, read forward or backward.
-use Prim.Native.Nat.{ℕ, _-_, _≤_}
+-- The letters from the place on and those up to it are copied one behind the other; backward the other way round.
+use Prim.Native.Nat.{_≤_}
 use native.Mathlib.Omega.{arith}
 use mathlib.Core.Logic.{⊎-elim}
-use mathlib.Core.Path.{_≡_, sym, _∙_}
-use mathlib.Core.List.{List}
+use mathlib.Core.Path.{sym}
 use lib.ListN.{length}
 use borrow.Author.Needs.{needs}
 use borrow.Author.Tests.{ltb-true, ltb-false}
-use Rattle.border.specs.Cutting.{readTurn}
-use Rattle.border.proofs.Buffer.{length-read, Filling, filling-start, filling-next, filling-end}
+use Rattle.border.proofs.Buffer.{length-up-to, room-forward, room-backward, turn-forward, turn-backward}
 use Rattle.border.proofs.cut.fill_turn.Statement.{statement}
 use Rattle.border.proofs.cut.fill_turn.Tie as tie
 
-abbrev Inv-loop : tie.InvT-loop
-Inv-loop w from forward turn₀ n i₀ turn i = (i ≤ length w) × Filling (readTurn forward from w) turn₀ turn i
-
-abbrev μ-loop : tie.MeasureT-loop
-μ-loop w from forward turn₀ n i₀ turn i = length w - i
-
-returns : tie.Need-returns Inv-loop μ-loop
+returns : tie.Need-returns
 returns c =
     let a = c .before .before .before .args in λ k short. absurd (⊎-elim (λ w. omega (arith, w .taken)) (λ w. omega (arith, ltb-true (length (a .w .now)) (a .from) (w .1 .taken))) (c .if1 .came))
 
-loop-holds : tie.Need-loop-holds Inv-loop μ-loop
-loop-holds c = (search needs, filling-start _ _)
+-- Past the test the place is one of the list's, and there is room
+from-le : (c : tie.Else2) → c .before .before .before .before .args .from ≤ length (c .before .before .before .before .args .w .now)
+from-le c = let a = c .before .before .before .before .args in ltb-false (length (a .w .now)) (a .from) (c .if2 .left)
 
--- Where the loop begins, the place is one of the list's, and as many letters are read as were sent
-module _ (c : tie.Else2 Inv-loop μ-loop) where
-  abbrev w : List ℕ
-  w = c .before .before .before .before .args .w .now
+sub-copy : tie.Need-sub-copy
+sub-copy c = search needs
 
-  abbrev from : ℕ
-  from = c .before .before .before .before .args .from
+part-copy-start : tie.Need-part-copy-start
+part-copy-start c = search needs
 
-  from-le : from ≤ length w
-  from-le = ltb-false (length w) from (c .if2 .left)
+part-copy-end : tie.Need-part-copy-end
+part-copy-end c = search needs
 
-  read-length : length (readTurn (c .before .before .before .before .args .forward) from w) ≡ length w
-  read-length = length-read (c .before .before .before .before .args .forward) from w from-le
+copy-requires : tie.Need-copy-requires
+copy-requires c κs = search needs
 
-letter-read-requires : tie.Need-letter-read-requires Inv-loop μ-loop
-letter-read-requires c κs = (from-le (c .before .before), c .loop-test .taken)
+slice-aggregate-copy : tie.Need-slice-aggregate-copy
+slice-aggregate-copy c = let past = c .before .before .before .before .before .before .before in sym (length-up-to _ _ (from-le past))
 
-slice-write-turn : tie.Need-slice-write-turn Inv-loop μ-loop
-slice-write-turn c = omega (arith, c .before .before .loop .inv .1 .sized)
+sub-copy-2 : tie.Need-sub-copy-2
+sub-copy-2 c = search needs
 
-add-i : tie.Need-add-i Inv-loop μ-loop
-add-i c = search needs
+copy-requires-2 : tie.Need-copy-requires-2
+copy-requires-2 c κs =
+    let copied = c .before .before .before .before in
+    let past = copied .before .before .before .before in
+    let a = past .before .before .before .before .args in
+    room-forward (a .w .now) (a .from) (from-le past) (a .turn .now) (copied .copy .last .1 .0) (past .before .if1 .left) (copied .copy .ensures)
 
-loop-less : tie.Need-loop-less Inv-loop μ-loop
-loop-less c = search needs
+same-length : tie.Need-same-length
+same-length c = search needs
 
-loop-again : tie.Need-loop-again Inv-loop μ-loop
-loop-again c =
-    let turn = c .before in
-    let at = turn .before in
-    let n = read-length (at .before) in
-    (omega arith, filling-next (at .loop .inv .1) (omega (arith, n)) (omega (arith, n)) _ (c .letter-read .ensures))
-
-same-length : tie.Need-same-length Inv-loop μ-loop
-same-length c = c .before .loop .inv .1 .sized
-
-returns-2 : tie.Need-returns-2 Inv-loop μ-loop
+returns-2 : tie.Need-returns-2
 returns-2 c k room =
-    let at = c .before in
-    let i : at .loop .i ≡ length (w (at .before)) = omega arith in
-    rw (← i) (filling-end (at .loop .inv .1) (read-length (at .before) ∙ sym i))
+    let copied = c .before .before in
+    let first = copied .before .before .before .before .before in
+    let test = first .before .before .before in
+    let a = test .before .before .before .before .before .args in
+    rw (test .if3 .taken) (turn-forward (a .w .now) (a .from) k (a .turn .now) (first .copy .last .1 .0) room (first .copy .ensures) (copied .copy2 .ensures))
+
+slice-aggregate-copy-back : tie.Need-slice-aggregate-copy-back
+slice-aggregate-copy-back c = sym (length-up-to _ _ (from-le (c .before .before)))
+
+copy-back-requires : tie.Need-copy-back-requires
+copy-back-requires c κs =
+    let past = c .before .before .before in
+    let a = past .before .before .before .before .args in
+    omega (arith, length-up-to (a .w .now) (a .from) (from-le past), past .before .if1 .left, from-le past)
+
+sub-copy-back : tie.Need-sub-copy-back
+sub-copy-back c = search needs
+
+part-copy-back-start : tie.Need-part-copy-back-start
+part-copy-back-start c = search needs
+
+part-copy-back-end : tie.Need-part-copy-back-end
+part-copy-back-end c = search needs
+
+copy-back-requires-2 : tie.Need-copy-back-requires-2
+copy-back-requires-2 c κs =
+    let copied = c .before .before .before .before in
+    let past = copied .before .before .before .before in
+    let a = past .before .before .before .before .args in
+    room-backward (a .w .now) (a .from) (from-le past) (a .turn .now) (copied .copy-back .last .1 .0) (past .before .if1 .left) (copied .copy-back .ensures)
+
+same-length-2 : tie.Need-same-length-2
+same-length-2 c = search needs
+
+returns-3 : tie.Need-returns-3
+returns-3 c k room =
+    let copied = c .before .before in
+    let first = copied .before .before .before .before .before in
+    let test = first .before .before .before in
+    let a = test .before .before .before .before .before .args in
+    rw (test .if3 .left) (turn-backward (a .w .now) (a .from) k (a .turn .now) (first .copy-back .last .1 .0) room (first .copy-back .ensures) (copied .copy-back2 .ensures))
 
 pub fill-turn-spec : {M : Type 1} → statement M
 fill-turn-spec =
     tie.close
     (tie.spec
-    Inv-loop
-    μ-loop
     returns
-    loop-holds
-    letter-read-requires
-    slice-write-turn
-    add-i
-    loop-less
-    loop-again
+    sub-copy
+    part-copy-start
+    part-copy-end
+    copy-requires
+    slice-aggregate-copy
+    sub-copy-2
+    copy-requires-2
     same-length
-    returns-2)
+    returns-2
+    slice-aggregate-copy-back
+    copy-back-requires
+    sub-copy-back
+    part-copy-back-start
+    part-copy-back-end
+    copy-back-requires-2
+    same-length-2
+    returns-3)

@@ -1,27 +1,29 @@
--- Each arm of the match is a clause of the definition; the last is that of the letters above 2.
+-- Below 4 it is two letters on, and 1 is the definition's last clause.
+use Prim.Native.Nat.{ℕ, zero, suc, _+_, _%_, _<_}
 use native.Mathlib.Omega.{arith}
-use mathlib.Core.Path.{sym}
+use mathlib.Core.Path.{_≡_, refl, sym}
+use borrow.Author.Needs.{needs}
 use Rattle.convexity.specs.Reading.{opposite}
 use Rattle.convexity.proofs.Reading.{opposite-high}
 use Rattle.border.proofs.cut.opposite.Statement.{statement}
 use Rattle.border.proofs.cut.opposite.Tie as tie
 
-returns : tie.Need-returns
+two-on : (a : ℕ) → a < 4 → (a + 2) % 4 ≡ opposite a
 unfolding opposite
-returns c = rw (c .match .keys1)
+two-on zero l = refl
+two-on (suc zero) l = refl
+two-on (suc (suc zero)) l = refl
+two-on (suc (suc (suc zero))) l = refl
+two-on (suc (suc (suc (suc a)))) l = absurd (omega arith)
+
+add-result : tie.Need-add-result
+add-result c = search needs
+
+returns : tie.Need-returns
+returns c = two-on _ (c .if1 .taken)
 
 returns-2 : tie.Need-returns-2
-unfolding opposite
-returns-2 c = rw (c .match .keys2)
-
-returns-3 : tie.Need-returns-3
-unfolding opposite
-returns-3 c = rw (c .match .keys3)
-
-returns-4 : tie.Need-returns-4
-returns-4 c =
-    let far = c .match .rest in
-    sym (opposite-high _ (omega (arith, far .1, far .0 .1, far .0 .0 .1)))
+returns-2 c = sym (opposite-high _ (omega (arith, c .if1 .left)))
 
 pub opposite-spec : {M : Type 1} → statement M
-opposite-spec = tie.close (tie.spec returns returns-2 returns-3 returns-4)
+opposite-spec = tie.close (tie.spec add-result returns returns-2)
