@@ -23,31 +23,6 @@ fn some_bent(piece: &[u8], k: usize) -> bool
     found
 }
 
-fn first_bent(piece: &[u8], k: usize) -> usize
-    ensures { λ r. ⌜ r ≡ straightFor k (now (piece .entry)) ⌝ }
-{
-    let f = frame::pair_at(k);
-    let mut i = 0;
-    while i < piece.len() {
-        let letter = piece[i];
-        if letter != f.earlier && letter != f.later {
-            return i;
-        }
-        i += 1;
-    }
-    i
-}
-
-// How many letters of piece k stand before its first back-step: all of them where it has none. The place is looked for only where there is one.
-fn straight_for(piece: &[u8], k: usize) -> usize
-    ensures { λ r. ⌜ r ≡ straightFor k (now (piece .entry)) ⌝ }
-{
-    if some_bent(piece, k) {
-        return first_bent(piece, k);
-    }
-    piece.len()
-}
-
 // Letter i of those read on past their end, as often round as four pieces can reach.
 fn letter_round(letters: &[u8], i: usize) -> u8
     requires { ⌜ (length (now letters) ≤ longest) × (i < 4 * length (now letters)) ⌝ }
@@ -66,8 +41,8 @@ fn letter_round(letters: &[u8], i: usize) -> u8
     letters[i - 3 * n]
 }
 
-// The same for a piece that goes on past the end of the letters.
-fn straight_round(letters: &[u8], from: usize, to: usize, k: usize) -> usize
+// How many letters of piece k stand before its first back-step, between two places of the letters read round and round: all of them where it has none.
+fn first_bent(letters: &[u8], from: usize, to: usize, k: usize) -> usize
     requires { ⌜ Within from to (now letters) ⌝ }
     ensures { λ r. ⌜ r ≡ straightFor k (part from to (rounds (now (letters .entry)))) ⌝ }
 {
@@ -83,15 +58,15 @@ fn straight_round(letters: &[u8], from: usize, to: usize, k: usize) -> usize
     i
 }
 
-// The same for a piece between two places of the letters read round and round. Only with a back-step does one go on past their end.
-fn straight(letters: &[u8], from: usize, to: usize, k: usize) -> usize
+// The same, where the place is looked for only if there is one. Only with a back-step does a piece go on past the end of the letters.
+fn straight_for(letters: &[u8], from: usize, to: usize, k: usize) -> usize
     requires { ⌜ Within from to (now letters) ⌝ }
     ensures { λ r. ⌜ r ≡ straightFor k (part from to (rounds (now (letters .entry)))) ⌝ }
 {
-    if to <= letters.len() {
-        return straight_for(&letters[from..to], k);
+    if letters.len() < to || some_bent(&letters[from..to], k) {
+        return first_bent(letters, from, to, k);
     }
-    straight_round(letters, from, to, k)
+    to - from
 }
 
 pub(crate) enum BackStep {
@@ -113,7 +88,7 @@ pub(crate) fn first(turn: Turn, letters: &[u8]) -> BackStep
         if to < from || 4 * letters.len() < to {
             return BackStep::None;
         }
-        let i = straight(letters, from, to, k);
+        let i = straight_for(letters, from, to, k);
         if i < to - from {
             return BackStep::At {
                 piece: k,

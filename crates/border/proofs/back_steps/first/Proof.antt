@@ -65,12 +65,12 @@ module _ (c : tie.Else2 Inv-loop μ-loop) where
   lies : Within (getD at k 0) (getD at (k + 1) 0) letters
   lies = record { short = c .before .before .before .before .before .before .pre; rises = c .before .if1 .left; round = ltb-false _ _ (c .if2 .left) }
 
-straight-requires : tie.Need-straight-requires Inv-loop μ-loop
-straight-requires c κs = lies c
+straight-for-requires : tie.Need-straight-for-requires Inv-loop μ-loop
+straight-for-requires c κs = lies c
 
 -- The search in one piece
-here : (c : tie.After-straight Inv-loop μ-loop)
-    → InPiece (rounds (letters (c .before))) (at (c .before)) (k (c .before)) (getD (at (c .before)) (k (c .before)) 0) (getD (at (c .before)) (k (c .before) + 1) 0) (c .straight .result)
+here : (c : tie.After-straight-for Inv-loop μ-loop)
+    → InPiece (rounds (letters (c .before))) (at (c .before)) (k (c .before)) (getD (at (c .before)) (k (c .before)) 0) (getD (at (c .before)) (k (c .before) + 1) 0) (c .straight-for .result)
 here c =
     let l = lies (c .before) in
     record {
@@ -80,7 +80,7 @@ here c =
       ends = refl;
       rises = l .rises;
       within = omega (arith, l .round, length-rounds (letters (c .before)));
-      stops = c .straight .ensures;
+      stops = c .straight-for .ensures;
     }
 
 add-t20 : tie.Need-add-t20 Inv-loop μ-loop
@@ -117,7 +117,7 @@ first-spec =
     array-read-to
     mul-if2
     returns
-    straight-requires
+    straight-for-requires
     add-t20
     returns-2
     add-k
