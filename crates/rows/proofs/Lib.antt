@@ -5,4 +5,5 @@ pub mod Side
 pub mod Mirror
 pub mod Gaps
 pub mod SearchLaws
+pub mod TangentLaws
 pub mod RowLaws

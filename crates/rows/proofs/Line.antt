@@ -62,6 +62,56 @@ pub right-turn : {p q u v : Point} → p .row < q .row → u .row ≤ q .row →
 right-turn {p} {q} {u} {v} l m n h k =
     turn-offsets p q u v (q .row - p .row) (q .row - u .row) (v .row - q .row) (omega arith) (omega arith) (omega arith) (omega arith) h k
 
+-- The point q with x rows down to p, y rows down to u and z rows down to v
+below-offsets :
+    (p q u v : Point) (x y z : ℕ) →
+    q .row ≡ p .row + x →
+    q .row ≡ u .row + y →
+    q .row ≡ v .row + z →
+    0 < y →
+    Right p q u →
+    Right u q v →
+    Right p q v
+below-offsets p q u v x y z i j k l h h′ =
+    let times : (e : ℕ) → (q .row * e ≡ (p .row + x) * e) × (q .row * e ≡ (u .row + y) * e) × (q .row * e ≡ (v .row + z) * e)
+    = λ e. (ap (λ n. n * e) i, ap (λ n. n * e) j, ap (λ n. n * e) k) in
+    let m : y * p .col + x * q .col ≤ x * u .col + y * q .col = omega (arith, times (p .col), times (q .col), times (u .col)) in
+    let n : z * u .col + y * q .col ≤ y * v .col + z * q .col = omega (arith, times (u .col), times (q .col), times (v .col)) in
+    let o : (z * p .col + x * q .col) * y ≤ (x * v .col + z * q .col) * y =
+    omega (arith, mul-le-mul-right z m, mul-le-mul-right x n) in
+    let w : z * p .col + x * q .col ≤ x * v .col + z * q .col = le-of-mul-le-mul-right o l in
+    omega (arith, times (p .col), times (q .col), times (v .col))
+
+-- Below q, a point is right of a line up to q if it is right of the line from a point that is
+pub right-below : {p q u v : Point} → p .row ≤ q .row → u .row < q .row → v .row ≤ q .row → Right p q u → Right u q v → Right p q v
+right-below {p} {q} {u} {v} l m n =
+    below-offsets p q u v (q .row - p .row) (q .row - u .row) (q .row - v .row) (omega arith) (omega arith) (omega arith) (omega arith)
+
+-- The point q with x rows down to p, y rows up to u and z rows up to v
+over-offsets :
+    (p q u v : Point) (x y z : ℕ) →
+    q .row ≡ p .row + x →
+    u .row ≡ q .row + y →
+    v .row ≡ q .row + z →
+    0 < y →
+    Right p u q →
+    Right q v u →
+    Right p v q
+over-offsets p q u v x y z i j k l h h′ =
+    let times : (e : ℕ) → (q .row * e ≡ (p .row + x) * e) × (u .row * e ≡ (q .row + y) * e) × (v .row * e ≡ (q .row + z) * e)
+    = λ e. (ap (λ n. n * e) i, ap (λ n. n * e) j, ap (λ n. n * e) k) in
+    let m : y * p .col + x * u .col ≤ x * q .col + y * q .col = omega (arith, times (p .col), times (q .col), times (u .col)) in
+    let n : z * q .col + y * v .col ≤ z * u .col + y * q .col = omega (arith, times (u .col), times (q .col), times (v .col)) in
+    let o : (z * p .col + x * v .col) * y ≤ (x * q .col + z * q .col) * y =
+    omega (arith, mul-le-mul-right z m, mul-le-mul-right x n) in
+    let w : z * p .col + x * v .col ≤ x * q .col + z * q .col = le-of-mul-le-mul-right o l in
+    omega (arith, times (p .col), times (q .col), times (v .col))
+
+-- Where q is right of a line from p up to u, it is right of every line from p up to a point that u is right of, seen from q
+pub right-over : {p q u v : Point} → p .row ≤ q .row → q .row < u .row → q .row ≤ v .row → Right p u q → Right q v u → Right p v q
+right-over {p} {q} {u} {v} l m n =
+    over-offsets p q u v (q .row - p .row) (u .row - q .row) (v .row - q .row) (omega arith) (omega arith) (omega arith) (omega arith)
+
 pub right-start : {p q : Point} → Right p q p
 right-start = omega arith
 

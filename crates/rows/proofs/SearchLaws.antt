@@ -68,12 +68,6 @@ module _ (lo : ℕ → ℕ) (i : ℕ) where
 abbrev pub edgeEnd : (ℕ → ℕ) → ℕ → ℕ → ℕ
 edgeEnd lo t i = furthest lo i (suc i) (suc (suc i)) (t - suc (suc i))
 
-pub edge-start : (lo : ℕ → ℕ) (t i : ℕ) → edgeEnd lo t i ≡ furthest lo i (i + 1) (i + 2) (t - (i + 2))
-edge-start lo t i =
-    let one : suc i ≡ i + 1 = omega arith in
-    let two : suc (suc i) ≡ i + 2 = omega arith in
-    cc
-
 pub edge-above : (lo : ℕ → ℕ) (t i : ℕ) → i < edgeEnd lo t i
 edge-above lo t i = furthest-above lo i (suc i) (suc (suc i)) (t - suc (suc i)) (omega arith) (omega arith)
 

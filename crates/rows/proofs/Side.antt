@@ -19,10 +19,10 @@ use Rattle.rows.proofs.Line.{Right, right-trans, right-turn, right-star
 use Rattle.rows.proofs.Rows.{Rows, begin, begin-marked, hull-right}
 
 -- Of rows i + 1 to k - 1, row j is one to which the line from row i leans furthest left
-record Furthest (lo : ℕ → ℕ) (i j k : ℕ) : Type 0 where
-  above : i < j
-  below : j < k
-  right : (r : ℕ) → i < r → r < k → Right (begin lo i) (begin lo j) (begin lo r)
+pub record Furthest (lo : ℕ → ℕ) (i j k : ℕ) : Type 0 where
+  pub above : i < j
+  pub below : j < k
+  pub right : (r : ℕ) → i < r → r < k → Right (begin lo i) (begin lo j) (begin lo r)
 
 -- Seen from p, with q x rows above it and u y rows above it, u is at least as far left as q
 leans-right :
@@ -30,7 +30,7 @@ leans-right :
 leans-right p q u x y i j h =
     omega (arith, ap (λ n. n * p .col) i, ap (λ n. n * u .col) i, ap (λ n. n * p .col) j, ap (λ n. n * q .col) j)
 
-leans-true : (lo : ℕ → ℕ) (i j k : ℕ) → i ≤ j → i ≤ k → leans lo i j k ≡ true → Right (begin lo i) (begin lo k) (begin lo j)
+pub leans-true : (lo : ℕ → ℕ) (i j k : ℕ) → i ≤ j → i ≤ k → leans lo i j k ≡ true → Right (begin lo i) (begin lo k) (begin lo j)
 unfolding leans
 leans-true lo i j k l m e = leans-right (begin lo i) (begin lo j) (begin lo k) (j - i) (k - i) (omega arith) (omega arith) (leb-true _ _ e)
 
@@ -69,9 +69,11 @@ furthest-more lo i j k zero t e f =
     rw e′ at f
 furthest-more lo i j k (suc n) t e f = furthest-more lo i (cond (leans lo i j k) k j) (suc k) n t (omega arith) (furthest-step lo i j k f)
 
-furthest-furthest : (lo : ℕ → ℕ) (i t : ℕ) → suc i < t → Furthest lo i (furthest lo i (suc i) (suc (suc i)) (t - suc (suc i))) t
-furthest-furthest lo i t h = furthest-more lo i (suc i) (suc (suc i)) (t - suc (suc i)) t (omega arith)
-    (record { above = omega arith; below = omega arith; right = λ r l m. let e : r ≡ suc i = omega arith in rw e right-end })
+pub furthest-start : (lo : ℕ → ℕ) (i : ℕ) → Furthest lo i (suc i) (suc (suc i))
+furthest-start lo i = record { above = omega arith; below = omega arith; right = λ r l m. let e : r ≡ suc i = omega arith in rw e right-end }
+
+pub furthest-furthest : (lo : ℕ → ℕ) (i t : ℕ) → suc i < t → Furthest lo i (furthest lo i (suc i) (suc (suc i)) (t - suc (suc i))) t
+furthest-furthest lo i t h = furthest-more lo i (suc i) (suc (suc i)) (t - suc (suc i)) t (omega arith) (furthest-start lo i)
 
 -- x is y rows above p and z rows below q
 crossing-offsets :

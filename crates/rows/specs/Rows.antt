@@ -1,5 +1,5 @@
--- A block of cells given by its rows; a list of numbers as a function of the row, and what the code keeps of the ends of the rows.
-use Prim.Native.Nat.{ℕ, _<_}
+-- A block of cells given by its rows; a list of numbers as a function of the row, and what the code keeps of the ends of the rows and of the lines from row to row.
+use Prim.Native.Nat.{ℕ, suc, _-_, _<_, _≤_}
 use mathlib.Core.Path.{_≡_}
 use mathlib.Core.Bool.{Bool, cond, _&&_}
 use mathlib.Core.List.{List}
@@ -8,7 +8,7 @@ use lib.Dec.{leb, ltb}
 use Rattle.chart.specs.Limits.{side}
 use Rattle.chart.specs.Outline.{Outline}
 use Rattle.lattice.specs.Enclosed.{upAlong, downAlong}
-use Rattle.rows.specs.Search.{keptColumn}
+use Rattle.rows.specs.Search.{keptColumn, furthest}
 
 -- The block of rows b to t - 1, row r from column lo r up to but not including column hi r, as a marking (specs/Hull.antt)
 unfoldable pub inRows : (ℕ → ℕ) → (ℕ → ℕ) → ℕ → ℕ → ℕ → ℕ → Bool
@@ -27,3 +27,7 @@ pub record Marked (test : ℕ → Bool) (c : ℕ) (l m : List ℕ) : Type 0 wher
 pub record RowEnds (o : Outline) (lo hi : List ℕ) : Type 0 where
   pub lo-up : (r : ℕ) → r < 256 → rows lo r ≡ keptColumn upAlong (o .start) (o .letters) r 0
   pub hi-down : (r : ℕ) → r < 256 → rows hi r ≡ keptColumn downAlong (o .start) (o .letters) r 0
+
+-- What next says of rows b to t - 2: of the rows above and below t, the one to which the line from each leans furthest left, the last among equals
+pub record Tangents (lo next : ℕ → ℕ) (b t : ℕ) : Type 0 where
+  pub furthest-left : (i : ℕ) → b ≤ i → suc i < t → next i ≡ furthest lo i (suc i) (suc (suc i)) (t - suc (suc i))

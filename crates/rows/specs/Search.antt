@@ -1,8 +1,7 @@
 -- The lowest missing cell as it is computed, from the ends of the rows alone. That it is the cell of specs/Hull.antt is a theorem of the
 -- crate convexity (`named-lowest`).
-use Prim.Native.Nat.{ℕ, zero, suc, _+_, _-_, _*_, _/_, _≤_, _<_}
-use mathlib.Core.Path.{_≡_}
-use mathlib.Core.Bool.{Bool, cond, _&&_, _||_, true}
+use Prim.Native.Nat.{ℕ, zero, suc, _+_, _-_, _*_, _/_}
+use mathlib.Core.Bool.{Bool, cond, _&&_, _||_}
 use mathlib.Core.List.{List, [], _∷_}
 use lib.Dec.{leb, ltb}
 use Rattle.base.specs.Below.{first}
@@ -29,13 +28,6 @@ leans lo i j k = leb (lo k * (j - i) + lo i * (k - i)) (lo j * (k - i) + lo i * 
 unfoldable pub furthest : (ℕ → ℕ) → ℕ → ℕ → ℕ → ℕ → ℕ
 furthest lo i j k zero = j
 furthest lo i j k (suc n) = furthest lo i (cond (leans lo i j k) k j) (suc k) n
-
--- From row `from` up to row r none leans further than row j, seen from row i; and row r does where it is below t
-pub record Skipped (lo : ℕ → ℕ) (i j from t r : ℕ) : Type 0 where
-  pub on : from ≤ r
-  pub within : r ≤ t
-  pub same : furthest lo i j from (t - from) ≡ furthest lo i j r (t - r)
-  pub leaning : r < t → leans lo i j r ≡ true
 
 -- The first column of row r that is not left of the line from row i to row j
 unfoldable pub crossing : (ℕ → ℕ) → ℕ → ℕ → ℕ → ℕ

@@ -8,9 +8,9 @@ ghost use lib.ListN.{length};
 ghost use lib.Dec.{ltb};
 ghost use Rattle.chart.specs.Limits.{side};
 ghost use Rattle.chart.specs.Outline.{outline};
-ghost use Rattle.rows.specs.Search.{leans as leansOf, furthest as furthestOf, crossing as crossingOf, gapRow, climb as climbOf, lowestGap, foundCell, Skipped};
+ghost use Rattle.rows.specs.Search.{leans as leansOf, furthest as furthestOf, crossing as crossingOf, gapRow, climb as climbOf, lowestGap, foundCell};
 ghost use Rattle.lattice.specs.Enclosed.{upAlong, downAlong};
-ghost use Rattle.rows.specs.Rows.{rows, Marked, RowEnds};
+ghost use Rattle.rows.specs.Rows.{rows, Marked, RowEnds, Tangents};
 
 // A number of 16 bits as an index.
 fn wide(x: u16) -> usize
@@ -86,37 +86,34 @@ fn leans(lo: &[u16; 256], i: usize, j: usize, k: usize) -> bool
     c * near + a * far <= b * far + a * near
 }
 
-// The first row from `from` on, below `t`, that begins at least as far left as row `j` does, seen from row `i`; or `t` where there is none.
-fn first_leaning(lo: &[u16; 256], i: usize, j: usize, from: usize, t: usize) -> usize
-    requires { ⌜ (i ≤ j) × (j < from) × (from ≤ t) × (t ≤ side) ⌝ }
-    ensures { λ r. ⌜ Skipped (rows (now (lo .entry))) i j from t r ⌝ }
-{
-    let mut k = from;
-    while k < t {
-        if leans(lo, i, j, k) {
-            return k;
-        }
-        k += 1;
-    }
-    k
-}
-
-// Of the rows from `i + 1` to `t - 1`, the one to which the line from row `i` leans furthest left, the last among equals.
-fn furthest(lo: &[u16; 256], i: usize, t: usize) -> usize
-    requires { ⌜ (i + 1 < t) × (t ≤ side) ⌝ }
+// Of the rows from `i + 1` to `t - 1`, the one to which the line from row `i` leans furthest left, the last among equals; `next` tells it of the rows above row `i`.
+fn tangent(lo: &[u16; 256], next: &[u16; 256], i: usize, t: usize) -> usize
+    requires { ⌜ (i + 1 < t) × (t ≤ side) × Tangents (rows (now lo)) (rows (now next)) (suc i) t ⌝ }
     ensures { λ r. ⌜ (r ≡ furthestOf (rows (now (lo .entry))) i (suc i) (suc (suc i)) (t - suc (suc i))) × (i < r) × (r < t) ⌝ }
 {
     let mut j = i + 1;
-    let mut k = i + 2;
-    while k < t {
-        let m = first_leaning(lo, i, j, k, t);
-        if t <= m {
+    while j + 1 < t {
+        let k = wide(next[j]);
+        if !leans(lo, i, j, k) {
             return j;
         }
-        j = m;
-        k = m + 1;
+        j = k;
     }
     j
+}
+
+// The same of every row from `b` on, from the top down.
+fn tangents(lo: &[u16; 256], b: usize, t: usize) -> [u16; 256]
+    requires { ⌜ (b ≤ t) × (t ≤ side) ⌝ }
+    ensures { λ r. ⌜ Tangents (rows (now (lo .entry))) (rows r) b t ⌝ }
+{
+    let mut next = [0u16; 256];
+    let mut i = t;
+    while b + 1 < i {
+        i -= 1;
+        next[i - 1] = tangent(lo, &next, i - 1, t) as u16;
+    }
+    next
 }
 
 // The first column of row `r` that is not left of the line from row `i` to row `j`.
@@ -162,9 +159,10 @@ fn climb(lo: &[u16; 256], t: usize, b: usize) -> Point
     requires { ⌜ (b ≤ t) × (t ≤ side) ⌝ }
     ensures { λ r. ⌜ (r ≡ climbOf (rows (now (lo .entry))) t b (t - b)) × (r .row ≤ t) ⌝ }
 {
+    let next = tangents(lo, b, t);
     let mut i = b;
     while i + 1 < t {
-        let j = furthest(lo, i, t);
+        let j = wide(next[i]);
         let r = gap_row(lo, i, j);
         if r < j {
             return Point {

@@ -52,9 +52,10 @@ impl Rows {
 
 /// Up the left side of the hull: the leftmost cell in the hull of the first row that begins right of it.
 fn climb(first: &Columns, bottom: usize, top: usize) -> Option<(i32, usize)> {
+    let next = tangents(first, bottom, top);
     let mut i = bottom;
     while i + 1 < top {
-        let j = furthest_left(first, i, top);
+        let j = usize::from(next[i]);
         if let Some(row) = (i + 1..j).find(|&row| is_gap(first, i, j, row)) {
             return Some((crossing(first, i, j, row), row));
         }
@@ -63,16 +64,28 @@ fn climb(first: &Columns, bottom: usize, top: usize) -> Option<(i32, usize)> {
     None
 }
 
-/// The row above `i` to which the line from row `i` leans furthest left, the last among equals. How far that is stays in hand.
-fn furthest_left(first: &Columns, i: usize, top: usize) -> usize {
-    let from = first[i];
-    let (mut near, mut left) = (1, first[i + 1] - from);
-    for (far, &col) in (2..).zip(&first[i + 2..top]) {
-        if (col - from) * near <= left * far {
-            (near, left) = (far, col - from);
+/// For each row the row above it to which the line from it leans furthest left, the last among equals. It is met on the way up, from row to row so found, and a
+/// row passed by is not looked at again. The next row of the way stays in hand, and how far left the line leans.
+fn tangents(first: &Columns, bottom: usize, top: usize) -> [u8; WIDTH] {
+    let mut next = [0; WIDTH];
+    let last = top.saturating_sub(1);
+    let mut above = last;
+    for i in (bottom..last).rev() {
+        let from = first[i];
+        let mut j = i + 1;
+        let (mut near, mut left) = (1, first[j] - from);
+        while j < last {
+            let (far, further) = (above as i32 - i as i32, first[above] - from);
+            if left * far < further * near {
+                break;
+            }
+            (j, near, left) = (above, far, further);
+            above = usize::from(next[j]);
         }
+        next[i] = j as u8;
+        above = j;
     }
-    i + near as usize
+    next
 }
 
 /// Whether a row begins right of the first column that is not left of the line from row `i` to row `j`: with no division.

@@ -1,0 +1,99 @@
+-- The loop's invariant: of the rows up to row `j`, it is furthest left from row `i`.
+use Prim.Native.Nat.{suc, _+_, _-_, _<_}
+use mathlib.Core.Path.{_≡_, sym, _∙_}
+use native.Mathlib.Omega.{arith}
+use borrow.Author.Tests.{not-true, not-false}
+use denote.Ref.{now}
+use Rattle.rows.specs.Rows.{rows}
+use Rattle.rows.proofs.Side.{Furthest, furthest-start, furthest-furthest}
+use Rattle.rows.proofs.TangentLaws.{furthest-on, furthest-off, furthest-is}
+use Rattle.rows.proofs.tangent.Statement.{statement}
+use Rattle.rows.proofs.tangent.Tie as tie
+
+abbrev Inv-loop : tie.InvT-loop
+Inv-loop lo next i t j₀ j = (i < j) × (j < t) × Furthest (rows lo) i j (suc j)
+
+abbrev μ-loop : tie.MeasureT-loop
+μ-loop lo next i t j₀ j = t - j
+
+add-j : tie.Need-add-j Inv-loop μ-loop
+add-j c = omega arith
+
+loop-holds : tie.Need-loop-holds Inv-loop μ-loop
+loop-holds c =
+    let e : c .args .i + 1 ≡ suc (c .args .i) = omega arith in
+    (omega arith, omega arith, rw e (furthest-start _ _))
+
+add-loop : tie.Need-add-loop Inv-loop μ-loop
+add-loop c = omega arith
+
+mul-wide : tie.Need-mul-wide Inv-loop μ-loop
+mul-wide c = omega arith
+
+element-copy-out-wide : tie.Need-element-copy-out-wide Inv-loop μ-loop
+element-copy-out-wide c = omega arith
+
+wide-requires : tie.Need-wide-requires Inv-loop μ-loop
+wide-requires c κs = tt
+
+-- The row read is furthest left from row `j`
+read-furthest :
+    (c : tie.After-wide Inv-loop μ-loop) →
+    let start = c .before .before .before .before .args in
+    let j = c .before .before .before .loop .j in
+    Furthest (rows (now (start .lo))) j (c .wide .result) (start .t)
+read-furthest c =
+    let start = c .before .before .before .before in
+    let j = c .before .before .before .loop .j in
+    let e = c .wide .ensures .0 ∙ start .pre .2 .furthest-left j (omega arith) (omega arith) in
+    rw e (furthest-furthest (rows (now (start .args .lo))) j (start .args .t) (omega arith))
+
+leans-requires : tie.Need-leans-requires Inv-loop μ-loop
+leans-requires c κs = omega (arith, read-furthest c)
+
+returns : tie.Need-returns Inv-loop μ-loop
+returns c =
+    let args = c .before .before .before .before .before .before .args in
+    let turn = c .before .before .before .before .before .loop in
+    let lo = rows (now (args .lo)) in
+    let k = c .before .before .wide .result in
+    let off = furthest-off lo (args .t) (args .i) (turn .j) k (turn .inv .2) (read-furthest (c .before .before)) (sym (c .before .leans .ensures) ∙ not-true _ (c .if1 .taken)) in
+    (furthest-is lo (args .t) (args .i) (turn .j) (turn .inv .2) (omega arith) off, omega arith, omega arith)
+
+loop-less : tie.Need-loop-less Inv-loop μ-loop
+loop-less c = omega (arith, read-furthest (c .before .before))
+
+loop-again : tie.Need-loop-again Inv-loop μ-loop
+loop-again c =
+    let args = c .before .before .before .before .before .before .args in
+    let turn = c .before .before .before .before .before .loop in
+    let k = c .before .before .wide .result in
+    let read = read-furthest (c .before .before) in (
+      omega arith,
+      omega arith,
+      furthest-on (rows (now (args .lo))) (args .t) (args .i) (turn .j) k (turn .inv .2) read (sym (c .before .leans .ensures) ∙ not-false _ (c .if1 .left)),
+    )
+
+returns-2 : tie.Need-returns-2 Inv-loop μ-loop
+returns-2 c =
+    let args = c .before .before .args in
+    let turn = c .before .loop in
+    (furthest-is (rows (now (args .lo))) (args .t) (args .i) (turn .j) (turn .inv .2) (omega arith) (λ r l m. absurd (omega arith)), omega arith, omega arith)
+
+pub tangent-spec : {M : Type 1} → statement M
+tangent-spec =
+    tie.close
+    (tie.spec
+    Inv-loop
+    μ-loop
+    add-j
+    loop-holds
+    add-loop
+    mul-wide
+    element-copy-out-wide
+    wide-requires
+    leans-requires
+    returns
+    loop-less
+    loop-again
+    returns-2)
