@@ -16,7 +16,7 @@ use Rattle.chart.specs.declared.Refusal.{Refusal}
 use Rattle.chart.specs.declared.Verdict.{Verdict}
 use Rattle.chart.specs.declared.Verdict.the-variants.{Taken, Refused}
 use Rattle.chart.specs.Outline.{Outline, outline}
-use Rattle.lattice.specs.Chart.{cornerAt, size, letterAt}
+use Rattle.lattice.specs.Chart.{cornerAt, size}
 use Rattle.lattice.specs.Refusals.{Simple}
 use Rattle.lattice.proofs.WalkLaws.{Walked, walked, outline-eq}
 use Rattle.survey.specs.declared.Surveyed.the-variants.{Passed, Refused as Stopped}
@@ -25,7 +25,7 @@ use Rattle.survey.specs.Survey.{cornersOf, surveyOf}
 use Rattle.convexity.specs.Cut.{cornerPlace, westPlace, turn, clockwise}
 use Rattle.convexity.specs.Reading.{reversed, reading, border, sentFrom, placeSent}
 use Rattle.convexity.specs.Pieces.{edges}
-use Rattle.convexity.proofs.Reading.{leaving-west, west-first, west-place-first, west-place-later, reading-clockwise, reading-backward, length-reading, simple-reading, clockwise-reading, turn-reading}
+use Rattle.convexity.proofs.Reading.{west-first, west-place-first, west-place-later, reading-clockwise, reading-backward, length-reading, simple-reading, clockwise-reading, turn-reading}
 use Rattle.convexity.proofs.Corners.{corner-reading}
 use Rattle.verdict.specs.Verdict.{turnVerdict, borderVerdict, afterSurvey, verdictOf, withRoom, testOf, lentAfter, edgesAfter}
 use Rattle.verdict.proofs.VerdictLaws.{taken-fits}

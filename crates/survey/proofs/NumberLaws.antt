@@ -1,6 +1,6 @@
 -- On the chart a letter's stride leads from a corner's number to the next one's, and off it to a number that shows it. The order of the numbers, from below or from above, is that of a
 -- piece's frame: the first digit decides, among equals the second, and the place only between two visits of a corner.
-use Prim.Native.Nat.{ℕ, zero, suc, _+_, _-_, _*_, _/_, _%_, _≤_, _<_}
+use Prim.Native.Nat.{ℕ, zero, suc, _+_, _-_, _/_, _%_, _≤_, _<_}
 use native.Mathlib.Decide.{decLt}
 use native.Mathlib.Omega.{arith}
 use mathlib.Core.Path.{_≡_, refl}

@@ -1,13 +1,13 @@
 -- The rest of the walk leaves the chart, or ends away from the start, or else the letter that reached the corner met again is refused.
-use Prim.Native.Nat.{_≤_, _<_}
+use Prim.Native.Nat.{_≤_}
 use native.Mathlib.Omega.{arith}
-use mathlib.Core.Path.{_≡_, sym, _∙_}
+use mathlib.Core.Path.{sym, _∙_}
 use lib.ListN.{length}
 use borrow.Author.Needs.{needs}
 use Rattle.chart.specs.Limits.{longest}
 use Rattle.chart.specs.Outline.{outline}
 use Rattle.lattice.specs.Refusals.{Stays}
-use Rattle.survey.specs.Walks.{Begun, MetAt, RestOf}
+use Rattle.survey.specs.Walks.{RestOf}
 use Rattle.survey.proofs.CheckLaws.{counted-short}
 use Rattle.survey.proofs.SurveyLaws.{none-found, walk-leaves, walk-unclosed, walk-touches}
 use Rattle.survey.proofs.touched.Statement.{statement}

@@ -1,5 +1,5 @@
 -- The loop keeps where the walk stands, the corners met, and the least and the greatest numbers of those passed; the first letter that leaves the chart, and the first corner met again, end it.
-use Prim.Native.Nat.{_-_, _/_, _<_}
+use Prim.Native.Nat.{_-_, _<_}
 use native.Mathlib.Omega.{arith}
 use mathlib.Core.Path.{_≡_, sym, ap, _∙_}
 use lib.ListN.{length}
