@@ -149,8 +149,8 @@ impl Holder {
         })
     }
 
-    /// The piece at a position, counted from 0, of the drawing of the outline at work at a place: a move to its anchor, a line to the
-    /// end of each edge but the last, and a close. The holder stays as it is.
+    /// The piece at a position, counted from 0, of the drawing of the outline at work at a place: it begins at the anchor, goes on
+    /// along the edges, and its close stands for the last of them. The holder stays as it is.
     pub fn piece(&mut self, party: u8, place: u8, position: u16) -> Result<Piece, Refusal> {
         let (mut point, mut numbers) = ([0.0; 2], [0; REPLY]);
         assert!(self.memory.piece(party, place, position, &mut point, &mut numbers), "the reply has room");

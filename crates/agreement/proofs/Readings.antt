@@ -101,7 +101,7 @@ module _ (p k : ℕ) (there : p < parties) (inside : k < places) (cs : List Call
       answers : Answers a es x
       answers = outline-answers (border o) (clear-of o (working .reaches)) x held good
 
-      -- A computed side value is less than 1/64 from the exact one, in units of 2 ^ -149
+      -- Rounding moves a side value by less than 1/64, in units of 2 ^ -149
       pub reading-close : (e : Edge) → List·Memᴰ e (edgesAlong a es) → natAbs (value binary32 (computedSide x e) -ℤ exactSide x e) < 2 ^ 143
       reading-close = answers .close
 

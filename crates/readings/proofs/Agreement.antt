@@ -95,7 +95,7 @@ module _ (a : Point) (es : List ℤ) (r : Reading) (held : Held r) (good : badRe
       let neither = good-both r good in
       (good-number (r .angle) (held .angle) (neither .0), good-number (r .load) (held .load) (neither .1))
 
-  -- The computed side value is finite, and less than 1/64 from the exact one
+  -- The computed side value is finite, and rounding has moved it by less than 1/64
   pub computed-close : (e : Edge) → List·Memᴰ e (edgesAlong a es) → Close (computedSide r e) (exactSide r e)
   computed-close e m = side-close r e (good-numbers .0) (good-numbers .1) (stays-small a es on e m)
 

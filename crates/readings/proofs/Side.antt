@@ -1,4 +1,4 @@
--- A computed side value is less than 1/64 from the exact one. In units let E be 2 ^ 132, and U one, 2 ^ 149. Each difference, below 256 U, may be off by E; its
+-- Rounding moves a side value by less than 1/64. In units let E be 2 ^ 132, and U one, 2 ^ 149. Each difference, below 256 U, may be off by E; its
 -- product, below 65536 U, by 254 E for that and 256 E more; the last difference, below 131072 U, by 512 E more: 2 * (254 + 256) + 512 = 1532, and 1/64 is 2048 E.
 use Prim.Native.Nat.{ℕ, _+_, _*_, _^_, _≤_, _<_}
 use native.Mathlib.Nat.{mul-le-mul, mul-le-mul-right}
@@ -106,7 +106,7 @@ last u v P Q p q h k =
         (n a b x y E D F : ℕ) → n ≤ a + b → b ≤ x + y → a ≤ D → x ≤ 510 * E → y ≤ 510 * E → D ≡ 512 * E → F ≡ 2048 * E → 0 < E → n < F
     sum n a b x y E D F h k l m o d f e = omega arith
 
--- The computed side value is finite, and less than 1/64 from the exact one
+-- The computed side value is finite, and rounding has moved it by less than 1/64
 pub side-close : (r : Reading) (e : Edge) → Good (r .angle) → Good (r .load) → Small e → Close (computedSide r e) (exactSide r e)
 unfolding computedSide exactSide sideValue
 side-close r e p q h =

@@ -23,7 +23,7 @@ pub record Open (a : Point) (es : List ℤ) (r : Reading) : Type 0 where
   pub close : leZ (pos (2 ^ 143)) (value binary32 (computedSide r edge)) ≡ false
 
 pub record Answers (a : Point) (es : List ℤ) (r : Reading) : Type 0 where
-  -- a computed side value is less than 1/64 from the exact one
+  -- rounding moves a side value by less than 1/64
   pub close : (e : Edge) → List·Memᴰ e (edgesAlong a es) → natAbs (value binary32 (computedSide r e) -ℤ exactSide r e) < 2 ^ 143
   -- "inside" is said only where the reading is exactly inside, and "outside" only where it is not
   pub inside : locatedOf a es r ≡ Inside → exactlyInside a es r ≡ true

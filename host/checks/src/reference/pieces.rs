@@ -6,7 +6,7 @@ use super::readings::Polygon;
 use crate::reply::said;
 use crate::Fields;
 
-/// What is said of each position: a move to the anchor, a line to the end of each edge but the last, and a close.
+/// What is said of each position: the drawing begins at the anchor, goes on along the edges, and its close stands for the last of them.
 pub fn pieces(polygon: &Polygon) -> Vec<Fields> {
     let to = |word, cell: &(i64, i64)| Fields { col: cell.0 as u16, row: cell.1 as u16, ..said(word) };
     let (anchor, ends) = polygon.met.split_first().expect("the anchor is met");

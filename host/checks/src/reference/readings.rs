@@ -154,13 +154,13 @@ pub fn broken_claim(polygon: &Polygon, values: Values, word: u16) -> Option<&'st
     let open = polygon.spans(values) && computed.iter().all(|&v| v > -bound) && computed.iter().any(|&v| v < bound);
     let clear = exact.iter().all(|&v| v >= twice) || exact.iter().any(|&v| v <= -twice);
     let claims = [
-        ("a computed side value is less than 1/64 from the exact one", {
+        ("rounding moves a side value by less than 1/64", {
             computed.iter().zip(&exact).all(|(&one, &other)| (one - other).size() < bound)
         }),
         ("what is said to be inside is exactly inside", word != INSIDE || inside),
         ("what is said to be outside is not exactly inside", word != OUTSIDE || !inside),
-        ("undecided is within the extremes, no value at most -1/64 and one below 1/64", (word == UNDECIDED) == open),
-        ("never undecided where every exact value is 1/32 or one is -1/32", word != UNDECIDED || !clear),
+        ("between the extremes undecided is said where the least computed value is between -1/64 and 1/64, and nowhere else", (word == UNDECIDED) == open),
+        ("where the least exact value is 1/32 or more, or -1/32 or less, a reading is decided", word != UNDECIDED || !clear),
     ];
     claims.into_iter().find(|(_, holds)| !holds).map(|(claim, _)| claim)
 }
