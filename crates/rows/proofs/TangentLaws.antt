@@ -5,7 +5,8 @@ use mathlib.Core.Path.{_≡_, refl, sym, ap, _∙_}
 use mathlib.Core.Bool.{Bool, true, false, true≢false}
 use native.Mathlib.Decide.{decLt}
 use native.Mathlib.Omega.{arith}
-use borrow.Author.Tests.{le-leb}
+use lib.Dec.{leb}
+use borrow.Author.Tests.{le-leb, lt-leb}
 use Rattle.base.proofs.BelowLaws.{not-held}
 use Rattle.chart.specs.declared.Point.{Point}
 use Rattle.rows.specs.Search.{leans, furthest}
@@ -24,6 +25,19 @@ right-leans : (lo : ℕ → ℕ) (i j k : ℕ) → i ≤ j → i ≤ k → Right
 unfolding leans
 right-leans lo i j k l m h =
     le-leb _ _ (right-leans-offsets (begin lo i) (begin lo j) (begin lo k) (j - i) (k - i) (omega arith) (omega arith) h)
+
+-- The test without a * x on both sides: the second row is x rows above the first, the third y rows above the first and z rows above the second
+leans-offsets : (a b c x y z : ℕ) → y ≡ x + z → leb (c * x + a * z) (b * y) ≡ leb (c * x + a * y) (b * y + a * x)
+leans-offsets a b c x y z e =
+    let d : a * y ≡ a * x + a * z = omega (arith, ap (λ n. a * n) e) in
+    elim (decLt (b * y) (c * x + a * z)) [
+      | yes l ↦ rw (lt-leb (c * x + a * z) (b * y) l, lt-leb (c * x + a * y) (b * y + a * x) (omega arith))
+      | no l ↦ rw (le-leb (c * x + a * z) (b * y) (omega arith), le-leb (c * x + a * y) (b * y + a * x) (omega arith))
+    ]
+
+pub leans-columns : (lo : ℕ → ℕ) (i j k : ℕ) → i ≤ j → j ≤ k → leb (lo k * (j - i) + lo i * (k - i - (j - i))) (lo j * (k - i)) ≡ leans lo i j k
+unfolding leans
+leans-columns lo i j k l m = leans-offsets (lo i) (lo j) (lo k) (j - i) (k - i) (k - i - (j - i)) (omega arith)
 
 -- Row j is furthest left from row i of the rows up to itself, and row k is furthest left from row j
 module _ (lo : ℕ → ℕ) (t i j k : ℕ) (f : Furthest lo i j (suc j)) (g : Furthest lo j k t) where

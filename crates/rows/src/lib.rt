@@ -2,13 +2,13 @@
 use chart::Point;
 use chart::SIDE;
 use lattice::walk;
-ghost use Prim.Native.Nat.{ℕ, suc, _+_, _-_, _<_, _≤_};
+ghost use Prim.Native.Nat.{ℕ, suc, _+_, _-_, _*_, _<_, _≤_};
 ghost use mathlib.Core.Path.{_≡_};
 ghost use lib.ListN.{length};
-ghost use lib.Dec.{ltb};
+ghost use lib.Dec.{leb, ltb};
 ghost use Rattle.chart.specs.Limits.{side};
 ghost use Rattle.chart.specs.Outline.{outline};
-ghost use Rattle.rows.specs.Search.{leans as leansOf, furthest as furthestOf, crossing as crossingOf, gapRow, climb as climbOf, lowestGap, foundCell};
+ghost use Rattle.rows.specs.Search.{furthest as furthestOf, crossing as crossingOf, gapRow, climb as climbOf, lowestGap, foundCell};
 ghost use Rattle.lattice.specs.Enclosed.{upAlong, downAlong};
 ghost use Rattle.rows.specs.Rows.{rows, Marked, RowEnds, Tangents};
 
@@ -73,17 +73,12 @@ fn begins(lo: &[u16; 256], r: usize) -> usize
     wide(lo[r])
 }
 
-// Seen from row `i`, row `k` begins at least as far left as row `j` does.
-fn leans(lo: &[u16; 256], i: usize, j: usize, k: usize) -> bool
-    requires { ⌜ (i ≤ j) × (i ≤ k) × (j < 256) × (k < 256) ⌝ }
-    ensures { λ r. ⌜ r ≡ leansOf (rows (now (lo .entry))) i j k ⌝ }
+// Seen from a row that begins at column `a`, the row `far` rows above it, which begins at `c`, is at least as far left as the row `near` rows above it, which begins at `b`.
+fn leans(a: usize, b: usize, c: usize, near: usize, far: usize) -> bool
+    requires { ⌜ (a < 65536) × (b < 65536) × (c < 65536) × (near ≤ far) × (far < 256) ⌝ }
+    ensures { λ r. ⌜ r ≡ leb (c * near + a * (far - near)) (b * far) ⌝ }
 {
-    let a = begins(lo, i);
-    let b = begins(lo, j);
-    let c = begins(lo, k);
-    let near = j - i;
-    let far = k - i;
-    c * near + a * far <= b * far + a * near
+    c * near + a * (far - near) <= b * far
 }
 
 // Of the rows from `i + 1` to `t - 1`, the one to which the line from row `i` leans furthest left, the last among equals; `next` tells it of the rows above row `i`.
@@ -91,13 +86,17 @@ fn tangent(lo: &[u16; 256], next: &[u16; 256], i: usize, t: usize) -> usize
     requires { ⌜ (i + 1 < t) × (t ≤ side) × Tangents (rows (now lo)) (rows (now next)) (suc i) t ⌝ }
     ensures { λ r. ⌜ (r ≡ furthestOf (rows (now (lo .entry))) i (suc i) (suc (suc i)) (t - suc (suc i))) × (i < r) × (r < t) ⌝ }
 {
+    let a = begins(lo, i);
     let mut j = i + 1;
+    let mut b = begins(lo, j);
     while j + 1 < t {
         let k = wide(next[j]);
-        if !leans(lo, i, j, k) {
+        let c = begins(lo, k);
+        if !leans(a, b, c, j - i, k - i) {
             return j;
         }
         j = k;
+        b = c;
     }
     j
 }
