@@ -48,10 +48,8 @@ impl Turn {
         let mut turn = Turn { letters: [0; LONGEST], count, west, west_place: place, backward, cut_places };
         let (before, after) = letters.split_at(place);
         if backward {
-            let back = before.iter().rev().chain(after.iter().rev());
-            for (to, letter) in turn.letters.iter_mut().zip(back) {
-                *to = letter ^ 2;
-            }
+            copy_back(before, &mut turn.letters[..place]);
+            copy_back(after, &mut turn.letters[place..count]);
             turn.west_place = if place == 0 { count - 1 } else { place - 1 };
         } else {
             turn.letters[..after.len()].copy_from_slice(after);
@@ -73,6 +71,13 @@ impl Turn {
             true if place <= west => west - place,
             true => west + count - place,
         }
+    }
+}
+
+/// Letters from the last to the first, each as the letter of the way back.
+fn copy_back(letters: &[u8], turn: &mut [u8]) {
+    for (to, letter) in turn.iter_mut().zip(letters.iter().rev()) {
+        *to = letter ^ 2;
     }
 }
 
