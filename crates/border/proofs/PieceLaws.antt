@@ -78,7 +78,7 @@ module _ {t : Turn} {o : Outline} (h : ReadAs t o) where
   unfolding cellFound
   cell-found f =
       f ∙ rw (h .bottom, h .top)
-      (found-missing o (h .walk .simple .started) (h .walk .simple .stays) (cornerAt o (cornerPlace o 3) .row) (cornerAt o (cornerPlace o 1) .row)
+      (found-missing o (h .walk .simple) (cornerAt o (cornerPlace o 3) .row) (cornerAt o (cornerPlace o 1) .row)
       (bottom-le-top (h .walk)) (top-le-side (h .walk)))
 
   pub dent-named : (k i l : ℕ) {forward : Bool} {place : ℕ} {cell : Point} → i ≤ 4 * longest → SentTo forward (size o) (t .place) i place

@@ -1,6 +1,6 @@
--- Walks and their rotations; jumps across sides; the right hand; the laws of the code; the simplest outlines.
+-- Walks and their rotations; jumps across sides; the right hand; walks that stay on the chart; the simplest outlines.
 pub mod WalkLaws
 pub mod Jumps
 pub mod RightHand
-pub mod WalkCode
+pub mod Staying
 pub mod HullLaws

@@ -1,26 +1,26 @@
 -- The ends of the rows, letter by letter: the columns kept so far and the letters that are left give the last up and the last down along each row. On
 -- the chart these are the outline's own.
-use Prim.Native.Nat.{ℕ, zero, suc, _+_, _≤_, _<_}
+use Prim.Native.Nat.{ℕ, zero, suc, _+_, _-_, _*_, _%_, _^_, _≤_, _<_}
 use mathlib.Core.Path.{_≡_, refl, sym, ap, _∙_}
-use mathlib.Core.Bool.{Bool, true, false, cond, _&&_, _||_, and-true, true≢false}
+use mathlib.Core.Bool.{Bool, true, false, cond, _||_, true≢false}
 use mathlib.Core.List.{List, [], _∷_}
 use native.Mathlib.Numerals.{add-one}
 use native.Mathlib.Omega.{arith}
-use lib.ListN.{length, drop, set, replicate, length-set, length-replicate, getD-replicate, drop-of-length-le}
+use lib.ListN.{length, getD, drop, set, replicate, length-set, length-replicate, getD-replicate, drop-of-length-le}
 use lib.Seq.{drop-cons, getD-set-same, getD-set-other}
-use lib.Dec.{eqb, leb, ltb}
-use borrow.Author.Tests.{eqb-true, eq-eqb, le-leb, le-ltb, lt-ltb, leb-true}
+use lib.Dec.{eqb, ltb}
+use borrow.Author.Tests.{eqb-true, eq-eqb, le-ltb, lt-ltb}
 use Rattle.base.proofs.BelowLaws.{and-left, and-right}
 use Rattle.chart.specs.Limits.{side}
 use Rattle.chart.specs.declared.Point.{Point}
 use Rattle.chart.specs.Outline.{Outline}
-use Rattle.lattice.specs.Chart.{step, stepped, cornerAt, size, letterAt}
-use Rattle.lattice.specs.Refusals.{badStart, Stays}
+use Rattle.lattice.specs.Chart.{step, leaves, cornerAt, size, letterAt}
+use Rattle.lattice.specs.Refusals.{Simple}
 use Rattle.lattice.specs.Enclosed.{upAlong, downAlong}
-use Rattle.rows.specs.Search.{upColumn, downColumn, lowestGap, keptColumn, missingCell, foundCell}
+use Rattle.rows.specs.Search.{upColumn, downColumn, lowestGap, numbered, cornerOf, stride, rolled, keptColumn, keptUp, keptDown, missingCell, foundCell}
 use Rattle.rows.specs.Rows.{rows, Marked, RowEnds}
-use Rattle.lattice.proofs.WalkLaws.{OnChart, corner-zero, corner-suc, corners-on-chart}
-use Rattle.lattice.proofs.WalkCode.{stepped-staying, stays-at, start-on-chart}
+use Rattle.lattice.proofs.WalkLaws.{Walked, walked, point-eq, corner-zero, corner-suc}
+use Rattle.lattice.proofs.Staying.{stays-right, stays-up, stays-left, stays-down}
 use Rattle.rows.proofs.SearchLaws.{lowestGap-same}
 
 -- An up (a down) along row r, and the row of one
@@ -44,67 +44,72 @@ along-down p a r h k = rw (eq-eqb a 3 h) (eq-eqb (p .row) (suc r) k)
 
 -- A store at the one row of which the test holds, and none where it holds of no row
 module _ (test : ℕ → Bool) (c : ℕ) (l : List ℕ) (size : length l ≡ 256) where
-  pub marked-set : (x : ℕ) → x < 256 → c ≤ side → test x ≡ true → ((r : ℕ) → test r ≡ true → r ≡ x) → Marked test c l (set l x c)
-  marked-set x h k t only = record { size = length-set l x c ∙ size; marked = λ r n. rw (le-leb c side k) (go r (test r) refl) }
+  pub marked-set : (x : ℕ) → x < 256 → test x ≡ true → ((r : ℕ) → test r ≡ true → r ≡ x) → Marked test c l (set l x c)
+  marked-set x h t only = record { size = length-set l x c ∙ size; marked = λ r n. go r (test r) refl }
     where
-      go : (r : ℕ) (b : Bool) → test r ≡ b → rows (set l x c) r ≡ cond (b && true) c (rows l r)
+      go : (r : ℕ) (b : Bool) → test r ≡ b → rows (set l x c) r ≡ cond b c (rows l r)
       go r true e = rw (only r e) (getD-set-same l x c 0 (omega arith))
       go r false e = getD-set-other l x r c 0 (λ d. true≢false (sym t ∙ ap test (sym d) ∙ e))
 
-  pub marked-none : ((r : ℕ) → r < 256 → c ≤ side → test r ≡ true → ⊥) → Marked test c l l
-  marked-none none = record { size = size; marked = λ r n. go r n (test r) (leb c side) refl refl }
+  pub marked-none : ((r : ℕ) → test r ≡ true → ⊥) → Marked test c l l
+  marked-none none = record { size = size; marked = λ r n. go r (test r) refl }
     where
-      go : (r : ℕ) → r < 256 → (b d : Bool) → test r ≡ b → leb c side ≡ d → rows l r ≡ cond (b && d) c (rows l r)
-      go r n true true e f = absurd (none r n (leb-true c side f) e)
-      go r n true false e f = refl
-      go r n false d e f = refl
+      go : (r : ℕ) (b : Bool) → test r ≡ b → rows l r ≡ cond b c (rows l r)
+      go r true e = absurd (none r e)
+      go r false e = refl
 
--- The columns l that are kept of the letters before place i, where the walk stands at p, and what the letters from there on make of them
-pub record Kept (along : Point → ℕ → ℕ → Bool) (o : Outline) (i : ℕ) (p : Point) (l : List ℕ) : Type 0 where
+-- The columns l that are kept of the letters before place i, where the walk stands at corner n, and what the letters from there on make of them
+pub record Kept (along : Point → ℕ → ℕ → Bool) (n₀ : ℕ) (w : List ℕ) (i n : ℕ) (l : List ℕ) : Type 0 where
   pub size : length l ≡ 256
-  pub rest : (r : ℕ) → r < 256 → keptColumn along p (drop i (o .letters)) r (rows l r) ≡ keptColumn along (o .start) (o .letters) r 0
+  pub rest : (r : ℕ) → r < 256 → keptColumn along n (drop i w) r (rows l r) ≡ keptColumn along n₀ w r 0
 
 -- The same for ups and downs
-module _ (along : Point → ℕ → ℕ → Bool) (o : Outline) where
-  kept-start : Kept along o 0 (o .start) (replicate 256 0)
+module _ (along : Point → ℕ → ℕ → Bool) (n₀ : ℕ) (w : List ℕ) where
+  kept-start : Kept along n₀ w 0 n₀ (replicate 256 0)
   kept-start =
       record {
         size = length-replicate {A = ℕ} 256 0;
-        rest = λ r h. ap (keptColumn along (o .start) (o .letters) r) (getD-replicate {A = ℕ} 256 r 0 0 h);
+        rest = λ r h. ap (keptColumn along n₀ w r) (getD-replicate {A = ℕ} 256 r 0 0 h);
       }
 
   kept-next :
-      (i : ℕ) (p q : Point) (l m : List ℕ) → i < size o → Marked (along p (letterAt o i)) (p .col) l m → q ≡ stepped p (letterAt o i) →
-      Kept along o i p l → Kept along o (i + 1) q m
+      (i n m : ℕ) (l l′ : List ℕ) → i < length w → Marked (along (cornerOf n) (getD w i 0)) (n % 256) l l′ → m ≡ rolled n (getD w i 0) →
+      Kept along n₀ w i n l → Kept along n₀ w (i + 1) m l′
   unfolding keptColumn
-  kept-next i p q l m h d e k = record { size = d .size; rest = λ r n. go r n (k .rest r n) }
+  kept-next i n m l l′ h d e k = record { size = d .size; rest = λ r b. go r b (k .rest r b) }
     where
-      go : (r : ℕ) → r < 256 → keptColumn along p (drop i (o .letters)) r (rows l r) ≡ keptColumn along (o .start) (o .letters) r 0
-          → keptColumn along q (drop (i + 1) (o .letters)) r (rows m r) ≡ keptColumn along (o .start) (o .letters) r 0
-      go r n f = rw (e, add-one i, d .marked r n) (rw (drop-cons (o .letters) i 0 h) at f)
+      go : (r : ℕ) → r < 256 → keptColumn along n (drop i w) r (rows l r) ≡ keptColumn along n₀ w r 0
+          → keptColumn along m (drop (i + 1) w) r (rows l′ r) ≡ keptColumn along n₀ w r 0
+      go r b f = rw (e, add-one i, d .marked r b) (rw (drop-cons w i 0 h) at f)
 
-  kept-end : (i : ℕ) (p : Point) (l : List ℕ) → size o ≤ i → Kept along o i p l → (r : ℕ) → r < 256 → rows l r ≡ keptColumn along (o .start) (o .letters) r 0
+  kept-end : (i n : ℕ) (l : List ℕ) → length w ≤ i → Kept along n₀ w i n l → (r : ℕ) → r < 256 → rows l r ≡ keptColumn along n₀ w r 0
   unfolding keptColumn
-  kept-end i p l h k r n = rw (drop-of-length-le (o .letters) h) at (k .rest r n)
+  kept-end i n l h k r b = rw (drop-of-length-le w h) at (k .rest r b)
 
 -- All that the loop over the letters keeps
-pub record Marks (o : Outline) (i : ℕ) (p : Point) (lo hi : List ℕ) : Type 0 where
-  pub ups : Kept upAlong o i p lo
-  pub downs : Kept downAlong o i p hi
+pub record Marks (n₀ : ℕ) (w : List ℕ) (i n : ℕ) (lo hi : List ℕ) : Type 0 where
+  pub ups : Kept upAlong n₀ w i n lo
+  pub downs : Kept downAlong n₀ w i n hi
 
-module _ (o : Outline) where
-  pub marks-start : Marks o 0 (o .start) (replicate 256 0) (replicate 256 0)
-  marks-start = record { ups = kept-start upAlong o; downs = kept-start downAlong o }
+-- The number of the next corner as it is added up
+pub rolled-sum : (n a b m : ℕ) → b ≡ stride (a % 4) → m ≡ (n + b) % 2 ^ 16 → m ≡ rolled n a
+unfolding rolled
+rolled-sum n a b m h e = rw (e, h)
 
-  module _ (i : ℕ) (p q : Point) (lo hi lo′ hi′ : List ℕ) where
+module _ (n₀ : ℕ) (w : List ℕ) where
+  pub marks-start : Marks n₀ w 0 n₀ (replicate 256 0) (replicate 256 0)
+  marks-start = record { ups = kept-start upAlong n₀ w; downs = kept-start downAlong n₀ w }
+
+  module _ (i n m : ℕ) (lo hi lo′ hi′ : List ℕ) where
     pub marks-next :
-        i < size o → Marked (upAlong p (letterAt o i)) (p .col) lo lo′ → Marked (downAlong p (letterAt o i)) (p .col) hi hi′ →
-        q ≡ stepped p (letterAt o i) → Marks o i p lo hi → Marks o (i + 1) q lo′ hi′
+        i < length w → Marked (upAlong (cornerOf n) (getD w i 0)) (n % 256) lo lo′ → Marked (downAlong (cornerOf n) (getD w i 0)) (n % 256) hi hi′ →
+        m ≡ rolled n (getD w i 0) → Marks n₀ w i n lo hi → Marks n₀ w (i + 1) m lo′ hi′
     marks-next h u d e t =
-        record { ups = kept-next upAlong o i p q lo lo′ h u e (t .ups); downs = kept-next downAlong o i p q hi hi′ h d e (t .downs) }
+        record { ups = kept-next upAlong n₀ w i n m lo lo′ h u e (t .ups); downs = kept-next downAlong n₀ w i n m hi hi′ h d e (t .downs) }
 
-  pub marks-end : (i : ℕ) (p : Point) (lo hi : List ℕ) → size o ≤ i → Marks o i p lo hi → RowEnds o lo hi
-  marks-end i p lo hi h t = record { lo-up = kept-end upAlong o i p lo h (t .ups); hi-down = kept-end downAlong o i p hi h (t .downs) }
+pub marks-end : (o : Outline) (i n : ℕ) (lo hi : List ℕ) → size o ≤ i → Marks (numbered (o .start)) (o .letters) i n lo hi → RowEnds o lo hi
+marks-end o i n lo hi h t =
+    record { lo-up = kept-end upAlong _ (o .letters) i n lo h (t .ups); hi-down = kept-end downAlong _ (o .letters) i n hi h (t .downs) }
 
 -- ---- the search, by the order of its rows
 
@@ -121,38 +126,66 @@ module _ (o : Outline) (b t : ℕ) where
   unfolding foundCell
   found-below h = rw (lt-ltb t b h, or-true (ltb side t))
 
-  pub found-gap : b ≤ t → t ≤ side → foundCell o b t ≡ lowestGap (λ r. keptColumn upAlong (o .start) (o .letters) r 0) (λ r. keptColumn downAlong (o .start) (o .letters) r 0) b t
+  pub found-gap : b ≤ t → t ≤ side → foundCell o b t ≡ lowestGap (keptUp o) (keptDown o) b t
   unfolding foundCell
   found-gap h k = rw (le-ltb side t k, le-ltb t b h)
 
--- ---- walks that stay on the chart
+-- ---- outlines
 
-module _ (o : Outline) (start : badStart (o .start) ≡ false) (stays : Stays o) where
-  on-chart : (i : ℕ) → i ≤ size o → OnChart (cornerAt o i)
-  on-chart = corners-on-chart o (start-on-chart (o .start) start) (stays-at o stays)
+-- A corner of the chart has its number, and a letter that does not leave the chart reaches the number of the next
+corner-numbered : (p : Point) → p .col ≤ side → p .row ≤ side → cornerOf (numbered p) ≡ p
+corner-numbered p h k = point-eq (cornerOf (numbered p)) p (omega arith) (omega arith)
 
-  kept-more : (along : Point → ℕ → ℕ → Bool) (p : Point) (a : ℕ) (v : List ℕ) (r d : ℕ)
-      → keptColumn along p (a ∷ v) r d ≡ keptColumn along (stepped p a) v r (cond (along p a r && leb (p .col) side) (p .col) d)
-  unfolding keptColumn
-  kept-more along p a v r d = refl
+one-less : (n : ℕ) → 0 < n → n < 65536 → (n + 65535) % 65536 ≡ n - 1
+one-less n h k = omega arith
 
-  -- No letter of the walk leaves the chart, so each is taken, and each up and down begins on it
-  pub kept-column : (along : Point → ℕ → ℕ → Bool) (column : Point → List ℕ → ℕ → ℕ → ℕ) → ((p : Point) (r d : ℕ) → column p [] r d ≡ d) →
+number-left : (c r : ℕ) → 0 < c → c ≤ side → r ≤ side → r % 256 * 256 + c % 256 - 1 ≡ r % 256 * 256 + (c - 1) % 256
+number-left c r l h k = omega arith
+
+rolled-staying : (p : Point) (a : ℕ) → p .col ≤ side → p .row ≤ side → a < 4 → leaves p a ≡ false → rolled (numbered p) a ≡ numbered (step p a)
+unfolding rolled step
+rolled-staying p zero h k l e = omega (arith, stays-right p 0 e refl)
+rolled-staying p (suc zero) h k l e = omega (arith, stays-up p 1 e refl)
+rolled-staying p (suc (suc zero)) h k l e =
+    let low : 0 < p .col = omega (arith, stays-left p 2 e refl) in one-less (numbered p) (omega arith) (omega arith) ∙ number-left (p .col) (p .row) low h k
+rolled-staying p (suc (suc (suc zero))) h k l e = omega (arith, stays-down p 3 e refl)
+rolled-staying p (suc (suc (suc (suc a)))) h k l e = absurd (omega arith)
+
+kept-more : (along : Point → ℕ → ℕ → Bool) {p : Point} {m : ℕ} (n a : ℕ) (v : List ℕ) (r d : ℕ) → cornerOf n ≡ p → rolled n a ≡ m
+    → keptColumn along n (a ∷ v) r d ≡ keptColumn along m v r (cond (along p a r) (p .col) d)
+unfolding keptColumn
+kept-more along n a v r d e f i = keptColumn along (f i) v r (cond (along (e i) a r) (e i .col) d)
+
+module _ (o : Outline) (simple : Simple o) where
+  walk : Walked o
+  walk = walked o simple
+
+  -- No letter of an outline leaves the chart, so each reaches its own corner
+  kept-column : (along : Point → ℕ → ℕ → Bool) (column : Point → List ℕ → ℕ → ℕ → ℕ) → ((p : Point) (r d : ℕ) → column p [] r d ≡ d) →
       ((p : Point) (a : ℕ) (v : List ℕ) (r d : ℕ) → column p (a ∷ v) r d ≡ column (step p a) v r (cond (along p a r) (p .col) d)) →
-      (r m i d : ℕ) → i + m ≡ size o → keptColumn along (cornerAt o i) (drop i (o .letters)) r d ≡ column (cornerAt o i) (drop i (o .letters)) r d
+      (r m i d : ℕ) → i + m ≡ size o → keptColumn along (numbered (cornerAt o i)) (drop i (o .letters)) r d ≡ column (cornerAt o i) (drop i (o .letters)) r d
   unfolding keptColumn
   kept-column along column none more r zero i d h = let e : size o ≤ i = omega arith in rw (drop-of-length-le (o .letters) e) (sym (none (cornerAt o i) r d))
   kept-column along column none more r (suc m) i d h =
       let l : i < size o = omega arith in
       let p : Point = cornerAt o i in
       let a : ℕ = letterAt o i in
-      rw (drop-cons (o .letters) i 0 l, more p a (drop (suc i) (o .letters)) r d, kept-more along p a (drop (suc i) (o .letters)) r d, stepped-staying p a (stays-at o stays i l), ← corner-suc o i l, le-leb (p .col) side (on-chart i (omega arith) .col), and-true (along p a r))
-      (kept-column along column none more r m (suc i) (cond (along p a r) (p .col) d) (omega arith))
+      let v : List ℕ = drop (suc i) (o .letters) in
+      let col : p .col ≤ side = walk .col-le i (omega arith) in
+      let row : p .row ≤ side = walk .row-le i (omega arith) in
+      let next : rolled (numbered p) a ≡ numbered (cornerAt o (suc i)) =
+      rolled-staying p a col row (walk .letter i l) (walk .stays i l) ∙ ap (λ (q : Point). numbered q) (sym (corner-suc o i l)) in
+      rw (drop-cons (o .letters) i 0 l, more p a v r d, ← corner-suc o i l)
+      (kept-more along (numbered p) a v r d (corner-numbered p col row) next ∙ kept-column along column none more r m (suc i) (cond (along p a r) (p .col) d) (omega arith))
+
+  pub kept-up : (r : ℕ) → keptUp o r ≡ upColumn (o .start) (o .letters) r 0
+  unfolding upColumn
+  kept-up r = rw (corner-zero o) at (kept-column upAlong upColumn (λ p r d. refl) (λ p a v r d. refl) r (size o) 0 0 (omega arith))
+
+  pub kept-down : (r : ℕ) → keptDown o r ≡ downColumn (o .start) (o .letters) r 0
+  unfolding downColumn
+  kept-down r = rw (corner-zero o) at (kept-column downAlong downColumn (λ p r d. refl) (λ p a v r d. refl) r (size o) 0 0 (omega arith))
 
   pub found-missing : (b t : ℕ) → b ≤ t → t ≤ side → foundCell o b t ≡ missingCell o b t
-  unfolding missingCell upColumn downColumn
-  found-missing b t h k =
-      found-gap o b t h k ∙
-      (lowestGap-same _ _ _ _ b t
-      (λ r l. rw (corner-zero o) at (kept-column upAlong upColumn (λ p r d. refl) (λ p a v r d. refl) r (size o) 0 0 (omega arith)))
-      (λ r l. rw (corner-zero o) at (kept-column downAlong downColumn (λ p r d. refl) (λ p a v r d. refl) r (size o) 0 0 (omega arith))))
+  unfolding missingCell
+  found-missing b t h k = found-gap o b t h k ∙ lowestGap-same _ _ _ _ b t (λ r l. kept-up r) (λ r l. kept-down r)

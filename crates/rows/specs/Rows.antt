@@ -5,10 +5,8 @@ use mathlib.Core.Bool.{Bool, cond, _&&_}
 use mathlib.Core.List.{List}
 use lib.ListN.{length, getD}
 use lib.Dec.{leb, ltb}
-use Rattle.chart.specs.Limits.{side}
 use Rattle.chart.specs.Outline.{Outline}
-use Rattle.lattice.specs.Enclosed.{upAlong, downAlong}
-use Rattle.rows.specs.Search.{keptColumn, furthest}
+use Rattle.rows.specs.Search.{keptUp, keptDown, furthest}
 
 -- The block of rows b to t - 1, row r from column lo r up to but not including column hi r, as a marking (specs/Hull.antt)
 unfoldable pub inRows : (ℕ → ℕ) → (ℕ → ℕ) → ℕ → ℕ → ℕ → ℕ → Bool
@@ -18,15 +16,15 @@ inRows lo hi b t c r = (leb b r && ltb r t) && (leb (lo r) c && ltb c (hi r))
 abbrev pub rows : List ℕ → ℕ → ℕ
 rows l r = getD l r 0
 
--- m is l with the column c, where that is one of the chart's, at the rows of which the test holds
+-- m is l with the column c at the rows of which the test holds
 pub record Marked (test : ℕ → Bool) (c : ℕ) (l m : List ℕ) : Type 0 where
   pub size : length m ≡ 256
-  pub marked : (r : ℕ) → r < 256 → rows m r ≡ cond (test r && leb c side) c (rows l r)
+  pub marked : (r : ℕ) → r < 256 → rows m r ≡ cond (test r) c (rows l r)
 
 -- What lo and hi say of the rows: the columns of the last up and of the last down along each
 pub record RowEnds (o : Outline) (lo hi : List ℕ) : Type 0 where
-  pub lo-up : (r : ℕ) → r < 256 → rows lo r ≡ keptColumn upAlong (o .start) (o .letters) r 0
-  pub hi-down : (r : ℕ) → r < 256 → rows hi r ≡ keptColumn downAlong (o .start) (o .letters) r 0
+  pub lo-up : (r : ℕ) → r < 256 → rows lo r ≡ keptUp o r
+  pub hi-down : (r : ℕ) → r < 256 → rows hi r ≡ keptDown o r
 
 -- What next says of rows b to t - 2: of the rows above and below t, the one to which the line from each leans furthest left, the last among equals
 pub record Tangents (lo next : ℕ → ℕ) (b t : ℕ) : Type 0 where

@@ -1,14 +1,14 @@
 -- The lowest missing cell as it is computed, from the ends of the rows alone. That it is the cell of specs/Hull.antt is a theorem of the
 -- crate convexity (`named-lowest`).
-use Prim.Native.Nat.{ℕ, zero, suc, _+_, _-_, _*_, _/_}
-use mathlib.Core.Bool.{Bool, cond, _&&_, _||_}
+use Prim.Native.Nat.{ℕ, zero, suc, _+_, _-_, _*_, _/_, _%_}
+use mathlib.Core.Bool.{Bool, cond, _||_}
 use mathlib.Core.List.{List, [], _∷_}
 use lib.Dec.{leb, ltb}
 use Rattle.base.specs.Below.{first}
 use Rattle.chart.specs.Limits.{side}
 use Rattle.chart.specs.declared.Point.{Point}
 use Rattle.chart.specs.Outline.{Outline}
-use Rattle.lattice.specs.Chart.{step, stepped}
+use Rattle.lattice.specs.Chart.{step}
 use Rattle.lattice.specs.Enclosed.{upAlong, downAlong}
 
 -- The corner column of the last up (down) along row r, or d where there is none
@@ -61,12 +61,35 @@ missingCell o b t = lowestGap (λ r. upColumn (o .start) (o .letters) r 0) (λ r
 
 -- ---- for walks of any kind
 
--- The column kept for row r: that of the last up (or down) along it that begins on the chart. A letter that would leave the chart is not taken
-unfoldable pub keptColumn : (Point → ℕ → ℕ → Bool) → Point → List ℕ → ℕ → ℕ → ℕ
-keptColumn along p [] r d = d
-keptColumn along p (a ∷ w) r d = keptColumn along (stepped p a) w r (cond (along p a r && leb (p .col) side) (p .col) d)
+-- The chart's corners by number, row by row, 256 to a row; what a letter below 4 adds to the number, by sums modulo 65536. A letter that would leave the
+-- chart goes on at another of its corners
+abbrev pub numbered : Point → ℕ
+numbered p = p .row % 256 * 256 + p .col % 256
+
+abbrev pub cornerOf : ℕ → Point
+cornerOf n = record { col = n % 256; row = n / 256 }
+
+abbrev pub stride : ℕ → ℕ
+stride zero = 1
+stride (suc zero) = 256
+stride (suc (suc zero)) = 65535
+stride (suc (suc (suc a))) = 65280
+
+unfoldable pub rolled : ℕ → ℕ → ℕ
+rolled n a = (n + stride (a % 4)) % 65536
+
+-- The column kept for row r: that of the last up (or down) along it
+unfoldable pub keptColumn : (Point → ℕ → ℕ → Bool) → ℕ → List ℕ → ℕ → ℕ → ℕ
+keptColumn along n [] r d = d
+keptColumn along n (a ∷ w) r d = keptColumn along (rolled n a) w r (cond (along (cornerOf n) a r) (n % 256) d)
+
+abbrev pub keptUp : Outline → ℕ → ℕ
+keptUp o r = keptColumn upAlong (numbered (o .start)) (o .letters) r 0
+
+abbrev pub keptDown : Outline → ℕ → ℕ
+keptDown o r = keptColumn downAlong (numbered (o .start)) (o .letters) r 0
 
 -- The same search for every start, all letters and any two rows: the start itself where the rows are none of the chart's in their order. For an outline
 -- it is the lowest missing cell (proofs/RowLaws.antt: `found-missing`)
 unfoldable pub foundCell : Outline → ℕ → ℕ → Point
-foundCell o b t = cond (ltb side t || ltb t b) (o .start) (lowestGap (λ r. keptColumn upAlong (o .start) (o .letters) r 0) (λ r. keptColumn downAlong (o .start) (o .letters) r 0) b t)
+foundCell o b t = cond (ltb side t || ltb t b) (o .start) (lowestGap (keptUp o) (keptDown o) b t)

@@ -1,14 +1,13 @@
 // The lowest missing cell, from the ends of the rows.
 use chart::Point;
 use chart::SIDE;
-use lattice::walk;
-ghost use Prim.Native.Nat.{ℕ, suc, _+_, _-_, _*_, _<_, _≤_};
+ghost use Prim.Native.Nat.{ℕ, suc, _+_, _-_, _*_, _%_, _<_, _≤_};
 ghost use mathlib.Core.Path.{_≡_};
 ghost use lib.ListN.{length};
 ghost use lib.Dec.{leb, ltb};
 ghost use Rattle.chart.specs.Limits.{side};
 ghost use Rattle.chart.specs.Outline.{outline};
-ghost use Rattle.rows.specs.Search.{furthest as furthestOf, crossing as crossingOf, gapRow, climb as climbOf, lowestGap, foundCell};
+ghost use Rattle.rows.specs.Search.{furthest as furthestOf, crossing as crossingOf, gapRow, climb as climbOf, lowestGap, cornerOf, stride as strideOf, foundCell};
 ghost use Rattle.lattice.specs.Enclosed.{upAlong, downAlong};
 ghost use Rattle.rows.specs.Rows.{rows, Marked, RowEnds, Tangents};
 
@@ -25,41 +24,54 @@ pub struct Ends {
     pub hi: [u16; 256],
 }
 
-// An up along a row begins it.
-fn mark_up(lo: &mut [u16; 256], p: Point, letter: u8)
-    requires { ⌜ length (now lo) ≡ 256 ⌝ }
-    ensures { λ _. ⌜ Marked (upAlong p letter) (p .col) (now (lo .entry)) (now (lo .exit)) ⌝ }
+// What a letter adds to the number of a corner: row by row, 256 to a row, by sums modulo 65536.
+fn stride(letter: u8) -> u16
+    ensures { λ r. ⌜ r ≡ strideOf (letter % 4) ⌝ }
 {
-    let row = wide(p.row);
-    if letter == 1 && row < 256 && p.col <= SIDE {
-        lo[row] = p.col;
+    match letter % 4 {
+        0 => 1,
+        1 => 256,
+        2 => 65535,
+        _ => 65280,
+    }
+}
+
+// An up along a row begins it.
+fn mark_up(lo: &mut [u16; 256], number: u16, letter: u8)
+    requires { ⌜ length (now lo) ≡ 256 ⌝ }
+    ensures { λ _. ⌜ Marked (upAlong (cornerOf number) letter) (number % 256) (now (lo .entry)) (now (lo .exit)) ⌝ }
+{
+    let row = wide(number / 256);
+    if letter == 1 {
+        lo[row] = number % 256;
     }
 }
 
 // A down along a row ends it.
-fn mark_down(hi: &mut [u16; 256], p: Point, letter: u8)
+fn mark_down(hi: &mut [u16; 256], number: u16, letter: u8)
     requires { ⌜ length (now hi) ≡ 256 ⌝ }
-    ensures { λ _. ⌜ Marked (downAlong p letter) (p .col) (now (hi .entry)) (now (hi .exit)) ⌝ }
+    ensures { λ _. ⌜ Marked (downAlong (cornerOf number) letter) (number % 256) (now (hi .entry)) (now (hi .exit)) ⌝ }
 {
-    let row = wide(p.row);
-    if letter == 3 && 0 < row && row <= 256 && p.col <= SIDE {
-        hi[row - 1] = p.col;
+    let row = wide(number / 256);
+    if letter == 3 && 0 < row {
+        hi[row - 1] = number % 256;
     }
 }
 
-// The ends of the rows of an outline, by one pass over its letters.
+// The ends of the rows of an outline, by one pass over its letters. The next number is found before the marks are made, apart from their branches.
 pub fn row_ends(s: Point, w: &[u8]) -> Ends
     ensures { λ r. ⌜ RowEnds (outline s (now (w .entry))) (r .lo) (r .hi) ⌝ }
 {
     let mut lo = [0u16; 256];
     let mut hi = [0u16; 256];
-    let mut p = s;
+    let mut number = s.row % 256 * 256 + s.col % 256;
     let mut i = 0;
     while i < w.len() {
         let letter = w[i];
-        mark_up(&mut lo, p, letter);
-        mark_down(&mut hi, p, letter);
-        p = walk::step(p, letter);
+        let next = std::num::wrapping_add_u16(number, stride(letter));
+        mark_up(&mut lo, number, letter);
+        mark_down(&mut hi, number, letter);
+        number = next;
         i += 1;
     }
     Ends { lo, hi }

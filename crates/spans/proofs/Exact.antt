@@ -12,14 +12,13 @@ use Rattle.base.specs.Below.{first, some}
 use Rattle.base.proofs.BelowLaws.{and-left, and-right, not-held, same-test, first-is, first-none}
 use Rattle.chart.specs.Limits.{side}
 use Rattle.chart.specs.Outline.{Outline}
-use Rattle.lattice.specs.Chart.{size}
 use Rattle.lattice.specs.Enclosed.{count, upAlong, downAlong, ups, downs, encloses}
 use Rattle.lattice.specs.Refusals.{Simple}
-use Rattle.lattice.proofs.WalkLaws.{walked, corner-zero}
+use Rattle.lattice.proofs.WalkLaws.{walked}
 use Rattle.lattice.proofs.RightHand.{ups-rotation, downs-rotation}
-use Rattle.rows.specs.Search.{upColumn, downColumn, keptColumn}
+use Rattle.rows.specs.Search.{upColumn, downColumn}
 use Rattle.rows.specs.Rows.{rows}
-use Rattle.rows.proofs.RowLaws.{kept-column}
+use Rattle.rows.proofs.RowLaws.{kept-up, kept-down}
 use Rattle.convexity.specs.Cut.{turn, westPlace, clockwise}
 use Rattle.convexity.specs.Reading.{reading, reversed, border, block}
 use Rattle.convexity.specs.Pieces.{Reaches}
@@ -31,7 +30,7 @@ use Rattle.convexity.proofs.RowEnds.{bottom, top, ups-row, downs-row, ups-off, 
 use Rattle.spans.specs.Spans.{lastBelow, rowSpan, lesser, greater, leftSide, rightSide, spansOf, inSpans, spanFrom, spanAt, SpanExact}
 use Rattle.spans.specs.declared.Span.{Span}
 use Rattle.spans.specs.declared.Span.the-variants.{None, Columns}
-use Rattle.spans.proofs.Tables.{table-at, table-past, kept-le}
+use Rattle.spans.proofs.Tables.{table-at, table-past, up-le, down-le}
 use Rattle.spans.proofs.Sides.{column-none, column-once}
 
 -- The ups along row r, counted up to a column, and the downs
@@ -54,16 +53,6 @@ turn-ups o h c r = ups-rotation o (westPlace o) (walked o h .closed) c r
 turn-downs : (o : Outline) → Simple o → (c r : ℕ) → downs (turn o .start) (turn o .letters) c r ≡ downs (o .start) (o .letters) c r
 unfolding turn
 turn-downs o h c r = downs-rotation o (westPlace o) (walked o h .closed) c r
-
--- The columns that are kept of a walk that stays on the chart
-module _ (o : Outline) (h : Simple o) (r d : ℕ) where
-  kept-up : keptColumn upAlong (o .start) (o .letters) r d ≡ upColumn (o .start) (o .letters) r d
-  unfolding upColumn
-  kept-up = rw (corner-zero o) at (kept-column o (h .started) (h .stays) upAlong upColumn (λ p r d. refl) (λ p a v r d. refl) r (size o) 0 d (omega arith))
-
-  kept-down : keptColumn downAlong (o .start) (o .letters) r d ≡ downColumn (o .start) (o .letters) r d
-  unfolding downColumn
-  kept-down = rw (corner-zero o) at (kept-column o (h .started) (h .stays) downAlong downColumn (λ p r d. refl) (λ p a v r d. refl) r (size o) 0 d (omega arith))
 
 -- The column of an up that is counted once, or of none; so of a down
 module _ (o : Outline) (r : ℕ) (u d : ℕ → ℕ) (t : Counts o r u d) where
@@ -138,7 +127,7 @@ record Between (o : Outline) (r m n : ℕ) : Type 0 where
 module _ (o : Outline) (h : Simple o) (r : ℕ) where
   sides-of : (a b : ℕ) → upColumn (o .start) (o .letters) r 0 ≡ a → downColumn (o .start) (o .letters) r 0 ≡ b → Between o r (lesser a b) (greater a b)
   unfolding leftSide rightSide
-  sides-of a b e f = record { left = rw (kept-up o h r 0, kept-down o h r 0, e, f); right = rw (kept-up o h r 0, kept-down o h r 0, e, f) }
+  sides-of a b e f = record { left = rw (kept-up o h r, kept-down o h r, e, f); right = rw (kept-up o h r, kept-down o h r, e, f) }
 
   between-once : (m n : ℕ) → m < n → Counts (border o) r (from m) (from n) → Between o r m n
   between-once m n l t =
@@ -170,8 +159,7 @@ kept-past o r l = table-at (rightSide o) 0 side r l ∙ ap (rightSide o) (omega 
 
 right-le : (o : Outline) (r : ℕ) → rightSide o r ≤ side
 unfolding rightSide
-right-le o r =
-    greater-le _ _ side (kept-le upAlong (o .letters) (o .start) r 0 (omega arith)) (kept-le downAlong (o .letters) (o .start) r 0 (omega arith))
+right-le o r = greater-le _ _ side (up-le o r) (down-le o r)
 
 -- No row goes past the chart
 pub past-le : (o : Outline) (r : ℕ) → rows (spansOf o .past) r ≤ side

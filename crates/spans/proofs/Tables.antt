@@ -1,19 +1,18 @@
 -- A list of the values of a function has one of them at each place.
-use Prim.Native.Nat.{ℕ, zero, suc, _+_, _<_, _≤_}
+use Prim.Native.Nat.{ℕ, zero, suc, _+_, _%_, _<_, _≤_}
 use native.Mathlib.Omega.{arith}
 use mathlib.Core.Path.{_≡_, refl, sym, ap, _∙_}
 use mathlib.Core.Logic.{inl, inr}
 use mathlib.Core.List.{List, [], _∷_}
 use lib.ListN.{length, getD, set, length-set}
 use lib.Seq.{getD-set-same, getD-set-other, ext-getD}
-use mathlib.Core.Bool.{Bool, true, false, cond, _&&_}
-use lib.Dec.{leb}
-use borrow.Author.Tests.{leb-true}
+use mathlib.Core.Bool.{Bool, true, false, cond}
 use Rattle.base.proofs.BelowLaws.{below-suc}
 use Rattle.chart.specs.Limits.{side}
 use Rattle.chart.specs.declared.Point.{Point}
-use Rattle.lattice.specs.Chart.{stepped}
-use Rattle.rows.specs.Search.{keptColumn}
+use Rattle.chart.specs.Outline.{Outline}
+use Rattle.lattice.specs.Enclosed.{upAlong, downAlong}
+use Rattle.rows.specs.Search.{numbered, cornerOf, rolled, keptColumn, keptUp, keptDown}
 use Rattle.spans.specs.Spans.{table}
 
 pub length-table : (f : ℕ → ℕ) (i n : ℕ) → length (table f i n) ≡ n
@@ -62,12 +61,17 @@ pub filled-same : {f g : ℕ → ℕ} {n : ℕ} {l : List ℕ} {k : ℕ} → ((m
 filled-same h t = record { sized = t .sized; filled = λ m l. t .filled m l ∙ h m l }
 
 -- A column that is kept is one of the chart's
-pub kept-le : (along : Point → ℕ → ℕ → Bool) (w : List ℕ) (p : Point) (r d : ℕ) → d ≤ side → keptColumn along p w r d ≤ side
+kept-column-le : (along : Point → ℕ → ℕ → Bool) (w : List ℕ) (n r d : ℕ) → d ≤ side → keptColumn along n w r d ≤ side
 unfolding keptColumn
-kept-le along [] p r d h = h
-kept-le along (a ∷ w) p r d h = kept-le along w (stepped p a) r _ (go (along p a r) (leb (p .col) side) refl)
+kept-column-le along [] n r d h = h
+kept-column-le along (a ∷ w) n r d h = kept-column-le along w (rolled n a) r _ (go (along (cornerOf n) a r))
   where
-    go : (x y : Bool) → leb (p .col) side ≡ y → cond (x && y) (p .col) d ≤ side
-    go true true e = leb-true (p .col) side e
-    go true false e = h
-    go false y e = h
+    go : (x : Bool) → cond x (n % 256) d ≤ side
+    go true = omega arith
+    go false = h
+
+pub up-le : (o : Outline) (r : ℕ) → keptUp o r ≤ side
+up-le o r = kept-column-le upAlong (o .letters) (numbered (o .start)) r 0 (omega arith)
+
+pub down-le : (o : Outline) (r : ℕ) → keptDown o r ≤ side
+down-le o r = kept-column-le downAlong (o .letters) (numbered (o .start)) r 0 (omega arith)

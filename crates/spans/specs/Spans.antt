@@ -10,10 +10,9 @@ use lib.Dec.{leb, ltb}
 use Rattle.base.specs.Below.{first, some}
 use Rattle.chart.specs.Limits.{side}
 use Rattle.chart.specs.Outline.{Outline}
-use Rattle.lattice.specs.Enclosed.{upAlong, downAlong}
 use Rattle.calls.specs.declared.Reply.{Reply}
 use Rattle.calls.specs.declared.Reply.the-variants.{Columns as ColumnsReply, None as NoColumns}
-use Rattle.rows.specs.Search.{keptColumn}
+use Rattle.rows.specs.Search.{keptUp, keptDown}
 use Rattle.rows.specs.Rows.{rows}
 use Rattle.spans.specs.declared.Span.{Span}
 use Rattle.spans.specs.declared.Span.the-variants.{None, Columns}
@@ -49,10 +48,10 @@ table f i (suc n) = f i ∷ table f (suc i) n
 
 -- The columns of the outline's up and of its down along row r, whichever is left of the other
 unfoldable pub leftSide : Outline → ℕ → ℕ
-leftSide o r = lesser (keptColumn upAlong (o .start) (o .letters) r 0) (keptColumn downAlong (o .start) (o .letters) r 0)
+leftSide o r = lesser (keptUp o r) (keptDown o r)
 
 unfoldable pub rightSide : Outline → ℕ → ℕ
-rightSide o r = greater (keptColumn upAlong (o .start) (o .letters) r 0) (keptColumn downAlong (o .start) (o .letters) r 0)
+rightSide o r = greater (keptUp o r) (keptDown o r)
 
 -- Row by row from the left side to the right side; and no row with a cell
 unfoldable pub spansOf : Outline → Spans

@@ -16,7 +16,7 @@ use Rattle.chart.specs.Outline.{Outline, outline}
 use Rattle.lattice.specs.Chart.{samePoint, step, leaves, walk, cornerAt, size, letterAt}
 use Rattle.lattice.specs.Refusals.{letterPlace, leavingPlace, Stays, unclosed}
 use Rattle.lattice.proofs.WalkLaws.{OnChart, point-eq, same-point-self, not-same-point, first-absent, step-on-chart, corner-zero, corner-suc, corner-all, corners-on-chart}
-use Rattle.lattice.proofs.WalkCode.{start-on-chart, stays-at}
+use Rattle.lattice.proofs.Staying.{start-on-chart, stays-at}
 use Rattle.survey.specs.declared.walk.Rest.{Rest}
 use Rattle.survey.specs.Numbers.{colNumber, colStride, offChart, rowNumber, rowStride}
 use Rattle.survey.specs.Walks.{Begun, Out, RestOf}

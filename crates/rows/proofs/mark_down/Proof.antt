@@ -1,10 +1,11 @@
--- It stores at the one row along which the letter runs down, or there is none on the chart.
-use Prim.Native.Nat.{_-_}
+-- It stores at the one row along which the letter runs down, or there is none.
+use Prim.Native.Nat.{_-_, _%_}
 use native.Mathlib.Omega.{arith}
 use denote.Ref.{now}
 use mathlib.Core.Logic.{⊎-elim}
-use borrow.Author.Tests.{ltb-true, ltb-false, leb-true, leb-false}
+use borrow.Author.Tests.{ltb-true, ltb-false}
 use Rattle.lattice.specs.Enclosed.{downAlong}
+use Rattle.rows.specs.Search.{cornerOf}
 use Rattle.rows.proofs.RowLaws.{down-along, along-down, marked-set, marked-none}
 use borrow.Author.Needs.{needs}
 use Rattle.rows.proofs.mark_down.Statement.{statement}
@@ -20,28 +21,26 @@ mul-hi : tie.Need-mul-hi
 mul-hi c = search needs
 
 element-write-hi : tie.Need-element-write-hi
-element-write-hi c = omega (arith, leb-true)
+element-write-hi c = search needs
 
 returns : tie.Need-returns
 returns c =
-    let args = c .before .before .before .before .before .before .args in
+    let args = c .before .before .before .args in
     marked-set
-    (downAlong (args .p) (args .letter))
-    (args .p .col)
+    (downAlong (cornerOf (args .number)) (args .letter))
+    (args .number % 256)
     (now (args .hi))
     (omega arith)
-    (c .before .before .before .before .before .wide .result - 1)
-    (omega (arith, ltb-true, leb-true))
-    (omega (arith, leb-true))
-    (along-down (args .p) (args .letter) (c .before .before .before .before .before .wide .result - 1) (omega arith) (omega (arith, ltb-true)))
-    (λ r e. omega (arith, down-along (args .p) (args .letter) r e))
+    (c .before .before .wide .result - 1)
+    (omega arith)
+    (along-down (cornerOf (args .number)) (args .letter) (c .before .before .wide .result - 1) (omega arith) (omega (arith, ltb-true)))
+    (λ r e. omega (arith, down-along (cornerOf (args .number)) (args .letter) r e))
 
 returns-2 : tie.Need-returns-2
 returns-2 c =
     let args = c .before .before .args in
-    marked-none (downAlong (args .p) (args .letter)) (args .p .col) (now (args .hi)) (omega arith) λ r n m e.
-    let (letter, row) = down-along (args .p) (args .letter) r e in
-    ⊎-elim (λ w. omega (arith, leb-false)) (λ u. ⊎-elim (λ w. omega (arith, leb-false)) (λ v. ⊎-elim (λ w. omega (arith, ltb-false)) (λ w. w .left letter) v) u) (c .if1 .came)
+    marked-none (downAlong (cornerOf (args .number)) (args .letter)) (args .number % 256) (now (args .hi)) (omega arith) λ r e.
+    let (letter, row) = down-along (cornerOf (args .number)) (args .letter) r e in ⊎-elim (λ w. omega (arith, ltb-false)) (λ w. w .left letter) (c .if1 .came)
 
 pub mark-down-spec : {M : Type 1} → statement M
 mark-down-spec =

@@ -1,9 +1,9 @@
--- It stores at the one row along which the letter runs up, or there is none on the chart.
+-- It stores at the one row along which the letter runs up, or there is none.
+use Prim.Native.Nat.{_%_}
 use native.Mathlib.Omega.{arith}
 use denote.Ref.{now}
-use mathlib.Core.Logic.{⊎-elim}
-use borrow.Author.Tests.{ltb-true, ltb-false, leb-true, leb-false}
 use Rattle.lattice.specs.Enclosed.{upAlong}
+use Rattle.rows.specs.Search.{cornerOf}
 use Rattle.rows.proofs.RowLaws.{up-along, along-up, marked-set, marked-none}
 use borrow.Author.Needs.{needs}
 use Rattle.rows.proofs.mark_up.Statement.{statement}
@@ -20,24 +20,22 @@ element-write-lo c = search needs
 
 returns : tie.Need-returns
 returns c =
-    let args = c .before .before .before .before .before .args in
+    let args = c .before .before .args in
     marked-set
-    (upAlong (args .p) (args .letter))
-    (args .p .col)
+    (upAlong (cornerOf (args .number)) (args .letter))
+    (args .number % 256)
     (now (args .lo))
     (omega arith)
-    (c .before .before .before .before .wide .result)
-    (omega (arith, ltb-true, leb-true))
-    (omega (arith, leb-true))
-    (along-up (args .p) (args .letter) (c .before .before .before .before .wide .result) (omega arith) (omega (arith, ltb-true)))
-    (λ r e. omega (arith, up-along (args .p) (args .letter) r e))
+    (c .before .wide .result)
+    (omega arith)
+    (along-up (cornerOf (args .number)) (args .letter) (c .before .wide .result) (omega arith) (omega arith))
+    (λ r e. omega (arith, up-along (cornerOf (args .number)) (args .letter) r e))
 
 returns-2 : tie.Need-returns-2
 returns-2 c =
     let args = c .before .before .args in
-    marked-none (upAlong (args .p) (args .letter)) (args .p .col) (now (args .lo)) (omega arith) λ r n m e.
-    let (letter, row) = up-along (args .p) (args .letter) r e in
-    ⊎-elim (λ w. omega (arith, leb-false)) (λ u. ⊎-elim (λ w. omega (arith, ltb-false)) (λ w. w .left letter) u) (c .if1 .came)
+    marked-none (upAlong (cornerOf (args .number)) (args .letter)) (args .number % 256) (now (args .lo)) (omega arith) λ r e.
+    let (letter, row) = up-along (cornerOf (args .number)) (args .letter) r e in c .if1 .left letter
 
 pub mark-up-spec : {M : Type 1} → statement M
 mark-up-spec = tie.close (tie.spec wide-requires mul-lo element-write-lo returns returns-2)

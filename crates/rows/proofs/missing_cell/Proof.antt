@@ -2,9 +2,8 @@
 use mathlib.Core.Path.{_∙_}
 use denote.Ref.{now}
 use native.Mathlib.Omega.{arith}
-use Rattle.lattice.specs.Enclosed.{upAlong, downAlong}
 use Rattle.rows.specs.Rows.{rows}
-use Rattle.rows.specs.Search.{keptColumn}
+use Rattle.rows.specs.Search.{keptUp, keptDown}
 use Rattle.rows.proofs.SearchLaws.{lowestGap-same}
 use Rattle.rows.proofs.RowLaws.{found-high, found-below, found-gap}
 use borrow.Author.Needs.{needs}
@@ -40,8 +39,8 @@ returns-3 c =
     (lowestGap-same
     (rows (ends .result .lo))
     (rows (ends .result .hi))
-    (λ r. keptColumn upAlong (args .s) (now (args .w)) r 0)
-    (λ r. keptColumn downAlong (args .s) (now (args .w)) r 0)
+    (keptUp (outline (args .s) (now (args .w))))
+    (keptDown (outline (args .s) (now (args .w))))
     (args .bottom)
     (args .top)
     (λ r h. ends .ensures .lo-up r (omega arith))

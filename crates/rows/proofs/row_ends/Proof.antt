@@ -3,31 +3,42 @@ use Prim.Native.Nat.{_-_}
 use native.Mathlib.Omega.{arith}
 use denote.Ref.{now}
 use lib.ListN.{length}
+use borrow.Author.Needs.{needs}
 use Rattle.chart.specs.Outline.{outline}
-use Rattle.rows.proofs.RowLaws.{Marks, marks-start, marks-next, marks-end}
+use Rattle.rows.specs.Search.{numbered}
+use Rattle.rows.proofs.RowLaws.{Marks, rolled-sum, marks-start, marks-next, marks-end}
 use Rattle.rows.proofs.row_ends.Statement.{statement}
 use Rattle.rows.proofs.row_ends.Tie as tie
 
 abbrev Inv-loop : tie.InvT-loop
-Inv-loop w lo₀ hi₀ p₀ i₀ lo hi p i = Marks (outline p₀ w) i p lo hi
+Inv-loop w lo₀ hi₀ number₀ i₀ lo hi number i = Marks number₀ w i number lo hi
 
 abbrev μ-loop : tie.MeasureT-loop
-μ-loop w lo₀ hi₀ p₀ i₀ lo hi p i = length w - i
+μ-loop w lo₀ hi₀ number₀ i₀ lo hi number i = length w - i
+
+mul-number : tie.Need-mul-number Inv-loop μ-loop
+mul-number c = omega arith
+
+add-number : tie.Need-add-number Inv-loop μ-loop
+add-number c = omega arith
 
 loop-holds : tie.Need-loop-holds Inv-loop μ-loop
-loop-holds c = marks-start (outline (c .before .args .s) (now (c .before .args .w)))
+loop-holds c = marks-start (numbered (c .before .before .before .args .s)) (now (c .before .before .before .args .w))
 
 shared-slice-read-letter : tie.Need-shared-slice-read-letter Inv-loop μ-loop
 shared-slice-read-letter c = omega arith
 
+stride-requires : tie.Need-stride-requires Inv-loop μ-loop
+stride-requires c κs = search needs
+
+wrapping-add-u16-requires : tie.Need-wrapping-add-u16-requires Inv-loop μ-loop
+wrapping-add-u16-requires c κs = search needs
+
 mark-up-requires : tie.Need-mark-up-requires Inv-loop μ-loop
-mark-up-requires c κs = c .before .before .before .loop .inv .ups .size
+mark-up-requires c κs = c .before .before .before .before .before .loop .inv .ups .size
 
 mark-down-requires : tie.Need-mark-down-requires Inv-loop μ-loop
-mark-down-requires c κs = c .before .before .before .before .before .loop .inv .downs .size
-
-step-requires : tie.Need-step-requires Inv-loop μ-loop
-step-requires c κs = tt
+mark-down-requires c κs = c .before .before .before .before .before .before .before .loop .inv .downs .size
 
 add-i : tie.Need-add-i Inv-loop μ-loop
 add-i c = omega arith
@@ -37,15 +48,17 @@ loop-less c = omega arith
 
 loop-again : tie.Need-loop-again Inv-loop μ-loop
 loop-again c =
-    let args = c .before .before .before .before .before .before .before .before .before .args in
-    let turn = c .before .before .before .before .before .before .before .loop in
-    let up = c .before .before .before .mark-up in
-    let down = c .before .mark-down in
+    let added = c .before .before .before .before in
+    let turn = added .before .before .before .before .loop in
+    let args = added .before .before .before .before .before .before .before .before .args in
+    let up = c .before .before .mark-up in
+    let down = c .mark-down in
     marks-next
-    (outline (args .s) (now (args .w)))
+    (numbered (args .s))
+    (now (args .w))
     (turn .i)
-    (turn .p)
-    (c .step .result)
+    (turn .number)
+    (added .wrapping-add-u16 .result)
     (turn .lo)
     (turn .hi)
     (up .last .0)
@@ -53,14 +66,14 @@ loop-again c =
     (omega arith)
     (up .ensures)
     (down .ensures)
-    (c .step .ensures)
+    (rolled-sum (turn .number) _ (added .before .stride .result) (added .wrapping-add-u16 .result) (added .before .stride .ensures) (added .wrapping-add-u16 .ensures))
     (turn .inv)
 
 returns : tie.Need-returns Inv-loop μ-loop
 returns c =
-    let args = c .before .before .before .args in
+    let args = c .before .before .before .before .before .args in
     let turn = c .before .loop in
-    marks-end (outline (args .s) (now (args .w))) (turn .i) (turn .p) (turn .lo) (turn .hi) (omega arith) (turn .inv)
+    marks-end (outline (args .s) (now (args .w))) (turn .i) (turn .number) (turn .lo) (turn .hi) (omega arith) (turn .inv)
 
 pub row-ends-spec : {M : Type 1} → statement M
 row-ends-spec =
@@ -68,11 +81,14 @@ row-ends-spec =
     (tie.spec
     Inv-loop
     μ-loop
+    mul-number
+    add-number
     loop-holds
     shared-slice-read-letter
+    stride-requires
+    wrapping-add-u16-requires
     mark-up-requires
     mark-down-requires
-    step-requires
     add-i
     loop-less
     loop-again

@@ -1,23 +1,22 @@
 -- Every row passed has its two columns; at the end the lists are those of the definition, place by place.
-use Prim.Native.Nat.{ℕ, _-_, _≤_}
+use Prim.Native.Nat.{ℕ, _-_, _<_, _≤_}
 use native.Mathlib.Omega.{arith}
 use mathlib.Core.Path.{_≡_}
 use mathlib.Core.List.{List}
 use lib.ListN.{length, length-replicate}
 use borrow.Author.Needs.{needs}
 use Rattle.chart.specs.Limits.{side}
-use Rattle.chart.specs.declared.Point.{Point}
-use mathlib.Core.Bool.{Bool}
-use Rattle.rows.specs.Search.{keptColumn}
-use Rattle.rows.specs.Rows.{rows}
+use Rattle.chart.specs.Outline.{Outline}
+use Rattle.rows.specs.Rows.{rows, RowEnds}
 use Rattle.spans.specs.Spans.{lesser, greater, leftSide, rightSide, spansOf}
 use Rattle.spans.specs.declared.Spans.{Spans}
-use Rattle.spans.proofs.Tables.{Filled, filled-start, filled-next, filled-end, filled-same, kept-le}
+use Rattle.spans.proofs.Tables.{Filled, filled-start, filled-next, filled-end, filled-same, up-le, down-le}
 use Rattle.spans.proofs.spans_of.Statement.{statement}
 use Rattle.spans.proofs.spans_of.Tie as tie
 
-kept-column-le : (along : Point → ℕ → ℕ → Bool) (w : List ℕ) (p : Point) (r : ℕ) {x : ℕ} → x ≡ keptColumn along p w r 0 → x ≤ side
-kept-column-le along w p r e = rw e (kept-le along w p r 0 (omega arith))
+-- The columns of a row are the chart's
+columns-le : {o : Outline} {up down : List ℕ} → RowEnds o up down → (k : ℕ) → k < 256 → (rows up k ≤ side) × (rows down k ≤ side)
+columns-le {o} ends k h = (rw (ends .lo-up k h) (up-le o k), rw (ends .hi-down k h) (down-le o k))
 
 same : (f : ℕ → ℕ → ℕ) {a b c d : ℕ} → a ≡ c → b ≡ d → f a b ≡ f c d
 same f e g i = f (e i) (g i)
@@ -51,17 +50,13 @@ array-read-b : tie.Need-array-read-b Inv-loop μ-loop
 array-read-b c = omega arith
 
 lesser-requires : tie.Need-lesser-requires Inv-loop μ-loop
-lesser-requires c κs =
-    let ends = c .before .before .before .before .row-ends .ensures in
-    (kept-column-le _ _ _ _ (ends .lo-up (c .before .loop .k) (omega arith)), kept-column-le _ _ _ _ (ends .hi-down (c .before .loop .k) (omega arith)))
+lesser-requires c κs = columns-le (c .before .before .before .before .row-ends .ensures) (c .before .loop .k) (omega arith)
 
 array-write-first : tie.Need-array-write-first Inv-loop μ-loop
 array-write-first c = omega arith
 
 greater-requires : tie.Need-greater-requires Inv-loop μ-loop
-greater-requires c κs =
-    let ends = c .before .before .before .before .before .row-ends .ensures in
-    (kept-column-le _ _ _ _ (ends .lo-up (c .before .before .loop .k) (omega arith)), kept-column-le _ _ _ _ (ends .hi-down (c .before .before .loop .k) (omega arith)))
+greater-requires c κs = columns-le (c .before .before .before .before .before .row-ends .ensures) (c .before .before .loop .k) (omega arith)
 
 array-write-past : tie.Need-array-write-past Inv-loop μ-loop
 array-write-past c = omega arith

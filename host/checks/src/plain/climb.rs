@@ -2,8 +2,11 @@
 
 use robequarry::limits::LAST_CORNER;
 
-use super::chart::{step, WIDTH};
+use super::chart::WIDTH;
 use crate::Point;
+
+/// What a letter adds to the number of a corner, its row times the width and its column.
+const STEPS: [u16; 4] = [1, WIDTH as u16, 1u16.wrapping_neg(), (WIDTH as u16).wrapping_neg()];
 
 /// A column for each row, the corners' last row included.
 type Columns = [i32; WIDTH];
@@ -34,17 +37,18 @@ pub fn missing_cell(west: Point, letters: &[u8]) -> Point {
 impl Rows {
     fn new(west: Point, letters: &[u8]) -> Self {
         let mut rows = Rows { first: [0; WIDTH], past: [0; WIDTH], bottom: usize::from(LAST_CORNER), top: 0 };
-        let mut at = (u32::from(west.col), u32::from(west.row));
+        let mut number = west.row * WIDTH as u16 + west.col;
         for &letter in letters {
-            let next = step(at, letter);
+            let next = number.wrapping_add(STEPS[usize::from(letter & 3)]);
+            let (row, col) = (usize::from(number) / WIDTH, usize::from(number) % WIDTH);
             match letter {
-                1 => rows.first[at.1 as usize % WIDTH] = at.0 as i32,
-                3 => rows.past[next.1 as usize % WIDTH] = at.0 as i32,
+                1 => rows.first[row] = col as i32,
+                3 => rows.past[usize::from(next) / WIDTH] = col as i32,
                 _ => {}
             }
-            rows.bottom = rows.bottom.min(next.1 as usize);
-            rows.top = rows.top.max(next.1 as usize);
-            at = next;
+            rows.bottom = rows.bottom.min(row);
+            rows.top = rows.top.max(row);
+            number = next;
         }
         rows
     }

@@ -6,7 +6,7 @@ use lib.ListN.{length}
 use borrow.Author.Needs.{needs}
 use Rattle.chart.specs.declared.Point.{Point}
 use Rattle.chart.specs.Outline.{outline}
-use Rattle.lattice.proofs.WalkCode.{start-on-chart}
+use Rattle.lattice.proofs.Staying.{start-on-chart}
 use Rattle.survey.specs.Numbers.{colNumber, rowNumber, offChart}
 use Rattle.survey.specs.Walks.{Begun, WalkedAs}
 use Rattle.survey.proofs.AlongLaws.{Along, along-start, along-meets, along-leaves, along-next, along-round}
