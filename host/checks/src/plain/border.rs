@@ -27,8 +27,10 @@ pub const ROWS: [i16; 4] = [0, 1, 0, -1];
 pub struct Turn {
     letters: [u8; LONGEST],
     count: usize,
-    /// The corner W.
+    /// The corner W, and the rows of S and N.
     pub west: Point,
+    pub bottom: u16,
+    pub top: u16,
     /// The place of the letter that leaves W, or, read backward, of the one that reaches it.
     west_place: usize,
     backward: bool,
@@ -45,7 +47,8 @@ impl Turn {
         let ahead = |from: usize, to: usize| if from <= to { to - from } else { to + count - from };
         let read = |to| if backward { ahead(to, place) } else { ahead(place, to) };
         let cut_places = [0, read(corners.north), read(corners.east), read(corners.south), count];
-        let mut turn = Turn { letters: [0; LONGEST], count, west, west_place: place, backward, cut_places };
+        let (bottom, top) = (corners.bottom, corners.top);
+        let mut turn = Turn { letters: [0; LONGEST], count, west, bottom, top, west_place: place, backward, cut_places };
         let (before, after) = letters.split_at(place);
         if backward {
             copy_back(before, &mut turn.letters[..place]);

@@ -23,13 +23,15 @@ pub fn is_off_chart(corner: Point) -> bool {
     corner.col > LAST_CORNER || corner.row > LAST_CORNER
 }
 
-/// W, N, E and S: the place of the letter that leaves each, and the corner W.
+/// W, N, E and S: the place of the letter that leaves each, the corner W, and the rows of S and N.
 pub struct Corners {
     pub west: usize,
     pub north: usize,
     pub east: usize,
     pub south: usize,
     pub corner: Point,
+    pub bottom: u16,
+    pub top: u16,
 }
 
 /// The first of refusals 1 to 6 that applies, or the corners.
@@ -89,6 +91,8 @@ fn walk(start: Point, letters: &[u8]) -> Result<Corners, Fields> {
         east: usize::from(east as u16),
         south: usize::from(south as u16),
         corner: Point::new((west >> 32) as u16, (west >> 16) as u16),
+        bottom: LAST_CORNER - (south >> 24) as u16,
+        top: LAST_CORNER - (north >> 24) as u16,
     })
 }
 

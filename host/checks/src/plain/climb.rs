@@ -2,6 +2,7 @@
 
 use robequarry::limits::LAST_CORNER;
 
+use super::border::Turn;
 use super::chart::WIDTH;
 use crate::Point;
 
@@ -11,20 +12,19 @@ const STEPS: [u16; 4] = [1, WIDTH as u16, 1u16.wrapping_neg(), (WIDTH as u16).wr
 /// A column for each row, the corners' last row included.
 type Columns = [i32; WIDTH];
 
-/// For each row from `bottom` up to, not including, `top`: its first column, and the column after its last.
+/// For each row the first column, and the column after the last.
 struct Rows {
     first: Columns,
     past: Columns,
-    bottom: usize,
-    top: usize,
 }
 
 /// The lowest missing cell, leftmost in its row, of letters walked from W that have a dent.
-pub fn missing_cell(west: Point, letters: &[u8]) -> Point {
-    let rows = Rows::new(west, letters);
-    let left = climb(&rows.first, rows.bottom, rows.top);
+pub fn missing_cell(turn: &Turn) -> Point {
+    let rows = Rows::new(turn.west, turn.letters());
+    let (bottom, top) = (usize::from(turn.bottom), usize::from(turn.top));
+    let left = climb(&rows.first, bottom, top);
     let mirrored = rows.past.map(|col| i32::from(LAST_CORNER) - col);
-    let right = climb(&mirrored, rows.bottom, rows.top);
+    let right = climb(&mirrored, bottom, top);
     match (left, right) {
         (Some((col, row)), Some((_, other))) if row <= other => Point::new(col as u16, row as u16),
         (Some((col, row)), None) => Point::new(col as u16, row as u16),
@@ -36,18 +36,15 @@ pub fn missing_cell(west: Point, letters: &[u8]) -> Point {
 
 impl Rows {
     fn new(west: Point, letters: &[u8]) -> Self {
-        let mut rows = Rows { first: [0; WIDTH], past: [0; WIDTH], bottom: usize::from(LAST_CORNER), top: 0 };
+        let mut rows = Rows { first: [0; WIDTH], past: [0; WIDTH] };
         let mut number = west.row * WIDTH as u16 + west.col;
         for &letter in letters {
             let next = number.wrapping_add(STEPS[usize::from(letter & 3)]);
-            let (row, col) = (usize::from(number) / WIDTH, usize::from(number) % WIDTH);
             match letter {
-                1 => rows.first[row] = col as i32,
-                3 => rows.past[usize::from(next) / WIDTH] = col as i32,
+                1 => rows.first[usize::from(number) / WIDTH] = i32::from(number) % WIDTH as i32,
+                3 => rows.past[usize::from(next) / WIDTH] = i32::from(number) % WIDTH as i32,
                 _ => {}
             }
-            rows.bottom = rows.bottom.min(row);
-            rows.top = rows.top.max(row);
             number = next;
         }
         rows

@@ -49,7 +49,7 @@ pub fn find_edges(start: Point, letters: &[u8], edges: &mut Edges) -> Result<Poi
     for (k, &pair) in PAIRS.iter().enumerate() {
         let word = cut[k] + 1;
         if let Err(dent) = factor(&turn.letters()[word..cut[k + 1]], pair, edges) {
-            let missing = missing_cell(turn.west, turn.letters());
+            let missing = missing_cell(&turn);
             return Err(Fields {
                 piece: k as u16 + 1,
                 length: dent.length as u16,
