@@ -93,36 +93,39 @@ fn leans(a: usize, b: usize, c: usize, near: usize, far: usize) -> bool
     c * near + a * (far - near) <= b * far
 }
 
-// Of the rows from `i + 1` to `t - 1`, the one to which the line from row `i` leans furthest left, the last among equals; `next` tells it of the rows above row `i`.
-fn tangent(lo: &[u16; 256], next: &[u16; 256], i: usize, t: usize) -> usize
-    requires { ⌜ (i + 1 < t) × (t ≤ side) × Tangents (rows (now lo)) (rows (now next)) (suc i) t ⌝ }
+// Of the rows from `i + 1` to `t - 1`, the one to which the line from row `i` leans furthest left, the last among equals; `next` tells it of the rows above row `i`, and `above` of row `i + 1`.
+fn tangent(lo: &[u16; 256], next: &[u16; 256], i: usize, t: usize, above: usize) -> usize
+    requires { ⌜ (i + 1 < t) × (t ≤ side) × (above ≡ rows (now next) (suc i)) × Tangents (rows (now lo)) (rows (now next)) (suc i) t ⌝ }
     ensures { λ r. ⌜ (r ≡ furthestOf (rows (now (lo .entry))) i (suc i) (suc (suc i)) (t - suc (suc i))) × (i < r) × (r < t) ⌝ }
 {
     let a = begins(lo, i);
     let mut j = i + 1;
     let mut b = begins(lo, j);
+    let mut k = above;
     while j + 1 < t {
-        let k = wide(next[j]);
         let c = begins(lo, k);
         if !leans(a, b, c, j - i, k - i) {
             return j;
         }
         j = k;
         b = c;
+        k = wide(next[j]);
     }
     j
 }
 
-// The same of every row from `b` on, from the top down.
+// The same of every row from `b` on, from the top down. The row stored last stays in hand: a load of it would wait for the store.
 fn tangents(lo: &[u16; 256], b: usize, t: usize) -> [u16; 256]
     requires { ⌜ (b ≤ t) × (t ≤ side) ⌝ }
     ensures { λ r. ⌜ Tangents (rows (now (lo .entry))) (rows r) b t ⌝ }
 {
     let mut next = [0u16; 256];
     let mut i = t;
+    let mut above = 0;
     while b + 1 < i {
         i -= 1;
-        next[i - 1] = tangent(lo, &next, i - 1, t) as u16;
+        above = tangent(lo, &next, i - 1, t, above);
+        next[i - 1] = above as u16;
     }
     next
 }

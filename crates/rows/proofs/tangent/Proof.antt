@@ -1,4 +1,4 @@
--- The loop's invariant: of the rows up to row `j`, it is furthest left from row `i`, and `b` is its column.
+-- The loop's invariant: of the rows up to row `j`, it is furthest left from row `i`, `b` is its column, and `k` is what `next` tells of it.
 use Prim.Native.Nat.{suc, _+_, _-_, _<_}
 use mathlib.Core.Path.{_≡_, sym, _∙_}
 use native.Mathlib.Omega.{arith}
@@ -12,10 +12,10 @@ use Rattle.rows.proofs.tangent.Statement.{statement}
 use Rattle.rows.proofs.tangent.Tie as tie
 
 abbrev Inv-loop : tie.InvT-loop
-Inv-loop lo next i t a j₀ b₀ j b = (i < j) × (j < t) × (b ≡ rows lo j) × (b < 65536) × Furthest (rows lo) i j (suc j)
+Inv-loop lo next i t above a j₀ b₀ k₀ j b k = (i < j) × (j < t) × (b ≡ rows lo j) × (b < 65536) × (k ≡ rows next j) × Furthest (rows lo) i j (suc j)
 
 abbrev μ-loop : tie.MeasureT-loop
-μ-loop lo next i t a j₀ b₀ j b = t - j
+μ-loop lo next i t above a j₀ b₀ k₀ j b k = t - j
 
 begins-requires : tie.Need-begins-requires Inv-loop μ-loop
 begins-requires c κs = omega arith
@@ -28,92 +28,93 @@ begins-requires-2 c κs = omega arith
 
 loop-holds : tie.Need-loop-holds Inv-loop μ-loop
 loop-holds c =
-    let i = c .before .before .args .i in
-    let e : i + 1 ≡ suc i = omega arith in
-    (omega arith, omega arith, c .begins2 .ensures .0, c .begins2 .ensures .1, rw e (furthest-start _ _))
+    let start = c .before .before in
+    let e : start .args .i + 1 ≡ suc (start .args .i) = omega arith in
+    (omega arith, omega arith, c .begins2 .ensures .0, c .begins2 .ensures .1, rw e (start .pre .2), rw e (furthest-start _ _))
 
 add-loop : tie.Need-add-loop Inv-loop μ-loop
 add-loop c = omega arith
 
-mul-wide : tie.Need-mul-wide Inv-loop μ-loop
-mul-wide c = omega arith
-
-element-copy-out-wide : tie.Need-element-copy-out-wide Inv-loop μ-loop
-element-copy-out-wide c = omega arith
-
-wide-requires : tie.Need-wide-requires Inv-loop μ-loop
-wide-requires c κs = tt
-
--- The row read is furthest left from row `j`
-read-furthest :
-    (c : tie.After-wide Inv-loop μ-loop) →
-    let start = c .before .before .before .before .before .before .args in
-    let j = c .before .before .before .loop .j in
-    Furthest (rows (now (start .lo))) j (c .wide .result) (start .t)
-read-furthest c =
-    let start = c .before .before .before .before .before .before in
-    let j = c .before .before .before .loop .j in
-    let e = c .wide .ensures .0 ∙ start .pre .2 .furthest-left j (omega arith) (omega arith) in
-    rw e (furthest-furthest (rows (now (start .args .lo))) j (start .args .t) (omega arith))
+-- The row in hand is furthest left from row `j`
+hand-furthest :
+    (c : tie.In-loop Inv-loop μ-loop) →
+    let start = c .before .before .before .before .args in
+    let turn = c .before .loop in
+    Furthest (rows (now (start .lo))) (turn .j) (turn .k) (start .t)
+hand-furthest c =
+    let start = c .before .before .before .before in
+    let turn = c .before .loop in
+    let e = turn .inv .4 ∙ start .pre .3 .furthest-left (turn .j) (omega arith) (omega arith) in
+    rw e (furthest-furthest (rows (now (start .args .lo))) (turn .j) (start .args .t) (omega arith))
 
 begins-requires-3 : tie.Need-begins-requires-3 Inv-loop μ-loop
-begins-requires-3 c κs = omega (arith, read-furthest c)
+begins-requires-3 c κs = omega (arith, hand-furthest c)
 
 sub-leans : tie.Need-sub-leans Inv-loop μ-loop
 sub-leans c = omega arith
 
 sub-leans-2 : tie.Need-sub-leans-2 Inv-loop μ-loop
-sub-leans-2 c = omega (arith, read-furthest (c .before))
+sub-leans-2 c = omega (arith, hand-furthest (c .before))
 
 leans-requires : tie.Need-leans-requires Inv-loop μ-loop
-leans-requires c κs = omega (arith, read-furthest (c .before))
+leans-requires c κs = omega (arith, hand-furthest (c .before))
 
 -- The test of the columns is that of the rows
 test-leans :
     (c : tie.After-leans Inv-loop μ-loop) →
-    let start = c .before .before .before .before .before .before .before .before .args in
-    let j = c .before .before .before .before .before .loop .j in
-    c .leans .result ≡ leans (rows (now (start .lo))) (start .i) j (c .before .before .wide .result)
+    let start = c .before .before .before .before .before .before .args in
+    let turn = c .before .before .before .loop in
+    c .leans .result ≡ leans (rows (now (start .lo))) (start .i) (turn .j) (turn .k)
 test-leans c =
-    let start = c .before .before .before .before .before .before .before .before .args in
-    let turn = c .before .before .before .before .before .loop in
-    let a = c .before .before .before .before .before .before .before .begins .ensures in
+    let start = c .before .before .before .before .before .before .args in
+    let turn = c .before .before .before .loop in
+    let a = c .before .before .before .before .before .begins .ensures in
     let d = c .before .begins3 .ensures in
-    let read = read-furthest (c .before .before) in
+    let hand = hand-furthest (c .before .before) in
     c .leans .ensures
-    ∙ rw (a .0, turn .inv .2, d .0) (leans-columns (rows (now (start .lo))) (start .i) (turn .j) (c .before .before .wide .result) (omega arith) (omega arith))
+    ∙ rw (a .0, turn .inv .2, d .0) (leans-columns (rows (now (start .lo))) (start .i) (turn .j) (turn .k) (omega arith) (omega arith))
 
 returns : tie.Need-returns Inv-loop μ-loop
 returns c =
-    let args = c .before .before .before .before .before .before .before .before .before .args in
-    let turn = c .before .before .before .before .before .before .loop in
+    let args = c .before .before .before .before .before .before .before .args in
+    let turn = c .before .before .before .before .loop in
     let lo = rows (now (args .lo)) in
-    let k = c .before .before .before .wide .result in
-    let off = furthest-off lo (args .t) (args .i) (turn .j) k (turn .inv .4) (read-furthest (c .before .before .before)) (sym (test-leans (c .before)) ∙ not-true _ (c .if1 .taken)) in
-    (furthest-is lo (args .t) (args .i) (turn .j) (turn .inv .4) (omega arith) off, omega arith, omega arith)
+    let hand = hand-furthest (c .before .before .before) in
+    let off = furthest-off lo (args .t) (args .i) (turn .j) (turn .k) (turn .inv .5) hand (sym (test-leans (c .before)) ∙ not-true _ (c .if1 .taken)) in
+    (furthest-is lo (args .t) (args .i) (turn .j) (turn .inv .5) (omega arith) off, omega arith, omega arith)
+
+mul-wide : tie.Need-mul-wide Inv-loop μ-loop
+mul-wide c = omega (arith, hand-furthest (c .before .before .before))
+
+element-copy-out-wide : tie.Need-element-copy-out-wide Inv-loop μ-loop
+element-copy-out-wide c = omega (arith, hand-furthest (c .before .before .before))
+
+wide-requires : tie.Need-wide-requires Inv-loop μ-loop
+wide-requires c κs = tt
 
 loop-less : tie.Need-loop-less Inv-loop μ-loop
-loop-less c = omega (arith, read-furthest (c .before .before .before))
+loop-less c = omega (arith, hand-furthest (c .before .before .before .before .before))
 
 loop-again : tie.Need-loop-again Inv-loop μ-loop
 loop-again c =
     let args = c .before .before .before .before .before .before .before .before .before .args in
     let turn = c .before .before .before .before .before .before .loop in
-    let k = c .before .before .before .wide .result in
-    let column = c .before .before .begins3 .ensures in
-    let read = read-furthest (c .before .before .before) in (
+    let column = c .before .before .before .before .begins3 .ensures in
+    let hand = hand-furthest (c .before .before .before .before .before) in
+    let test = sym (test-leans (c .before .before .before)) ∙ not-false _ (c .before .before .if1 .left) in (
       omega arith,
       omega arith,
       column .0,
       column .1,
-      furthest-on (rows (now (args .lo))) (args .t) (args .i) (turn .j) k (turn .inv .4) read (sym (test-leans (c .before)) ∙ not-false _ (c .if1 .left)),
+      c .wide .ensures .0,
+      furthest-on (rows (now (args .lo))) (args .t) (args .i) (turn .j) (turn .k) (turn .inv .5) hand test,
     )
 
 returns-2 : tie.Need-returns-2 Inv-loop μ-loop
 returns-2 c =
     let args = c .before .before .before .before .args in
     let turn = c .before .loop in
-    (furthest-is (rows (now (args .lo))) (args .t) (args .i) (turn .j) (turn .inv .4) (omega arith) (λ r l m. absurd (omega arith)), omega arith, omega arith)
+    (furthest-is (rows (now (args .lo))) (args .t) (args .i) (turn .j) (turn .inv .5) (omega arith) (λ r l m. absurd (omega arith)), omega arith, omega arith)
 
 pub tangent-spec : {M : Type 1} → statement M
 tangent-spec =
@@ -126,14 +127,14 @@ tangent-spec =
     begins-requires-2
     loop-holds
     add-loop
-    mul-wide
-    element-copy-out-wide
-    wide-requires
     begins-requires-3
     sub-leans
     sub-leans-2
     leans-requires
     returns
+    mul-wide
+    element-copy-out-wide
+    wide-requires
     loop-less
     loop-again
     returns-2)

@@ -1,22 +1,27 @@
--- The loop's invariant: the table is made for the rows from row `i - 1` on.
-use Prim.Native.Nat.{suc, _-_, _≤_}
-use mathlib.Core.Path.{_≡_, refl, _∙_}
+-- The loop's invariant: the table is made for the rows from row `i - 1` on, and `above` is what it tells of row `i - 1`.
+use Prim.Native.Nat.{ℕ, suc, _-_, _≤_}
+use mathlib.Core.Path.{_≡_, refl, sym, _∙_}
 use native.Mathlib.Decide.{decLt}
 use native.Mathlib.Omega.{arith}
-use lib.ListN.{length, length-set}
+use lib.ListN.{length, length-set, getD-replicate}
 use lib.Seq.{getD-set-same, getD-set-other}
 use Rattle.rows.specs.Rows.{rows, Tangents}
 use Rattle.rows.proofs.tangents.Statement.{statement}
 use Rattle.rows.proofs.tangents.Tie as tie
 
 abbrev Inv-loop : tie.InvT-loop
-Inv-loop lo b t next₀ i₀ next i = (i ≤ t) × (length next ≡ 256) × Tangents (rows lo) (rows next) (i - 1) t
+Inv-loop lo b t next₀ i₀ above₀ next i above = (i ≤ t) × (length next ≡ 256) × (above ≡ rows next (i - 1)) × Tangents (rows lo) (rows next) (i - 1) t
 
 abbrev μ-loop : tie.MeasureT-loop
-μ-loop lo b t next₀ i₀ next i = i
+μ-loop lo b t next₀ i₀ above₀ next i above = i
 
 loop-holds : tie.Need-loop-holds Inv-loop μ-loop
-loop-holds c = (omega arith, refl, record { furthest-left = λ i h l. absurd (omega arith) })
+loop-holds c = (
+  omega arith,
+  refl,
+  sym (getD-replicate {A = ℕ} 256 (c .args .t - 1) 0 0 (omega arith)),
+  record { furthest-left = λ i h l. absurd (omega arith) },
+)
 
 add-loop : tie.Need-add-loop Inv-loop μ-loop
 add-loop c = omega arith
@@ -31,7 +36,7 @@ tangent-requires : tie.Need-tangent-requires Inv-loop μ-loop
 tangent-requires c κs =
     let turn = c .before .before .loop in
     let e : suc (turn .i - 1 - 1) ≡ turn .i - 1 = omega arith in
-    (omega arith, omega arith, rw e (turn .inv .2))
+    (omega arith, omega arith, rw e (turn .inv .2), rw e (turn .inv .3))
 
 cast-next : tie.Need-cast-next Inv-loop μ-loop
 cast-next c = omega arith
@@ -52,16 +57,18 @@ loop-again : tie.Need-loop-again Inv-loop μ-loop
 loop-again c =
     let turn = c .before .before .before .loop in
     let n = turn .i - 1 - 1 in
-    let x = c .tangent .result in (
+    let x = c .tangent .result in
+    let stored = getD-set-same (turn .next) n x 0 (omega arith) in (
       omega arith,
       simp length-set (turn .inv .1),
+      sym stored,
       record {
         furthest-left = λ k h l.
             elim (decLt n k) [
-              | yes m ↦ getD-set-other (turn .next) n k x 0 (λ e. omega arith) ∙ turn .inv .2 .furthest-left k (omega arith) l
+              | yes m ↦ getD-set-other (turn .next) n k x 0 (λ e. omega arith) ∙ turn .inv .3 .furthest-left k (omega arith) l
               | no m ↦
                   let e : k ≡ n = omega arith in
-                  rw e (getD-set-same (turn .next) n x 0 (omega arith) ∙ c .tangent .ensures .0)
+                  rw e (stored ∙ c .tangent .ensures .0)
             ];
       },
     )
@@ -69,7 +76,7 @@ loop-again c =
 returns : tie.Need-returns Inv-loop μ-loop
 returns c =
     let turn = c .before .loop in
-    record { furthest-left = λ k h l. turn .inv .2 .furthest-left k (omega arith) l }
+    record { furthest-left = λ k h l. turn .inv .3 .furthest-left k (omega arith) l }
 
 pub tangents-spec : {M : Type 1} → statement M
 tangents-spec =
