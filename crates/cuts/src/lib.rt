@@ -31,6 +31,7 @@ fn place_read(n: usize, forward: bool, w: usize, p: usize) -> usize
     ahead(n, p, w)
 }
 
+// Whether all four places stand in a list of n letters.
 fn are_below(n: usize, found: Corners) -> bool
     ensures { λ r. ⌜ r ≡ (ltb (found .west) n && (ltb (found .north) n && (ltb (found .east) n && ltb (found .south) n))) ⌝ }
 {
@@ -43,7 +44,7 @@ pub struct Cuts {
     pub at: [usize; 5],
 }
 
-// Of the corners that no walk has nothing is promised.
+// From the corners of an outline past 1 to 6; of any others nothing is promised.
 pub fn cut_places(letters: &[u8], found: Corners) -> Cuts
     ensures { λ r. ⌜ ((s : Point) → Simple (outline s (now (letters .entry))) → found ≡ cornersOf (outline s (now (letters .entry))) → CutsOf (outline s (now (letters .entry))) r) ⌝ }
 {

@@ -50,12 +50,14 @@ fn row_stride(letter: u8) -> u32
     }
 }
 
+// Off the chart the row or the column is above 255, also below 0.
 fn is_off_chart(number: u64) -> bool
     ensures { λ r. ⌜ r ≡ offChart number ⌝ }
 {
     (255 < number / 65536 % 65536) | (255 < number / 4294967296)
 }
 
+// The lower and the higher of two numbers.
 fn lower(best: u64, number: u64) -> u64
     ensures { λ r. ⌜ r ≡ lowerOf best number ⌝ }
 {
@@ -96,6 +98,7 @@ pub(crate) enum Walk {
     Round { end: u64, corners: Corners },
 }
 
+// 4, 5 and 6, and the corners, where 1, 2 and 3 do not apply.
 pub(crate) fn along(s: Point, w: &[u8]) -> Walk
     requires { ⌜ Begun (outline s (now w)) ⌝ }
     ensures { λ r. ⌜ WalkedAs (outline s (now (w .entry))) r ⌝ }
