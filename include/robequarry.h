@@ -95,7 +95,7 @@ enum { RQ_EQUAL = 11, RQ_FIRST_WITHIN = 12, RQ_SECOND_WITHIN = 13, RQ_NO_COMMON 
  *
  * False, with nothing altered, if k is below RQ_REPLY. Else true; the reply stands first in `reply`, the rest is unaltered.
  *
- * Stack: about 12,600 bytes.
+ * Stack: about 11,100 bytes.
  */
 bool rq_test(uint16_t col, uint16_t row, const uint8_t *letters, size_t n, int16_t *edges, size_t m, uint16_t *reply, size_t k);
 
@@ -198,7 +198,7 @@ void rq_fresh(void *holder);
  * False, with nothing altered, unless n is RQ_CALL, the call's number is at most 8 and k is at least RQ_REPLY. Else true; the reply stands
  * first in `reply`, the rest is unaltered. Calls one after the other have the replies that a script of them has.
  *
- * Stack: about 70,100 bytes.
+ * Stack: about 66,700 bytes.
  */
 bool rq_call(void *holder, const uint8_t *call, size_t n, uint16_t *reply, size_t k);
 
