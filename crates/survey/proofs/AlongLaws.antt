@@ -49,8 +49,11 @@ module _ (o : Outline) (b : Begun o) where
     chart : (j : ℕ) → j ≤ i → OnChart (cornerAt o j)
     chart = reached-on-chart o b (t .out)
 
-    small : i < 65536
+    small : i < 1024
     small = omega (arith, size-small o b, t .out .passed)
+
+    wide : i < 65536
+    wide = omega (arith, small)
 
     number : m / 65536 ≡ rowNumber (cornerAt o i) i / 65536
     number = ap (λ (x : ℕ). x / 65536) (t .row)
@@ -58,15 +61,15 @@ module _ (o : Outline) (b : Begun o) where
     module _ (l : i < size o) where
       pub along-meets : isSet met (m / 65536) ≡ true → MetAt o i n
       along-meets h =
-          let again = met-again o (t .passed) chart small (rw number at h) in
+          let again = met-again o (t .passed) chart wide (rw number at h) in
           record { some = again .0; below = l; place = again .1 l; out = t .out }
 
       module _ {d : ℕ} (e : d ≡ colStride (letterAt o i % 4)) where
-        pub along-leaves : offChart ((n + d) % 18446744073709551616) ≡ true → (i < size o) × (i ≡ leavingPlace o)
+        pub along-leaves : offChart ((n + d) % 4294967296) ≡ true → (i < size o) × (i ≡ leavingPlace o)
         along-leaves f = (l, out-leaves o b (t .out) l e f)
 
         -- The corner in hand is new: it was not the first of those passed
-        module _ (h : isSet met (m / 65536) ≡ false) {g : ℕ} (k : g ≡ rowStride (letterAt o i % 4)) (f : offChart ((n + d) % 18446744073709551616) ≡ false) where
+        module _ (h : isSet met (m / 65536) ≡ false) {g : ℕ} (k : g ≡ rowStride (letterAt o i % 4)) (f : offChart ((n + d) % 4294967296) ≡ false) where
           is-new : isSet met (rowNumber (cornerAt o i) i / 65536) ≡ false
           is-new = rw number at h
 
@@ -80,19 +83,19 @@ module _ (o : Outline) (b : Begun o) where
                 small = small;
                 once = λ same.
                     elim (decLt (firstOf o k i) i) [
-                      | yes before ↦ absurd (new o (t .passed) chart small is-new (firstOf o k i) before (sym same))
+                      | yes before ↦ absurd (new o (t .passed) chart wide is-new (firstOf o k i) before (sym same))
                       | no before ↦ omega arith
                     ];
               }
 
           pub along-next
-              : Along o (i + 1) ((n + d) % 18446744073709551616) ((m + g) % 4294967296) (withNumber met (m / 65536))
+              : Along o (i + 1) ((n + d) % 4294967296) ((m + g) % 4294967296) (withNumber met (m / 65536))
               (lowerOf west n) (lowerOf north m) (higherOf east n) (higherOf south m)
           along-next =
               record {
                 out = out-next o b (t .out) l e f;
                 row = rows-next o b (t .out) l e (t .row) k f;
-                passed = rw number (passed-next o (t .passed) chart small is-new);
+                passed = rw number (passed-next o (t .passed) chart wide is-new);
                 west = kept-lower o 0 colNumber (t .west) (t .out .number) (visits 0) west-least;
                 north = kept-lower o 1 rowNumber (t .north) (t .row) (visits 1) north-least;
                 east = kept-higher o 2 colNumber (t .east) (t .out .number) (visits 2) east-greatest;
@@ -106,7 +109,7 @@ module _ (o : Outline) (b : Begun o) where
       at-chart : (k : ℕ) → OnChart (cornerAt o (cornerPlace o k))
       at-chart k = chart (cornerPlace o k) (omega (arith, place-le o k))
 
-      at-small : (k : ℕ) → cornerPlace o k < 65536
+      at-small : (k : ℕ) → cornerPlace o k < 1024
       at-small k = omega (arith, place-le o k, size-small o b)
 
       corners : cornersFrom west north east south ≡ cornersOf o

@@ -58,8 +58,8 @@ module _ (o : Outline) (k : ℕ) where
 
 -- ---- read back
 
-module _ {p : Point} {i n : ℕ} (h : OnChart p) (small : i < 65536) where
-  pub col-place : n ≡ colNumber p i → n % 65536 ≡ i
+module _ {p : Point} {i n : ℕ} (h : OnChart p) (small : i < 1024) where
+  pub col-place : n ≡ colNumber p i → n % 1024 ≡ i
   col-place e = omega (arith, h .col, h .row)
 
   pub col-corner : n ≡ colNumber p i → cornerOf n ≡ p

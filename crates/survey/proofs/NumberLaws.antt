@@ -17,17 +17,17 @@ use Rattle.survey.specs.Numbers.{colNumber, colStride, offChart, rowNumb
 
 -- ---- one step
 
-module _ (p : Point) (i : ℕ) (h : OnChart p) (small : i < 65535) where
+module _ (p : Point) (i : ℕ) (h : OnChart p) (small : i < 1023) where
   pub col-stays : offChart (colNumber p i) ≡ false
   unfolding offChart
-  col-stays = rw (le-ltb 255 (colNumber p i / 65536 % 65536) (omega arith), le-ltb 255 (colNumber p i / 4294967296) (omega arith))
+  col-stays = rw (le-ltb 255 (colNumber p i / 1024 % 1024) (omega arith), le-ltb 255 (colNumber p i / 1048576) (omega arith))
 
   module _ (a : ℕ) (l : a < 4) where
-    pub col-next : leaves p a ≡ false → (colNumber p i + colStride a) % 18446744073709551616 ≡ colNumber (step p a) (i + 1)
+    pub col-next : leaves p a ≡ false → (colNumber p i + colStride a) % 4294967296 ≡ colNumber (step p a) (i + 1)
     unfolding leaves step
     col-next = go a l
       where
-        go : (a : ℕ) → a < 4 → leaves p a ≡ false → (colNumber p i + colStride a) % 18446744073709551616 ≡ colNumber (step p a) (i + 1)
+        go : (a : ℕ) → a < 4 → leaves p a ≡ false → (colNumber p i + colStride a) % 4294967296 ≡ colNumber (step p a) (i + 1)
         go zero l e = omega (arith, leb-false side (p .col) e)
         go (suc zero) l e = omega (arith, leb-false side (p .row) e)
         go (suc (suc zero)) l e = omega (arith, eqb-false (p .col) 0 e)
@@ -46,24 +46,24 @@ module _ (p : Point) (i : ℕ) (h : OnChart p) (small : i < 65535) where
         go (suc (suc (suc (suc a)))) l e = absurd (omega arith)
 
 -- A number above 255 in its row, or in its column
-off-row : (n : ℕ) → 255 < n / 65536 % 65536 → offChart n ≡ true
+off-row : (n : ℕ) → 255 < n / 1024 % 1024 → offChart n ≡ true
 unfolding offChart
-off-row n h = rw (lt-ltb 255 (n / 65536 % 65536) h)
+off-row n h = rw (lt-ltb 255 (n / 1024 % 1024) h)
 
-off-col : (n : ℕ) → 255 < n / 4294967296 → offChart n ≡ true
+off-col : (n : ℕ) → 255 < n / 1048576 → offChart n ≡ true
 unfolding offChart
-off-col n h = go (ltb 255 (n / 65536 % 65536))
+off-col n h = go (ltb 255 (n / 1024 % 1024))
   where
-    go : (b : Bool) → (b || ltb 255 (n / 4294967296)) ≡ true
+    go : (b : Bool) → (b || ltb 255 (n / 1048576)) ≡ true
     go true = refl
-    go false = lt-ltb 255 (n / 4294967296) h
+    go false = lt-ltb 255 (n / 1048576) h
 
-pub col-leaves : (p : Point) (i : ℕ) → OnChart p → i < 65535 → (a : ℕ) → a < 4 → leaves p a ≡ true → offChart ((colNumber p i + colStride a) % 18446744073709551616) ≡ true
+pub col-leaves : (p : Point) (i : ℕ) → OnChart p → i < 1023 → (a : ℕ) → a < 4 → leaves p a ≡ true → offChart ((colNumber p i + colStride a) % 4294967296) ≡ true
 unfolding leaves
-col-leaves p i h s zero l e = off-col ((colNumber p i + colStride 0) % 18446744073709551616) (omega (arith, leb-true side (p .col) e))
-col-leaves p i h s (suc zero) l e = off-row ((colNumber p i + colStride 1) % 18446744073709551616) (omega (arith, leb-true side (p .row) e))
-col-leaves p i h s (suc (suc zero)) l e = off-col ((colNumber p i + colStride 2) % 18446744073709551616) (omega (arith, eqb-true (p .col) 0 e))
-col-leaves p i h s (suc (suc (suc zero))) l e = off-row ((colNumber p i + colStride 3) % 18446744073709551616) (omega (arith, eqb-true (p .row) 0 e))
+col-leaves p i h s zero l e = off-col ((colNumber p i + colStride 0) % 4294967296) (omega (arith, leb-true side (p .col) e))
+col-leaves p i h s (suc zero) l e = off-row ((colNumber p i + colStride 1) % 4294967296) (omega (arith, leb-true side (p .row) e))
+col-leaves p i h s (suc (suc zero)) l e = off-col ((colNumber p i + colStride 2) % 4294967296) (omega (arith, eqb-true (p .col) 0 e))
+col-leaves p i h s (suc (suc (suc zero))) l e = off-row ((colNumber p i + colStride 3) % 4294967296) (omega (arith, eqb-true (p .row) 0 e))
 col-leaves p i h s (suc (suc (suc (suc a)))) l e = absurd (omega arith)
 
 -- ---- the numbers of the set
@@ -92,7 +92,7 @@ pub record Visits (p q : Point) (i j : ℕ) : Type 0 where
   pub here : OnChart p
   pub there : OnChart q
   pub order : j ≤ i
-  pub small : i < 65536
+  pub small : i < 1024
   pub once : p ≡ q → i ≡ j
 
 -- The first corner in the frame of piece k has the least number, or the greatest

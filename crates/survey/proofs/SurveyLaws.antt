@@ -93,7 +93,7 @@ module _ (o : Outline) where
     -- The number of the corner at which a walk that stays ends tells whether it is closed
     module _ (t : Stays o) {n : ℕ} (e : n ≡ colNumber (walk (o .start) (o .letters)) (size o)) where
       abbrev away : Bool
-      away = not (eqb (n / 65536) (o .start .col * 65536 + o .start .row))
+      away = not (eqb (n / 1024) (o .start .col * 1024 + o .start .row))
 
       pub walk-unclosed : away ≡ true → Stopped Unclosed ≡ surveyOf o
       walk-unclosed h = survey-unclosed (b .counted) (b .started) (b .lettered) t (sym (away-unclosed o b t e) ∙ h)

@@ -54,26 +54,26 @@ module _ (o : Outline) (b : Begun o) where
     here : OnChart (cornerAt o i)
     here = reached-on-chart h i (omega arith)
 
-    place-small : i < 65535
+    place-small : i < 1023
     place-small = omega (arith, size-small)
 
     next : cornerAt o (i + 1) ≡ step (cornerAt o i) (letterAt o i)
     next = rw add-one (corner-suc o i l)
 
-    to : (n + d) % 18446744073709551616 ≡ (colNumber (cornerAt o i) i + colStride (letterAt o i)) % 18446744073709551616
+    to : (n + d) % 4294967296 ≡ (colNumber (cornerAt o i) i + colStride (letterAt o i)) % 4294967296
     to = rw (h .number, e, same)
 
     -- The letter leaves the chart exactly where the number does
-    off-leaves : offChart ((n + d) % 18446744073709551616) ≡ leavesAt i
+    off-leaves : offChart ((n + d) % 4294967296) ≡ leavesAt i
     off-leaves = go (leavesAt i) refl
       where
-        go : (v : Bool) → leavesAt i ≡ v → offChart ((n + d) % 18446744073709551616) ≡ v
+        go : (v : Bool) → leavesAt i ≡ v → offChart ((n + d) % 4294967296) ≡ v
         go true f = rw to (col-leaves (cornerAt o i) i here place-small (letterAt o i) small f)
         go false f =
             ap offChart (to ∙ col-next (cornerAt o i) i here place-small (letterAt o i) small f)
             ∙ col-stays (step (cornerAt o i) (letterAt o i)) (i + 1) (step-on-chart (cornerAt o i) (letterAt o i) f here) (omega (arith, size-small))
 
-    pub out-next : offChart ((n + d) % 18446744073709551616) ≡ false → Out o (i + 1) ((n + d) % 18446744073709551616)
+    pub out-next : offChart ((n + d) % 4294967296) ≡ false → Out o (i + 1) ((n + d) % 4294967296)
     out-next f =
         let stays : leavesAt i ≡ false = sym off-leaves ∙ f in
         record {
@@ -82,12 +82,12 @@ module _ (o : Outline) (b : Begun o) where
           number = rw next (to ∙ col-next (cornerAt o i) i here place-small (letterAt o i) small stays);
         }
 
-    pub out-leaves : offChart ((n + d) % 18446744073709551616) ≡ true → i ≡ leavingPlace o
+    pub out-leaves : offChart ((n + d) % 4294967296) ≡ true → i ≡ leavingPlace o
     unfolding leavingPlace
     out-leaves f = sym (first-stop leavesAt (size o) i (h .none) (sym off-leaves ∙ f) l)
 
     -- The number by rows goes along
-    pub rows-next : {m g : ℕ} → m ≡ rowNumber (cornerAt o i) i → g ≡ rowStride (letterAt o i % 4) → offChart ((n + d) % 18446744073709551616) ≡ false
+    pub rows-next : {m g : ℕ} → m ≡ rowNumber (cornerAt o i) i → g ≡ rowStride (letterAt o i % 4) → offChart ((n + d) % 4294967296) ≡ false
         → (m + g) % 4294967296 ≡ rowNumber (cornerAt o (i + 1)) (i + 1)
     rows-next f k off = rw (next, f, k, same) (row-next (cornerAt o i) i here place-small (letterAt o i) small (sym off-leaves ∙ off))
 
@@ -105,10 +105,10 @@ abbrev pub Further : List ℕ → ℕ → ℕ → ℕ → ℕ → Type 0
 Further w k m i n = (s : Point) → Begun (outline s w) → Out (outline s w) k m → Out (outline s w) i n
 
 module _ {w : List ℕ} {k m i n d : ℕ} (h : Further w k m i n) (l : i < length w) (e : d ≡ colStride (getD w i 0 % 4)) where
-  pub further-next : offChart ((n + d) % 18446744073709551616) ≡ false → Further w k m (i + 1) ((n + d) % 18446744073709551616)
+  pub further-next : offChart ((n + d) % 4294967296) ≡ false → Further w k m (i + 1) ((n + d) % 4294967296)
   further-next f s b g = out-next (outline s w) b (h s b g) l e f
 
-  pub further-leaves : offChart ((n + d) % 18446744073709551616) ≡ true → {x : ℕ} (s : Point) → Begun (outline s w) → Out (outline s w) k m
+  pub further-leaves : offChart ((n + d) % 4294967296) ≡ true → {x : ℕ} (s : Point) → Begun (outline s w) → Out (outline s w) k m
       → RestOf (outline s w) (record { leaves = i; end = x })
   further-leaves f s b g =
       let o = outline s w in
@@ -125,23 +125,23 @@ further-end {w} {k} {m} {i} {n} h l s b g =
 
 -- ---- refusal 5
 
-same-number : (p q : Point) (i : ℕ) → OnChart p → OnChart q → i < 65536 → eqb (colNumber p i / 65536) (q .col * 65536 + q .row) ≡ samePoint p q
-same-number p q i h k l = go (eqb (colNumber p i / 65536) (q .col * 65536 + q .row)) refl
+same-number : (p q : Point) (i : ℕ) → OnChart p → OnChart q → i < 1024 → eqb (colNumber p i / 1024) (q .col * 1024 + q .row) ≡ samePoint p q
+same-number p q i h k l = go (eqb (colNumber p i / 1024) (q .col * 1024 + q .row)) refl
   where
-    go : (b : Bool) → eqb (colNumber p i / 65536) (q .col * 65536 + q .row) ≡ b → b ≡ samePoint p q
+    go : (b : Bool) → eqb (colNumber p i / 1024) (q .col * 1024 + q .row) ≡ b → b ≡ samePoint p q
     go true e =
-        let f = eqb-true (colNumber p i / 65536) (q .col * 65536 + q .row) e in
+        let f = eqb-true (colNumber p i / 1024) (q .col * 1024 + q .row) e in
         sym (same-point-self p q (point-eq p q (omega arith) (omega arith)))
     go false e =
         sym
         (not-same-point p q λ d.
-        eqb-false (colNumber p i / 65536) (q .col * 65536 + q .row) e
+        eqb-false (colNumber p i / 1024) (q .col * 1024 + q .row) e
         (let c = ap (λ (x : Point). x .col) d in
         let r = ap (λ (x : Point). x .row) d in
         omega arith))
 
 pub away-unclosed : (o : Outline) → Begun o → Stays o → {n : ℕ} → n ≡ colNumber (walk (o .start) (o .letters)) (size o)
-    → not (eqb (n / 65536) (o .start .col * 65536 + o .start .row)) ≡ unclosed o
+    → not (eqb (n / 1024) (o .start .col * 1024 + o .start .row)) ≡ unclosed o
 unfolding unclosed
 away-unclosed o b t e =
     let start = start-on-chart (o .start) (b .started) in

@@ -1,5 +1,5 @@
--- The corner at a place of a walk as a number, by columns and by rows, with what a letter adds to it: 0 right, 1 up, 2 left, 3 down.
--- The place has the lowest sixteen bits, and every letter adds one to it.
+-- The corner at a place of a walk as a number of 32 bits, by columns and by rows, with what a letter adds to it, by sums modulo 2^32: 0 right, 1 up, 2 left, 3 down.
+-- The place has the lowest bits, and every letter adds one to it.
 use Prim.Native.Nat.{ℕ, zero, suc, _+_, _-_, _*_, _/_, _%_}
 use mathlib.Core.Bool.{Bool, cond, _||_}
 use lib.Dec.{ltb}
@@ -7,21 +7,21 @@ use Rattle.chart.specs.Limits.{side}
 use Rattle.chart.specs.declared.Point.{Point}
 use Rattle.survey.specs.declared.Corners.{Corners}
 
--- By columns and then by rows, sixteen bits each, by sums modulo 2^64. W has the least number, E the greatest
+-- By columns and then by rows, ten bits for the row and for the place. W has the least number, E the greatest
 abbrev pub colNumber : Point → ℕ → ℕ
-colNumber p i = p .col * 4294967296 + p .row * 65536 + i
+colNumber p i = p .col * 1048576 + p .row * 1024 + i
 
 abbrev pub colStride : ℕ → ℕ
-colStride zero = 4294967297
-colStride (suc zero) = 65537
-colStride (suc (suc zero)) = 18446744069414584321
-colStride (suc (suc (suc a))) = 18446744073709486081
+colStride zero = 1048577
+colStride (suc zero) = 1025
+colStride (suc (suc zero)) = 4293918721
+colStride (suc (suc (suc a))) = 4294966273
 
 -- Off the chart the row or the column is above 255, also below 0
 unfoldable pub offChart : ℕ → Bool
-offChart n = ltb 255 (n / 65536 % 65536) || ltb 255 (n / 4294967296)
+offChart n = ltb 255 (n / 1024 % 1024) || ltb 255 (n / 1048576)
 
--- By rows from the top and then by columns, eight bits each, by sums modulo 2^32. N has the least number, S the greatest
+-- By rows from the top and then by columns, eight bits for each and sixteen for the place. N has the least number, S the greatest
 abbrev pub rowNumber : Point → ℕ → ℕ
 rowNumber p i = (side - p .row) * 16777216 + p .col * 65536 + i
 
@@ -38,12 +38,12 @@ lowerOf best number = cond (ltb number best) number best
 unfoldable pub higherOf : ℕ → ℕ → ℕ
 higherOf best number = cond (ltb best number) number best
 
--- Read back: the place, the corner of a number by columns, and the row of one by rows
+-- Read back: the place and the corner of a number by columns, and the row of one by rows, whose place is its remainder by 2^16
 abbrev pub placeOf : ℕ → ℕ
-placeOf n = n % 65536
+placeOf n = n % 1024
 
 abbrev pub cornerOf : ℕ → Point
-cornerOf n = record { col = n / 4294967296 % 65536; row = n / 65536 % 65536 }
+cornerOf n = record { col = n / 1048576; row = n / 1024 % 1024 }
 
 abbrev pub rowOf : ℕ → ℕ
 rowOf n = side - n / 16777216 % 256
@@ -52,9 +52,9 @@ abbrev pub cornersFrom : ℕ → ℕ → ℕ → ℕ → Corners
 cornersFrom west north east south =
     record {
       west = placeOf west;
-      north = placeOf north;
+      north = north % 65536;
       east = placeOf east;
-      south = placeOf south;
+      south = south % 65536;
       corner = cornerOf west;
       bottom = rowOf south;
       top = rowOf north;

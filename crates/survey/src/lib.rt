@@ -28,7 +28,7 @@ pub enum Surveyed {
 }
 
 // The first of 4, 5 and 6, of a walk that met a corner.
-fn touched(start: Point, letters: &[u8], place: usize, number: u64) -> Surveyed
+fn touched(start: Point, letters: &[u8], place: usize, number: u32) -> Surveyed
     requires { ⌜ Begun (outline start (now letters)) × MetAt (outline start (now letters)) place number ⌝ }
     ensures { λ r. ⌜ r ≡ surveyOf (outline start (now (letters .entry))) ⌝ }
 {

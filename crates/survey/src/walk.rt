@@ -14,10 +14,11 @@ ghost use Rattle.survey.specs.Numbers.{colNumber, colStride, offChart, r
 ghost use Rattle.survey.specs.Walks.{Begun, Out, RestOf, WalkedAs};
 
 // The numbers of the corner at which a walk begins.
-fn col_number(p: Point) -> u64
+fn col_number(p: Point) -> u32
+    requires { ⌜ (p .col ≤ side) × (p .row ≤ side) ⌝ }
     ensures { λ r. ⌜ r ≡ colNumber p 0 ⌝ }
 {
-    (p.col as u64) * 4294967296 + (p.row as u64) * 65536
+    (p.col as u32) * 1048576 + (p.row as u32) * 1024
 }
 
 fn row_number(p: Point) -> u32
@@ -28,14 +29,14 @@ fn row_number(p: Point) -> u32
 }
 
 // What a letter adds to either.
-fn col_stride(letter: u8) -> u64
+fn col_stride(letter: u8) -> u32
     ensures { λ r. ⌜ r ≡ colStride (letter % 4) ⌝ }
 {
     match letter % 4 {
-        0 => 4294967297,
-        1 => 65537,
-        2 => 18446744069414584321,
-        _ => 18446744073709486081,
+        0 => 1048577,
+        1 => 1025,
+        2 => 4293918721,
+        _ => 4294966273,
     }
 }
 
@@ -51,37 +52,37 @@ fn row_stride(letter: u8) -> u32
 }
 
 // Off the chart the row or the column is above 255, also below 0.
-fn is_off_chart(number: u64) -> bool
+fn is_off_chart(number: u32) -> bool
     ensures { λ r. ⌜ r ≡ offChart number ⌝ }
 {
-    (255 < number / 65536 % 65536) | (255 < number / 4294967296)
+    (255 < number / 1024 % 1024) | (255 < number / 1048576)
 }
 
 // The lower and the higher of two numbers.
-fn lower(best: u64, number: u64) -> u64
+fn lower(best: u32, number: u32) -> u32
     ensures { λ r. ⌜ r ≡ lowerOf best number ⌝ }
 {
     if number < best { number } else { best }
 }
 
-fn higher(best: u64, number: u64) -> u64
+fn higher(best: u32, number: u32) -> u32
     ensures { λ r. ⌜ r ≡ higherOf best number ⌝ }
 {
     if best < number { number } else { best }
 }
 
 // W, N, E and S from their numbers.
-fn corners_from(west: u64, north: u64, east: u64, south: u64) -> Corners
+fn corners_from(west: u32, north: u32, east: u32, south: u32) -> Corners
     ensures { λ r. ⌜ r ≡ cornersFrom west north east south ⌝ }
 {
     Corners {
-        west: (west % 65536) as usize,
+        west: (west % 1024) as usize,
         north: (north % 65536) as usize,
-        east: (east % 65536) as usize,
+        east: (east % 1024) as usize,
         south: (south % 65536) as usize,
         corner: Point {
-            col: (west / 4294967296 % 65536) as u16,
-            row: (west / 65536 % 65536) as u16,
+            col: (west / 1048576) as u16,
+            row: (west / 1024 % 1024) as u16,
         },
         bottom: SIDE - (south / 16777216 % 256) as u16,
         top: SIDE - (north / 16777216 % 256) as u16,
@@ -93,9 +94,9 @@ pub(crate) enum Walk {
     // The letter at this place leaves the chart.
     Leaves { place: usize },
     // The corner at this place, with this number, was met before: the rest is not walked.
-    Meets { place: usize, number: u64 },
+    Meets { place: usize, number: u32 },
     // All letters are walked, and lead to the corner with this number.
-    Round { end: u64, corners: Corners },
+    Round { end: u32, corners: Corners },
 }
 
 // 4, 5 and 6, and the corners, where 1, 2 and 3 do not apply.
@@ -107,9 +108,9 @@ pub(crate) fn along(s: Point, w: &[u8]) -> Walk
     let mut by_col = col_number(s);
     let mut by_row = row_number(s);
     let mut west = by_col;
-    let mut north = by_row as u64;
+    let mut north = by_row;
     let mut east = by_col;
-    let mut south = by_row as u64;
+    let mut south = by_row;
     let mut i = 0;
     while i < w.len() {
         if flags::mark(&mut met, (by_row / 65536) as usize) {
@@ -119,11 +120,11 @@ pub(crate) fn along(s: Point, w: &[u8]) -> Walk
             };
         }
         west = lower(west, by_col);
-        north = lower(north, by_row as u64);
+        north = lower(north, by_row);
         east = higher(east, by_col);
-        south = higher(south, by_row as u64);
+        south = higher(south, by_row);
         let letter = w[i];
-        by_col = std::num::wrapping_add_u64(by_col, col_stride(letter));
+        by_col = std::num::wrapping_add_u32(by_col, col_stride(letter));
         by_row = std::num::wrapping_add_u32(by_row, row_stride(letter));
         if is_off_chart(by_col) {
             return Walk::Leaves { place: i };
@@ -139,17 +140,17 @@ pub(crate) fn along(s: Point, w: &[u8]) -> Walk
 // The place of the first letter that leaves the chart, and the number of the corner reached where none does.
 pub(crate) struct Rest {
     pub(crate) leaves: usize,
-    pub(crate) end: u64,
+    pub(crate) end: u32,
 }
 
 // 4, and what 5 has to know, of a walk that met a corner: from the corner at a place on, with its number.
-pub(crate) fn walk_on(w: &[u8], from: usize, number: u64) -> Rest
+pub(crate) fn walk_on(w: &[u8], from: usize, number: u32) -> Rest
     ensures { λ r. ⌜ ((s : Point) → Begun (outline s (now (w .entry))) → Out (outline s (now (w .entry))) from number → RestOf (outline s (now (w .entry))) r) ⌝ }
 {
     let mut by_col = number;
     let mut i = from;
     while i < w.len() {
-        by_col = std::num::wrapping_add_u64(by_col, col_stride(w[i]));
+        by_col = std::num::wrapping_add_u32(by_col, col_stride(w[i]));
         if is_off_chart(by_col) {
             return Rest {
                 leaves: i,
@@ -165,8 +166,8 @@ pub(crate) fn walk_on(w: &[u8], from: usize, number: u64) -> Rest
 }
 
 // 5. The walk ends at another corner than its start.
-pub(crate) fn ends_away(s: Point, end: u64) -> bool
-    ensures { λ r. ⌜ r ≡ not (eqb (end / 65536) (s .col * 65536 + s .row)) ⌝ }
+pub(crate) fn ends_away(s: Point, end: u32) -> bool
+    ensures { λ r. ⌜ r ≡ not (eqb (end / 1024) (s .col * 1024 + s .row)) ⌝ }
 {
-    end / 65536 != (s.col as u64) * 65536 + (s.row as u64)
+    end / 1024 != (s.col as u32) * 1024 + (s.row as u32)
 }

@@ -50,17 +50,17 @@ pub fn survey(start: Point, letters: &[u8]) -> Result<Corners, Fields> {
     walk(start, letters)
 }
 
-/// A corner by columns and then by rows, and its place, sixteen bits each: W has the least number, E the greatest, and one off the chart shows in the upper eight bits of
-/// its column or its row. And by rows from the top and then by columns, eight bits each, and its place: N has the least, S the greatest.
-const COL_STEPS: [u64; 4] = [(1 << 32) + 1, (1 << 16) + 1, (1u64 << 32).wrapping_neg() + 1, (1u64 << 16).wrapping_neg() + 1];
+/// A corner by columns and then by rows, ten bits for the row and for the place: W has the least number, E the greatest, and one off the chart shows in the bits above the
+/// lowest eight of its column or its row. And by rows from the top and then by columns, eight bits each, and its place: N has the least, S the greatest.
+const COL_STEPS: [u32; 4] = [(1 << 20) + 1, (1 << 10) + 1, (1u32 << 20).wrapping_neg() + 1, (1u32 << 10).wrapping_neg() + 1];
 const ROW_STEPS: [u32; 4] = [(1 << 16) + 1, (1u32 << 24).wrapping_neg() + 1, (1u32 << 16).wrapping_neg() + 1, (1 << 24) + 1];
-const OFF_CHART: u64 = 0xFFFF_FF00_FF00_0000;
+const OFF_CHART: u32 = 0xF00C_0000;
 
 /// Refusals 4, 5 and 6 and the corners in one walk. One bit for each corner met, those of neighbours in different words.
 fn walk(start: Point, letters: &[u8]) -> Result<Corners, Fields> {
     const WORDS: usize = CORNERS / 64;
     let mut met = [0u64; WORDS];
-    let first = u64::from(start.col) << 32 | u64::from(start.row) << 16;
+    let first = u32::from(start.col) << 20 | u32::from(start.row) << 10;
     let mut by_col = first;
     let mut by_row = u32::from(LAST_CORNER - start.row) << 24 | u32::from(start.col) << 16;
     let (mut west, mut north, mut east, mut south) = (by_col, by_row, by_col, by_row);
@@ -82,15 +82,15 @@ fn walk(start: Point, letters: &[u8]) -> Result<Corners, Fields> {
             return Err(placed(4, place));
         }
     }
-    if by_col >> 16 != first >> 16 {
+    if by_col >> 10 != first >> 10 {
         return Err(numbered(5));
     }
     Ok(Corners {
-        west: usize::from(west as u16),
+        west: west as usize % 1024,
         north: usize::from(north as u16),
-        east: usize::from(east as u16),
+        east: east as usize % 1024,
         south: usize::from(south as u16),
-        corner: Point::new((west >> 32) as u16, (west >> 16) as u16),
+        corner: Point::new((west >> 20) as u16, (west >> 10) as u16 % 1024),
         bottom: LAST_CORNER - (south >> 24) as u16,
         top: LAST_CORNER - (north >> 24) as u16,
     })
@@ -98,14 +98,14 @@ fn walk(start: Point, letters: &[u8]) -> Result<Corners, Fields> {
 
 /// Of a walk that met the corner at a place before: the rest leaves the chart, or ends elsewhere, or the letter that led there is refused.
 #[cold]
-fn touched(first: u64, letters: &[u8], from: usize, mut by_col: u64) -> Fields {
+fn touched(first: u32, letters: &[u8], from: usize, mut by_col: u32) -> Fields {
     for (place, &letter) in letters.iter().enumerate().skip(from) {
         by_col = by_col.wrapping_add(COL_STEPS[usize::from(letter & 3)]);
         if by_col & OFF_CHART != 0 {
             return placed(4, place);
         }
     }
-    if by_col >> 16 != first >> 16 {
+    if by_col >> 10 != first >> 10 {
         return numbered(5);
     }
     placed(6, from - 1)

@@ -24,16 +24,10 @@ none-requires : tie.Need-none-requires Inv-loop μ-loop
 none-requires c κs = search needs
 
 col-number-requires : tie.Need-col-number-requires Inv-loop μ-loop
-col-number-requires c κs = search needs
+col-number-requires c κs = let h = start-on-chart _ (c .before .before .pre .started) in (h .col, h .row)
 
 row-number-requires : tie.Need-row-number-requires Inv-loop μ-loop
 row-number-requires c κs = let h = start-on-chart _ (c .before .before .before .pre .started) in (h .col, h .row)
-
-cast-north : tie.Need-cast-north Inv-loop μ-loop
-cast-north c = search needs
-
-cast-south : tie.Need-cast-south Inv-loop μ-loop
-cast-south c = search needs
 
 loop-holds : tie.Need-loop-holds Inv-loop μ-loop
 loop-holds c =
@@ -61,17 +55,11 @@ returns c =
 lower-requires : tie.Need-lower-requires Inv-loop μ-loop
 lower-requires c κs = search needs
 
-cast-lower : tie.Need-cast-lower Inv-loop μ-loop
-cast-lower c = omega (arith, c .before .before .before .before .before .loop .inv .0)
-
 lower-requires-2 : tie.Need-lower-requires-2 Inv-loop μ-loop
 lower-requires-2 c κs = search needs
 
 higher-requires : tie.Need-higher-requires Inv-loop μ-loop
 higher-requires c κs = search needs
-
-cast-higher : tie.Need-cast-higher Inv-loop μ-loop
-cast-higher c = omega (arith, c .before .before .before .before .before .before .before .loop .inv .0)
 
 higher-requires-2 : tie.Need-higher-requires-2 Inv-loop μ-loop
 higher-requires-2 c κs = search needs
@@ -82,14 +70,14 @@ shared-slice-read-letter c = search needs
 col-stride-requires : tie.Need-col-stride-requires Inv-loop μ-loop
 col-stride-requires c κs = search needs
 
-wrapping-add-u64-requires : tie.Need-wrapping-add-u64-requires Inv-loop μ-loop
-wrapping-add-u64-requires c κs = search needs
+wrapping-add-u32-requires : tie.Need-wrapping-add-u32-requires Inv-loop μ-loop
+wrapping-add-u32-requires c κs = search needs
 
 row-stride-requires : tie.Need-row-stride-requires Inv-loop μ-loop
 row-stride-requires c κs = search needs
 
-wrapping-add-u32-requires : tie.Need-wrapping-add-u32-requires Inv-loop μ-loop
-wrapping-add-u32-requires c κs = search needs
+wrapping-add-u32-requires-2 : tie.Need-wrapping-add-u32-requires-2 Inv-loop μ-loop
+wrapping-add-u32-requires-2 c κs = search needs
 
 is-off-chart-requires : tie.Need-is-off-chart-requires Inv-loop μ-loop
 is-off-chart-requires c κs = search needs
@@ -104,7 +92,7 @@ returns-2 c =
     let cols = rows .before in
     let start = cols .before .before .before in
     along-leaves _ (start .pre) (at .loop .inv .1 (start .args .s) (cols .col-number .ensures) (rows .row-number .ensures) (start .pre)) (turn .loop-test .taken) (sum .before .col-stride .ensures)
-    (sym (ap offChart (sum .wrapping-add-u64 .ensures)) ∙ sym (c .before .is-off-chart .ensures) ∙ c .if2 .taken)
+    (sym (ap offChart (sum .wrapping-add-u32 .ensures)) ∙ sym (c .before .is-off-chart .ensures) ∙ c .if2 .taken)
 
 add-i : tie.Need-add-i Inv-loop μ-loop
 add-i c = search needs
@@ -122,11 +110,11 @@ loop-again c =
     let west = north .before in
     let mark = west .before .before in
     let turn = mark .before .before in (
-      omega (arith, row .wrapping-add-u32 .ensures),
+      omega (arith, row .wrapping-add-u322 .ensures),
       λ s e f b.
-          rw (row .wrapping-add-u32 .ensures, col .wrapping-add-u64 .ensures, west .lower .ensures, north .lower2 .ensures, east .higher .ensures, south .higher2 .ensures, mark .mark .ensures .1)
+          rw (row .wrapping-add-u322 .ensures, col .wrapping-add-u32 .ensures, west .lower .ensures, north .lower2 .ensures, east .higher .ensures, south .higher2 .ensures, mark .mark .ensures .1)
           (along-next _ b (turn .before .loop .inv .1 s e f b) (turn .loop-test .taken) (col .before .col-stride .ensures) (sym (mark .mark .ensures .0) ∙ west .before .if1 .left) (row .before .row-stride .ensures)
-          (sym (ap offChart (col .wrapping-add-u64 .ensures)) ∙ sym (c .before .is-off-chart .ensures) ∙ c .if2 .left)),
+          (sym (ap offChart (col .wrapping-add-u32 .ensures)) ∙ sym (c .before .is-off-chart .ensures) ∙ c .if2 .left)),
     )
 
 corners-from-requires : tie.Need-corners-from-requires Inv-loop μ-loop
@@ -150,23 +138,19 @@ along-spec =
     none-requires
     col-number-requires
     row-number-requires
-    cast-north
-    cast-south
     loop-holds
     cast-mark
     mark-requires
     returns
     lower-requires
-    cast-lower
     lower-requires-2
     higher-requires
-    cast-higher
     higher-requires-2
     shared-slice-read-letter
     col-stride-requires
-    wrapping-add-u64-requires
-    row-stride-requires
     wrapping-add-u32-requires
+    row-stride-requires
+    wrapping-add-u32-requires-2
     is-off-chart-requires
     returns-2
     add-i

@@ -9,7 +9,7 @@ use Rattle.survey.proofs.walk.col_stride.Tie as tie
 arm : (k a : ℕ) → a ≡ k → colStride k ≡ colStride a
 arm k a e = rw e
 
-last-arm : (a : ℕ) → 3 ≤ a → 18446744073709486081 ≡ colStride a
+last-arm : (a : ℕ) → 3 ≤ a → 4294966273 ≡ colStride a
 last-arm zero h = absurd (omega arith)
 last-arm (suc zero) h = absurd (omega arith)
 last-arm (suc (suc zero)) h = absurd (omega arith)

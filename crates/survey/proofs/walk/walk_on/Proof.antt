@@ -23,8 +23,8 @@ shared-slice-read-col-stride c = search needs
 col-stride-requires : tie.Need-col-stride-requires Inv-loop μ-loop
 col-stride-requires c κs = search needs
 
-wrapping-add-u64-requires : tie.Need-wrapping-add-u64-requires Inv-loop μ-loop
-wrapping-add-u64-requires c κs = search needs
+wrapping-add-u32-requires : tie.Need-wrapping-add-u32-requires Inv-loop μ-loop
+wrapping-add-u32-requires c κs = search needs
 
 is-off-chart-requires : tie.Need-is-off-chart-requires Inv-loop μ-loop
 is-off-chart-requires c κs = search needs
@@ -33,7 +33,7 @@ returns : tie.Need-returns Inv-loop μ-loop
 returns c =
     let added = c .before .before in
     let turn = added .before .before .before in
-    further-leaves (turn .before .loop .inv) (turn .loop-test .taken) (added .before .col-stride .ensures) (sym (ap offChart (added .wrapping-add-u64 .ensures)) ∙ sym (c .before .is-off-chart .ensures) ∙ c .if1 .taken)
+    further-leaves (turn .before .loop .inv) (turn .loop-test .taken) (added .before .col-stride .ensures) (sym (ap offChart (added .wrapping-add-u32 .ensures)) ∙ sym (c .before .is-off-chart .ensures) ∙ c .if1 .taken)
 
 add-i : tie.Need-add-i Inv-loop μ-loop
 add-i c = search needs
@@ -45,8 +45,8 @@ loop-again : tie.Need-loop-again Inv-loop μ-loop
 loop-again c =
     let added = c .before .before in
     let turn = added .before .before .before in
-    rw (added .wrapping-add-u64 .ensures)
-    (further-next (turn .before .loop .inv) (turn .loop-test .taken) (added .before .col-stride .ensures) (sym (ap offChart (added .wrapping-add-u64 .ensures)) ∙ sym (c .before .is-off-chart .ensures) ∙ c .if1 .left))
+    rw (added .wrapping-add-u32 .ensures)
+    (further-next (turn .before .loop .inv) (turn .loop-test .taken) (added .before .col-stride .ensures) (sym (ap offChart (added .wrapping-add-u32 .ensures)) ∙ sym (c .before .is-off-chart .ensures) ∙ c .if1 .left))
 
 returns-2 : tie.Need-returns-2 Inv-loop μ-loop
 returns-2 c = further-end (c .before .loop .inv) (c .loop-test .left)
@@ -60,7 +60,7 @@ walk-on-spec =
     loop-holds
     shared-slice-read-col-stride
     col-stride-requires
-    wrapping-add-u64-requires
+    wrapping-add-u32-requires
     is-off-chart-requires
     returns
     add-i
