@@ -11,7 +11,7 @@ use Rattle.base.specs.Below.{first}
 use Rattle.base.proofs.BelowLaws.{first-le}
 use Rattle.chart.specs.Limits.{shortest, longest}
 use Rattle.lattice.specs.Refusals.{badCount}
-use Rattle.lattice.proofs.WalkLaws.{or-left, or-right}
+use Rattle.lattice.proofs.WalkLaws.{or-right}
 
 pub first-zero : (f : ℕ → Bool) → first f 0 ≡ 0
 first-zero f = omega (arith, first-le f 0)
@@ -19,7 +19,3 @@ first-zero f = omega (arith, first-le f 0)
 pub counted-short : (w : List ℕ) → badCount w ≡ false → length w ≤ longest
 unfolding badCount
 counted-short w h = ltb-false longest (length w) (or-right (ltb (length w) shortest) (ltb longest (length w)) h)
-
-pub counted-long : (w : List ℕ) → badCount w ≡ false → shortest ≤ length w
-unfolding badCount
-counted-long w h = ltb-false (length w) shortest (or-left (ltb (length w) shortest) (ltb longest (length w)) h)
