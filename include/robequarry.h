@@ -1,250 +1,415 @@
 /*
- * Robequarry: digital convexity on a chart of 255 by 255 cells. The library is proved; link target/staticlib/librobequarry.a,
- * which `rt staticlib robequarry` writes (x86-64 Linux). It keeps no state of its own, allocates nothing and may be called from any
- * thread; a holder lives in memory that the caller lends, and is for one thread at a time.
+ * Robequarry 0.3.0: digital convexity on a chart of 255 by 255 cells.
  *
- * The chart. Cells have columns and rows 0 to 254, from the left and from the bottom; corners have 0 to 255. Cell (c, r) has
- * lower left corner (c, r). An outline is a start corner and letters, a byte each: 0 right, 1 up, 2 left, 3 down. A place is a
- * letter's index in the list as sent, from 0.
+ * You pass the border of a block of cells. The library says whether the block is convex. A convex block gets edges, by which a cell or
+ * a sensor's reading is then located. Any other is refused, with the place where the border goes wrong; a dent also with the lowest
+ * cell that is missing. The library is proved: every input has the reply that is described here.
  *
- * Lists are passed as pointer and length. Each pointer must be good for its length, and not null where the length is 0; no list
- * that is written may overlap another. Nothing else is asked: every input has a reply.
+ * Link target/staticlib/librobequarry.a, which `rt staticlib robequarry` writes (x86-64 Linux). This header is C99 and C++.
  *
- * Each call says about how many bytes of stack it needs; `cargo run --release --bin stack` in host/ measures it.
  *
- * A reply is seven numbers, in this order. Those that a reply does not name are 0.
+ * THE CHART
  *
- *   0 number   0, or the number of the refusal
- *   1 word     RQ_NO_WORD to RQ_CLOSE; of a comparison RQ_EQUAL to RQ_CROSSING
- *   2 place
- *   3 piece    1 to 4; in 21, 0 or 1; of a comparison, whose list is the inner one's: 1, 2, or 0
- *   4 length
- *   5 column   of a cell
- *   6 row
+ * Columns are counted from the left and rows from the bottom. Cells have 0 to 254, corners 0 to 255. Corner (c, r) is at the lower
+ * left of cell (c, r). An outline has a start corner and letters. A letter is a byte and one step along the border: 0 goes right, 1 up,
+ * 2 left and 3 down. The letters go once round a block, either way. They are counted from 0; that is a letter's place.
  *
- * Refusals, each with the fields that it names. Of several that apply, the first is given in the order 19, 20, 12 to 15, then 1 to 11, then 16 to 18.
- * There is no refusal 7: an outline may run either way, and one that runs anticlockwise is read backward, each letter turned to its opposite.
+ * An outline is taken if the convex hull of its cells holds no other cell. It then has an anchor, which is the lowest cell of its
+ * leftmost column, and edges. Edges lead from the anchor clockwise round the hull, from cell centre to cell centre. An edge is two
+ * numbers, columns and then rows.
  *
- *    1  there are fewer than 4 or more than RQ_LETTERS letters
- *    2  a number of the start is above 255
- *    3  a letter is above 3: place of the first such; in an add, the count of letters in the draft
- *    4  a letter steps off the chart's corners: place of the first such
- *    5  the walk does not end where it started
- *    6  a letter that is not the last reaches a corner at which the walk has been: place of the first such
- *    8  a piece has a back-step: piece and place of the first
- *    9  the outline is dented: piece, place and length of one copy of the first factor that is no Christoffel word; column and
- *       row of the lowest missing cell, the leftmost of its row
- *   10  test: `edges` has no room for two numbers of each edge: place, the count of edges;
- *       loose query, border, compare: the list has an odd count of numbers, or more than RQ_NUMBERS
- *   11  a cell number is above 254; compare, after 16: the walk leaves the chart; reading: a number is none, infinite, below 0 or above 254
- *   12  query, row, reading, piece: nothing is at work at the place
- *   13  add, close, drop: there is no draft
- *   14  begin: a draft is open
- *   15  add: the draft has RQ_LETTERS letters
- *   16  an edge is nil, or the edges do not sum to nil, or their directions do not rise strictly, clockwise from up, which may be the
- *       first, to just short of up again
- *   17  border: no outline is taken with this anchor and these edges
- *   18  border: `letters` has no room for the letters
- *   19  the party is above 1
- *   20  the place is above 3; a close that it turns back ends its party's draft all the same
- *   21  pile, check: a section is dented: piece 0 for a column and 1 for a row, place its column or row; the first among columns, then rows
- *   22  pile: the layer is above 15; before all others
  *
- * A pile's query gives 12 where the pile is unchecked or did not pass.
+ * WHO OWNS WHAT
  *
- * The words used here (piece, back-step, factor, missing) are those of docs/CONTRACT.md, clauses 2 and 3.
+ * All memory is the caller's. The library allocates nothing, keeps nothing between calls, and has no state of its own. rq_holder
+ * and rq_pile are plain numbers, without pointers or padding: put them where you like, copy them with memcpy, compare them with
+ * memcmp. Calls may run in any thread. One holder or pile is for one thread at a time, except that calls which take it as const may
+ * run side by side.
+ *
+ * A list is a pointer and a count of its elements. A list that is const is not altered. A buffer is a list that a call writes to,
+ * from its front; the rest of it is unaltered. Every call writes all seven numbers of its reply.
+ *
+ *
+ * WHAT A CALLER OWES
+ *
+ *  - A pointer is good for its count, and is not null, also where the count is 0.
+ *  - What is passed has been initialised: lists, replies, and buffers too. A holder or a pile has been made fresh once. Only
+ *    rq_fresh and rq_pile_fresh take memory with any content: `rq_holder h; rq_fresh(&h);` is right.
+ *  - What a call writes overlaps nothing else that is passed to it.
+ *  - For readings, floating point is as a C program starts with it: it rounds to nearest, and subnormal numbers are not flushed to
+ *    zero. The start-up code of -ffast-math breaks this. On a Cortex-M the bit FZ of FPSCR must be 0.
+ *
+ * Nothing else is asked. Counts, letters, numbers of edges, parties, places and floats may be anything.
+ *
+ *
+ * STACK
+ *
+ * At most so many bytes, measured on x86-64 and held by host/checks/tests/stack.rs:
+ *
+ *     rq_test, rq_close, rq_pile_set, a close by rq_call    11,600
+ *     rq_border                                             12,000
+ *     rq_replay                                             21,000
+ *     rq_pile_check                                            600
+ *     rq_compare; any other call by rq_call                    300
+ *     every other function                                     200
  */
 #ifndef ROBEQUARRY_H
 #define ROBEQUARRY_H
 
 #include <stdbool.h>
-#include <stddef.h>
 #include <stdint.h>
 
 #ifdef __cplusplus
 extern "C" {
 #endif
 
+#define RQ_VERSION_MAJOR 0
+#define RQ_VERSION_MINOR 3
+#define RQ_VERSION_PATCH 0
+#define RQ_VERSION "0.3.0"
+
+/* Limits. */
 enum {
-    RQ_REPLY = 7,     /* numbers of a reply */
-    RQ_CALL = 11,     /* bytes of a call */
-    RQ_PARTIES = 2,   /* 0 knee, 1 ankle */
-    RQ_PLACES = 4,    /* places of a party, from 0 */
-    RQ_LETTERS = 612, /* most letters of an outline, and of a draft */
-    RQ_EDGES = 200,   /* numbers that the edges of any taken outline need at most */
-    RQ_NUMBERS = 2032, /* most numbers of a list of edges that is lent */
-    RQ_HOLDER_BYTES = 8688, /* bytes of a holder, as rq_holder_bytes() says */
-    RQ_LAYERS = 16,   /* layers of a pile, from 0 */
-    RQ_PILE_BYTES = 8161 /* bytes of a pile, as rq_pile_bytes() says */
+    RQ_SIDE = 255,          /* columns of cells on the chart, and rows */
+    RQ_LETTERS = 612,       /* letters of an outline at most; a buffer of so many bytes holds any border */
+    RQ_MOST_EDGES = 100,    /* edges of a taken outline at most */
+    RQ_EDGE_NUMBERS = 200,  /* a buffer of so many numbers holds the edges of any taken outline */
+    RQ_LIST_NUMBERS = 2032, /* numbers of a list of edges at most, where one is passed */
+    RQ_PARTIES = 2,         /* parties of a holder: 0 the knee, 1 the ankle */
+    RQ_PLACES = 4,          /* places of a party, from 0 */
+    RQ_LAYERS = 16,         /* layers of a pile, from 0 */
+    RQ_CALL_BYTES = 11,     /* bytes of a call, for rq_call and rq_replay */
+    RQ_REPLY_NUMBERS = 7    /* numbers of a reply */
 };
 
-enum { RQ_NO_WORD = 0, RQ_INSIDE = 1, RQ_OUTSIDE = 2, RQ_TAKEN = 3, RQ_SAME = 4, RQ_NONE = 5, RQ_COLUMNS = 6, RQ_UNDECIDED = 7 };
+/* A reply. A number that a call does not name is 0. */
+typedef struct rq_reply {
+    uint16_t number; /* 0, or the refusal: RQ_REFUSED_... */
+    uint16_t word;   /* RQ_NO_WORD, or the answer: RQ_WORD_... */
+    uint16_t place;  /* of a letter; or a count, as the call says */
+    uint16_t piece;  /* of the border, clockwise: 1 left to top, 2 top to right, 3 right to bottom, 4 bottom to left; or what the call says */
+    uint16_t length; /* a count of letters */
+    uint16_t col;    /* column and row of a cell */
+    uint16_t row;
+} rq_reply;
 
-/* The words of a piece, beside RQ_NONE. */
-enum { RQ_MOVE = 8, RQ_LINE = 9, RQ_CLOSE = 10 };
+/* The last column of a row, where the word is RQ_WORD_COLUMNS; `col` is the first. */
+#define rq_last_column(reply) ((reply)->row)
 
-/* The words of a comparison. */
-enum { RQ_EQUAL = 11, RQ_FIRST_WITHIN = 12, RQ_SECOND_WITHIN = 13, RQ_NO_COMMON = 14, RQ_CROSSING = 15 };
+/*
+ * Refusals, with the fields that they name. Each call lists its own in the order in which they are checked, and the reply has the first
+ * that applies. A refused call alters nothing but its reply, with two exceptions: a close still ends its party's draft, unless it is
+ * refused by 19; and a pile whose check is refused has not passed. There is no 7.
+ */
+enum {
+    RQ_REFUSED_LENGTH = 1,           /* fewer than 4 letters, or more than RQ_LETTERS */
+    RQ_REFUSED_START = 2,            /* a number of the start corner is above 255 */
+    RQ_REFUSED_LETTER = 3,           /* a letter is above 3. place: the first such; in an add, the count of letters in the draft */
+    RQ_REFUSED_OFF_CHART = 4,        /* a letter steps off the chart. place: the first such */
+    RQ_REFUSED_NOT_CLOSED = 5,       /* the walk does not end where it started */
+    RQ_REFUSED_TOUCHES = 6,          /* a letter, not the last, reaches a corner where the walk has been. place: the first such */
+    RQ_REFUSED_BACK_STEP = 8,        /* a letter goes backward in its piece, so a cell is missing. piece, place: the first such */
+    RQ_REFUSED_DENT = 9,             /* a cell is missing. piece, place, length: one copy of the first factor that is no Christoffel word.
+                                        col, row: the lowest missing cell, the leftmost of its row */
+    RQ_REFUSED_EDGE_LIST = 10,       /* test: the buffer is too short. place: the count of edges. Other calls: the list has an odd count
+                                        of numbers, or more than RQ_LIST_NUMBERS. compare, place: which list, 1 or 2 */
+    RQ_REFUSED_CELL = 11,            /* a number of a cell is above 254; in a reading, a number is none, infinite, below 0 or above 254;
+                                        in a compare, the edges leave the chart. compare, place: which list */
+    RQ_REFUSED_NOTHING_AT_WORK = 12, /* nothing is at work at the place; in a pile, no check has passed since a layer was set */
+    RQ_REFUSED_NO_DRAFT = 13,        /* add, drop, close: the party has no draft */
+    RQ_REFUSED_DRAFT_OPEN = 14,      /* begin: the party has a draft */
+    RQ_REFUSED_DRAFT_FULL = 15,      /* add: the draft has RQ_LETTERS letters */
+    RQ_REFUSED_DIRECTIONS = 16,      /* an edge is zero, or the edges do not sum to zero, or their directions do not increase strictly
+                                        clockwise from up, which is the first. compare, place: which list */
+    RQ_REFUSED_NO_OUTLINE = 17,      /* border: the test takes no outline with this anchor and these edges */
+    RQ_REFUSED_LETTER_BUFFER = 18,   /* border: the buffer is too short for the letters */
+    RQ_REFUSED_PARTY = 19,           /* the party is above 1 */
+    RQ_REFUSED_PLACE = 20,           /* the place is above 3 */
+    RQ_REFUSED_SECTION = 21,         /* pile check: a section is dented. piece: 0 at a column, 1 at a row. place: that column or row.
+                                        The first one, columns before rows */
+    RQ_REFUSED_LAYER = 22            /* pile: the layer is above 15 */
+};
+
+/* Words. */
+enum {
+    RQ_NO_WORD = 0,
+    RQ_WORD_INSIDE = 1,
+    RQ_WORD_OUTSIDE = 2,
+    RQ_WORD_TAKEN = 3,          /* close */
+    RQ_WORD_SAME = 4,           /* close: taken, with the cells that were at work before */
+    RQ_WORD_NONE = 5,           /* row: no cell; piece: past the end */
+    RQ_WORD_COLUMNS = 6,        /* row */
+    RQ_WORD_UNDECIDED = 7,      /* reading: too near an edge to tell */
+    RQ_WORD_MOVE = 8,           /* piece */
+    RQ_WORD_LINE = 9,           /* piece */
+    RQ_WORD_CLOSE = 10,         /* piece */
+    RQ_WORD_EQUAL = 11,         /* compare, up to 15 */
+    RQ_WORD_FIRST_WITHIN = 12,
+    RQ_WORD_SECOND_WITHIN = 13,
+    RQ_WORD_NO_COMMON = 14,
+    RQ_WORD_CROSSING = 15
+};
 
 /*
  * Tests an outline: the start corner (col, row) and n letters.
  *
- * Taken: number 0, place the count of edges, column and row the anchor, which is the lowest enclosed cell of the leftmost column.
- * The edges of the hull, clockwise from the anchor, stand first in `edges`, columns then rows for each; the rest of its m numbers
- * is unaltered. Refused by 1 to 10: `edges` is unaltered. The word is always 0.
- *
- * False, with nothing altered, if k is below RQ_REPLY. Else true; the reply stands first in `reply`, the rest is unaltered.
- *
- * Stack: about 11,100 bytes.
+ * Taken: number 0, place the count of edges, col and row the anchor. The edges stand in the buffer `edges`, which has m numbers.
+ * Refused by 1 to 10.
  */
-bool rq_test(uint16_t col, uint16_t row, const uint8_t *letters, size_t n, int16_t *edges, size_t m, uint16_t *reply, size_t k);
+void rq_test(uint16_t col, uint16_t row, const uint8_t *letters, uint64_t n, int16_t *edges, uint64_t m, rq_reply *reply);
 
 /*
- * Asks whether the cell (col, row) is inside the m / 2 edges that lead once round, clockwise, from the anchor.
+ * Says whether the cell (col, row) is inside a list of m numbers, which are m / 2 edges from an anchor.
  *
- * The first edge leaves the anchor, and each other one the cell at which the one before it ends. The word is "inside" if the cell
- * lies in the hull of the anchor and the cells at which edges end, on the chart or off it; else "outside". That is: no edge (dx, dy),
- * leaving a cell (x, y), has dy (col - x) - dx (row - y) below 0, and the cell lies between the lowest and the highest column, and
- * between the lowest and the highest row, of those cells. With anchor and edges of a taken outline, the cells inside are those that it
- * encloses. Refused by 10, then 11 (anchor or cell), then 16, which a taken outline's edges never meet. A list without edges passes.
- *
- * False, with nothing altered, if k is below RQ_REPLY. Else true; the reply stands first in `reply`, the rest is unaltered.
- *
- * Stack: about 60 bytes.
+ * RQ_WORD_INSIDE if the cell lies in the convex hull of the anchor and the cells at which the edges end, on the chart or off it; else
+ * RQ_WORD_OUTSIDE. With the edges of a taken outline the cells inside are its own. A list without edges has the anchor alone.
+ * Refused by 10, 11 (anchor or cell) and 16.
  */
-bool rq_loose_query(uint16_t anchor_col, uint16_t anchor_row, const int16_t *edges, size_t m, uint16_t col, uint16_t row,
-                    uint16_t *reply, size_t k);
+void rq_loose_query(uint16_t anchor_col, uint16_t anchor_row, const int16_t *edges, uint64_t m, uint16_t col, uint16_t row,
+                    rq_reply *reply);
 
 /*
- * Writes back the border of the outline that has this anchor and these m / 2 edges.
+ * Writes the border of the outline that has an anchor and edges.
  *
- * Number 0, place the count of letters: they stand first in `letters`, clockwise from the lower left corner of the anchor, and the rest of
- * its n bytes is unaltered. Tested from that corner with room for RQ_EDGES numbers, they give the anchor and the edges again; of a taken
- * outline's anchor and edges they are its own letters, wherever it was begun and whichever way it was drawn. RQ_LETTERS bytes hold any
- * border. Without edges it is one cell. Refused by 10, 11 (the anchor), 16, 17, 18, in this order: `letters` is unaltered. The word is always 0.
- *
- * False, with nothing altered, if k is below RQ_REPLY. Else true; the reply stands first in `reply`, the rest is unaltered.
- *
- * Stack: about 11,600 bytes.
+ * place is the count of letters. They stand in the buffer `letters`, which has n bytes: clockwise from the lower left corner of the
+ * anchor. A test of them gives the same anchor and edges. Of a taken outline they are its own letters, wherever it was begun and
+ * whichever way it was drawn. Refused by 10, 11 (anchor), 16, 17 and 18.
  */
-bool rq_border(uint16_t anchor_col, uint16_t anchor_row, const int16_t *edges, size_t m, uint8_t *letters, size_t n, uint16_t *reply,
-               size_t k);
+void rq_border(uint16_t anchor_col, uint16_t anchor_row, const int16_t *edges, uint64_t m, uint8_t *letters, uint64_t n,
+               rq_reply *reply);
 
 /*
- * Compares the cells in two hulls, each that of an anchor and m / 2 edges, as rq_loose_query has them.
+ * Compares the cells in two hulls, each of an anchor and a list of edges.
  *
- * The word says one of five things, of which exactly one is true: both hulls hold the same cells (equal); every cell of the first is one
- * of the second, which has more (first within second); the other way round (second within first); no cell is in both (no common cell);
- * or else (crossing). Two hulls may overlap and have no common cell. The piece says whose list is the inner one's: 1 for equal and first
- * within second, 2 for second within first, else 0. Refused by 10, 11 (anchor), 16, then 11 where the walk of the edges leaves the
- * chart, all of the first list and then of the second; place, 1 or 2: which list. The lists are not altered.
- *
- * False, with nothing altered, if k is below RQ_REPLY. Else true; the reply stands first in `reply`, the rest is unaltered.
- *
- * Stack: about 300 bytes.
+ * RQ_WORD_EQUAL: both have the same cells. RQ_WORD_FIRST_WITHIN: every cell of the first is one of the second, which has more.
+ * RQ_WORD_SECOND_WITHIN: the other way round. RQ_WORD_NO_COMMON: no cell is in both, though the hulls may overlap. RQ_WORD_CROSSING:
+ * some cells are in both, some in the first alone and some in the second alone. piece says which list is the inner one's: 1 for equal
+ * and first within, 2 for second within, else 0. Refused by 10, 11 (anchor), 16 and 11 (the edges leave the chart), all of the first
+ * list before the second.
  */
-bool rq_compare(uint16_t anchor_col_1, uint16_t anchor_row_1, const int16_t *edges_1, size_t m_1, uint16_t anchor_col_2,
-                uint16_t anchor_row_2, const int16_t *edges_2, size_t m_2, uint16_t *reply, size_t k);
+void rq_compare(uint16_t anchor_col_1, uint16_t anchor_row_1, const int16_t *edges_1, uint64_t m_1, uint16_t anchor_col_2,
+                uint16_t anchor_row_2, const int16_t *edges_2, uint64_t m_2, rq_reply *reply);
 
 /*
- * Calls on a holder, which has for each of two parties, knee and ankle, a draft and four places for outlines at work. A call has RQ_CALL
- * bytes: its number, its party, its place, then x and y, numbers of 32 bits, low byte first. Bytes that are not named are ignored.
- *   0 begin   a start corner, the first two bytes of x and of y; opens a draft without letters
- *   1 add     a letter, the first byte of x; puts it at the draft's end
- *   2 drop    discards the draft
- *   3 clear   removes what is at work at the place; the draft is kept
- *   4 close   tests the draft and ends it. If it is taken, it replaces what is at work at the place, and the word is "same" where it encloses
- *             the same cells as what was at work there, wherever and whichever way it was drawn, else "taken", with the fields of a taken test
- *   5 query   a cell, the first two bytes of x and of y; the word is "inside" if the outline at work at the place encloses it, else "outside"
- *   6 row     a row, the first two bytes of x; the word is "columns" with the first enclosed column as column and the last as row, where
- *             every one between is enclosed too, or "none"
- *   7 reading two floats of 32 bits, whose bits are x and y: angle and load in chart units, in which a cell's centre is at its whole column and
- *             row. The word is "inside" or "outside" of the edges of the outline at work at the place, or "undecided"
- *   8 piece   a position, the first two bytes of x, counted from 0 in the drawing of the outline at work at the place. The word is "move" at
- *             first, with the anchor as column and row; then "line" with the cell at which an edge ends, for each edge but the last; then "close";
- *             then "none". So with e edges position e is the close, and without an edge position 1
- *
- * A reading (X, Y). An edge (dx, dy) that leaves the cell (x, y) has there the side value dy (X - x) - dx (Y - y), computed in floats of 32 bits, each
- * step rounded to nearest, ties to even. The word is "outside" where X is not between the lowest and the highest column of the cells at which
- * edges meet, or Y not between their rows, or some computed value is at most -1/64; else "undecided" where some computed value is below 1/64;
- * else "inside". One cell alone has its centre inside. Rounding moves no value by as much as 1/64: so "inside" and "outside" hold exactly, and a
- * reading is decided once its exact values all reach 1/32, or one has fallen to -1/32. -0 is 0.
- *
- * A party's replies depend on its own calls alone. A call that 19 or 20 turns back alters nothing, but that a close ends its party's draft.
+ * A holder keeps outlines for two parties. Each party has a draft, or none, which is drawn letter by letter; and four places, each
+ * with an outline at work or nothing. What a party is replied depends on its own calls alone. Memory of zeros is a fresh holder too.
  */
+typedef struct rq_holder {
+    uint8_t letters[1224]; /* of the two drafts */
+    uint8_t rows[4080];    /* of the eight outlines at work: first columns, and columns after the last */
+    int16_t numbers[1600]; /* of their edges */
+    uint16_t heads[40];    /* whether there is one, a column, a row and a count: of the drafts, and of the outlines at work */
+} rq_holder;
+
+/* Makes it a fresh holder, whatever the memory holds: no draft, and nothing at work. */
+static inline void rq_fresh(rq_holder *holder);
+
+/* Opens a draft that starts at the corner (col, row). Refused by 19, 14 and 2. */
+static inline void rq_begin(rq_holder *holder, uint8_t party, uint16_t col, uint16_t row, rq_reply *reply);
+
+/* Adds a letter at the draft's end. Refused by 19, 13, 15 and 3. */
+static inline void rq_add(rq_holder *holder, uint8_t party, uint8_t letter, rq_reply *reply);
+
+/* Discards the draft. Refused by 19 and 13. */
+static inline void rq_drop(rq_holder *holder, uint8_t party, rq_reply *reply);
+
+/* Removes what is at work at the place. The draft stays. Refused by 19 and 20. */
+static inline void rq_clear(rq_holder *holder, uint8_t party, uint8_t place, rq_reply *reply);
 
 /*
- * Runs a script of calls, one after the other, on a fresh holder, which has no draft and nothing at work, and writes a reply for each.
- *
- * The run ends before a call with a number above 8, before one that the script's end cuts, and before one whose reply has no room in
- * the k numbers of `replies`. Returns how many replies were written; what stands behind them is unaltered.
- *
- * Stack: about 71,000 bytes.
+ * Tests the draft and ends it. A draft that is taken replaces what is at work at the place. The word is then RQ_WORD_SAME if it has
+ * the same cells as what was at work there, else RQ_WORD_TAKEN, with the fields of a taken test. Refused by 19, 20, 13 and 1 to 9;
+ * what is at work stays then.
  */
-size_t rq_replay(const uint8_t *script, size_t n, uint16_t *replies, size_t k);
+static inline void rq_close(rq_holder *holder, uint8_t party, uint8_t place, rq_reply *reply);
 
-/* How many bytes a holder is: RQ_HOLDER_BYTES. */
-size_t rq_holder_bytes(void);
+/* RQ_WORD_INSIDE if the outline at work at the place has the cell (col, row), else RQ_WORD_OUTSIDE. Refused by 19, 20, 12 and 11. */
+static inline void rq_query(const rq_holder *holder, uint8_t party, uint8_t place, uint16_t col, uint16_t row, rq_reply *reply);
 
 /*
- * Makes a holder of lent memory: no draft, and nothing at work. The memory has rq_holder_bytes() bytes, is aligned to 8, and is all zero
- * bytes, or a holder already, before this call. Nobody else may write to it as long as it is used as a holder.
+ * RQ_WORD_COLUMNS if the outline at work has cells in the row: col is the first column and rq_last_column the last, and every column
+ * between them has its cell. Else RQ_WORD_NONE. Refused by 19, 20, 12 and 11.
  */
-void rq_fresh(void *holder);
+static inline void rq_row(const rq_holder *holder, uint8_t party, uint8_t place, uint16_t row, rq_reply *reply);
 
 /*
- * Makes one call of RQ_CALL bytes on a holder that rq_fresh made, and leaves it as the call says.
- *
- * False, with nothing altered, unless n is RQ_CALL, the call's number is at most 8 and k is at least RQ_REPLY. Else true; the reply stands
- * first in `reply`, the rest is unaltered. Calls one after the other have the replies that a script of them has.
- *
- * Stack: about 66,700 bytes.
+ * Locates a reading among the edges of the outline at work. Angle and load are in chart units: the centre of the cell (c, r) is at c
+ * and r. RQ_WORD_INSIDE and RQ_WORD_OUTSIDE are exactly true, whatever was rounded. RQ_WORD_UNDECIDED is said near an edge alone. An
+ * edge (dx, dy) that leaves the cell (x, y) has the side value dy (angle - x) - dx (load - y); where a reading is undecided, some side
+ * value is between -1/32 and 1/32. One cell alone has its centre inside. -0 is 0. Refused by 19, 20, 12 and 11.
  */
-bool rq_call(void *holder, const uint8_t *call, size_t n, uint16_t *reply, size_t k);
+static inline void rq_reading(const rq_holder *holder, uint8_t party, uint8_t place, float angle, float load, rq_reply *reply);
 
 /*
- * Gives the piece at a position of a drawing: the reply is that of call 8, and the point is given in floats of 32 bits as well.
- *
- * Where the word is "move" or "line" and p is at least 2, the column and the row of the cell, each raised by one half, stand first in `point`: the
- * floats are exactly these halves. The rest of it, and else all of it, is unaltered. The holder stays as it is. Refused by 19, 20 and 12.
- *
- * False, with nothing altered, if k is below RQ_REPLY. Else true; the reply stands first in `reply`, the rest is unaltered.
- *
- * Stack: about 9,800 bytes.
+ * Gives one piece of a drawing of the edges of the outline at work, by its position from 0: RQ_WORD_MOVE to the anchor; RQ_WORD_LINE
+ * to where an edge ends, edge after edge; RQ_WORD_CLOSE in place of the last line; and RQ_WORD_NONE after that. col and row are the cell
+ * of a move or a line, and `point` gets its centre: column + 1/2 and row + 1/2, exactly. Any other piece leaves `point` unaltered.
+ * Refused by 19, 20 and 12.
  */
-bool rq_piece(const void *holder, uint8_t party, uint8_t place, uint16_t position, float *point, size_t p, uint16_t *reply, size_t k);
+static inline void rq_piece(const rq_holder *holder, uint8_t party, uint8_t place, uint16_t position, float point[2],
+                            rq_reply *reply);
 
 /*
- * Calls on a pile of RQ_LAYERS layers, each empty or one taken outline. A section at a fixed column, or at a fixed row, is a plane of layers by cells;
- * it is dented if some cell of it lies in the hull of its marked cells and is not marked.
- *
- * All of them return false, with nothing altered, if k is below RQ_REPLY. Else true; the reply stands first in `reply`, the rest is unaltered.
+ * A call on a holder as eleven bytes: the number of the call, the party, the place, then x and y, two numbers of 32 bits, low byte
+ * first. Bytes that a call does not name are ignored.
  */
+enum {
+    RQ_CALL_BEGIN = 0,   /* the corner: the low 16 bits of x and of y */
+    RQ_CALL_ADD = 1,     /* the letter: the low 8 bits of x */
+    RQ_CALL_DROP = 2,
+    RQ_CALL_CLEAR = 3,   /* the place */
+    RQ_CALL_CLOSE = 4,   /* the place */
+    RQ_CALL_QUERY = 5,   /* the place; the cell: the low 16 bits of x and of y */
+    RQ_CALL_ROW = 6,     /* the place; the row: the low 16 bits of x */
+    RQ_CALL_READING = 7, /* the place; angle and load: the bits of two floats, x and y */
+    RQ_CALL_PIECE = 8    /* the place; the position: the low 16 bits of x */
+};
 
-/* How many bytes a pile is: RQ_PILE_BYTES. */
-size_t rq_pile_bytes(void);
+/* Makes the call that stands in n bytes. Returns false, with nothing altered, unless n is RQ_CALL_BYTES and the number is a call's. */
+static inline bool rq_call(rq_holder *holder, const uint8_t *call, uint64_t n, rq_reply *reply);
 
 /*
- * Makes a pile of lent memory: every layer empty, and unchecked. The memory has rq_pile_bytes() bytes, is aligned to 8, and is all zero bytes, or a
- * pile already, before this call. Nobody else may write to it as long as it is used as a pile.
+ * Runs the calls that stand one after the other in n bytes, on a fresh holder of its own, and writes a reply for each. It ends at
+ * bytes that are no call, at a call that is cut, and after m replies. Returns how many replies it wrote.
  */
-void rq_pile_fresh(void *pile);
+static inline uint64_t rq_replay(const uint8_t *script, uint64_t n, rq_reply *replies, uint64_t m);
 
 /*
- * Sets a layer to an outline: 22, then 1 to 9, or taken with the fields of a taken test. A refusal alters nothing; else the pile is unchecked.
- *
- * Stack: about 41,400 bytes, as for all calls on a pile.
+ * A pile keeps sixteen layers, each empty or one taken outline. A section cuts through all layers at one column, or at one row. It is
+ * dented if some cell lies in the convex hull of its cells, in the plane of layers and rows or of layers and columns, and is none of
+ * them. A pile has passed from a check that finds no dent until a layer is set. Memory of zeros is a fresh pile too.
  */
-bool rq_pile_set(void *pile, uint8_t layer, uint16_t col, uint16_t row, const uint8_t *letters, size_t n, uint16_t *reply, size_t k);
+typedef struct rq_pile {
+    uint8_t rows[8160]; /* of the sixteen layers: first columns, and columns after the last */
+    uint8_t state[1];   /* not 0 where the pile has passed */
+} rq_pile;
 
-/* Sets a layer to empty: 22, or number 0, and the pile is unchecked. */
-bool rq_pile_empty(void *pile, uint8_t layer, uint16_t *reply, size_t k);
+/* Makes it a fresh pile, whatever the memory holds: every layer is empty, and it has not passed. */
+static inline void rq_pile_fresh(rq_pile *pile);
 
-/* Checks every section: 21, or number 0, and the pile has passed until a layer is set. */
-bool rq_pile_check(void *pile, uint16_t *reply, size_t k);
+/* Sets a layer to an outline, as rq_test has it. The reply is that of the test. Refused by 22 and 1 to 9. */
+static inline void rq_pile_set(rq_pile *pile, uint8_t layer, uint16_t col, uint16_t row, const uint8_t *letters, uint64_t n,
+                               rq_reply *reply);
 
-/* Asks where a cell lies: 22, 12, 11, or the word "inside" if the layer's outline encloses it, and else "outside". The pile stays as it is. */
-bool rq_pile_query(void *pile, uint8_t layer, uint16_t col, uint16_t row, uint16_t *reply, size_t k);
+/* Sets a layer to empty. Refused by 22. */
+static inline void rq_pile_empty(rq_pile *pile, uint8_t layer, rq_reply *reply);
+
+/* Checks every section. Number 0, and the pile has passed; or refused by 21, and it has not. */
+static inline void rq_pile_check(rq_pile *pile, rq_reply *reply);
+
+/* RQ_WORD_INSIDE if the layer's outline has the cell (col, row), else RQ_WORD_OUTSIDE. Refused by 22, 12 and 11. */
+static inline void rq_pile_query(const rq_pile *pile, uint8_t layer, uint16_t col, uint16_t row, rq_reply *reply);
+
+/*
+ * What follows is how the calls above reach the library, which takes the arrays of a holder or a pile one by one.
+ */
+void rq_fresh_parts(uint8_t letters[1224], uint8_t rows[4080], int16_t numbers[1600], uint16_t heads[40]);
+void rq_begin_parts(uint16_t heads[40], uint8_t party, uint16_t col, uint16_t row, rq_reply *reply);
+void rq_add_parts(uint8_t letters[1224], uint16_t heads[40], uint8_t party, uint8_t letter, rq_reply *reply);
+void rq_drop_parts(uint16_t heads[40], uint8_t party, rq_reply *reply);
+void rq_clear_parts(uint16_t heads[40], uint8_t party, uint8_t place, rq_reply *reply);
+void rq_close_parts(const uint8_t letters[1224], uint8_t rows[4080], int16_t numbers[1600], uint16_t heads[40], uint8_t party,
+                    uint8_t place, rq_reply *reply);
+void rq_query_parts(const uint8_t rows[4080], const uint16_t heads[40], uint8_t party, uint8_t place, uint16_t col, uint16_t row,
+                    rq_reply *reply);
+void rq_row_parts(const uint8_t rows[4080], const uint16_t heads[40], uint8_t party, uint8_t place, uint16_t row, rq_reply *reply);
+void rq_reading_parts(const int16_t numbers[1600], const uint16_t heads[40], uint8_t party, uint8_t place, float angle, float load,
+                      rq_reply *reply);
+void rq_piece_parts(const int16_t numbers[1600], const uint16_t heads[40], uint8_t party, uint8_t place, uint16_t position,
+                    float point[2], rq_reply *reply);
+bool rq_call_parts(uint8_t letters[1224], uint8_t rows[4080], int16_t numbers[1600], uint16_t heads[40], const uint8_t *call,
+                   uint64_t n, rq_reply *reply);
+uint64_t rq_replay_numbers(const uint8_t *script, uint64_t n, rq_reply *replies, uint64_t k);
+void rq_pile_fresh_parts(uint8_t rows[8160], uint8_t state[1]);
+void rq_pile_set_parts(uint8_t rows[8160], uint8_t state[1], uint8_t layer, uint16_t col, uint16_t row, const uint8_t *letters,
+                       uint64_t n, rq_reply *reply);
+void rq_pile_empty_parts(uint8_t rows[8160], uint8_t state[1], uint8_t layer, rq_reply *reply);
+void rq_pile_check_parts(const uint8_t rows[8160], uint8_t state[1], rq_reply *reply);
+void rq_pile_query_parts(const uint8_t rows[8160], const uint8_t state[1], uint8_t layer, uint16_t col, uint16_t row,
+                         rq_reply *reply);
+
+static inline void rq_fresh(rq_holder *holder) {
+    rq_fresh_parts(holder->letters, holder->rows, holder->numbers, holder->heads);
+}
+
+static inline void rq_begin(rq_holder *holder, uint8_t party, uint16_t col, uint16_t row, rq_reply *reply) {
+    rq_begin_parts(holder->heads, party, col, row, reply);
+}
+
+static inline void rq_add(rq_holder *holder, uint8_t party, uint8_t letter, rq_reply *reply) {
+    rq_add_parts(holder->letters, holder->heads, party, letter, reply);
+}
+
+static inline void rq_drop(rq_holder *holder, uint8_t party, rq_reply *reply) {
+    rq_drop_parts(holder->heads, party, reply);
+}
+
+static inline void rq_clear(rq_holder *holder, uint8_t party, uint8_t place, rq_reply *reply) {
+    rq_clear_parts(holder->heads, party, place, reply);
+}
+
+static inline void rq_close(rq_holder *holder, uint8_t party, uint8_t place, rq_reply *reply) {
+    rq_close_parts(holder->letters, holder->rows, holder->numbers, holder->heads, party, place, reply);
+}
+
+static inline void rq_query(const rq_holder *holder, uint8_t party, uint8_t place, uint16_t col, uint16_t row, rq_reply *reply) {
+    rq_query_parts(holder->rows, holder->heads, party, place, col, row, reply);
+}
+
+static inline void rq_row(const rq_holder *holder, uint8_t party, uint8_t place, uint16_t row, rq_reply *reply) {
+    rq_row_parts(holder->rows, holder->heads, party, place, row, reply);
+}
+
+static inline void rq_reading(const rq_holder *holder, uint8_t party, uint8_t place, float angle, float load, rq_reply *reply) {
+    rq_reading_parts(holder->numbers, holder->heads, party, place, angle, load, reply);
+}
+
+static inline void rq_piece(const rq_holder *holder, uint8_t party, uint8_t place, uint16_t position, float point[2],
+                            rq_reply *reply) {
+    rq_piece_parts(holder->numbers, holder->heads, party, place, position, point, reply);
+}
+
+static inline bool rq_call(rq_holder *holder, const uint8_t *call, uint64_t n, rq_reply *reply) {
+    return rq_call_parts(holder->letters, holder->rows, holder->numbers, holder->heads, call, n, reply);
+}
+
+static inline uint64_t rq_replay(const uint8_t *script, uint64_t n, rq_reply *replies, uint64_t m) {
+    return rq_replay_numbers(script, n, replies, RQ_REPLY_NUMBERS * m);
+}
+
+static inline void rq_pile_fresh(rq_pile *pile) {
+    rq_pile_fresh_parts(pile->rows, pile->state);
+}
+
+static inline void rq_pile_set(rq_pile *pile, uint8_t layer, uint16_t col, uint16_t row, const uint8_t *letters, uint64_t n,
+                               rq_reply *reply) {
+    rq_pile_set_parts(pile->rows, pile->state, layer, col, row, letters, n, reply);
+}
+
+static inline void rq_pile_empty(rq_pile *pile, uint8_t layer, rq_reply *reply) {
+    rq_pile_empty_parts(pile->rows, pile->state, layer, reply);
+}
+
+static inline void rq_pile_check(rq_pile *pile, rq_reply *reply) {
+    rq_pile_check_parts(pile->rows, pile->state, reply);
+}
+
+static inline void rq_pile_query(const rq_pile *pile, uint8_t layer, uint16_t col, uint16_t row, rq_reply *reply) {
+    rq_pile_query_parts(pile->rows, pile->state, layer, col, row, reply);
+}
+
+/* The structs have no padding. */
+#if defined(__cplusplus) && __cplusplus >= 201103L
+#define RQ_CHECK(name, fact) static_assert(fact, #name)
+#elif !defined(__cplusplus) && defined(__STDC_VERSION__) && __STDC_VERSION__ >= 201112L
+#define RQ_CHECK(name, fact) _Static_assert(fact, #name)
+#else
+#define RQ_CHECK(name, fact) typedef char rq_check_##name[(fact) ? 1 : -1]
+#endif
+RQ_CHECK(a_reply_has_14_bytes, sizeof(rq_reply) == 14);
+RQ_CHECK(a_holder_has_8584_bytes, sizeof(rq_holder) == 8584);
+RQ_CHECK(a_pile_has_8161_bytes, sizeof(rq_pile) == 8161);
+#undef RQ_CHECK
 
 #ifdef __cplusplus
 }

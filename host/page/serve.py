@@ -38,7 +38,7 @@ POLICY = "default-src 'none'; script-src 'self'; style-src 'self'; img-src 'self
 
 
 class Refused(Exception):
-    """A request that is turned back, with its status and a sentence."""
+    """A request that is refused, with its status and a sentence."""
 
     def __init__(self, status, message):
         super().__init__(message)
@@ -88,7 +88,7 @@ class Handler(BaseHTTPRequestHandler):
             self.send(refused.status, "application/json", json.dumps({"error": str(refused)}).encode())
 
     def check_host(self):
-        """Turns back pages of other sites that have got themselves this machine's address."""
+        """Refuses pages of other sites that have got themselves this machine's address."""
         port = self.server.server_address[1]
         if self.headers.get("Host") not in (f"{ADDRESS}:{port}", f"localhost:{port}"):
             raise Refused(HTTPStatus.FORBIDDEN, f"this page is served as {ADDRESS}:{port} alone")

@@ -2,7 +2,7 @@ use std::fmt;
 
 /// A corner of the chart: column and row from 0 to [`LAST_CORNER`](crate::limits::LAST_CORNER).
 ///
-/// Any two numbers make one; a test turns back a start that is off the chart.
+/// Any two numbers make one; a test refuses a start that is off the chart.
 #[derive(Clone, Copy, Debug, PartialEq, Eq, Hash)]
 pub struct Corner {
     pub col: u16,
@@ -12,7 +12,7 @@ pub struct Corner {
 /// A cell of the chart: column and row from 0 to [`LAST_CELL`](crate::limits::LAST_CELL). Its lower left corner has the same two
 /// numbers.
 ///
-/// Any two numbers make one; a query turns back a cell that is off the chart.
+/// Any two numbers make one; a query refuses a cell that is off the chart.
 #[derive(Clone, Copy, Debug, PartialEq, Eq, Hash)]
 pub struct Cell {
     pub col: u16,
@@ -22,7 +22,7 @@ pub struct Cell {
 /// Angle and load as two sensors give them, in chart units: the centre of a cell is at its whole column and row. The two floats are
 /// kept as bits, so that readings are the same exactly if the same bits are sent.
 ///
-/// Any bits make one; a number that is none, infinite, below 0 or above [`LAST_CELL`](crate::limits::LAST_CELL) is turned back.
+/// Any bits make one; a number that is none, infinite, below 0 or above [`LAST_CELL`](crate::limits::LAST_CELL) is refused.
 #[derive(Clone, Copy, Debug, PartialEq, Eq, Hash)]
 pub struct Reading {
     pub angle: u32,

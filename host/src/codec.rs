@@ -1,7 +1,8 @@
 //! What goes in and out of the library as plain numbers: replies, and the calls of a script. Nothing else in this crate or
-//! in its checks turns either into numbers or back.
+//! in its checks reads or writes them as numbers.
 
 use crate::limits::{CALL, REPLY};
+use crate::raw::Reply;
 use crate::{Cell, Corner, Reading};
 
 /// The words of a reply (contract 4.3).
@@ -22,8 +23,10 @@ pub const SECOND_WITHIN: u16 = 13;
 pub const NO_COMMON: u16 = 14;
 pub const CROSSING: u16 = 15;
 
-/// A reply, with a name for each of its numbers, in their order (contract 4.1). A field that the reply does not name is 0.
+/// A reply, with a name for each of its numbers, in their order (contract 4.1). A field that the reply does not name is 0. In C it is
+/// `rq_reply`.
 #[derive(Clone, Copy, Debug, Default, PartialEq, Eq, Hash)]
+#[repr(C)]
 pub struct Fields {
     /// 0, or the refusal's number.
     pub number: u16,
@@ -36,14 +39,14 @@ pub struct Fields {
     pub row: u16,
 }
 
-impl From<[u16; REPLY]> for Fields {
+impl From<Reply> for Fields {
     #[inline]
-    fn from([number, word, place, piece, length, col, row]: [u16; REPLY]) -> Self {
+    fn from([number, word, place, piece, length, col, row]: Reply) -> Self {
         Fields { number, word, place, piece, length, col, row }
     }
 }
 
-impl From<Fields> for [u16; REPLY] {
+impl From<Fields> for Reply {
     #[inline]
     fn from(Fields { number, word, place, piece, length, col, row }: Fields) -> Self {
         [number, word, place, piece, length, col, row]
@@ -51,31 +54,21 @@ impl From<Fields> for [u16; REPLY] {
 }
 
 impl Fields {
-    /// Writes the reply at the front of a list. False, with nothing altered, if it has no room there.
-    #[inline]
-    pub fn write(self, list: &mut [u16]) -> bool {
-        let Some(front) = list.first_chunk_mut() else {
-            return false;
-        };
-        *front = self.into();
-        true
-    }
-
-    /// The replies that stand one behind the other in a list. Numbers too few for one more are left out.
+    /// The replies that stand one after the other in a list. Numbers too few for one more are left out.
     pub fn each(list: &[u16]) -> impl Iterator<Item = Fields> + '_ {
-        list.chunks_exact(REPLY).map(|reply| Fields::from(<[u16; REPLY]>::try_from(reply).expect("a chunk is as long")))
+        list.chunks_exact(REPLY).map(|reply| Fields::from(Reply::try_from(reply).expect("a chunk is as long")))
     }
 }
 
 /// A call on a holder: whose it is, and what is to be done (contract 7).
 #[derive(Clone, Copy, Debug, PartialEq, Eq, Hash)]
 pub struct Call {
-    /// 0 knee, 1 ankle; a greater one is turned back.
+    /// 0 knee, 1 ankle; a greater one is refused.
     pub party: u8,
     pub action: Action,
 }
 
-/// What a call does for its party (contract 7.3 to 7.11). A place above 3 is turned back.
+/// What a call does for its party (contract 7.3 to 7.11). A place above 3 is refused.
 #[derive(Clone, Copy, Debug, PartialEq, Eq, Hash)]
 pub enum Action {
     /// Opens a draft without letters.
@@ -222,11 +215,8 @@ mod tests {
         let numbers = [9, 0, 4, 2, 6, 1, 3];
         let fields = Fields { number: 9, word: 0, place: 4, piece: 2, length: 6, col: 1, row: 3 };
         assert_eq!(Fields::from(numbers), fields);
-        assert_eq!(<[u16; REPLY]>::from(fields), numbers);
-        let mut list = [5; 9];
-        assert!(fields.write(&mut list));
-        assert_eq!(list, [9, 0, 4, 2, 6, 1, 3, 5, 5]);
-        assert!(!fields.write(&mut list[..6]));
-        assert!(Fields::each(&list).eq([fields]));
+        assert_eq!(Reply::from(fields), numbers);
+        assert!(Fields::each(&[9, 0, 4, 2, 6, 1, 3, 5, 5]).eq([fields]));
+        assert!(Fields::each(&numbers[..6]).eq([]));
     }
 }

@@ -28,9 +28,9 @@ pub struct Comparison<'a> {
     pub inner: Option<&'a Edges>,
 }
 
-/// A list that a comparison turned back.
+/// A list that a comparison refused.
 #[derive(Clone, Copy, Debug, PartialEq, Eq, Hash)]
-pub struct TurnedBack {
+pub struct RefusedList {
     /// The first list or the second: 1 or 2.
     pub list: u16,
     pub refusal: Refusal,
@@ -38,14 +38,12 @@ pub struct TurnedBack {
 
 impl Edges {
     /// How the cells in this hull lie to those in another. Both walks must stay on the chart.
-    pub fn compare<'a>(&'a self, other: &'a Edges) -> Result<Comparison<'a>, TurnedBack> {
+    pub fn compare<'a>(&'a self, other: &'a Edges) -> Result<Comparison<'a>, RefusedList> {
+        let anchor = |edges: &Edges| (edges.anchor().col, edges.anchor().row);
         let mut reply = [0; REPLY];
-        let corner = |edges: &Edges| (edges.anchor().col, edges.anchor().row);
-        raw::compare(corner(self), self.numbers(), corner(other), other.numbers(), &mut reply);
+        raw::compare(anchor(self), self.numbers(), anchor(other), other.numbers(), &mut reply);
         let fields = Fields::from(reply);
-        if let Some(refusal) = Refusal::of_list(fields) {
-            return Err(TurnedBack { list: fields.place, refusal });
-        }
+        Refusal::check_list(&reply).map_err(|refusal| RefusedList { list: fields.place, refusal })?;
         let nesting = match fields.word {
             EQUAL => Nesting::Equal,
             FIRST_WITHIN => Nesting::FirstWithin,
@@ -62,10 +60,10 @@ impl Edges {
     }
 }
 
-impl fmt::Display for TurnedBack {
+impl fmt::Display for RefusedList {
     fn fmt(&self, f: &mut fmt::Formatter<'_>) -> fmt::Result {
         write!(f, "list {}: {}", self.list, self.refusal)
     }
 }
 
-impl Error for TurnedBack {}
+impl Error for RefusedList {}

@@ -1,9 +1,9 @@
 use crate::codec::{Action, Call, Fields, CLOSE, COLUMNS, INSIDE, LINE, MOVE, NONE, OUTSIDE, SAME, TAKEN, UNDECIDED};
 use crate::limits::REPLY;
-use crate::raw::HolderMemory;
-use crate::{Cell, Corner, Reading, Refusal, Taken};
+use crate::raw::{self, HolderMemory};
+use crate::{Cell, Corner, Refusal, Taken};
 
-/// What a call that was not turned back answers.
+/// What a call that is not refused answers.
 #[derive(Clone, Copy, Debug, PartialEq, Eq, Hash)]
 pub enum Answer {
     /// Begin, add, drop or clear was done.
@@ -58,7 +58,8 @@ pub type Reply = Result<Answer, Refusal>;
 
 /// A draft and four outlines at work for each of two parties, knee and ankle.
 ///
-/// It owns the memory of a holder of the library, and each call here is one call there.
+/// It owns the memory of a holder of the library, and each call here is one call there. Two holders are equal if their memory is: they
+/// answer every list of calls alike.
 ///
 /// ```
 /// use robequarry::{Answer, Cell, Corner, Holder, Located, Piece, Refusal};
@@ -83,9 +84,9 @@ pub type Reply = Result<Answer, Refusal>;
 /// assert_eq!(holder.query(1, 3, Cell::new(2, 0)), Err(Refusal::NothingAtWork));
 /// # Ok::<(), Refusal>(())
 /// ```
-#[derive(Clone, Debug)]
+#[derive(Clone, Debug, PartialEq, Eq)]
 pub struct Holder {
-    memory: HolderMemory,
+    memory: Box<HolderMemory>,
 }
 
 impl Default for Holder {
@@ -97,69 +98,102 @@ impl Default for Holder {
 impl Holder {
     /// A fresh holder: no draft, and nothing at work.
     pub fn new() -> Self {
-        Holder { memory: HolderMemory::fresh() }
+        let mut memory = Box::new(HolderMemory::filled(0));
+        memory.fresh();
+        Holder { memory }
+    }
+
+    /// The memory that it owns.
+    pub fn memory(&self) -> &HolderMemory {
+        &self.memory
     }
 
     /// Opens a draft without letters.
+    #[inline]
     pub fn begin(&mut self, party: u8, start: Corner) -> Result<(), Refusal> {
-        self.call(Action::Begin(start).by(party)).map(drop)
+        let mut reply = [0; REPLY];
+        self.memory.begin(party, start.col, start.row, &mut reply);
+        Refusal::check(&reply)
     }
 
     /// Puts a letter at the draft's end.
+    #[inline]
     pub fn add(&mut self, party: u8, letter: u8) -> Result<(), Refusal> {
-        self.call(Action::Add(letter).by(party)).map(drop)
+        let mut reply = [0; REPLY];
+        self.memory.add(party, letter, &mut reply);
+        Refusal::check(&reply)
     }
 
     /// Discards the draft: the drop of contract 7.5.
+    #[inline]
     pub fn drop_draft(&mut self, party: u8) -> Result<(), Refusal> {
-        self.call(Action::Drop.by(party)).map(drop)
+        let mut reply = [0; REPLY];
+        self.memory.drop_draft(party, &mut reply);
+        Refusal::check(&reply)
     }
 
     /// Removes what is at work at a place; the draft is kept.
+    #[inline]
     pub fn clear(&mut self, party: u8, place: u8) -> Result<(), Refusal> {
-        self.call(Action::Clear { place }.by(party)).map(drop)
+        let mut reply = [0; REPLY];
+        self.memory.clear(party, place, &mut reply);
+        Refusal::check(&reply)
     }
 
     /// Tests the draft and ends it. If it is taken, it replaces what is at work at the place: [`Answer::Taken`] or [`Answer::Same`].
     pub fn close(&mut self, party: u8, place: u8) -> Reply {
-        self.call(Action::Close { place }.by(party))
+        let mut reply = [0; REPLY];
+        self.memory.close(party, place, &mut reply);
+        Refusal::check(&reply)?;
+        Ok(answer(reply))
     }
 
-    /// Whether the outline at work at a place encloses the cell. The holder stays as it is.
-    pub fn query(&mut self, party: u8, place: u8, cell: Cell) -> Result<bool, Refusal> {
-        Ok(self.call(Action::Query { place, cell }.by(party))? == Answer::Inside)
+    /// Whether the outline at work at a place encloses the cell.
+    #[inline]
+    pub fn query(&self, party: u8, place: u8, cell: Cell) -> Result<bool, Refusal> {
+        let mut reply = [0; REPLY];
+        self.memory.query(party, place, cell.col, cell.row, &mut reply);
+        Refusal::check(&reply)?;
+        let [_, word, ..] = reply;
+        Ok(word == INSIDE)
     }
 
     /// The first and the last column of a row that the outline at work at a place encloses; none if it encloses no cell there.
-    pub fn row(&mut self, party: u8, place: u8, row: u16) -> Result<Option<(u16, u16)>, Refusal> {
-        Ok(match self.call(Action::Row { place, row }.by(party))? {
-            Answer::Columns { first, last } => Some((first, last)),
-            _ => None,
-        })
+    #[inline]
+    pub fn row(&self, party: u8, place: u8, row: u16) -> Result<Option<(u16, u16)>, Refusal> {
+        let mut reply = [0; REPLY];
+        self.memory.row(party, place, row, &mut reply);
+        Refusal::check(&reply)?;
+        let [_, word, .., first, last] = reply;
+        Ok((word == COLUMNS).then_some((first, last)))
     }
 
     /// Where a reading lies to the outline at work at a place, whose edges lead from cell centre to cell centre. On an edge it is
     /// undecided, so on a bar of one row or column it is never inside; one cell alone has its centre inside.
-    pub fn reading(&mut self, party: u8, place: u8, angle: f32, load: f32) -> Result<Located, Refusal> {
-        let reading = Reading::new(angle, load);
-        Ok(match self.call(Action::Reading { place, reading }.by(party))? {
-            Answer::Inside => Located::Inside,
-            Answer::Undecided => Located::Undecided,
+    ///
+    /// The floating-point environment must be as a program starts with it: rounding to nearest, and subnormal numbers not taken for 0.
+    #[inline]
+    pub fn reading(&self, party: u8, place: u8, angle: f32, load: f32) -> Result<Located, Refusal> {
+        let mut reply = [0; REPLY];
+        self.memory.reading(party, place, angle, load, &mut reply);
+        Refusal::check_reading(&reply)?;
+        let [_, word, ..] = reply;
+        Ok(match word {
+            INSIDE => Located::Inside,
+            UNDECIDED => Located::Undecided,
             _ => Located::Outside,
         })
     }
 
     /// The piece at a position, counted from 0, of the drawing of the outline at work at a place: it begins at the anchor, goes on
-    /// along the edges, and its close stands for the last of them. The holder stays as it is.
-    pub fn piece(&mut self, party: u8, place: u8, position: u16) -> Result<Piece, Refusal> {
-        let (mut point, mut numbers) = ([0.0; 2], [0; REPLY]);
-        assert!(self.memory.piece(party, place, position, &mut point, &mut numbers), "the reply has room");
-        let fields = Fields::from(numbers);
-        if let Some(refusal) = Refusal::of(fields) {
-            return Err(refusal);
-        }
-        let [x, y] = point;
-        Ok(match fields.word {
+    /// along the edges, and its close stands for the last of them.
+    #[inline]
+    pub fn piece(&self, party: u8, place: u8, position: u16) -> Result<Piece, Refusal> {
+        let (mut reply, mut point) = ([0; REPLY], [0.0; 2]);
+        self.memory.piece(party, place, position, &mut point, &mut reply);
+        Refusal::check(&reply)?;
+        let ([_, word, ..], [x, y]) = (reply, point);
+        Ok(match word {
             MOVE => Piece::Move(x, y),
             LINE => Piece::Line(x, y),
             CLOSE => Piece::Close,
@@ -167,22 +201,23 @@ impl Holder {
         })
     }
 
-    /// Makes one call.
+    /// Makes one call, as bytes.
     pub fn call(&mut self, call: Call) -> Reply {
-        let mut numbers = [0; REPLY];
-        assert!(self.memory.call(&call.bytes(), &mut numbers), "these bytes are a call, and its reply has room");
-        let fields = numbers.into();
-        let refusal = match call.action {
-            Action::Reading { .. } => Refusal::of_reading(fields),
-            _ => Refusal::of(fields),
-        };
-        refusal.map_or(Ok(answer(fields)), Err)
+        let mut reply = [0; REPLY];
+        let done = self.memory.call(&call.bytes(), &mut reply);
+        assert!(done, "these bytes are a call");
+        match call.action {
+            Action::Reading { .. } => Refusal::check_reading(&reply)?,
+            _ => Refusal::check(&reply)?,
+        }
+        Ok(answer(reply))
     }
 }
 
 /// A reply of the library that is no refusal.
-fn answer(fields: Fields) -> Answer {
-    let (taken, cell) = (Taken::of(fields), Cell::new(fields.col, fields.row));
+fn answer(reply: raw::Reply) -> Answer {
+    let fields = Fields::from(reply);
+    let (taken, cell) = (Taken::of(reply), Cell::new(fields.col, fields.row));
     match fields.word {
         INSIDE => Answer::Inside,
         OUTSIDE => Answer::Outside,

@@ -2,7 +2,7 @@
 //!
 //! An [`Outline`] is the border of a block of cells: a start corner and a list of letters, 0 right, 1 up, 2 left, 3 down.
 //! Its [test](Outline::test) says whether the block is convex. If so it gives the [`Edges`] of the block's hull, against which
-//! a cell is then tested; if not it says what turned the outline back, as a [`Refusal`].
+//! a cell is then tested; if not it says why the outline is refused, as a [`Refusal`].
 //!
 //! ```
 //! use robequarry::{Cell, Corner, Outline, Refusal};
@@ -22,10 +22,11 @@
 //!
 //! [`Edges::compare`] says which of two hulls lies within the other. A [`Holder`] keeps, for each party, a draft, letter by letter, and
 //! the outlines at work; it says where a [reading](Holder::reading) of two sensors lies among their edges, and gives them
-//! [piece by piece](Holder::piece) to a canvas. [`raw`] has the library's functions as they are, on plain lists of numbers; [`codec`]
-//! reads and writes these, and [`limits`] names what bounds them.
+//! [piece by piece](Holder::piece) to a canvas. A [`Pile`] keeps sixteen layers, and checks that no section through them is dented.
+//! Both own their memory: what asks a question takes `&self`, and whatever can alter something `&mut self`.
 //!
-//! A [`Pile`] keeps sixteen layers, and says whether they go over into one another without a dent.
+//! [`raw`] has the library's functions as they are, on plain lists of numbers; [`codec`] reads and writes these, and [`limits`] names
+//! what bounds them.
 //!
 //! The answers are proved; this crate, which turns lists of numbers into types, is not.
 
@@ -35,14 +36,14 @@ mod comparison;
 mod holder;
 pub mod limits;
 mod outline;
-pub mod pile;
+mod pile;
 pub mod raw;
 mod refusal;
 
 pub use chart::{Cell, Corner, Reading};
 pub use codec::{Action, Call};
-pub use comparison::{Comparison, Nesting, TurnedBack};
+pub use comparison::{Comparison, Nesting, RefusedList};
 pub use holder::{Answer, Holder, Located, Piece, Reply};
 pub use outline::{Edges, Outline, Taken, Verdict};
 pub use pile::{Pile, PileCall};
-pub use refusal::Refusal;
+pub use refusal::{Refusal, SectionKind};

@@ -21,14 +21,14 @@ pub const LONGEST: usize = 612;
 /// A taken outline has at most this many edges (contract 3.12).
 pub const MOST_EDGES: usize = 100;
 
-/// A list of this many numbers has room for the edges of any taken outline.
+/// A buffer of this many numbers has space for the edges of any taken outline.
 pub const MOST_NUMBERS: usize = 2 * MOST_EDGES;
 
-/// A loose query's list has at most this many numbers (contract 5.2, refusal 10).
+/// A list of edges that is passed has at most this many numbers (contract 5.2, refusal 10).
 pub const LONGEST_LIST: usize = 2032;
 
-/// The refusals are numbered from 1 to this (contract 5.2).
-pub const LAST_REFUSAL: u16 = 20;
+/// The refusals are numbered from 1 to 22 (contract 5.2); 7 is not used. The faults of a fitting file have the numbers after that.
+pub const LAST_REFUSAL: u16 = 22;
 
 /// A reply has this many numbers (contract 4.1).
 pub const REPLY: usize = 7;
@@ -41,6 +41,9 @@ pub const PARTIES: u8 = 2;
 
 /// Each party has outlines at this many places (contract 7.1).
 pub const PLACES: u8 = 4;
+
+/// A pile has this many layers (contract 12.1).
+pub const LAYERS: u8 = 16;
 
 /// A fitting file has at most this many bytes (contract 11.3).
 pub const LONGEST_FILE: usize = 65_536;

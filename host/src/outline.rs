@@ -9,20 +9,22 @@ pub struct Outline {
     pub letters: Vec<u8>,
 }
 
-/// What a test answers: the edges of the hull, or why the outline was turned back.
+/// What a test answers: the edges of the hull, or why the outline was refused.
 pub type Verdict = Result<Edges, Refusal>;
 
-/// A taken outline, where the caller lent the list for its edges.
+/// What is said of an outline that is taken.
 #[derive(Clone, Copy, Debug, PartialEq, Eq, Hash)]
 pub struct Taken {
-    /// How many edges stand in the lent list, two numbers each.
+    /// How many edges it has. In a buffer each has two numbers.
     pub edges: usize,
     /// The lowest enclosed cell of the leftmost column, from which the edges lead.
     pub anchor: Cell,
 }
 
 impl Taken {
-    pub(crate) fn of(fields: Fields) -> Self {
+    /// What a reply says that is no refusal.
+    pub(crate) fn of(reply: raw::Reply) -> Self {
+        let fields = Fields::from(reply);
         Taken { edges: usize::from(fields.place), anchor: Cell::new(fields.col, fields.row) }
     }
 }
@@ -32,23 +34,20 @@ impl Outline {
         Outline { start, letters: letters.into() }
     }
 
-    /// Tests the outline, with room for every edge.
+    /// Tests the outline, with space for every edge.
     pub fn test(&self) -> Verdict {
-        let mut list = [0; MOST_NUMBERS];
-        let taken = self.test_into(&mut list)?;
-        Ok(Edges::new(taken.anchor, &list[..2 * taken.edges]))
+        let mut buffer = [0; MOST_NUMBERS];
+        let taken = self.test_into(&mut buffer)?;
+        Ok(Edges::new(taken.anchor, &buffer[..2 * taken.edges]))
     }
 
-    /// Tests the outline and writes its edges into a lent list, columns then rows. What stands behind them is unaltered, as is
-    /// the whole list if the outline is turned back.
-    pub fn test_into(&self, list: &mut [i16]) -> Result<Taken, Refusal> {
+    /// Tests the outline and writes its edges into a buffer, columns then rows. What stands after them is unaltered, as is the
+    /// whole buffer if the outline is refused.
+    pub fn test_into(&self, buffer: &mut [i16]) -> Result<Taken, Refusal> {
         let mut reply = [0; REPLY];
-        raw::test(self.start.col, self.start.row, &self.letters, list, &mut reply);
-        let fields = Fields::from(reply);
-        match Refusal::of(fields) {
-            Some(refusal) => Err(refusal),
-            None => Ok(Taken::of(fields)),
-        }
+        raw::test(self.start.col, self.start.row, &self.letters, buffer, &mut reply);
+        Refusal::check(&reply)?;
+        Ok(Taken::of(reply))
     }
 }
 
@@ -87,11 +86,9 @@ impl Edges {
     pub fn contains(&self, cell: Cell) -> Result<bool, Refusal> {
         let mut reply = [0; REPLY];
         raw::loose_query(self.anchor.col, self.anchor.row, &self.numbers, cell.col, cell.row, &mut reply);
-        let fields = Fields::from(reply);
-        match Refusal::of_list(fields) {
-            Some(refusal) => Err(refusal),
-            None => Ok(fields.word == INSIDE),
-        }
+        Refusal::check_list(&reply)?;
+        let [_, word, ..] = reply;
+        Ok(word == INSIDE)
     }
 
     /// The outline that has this anchor and these edges, clockwise from the lower left corner of the anchor, where one does.
@@ -101,15 +98,13 @@ impl Edges {
         Ok(Outline::new(Corner::new(self.anchor.col, self.anchor.row), &letters[..count]))
     }
 
-    /// Writes that outline's letters into a lent list, and says how many they are. What stands behind them is unaltered, as is the
-    /// whole list if there is no such outline.
+    /// Writes that outline's letters into a buffer, and says how many they are. What stands after them is unaltered, as is the
+    /// whole buffer if there is no such outline.
     pub fn border_into(&self, letters: &mut [u8]) -> Result<usize, Refusal> {
         let mut reply = [0; REPLY];
         raw::border(self.anchor.col, self.anchor.row, &self.numbers, letters, &mut reply);
-        let fields = Fields::from(reply);
-        match Refusal::of_list(fields) {
-            Some(refusal) => Err(refusal),
-            None => Ok(usize::from(fields.place)),
-        }
+        Refusal::check_list(&reply)?;
+        let [_, _, count, ..] = reply;
+        Ok(usize::from(count))
     }
 }

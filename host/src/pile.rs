@@ -1,40 +1,9 @@
-//! A pile of layers (contract 12): the library's functions on memory of their own.
-
-use crate::codec::Fields;
+use crate::codec::{Fields, INSIDE};
 use crate::limits::REPLY;
-use crate::{Cell, Outline};
+use crate::raw::PileMemory;
+use crate::{Cell, Outline, Refusal, Taken};
 
-mod library {
-    extern "C" {
-        pub fn rq_pile_bytes() -> usize;
-        pub fn rq_pile_fresh(pile: *mut u64);
-        pub fn rq_pile_set(
-            pile: *mut u64,
-            layer: u8,
-            col: u16,
-            row: u16,
-            letters: *const u8,
-            n: usize,
-            reply: *mut u16,
-            k: usize,
-        ) -> bool;
-        pub fn rq_pile_empty(pile: *mut u64, layer: u8, reply: *mut u16, k: usize) -> bool;
-        pub fn rq_pile_check(pile: *mut u64, reply: *mut u16, k: usize) -> bool;
-        pub fn rq_pile_query(pile: *mut u64, layer: u8, col: u16, row: u16, reply: *mut u16, k: usize) -> bool;
-    }
-}
-
-/// How many layers a pile has.
-pub const LAYERS: u8 = 16;
-
-/// How many bytes of memory a pile needs, aligned to 8.
-#[inline]
-pub fn pile_bytes() -> usize {
-    // SAFETY: it takes nothing.
-    unsafe { library::rq_pile_bytes() }
-}
-
-/// A call on a pile.
+/// A call on a pile, as a value: what lists of calls are made of.
 #[derive(Clone, Debug, PartialEq, Eq)]
 pub enum PileCall {
     /// Sets a layer to an outline.
@@ -43,52 +12,100 @@ pub enum PileCall {
     SetEmpty(u8),
     /// Checks every section.
     Check,
-    /// Asks where a cell lies in a layer.
+    /// Asks whether a layer encloses a cell.
     Query(u8, Cell),
 }
 
-/// Sixteen layers, each empty or one taken outline.
-#[derive(Clone, Debug)]
-pub struct Pile(Box<[u64]>);
+/// Sixteen layers, each empty or one taken outline (contract 12).
+///
+/// It owns the memory of a pile of the library, and each call here is one call there. Two piles are equal if their memory is.
+///
+/// ```
+/// use robequarry::{Cell, Corner, Outline, Pile, Refusal, SectionKind};
+///
+/// let cell_at = |row| Outline::new(Corner::new(9, row), [1, 0, 3, 2]);
+/// let mut pile = Pile::new();
+/// for (layer, row) in [(0, 1), (1, 2), (2, 0)] {
+///     pile.set(layer, &cell_at(row))?;
+/// }
+/// // The middle layer has its cell in row 2, and the hull of the section at column 9 holds row 1 there.
+/// assert_eq!(pile.check(), Err(Refusal::Section { kind: SectionKind::Column, at: 9 }));
+/// assert_eq!(pile.query(1, Cell::new(9, 1)), Err(Refusal::NotPassed));
+/// pile.set(1, &cell_at(1))?;
+/// pile.check()?;
+/// assert!(pile.query(1, Cell::new(9, 1))?);
+/// pile.empty(2)?;
+/// assert_eq!(pile.query(1, Cell::new(9, 1)), Err(Refusal::NotPassed));
+/// # Ok::<(), Refusal>(())
+/// ```
+#[derive(Clone, Debug, PartialEq, Eq)]
+pub struct Pile {
+    memory: Box<PileMemory>,
+}
 
 impl Default for Pile {
     fn default() -> Self {
-        Pile::fresh()
+        Pile::new()
     }
 }
 
 impl Pile {
-    /// Sixteen empty layers, unchecked.
-    pub fn fresh() -> Self {
-        let mut pile = Pile(vec![0; pile_bytes().div_ceil(8)].into());
-        // SAFETY: it is memory of a pile's size and alignment, and all zero.
-        unsafe { library::rq_pile_fresh(pile.0.as_mut_ptr()) };
-        pile
+    /// A fresh pile: sixteen empty layers, unchecked.
+    pub fn new() -> Self {
+        let mut memory = Box::new(PileMemory::filled(0));
+        memory.fresh();
+        Pile { memory }
     }
 
-    /// Makes a call, and gives its reply.
+    /// The memory that it owns.
+    pub fn memory(&self) -> &PileMemory {
+        &self.memory
+    }
+
+    /// Sets a layer to an outline, and the pile is unchecked. An outline that is refused alters nothing.
+    pub fn set(&mut self, layer: u8, outline: &Outline) -> Result<Taken, Refusal> {
+        let mut reply = [0; REPLY];
+        self.memory.set(layer, outline.start.col, outline.start.row, &outline.letters, &mut reply);
+        Refusal::check_pile(&reply)?;
+        Ok(Taken::of(reply))
+    }
+
+    /// Sets a layer to empty, and the pile is unchecked.
+    pub fn empty(&mut self, layer: u8) -> Result<(), Refusal> {
+        let mut reply = [0; REPLY];
+        self.memory.empty(layer, &mut reply);
+        Refusal::check_pile(&reply)
+    }
+
+    /// Checks every section, columns and then rows. The pile has passed where none is dented, until a layer is set; else the first that
+    /// is dented is a [`Refusal::Section`].
+    pub fn check(&mut self) -> Result<(), Refusal> {
+        let mut reply = [0; REPLY];
+        self.memory.check(&mut reply);
+        Refusal::check_pile(&reply)
+    }
+
+    /// Whether the outline of a layer encloses the cell. Only a pile that has passed answers.
     #[inline]
+    pub fn query(&self, layer: u8, cell: Cell) -> Result<bool, Refusal> {
+        let mut reply = [0; REPLY];
+        self.memory.query(layer, cell.col, cell.row, &mut reply);
+        Refusal::check_pile(&reply)?;
+        let [_, word, ..] = reply;
+        Ok(word == INSIDE)
+    }
+
+    /// Makes a call, and gives its reply as it is.
     pub fn call(&mut self, call: &PileCall) -> Fields {
         let mut reply = [0; REPLY];
-        self.call_into(call, &mut reply);
-        Fields::from(reply)
-    }
-
-    /// Makes a call, and writes its reply at the front of a list. False, with nothing altered, if it has no room there.
-    #[inline]
-    pub fn call_into(&mut self, call: &PileCall, reply: &mut [u16]) -> bool {
-        let (pile, list, k) = (self.0.as_mut_ptr(), reply.as_mut_ptr(), reply.len());
-        // SAFETY: the memory is this pile's alone, made by `fresh`; each pointer comes with the length of its own slice.
-        unsafe {
-            match call {
-                PileCall::Set(layer, outline) => {
-                    let (start, letters) = (outline.start, &outline.letters);
-                    library::rq_pile_set(pile, *layer, start.col, start.row, letters.as_ptr(), letters.len(), list, k)
-                }
-                PileCall::SetEmpty(layer) => library::rq_pile_empty(pile, *layer, list, k),
-                PileCall::Check => library::rq_pile_check(pile, list, k),
-                PileCall::Query(layer, cell) => library::rq_pile_query(pile, *layer, cell.col, cell.row, list, k),
+        match call {
+            PileCall::Set(layer, Outline { start, letters }) => {
+                self.memory.set(*layer, start.col, start.row, letters, &mut reply);
             }
+            PileCall::SetEmpty(layer) => self.memory.empty(*layer, &mut reply),
+            PileCall::Check => self.memory.check(&mut reply),
+            PileCall::Query(layer, cell) => self.memory.query(*layer, cell.col, cell.row, &mut reply),
         }
+        reply.into()
     }
 }

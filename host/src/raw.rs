@@ -1,217 +1,393 @@
-//! The library's functions as they are, with a list for each pointer and length.
+//! The library's functions as they are. What has a fixed length is an array. Any other list is a slice, which the library gets as a
+//! pointer and a count.
 //!
-//! None of them asks anything of its numbers: every input is answered. [`codec`](crate::codec) reads replies and writes scripts;
-//! [`limits`](crate::limits) has their lengths.
+//! Nothing is asked of the numbers: every input has a reply. [`codec`](crate::codec) reads replies and writes calls;
+//! [`limits`](crate::limits) has the lengths.
+//!
+//! The memory of a holder, and of a pile, is a struct of arrays: C has the same as `rq_holder` and `rq_pile`. It holds numbers only, and
+//! every content is a holder or a pile. So two of them that are equal answer every list of calls alike.
+
+use std::fmt;
+
+use crate::limits::{LAYERS, LONGEST, MOST_NUMBERS, PARTIES, PLACES, REPLY, SIDE};
+
+/// A reply: seven numbers (contract 4.1).
+pub type Reply = [u16; REPLY];
+
+const DRAFTS: usize = PARTIES as usize;
+const WORKS: usize = PARTIES as usize * PLACES as usize;
+
+/// The bytes of an outline's rows: of each row the first enclosed column, and then of each row the column after the last.
+const SPANS: usize = 2 * SIDE as usize;
+
+/// The letters of all drafts.
+const LETTERS: usize = DRAFTS * LONGEST;
+
+/// The rows of all outlines at work.
+const ROWS: usize = WORKS * SPANS;
+
+/// The numbers of their edges.
+const NUMBERS: usize = WORKS * MOST_NUMBERS;
+
+/// Four numbers for each draft and for each outline at work.
+const HEADS: usize = 4 * (DRAFTS + WORKS);
+
+/// The rows of all layers of a pile.
+const LAYER_ROWS: usize = LAYERS as usize * SPANS;
 
 mod library {
-    extern "C" {
-        pub fn rq_test(
-            col: u16,
-            row: u16,
-            letters: *const u8,
-            n: usize,
-            edges: *mut i16,
-            m: usize,
-            reply: *mut u16,
-            k: usize,
-        ) -> bool;
+    use super::{Reply, HEADS, LAYER_ROWS, LETTERS, NUMBERS, ROWS};
+
+    // SAFETY: these are the exports of the archive with their types: a list is a pointer and a count of 64 bits, and an array a pointer.
+    // A function without lists asks for nothing that a reference does not give, so it is safe to call.
+    unsafe extern "C" {
+        pub fn rq_test(col: u16, row: u16, letters: *const u8, n: u64, edges: *mut i16, m: u64, reply: &mut Reply);
 
         pub fn rq_loose_query(
             anchor_col: u16,
             anchor_row: u16,
             edges: *const i16,
-            m: usize,
+            m: u64,
             col: u16,
             row: u16,
-            reply: *mut u16,
-            k: usize,
-        ) -> bool;
+            reply: &mut Reply,
+        );
 
         pub fn rq_border(
             anchor_col: u16,
             anchor_row: u16,
             edges: *const i16,
-            m: usize,
+            m: u64,
             letters: *mut u8,
-            n: usize,
-            reply: *mut u16,
-            k: usize,
-        ) -> bool;
+            n: u64,
+            reply: &mut Reply,
+        );
 
         pub fn rq_compare(
             anchor_col_1: u16,
             anchor_row_1: u16,
             edges_1: *const i16,
-            m_1: usize,
+            m_1: u64,
             anchor_col_2: u16,
             anchor_row_2: u16,
             edges_2: *const i16,
-            m_2: usize,
-            reply: *mut u16,
-            k: usize,
-        ) -> bool;
+            m_2: u64,
+            reply: &mut Reply,
+        );
 
-        pub fn rq_replay(script: *const u8, n: usize, replies: *mut u16, k: usize) -> usize;
+        pub fn rq_replay_numbers(script: *const u8, n: u64, replies: *mut u16, k: u64) -> u64;
 
-        pub fn rq_holder_bytes() -> usize;
+        pub safe fn rq_fresh_parts(
+            letters: &mut [u8; LETTERS],
+            rows: &mut [u8; ROWS],
+            numbers: &mut [i16; NUMBERS],
+            heads: &mut [u16; HEADS],
+        );
 
-        pub fn rq_fresh(holder: *mut u64);
+        pub safe fn rq_begin_parts(heads: &mut [u16; HEADS], party: u8, col: u16, row: u16, reply: &mut Reply);
 
-        pub fn rq_call(holder: *mut u64, call: *const u8, n: usize, reply: *mut u16, k: usize) -> bool;
+        pub safe fn rq_add_parts(
+            letters: &mut [u8; LETTERS],
+            heads: &mut [u16; HEADS],
+            party: u8,
+            letter: u8,
+            reply: &mut Reply,
+        );
 
-        pub fn rq_piece(
-            holder: *mut u64,
+        pub safe fn rq_drop_parts(heads: &mut [u16; HEADS], party: u8, reply: &mut Reply);
+
+        pub safe fn rq_clear_parts(heads: &mut [u16; HEADS], party: u8, place: u8, reply: &mut Reply);
+
+        pub safe fn rq_close_parts(
+            letters: &[u8; LETTERS],
+            rows: &mut [u8; ROWS],
+            numbers: &mut [i16; NUMBERS],
+            heads: &mut [u16; HEADS],
+            party: u8,
+            place: u8,
+            reply: &mut Reply,
+        );
+
+        pub safe fn rq_query_parts(
+            rows: &[u8; ROWS],
+            heads: &[u16; HEADS],
+            party: u8,
+            place: u8,
+            col: u16,
+            row: u16,
+            reply: &mut Reply,
+        );
+
+        pub safe fn rq_row_parts(rows: &[u8; ROWS], heads: &[u16; HEADS], party: u8, place: u8, row: u16, reply: &mut Reply);
+
+        pub safe fn rq_reading_parts(
+            numbers: &[i16; NUMBERS],
+            heads: &[u16; HEADS],
+            party: u8,
+            place: u8,
+            angle: f32,
+            load: f32,
+            reply: &mut Reply,
+        );
+
+        pub safe fn rq_piece_parts(
+            numbers: &[i16; NUMBERS],
+            heads: &[u16; HEADS],
             party: u8,
             place: u8,
             position: u16,
-            point: *mut f32,
-            p: usize,
-            reply: *mut u16,
-            k: usize,
+            point: &mut [f32; 2],
+            reply: &mut Reply,
+        );
+
+        pub fn rq_call_parts(
+            letters: &mut [u8; LETTERS],
+            rows: &mut [u8; ROWS],
+            numbers: &mut [i16; NUMBERS],
+            heads: &mut [u16; HEADS],
+            call: *const u8,
+            n: u64,
+            reply: &mut Reply,
         ) -> bool;
+
+        pub safe fn rq_pile_fresh_parts(rows: &mut [u8; LAYER_ROWS], state: &mut [u8; 1]);
+
+        pub fn rq_pile_set_parts(
+            rows: &mut [u8; LAYER_ROWS],
+            state: &mut [u8; 1],
+            layer: u8,
+            col: u16,
+            row: u16,
+            letters: *const u8,
+            n: u64,
+            reply: &mut Reply,
+        );
+
+        pub safe fn rq_pile_empty_parts(rows: &mut [u8; LAYER_ROWS], state: &mut [u8; 1], layer: u8, reply: &mut Reply);
+
+        pub safe fn rq_pile_check_parts(rows: &[u8; LAYER_ROWS], state: &mut [u8; 1], reply: &mut Reply);
+
+        pub safe fn rq_pile_query_parts(
+            rows: &[u8; LAYER_ROWS],
+            state: &[u8; 1],
+            layer: u8,
+            col: u16,
+            row: u16,
+            reply: &mut Reply,
+        );
     }
+}
+
+/// A slice's length as the library takes it.
+#[inline]
+fn count<T>(list: &[T]) -> u64 {
+    list.len() as u64
 }
 
 /// Tests an outline. If it is taken, its edges stand first in `edges`, two numbers an edge.
-///
-/// False, with nothing altered, if `reply` has no room for a reply.
 #[inline]
-pub fn test(col: u16, row: u16, letters: &[u8], edges: &mut [i16], reply: &mut [u16]) -> bool {
-    // SAFETY: each pointer comes with the length of its own slice, and no two slices overlap.
-    unsafe {
-        library::rq_test(
-            col,
-            row,
-            letters.as_ptr(),
-            letters.len(),
-            edges.as_mut_ptr(),
-            edges.len(),
-            reply.as_mut_ptr(),
-            reply.len(),
-        )
-    }
+pub fn test(col: u16, row: u16, letters: &[u8], edges: &mut [i16], reply: &mut Reply) {
+    // SAFETY: each pointer comes with the count of its own slice. What is written overlaps nothing else.
+    unsafe { library::rq_test(col, row, letters.as_ptr(), count(letters), edges.as_mut_ptr(), count(edges), reply) }
 }
 
-/// Whether a cell is inside the edges that lead once round from an anchor.
-///
-/// False, with nothing altered, if `reply` has no room for a reply.
+/// Says whether a cell is inside the edges that lead once round from an anchor.
 #[inline]
-pub fn loose_query(anchor_col: u16, anchor_row: u16, edges: &[i16], col: u16, row: u16, reply: &mut [u16]) -> bool {
-    // SAFETY: each pointer comes with the length of its own slice, and no two slices overlap.
-    unsafe {
-        library::rq_loose_query(
-            anchor_col,
-            anchor_row,
-            edges.as_ptr(),
-            edges.len(),
-            col,
-            row,
-            reply.as_mut_ptr(),
-            reply.len(),
-        )
-    }
+pub fn loose_query(anchor_col: u16, anchor_row: u16, edges: &[i16], col: u16, row: u16, reply: &mut Reply) {
+    // SAFETY: the pointer comes with the count of its slice. What is written overlaps nothing else.
+    unsafe { library::rq_loose_query(anchor_col, anchor_row, edges.as_ptr(), count(edges), col, row, reply) }
 }
 
-/// Writes back the border of the outline that has an anchor and edges: its clockwise letters from W on stand first in `letters`.
-///
-/// False, with nothing altered, if `reply` has no room for a reply.
+/// Writes the border of the outline that has an anchor and edges: its clockwise letters from W on stand first in `letters`.
 #[inline]
-pub fn border(anchor_col: u16, anchor_row: u16, edges: &[i16], letters: &mut [u8], reply: &mut [u16]) -> bool {
-    // SAFETY: each pointer comes with the length of its own slice, and no two slices overlap.
-    unsafe {
-        library::rq_border(
-            anchor_col,
-            anchor_row,
-            edges.as_ptr(),
-            edges.len(),
-            letters.as_mut_ptr(),
-            letters.len(),
-            reply.as_mut_ptr(),
-            reply.len(),
-        )
-    }
+pub fn border(anchor_col: u16, anchor_row: u16, edges: &[i16], letters: &mut [u8], reply: &mut Reply) {
+    let (written, n) = (letters.as_mut_ptr(), count(letters));
+    // SAFETY: each pointer comes with the count of its own slice. What is written overlaps nothing else.
+    unsafe { library::rq_border(anchor_col, anchor_row, edges.as_ptr(), count(edges), written, n, reply) }
 }
 
-/// How the cells in two hulls lie, and whose list is the inner one's. Each hull has the column and the row of its anchor, and its edges.
-///
-/// False, with nothing altered, if `reply` has no room for a reply.
+/// Says how the cells in two hulls lie, and whose list is the inner one's. Each hull has the column and the row of its anchor, and its
+/// edges.
 #[inline]
-pub fn compare(first: (u16, u16), edges: &[i16], second: (u16, u16), others: &[i16], reply: &mut [u16]) -> bool {
-    // SAFETY: each pointer comes with the length of its own slice, and `reply` overlaps neither of the others.
-    unsafe {
-        library::rq_compare(
-            first.0,
-            first.1,
-            edges.as_ptr(),
-            edges.len(),
-            second.0,
-            second.1,
-            others.as_ptr(),
-            others.len(),
-            reply.as_mut_ptr(),
-            reply.len(),
-        )
-    }
+pub fn compare(first: (u16, u16), edges: &[i16], second: (u16, u16), others: &[i16], reply: &mut Reply) {
+    let (one, m) = (edges.as_ptr(), count(edges));
+    // SAFETY: each pointer comes with the count of its own slice. What is written overlaps nothing else.
+    unsafe { library::rq_compare(first.0, first.1, one, m, second.0, second.1, others.as_ptr(), count(others), reply) }
 }
 
-/// Runs a script of calls from a fresh holder and writes a reply for each. The result is how many replies were written.
+/// Runs a script of calls from a fresh holder and writes a reply for each, seven numbers after seven. Returns how many it wrote.
 ///
-/// The run stops before a call that is cut or that is none, and where `replies` has no room for one more.
+/// The run ends before a call that is cut or that is none, and where `replies` has no space for one more.
 #[inline]
 pub fn replay(script: &[u8], replies: &mut [u16]) -> usize {
-    // SAFETY: each pointer comes with the length of its own slice, and the slices do not overlap.
-    unsafe { library::rq_replay(script.as_ptr(), script.len(), replies.as_mut_ptr(), replies.len()) }
+    // SAFETY: each pointer comes with the count of its own slice. What is written overlaps nothing else.
+    unsafe { library::rq_replay_numbers(script.as_ptr(), count(script), replies.as_mut_ptr(), count(replies)) as usize }
 }
 
-/// How many bytes of memory a holder needs, aligned to 8.
-#[inline]
-pub fn holder_bytes() -> usize {
-    // SAFETY: it takes nothing.
-    unsafe { library::rq_holder_bytes() }
+/// The memory of a holder, 8,584 bytes without padding.
+#[derive(Clone, PartialEq, Eq)]
+#[repr(C)]
+pub struct HolderMemory {
+    /// The letters of the two drafts, 612 each.
+    pub letters: [u8; LETTERS],
+    /// The rows of the eight outlines at work, 510 bytes each: 255 first columns, and 255 columns after the last.
+    pub rows: [u8; ROWS],
+    /// The numbers of their edges, 200 each.
+    pub numbers: [i16; NUMBERS],
+    /// Four numbers for each draft and then for each outline at work: whether there is one, a column, a row and a count.
+    pub heads: [u16; HEADS],
 }
-
-/// The memory that a holder lives in.
-#[derive(Clone, Debug, PartialEq, Eq)]
-pub struct HolderMemory(Box<[u64]>);
 
 impl HolderMemory {
-    /// A fresh holder.
-    pub fn fresh() -> Self {
-        let mut memory = HolderMemory(vec![0; holder_bytes().div_ceil(8)].into());
-        memory.refresh();
-        memory
-    }
-
-    /// Makes it a fresh holder again.
-    pub fn refresh(&mut self) {
-        // SAFETY: it is memory of a holder's size and alignment, and all zero at first.
-        unsafe { library::rq_fresh(self.0.as_mut_ptr()) }
-    }
-
-    /// Makes one call on it. False, with nothing altered, if the bytes are no call or `reply` has no room for a reply.
-    #[inline]
-    pub fn call(&mut self, call: &[u8], reply: &mut [u16]) -> bool {
-        // SAFETY: as above, and each pointer comes with the length of its own slice. The memory is this holder's alone.
-        unsafe { library::rq_call(self.0.as_mut_ptr(), call.as_ptr(), call.len(), reply.as_mut_ptr(), reply.len()) }
-    }
-
-    /// Gives a piece of a drawing. Its point, of a move or a line, stands first in `point` where that has room for two numbers.
-    ///
-    /// False, with nothing altered, if `reply` has no room for a reply.
-    #[inline]
-    pub fn piece(&mut self, party: u8, place: u8, position: u16, point: &mut [f32], reply: &mut [u16]) -> bool {
-        // SAFETY: as above.
-        unsafe {
-            library::rq_piece(
-                self.0.as_mut_ptr(),
-                party,
-                place,
-                position,
-                point.as_mut_ptr(),
-                point.len(),
-                reply.as_mut_ptr(),
-                reply.len(),
-            )
+    /// Memory in which every byte is this one. With zeros it is a fresh holder.
+    pub const fn filled(byte: u8) -> Self {
+        let pair = [byte; 2];
+        HolderMemory {
+            letters: [byte; LETTERS],
+            rows: [byte; ROWS],
+            numbers: [i16::from_ne_bytes(pair); NUMBERS],
+            heads: [u16::from_ne_bytes(pair); HEADS],
         }
     }
+
+    /// Makes it a fresh holder, whatever it held.
+    #[inline]
+    pub fn fresh(&mut self) {
+        library::rq_fresh_parts(&mut self.letters, &mut self.rows, &mut self.numbers, &mut self.heads);
+    }
+
+    /// Opens a draft without letters.
+    #[inline]
+    pub fn begin(&mut self, party: u8, col: u16, row: u16, reply: &mut Reply) {
+        library::rq_begin_parts(&mut self.heads, party, col, row, reply);
+    }
+
+    /// Puts a letter at the draft's end.
+    #[inline]
+    pub fn add(&mut self, party: u8, letter: u8, reply: &mut Reply) {
+        library::rq_add_parts(&mut self.letters, &mut self.heads, party, letter, reply);
+    }
+
+    /// Discards the draft.
+    #[inline]
+    pub fn drop_draft(&mut self, party: u8, reply: &mut Reply) {
+        library::rq_drop_parts(&mut self.heads, party, reply);
+    }
+
+    /// Removes what is at work at a place.
+    #[inline]
+    pub fn clear(&mut self, party: u8, place: u8, reply: &mut Reply) {
+        library::rq_clear_parts(&mut self.heads, party, place, reply);
+    }
+
+    /// Tests the draft and ends it. If it is taken, it replaces what is at work at the place.
+    #[inline]
+    pub fn close(&mut self, party: u8, place: u8, reply: &mut Reply) {
+        library::rq_close_parts(&self.letters, &mut self.rows, &mut self.numbers, &mut self.heads, party, place, reply);
+    }
+
+    /// Says whether what is at work at a place encloses a cell.
+    #[inline]
+    pub fn query(&self, party: u8, place: u8, col: u16, row: u16, reply: &mut Reply) {
+        library::rq_query_parts(&self.rows, &self.heads, party, place, col, row, reply);
+    }
+
+    /// Says which columns of a row what is at work at a place encloses.
+    #[inline]
+    pub fn row(&self, party: u8, place: u8, row: u16, reply: &mut Reply) {
+        library::rq_row_parts(&self.rows, &self.heads, party, place, row, reply);
+    }
+
+    /// Says where a reading lies to what is at work at a place.
+    #[inline]
+    pub fn reading(&self, party: u8, place: u8, angle: f32, load: f32, reply: &mut Reply) {
+        library::rq_reading_parts(&self.numbers, &self.heads, party, place, angle, load, reply);
+    }
+
+    /// Gives a piece of the drawing of what is at work at a place. The point of a move or a line is written to `point`.
+    #[inline]
+    pub fn piece(&self, party: u8, place: u8, position: u16, point: &mut [f32; 2], reply: &mut Reply) {
+        library::rq_piece_parts(&self.numbers, &self.heads, party, place, position, point, reply);
+    }
+
+    /// Makes the call that stands in these bytes. Returns false, with nothing altered, where they are no call.
+    #[inline]
+    pub fn call(&mut self, call: &[u8], reply: &mut Reply) -> bool {
+        let HolderMemory { letters, rows, numbers, heads } = self;
+        // SAFETY: the pointer comes with the count of its slice. What is written overlaps nothing else.
+        unsafe { library::rq_call_parts(letters, rows, numbers, heads, call.as_ptr(), count(call), reply) }
+    }
 }
+
+/// The heads alone, which say what there is.
+impl fmt::Debug for HolderMemory {
+    fn fmt(&self, f: &mut fmt::Formatter<'_>) -> fmt::Result {
+        let heads: Vec<&[u16]> = self.heads.chunks_exact(4).collect();
+        f.debug_struct("HolderMemory").field("heads", &heads).finish_non_exhaustive()
+    }
+}
+
+/// The memory of a pile, 8,161 bytes without padding.
+#[derive(Clone, PartialEq, Eq)]
+#[repr(C)]
+pub struct PileMemory {
+    /// The rows of the sixteen layers, as those of a holder.
+    pub rows: [u8; LAYER_ROWS],
+    /// Not zero where the pile has passed.
+    pub state: [u8; 1],
+}
+
+impl PileMemory {
+    /// Memory in which every byte is this one. With zeros it is a fresh pile.
+    pub const fn filled(byte: u8) -> Self {
+        PileMemory { rows: [byte; LAYER_ROWS], state: [byte] }
+    }
+
+    /// Makes it a fresh pile, whatever it held.
+    #[inline]
+    pub fn fresh(&mut self) {
+        library::rq_pile_fresh_parts(&mut self.rows, &mut self.state);
+    }
+
+    /// Sets a layer to an outline.
+    #[inline]
+    pub fn set(&mut self, layer: u8, col: u16, row: u16, letters: &[u8], reply: &mut Reply) {
+        let (list, n) = (letters.as_ptr(), count(letters));
+        // SAFETY: the pointer comes with the count of its slice. What is written overlaps nothing else.
+        unsafe { library::rq_pile_set_parts(&mut self.rows, &mut self.state, layer, col, row, list, n, reply) }
+    }
+
+    /// Sets a layer to empty.
+    #[inline]
+    pub fn empty(&mut self, layer: u8, reply: &mut Reply) {
+        library::rq_pile_empty_parts(&mut self.rows, &mut self.state, layer, reply);
+    }
+
+    /// Checks every section.
+    #[inline]
+    pub fn check(&mut self, reply: &mut Reply) {
+        library::rq_pile_check_parts(&self.rows, &mut self.state, reply);
+    }
+
+    /// Says whether a layer encloses a cell.
+    #[inline]
+    pub fn query(&self, layer: u8, col: u16, row: u16, reply: &mut Reply) {
+        library::rq_pile_query_parts(&self.rows, &self.state, layer, col, row, reply);
+    }
+}
+
+/// Whether it has passed, and for each layer whether it has a cell.
+impl fmt::Debug for PileMemory {
+    fn fmt(&self, f: &mut fmt::Formatter<'_>) -> fmt::Result {
+        let is_full = |rows: &[u8]| {
+            let (first, past) = rows.split_at(SPANS / 2);
+            first.iter().zip(past).any(|(first, past)| first < past)
+        };
+        let full: Vec<bool> = self.rows.chunks_exact(SPANS).map(is_full).collect();
+        f.debug_struct("PileMemory").field("state", &self.state[0]).field("full", &full).finish_non_exhaustive()
+    }
+}
+
+// No padding, and the sizes that include/robequarry.h states.
+const _: () = assert!(size_of::<HolderMemory>() == 8_584 && align_of::<HolderMemory>() == 2);
+const _: () = assert!(size_of::<PileMemory>() == 8_161 && align_of::<PileMemory>() == 1);

@@ -2,11 +2,14 @@ use std::error::Error;
 use std::fmt;
 
 use crate::codec::Fields;
-use crate::limits::{LAST_CELL, LAST_CORNER, LAST_LETTER, LAST_REFUSAL, LONGEST, LONGEST_LIST, PARTIES, PLACES, SHORTEST};
+use crate::limits::{
+    LAST_CELL, LAST_CORNER, LAST_LETTER, LAST_REFUSAL, LAYERS, LONGEST, LONGEST_LIST, PARTIES, PLACES, SHORTEST,
+};
+use crate::raw::Reply;
 use crate::Cell;
 
-/// Why a call was turned back. A place counts the letters before it in the list as sent; pieces are numbered 1 to 4. There is no
-/// refusal 7.
+/// Why a call was refused, in the order of the numbers. A place counts the letters before it in the list as sent; pieces are numbered 1
+/// to 4. There is no refusal 7.
 #[derive(Clone, Copy, Debug, PartialEq, Eq, Hash)]
 pub enum Refusal {
     /// 1: too few or too many letters.
@@ -25,9 +28,9 @@ pub enum Refusal {
     BackStep { piece: u16, place: usize },
     /// 9: a factor that is no Christoffel word: place and length of one copy, and the lowest missing cell.
     Dent { piece: u16, place: usize, length: usize, missing: Cell },
-    /// 10, of a test: the lent list has no room for this many edges.
+    /// 10, of a test: the buffer has no space for this many edges.
     Room { edges: usize },
-    /// 10, of a loose query or a border: the list is odd or too long.
+    /// 10, of a loose query, a border or a comparison: the list is odd or too long.
     List,
     /// 11: a cell off the chart.
     Cell,
@@ -35,6 +38,8 @@ pub enum Refusal {
     Reading,
     /// 12: nothing is at work.
     NothingAtWork,
+    /// 12, of a pile: it has not passed a check since a layer was last set.
+    NotPassed,
     /// 13: there is no draft.
     NoDraft,
     /// 14: a draft is open already.
@@ -43,14 +48,25 @@ pub enum Refusal {
     DraftFull,
     /// 16: the edges do not lead once round clockwise.
     Turning,
+    /// 17: the test takes no outline with this anchor and these edges.
+    NoOutline,
+    /// 18: the buffer has no space for the letters.
+    LetterRoom,
     /// 19: there is no such party.
     Party,
     /// 20: there is no such place.
     Place,
-    /// 17: no taken outline has this anchor and these edges.
-    NoOutline,
-    /// 18: the lent list has no room for the letters.
-    LetterRoom,
+    /// 21: a section of a pile is dented. It is at this column or row.
+    Section { kind: SectionKind, at: u16 },
+    /// 22: there is no such layer.
+    Layer,
+}
+
+/// Whether a section of a pile is at a column or at a row.
+#[derive(Clone, Copy, Debug, PartialEq, Eq, Hash)]
+pub enum SectionKind {
+    Column,
+    Row,
 }
 
 impl Refusal {
@@ -67,23 +83,61 @@ impl Refusal {
             Refusal::Dent { .. } => 9,
             Refusal::Room { .. } | Refusal::List => 10,
             Refusal::Cell | Refusal::Reading => 11,
-            Refusal::NothingAtWork => 12,
+            Refusal::NothingAtWork | Refusal::NotPassed => 12,
             Refusal::NoDraft => 13,
             Refusal::DraftOpen => 14,
             Refusal::DraftFull => 15,
             Refusal::Turning => 16,
-            Refusal::Party => 19,
-            Refusal::Place => 20,
             Refusal::NoOutline => 17,
             Refusal::LetterRoom => 18,
+            Refusal::Party => 19,
+            Refusal::Place => 20,
+            Refusal::Section { .. } => 21,
+            Refusal::Layer => 22,
         }
     }
 
-    /// The refusal in a reply, where 10 is about room for edges; none if the number is 0.
-    pub(crate) fn of(fields: Fields) -> Option<Refusal> {
+    /// The refusal in a reply, where it is one: 10 is about space for edges, 11 about a cell, 12 about a place.
+    #[inline]
+    pub(crate) fn check(reply: &Reply) -> Result<(), Refusal> {
+        match reply[0] {
+            0 => Ok(()),
+            _ => Err(Refusal::of(reply)),
+        }
+    }
+
+    /// The same of a reply where 10 is about a list of edges.
+    #[inline]
+    pub(crate) fn check_list(reply: &Reply) -> Result<(), Refusal> {
+        Refusal::check(reply).map_err(|refusal| match refusal {
+            Refusal::Room { .. } => Refusal::List,
+            other => other,
+        })
+    }
+
+    /// The same of a reply to a reading, where 11 is about its two numbers.
+    #[inline]
+    pub(crate) fn check_reading(reply: &Reply) -> Result<(), Refusal> {
+        Refusal::check(reply).map_err(|refusal| match refusal {
+            Refusal::Cell => Refusal::Reading,
+            other => other,
+        })
+    }
+
+    /// The same of a pile's reply, where 12 is about the last check.
+    #[inline]
+    pub(crate) fn check_pile(reply: &Reply) -> Result<(), Refusal> {
+        Refusal::check(reply).map_err(|refusal| match refusal {
+            Refusal::NothingAtWork => Refusal::NotPassed,
+            other => other,
+        })
+    }
+
+    #[cold]
+    fn of(reply: &Reply) -> Refusal {
+        let fields = Fields::from(*reply);
         let place = usize::from(fields.place);
-        let refusal = match fields.number {
-            0 => return None,
+        match fields.number {
             1 => Refusal::Count,
             2 => Refusal::Start,
             3 => Refusal::Letter { place },
@@ -104,28 +158,16 @@ impl Refusal {
             14 => Refusal::DraftOpen,
             15 => Refusal::DraftFull,
             16 => Refusal::Turning,
-            19 => Refusal::Party,
-            20 => Refusal::Place,
             17 => Refusal::NoOutline,
             18 => Refusal::LetterRoom,
-            other => unreachable!("the library's last refusal is {LAST_REFUSAL}, not {other}"),
-        };
-        Some(refusal)
-    }
-
-    /// The refusal in a reply of a loose query, or of a border, where 10 is about the list.
-    pub(crate) fn of_list(fields: Fields) -> Option<Refusal> {
-        match Refusal::of(fields) {
-            Some(Refusal::Room { .. }) => Some(Refusal::List),
-            other => other,
-        }
-    }
-
-    /// The refusal in a reply to a reading, where 11 is about its two numbers.
-    pub(crate) fn of_reading(fields: Fields) -> Option<Refusal> {
-        match Refusal::of(fields) {
-            Some(Refusal::Cell) => Some(Refusal::Reading),
-            other => other,
+            19 => Refusal::Party,
+            20 => Refusal::Place,
+            21 => {
+                let kind = if fields.piece == 0 { SectionKind::Column } else { SectionKind::Row };
+                Refusal::Section { kind, at: fields.place }
+            }
+            22 => Refusal::Layer,
+            other => unreachable!("the library's last refusal is {LAST_REFUSAL}, and there is no 7: {other}"),
         }
     }
 }
@@ -145,19 +187,23 @@ impl fmt::Display for Refusal {
             Refusal::Dent { piece, place, length, missing } => {
                 write!(f, "piece {piece} has a dent at place {place}, of length {length}; cell {missing} is missing")
             }
-            Refusal::Room { edges } => write!(f, "the lent list has no room for {edges} edges"),
+            Refusal::Room { edges } => write!(f, "the buffer has no space for {edges} edges"),
             Refusal::List => write!(f, "the list has an odd count of numbers, or more than {LONGEST_LIST}"),
             Refusal::Cell => write!(f, "a cell number is above {LAST_CELL}"),
             Refusal::Reading => write!(f, "a number of the reading is none, or not from 0 to {LAST_CELL}"),
             Refusal::NothingAtWork => write!(f, "nothing is at work"),
+            Refusal::NotPassed => write!(f, "the pile has not passed a check since a layer was last set"),
             Refusal::NoDraft => write!(f, "there is no draft"),
             Refusal::DraftOpen => write!(f, "a draft is open"),
             Refusal::DraftFull => write!(f, "the draft has {LONGEST} letters"),
             Refusal::Turning => write!(f, "the edges do not lead once round, clockwise from up"),
+            Refusal::NoOutline => write!(f, "the test takes no outline with this anchor and these edges"),
+            Refusal::LetterRoom => write!(f, "the buffer is too short for the border's letters"),
             Refusal::Party => write!(f, "the party is none of the {PARTIES}"),
             Refusal::Place => write!(f, "the place is none of the {PLACES}"),
-            Refusal::NoOutline => write!(f, "no taken outline has this anchor and these edges"),
-            Refusal::LetterRoom => write!(f, "the lent list has no room for the letters"),
+            Refusal::Section { kind: SectionKind::Column, at } => write!(f, "the section at column {at} is dented"),
+            Refusal::Section { kind: SectionKind::Row, at } => write!(f, "the section at row {at} is dented"),
+            Refusal::Layer => write!(f, "the layer is none of the {LAYERS}"),
         }
     }
 }

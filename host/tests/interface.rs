@@ -1,9 +1,10 @@
-//! The safe interface's own part: lists as types, the holder's memory, the refusals' words.
+//! The safe interface's own part: lists as types, the memory of holders and piles, the refusals' words.
 
-use robequarry::limits::{CALL, LAST_CORNER, LONGEST, LONGEST_LIST, PARTIES, PLACES, REPLY};
+use robequarry::limits::{CALL, LAST_CORNER, LAST_REFUSAL, LAYERS, LONGEST, LONGEST_LIST, PARTIES, PLACES, REPLY};
+use robequarry::raw::{self, HolderMemory, PileMemory};
 use robequarry::{
-    raw, Action, Answer, Cell, Comparison, Corner, Edges, Holder, Located, Nesting, Outline, Piece, Reading, Refusal, Taken,
-    TurnedBack,
+    Action, Answer, Cell, Comparison, Corner, Edges, Holder, Located, Nesting, Outline, Piece, Pile, PileCall, Reading,
+    Refusal, RefusedList, SectionKind, Taken,
 };
 
 const BAR: [u8; 8] = [1, 0, 0, 0, 3, 2, 2, 2];
@@ -22,22 +23,62 @@ fn draw(holder: &mut Holder, place: u8, start: (u16, u16), letters: &[u8]) -> ro
 }
 
 #[test]
-fn reply_list_without_room() {
-    let mut edges = [9; 4];
-    for room in 0..REPLY {
-        let mut reply = vec![5; room];
-        assert!(!raw::test(0, 0, &BAR, &mut edges, &mut reply));
-        assert!(!raw::loose_query(0, 0, &edges, 0, 0, &mut reply));
-        assert_eq!(raw::replay(&Action::Drop.by(KNEE).bytes(), &mut reply), 0);
-        let mut letters = [9; 4];
-        assert!(!raw::border(0, 0, &[], &mut letters, &mut reply));
-        assert_eq!(letters, [9; 4]);
-        assert_eq!(raw::replay(&Action::Drop.by(KNEE).bytes(), &mut reply), 0);
-        assert_eq!((edges, reply), ([9; 4], vec![5; room]));
+fn replies_and_buffers() {
+    let (mut edges, mut reply) = ([9; 6], [5; REPLY]);
+    raw::test(0, 0, &BAR, &mut edges, &mut reply);
+    assert_eq!((edges, reply), ([2, 0, -2, 0, 9, 9], [0, 0, 2, 0, 0, 0, 0]));
+    raw::loose_query(0, 0, &edges[..4], 2, 0, &mut reply);
+    assert_eq!(reply, [0, 1, 0, 0, 0, 0, 0]);
+    let mut letters = [9; 10];
+    raw::border(0, 0, &edges[..4], &mut letters, &mut reply);
+    assert_eq!((letters, reply), ([1, 0, 0, 0, 3, 2, 2, 2, 9, 9], [0, 0, 8, 0, 0, 0, 0]));
+    // A replay has space for whole replies alone.
+    let script = [Action::Drop.by(KNEE).bytes(), Action::Drop.by(ANKLE).bytes()].concat();
+    for space in 0..3 * REPLY {
+        let mut replies = vec![5; space];
+        let written = (space / REPLY).min(2);
+        assert_eq!(raw::replay(&script, &mut replies), written);
+        let expected: Vec<u16> = [13, 0, 0, 0, 0, 0, 0].repeat(written);
+        assert_eq!(replies, [expected, vec![5; space - REPLY * written]].concat());
     }
-    let mut reply = [5; 9];
-    assert!(raw::test(0, 0, &BAR, &mut edges, &mut reply));
-    assert_eq!((edges, reply), ([2, 0, -2, 0], [0, 0, 2, 0, 0, 0, 0, 5, 5]));
+}
+
+/// What memory held before it is made fresh does not matter, and memory of zeros is fresh.
+#[test]
+fn fresh_memory() {
+    for byte in [0, 1, 0x5a, 0xff] {
+        let mut holder = HolderMemory::filled(byte);
+        holder.fresh();
+        assert_eq!(holder, HolderMemory::filled(0));
+        let mut pile = PileMemory::filled(byte);
+        pile.fresh();
+        assert_eq!(pile, PileMemory::filled(0));
+    }
+    assert_eq!((Holder::new(), Pile::new()), (Holder::default(), Pile::default()));
+}
+
+/// Holders and piles are values: a copy goes its own way.
+#[test]
+fn copies_stand_apart() {
+    let mut holder = Holder::new();
+    draw(&mut holder, 0, (5, 5), &BAR).unwrap();
+    let mut copy = holder.clone();
+    assert_eq!(copy, holder);
+    copy.clear(KNEE, 0).unwrap();
+    assert_ne!(copy, holder);
+    assert_eq!(holder.query(KNEE, 0, Cell::new(5, 5)), Ok(true));
+    assert_eq!(copy.query(KNEE, 0, Cell::new(5, 5)), Err(Refusal::NothingAtWork));
+    let shown = format!("{holder:?}");
+    assert!(shown.contains("[1, 5, 5, 2]") && shown.len() < 1_000, "{shown}");
+
+    let mut pile = Pile::new();
+    pile.check().unwrap();
+    let mut copy = pile.clone();
+    copy.empty(0).unwrap();
+    assert_eq!(pile.query(0, Cell::new(0, 0)), Ok(false));
+    assert_eq!(copy.query(0, Cell::new(0, 0)), Err(Refusal::NotPassed));
+    assert_ne!(copy, pile);
+    assert!(format!("{pile:?}").len() < 1_000);
 }
 
 #[test]
@@ -55,7 +96,7 @@ fn loose_queries() {
 fn lists_that_do_not_lead_once_round() {
     let anchor = Cell::new(3, 4);
     let ask = |numbers: &[i16], cell| Edges::new(anchor, numbers).contains(cell);
-    // A nil edge, an open walk, one direction twice, up after left, anticlockwise.
+    // A zero edge, an open walk, one direction twice, up after left, anticlockwise.
     for list in [&[0, 0][..], &[0, 2, 1, 0], &[0, 1, 0, 1, 0, -2], &[1, 0, -1, -1, 0, 1], &[1, 0, -1, 1, 0, -1]] {
         assert_eq!(ask(list, anchor), Err(Refusal::Turning), "{list:?}");
         assert_eq!(ask(list, Cell::new(0, 255)), Err(Refusal::Cell), "{list:?}");
@@ -78,8 +119,8 @@ fn borders() {
     assert_eq!(border(&[]).map(letters), Ok(CELL.to_vec()));
     assert_eq!(border(&[2, 0, -2, 0]).map(letters), Ok(BAR.to_vec()));
     assert_eq!(border(&[]).unwrap().start, Corner::new(3, 4));
-    // 16 before 17 before 18. Two cells that meet at a corner have no border, nor has what leaves the chart or is too long.
-    let into = |numbers: &[i16], room: usize| Edges::new(anchor, numbers).border_into(&mut vec![9; room]);
+    // 16 before 17 before 18. Two cells with only a corner in common have no border, nor has what leaves the chart or is too long.
+    let into = |numbers: &[i16], space: usize| Edges::new(anchor, numbers).border_into(&mut vec![9; space]);
     assert_eq!(into(&[0, 0], 0), Err(Refusal::Turning));
     assert_eq!(into(&[1, 1, -1, -1], 0), Err(Refusal::NoOutline));
     assert_eq!(into(&[0, 251, 1, -251, -1, 0], LONGEST), Err(Refusal::NoOutline));
@@ -88,10 +129,10 @@ fn borders() {
     assert_eq!(into(&[2, 0, -2, 0], 8), Ok(8));
     assert_eq!(into(&[2], LONGEST), Err(Refusal::List));
     assert_eq!(Edges::new(Cell::new(0, 255), [0, 0]).border(), Err(Refusal::Cell));
-    // The rest of the lent list is as it was.
-    let mut lent = [9; 6];
-    assert_eq!(Edges::new(anchor, []).border_into(&mut lent), Ok(4));
-    assert_eq!(lent, [1, 0, 3, 2, 9, 9]);
+    // The rest of the buffer is unaltered.
+    let mut buffer = [9; 6];
+    assert_eq!(Edges::new(anchor, []).border_into(&mut buffer), Ok(4));
+    assert_eq!(buffer, [1, 0, 3, 2, 9, 9]);
 }
 
 #[test]
@@ -150,7 +191,7 @@ fn parties_and_places_stand_apart() {
     assert_eq!(holder.query(KNEE, 2, cell), Err(Refusal::NothingAtWork));
     assert_eq!(holder.query(KNEE, 3, cell), Ok(true));
 
-    // 19 before 20, and both before all others; a close that 20 turns back ends its party's draft.
+    // 19 before 20, and both before all others; a close that 20 refuses ends its party's draft.
     assert_eq!(holder.begin(PARTIES, Corner::new(256, 0)), Err(Refusal::Party));
     assert_eq!(holder.clear(PARTIES, PLACES), Err(Refusal::Party));
     assert_eq!(holder.query(ANKLE, PLACES, Cell::new(255, 0)), Err(Refusal::Place));
@@ -167,7 +208,7 @@ fn readings() {
     // Five cells by five, from (5, 5): the edges run round the centres of the outer cells.
     let square = [[1; 5], [0; 5], [3; 5], [2; 5]].concat();
     draw(&mut holder, 1, (5, 5), &square).unwrap();
-    let mut at = |angle, load| holder.reading(KNEE, 1, angle, load);
+    let at = |angle, load| holder.reading(KNEE, 1, angle, load);
     assert_eq!(at(7.25, 8.5), Ok(Located::Inside));
     assert_eq!(at(5.0, 7.0), Ok(Located::Undecided));
     assert_eq!(at(4.999, 7.0), Ok(Located::Outside));
@@ -193,13 +234,13 @@ fn pieces() {
     // A draft in the making stays as it is.
     holder.begin(ANKLE, Corner::new(0, 0)).unwrap();
     draw(&mut holder, 0, (253, 252), &[1, 1, 0, 3, 0, 3, 2, 2]).unwrap();
-    let mut at = |position| holder.piece(KNEE, 0, position);
+    let at = |position| holder.piece(KNEE, 0, position);
     assert_eq!(at(0), Ok(Piece::Move(253.5, 252.5)));
     assert_eq!(at(1), Ok(Piece::Line(253.5, 253.5)));
     assert_eq!(at(2), Ok(Piece::Line(254.5, 252.5)));
     assert_eq!((at(3), at(4), at(u16::MAX)), (Ok(Piece::Close), Ok(Piece::None), Ok(Piece::None)));
     draw(&mut holder, 1, (9, 9), &CELL).unwrap();
-    let mut at = |position| holder.piece(KNEE, 1, position);
+    let at = |position| holder.piece(KNEE, 1, position);
     assert_eq!((at(0), at(1), at(2)), (Ok(Piece::Move(9.5, 9.5)), Ok(Piece::Close), Ok(Piece::None)));
     // A call has the cell.
     let mut call = |position| holder.call(Action::Piece { place: 0, position }.by(KNEE));
@@ -227,12 +268,12 @@ fn comparisons() {
     let longer = edges(0, 0, &[2, 2, -2, -2]);
     assert_eq!(longer.compare(&edges(0, 1, &[2, 0, -2, 0])), found(Nesting::Crossing, None));
 
-    // The whole first list is asked before the second.
-    let turned = |list, refusal| Err(TurnedBack { list, refusal });
+    // The whole first list is checked before the second.
+    let refused = |list, refusal| Err(RefusedList { list, refusal });
     let (off, odd) = (edges(254, 0, &[0, 2, 2, 0, 0, -2, -2, 0]), edges(0, 0, &[1]));
-    assert_eq!(off.compare(&odd), turned(1, Refusal::Cell));
-    assert_eq!(cell.compare(&odd), turned(2, Refusal::List));
-    assert_eq!(cell.compare(&edges(0, 0, &[1, 0])), turned(2, Refusal::Turning));
+    assert_eq!(off.compare(&odd), refused(1, Refusal::Cell));
+    assert_eq!(cell.compare(&odd), refused(2, Refusal::List));
+    assert_eq!(cell.compare(&edges(0, 0, &[1, 0])), refused(2, Refusal::Turning));
     assert_eq!(cell.compare(&edges(255, 0, &[1, 0])).unwrap_err().to_string(), "list 2: a cell number is above 254");
 }
 
@@ -250,16 +291,73 @@ fn full_draft() {
 
 #[test]
 fn bytes_that_are_no_call() {
-    let mut memory = raw::HolderMemory::fresh();
+    let mut memory = HolderMemory::filled(0x5a);
+    memory.fresh();
+    memory.begin(KNEE, 1, 2, &mut [0; REPLY]);
+    let before = memory.clone();
     let drop = Action::Drop.by(KNEE).bytes();
-    let mut reply = [5; REPLY + 1];
+    let mut reply = [5; REPLY];
     for bytes in [&drop[..CALL - 1], &[], &[&drop[..], &[0]].concat(), &[9, 0, 0, 0, 0, 0, 0, 0, 0, 0, 0]] {
         assert!(!memory.call(bytes, &mut reply), "{bytes:?}");
     }
-    assert!(!memory.call(&Action::Begin(Corner::new(0, 0)).by(KNEE).bytes(), &mut reply[..REPLY - 1]));
-    assert_eq!(reply, [5; REPLY + 1]);
+    assert_eq!((reply, &memory), ([5; REPLY], &before));
     assert!(memory.call(&drop, &mut reply));
-    assert_eq!(reply, [13, 0, 0, 0, 0, 0, 0, 5]);
+    assert_eq!(reply, [0; REPLY]);
+    assert!(memory.call(&drop, &mut reply));
+    assert_eq!(reply, [13, 0, 0, 0, 0, 0, 0]);
+}
+
+#[test]
+fn piles() {
+    let at = |col, row, letters: &[u8]| Outline::new(Corner::new(col, row), letters);
+    let mut pile = Pile::new();
+    assert_eq!(pile.query(0, Cell::new(0, 0)), Err(Refusal::NotPassed));
+    let bar = Taken { edges: 2, anchor: Cell::new(5, 5) };
+    assert_eq!(pile.set(15, &at(5, 5, &BAR)), Ok(bar));
+    assert_eq!(pile.check(), Ok(()));
+    assert_eq!(pile.query(15, Cell::new(7, 5)), Ok(true));
+    assert_eq!(pile.query(15, Cell::new(8, 5)), Ok(false));
+    assert_eq!(pile.query(14, Cell::new(7, 5)), Ok(false));
+    assert_eq!(pile.query(15, Cell::new(0, 255)), Err(Refusal::Cell));
+
+    // 22 comes first. A refused set leaves the pass, and one that is taken does not.
+    assert_eq!(pile.set(LAYERS, &at(256, 0, &[])), Err(Refusal::Layer));
+    assert_eq!(pile.empty(LAYERS), Err(Refusal::Layer));
+    assert_eq!(pile.query(u8::MAX, Cell::new(255, 0)), Err(Refusal::Layer));
+    assert_eq!(pile.set(0, &at(256, 0, &BAR)), Err(Refusal::Start));
+    assert_eq!(pile.query(15, Cell::new(7, 5)), Ok(true));
+    assert_eq!(pile.set(15, &at(5, 5, &BAR)), Ok(bar));
+    assert_eq!(pile.query(15, Cell::new(7, 5)), Err(Refusal::NotPassed));
+
+    // Layers 13 and 15 have the bar, and 14 nothing between them: of the sections the columns come first.
+    pile.set(13, &at(5, 5, &BAR)).unwrap();
+    let section = |kind, at| Refusal::Section { kind, at };
+    assert_eq!(pile.check(), Err(section(SectionKind::Column, 5)));
+    assert_eq!(pile.query(15, Cell::new(7, 5)), Err(Refusal::NotPassed));
+    // A cell elsewhere in layer 14 does not help; cells that lead from the one to the other do.
+    pile.empty(13).unwrap();
+    pile.set(14, &at(9, 5, &CELL)).unwrap();
+    pile.set(13, &at(5, 5, &CELL)).unwrap();
+    assert_eq!(pile.check(), Err(section(SectionKind::Column, 5)));
+    pile.set(14, &at(5, 5, &[1, 0, 0, 3, 2, 2])).unwrap();
+    assert_eq!(pile.check(), Ok(()));
+    // By calls as values the same replies come as they are.
+    assert_eq!(pile.call(&PileCall::Query(13, Cell::new(5, 5))).word, 1);
+    assert_eq!(pile.call(&PileCall::SetEmpty(14)).number, 0);
+    let reply = pile.call(&PileCall::Check);
+    assert_eq!((reply.number, reply.piece, reply.place), (21, 0, 5));
+    assert_eq!(pile.call(&PileCall::Query(13, Cell::new(5, 5))).number, 12);
+}
+
+/// A dent that only a row's section has.
+#[test]
+fn a_section_at_a_row() {
+    let at = |col, row| Outline::new(Corner::new(col, row), CELL);
+    let mut pile = Pile::new();
+    for (layer, col) in [(0, 3), (1, 5), (2, 4)] {
+        pile.set(layer, &at(col, 8)).unwrap();
+    }
+    assert_eq!(pile.check(), Err(Refusal::Section { kind: SectionKind::Row, at: 8 }));
 }
 
 #[test]
@@ -267,9 +365,13 @@ fn refusals_in_words() {
     let dent = Refusal::Dent { piece: 2, place: 4, length: 4, missing: Cell::new(1, 1) };
     assert_eq!(dent.to_string(), "piece 2 has a dent at place 4, of length 4; cell (1, 1) is missing");
     assert_eq!(Refusal::Count.to_string(), "fewer than 4 or more than 612 letters");
-    assert_eq!(Refusal::List.number(), 10);
-    assert_eq!(Refusal::Turning.number(), 16);
+    let section = Refusal::Section { kind: SectionKind::Row, at: 8 };
+    assert_eq!(section.to_string(), "the section at row 8 is dented");
+    assert_eq!(Refusal::Layer.to_string(), "the layer is none of the 16");
+    assert_eq!((Refusal::List.number(), Refusal::Turning.number()), (10, 16));
+    assert_eq!((Refusal::NothingAtWork.number(), Refusal::NotPassed.number()), (12, 12));
     assert_eq!((Refusal::Party.number(), Refusal::Place.number()), (19, 20));
+    assert_eq!((section.number(), Refusal::Layer.number()), (21, LAST_REFUSAL));
     let error: Box<dyn std::error::Error> = Box::new(Refusal::NoDraft);
     assert_eq!(error.to_string(), "there is no draft");
 }

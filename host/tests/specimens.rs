@@ -54,6 +54,7 @@ fn refused_specimens() {
     refused((0, 0), &"1".repeat(612), Refusal::Leaves { place: 255 }, 4);
     refused((0, 0), &"1".repeat(613), Refusal::Count, 1);
     refused((0, 0), &"1".repeat(2048), Refusal::Count, 1);
+    refused((0, 0), &"1".repeat(2049), Refusal::Count, 1);
 }
 
 #[test]
@@ -69,11 +70,11 @@ fn short_cuts_are_not_taken() {
 }
 
 #[test]
-fn lent_list() {
+fn buffers() {
     let bar = outline((0, 0), "10003222");
-    let mut list = [7; 6];
-    let taken = bar.test_into(&mut list).unwrap();
-    assert_eq!((taken.edges, list), (2, [2, 0, -2, 0, 7, 7]));
+    let mut buffer = [7; 6];
+    let taken = bar.test_into(&mut buffer).unwrap();
+    assert_eq!((taken.edges, buffer), (2, [2, 0, -2, 0, 7, 7]));
 
     let mut short = [7; 3];
     assert_eq!(bar.test_into(&mut short), Err(Refusal::Room { edges: 2 }));

@@ -17,7 +17,7 @@ use Rattle.lattice.specs.Hull.{Missing, LowestMissing, Full}
 use Rattle.lattice.specs.Refusals.{Simple}
 use Rattle.convexity.specs.Reading.{block}
 use Rattle.convexity.specs.Pieces.{Reaches}
-use Rattle.convexity.proofs.SameBlock.{SameCells}
+use Rattle.convexity.specs.SameBlock.{SameCells}
 use Rattle.verdict.specs.Verdict.{verdictOf}
 use Rattle.verdict.specs.Named.{CellNamed}
 use Rattle.verdict.proofs.VerdictLaws.{taken-facts}
@@ -66,7 +66,7 @@ module _ (p k : ℕ) (there : p < parties) (inside : k < places) (cs : List Call
   close-reply =
       reply-after cs (by p (Close k)) ∙ rw (lt-leb parties p there, lt-leb places k inside) (ap (λ (d : Option Outline). closes d (atWork (bookAfter fresh cs) p k) .reply) draft) ∙ ap (λ (w : Option Outline). closedReply (equalsWork o w) (verdictOf o)) (work-last-taken p k cs)
 
-  close-number : replyFields (replyAfter cs (by p (Close k))) .number ≡ verdictFields (verdictOf o) .number
+  pub close-number : replyFields (replyAfter cs (by p (Close k))) .number ≡ verdictFields (verdictOf o) .number
   close-number = rw close-reply (closed-number (equalsWork o (lastTaken p k cs)) (verdictOf o))
 
   -- "Same" exactly for a draft that is taken and has the cells of the outline last taken (contract 7.7)
@@ -96,9 +96,10 @@ module _ (p k : ℕ) (there : p < parties) (inside : k < places) (cs : List Call
   pub close-taken-full : Simple o → (replyFields (replyAfter cs (by p (Close k))) .number ≡ 0) ↔ Full (block o)
   close-taken-full h = rw close-number (taken-iff-full o h)
 
-  -- And the cell that 9 names is the lowest of them, leftmost in its row
+  -- The cell of the reply is the anchor of a draft that is taken, and with 9 the lowest missing one, leftmost in its row
+  pub close-named : CellNamed o (replyFields (replyAfter cs (by p (Close k))))
+  close-named = rw close-reply (closed-named o (equalsWork o (lastTaken p k cs)) (verdictOf o) (verdict-named o))
+
   pub close-names-lowest : (i q l : ℕ) (x : Point) → replyAfter cs (by p (Close k)) ≡ WasRefused (Dent i q l x) → LowestMissing (block o) x
   unfolding replyFields
-  close-names-lowest i q l x e =
-      let cell : CellNamed o (replyFields (replyAfter cs (by p (Close k)))) = rw close-reply (closed-named o (equalsWork o (lastTaken p k cs)) (verdictOf o) (verdict-named o)) in
-      let named : CellNamed o (replyFields (WasRefused (Dent i q l x))) = rw e at cell in named .missing refl
+  close-names-lowest i q l x e = let named : CellNamed o (replyFields (WasRefused (Dent i q l x))) = rw e at close-named in named .missing refl

@@ -70,13 +70,13 @@ module _ (p k : ℕ) (there : p < parties) (inside : k < places) (cs : List Call
   query-nothing = rw query-reply (asked-nothing x (lastTaken p k cs))
 
   module _ (o : Outline) (last : lastTaken p k cs ≡ some o) (col : x .col < side) (row : x .row < side) where
-    answered : replyAfter cs query ≡ cond (block o (x .col) (x .row)) Inside Outside
+    pub query-answered : replyAfter cs query ≡ cond (block o (x .col) (x .row)) Inside Outside
     unfolding asked
-    answered = query-reply ∙ ap (asked x) last ∙ rw (not-bad-cell x col row)
+    query-answered = query-reply ∙ ap (asked x) last ∙ rw (not-bad-cell x col row)
 
     -- It is "inside" exactly when that outline encloses the cell, and else "outside" (contract 8.4)
     pub query-inside : (replyAfter cs query ≡ Inside) ↔ (block o (x .col) (x .row) ≡ true)
-    query-inside = rw answered (says-inside (block o (x .col) (x .row)))
+    query-inside = rw query-answered (says-inside (block o (x .col) (x .row)))
 
     pub query-outside : (replyAfter cs query ≡ Outside) ↔ (block o (x .col) (x .row) ≡ false)
-    query-outside = rw answered (says-outside (block o (x .col) (x .row)))
+    query-outside = rw query-answered (says-outside (block o (x .col) (x .row)))

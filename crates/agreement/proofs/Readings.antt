@@ -7,7 +7,9 @@ use mathlib.Core.Option.{none, some}
 use mathlib.Core.List.{List, List·Memᴰ}
 use lib.IntN.{ℤ, pos, negℤ, natAbs, _-ℤ_}
 use lib.Signed.{leZ}
-use lib.Ieee.{binary32}
+use lib.Dec.{T}
+use lib.Ieee.{binary32, fits}
+use lib.Ieee.Scale.{finite}
 use Rattle.rounding.specs.Units.{value}
 use Rattle.chart.specs.Limits.{side}
 use Rattle.chart.specs.Outline.{Outline}
@@ -100,6 +102,10 @@ module _ (p k : ℕ) (there : p < parties) (inside : k < places) (cs : List Call
     module _ (held : Held x) (good : badReading x ≡ false) where
       answers : Answers a es x
       answers = outline-answers (border o) (clear-of o (working .reaches)) x held good
+
+      -- Every computed side value is a number and finite, and a float of 32 bits
+      pub reading-finite : (e : Edge) → List·Memᴰ e (edgesAlong a es) → T (finite (computedSide x e)) × T (fits binary32 (computedSide x e))
+      reading-finite = answers .finite
 
       -- Rounding moves a side value by less than 1/64, in units of 2 ^ -149
       pub reading-close : (e : Edge) → List·Memᴰ e (edgesAlong a es) → natAbs (value binary32 (computedSide x e) -ℤ exactSide x e) < 2 ^ 143

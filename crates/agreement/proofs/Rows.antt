@@ -4,7 +4,7 @@ use native.Mathlib.Omega.{arith}
 use mathlib.Core.Path.{_≡_, sym, ap, _∙_, subst}
 use mathlib.Core.Logic.{_↔_}
 use mathlib.Core.Bool.{Bool, true, false}
-use mathlib.Core.Option.{some}
+use mathlib.Core.Option.{Option, none, some}
 use mathlib.Core.List.{List}
 use borrow.Author.Tests.{lt-leb}
 use Rattle.chart.specs.Limits.{side}
@@ -13,7 +13,7 @@ use Rattle.convexity.specs.Reading.{block}
 use Rattle.spans.specs.declared.Span.{Span}
 use Rattle.spans.specs.declared.Span.the-variants.{None as Empty, Columns as Run}
 use Rattle.spans.specs.Spans.{rowSpan, SpanExact, spanReply}
-use Rattle.spans.proofs.Exact.{row-span-exact}
+use Rattle.spans.proofs.Exact.{row-span-exact, spans-describe}
 use Rattle.calls.specs.Calls.{parties, places, by}
 use Rattle.calls.specs.declared.Call.{Call}
 use Rattle.calls.specs.declared.Action.the-variants.{Ask}
@@ -21,11 +21,28 @@ use Rattle.calls.specs.declared.Question.the-variants.{Row as OfRow}
 use Rattle.calls.specs.declared.Reply.the-variants.{Columns, None}
 use Rattle.book.specs.Book.{askedRow, asks}
 use Rattle.book.specs.LastTaken.{lastTaken}
+use Rattle.work.specs.declared.Work.{Work}
 use Rattle.holder.specs.Run.{holderAfter, replyAfter}
 use Rattle.holder.specs.Holder.{workOf, freshHolder}
+use Rattle.agreement.specs.Rows.{KeepsRows}
 use Rattle.agreement.proofs.Works.{IsWork, Working}
 use Rattle.agreement.proofs.ListTheorem.{holder-last-taken}
 use Rattle.agreement.proofs.Queries.{ask-reply}
+
+-- ---- what is kept
+
+-- A work that stands for the book's keeps its rows
+keeps-rows : (w : Work) (o : Option Outline) → IsWork w o → KeepsRows w o
+keeps-rows w none h = h
+keeps-rows w (some o) h = (h .taken, rw (h .spans) (spans-describe o (h .reaches)))
+
+-- After every list of calls the spans kept at each party and place describe exactly the cells of the outline last taken there
+pub rows-kept : (p k : ℕ) → p < parties → k < places → (cs : List Call)
+    → KeepsRows (workOf (holderAfter freshHolder cs) p k) (lastTaken p k cs)
+rows-kept p k there inside cs =
+    keeps-rows (workOf (holderAfter freshHolder cs) p k) (lastTaken p k cs) (holder-last-taken p k there inside cs)
+
+-- ---- what is replied
 
 -- What a reply says of a row, where the columns that it gives are exact
 module _ (marked : ℕ → ℕ → Bool) (r : ℕ) where
@@ -44,20 +61,20 @@ module _ (p k : ℕ) (there : p < parties) (inside : k < places) (cs : List Call
   abbrev asking : Call
   asking = by p (Ask k (OfRow r))
 
-  row-reply : replyAfter cs asking ≡ spanReply (rowSpan (block o) r)
+  pub row-reply : replyAfter cs asking ≡ spanReply (rowSpan (block o) r)
   unfolding asks askedRow
   row-reply = ask-reply p k there inside cs (OfRow r) ∙ ap (askedRow r) last ∙ rw (lt-leb side r row)
 
   working : Working (workOf (holderAfter freshHolder cs) p k) o
   working = subst (IsWork (workOf (holderAfter freshHolder cs) p k)) last (holder-last-taken p k there inside cs)
 
-  exact : SpanExact (block o) r (rowSpan (block o) r)
-  exact = row-span-exact o (working .reaches) r
+  pub row-exact : SpanExact (block o) r (rowSpan (block o) r)
+  row-exact = row-span-exact o (working .reaches) r
 
   -- "Columns": every column from the first to the last is enclosed in that row, and no other (contract 7.9)
   pub row-columns : (a b : ℕ) → replyAfter cs asking ≡ Columns a b → (c : ℕ) → (block o c r ≡ true) ↔ ((a ≤ c) × (c ≤ b))
-  row-columns a b e = columns-said (block o) r (rowSpan (block o) r) exact a b (sym row-reply ∙ e)
+  row-columns a b e = columns-said (block o) r (rowSpan (block o) r) row-exact a b (sym row-reply ∙ e)
 
   -- "None": no column is
   pub row-none : replyAfter cs asking ≡ None → (c : ℕ) → block o c r ≡ false
-  row-none e = none-said (block o) r (rowSpan (block o) r) exact (sym row-reply ∙ e)
+  row-none e = none-said (block o) r (rowSpan (block o) r) row-exact (sym row-reply ∙ e)

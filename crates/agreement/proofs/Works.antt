@@ -1,20 +1,19 @@
 -- A work stands for the book's: its flag says whether there is one, and its anchor, its edges and its rows are those of the book's outline, which was taken. So the edges and the
 -- rows answer for the outline's cells, and two outlines that were taken enclose the same cells exactly if they have the same anchor and the same edges.
-use Prim.Native.Nat.{ℕ, _*_, _≤_, _<_, min}
+use Prim.Native.Nat.{ℕ, _*_, min}
 use native.Mathlib.Omega.{arith}
 use mathlib.Core.Path.{_≡_, refl, sym, ap, _∙_}
-use mathlib.Core.Bool.{Bool, true, false, cond, _&&_, _||_, true≢false, and-eq-true-iff}
+use mathlib.Core.Bool.{Bool, true, false, cond, _&&_, true≢false, and-eq-true-iff}
 use mathlib.Core.Option.{Option, none, some}
 use mathlib.Core.List.{List}
-use lib.ListN.{length, take, drop, replicate, length-take}
+use lib.ListN.{length, take, drop, replicate}
 use lib.Seq.{take-at}
-use lib.Dec.{leb}
 use lib.IntN.{ℤ, pos}
-use borrow.Author.Tests.{leb-false, eqb-true, eq-eqb}
+use borrow.Author.Tests.{eqb-true, eq-eqb}
 use Rattle.base.specs.Same.{sameℤs}
 use Rattle.base.proofs.BelowLaws.{same-test}
 use Rattle.base.proofs.Same.{same-ℤs-iff}
-use Rattle.chart.specs.Limits.{side, mostNumbers, longestList}
+use Rattle.chart.specs.Limits.{mostNumbers}
 use Rattle.chart.specs.Outline.{Outline}
 use Rattle.chart.specs.declared.Point.{Point}
 use Rattle.chart.specs.declared.Refusal.the-variants.{Cell}
@@ -24,20 +23,18 @@ use Rattle.lattice.specs.Chart.{samePoint}
 use Rattle.lattice.proofs.WalkLaws.{point-eq}
 use Rattle.convexity.specs.Reading.{border, block}
 use Rattle.convexity.specs.Pieces.{edges, dentPiece, Reaches}
+use Rattle.convexity.specs.SameBlock.{SameEdges}
 use Rattle.convexity.proofs.Bounds.{edges-length}
-use Rattle.convexity.proofs.AsSent.{edges-answer-sent}
-use Rattle.convexity.proofs.SameBlock.{SameEdges, same-cells-iff}
+use Rattle.convexity.proofs.SameBlock.{same-cells-iff}
 use Rattle.spans.specs.Spans.{spansOf}
-use Rattle.spans.proofs.Exact.{spans-search}
+use Rattle.spans.proofs.Exact.{spans-search, spans-exact}
 use Rattle.verdict.specs.Verdict.{verdictOf, lentAfter}
 use Rattle.verdict.proofs.VerdictLaws.{TakenFacts, taken-facts, taken-fits}
-use Rattle.polygon.specs.Loose.{badCell}
-use Rattle.polygon.proofs.LooseCases.{inside-short}
 use Rattle.calls.specs.declared.Question.{Question}
 use Rattle.calls.specs.declared.Question.the-variants.{Cell as OfCell, Row as OfRow, Reading as OfReading, Piece as OfPiece}
 use Rattle.calls.specs.declared.Reading.{Reading}
 use Rattle.calls.specs.declared.Reply.{Reply}
-use Rattle.calls.specs.declared.Reply.the-variants.{Taken as WasTaken, Same, Refused as WasRefused}
+use Rattle.calls.specs.declared.Reply.the-variants.{Taken as WasTaken, Same}
 use Rattle.book.specs.Book.{sameBlock, equalsWork, closedReply as closedInBook, asked, askedRow, askedReading, askedPiece, asks}
 use Rattle.book.proofs.SameBlock.{same-block-iff}
 use Rattle.work.specs.declared.Work.{Work}
@@ -154,33 +151,11 @@ closed-agrees w v k o (Taken n a) e = ap (λ (s : Bool). cond s (Same n a) (WasT
 
 -- ---- query
 
--- A cell that passes refusal 11 is on the chart
-on-chart-cell : (x : Point) → badCell x ≡ false → (x .col < side) × (x .row < side)
-unfolding badCell
-on-chart-cell x e = go (leb side (x .col)) (leb side (x .row)) refl refl e
-  where
-    go : (a b : Bool) → leb side (x .col) ≡ a → leb side (x .row) ≡ b → (a || b) ≡ false → (x .col < side) × (x .row < side)
-    go true b p q z = absurd (true≢false z)
-    go false true p q z = absurd (true≢false z)
-    go false false p q z = (leb-false side (x .col) p, leb-false side (x .row) q)
-
-cond-same : (t : Bool) (r : Reply) {x y : Reply} → (t ≡ false → x ≡ y) → cond t r x ≡ cond t r y
-cond-same true r e = refl
-cond-same false r e = e refl
-
--- The list of edges at work is no longer than there is space for
-work-short : (w : Work) → length (workEdges w) ≤ longestList
-unfolding workEdges listed
-work-short w = omega (arith, length-take (min (2 * w .edges) mostNumbers) (w .numbers))
-
--- The edges at work answer for the outline at work
+-- The rows at work answer for the outline at work
 located-asked : (w : Work) (x : Point) (o : Option Outline) → IsWork w o → located w x ≡ asked x o
 unfolding located asked
 located-asked w x none e = rw e
-located-asked w x (some o) k =
-    rw (inside-short (w .anchor) (workEdges w) x (work-short w), k .edges, k .anchor, k .taken)
-    (cond-same (badCell x) (WasRefused Cell) λ e.
-    rw (edges-answer-sent o (k .reaches) (k .undented) x (on-chart-cell x e .0) (on-chart-cell x e .1)))
+located-asked w x (some o) k = rw (k .taken, k .spans, spans-exact o (k .reaches) (x .col) (x .row))
 
 -- ---- row
 

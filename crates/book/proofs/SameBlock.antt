@@ -12,7 +12,8 @@ use Rattle.chart.specs.Limits.{side}
 use Rattle.chart.specs.Outline.{Outline}
 use Rattle.lattice.specs.Refusals.{Simple}
 use Rattle.convexity.specs.Reading.{border, block}
-use Rattle.convexity.proofs.SameBlock.{SameCells, same-turn-iff, open-off}
+use Rattle.convexity.specs.SameBlock.{SameCells}
+use Rattle.convexity.proofs.SameBlock.{same-turn-iff, open-off}
 use Rattle.book.specs.Book.{sameBlock}
 
 beq-same : (a b : Bool) → Bool·beq a b ≡ true → a ≡ b

@@ -22,6 +22,7 @@ use Rattle.polygon.specs.Loose.{badCell}
 use Rattle.readings.specs.Located.{locatedOf}
 use Rattle.readings.specs.Replies.{locatedReply}
 use Rattle.drawing.specs.Drawing.{strokeAt}
+use Rattle.drawing.specs.Points.{drawnReply}
 use Rattle.calls.specs.Calls.{badParty, badPlace}
 use Rattle.calls.specs.declared.Call.{Call}
 use Rattle.calls.specs.declared.Action.{Action}
@@ -30,7 +31,7 @@ use Rattle.calls.specs.declared.Question.{Question}
 use Rattle.calls.specs.declared.Question.the-variants.{Cell as OfCell, Row as OfRow, Reading as OfReading, Piece as OfPiece}
 use Rattle.calls.specs.declared.Reading.{Reading}
 use Rattle.calls.specs.declared.Reply.{Reply}
-use Rattle.calls.specs.declared.Reply.the-variants.{Done, Inside, Outside, Drawn, Taken as WasTaken, Same, Refused as WasRefused, NothingAtWork, NoDraft, DraftOpen, DraftFull, NoParty, NoPlace}
+use Rattle.calls.specs.declared.Reply.the-variants.{Done, Inside, Outside, Taken as WasTaken, Same, Refused as WasRefused, NothingAtWork, NoDraft, DraftOpen, DraftFull, NoParty, NoPlace}
 
 -- ---- the entries
 
@@ -135,7 +136,7 @@ askedReading x (some o) = locatedReply (locatedOf (border o .start) (edges (bord
 -- Piece (contract 7.11). 12 is asked first; then the drawing of the outline's anchor and edges is looked at
 unfoldable pub askedPiece : ℕ → Option Outline → Reply
 askedPiece n none = NothingAtWork
-askedPiece n (some o) = Drawn (strokeAt (border o .start) (edges (border o)) n)
+askedPiece n (some o) = drawnReply (strokeAt (border o .start) (edges (border o)) n)
 
 unfoldable pub asks : Question → Option Outline → Reply
 asks (OfCell x) w = asked x w

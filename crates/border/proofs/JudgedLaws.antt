@@ -18,7 +18,8 @@ use Rattle.chart.specs.declared.Verdict.the-variants.{Taken, Refused}
 use Rattle.chart.specs.Outline.{Outline, outline}
 use Rattle.lattice.specs.Chart.{cornerAt, size}
 use Rattle.lattice.specs.Refusals.{Simple}
-use Rattle.lattice.proofs.WalkLaws.{Walked, walked, outline-eq}
+use Rattle.lattice.specs.Walked.{Walked}
+use Rattle.lattice.proofs.WalkLaws.{walked, outline-eq}
 use Rattle.survey.specs.declared.Surveyed.the-variants.{Passed, Refused as Stopped}
 use Rattle.survey.specs.declared.Corners.{Corners}
 use Rattle.survey.specs.Survey.{cornersOf, surveyOf}

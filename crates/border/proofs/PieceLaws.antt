@@ -20,14 +20,15 @@ use Rattle.chart.specs.declared.Verdict.{Verdict}
 use Rattle.chart.specs.declared.Verdict.the-variants.{Taken, Refused}
 use Rattle.lattice.specs.Chart.{cornerAt, size}
 use Rattle.lattice.specs.Refusals.{Simple}
-use Rattle.lattice.proofs.WalkLaws.{Walked, walked, simple-of-walked}
+use Rattle.lattice.specs.Walked.{Walked}
+use Rattle.lattice.proofs.WalkLaws.{walked, simple-of-walked}
 use Rattle.rows.specs.Search.{foundCell}
 use Rattle.rows.proofs.RowLaws.{found-missing}
 use Rattle.convexity.specs.Frame.{frameOf, along}
 use Rattle.convexity.specs.Cut.{cornerPlace, turn, clockwise}
 use Rattle.convexity.specs.Reading.{reading, border, sentFrom}
 use Rattle.convexity.specs.Pieces.{rounds, backStepPiece, dentPiece, edges, edgeCount}
-use Rattle.convexity.proofs.StraightTurn.{NoBackStep}
+use Rattle.convexity.specs.Shape.{NoBackStep}
 use Rattle.convexity.proofs.Extreme.{cornerPlace-lt, cornerPlace-first, not-before-earlier, turn-of}
 use Rattle.convexity.proofs.Shape.{straight-of, shape}
 use Rattle.convexity.proofs.Reading.{simple-reading}

@@ -2,8 +2,9 @@
 use Prim.Native.Nat.{ℕ}
 use Rattle.chart.specs.declared.Fields.{Fields}
 use Rattle.chart.specs.Fields.{numbered, said, accepted, refusalFields, no-word, inside, outside, undecided, taken, same}
-use Rattle.calls.specs.declared.Stroke.{Stroke}
-use Rattle.calls.specs.declared.Stroke.the-variants.{Move, Line, Close, None as NoStroke}
+use Rattle.chart.specs.declared.Point.{Point}
+use Rattle.calls.specs.declared.Piece.{Piece}
+use Rattle.calls.specs.declared.Piece.the-variants.{Move, Line, Close, None as NoPiece}
 use Rattle.calls.specs.declared.Reply.{Reply}
 use Rattle.calls.specs.declared.Reply.the-variants.{Done, Inside, Outside, Undecided, Columns, None, Drawn, Taken, Same, Refused, NothingAtWork, NoDraft, DraftOpen, DraftFull, NoParty, NoPlace}
 
@@ -23,12 +24,12 @@ line = 9
 abbrev pub close : ℕ
 close = 10
 
--- A piece of a drawing has the cell at whose centre its point lies
-unfoldable pub strokeFields : Stroke → Fields
-strokeFields (Move c) = accepted move 0 c
-strokeFields (Line c) = accepted line 0 c
-strokeFields Close = said close
-strokeFields NoStroke = said none
+-- A piece in seven numbers: its word, and the cell at whose centre the point of a move or a line lies
+unfoldable pub pieceFields : Piece → Point → Fields
+pieceFields (Move x y) c = accepted move 0 c
+pieceFields (Line x y) c = accepted line 0 c
+pieceFields Close c = said close
+pieceFields NoPiece c = said none
 
 -- The first column stands in the reply's column, and the last in its row
 unfoldable pub replyFields : Reply → Fields
@@ -38,7 +39,7 @@ replyFields Outside = said outside
 replyFields Undecided = said undecided
 replyFields (Columns a b) = accepted columns 0 (record { col = a; row = b })
 replyFields None = said none
-replyFields (Drawn s) = strokeFields s
+replyFields (Drawn p c) = pieceFields p c
 replyFields (Taken n a) = accepted taken n a
 replyFields (Same n a) = accepted same n a
 replyFields (Refused f) = refusalFields f
@@ -50,20 +51,20 @@ replyFields NoParty = numbered 19
 replyFields NoPlace = numbered 20
 
 -- The piece that a reply gives: none but that of a piece call gives one
-unfoldable pub strokeIn : Reply → Stroke
-strokeIn (Drawn s) = s
-strokeIn Done = NoStroke
-strokeIn Inside = NoStroke
-strokeIn Outside = NoStroke
-strokeIn Undecided = NoStroke
-strokeIn (Columns a b) = NoStroke
-strokeIn None = NoStroke
-strokeIn (Taken n a) = NoStroke
-strokeIn (Same n a) = NoStroke
-strokeIn (Refused f) = NoStroke
-strokeIn NothingAtWork = NoStroke
-strokeIn NoDraft = NoStroke
-strokeIn DraftOpen = NoStroke
-strokeIn DraftFull = NoStroke
-strokeIn NoParty = NoStroke
-strokeIn NoPlace = NoStroke
+unfoldable pub pieceIn : Reply → Piece
+pieceIn (Drawn p c) = p
+pieceIn Done = NoPiece
+pieceIn Inside = NoPiece
+pieceIn Outside = NoPiece
+pieceIn Undecided = NoPiece
+pieceIn (Columns a b) = NoPiece
+pieceIn None = NoPiece
+pieceIn (Taken n a) = NoPiece
+pieceIn (Same n a) = NoPiece
+pieceIn (Refused f) = NoPiece
+pieceIn NothingAtWork = NoPiece
+pieceIn NoDraft = NoPiece
+pieceIn DraftOpen = NoPiece
+pieceIn DraftFull = NoPiece
+pieceIn NoParty = NoPiece
+pieceIn NoPlace = NoPiece

@@ -43,10 +43,10 @@ pub struct Reading {
     pub load: f32,
 }
 
-// One piece of a drawing, by the cell at whose centre its point lies.
-pub enum Stroke {
-    Move(Point),
-    Line(Point),
+// One piece of a drawing, as the tablet's canvas takes it. Its point is a cell's centre: column and row, each raised by one half.
+pub enum Piece {
+    Move(f32, f32),
+    Line(f32, f32),
     Close,
     // Past the last piece.
     None,
@@ -64,8 +64,8 @@ pub enum Reply {
     Columns { first: u16, last: u16 },
     // Row: no enclosed cell.
     None,
-    // Piece.
-    Drawn(Stroke),
+    // Piece, and the cell at whose centre the point of a move or a line lies.
+    Drawn { piece: Piece, cell: Point },
     // A close took the draft: the count of edges, and the anchor.
     Taken { edges: u16, anchor: Point },
     Same { edges: u16, anchor: Point },

@@ -1,31 +1,32 @@
 // A reply written out: its number, its word and its fields (contract 4).
+use crate::Piece;
 use crate::Reply;
-use crate::Stroke;
 use chart::Fields;
 use chart::Point;
 use chart::reply;
 ghost use mathlib.Core.Path.{_≡_};
-ghost use Rattle.calls.specs.Replies.{strokeIn, strokeFields, replyFields};
+ghost use Rattle.calls.specs.Replies.{pieceIn, pieceFields, replyFields};
 
 // The piece that a reply gives: none but that of a piece call gives one.
-pub fn stroke_in(r: Reply) -> Stroke
-    ensures { λ s. ⌜ s ≡ strokeIn r ⌝ }
+pub fn piece_in(r: Reply) -> Piece
+    ensures { λ p. ⌜ p ≡ pieceIn r ⌝ }
 {
-    if let Reply::Drawn(stroke) = r {
-        stroke
+    if let Reply::Drawn { piece, cell: _ } = r {
+        piece
     } else {
-        Stroke::None
+        Piece::None
     }
 }
 
-fn of_stroke(s: Stroke) -> Fields
-    ensures { λ f. ⌜ f ≡ strokeFields s ⌝ }
+// A piece in seven numbers: its word, and the cell of a move or a line.
+fn of_piece(piece: Piece, cell: Point) -> Fields
+    ensures { λ f. ⌜ f ≡ pieceFields piece cell ⌝ }
 {
-    match s {
-        Stroke::Move(cell) => reply::accepted(8, 0, cell),
-        Stroke::Line(cell) => reply::accepted(9, 0, cell),
-        Stroke::Close => reply::said(10),
-        Stroke::None => reply::said(5),
+    match piece {
+        Piece::Move(_, _) => reply::accepted(8, 0, cell),
+        Piece::Line(_, _) => reply::accepted(9, 0, cell),
+        Piece::Close => reply::said(10),
+        Piece::None => reply::said(5),
     }
 }
 
@@ -46,7 +47,7 @@ pub fn of_reply(r: Reply) -> Fields
             },
         ),
         Reply::None => reply::said(5),
-        Reply::Drawn(stroke) => of_stroke(stroke),
+        Reply::Drawn { piece, cell } => of_piece(piece, cell),
         Reply::Taken { edges, anchor } => reply::accepted(3, edges, anchor),
         Reply::Same { edges, anchor } => reply::accepted(4, edges, anchor),
         Reply::Refused(why) => reply::of_refusal(why),

@@ -1,8 +1,9 @@
 -- A list with room for a reply has the seven numbers first and then what stood behind them, and any other is as it was: the test of the room decides.
 use Prim.Native.Nat.{ℕ, _≤_, _<_}
-use mathlib.Core.Path.{_≡_}
-use mathlib.Core.List.{List, _++_}
-use lib.ListN.{length, drop}
+use native.Mathlib.Omega.{arith}
+use mathlib.Core.Path.{_≡_, refl, ap, _∙_}
+use mathlib.Core.List.{List, _++_, append-nil}
+use lib.ListN.{length, drop, drop-of-length-le}
 use borrow.Author.Tests.{le-leb, lt-leb}
 use Rattle.chart.specs.declared.Fields.{Fields}
 use Rattle.chart.specs.Fields.{numbersOf, fieldsOf, replyAfter}
@@ -19,3 +20,13 @@ replyAfter-short f l short = rw (lt-leb 7 (length l) short)
 pub fields-written : (f : Fields) (l : List ℕ) → 7 ≤ length l → fieldsOf (replyAfter f l) ≡ f
 unfolding fieldsOf numbersOf
 fields-written f l room = rw (replyAfter-room f l room)
+
+pub read-back : (f : Fields) → fieldsOf (numbersOf f) ≡ f
+unfolding fieldsOf numbersOf
+read-back f = refl
+
+-- Seven numbers are all of a reply list
+pub seven-written : (f : Fields) (l : List ℕ) → length l ≡ 7 → replyAfter f l ≡ numbersOf f
+seven-written f l e =
+    let all : length l ≤ 7 = omega (arith, e) in
+    replyAfter-room f l (omega (arith, e)) ∙ ap (λ (t : List ℕ). numbersOf f ++ t) (drop-of-length-le l all) ∙ append-nil (numbersOf f)

@@ -19,7 +19,7 @@ use Rattle.convexity.specs.Reading.{reading, block, border}
 use Rattle.convexity.specs.Pieces.{Reaches, IsAnchor, dentPiece, edges}
 use Rattle.convexity.specs.Inside.{insideEdges}
 use Rattle.lattice.proofs.HullLaws.{missing-same, lowest-same}
-use Rattle.convexity.proofs.StraightTurn.{NoBackStep}
+use Rattle.convexity.specs.Shape.{NoBackStep}
 use Rattle.convexity.proofs.Extreme.{turn-of}
 use Rattle.convexity.proofs.Shape.{shape, straight-of}
 use Rattle.convexity.proofs.Levels.{leaves-upwards, anchor-lowest}

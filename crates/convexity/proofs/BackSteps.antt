@@ -17,18 +17,18 @@ use Rattle.chart.specs.Outline.{Outline}
 use Rattle.lattice.specs.Chart.{step, cornerAt, size, letterAt}
 use Rattle.lattice.specs.Hull.{Missing, Full}
 use Rattle.lattice.specs.Refusals.{Simple}
-use Rattle.lattice.proofs.WalkLaws.{Walked, corner-suc, or-left, or-right}
-use Rattle.convexity.specs.Frame.{Frame, frameOf, along}
+use Rattle.lattice.specs.Walked.{Walked}
+use Rattle.lattice.proofs.WalkLaws.{corner-suc, or-left, or-right}
+use Rattle.convexity.specs.Frame.{Frame, frameOf, along, next}
 use Rattle.convexity.specs.Cut.{cutCorner, cut}
-use Rattle.convexity.specs.Reading.{reading, block, border}
+use Rattle.convexity.specs.Reading.{reading, block, border, opposite}
 use Rattle.convexity.specs.Pieces.{piece, isBackStep, backStepAt, backStepPiece, factors, dentLength, dentPiece, Reaches}
 use Rattle.lattice.proofs.HullLaws.{missing-same}
-use Rattle.convexity.proofs.StraightTurn.{Turn}
+use Rattle.convexity.specs.Shape.{Turn}
 use Rattle.convexity.proofs.Extreme.{not-before-earlier, Moved, earlier-on, later-on, earlier-back, later-back, Bend, by-later, by-earlier, on-chart, corner-round, moves, bend, turn-of}
 use Rattle.convexity.proofs.Shape.{straight-of}
 use Rattle.convexity.proofs.Cuts.{previous-pos, cut-zero, corner-west, cut-on, cut-round, cuts-fit, piece-length, piece-at, corner-first, corner-after}
-use Rattle.convexity.specs.Reading.{opposite}
-use Rattle.convexity.proofs.Ring.{next, next-lt, Apart, apart, turns, along-next}
+use Rattle.convexity.proofs.Ring.{next-lt, Apart, apart, turns, along-next}
 use Rattle.convexity.proofs.Levels.{LetterAt, leaves-upwards}
 use Rattle.convexity.proofs.Reading.{simple-reading, clockwise-reading}
 use Rattle.convexity.proofs.AsSent.{block-turn, dented-iff-missing}

@@ -13,13 +13,14 @@ use Rattle.chart.specs.Outline.{Outline, outline}
 use Rattle.lattice.specs.Chart.{cornerAt, size, rotation}
 use Rattle.lattice.specs.Refusals.{Simple}
 use Rattle.lattice.specs.Enclosed.{encloses}
-use Rattle.lattice.proofs.WalkLaws.{Walked, walked, corner-zero, corner-injective, rotated-simple, outline-eq}
+use Rattle.lattice.specs.Walked.{Walked}
+use Rattle.lattice.proofs.WalkLaws.{walked, corner-zero, corner-injective, rotated-simple, outline-eq}
 use Rattle.convexity.specs.Cut.{cornerPlace, westPlace, west, turn, clockwise}
 use Rattle.convexity.specs.Reading.{reading, block, border}
 use Rattle.convexity.specs.Pieces.{IsAnchor, backStepPiece, dentPiece, edges}
 use Rattle.convexity.specs.FromEdges.{lettersFrom}
 use Rattle.convexity.specs.Border.{HasEdges}
-use Rattle.convexity.proofs.StraightTurn.{Turn}
+use Rattle.convexity.specs.Shape.{Turn}
 use Rattle.convexity.proofs.Extreme.{cornerPlace-lt, cornerPlace-first, first-unique, on-chart, turn-of}
 use Rattle.convexity.proofs.Reading.{reading-clockwise, simple-reading, clockwise-reading}
 use Rattle.convexity.proofs.AsSent.{block-turn, west-anchor}
@@ -28,7 +29,7 @@ use Rattle.convexity.proofs.FromEdges.{sent-from-edges}
 -- ---- a turn's W is its start
 
 module _ (o : Outline) (h : Turn o) where
-  west-start : westPlace o ≡ 0
+  pub west-start : westPlace o ≡ 0
   unfolding westPlace
   west-start =
       let some : 0 < size o = omega (arith, h .walked .long) in

@@ -10,7 +10,8 @@ use Rattle.chart.specs.Outline.{Outline}
 use Rattle.chart.specs.Limits.{side}
 use Rattle.lattice.specs.Chart.{cornerAt, size, rotated}
 use Rattle.lattice.specs.Refusals.{Simple}
-use Rattle.lattice.proofs.WalkLaws.{Walked, walked, corner-injective, rotated-walked, rotated-corners}
+use Rattle.lattice.specs.Walked.{Walked}
+use Rattle.lattice.proofs.WalkLaws.{walked, corner-injective, rotated-walked, rotated-corners}
 use Rattle.convexity.specs.Frame.{frameOf, along}
 use Rattle.convexity.specs.Cut.{cornerPlace, westPlace, turn}
 use Rattle.convexity.specs.Reading.{reversed, reading, border}

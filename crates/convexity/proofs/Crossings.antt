@@ -17,13 +17,13 @@ use Rattle.chart.specs.declared.Point.{Point}
 use Rattle.chart.specs.Outline.{Outline}
 use Rattle.chart.specs.Limits.{side}
 use Rattle.lattice.specs.Chart.{cornerAt, letterAt}
-use Rattle.convexity.specs.Frame.{frameOf, along}
+use Rattle.convexity.specs.Frame.{frameOf, along, next}
 use Rattle.convexity.specs.Cut.{cut}
 use Rattle.convexity.specs.Pieces.{word}
 use Rattle.convexity.specs.InFrame.{startE, startL, cellE, cellL, UnderFrom}
+use Rattle.convexity.specs.Shape.{NoBackStep, Shape}
 use Rattle.convexity.proofs.Frame.{EarlierAt, LaterAt, earlier-at, later-at, take-split}
-use Rattle.convexity.proofs.Ring.{next, next-lt, turns, earlier-injective, later-injective, along-next, cell-turned, cell-next}
-use Rattle.convexity.proofs.StraightTurn.{NoBackStep, Shape}
+use Rattle.convexity.proofs.Ring.{next-lt, turns, earlier-injective, later-injective, along-next, cell-turned, cell-next}
 use Rattle.convexity.proofs.Levels.{LetterAt}
 use Rattle.convexity.proofs.Shape.{shape, letterOf, CornerIn, place-lt, letter-in-piece, corner-in-piece, in-piece}
 use Rattle.convexity.proofs.UnderLaws.{under-from-start, under-from-end, under-from-row, under-from-column}

@@ -14,18 +14,18 @@ use Rattle.base.proofs.BelowLaws.{below-suc}
 use Rattle.chart.specs.Outline.{Outline}
 use Rattle.lattice.specs.Chart.{cornerAt, size, letterAt}
 use Rattle.lattice.proofs.RightHand.{arriving-up}
-use Rattle.convexity.specs.Frame.{Frame, frameOf}
+use Rattle.convexity.specs.Frame.{Frame, frameOf, next}
 use Rattle.convexity.specs.Cut.{cornerPlace, ahead, cutCorner, cut}
 use Rattle.convexity.specs.Pieces.{rounds, piece}
 use Rattle.convexity.specs.Reading.{opposite}
-use Rattle.convexity.proofs.Ring.{next, next-lt, below-four, Apart, apart, Turns, turns}
-use Rattle.convexity.proofs.StraightTurn.{Turn}
+use Rattle.convexity.specs.Shape.{Turn}
+use Rattle.convexity.proofs.Ring.{next-lt, below-four, Apart, apart, Turns, turns}
 use Rattle.convexity.proofs.Levels.{turn-first, turn-lowest}
 use Rattle.convexity.proofs.Extreme.{FirstAt, first-at-cornerPlace, Bend, by-later, by-earlier, previous, corner-round, bend}
 
 -- ---- the cut places
 
-ahead-on : (n a b : ℕ) → a ≤ b → ahead n a b ≡ b - a
+pub ahead-on : (n a b : ℕ) → a ≤ b → ahead n a b ≡ b - a
 unfolding ahead
 ahead-on n a b h = rw (le-leb a b h)
 

@@ -18,8 +18,8 @@ use Rattle.chart.specs.Outline.{Outline}
 use Rattle.convexity.specs.Frame.{frameOf}
 use Rattle.convexity.specs.Pieces.{word, factors, edgesOf, edges, dentPiece}
 use Rattle.convexity.specs.Directions.{edgeCols, edgeRows}
+use Rattle.convexity.specs.Shape.{NoBackStep}
 use Rattle.convexity.proofs.Frame.{run, rise, Falls, EdgesFall}
-use Rattle.convexity.proofs.StraightTurn.{NoBackStep}
 use Rattle.convexity.proofs.Shape.{shape}
 use Rattle.convexity.proofs.Smooth.{smooth-edges}
 use Rattle.convexity.proofs.Signed.{Lies, stepCols, stepRows, step-lies}

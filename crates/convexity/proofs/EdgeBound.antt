@@ -22,8 +22,8 @@ use Rattle.chart.specs.Outline.{Outline}
 use Rattle.convexity.specs.Frame.{frameOf}
 use Rattle.convexity.specs.Reading.{border}
 use Rattle.convexity.specs.Pieces.{Reaches, piece, word, factors, edgeCount, dentLength, dentPiece}
+use Rattle.convexity.specs.Shape.{NoBackStep}
 use Rattle.convexity.proofs.Frame.{Falls, EdgesFall}
-use Rattle.convexity.proofs.StraightTurn.{NoBackStep}
 use Rattle.convexity.proofs.Shape.{shape, length-spell}
 use Rattle.convexity.proofs.Smooth.{dent-first, smooth-edges, smooth-piece}
 use Rattle.convexity.proofs.Directions.{EndsLater, first-rises, ends-later-rest, slope-trans}

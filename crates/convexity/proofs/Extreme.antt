@@ -13,11 +13,13 @@ use Rattle.chart.specs.declared.Point.{Point}
 use Rattle.chart.specs.Outline.{Outline}
 use Rattle.lattice.specs.Chart.{step, leaves, cornerAt, size, letterAt}
 use Rattle.lattice.specs.Refusals.{Simple}
-use Rattle.lattice.proofs.WalkLaws.{Walked, OnChart, SameCorners, walked, rotated-walked, turned, length-rotation, point-eq, corner-zero, corner-suc, corner-all, corner-injective}
+use Rattle.lattice.specs.Walked.{Walked}
+use Rattle.lattice.proofs.WalkLaws.{OnChart, SameCorners, walked, rotated-walked, turned, length-rotation, point-eq, corner-zero}
+use Rattle.lattice.proofs.WalkLaws.{corner-suc, corner-all, corner-injective}
 use Rattle.convexity.specs.Frame.{Frame, frameOf, along}
 use Rattle.convexity.specs.Cut.{before, least, cornerPlace, westPlace, west, turn}
 use Rattle.convexity.specs.Reading.{opposite}
-use Rattle.convexity.proofs.StraightTurn.{Turn}
+use Rattle.convexity.specs.Shape.{Turn}
 
 -- ---- the least number below a bound
 

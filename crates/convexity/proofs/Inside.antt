@@ -17,14 +17,14 @@ use Rattle.chart.specs.declared.Point.{Point}
 use Rattle.chart.specs.Outline.{Outline}
 use Rattle.chart.specs.Limits.{side}
 use Rattle.lattice.specs.Chart.{walk, cornerAt}
-use Rattle.convexity.specs.Frame.{Frame, frameOf, along}
+use Rattle.convexity.specs.Frame.{Frame, frameOf, along, next}
 use Rattle.convexity.specs.Cut.{cut}
 use Rattle.convexity.specs.Pieces.{word, factors, edgesOf, edges}
 use Rattle.convexity.specs.Inside.{minℤ, maxℤ, noneOutside, colSteps, rowSteps, total, lowestMet, highestMet, within, insideAt, insideEdges}
+use Rattle.convexity.specs.Shape.{Shape}
 use Rattle.convexity.proofs.Frame.{Sides, run, rise}
 use Rattle.convexity.specs.InFrame.{startOf, startE, startL, cellAlong, cellE, cellL}
-use Rattle.convexity.proofs.Ring.{next, next-lt, next-suc, next-round, below-four, all-round}
-use Rattle.convexity.proofs.StraightTurn.{Shape}
+use Rattle.convexity.proofs.Ring.{next-lt, next-suc, next-round, below-four, all-round}
 use Rattle.base.proofs.IntegerOrder.{up, down, at-most-iff, not-at-most}
 use Rattle.base.proofs.Differences.{Is, is-self, is-add, is-unique, le-iff}
 use Rattle.convexity.proofs.Signed.{Counted, Lies, Placed, placed-cell, lies-next, stepCols, stepRows, step-lies, lies-step, reached, lies-end, lies-sides, none-outside-append, cols-append, rows-append, reached-append}

@@ -19,7 +19,7 @@ use Rattle.lattice.proofs.RightHand.{leftOf, rightOf, Lowest, clockwise-right, 
 use Rattle.convexity.specs.Frame.{frameOf, along}
 use Rattle.convexity.specs.Cut.{clockwise}
 use Rattle.convexity.specs.Pieces.{IsAnchor}
-use Rattle.convexity.proofs.StraightTurn.{Turn}
+use Rattle.convexity.specs.Shape.{Turn}
 use Rattle.convexity.proofs.Extreme.{FirstAt, not-before-earlier, not-before-later}
 
 -- The corner that comes first in frame 0 is the lowest of the leftmost

@@ -1,7 +1,7 @@
--- One piece in its frame; the four pieces in a ring; the theorem, the reading and the four corners; back-steps; the same block; the edges' directions and their number; the letters from the edges.
+-- One piece in its frame; the four pieces in a ring; the theorem, the reading and the four corners; back-steps; the same block; the edges'
+-- directions and their number; the letters from the edges; where the pieces lead.
 pub mod Frame
 pub mod Ring
-pub mod StraightTurn
 pub mod Extreme
 pub mod Levels
 pub mod Cuts
@@ -28,5 +28,6 @@ pub mod Directions
 pub mod EdgeBound
 pub mod FromEdges
 pub mod Border
+pub mod Leads
 pub mod Specimens
 pub mod BorderSpecimens

@@ -17,7 +17,7 @@ use Rattle.convexity.specs.Frame.{frameOf, along}
 use Rattle.convexity.specs.Reading.{opposite}
 use Rattle.base.proofs.Mean.{mean-same, mean-at-least}
 use Rattle.lattice.specs.Enclosed.{encloses}
-use Rattle.convexity.proofs.StraightTurn.{Turn}
+use Rattle.convexity.specs.Shape.{Turn}
 use Rattle.convexity.proofs.Extreme.{along-injective, on-chart}
 use Rattle.convexity.proofs.Levels.{LetterAt, In, Out, shifted, level-enclosed, level-open, right-in, left-out}
 

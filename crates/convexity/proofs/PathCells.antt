@@ -17,12 +17,12 @@ use Rattle.lattice.specs.Chart.{cornerAt, letterAt}
 use Rattle.lattice.specs.Enclosed.{encloses}
 use Rattle.lattice.proofs.WalkLaws.{point, point-eq, corner-suc}
 use Rattle.lattice.proofs.RightHand.{leftOf, rightOf, cornerOf, turn, clockwise-left-turn}
-use Rattle.convexity.specs.Frame.{frameOf, along}
+use Rattle.convexity.specs.Frame.{frameOf, along, next}
 use Rattle.convexity.specs.Cut.{cut}
 use Rattle.convexity.specs.Pieces.{word}
 use Rattle.convexity.specs.InFrame.{cellAlong, startE, startL, cellE, cellL}
-use Rattle.convexity.proofs.Ring.{next, next-lt}
-use Rattle.convexity.proofs.StraightTurn.{NoBackStep}
+use Rattle.convexity.specs.Shape.{NoBackStep}
+use Rattle.convexity.proofs.Ring.{next-lt}
 use Rattle.convexity.proofs.Levels.{LetterAt, In, shifted, level-enclosed, leaves-upwards, turn-lowest, right-in}
 use Rattle.convexity.proofs.Shape.{shape, letterOf, CornerIn, place-lt, letter-in-piece, corner-in-piece}
 

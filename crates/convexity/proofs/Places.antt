@@ -9,7 +9,8 @@ use mathlib.Core.Bool.{Bool, true, false, true≢false}
 use Rattle.chart.specs.Outline.{Outline}
 use Rattle.lattice.specs.Chart.{cornerAt, size, letterAt}
 use Rattle.lattice.specs.Refusals.{Simple}
-use Rattle.lattice.proofs.WalkLaws.{Walked, walked, Turned, turned}
+use Rattle.lattice.specs.Walked.{Walked}
+use Rattle.lattice.proofs.WalkLaws.{walked, Turned, turned}
 use Rattle.convexity.specs.Cut.{turn, westPlace, clockwise, around}
 use Rattle.convexity.specs.Reading.{opposite, reading, readFrom, sentFrom, placeSent, ReadAs}
 use Rattle.convexity.proofs.Reading.{letter-backward, corner-backward, west-first, reading-clockwise, reading-backward, simple-reading, length-reading}

@@ -18,7 +18,9 @@ use Rattle.chart.specs.Outline.{Outline, outline}
 use Rattle.lattice.specs.Chart.{step, leaves, walk, cornerAt, size, letterAt, rotated, rotation, Closed}
 use Rattle.lattice.specs.Enclosed.{count, upAlong, downAlong, ups, downs, encloses}
 use Rattle.lattice.specs.Refusals.{Simple}
-use Rattle.lattice.proofs.WalkLaws.{Walked, OnChart, SameCorners, walked, simple-of-walked, point, point-eq, walk-append, corner-zero, corner-suc, corner-all, corner-injective, length-rotation, letter-rotation-before, outline-eq, NeverLeaves}
+use Rattle.lattice.specs.Walked.{Walked, NeverLeaves}
+use Rattle.lattice.proofs.WalkLaws.{OnChart, SameCorners, walked, simple-of-walked, point, point-eq, walk-append, corner-zero, corner-suc}
+use Rattle.lattice.proofs.WalkLaws.{corner-all, corner-injective, length-rotation, letter-rotation-before, outline-eq}
 use Rattle.lattice.proofs.Jumps.{tally, tally-append}
 use Rattle.lattice.proofs.RightHand.{Lowest, place-before, leaving-lowest, arriving-up, arriving-right}
 use Rattle.convexity.specs.Cut.{westPlace, west, turn, clockwise}

@@ -7,16 +7,9 @@ use mathlib.Core.Logic.{_≢_}
 use Rattle.chart.specs.Limits.{side}
 use Rattle.chart.specs.declared.Point.{Point}
 use Rattle.lattice.proofs.WalkLaws.{OnChart}
-use Rattle.convexity.specs.Frame.{Frame, frameOf, along}
+use Rattle.convexity.specs.Frame.{Frame, frameOf, next, along}
 use Rattle.convexity.specs.InFrame.{cellAlong, cellE, cellL}
 use Rattle.convexity.specs.Reading.{opposite}
-
--- The piece after piece k. The first comes after the last
-abbrev pub next : ℕ → ℕ
-next zero = 1
-next (suc zero) = 2
-next (suc (suc zero)) = 3
-next (suc (suc (suc k))) = 0
 
 pub next-lt : (k : ℕ) → next k < 4
 next-lt zero = omega arith

@@ -20,8 +20,8 @@ use Rattle.lattice.proofs.Jumps.{tally, tally-none}
 use Rattle.convexity.specs.Frame.{frameOf, along}
 use Rattle.convexity.specs.Cut.{cut}
 use Rattle.convexity.specs.InFrame.{cellAlong, startOf, startE, cellE, cellL}
+use Rattle.convexity.specs.Shape.{NoBackStep}
 use Rattle.convexity.proofs.Ring.{below-four}
-use Rattle.convexity.proofs.StraightTurn.{NoBackStep}
 use Rattle.convexity.proofs.Levels.{ups-tally, downs-tally, tested, leaves-upwards, up-counted, up-marked}
 use Rattle.convexity.proofs.Shape.{shape, cut-le}
 use Rattle.convexity.proofs.Crossings.{UnderPiece, Crossing, crossing, line-bounds}

@@ -14,14 +14,17 @@ use Rattle.chart.specs.Outline.{Outline}
 use Rattle.lattice.specs.Chart.{step, leaves, cornerAt, size, Closed, letterAt, rotated}
 use Rattle.lattice.specs.Enclosed.{ups, downs, encloses}
 use Rattle.lattice.specs.Refusals.{Simple}
-use Rattle.lattice.proofs.WalkLaws.{Walked, walked, point, point-eq, corner-zero, corner-suc, corner-all, corner-injective, rotated-corners, rotated-walked, rotated-simple, outline-eq}
+use Rattle.lattice.specs.Walked.{Walked}
+use Rattle.lattice.proofs.WalkLaws.{walked, point, point-eq, corner-zero, corner-suc, corner-all, corner-injective, rotated-corners}
+use Rattle.lattice.proofs.WalkLaws.{rotated-walked, rotated-simple, outline-eq}
 use Rattle.lattice.proofs.Jumps.{rises, falls, upsTo, downsTo, upsAt, rightsAt, leftsAt, ups-to, downs-to, ups-jump-vertical, downs-jump-vertical, ups-column-zero, downs-column-zero, ups-row-zero, downs-row-zero, jump-horizontal, ups-found, downs-found, rights-found, lefts-found, ups-none, rights-none, lefts-none}
 use Rattle.lattice.proofs.RightHand.{leftOf, rightOf, OneAbove, left-hand, level, tally-rotation}
 use Rattle.convexity.specs.Cut.{westPlace, west, turn, clockwise}
 use Rattle.convexity.specs.Pieces.{Reaches, dentPiece, edges}
 use Rattle.convexity.specs.Inside.{insideEdges}
+use Rattle.convexity.specs.SameBlock.{SameCells, SameEdges}
 use Rattle.convexity.specs.Reading.{reading, reversed, block, border}
-use Rattle.convexity.proofs.StraightTurn.{Turn}
+use Rattle.convexity.specs.Shape.{Turn}
 use Rattle.convexity.proofs.Extreme.{turn-of, first-shared}
 use Rattle.convexity.proofs.Levels.{enclosed-level, level-enclosed, leaves-upwards, turn-lowest, left-of-anchor, below-anchor, anchor-lowest}
 use Rattle.convexity.proofs.AsSent.{block-turn, edges-answer-sent}
@@ -223,10 +226,6 @@ open-off o h c r (inr a) = open-above (reading o) (walked (reading o) (simple-re
 
 -- ---- outlines as sent, past refusals 1 to 6
 
--- Two outlines mark the same block
-abbrev pub SameCells : Outline → Outline → Type 0
-SameCells o o′ = (c r : ℕ) → block o c r ≡ block o′ c r
-
 up-turn : (o : Outline) → Simple o → UpTurn (border o)
 up-turn o h = record { turn = turn-of (reading o) (simple-reading o h); up = leaves-upwards (border o) (clockwise-reading o h) }
 
@@ -244,10 +243,6 @@ module _ (o o′ : Outline) (h : Simple o) (h′ : Simple o′) where
   same-turn-iff = (turns-of-cells, cells-of-turns)
 
 -- ---- outlines past the test: their edges
-
--- The same anchor and the same edges
-abbrev pub SameEdges : Outline → Outline → Type 0
-SameEdges o o′ = (border o .start ≡ border o′ .start) × (edges (border o) ≡ edges (border o′))
 
 module _ (o o′ : Outline) (h : Reaches o) (h′ : Reaches o′)
     (d : dentPiece (border o) ≡ 4) (d′ : dentPiece (border o′) ≡ 4) where

@@ -20,14 +20,15 @@ use Rattle.chart.specs.Limits.{side}
 use Rattle.chart.specs.declared.Point.{Point}
 use Rattle.chart.specs.Outline.{Outline}
 use Rattle.lattice.specs.Chart.{cornerAt, size, letterAt}
-use Rattle.lattice.proofs.WalkLaws.{Walked, OnChart}
-use Rattle.convexity.specs.Frame.{Frame, frameOf, along}
+use Rattle.lattice.specs.Walked.{Walked}
+use Rattle.lattice.proofs.WalkLaws.{OnChart}
+use Rattle.convexity.specs.Frame.{Frame, frameOf, along, next}
 use Rattle.convexity.specs.Cut.{cutCorner, cut}
 use Rattle.convexity.specs.Pieces.{rounds, piece, isBackStep, backStepAt, backStepPiece, word}
 use Rattle.convexity.specs.InFrame.{spell, startOf, startE, startL}
 use Rattle.convexity.specs.Reading.{opposite}
-use Rattle.convexity.proofs.Ring.{next, next-lt, next-suc, below-four, round-ring, Apart, apart, Turns, turns, along-next}
-use Rattle.convexity.proofs.StraightTurn.{NoBackStep, Shape}
+use Rattle.convexity.specs.Shape.{NoBackStep, Shape}
+use Rattle.convexity.proofs.Ring.{next-lt, next-suc, below-four, round-ring, Apart, apart, Turns, turns, along-next}
 use Rattle.convexity.proofs.Levels.{leaves-upwards}
 use Rattle.convexity.proofs.Cuts.{ahead-round, cut-step, cut-zero, corner-west, cut-on, cut-round, cuts-rise, cuts-fit, piece-part, piece-length, piece-at, previous-zero, previous-pos, corner-first, corners-differ, coming-west, corner-after}
 use Rattle.convexity.proofs.Extreme.{FirstAt, on-chart, Moved, earlier-on, later-on, earlier-back, later-back, Bend, by-later, by-earlier, previous, corner-round, moves, bend}

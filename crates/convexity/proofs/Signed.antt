@@ -14,12 +14,11 @@ use Rattle.words.specs.Lyndon.{Factor, copies, written}
 use Rattle.words.proofs.Counts.{earliers-append, laters-append, earliers-copies, laters-copies}
 use Rattle.chart.specs.declared.Point.{Point}
 use Rattle.chart.specs.Limits.{side}
-use Rattle.convexity.specs.Frame.{Frame, frameOf}
+use Rattle.convexity.specs.Frame.{Frame, frameOf, next}
 use Rattle.convexity.specs.Pieces.{edgesOf}
 use Rattle.convexity.specs.Inside.{notNegative, sideValue, noneOutside, colSteps, rowSteps}
 use Rattle.convexity.proofs.Frame.{Sides, run, rise}
 use Rattle.convexity.specs.InFrame.{cellAlong, cellE, cellL}
-use Rattle.convexity.proofs.Ring.{next}
 
 -- ---- side values
 

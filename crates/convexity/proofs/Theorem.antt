@@ -16,17 +16,17 @@ use Rattle.chart.specs.Limits.{side}
 use Rattle.lattice.specs.Enclosed.{encloses}
 use Rattle.lattice.specs.Hull.{InTriangle, InHull, Missing, LowestMissing}
 use Rattle.rows.specs.Search.{upColumn, downColumn, missingCell}
-use Rattle.convexity.specs.Frame.{frameOf}
+use Rattle.convexity.specs.Frame.{frameOf, next}
 use Rattle.convexity.specs.Pieces.{word, factors, dentPiece, edges}
 use Rattle.convexity.specs.Inside.{insideEdges}
 use Rattle.base.proofs.Mean.{mean-mirror, mean-at-least}
 use Rattle.lattice.proofs.HullLaws.{missing-same, lowest-same}
 use Rattle.rows.specs.Rows.{inRows}
 use Rattle.lattice.proofs.WalkLaws.{point}
+use Rattle.convexity.specs.Shape.{NoBackStep, Shape}
 use Rattle.convexity.proofs.Frame.{Sides}
 use Rattle.convexity.specs.InFrame.{startE, startL, cellE, cellL, cellAlong, UnderFrom}
-use Rattle.convexity.proofs.Ring.{next, next-lt, cell-next}
-use Rattle.convexity.proofs.StraightTurn.{NoBackStep, Shape}
+use Rattle.convexity.proofs.Ring.{next-lt, cell-next}
 use Rattle.convexity.proofs.Shape.{shape}
 use Rattle.convexity.proofs.UnderLaws.{under-from-left, under-from-high}
 use Rattle.convexity.proofs.Crossings.{UnderPiece}

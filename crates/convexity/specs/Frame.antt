@@ -20,6 +20,13 @@ frameOf (suc zero) = record { earlier = 3; later = 0; earlier-cols = pos 0; earl
 frameOf (suc (suc zero)) = record { earlier = 2; later = 3; earlier-cols = negsuc 0; earlier-rows = pos 0; later-cols = pos 0; later-rows = negsuc 0 }
 frameOf (suc (suc (suc k))) = record { earlier = 1; later = 2; earlier-cols = pos 0; earlier-rows = pos 1; later-cols = negsuc 0; later-rows = pos 0 }
 
+-- The piece after piece k. The first comes after the last
+abbrev pub next : ℕ → ℕ
+next zero = 1
+next (suc zero) = 2
+next (suc (suc zero)) = 3
+next (suc (suc (suc k))) = 0
+
 -- How far along a letter's direction a corner lies, counted from the chart's border
 unfoldable pub along : ℕ → Point → ℕ
 along zero p = p .col

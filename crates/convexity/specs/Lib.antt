@@ -1,4 +1,5 @@
--- From the border to the edges: frames, the cut, the reading, pieces, factors, dents and edges, the rule of the edges, their directions; and back from the edges.
+-- From the border to the edges: frames, the cut, the reading, pieces, factors, dents and edges, the rule of the edges, their directions;
+-- back from the edges; the shape without back-steps; two outlines compared; where the pieces lead.
 pub mod Frame
 pub mod Cut
 pub mod Corners
@@ -9,3 +10,6 @@ pub mod Directions
 pub mod InFrame
 pub mod FromEdges
 pub mod Border
+pub mod Shape
+pub mod SameBlock
+pub mod Leads

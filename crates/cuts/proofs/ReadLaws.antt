@@ -2,16 +2,19 @@
 use Prim.Native.Nat.{ℕ, _+_, _-_, _≤_, _<_}
 use native.Mathlib.Decide.{decLe, decLt}
 use native.Mathlib.Omega.{arith}
-use mathlib.Core.Path.{_≡_, sym, ap, _∙_}
+use mathlib.Core.Path.{_≡_, refl, sym, ap, _∙_}
 use mathlib.Core.Bool.{Bool, true, false, cond, _&&_}
-use mathlib.Core.List.{[], _∷_}
-use lib.Dec.{eqb, ltb}
-use borrow.Author.Tests.{ltb-true, lt-ltb}
+use mathlib.Core.List.{List, [], _∷_}
+use lib.ListN.{length, getD, replicate}
+use lib.Dec.{leb, ltb, eqb}
+use borrow.Author.Tests.{ltb-true, lt-ltb, le-leb, lt-leb}
 use Rattle.base.proofs.BelowLaws.{and-left, and-right}
+use Rattle.chart.specs.Limits.{longest}
 use Rattle.chart.specs.Outline.{Outline}
 use Rattle.lattice.specs.Chart.{cornerAt, size, letterAt}
 use Rattle.lattice.specs.Refusals.{Simple}
-use Rattle.lattice.proofs.WalkLaws.{Walked, walked, length-rotation, corner-zero, corner-injective, corner-rotation-before, corner-rotation-after}
+use Rattle.lattice.specs.Walked.{Walked}
+use Rattle.lattice.proofs.WalkLaws.{walked, length-rotation, corner-zero, corner-injective, corner-rotation-before, corner-rotation-after}
 use Rattle.convexity.specs.Cut.{ahead, cornerPlace, westPlace, turn, clockwise}
 use Rattle.convexity.specs.Reading.{reversed, reading, border}
 use Rattle.convexity.proofs.Extreme.{cornerPlace-lt, turn-of}
@@ -19,16 +22,20 @@ use Rattle.convexity.proofs.Reading.{corner-backward, turn-reading, simple-read
 use Rattle.convexity.proofs.Corners.{corner-reading}
 use Rattle.survey.specs.declared.Corners.{Corners}
 use Rattle.survey.specs.Survey.{cornersOf}
-use Rattle.cuts.specs.Cuts.{placeRead, CutsOf}
-use Rattle.cuts.proofs.CutLaws.{ahead-on, ahead-round, sums-places}
+use Rattle.cuts.specs.declared.Cuts.{Cuts}
+use Rattle.cuts.specs.Cuts.{areBelow, isForward, placeRead, cutsAlong, cutPlacesOf, CutsOf}
+use Rattle.cuts.proofs.CutLaws.{ahead-on, ahead-round, cuts-along}
 
 pub ahead-lt : (n a b : ℕ) → a < n → b < n → ahead n a b < n
 ahead-lt n a b h l = elim (decLe a b) [ yes m ↦ omega (arith, ahead-on n a b m) | no m ↦ omega (arith, ahead-round n a b (omega arith) (omega arith)) ]
 
-pub read-lt : (forward : Bool) (n w p : ℕ) → w < n → p < n → placeRead forward n w p < n
+read-lt : (forward : Bool) (n w p : ℕ) → w < n → p < n → placeRead forward n w p < n
 unfolding placeRead
 read-lt true n w p h l = ahead-lt n w p h l
 read-lt false n w p h l = ahead-lt n p w l h
+
+pub read-le : (forward : Bool) {n w p r : ℕ} → r ≡ placeRead forward n w p → w < n → p < n → r ≤ n
+read-le forward {n} {w} {p} e h l = omega (arith, e, read-lt forward n w p h l)
 
 -- On from a to b and on from b to a is once round
 ahead-back : (n a b : ℕ) → a < n → b < n → (a ≡ b → ⊥) → n - ahead n b a ≡ ahead n a b
@@ -121,10 +128,7 @@ pub record Places (n : ℕ) (f : Corners) : Type 0 where
   pub south : f .south < n
 
 module _ (n : ℕ) (f : Corners) where
-  abbrev areBelow : Bool
-  areBelow = ltb (f .west) n && (ltb (f .north) n && (ltb (f .east) n && ltb (f .south) n))
-
-  pub below-places : areBelow ≡ true → Places n f
+  pub below-places : areBelow n f ≡ true → Places n f
   below-places e =
       let three = and-right (ltb (f .west) n) (ltb (f .north) n && (ltb (f .east) n && ltb (f .south) n)) e in
       let two = and-right (ltb (f .north) n) (ltb (f .east) n && ltb (f .south) n) three in
@@ -135,8 +139,46 @@ module _ (n : ℕ) (f : Corners) where
         south = ltb-true (f .south) n (and-right (ltb (f .east) n) (ltb (f .south) n) two);
       }
 
-  pub places-below : Places n f → areBelow ≡ true
+  places-below : Places n f → areBelow n f ≡ true
   places-below p = rw (lt-ltb (f .west) n (p .west), lt-ltb (f .north) n (p .north), lt-ltb (f .east) n (p .east), lt-ltb (f .south) n (p .south))
+
+-- ---- the definition, by its two tests
+
+cond-off : {A : Type 0} (a : Bool) {b : Bool} (x y : A) → b ≡ false → cond (a && b) x y ≡ y
+cond-off true x y e = rw e
+cond-off false x y e = refl
+
+module _ (w : List ℕ) (f : Corners) where
+  -- Too many letters, or a place that is none of the list
+  pub cuts-long : longest < length w → cutPlacesOf w f ≡ record { forward = false; at = replicate 5 0 }
+  unfolding cutPlacesOf
+  cuts-long h = rw (lt-leb (length w) longest h)
+
+  pub cuts-off : areBelow (length w) f ≡ false → cutPlacesOf w f ≡ record { forward = false; at = replicate 5 0 }
+  unfolding cutPlacesOf
+  cuts-off h = cond-off (leb (length w) longest) _ _ h
+
+  -- Else the sums
+  abbrev placed : ℕ → ℕ
+  placed p = placeRead (isForward w f) (length w) (f .west) p
+
+  abbrev sums : List ℕ
+  sums = cutsAlong (length w) (placed (f .north)) (placed (f .east)) (placed (f .south))
+
+  cuts-found : length w ≤ longest → Places (length w) f → cutPlacesOf w f ≡ record { forward = isForward w f; at = sums }
+  unfolding cutPlacesOf
+  cuts-found h p = rw (le-leb (length w) longest h, places-below (length w) f p)
+
+  pub cuts-summed : {north east south a b c d : ℕ} → length w ≤ longest → Places (length w) f
+      → north ≡ placed (f .north) → east ≡ placed (f .east) → south ≡ placed (f .south)
+      → a ≡ ahead (length w) 0 north → b ≡ ahead (length w) north east → c ≡ ahead (length w) east south → d ≡ ahead (length w) south 0
+      → record { forward = isForward w f; at = 0 ∷ a ∷ (a + b) ∷ (a + b + c) ∷ (a + b + c + d) ∷ [] } ≡ cutPlacesOf w f
+  unfolding cutsAlong
+  cuts-summed {north} {east} {south} {a} {b} {c} {d} h p n e s ea eb ec ed =
+      let same : (0 ∷ a ∷ (a + b) ∷ (a + b + c) ∷ (a + b + c + d) ∷ []) ≡ sums = cc in
+      (λ i. record { forward = isForward w f; at = same i }) ∙ sym (cuts-found h p)
+
+-- ---- the corners of an outline past 1 to 6
 
 module _ {o : Outline} {f : Corners} (simple : Simple o) (h : f ≡ cornersOf o) where
   found-west : f .west ≡ westPlace o
@@ -165,25 +207,32 @@ module _ {o : Outline} {f : Corners} (simple : Simple o) (h : f ≡ cornersOf o)
         south = omega (arith, found-south, cornerPlace-lt o 3 some);
       }
 
-  module _ {way : Bool} (e : way ≡ eqb (letterAt o (f .west)) 1) where
-    -- Clockwise is read forward
-    way-is : way ≡ clockwise (turn o)
-    unfolding clockwise
-    way-is = e ∙ ap (λ (a : ℕ). eqb a 1) (ap (letterAt o) found-west ∙ sym (leaving-west o (walked o simple)))
+  -- Clockwise is read forward
+  way-is : isForward (o .letters) f ≡ clockwise (turn o)
+  unfolding isForward clockwise
+  way-is = ap (λ (a : ℕ). eqb a 1) (ap (letterAt o) found-west ∙ sym (leaving-west o (walked o simple)))
 
-    place-is : (k : ℕ) {p : ℕ} → p ≡ cornerPlace o k → cornerPlace (border o) k ≡ placeRead way (size o) (f .west) p
-    place-is k c =
-        let a = way-is in
-        let b = found-west in
-        border-place o simple k ∙ cc
+  place-is : (k : ℕ) {p : ℕ} → p ≡ cornerPlace o k → placed (o .letters) f p ≡ cornerPlace (border o) k
+  place-is k c =
+      let a = way-is in
+      let b = found-west in
+      let e = border-place o simple k in
+      cc
 
-    module _ {a b c d north east south : ℕ} (en : north ≡ placeRead way (size o) (f .west) (f .north))
-        (ee : east ≡ placeRead way (size o) (f .west) (f .east)) (es : south ≡ placeRead way (size o) (f .west) (f .south))
-        (ea : a ≡ ahead (size o) 0 north) (eb : b ≡ ahead (size o) north east) (ec : c ≡ ahead (size o) east south) (ed : d ≡ ahead (size o) south 0) where
-      pub cuts-of : CutsOf o (record { forward = way; at = 0 ∷ a ∷ (a + b) ∷ (a + b + c) ∷ (a + b + c + d) ∷ [] })
-      cuts-of =
-          record {
-            way = way-is;
-            places =
-                sums-places ea eb ec ed (border o) (border-size o simple) (place-is 1 found-north ∙ sym en) (place-is 2 found-east ∙ sym ee) (place-is 3 found-south ∙ sym es);
-          }
+-- So what is answered for them are the cut places of the border
+pub cuts-of : (o : Outline) → Simple o → CutsOf o (cutPlacesOf (o .letters) (cornersOf o))
+cuts-of o simple =
+    rw (cuts-found (o .letters) (cornersOf o) (walked o simple .short) (found-places simple refl))
+    (record { way = way-is simple refl; places = λ k l. along k ∙ cuts-along (border o) k l })
+  where
+    t : Outline
+    t = border o
+
+    along : (k : ℕ) → getD (sums (o .letters) (cornersOf o)) k 0
+        ≡ getD (cutsAlong (size t) (cornerPlace t 1) (cornerPlace t 2) (cornerPlace t 3)) k 0
+    along k =
+        let n : size o ≡ size (border o) = sym (border-size o simple) in
+        let north = place-is simple refl 1 (found-north simple refl) in
+        let east = place-is simple refl 2 (found-east simple refl) in
+        let south = place-is simple refl 3 (found-south simple refl) in
+        cc

@@ -3,14 +3,8 @@ use chart::LONGEST;
 use survey::Corners;
 ghost use Prim.Native.Nat.{_≤_};
 ghost use mathlib.Core.Path.{_≡_};
-ghost use mathlib.Core.Bool.{_&&_};
-ghost use lib.Dec.{ltb};
-ghost use Rattle.chart.specs.declared.Point.{Point};
-ghost use Rattle.chart.specs.Outline.{outline};
-ghost use Rattle.lattice.specs.Refusals.{Simple};
 ghost use Rattle.convexity.specs.Cut.{ahead as aheadOf};
-ghost use Rattle.survey.specs.Survey.{cornersOf};
-ghost use Rattle.cuts.specs.Cuts.{placeRead, CutsOf};
+ghost use Rattle.cuts.specs.Cuts.{areBelow, placeRead, cutPlacesOf};
 
 // How many letters lead from place a on to place b, past the end of n letters where needed.
 fn ahead(n: usize, a: usize, b: usize) -> usize
@@ -33,7 +27,7 @@ fn place_read(n: usize, forward: bool, w: usize, p: usize) -> usize
 
 // Whether all four places stand in a list of n letters.
 fn are_below(n: usize, found: Corners) -> bool
-    ensures { λ r. ⌜ r ≡ (ltb (found .west) n && (ltb (found .north) n && (ltb (found .east) n && ltb (found .south) n))) ⌝ }
+    ensures { λ r. ⌜ r ≡ areBelow n found ⌝ }
 {
     (found.west < n) & ((found.north < n) & ((found.east < n) & (found.south < n)))
 }
@@ -44,9 +38,9 @@ pub struct Cuts {
     pub at: [usize; 5],
 }
 
-// From the corners of an outline past 1 to 6; of any others nothing is promised.
+// From the letters and their corners. Of other places than those of an outline's corners too it answers by the same sums.
 pub fn cut_places(letters: &[u8], found: Corners) -> Cuts
-    ensures { λ r. ⌜ ((s : Point) → Simple (outline s (now (letters .entry))) → found ≡ cornersOf (outline s (now (letters .entry))) → CutsOf (outline s (now (letters .entry))) r) ⌝ }
+    ensures { λ r. ⌜ r ≡ cutPlacesOf (now (letters .entry)) found ⌝ }
 {
     let n = letters.len();
     if LONGEST < n || !are_below(n, found) {

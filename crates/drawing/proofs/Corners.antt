@@ -10,7 +10,7 @@ use Rattle.convexity.proofs.Signed.{reached}
 use Rattle.convexity.proofs.Inside.{IsCell}
 use Rattle.turning.specs.CornerHull.{onChart, Met, start, after, CornersHold}
 use Rattle.turning.proofs.OnChart.{number-on}
-use Rattle.calls.specs.declared.Stroke.the-variants.{Line}
+use Rattle.drawing.specs.declared.Stroke.the-variants.{Line}
 use Rattle.drawing.specs.Drawing.{lineTo, linesFrom}
 use Rattle.drawing.specs.Claims.{Cell, cellOf, cornersFrom, corners, again, InHullOf}
 

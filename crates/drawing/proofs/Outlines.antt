@@ -12,15 +12,15 @@ use Rattle.chart.specs.declared.Point.{Point}
 use Rattle.chart.specs.Outline.{Outline}
 use Rattle.convexity.specs.Reading.{border, block}
 use Rattle.convexity.specs.Pieces.{Reaches, dentPiece, edges}
-use Rattle.convexity.proofs.StraightTurn.{NoBackStep}
+use Rattle.convexity.specs.Shape.{NoBackStep}
 use Rattle.convexity.proofs.Shape.{shape}
 use Rattle.convexity.proofs.Inside.{Meets, IsCell, vertex-is-cell, edges-return}
 use Rattle.convexity.proofs.AsSent.{clear-of, edges-answer-sent}
 use Rattle.turning.specs.CornerHull.{Met, start, after}
 use Rattle.turning.proofs.Theorem.{inside-iff-hull}
 use Rattle.turning.proofs.Taken.{taken-passes}
-use Rattle.calls.specs.declared.Stroke.{Stroke}
-use Rattle.calls.specs.declared.Stroke.the-variants.{Move, Line, Close}
+use Rattle.drawing.specs.declared.Stroke.{Stroke}
+use Rattle.drawing.specs.declared.Stroke.the-variants.{Move, Line, Close}
 use Rattle.drawing.specs.Drawing.{drawing}
 use Rattle.drawing.specs.Claims.{cellOf, corners, again, InHullOf, Draws}
 use Rattle.drawing.proofs.Halves.{half-raised}

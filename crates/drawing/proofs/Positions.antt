@@ -7,13 +7,13 @@ use lib.ListN.{length, getD, length-append, List·getD-eq-default, List·getD-ap
 use lib.Seq.{getD-at}
 use lib.IntN.{ℤ, pos, _+ℤ_}
 use Rattle.chart.specs.declared.Point.{Point}
-use Rattle.calls.specs.declared.Stroke.{Stroke}
-use Rattle.calls.specs.declared.Stroke.the-variants.{Move, Close, None}
+use Rattle.drawing.specs.declared.Stroke.{Stroke}
+use Rattle.drawing.specs.declared.Stroke.the-variants.{Move, Close, None}
 use Rattle.drawing.specs.Drawing.{lineTo, linesFrom, strokeAt}
 use Rattle.drawing.specs.Claims.{Cell, cellOf, cornersFrom, corners}
 use Rattle.drawing.proofs.Walks.{strokeFrom, stroke-first, stroke-later}
 
-lines-length : (es : List ℤ) (x y : ℤ) → length (linesFrom es x y) ≡ length es / 2 - 1
+pub lines-length : (es : List ℤ) (x y : ℤ) → length (linesFrom es x y) ≡ length es / 2 - 1
 unfolding linesFrom
 lines-length [] x y = omega arith
 lines-length (dx ∷ []) x y = omega arith

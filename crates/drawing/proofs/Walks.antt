@@ -6,8 +6,8 @@ use mathlib.Core.List.{List, [], _∷_, _++_}
 use lib.ListN.{length, drop, getD, length-drop}
 use lib.IntN.{ℤ, pos, natAbs, _+ℤ_}
 use Rattle.chart.specs.declared.Point.{Point}
-use Rattle.calls.specs.declared.Stroke.{Stroke}
-use Rattle.calls.specs.declared.Stroke.the-variants.{Move, Close, None}
+use Rattle.drawing.specs.declared.Stroke.{Stroke}
+use Rattle.drawing.specs.declared.Stroke.the-variants.{Move, Close, None}
 use Rattle.base.proofs.Sizes.{size-sum}
 use Rattle.polygon.proofs.Spans.{drop-two}
 use Rattle.drawing.specs.Drawing.{lineTo, linesFrom, drawing, strokeAt}

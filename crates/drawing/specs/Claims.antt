@@ -14,7 +14,7 @@ use Rattle.chart.specs.Limits.{side}
 use Rattle.chart.specs.declared.Point.{Point}
 use Rattle.lattice.specs.Hull.{InTriangle}
 use Rattle.turning.specs.Turning.{badTurning}
-use Rattle.calls.specs.declared.Stroke.the-variants.{Move, Line, Close}
+use Rattle.drawing.specs.declared.Stroke.the-variants.{Move, Line, Close}
 use Rattle.drawing.specs.Drawing.{drawing}
 use Rattle.drawing.specs.Points.{half}
 

@@ -7,8 +7,8 @@ use lib.ListN.{getD}
 use lib.IntN.{ℤ, pos, natAbs, _+ℤ_}
 use Rattle.chart.specs.declared.Point.{Point}
 use Rattle.turning.specs.CornerHull.{onChart}
-use Rattle.calls.specs.declared.Stroke.{Stroke}
-use Rattle.calls.specs.declared.Stroke.the-variants.{Move, Line, Close, None}
+use Rattle.drawing.specs.declared.Stroke.{Stroke}
+use Rattle.drawing.specs.declared.Stroke.the-variants.{Move, Line, Close, None}
 
 -- A line to a cell of the chart; to none that is off it. No outline at work has a corner cell there
 unfoldable pub lineTo : ℤ → ℤ → Stroke

@@ -4,10 +4,13 @@ use mathlib.Core.Bool.{false}
 use mathlib.Core.List.{List, [], _∷_}
 use lib.IntN.{pos, negsuc}
 use lib.Ieee.{Float, fin, binary32, add, ofInt}
-use Rattle.calls.specs.declared.Stroke.{Stroke}
-use Rattle.calls.specs.declared.Stroke.the-variants.{Move, Line, Close, None}
-use Rattle.drawing.specs.declared.Piece.{Piece}
-use Rattle.drawing.specs.declared.Piece.the-variants.{Move as MoveTo, Line as LineTo, Close as Closed, None as NoPiece}
+use Rattle.chart.specs.declared.Point.{Point}
+use Rattle.calls.specs.declared.Reply.{Reply}
+use Rattle.calls.specs.declared.Reply.the-variants.{Drawn}
+use Rattle.drawing.specs.declared.Stroke.{Stroke}
+use Rattle.drawing.specs.declared.Stroke.the-variants.{Move, Line, Close, None}
+use Rattle.calls.specs.declared.Piece.{Piece}
+use Rattle.calls.specs.declared.Piece.the-variants.{Move as MoveTo, Line as LineTo, Close as Closed, None as NoPiece}
 
 -- n and one half. One half is the float 1 * 2 ^ -1
 unfoldable pub half : ℕ → Float
@@ -18,6 +21,17 @@ pieceOf (Move c) = MoveTo (half (c .col)) (half (c .row))
 pieceOf (Line c) = LineTo (half (c .col)) (half (c .row))
 pieceOf Close = Closed
 pieceOf None = NoPiece
+
+-- The cell of a move or a line; that of any other piece is (0, 0)
+unfoldable pub cellIn : Stroke → Point
+cellIn (Move c) = c
+cellIn (Line c) = c
+cellIn Close = record { col = 0; row = 0 }
+cellIn None = record { col = 0; row = 0 }
+
+-- The reply of a call for a piece: the piece with its point, and the point's cell
+unfoldable pub drawnReply : Stroke → Reply
+drawnReply s = Drawn (pieceOf s) (cellIn s)
 
 -- Two numbers at the front of a lent list that has room for them; what stands behind them is as it was
 unfoldable pub pairAfter : Float → Float → List Float → List Float

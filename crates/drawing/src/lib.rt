@@ -1,5 +1,6 @@
-// The drawing of a polygon of edges, piece by piece: by cells, and as the tablet's canvas takes it.
-use calls::Stroke;
+// The drawing of a polygon of edges, piece by piece, as the tablet's canvas takes it.
+use calls::Piece;
+use calls::Reply;
 use chart::Point;
 use chart::SIDE;
 ghost use mathlib.Core.Path.{_≡_};
@@ -7,15 +8,15 @@ ghost use Prim.Native.Nat.{_^_, _≤_};
 ghost use lib.IntN.{natAbs, _+ℤ_};
 ghost use Rattle.turning.specs.CornerHull.{chartNumber};
 ghost use Rattle.drawing.specs.Drawing.{lineTo, strokeAt};
-ghost use Rattle.drawing.specs.Points.{half as halfOf, pieceOf, pairAfter, pointAfter};
+ghost use Rattle.drawing.specs.Points.{half as halfOf, pieceOf, cellIn, drawnReply, pairAfter, pointAfter};
 
 // The last column and the last row.
 const LAST: u16 = SIDE - 1;
 
-// A piece of a drawing, with its point as two floats.
-pub enum Piece {
-    Move(f32, f32),
-    Line(f32, f32),
+// One piece of a drawing, by the cell at whose centre its point lies.
+pub enum Stroke {
+    Move(Point),
+    Line(Point),
     Close,
     // Past the last piece.
     None,
@@ -50,7 +51,7 @@ fn line_to(x: i64, y: i64) -> Stroke
 }
 
 // The piece at a position of the drawing of an anchor and a list of edges: a line for each edge but the last, and close.
-pub fn stroke(anchor: Point, edges: &[i16], position: u16) -> Stroke
+fn stroke_at(anchor: Point, edges: &[i16], position: u16) -> Stroke
     ensures { λ r. ⌜ r ≡ strokeAt anchor (now (edges .entry)) position ⌝ }
 {
     if position == 0 {
@@ -84,7 +85,7 @@ fn half(n: u16) -> f32
 }
 
 // A piece with its point.
-pub fn piece_of(stroke: Stroke) -> Piece
+fn piece_of(stroke: Stroke) -> Piece
     ensures { λ r. ⌜ r ≡ pieceOf stroke ⌝ }
 {
     match stroke {
@@ -95,11 +96,27 @@ pub fn piece_of(stroke: Stroke) -> Piece
     }
 }
 
-// The piece at a position, with its point.
-pub fn piece_at(anchor: Point, edges: &[i16], position: u16) -> Piece
-    ensures { λ r. ⌜ r ≡ pieceOf (strokeAt anchor (now (edges .entry)) position) ⌝ }
+// The cell of a move or a line; that of any other piece is (0, 0).
+fn cell_in(stroke: Stroke) -> Point
+    ensures { λ r. ⌜ r ≡ cellIn stroke ⌝ }
 {
-    piece_of(stroke(anchor, edges, position))
+    match stroke {
+        Stroke::Move(cell) => cell,
+        Stroke::Line(cell) => cell,
+        Stroke::Close => Point { col: 0, row: 0 },
+        Stroke::None => Point { col: 0, row: 0 },
+    }
+}
+
+// The reply of a call for the piece at a position: the piece with its point, and the point's cell.
+pub fn drawn_at(anchor: Point, edges: &[i16], position: u16) -> Reply
+    ensures { λ r. ⌜ r ≡ drawnReply (strokeAt anchor (now (edges .entry)) position) ⌝ }
+{
+    let found = stroke_at(anchor, edges, position);
+    Reply::Drawn {
+        piece: piece_of(found),
+        cell: cell_in(found),
+    }
 }
 
 // Writes two numbers to the front of a lent list that has room for them.

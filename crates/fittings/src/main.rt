@@ -1,10 +1,10 @@
-// Lists the fitting file on standard input: a line for each record, and one for a fault (contract 11.5).
+// Lists the fitting file on standard input, and writes the text to standard output (contract 11.5).
 use libc::STDIN_FILENO;
 use libc::STDOUT_FILENO;
 use listing::MOST;
 use listing::ROOM;
 
-// Lists a file in a list lent for its text, and writes the text.
+// Lists a file in a buffer, and writes what was listed.
 fn write_listing(file: &[u8], text: &mut [u8]) {
     let end = listing::list(file, text);
     io::write_all(STDOUT_FILENO, &text[..end]);

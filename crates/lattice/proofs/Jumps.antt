@@ -18,7 +18,9 @@ use Rattle.chart.specs.Outline.{Outline, outline}
 use Rattle.chart.specs.Limits.{shortest}
 use Rattle.lattice.specs.Chart.{step, leaves, walk, cornerAt, size, Closed, letterAt}
 use Rattle.lattice.specs.Enclosed.{count, upAlong, downAlong, ups, downs}
-use Rattle.lattice.proofs.WalkLaws.{point, point-eq, step-right, step-up, step-left, step-down, corner-zero, corner-suc, corner-all, Walked, corner-injective, NeverLeaves}
+use Rattle.lattice.specs.Walked.{Walked, NeverLeaves}
+use Rattle.lattice.proofs.WalkLaws.{point, point-eq, step-right, step-up, step-left, step-down, corner-zero, corner-suc, corner-all}
+use Rattle.lattice.proofs.WalkLaws.{corner-injective}
 
 -- How many letters, of those that begin at p, pass a test of the corner that they leave and of themselves
 unfoldable pub tally : (Point → ℕ → Bool) → Point → List ℕ → ℕ

@@ -13,7 +13,9 @@ use Rattle.chart.specs.declared.Point.{Point}
 use Rattle.chart.specs.Outline.{Outline}
 use Rattle.lattice.specs.Chart.{step, leaves, walk, cornerAt, size, Closed, letterAt, rotated}
 use Rattle.lattice.specs.Enclosed.{ups, downs, encloses}
-use Rattle.lattice.proofs.WalkLaws.{point, point-eq, step-right, step-up, step-left, step-down, corner-zero, corner-suc, corner-all, Walked, corner-injective, walk-append, NeverLeaves}
+use Rattle.lattice.specs.Walked.{Walked, NeverLeaves}
+use Rattle.lattice.proofs.WalkLaws.{point, point-eq, step-right, step-up, step-left, step-down, corner-zero, corner-suc, corner-all}
+use Rattle.lattice.proofs.WalkLaws.{corner-injective, walk-append}
 use Rattle.lattice.proofs.Jumps.{tally, rises, falls, tally-append, upsTo, downsTo, lettersAt, upsAt, downsAt, rightsAt, leftsAt, ups-to, downs-to, ups-jump-vertical, downs-jump-vertical, ups-column-zero, downs-column-zero, jump-horizontal, letters-none, letters-one, ups-at-letters, ups-found, downs-found, rights-found, lefts-found, next, arrival-injective, no-return}
 
 -- The four cells around a corner, counterclockwise: cell k lies between the sides that the letters k and k + 1 run along.

@@ -9,7 +9,8 @@ use Rattle.chart.specs.declared.Point.{Point}
 use Rattle.chart.specs.Outline.{Outline}
 use Rattle.lattice.specs.Chart.{leaves, cornerAt, size, letterAt}
 use Rattle.lattice.specs.Refusals.{badStart, leavingPlace, Stays}
-use Rattle.lattice.proofs.WalkLaws.{or-left, or-right, first-absent, OnChart, NeverLeaves}
+use Rattle.lattice.specs.Walked.{NeverLeaves}
+use Rattle.lattice.proofs.WalkLaws.{or-left, or-right, first-absent, OnChart}
 
 -- What a letter that stays on the chart says of the number that it changes
 pub stays-right : (p : Point) (a : ℕ) → leaves p a ≡ false → a ≡ 0 → p .col < side

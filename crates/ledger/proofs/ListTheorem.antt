@@ -4,22 +4,22 @@ use native.Mathlib.Decide.{decLt}
 use native.Mathlib.Omega.{arith}
 use mathlib.Core.Path.{_≡_, refl, sym, ap, _∙_}
 use mathlib.Core.Logic.{_⊎_, inl, inr, _≢_}
-use mathlib.Core.Bool.{Bool, true, false, true≢false, not, cond}
+use mathlib.Core.Bool.{Bool, true, false, true≢false, cond}
 use mathlib.Core.Option.{Option, none, some}
 use mathlib.Core.List.{List, [], _∷_}
-use lib.ListN.{length, getD, set, replicate, length-set, length-replicate, getD-replicate, List·getD-eq-default}
+use lib.ListN.{length, getD, replicate, length-set, length-replicate, getD-replicate, List·getD-eq-default}
 use lib.Seq.{getD-set-same, getD-set-other}
 use lib.Dec.{leb, ltb}
-use borrow.Author.Tests.{lt-ltb, le-ltb, ltb-true, not-true, not-false}
+use borrow.Author.Tests.{lt-ltb, le-ltb, ltb-true}
 use Rattle.base.proofs.PutLaws.{put-here, put-elsewhere}
-use Rattle.base.proofs.BelowLaws.{and-right, not-held, first-found, first-before}
+use Rattle.base.proofs.BelowLaws.{and-right, not-held}
 use Rattle.chart.specs.Limits.{side}
 use Rattle.chart.specs.declared.Point.{Point}
 use Rattle.chart.specs.declared.Verdict.{Verdict}
 use Rattle.chart.specs.declared.Verdict.the-variants.{Taken, Refused}
 use Rattle.chart.specs.Outline.{Outline}
 use Rattle.chart.specs.Fields.{verdictFields}
-use Rattle.lattice.specs.Hull.{Missing, Full}
+use Rattle.lattice.specs.Hull.{InHull, Full}
 use Rattle.rows.specs.Rows.{rows}
 use Rattle.verdict.specs.Verdict.{verdictOf}
 use Rattle.verdict.proofs.VerdictLaws.{TakenFacts, taken-facts}
@@ -30,12 +30,19 @@ use Rattle.spans.specs.Spans.{noSpans, spansOf, inSpans}
 use Rattle.spans.proofs.Exact.{spans-exact, past-le}
 use Rattle.sections.specs.Sections.{layers}
 use Rattle.pile.specs.declared.Pile.{Pile}
+use Rattle.pile.specs.declared.Piled.{Piled}
 use Rattle.pile.specs.declared.PileReply.{PileReply}
 use Rattle.pile.specs.declared.PileReply.the-variants.{Done, Inside, Outside, Judged, Cell, NotPassed, Dented, Layer}
-use Rattle.pile.specs.Pile.{layerAt, freshPile, put, judgedPile, columnClear, rowClear, dentedColumn, dentedRow, setAs, setOf, emptyOf, checkOf, locatedIn, queryOf}
-use Rattle.ledger.specs.Book.{PileCall, Set, SetEmpty, Check, Query, Layers, PileBook, fresh, putLayer, marks, columnMarks, rowMarks, HasDent, Checked, passes, column, row, located, queried, Answers, setBook, isDone, next, AllAnswer}
-use Rattle.ledger.specs.Run.{answerOf, pileReplies, pileAfter, bookAfter}
-use Rattle.ledger.proofs.Runs.{KeptAs, AllKept, column-full, column-dent, row-full, row-dent}
+use Rattle.pile.specs.Pile.{layerAt, freshPile, put, judgedPile, dentedColumn, dentedRow}
+use Rattle.pile.specs.Pile.{setAs, setOf, emptyOf, checkOf, locatedIn, queryOf}
+use Rattle.pile.specs.Calls.{PileCall, Set, SetEmpty, Check, Query, answerOf}
+use Rattle.pile.specs.Meaning.{HasDent, AllFull, CheckedBy, passes, column, row}
+use Rattle.pile.proofs.CallLaws.{says}
+use Rattle.pile.proofs.CheckLaws.{check-said}
+use Rattle.ledger.specs.Book.{Layers, PileBook, fresh, putLayer, marks, columnMarks, rowMarks, Checked, NoneDented}
+use Rattle.ledger.specs.Book.{located, queried, Answers, setBook, isDone, next, AllAnswer}
+use Rattle.ledger.specs.Run.{pileReplies, pileAfter, bookAfter}
+use Rattle.ledger.proofs.Runs.{KeptAs, AllKept, column-plane, row-plane, column-decided, row-decided}
 
 -- ---- what a layer is kept as
 
@@ -92,8 +99,7 @@ record InStep (b : PileBook) (p : Pile) : Type 0 where
   kept : AllKept (b .layers) (p .layers)
   same : p .passed ≡ b .passed
   -- what has passed has no dented section
-  whole-columns : b .passed ≡ true → (c : ℕ) → c < side → Full (columnMarks (b .layers) c)
-  whole-rows : b .passed ≡ true → (r : ℕ) → r < side → Full (rowMarks (b .layers) r)
+  whole : b .passed ≡ true → NoneDented (b .layers)
 
 step-fresh : InStep fresh freshPile
 unfolding fresh freshPile
@@ -106,9 +112,29 @@ step-fresh =
             | no h ↦ rw (past-last l (omega arith)) (kept-nothing (record { first = []; past = [] }) (λ r. refl))
           ];
       same = refl;
-      whole-columns = λ e. absurd (true≢false (sym e));
-      whole-rows = λ e. absurd (true≢false (sym e));
+      whole = λ e. absurd (true≢false (sym e));
     }
+
+-- A check keeps the layers, and passes where it says done
+check-keeps : (p : Pile) → (checkOf p .pile .layers ≡ p .layers) × (checkOf p .pile .passed ≡ isDone (checkOf p .reply))
+unfolding checkOf judgedPile isDone
+check-keeps p = go (ltb (dentedColumn (p .layers)) side) (ltb (dentedRow (p .layers)) side)
+  where
+    said : Bool → Bool → Piled
+    said b d =
+        cond b (says (Dented 0 (dentedColumn (p .layers))) (judgedPile p false))
+        (cond d (says (Dented 1 (dentedRow (p .layers))) (judgedPile p false)) (says Done (judgedPile p true)))
+
+    go : (b d : Bool) → (said b d .pile .layers ≡ p .layers) × (said b d .pile .passed ≡ isDone (said b d .reply))
+    go true d = (refl, refl)
+    go false true = (refl, refl)
+    go false false = (refl, refl)
+
+checked-done : {columns rows : ℕ → ℕ → ℕ → Bool} (r : PileReply) → CheckedBy columns rows r → isDone r ≡ true → AllFull columns rows
+unfolding isDone
+checked-done r (passes cs rs) e = record { at-columns = cs; at-rows = rs }
+checked-done r (column c h d f) e = absurd (true≢false (sym e))
+checked-done r (row i h cs d f) e = absurd (true≢false (sym e))
 
 module _ (b : PileBook) (p : Pile) (t : InStep b p) where
   step-put : (l : ℕ) (v : Option Outline) (s : Spans) → l ≤ 15 → KeptAs v s → InStep (putLayer b l v) (put p l s)
@@ -122,8 +148,7 @@ module _ (b : PileBook) (p : Pile) (t : InStep b p) where
               | inr e ↦ rw (put-elsewhere (b .layers) l v i e, getD-set-other (p .layers) l i s (record { first = []; past = [] }) e) (t .kept i)
             ];
         same = refl;
-        whole-columns = λ e. absurd (true≢false (sym e));
-        whole-rows = λ e. absurd (true≢false (sym e));
+        whole = λ e. absurd (true≢false (sym e));
       }
 
   -- ---- the calls
@@ -151,46 +176,22 @@ module _ (b : PileBook) (p : Pile) (t : InStep b p) where
 
   -- ---- the check
 
-  abbrev ls : Layers
-  ls = b .layers
-
-  clear-column : (c : ℕ) → c < dentedColumn (p .layers) → Full (columnMarks ls c)
-  unfolding dentedColumn
-  clear-column c l = column-full ls (p .layers) (t .size) (t .kept) c (not-false _ (first-before (λ c. not (columnClear (p .layers) c)) side c l))
-
-  clear-row : (r : ℕ) → r < side → r < dentedRow (p .layers) → Full (rowMarks ls r)
-  unfolding dentedRow
-  clear-row r i l = row-full ls (p .layers) (t .size) (t .kept) r i (not-false _ (first-before (λ r. not (rowClear (p .layers) r)) side r l))
-
   step-check : Answers b Check (checkOf p .reply) × InStep (next b Check (checkOf p .reply)) (checkOf p .pile)
-  unfolding Answers next checkOf judgedPile isDone dentedColumn dentedRow
+  unfolding Answers next
   step-check =
-      elim (decLt (dentedColumn (p .layers)) side) [
-        | yes h ↦ rw (lt-ltb _ side h) (column (dentedColumn (p .layers)) h (dent-column h) clear-column, failed)
-        | no h ↦
-            elim (decLt (dentedRow (p .layers)) side) [
-              | yes k ↦
-                  rw (le-ltb (dentedColumn (p .layers)) side (omega arith), lt-ltb _ side k)
-                  (row (dentedRow (p .layers)) k (λ c l. clear-column c (omega arith)) (dent-row k) (λ d l. clear-row d (omega arith) l), failed)
-              | no k ↦
-                  let cs : (c : ℕ) → c < side → Full (columnMarks ls c) = λ c l. clear-column c (omega arith) in
-                  let rs : (r : ℕ) → r < side → Full (rowMarks ls r) = λ r l. clear-row r l (omega arith) in
-                  rw (le-ltb (dentedColumn (p .layers)) side (omega arith), le-ltb (dentedRow (p .layers)) side (omega arith))
-                  (passes cs rs, record { size = t .size; kept = t .kept; same = refl; whole-columns = λ e. cs; whole-rows = λ e. rs })
-            ]
-      ]
-    where
-      dent-column : dentedColumn (p .layers) < side → (x : Point) × Missing (columnMarks ls (dentedColumn (p .layers))) x
-      dent-column h =
-          column-dent ls (p .layers) (t .size) (t .kept) (dentedColumn (p .layers)) (not-true _ (first-found (λ c. not (columnClear (p .layers) c)) side h))
-
-      dent-row : dentedRow (p .layers) < side → (x : Point) × Missing (rowMarks ls (dentedRow (p .layers))) x
-      dent-row h =
-          row-dent ls (p .layers) (t .size) (t .kept) (dentedRow (p .layers)) h (not-true _ (first-found (λ r. not (rowClear (p .layers) r)) side h))
-
-      failed : InStep (record { layers = ls; passed = false }) (record { layers = p .layers; passed = false })
-      failed =
-          record { size = t .size; kept = t .kept; same = refl; whole-columns = λ e. absurd (true≢false (sym e)); whole-rows = λ e. absurd (true≢false (sym e)) }
+      let said =
+      check-said (columnMarks (b .layers)) (rowMarks (b .layers)) p
+      (λ c h. column-decided (b .layers) (p .layers) (t .size) (t .kept) c)
+      (row-decided (b .layers) (p .layers) (t .size) (t .kept)) in
+      let (same-layers, same-outcome) = check-keeps p in (
+        said,
+        record {
+          size = ap length same-layers ∙ t .size;
+          kept = rw same-layers (t .kept);
+          same = same-outcome;
+          whole = checked-done (checkOf p .reply) said;
+        },
+      )
 
   -- ---- the query
 
@@ -239,13 +240,34 @@ passed-query b l x e h k = rw (le-ltb 15 l h, e, k)
 -- A pile that passes answers a query exactly as its layers do, and none of its sections is dented
 pub record Passed (cs : List PileCall) : Type 0 where
   pub answers : (l : ℕ) (x : Point) → l ≤ 15 → badCell x ≡ false → queryOf (pileOf cs) l x ≡ located (bookOf cs .layers l) x
-  pub columns : (c : ℕ) → c < side → Full (columnMarks (bookOf cs .layers) c)
-  pub rows : (r : ℕ) → r < side → Full (rowMarks (bookOf cs .layers) r)
+  pub whole : NoneDented (bookOf cs .layers)
+
+in-step : (cs : List PileCall) → InStep (bookOf cs) (pileOf cs)
+in-step cs = stays-in-step cs fresh freshPile step-fresh
 
 pub pile-passed : (cs : List PileCall) → bookOf cs .passed ≡ true → Passed cs
 pile-passed cs e =
-    let t : InStep (bookOf cs) (pileOf cs) = stays-in-step cs fresh freshPile step-fresh in
-    record { answers = λ l x h k. step-query _ _ t l x ∙ passed-query (bookOf cs) l x e h k; columns = t .whole-columns e; rows = t .whole-rows e }
+    record { answers = λ l x h k. step-query _ _ (in-step cs) l x ∙ passed-query (bookOf cs) l x e h k; whole = in-step cs .whole e }
+
+-- The pile knows as the book does whether it has passed
+pub same-passed : (cs : List PileCall) → pileOf cs .passed ≡ bookOf cs .passed
+same-passed cs = in-step cs .same
+
+-- A check of the pile, and a query, get the book's reply
+pub book-checked : (cs : List PileCall) → Checked (bookOf cs .layers) (checkOf (pileOf cs) .reply)
+unfolding Answers
+book-checked cs = step-check _ _ (in-step cs) .0
+
+pub book-queried : (cs : List PileCall) (l : ℕ) (x : Point) → queryOf (pileOf cs) l x ≡ queried (bookOf cs) l x
+book-queried cs l x = step-query _ _ (in-step cs) l x
+
+-- The plane of a section has 16 by 255 cells: the hull of its marked cells holds no others
+module _ (cs : List PileCall) (k : ℕ) (x : Point) where
+  pub column-on-plane : InHull (columnMarks (bookOf cs .layers) k) x → (x .col < layers) × (x .row < side)
+  column-on-plane = column-plane (bookOf cs .layers) (pileOf cs .layers) (in-step cs .size) (in-step cs .kept) k x
+
+  pub row-on-plane : InHull (rowMarks (bookOf cs .layers) k) x → (x .col < layers) × (x .row < side)
+  row-on-plane = row-plane (bookOf cs .layers) (pileOf cs .layers) (in-step cs .size) (in-step cs .kept) k x
 
 -- ---- the book fixes the replies
 

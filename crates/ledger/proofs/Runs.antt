@@ -5,26 +5,25 @@ use native.Mathlib.Decide.{decLt, decLe}
 use native.Mathlib.Omega.{arith}
 use mathlib.Core.Path.{_≡_, refl, sym, ap, _∙_}
 use mathlib.Core.Logic.{_↔_}
-use mathlib.Core.Bool.{Bool, true, false, true≢false, not, _&&_}
-use mathlib.Core.Option.{Option, none, some}
+use mathlib.Core.Bool.{Bool, true, false, true≢false}
+use mathlib.Core.Option.{Option}
 use mathlib.Core.List.{List, []}
-use lib.ListN.{length, getD, List·getD-eq-default}
-use lib.Dec.{leb, ltb}
-use borrow.Author.Tests.{le-leb, lt-ltb, le-ltb, leb-true, ltb-true}
+use lib.ListN.{length, List·getD-eq-default}
+use borrow.Author.Tests.{lt-ltb, le-ltb}
 use Rattle.base.specs.Below.{first}
-use Rattle.base.proofs.BelowLaws.{and-left, and-right, not-held, first-found, first-before}
+use Rattle.base.proofs.BelowLaws.{not-held, first-found, first-before}
 use Rattle.chart.specs.Limits.{side}
 use Rattle.chart.specs.declared.Point.{Point}
 use Rattle.chart.specs.Outline.{Outline}
-use Rattle.lattice.specs.Hull.{Full}
+use Rattle.lattice.specs.Hull.{InHull, Full}
 use Rattle.rows.specs.Rows.{rows}
 use Rattle.spans.specs.declared.Spans.{Spans}
-use Rattle.spans.specs.Spans.{table, inSpans}
-use Rattle.spans.proofs.Tables.{table-at, table-past}
-use Rattle.ledger.specs.Book.{Layers, marks, columnMarks, rowMarks, HasDent}
-use Rattle.sections.specs.Sections.{layers, numbers, clear}
-use Rattle.sections.proofs.Decides.{InRuns, clear-full, unclear-missing}
+use Rattle.spans.specs.Spans.{inSpans}
+use Rattle.ledger.specs.Book.{Layers, marks, columnMarks, rowMarks}
+use Rattle.sections.specs.Sections.{layers, numbers}
+use Rattle.sections.proofs.Decides.{InRuns, hull-on-plane}
 use Rattle.pile.specs.Pile.{layerAt, inRow, lowestRow, afterHighest, columnSection, rowSection, columnClear, rowClear}
+use Rattle.pile.proofs.RunLaws.{both, listed, listed-at, listed-past, listed-runs, Decided, runs-decide, after-le}
 
 -- ---- one run of numbers
 
@@ -65,12 +64,6 @@ module _ (f : ℕ → Bool) (run : Run f) where
 in-row : (s : Spans) (c r : ℕ) → r < side → inSpans s c r ≡ inRow (s .first) (s .past) c r
 unfolding inSpans inRow
 in-row s c r l = rw (lt-ltb r side l)
-
-both : (a b c : ℕ) → ((leb a c && ltb c b) ≡ true) ↔ ((a ≤ c) × (c < b))
-both a b c = (
-  λ e. (leb-true a c (and-left (leb a c) (ltb c b) e), ltb-true c b (and-right (leb a c) (ltb c b) e)),
-  λ h. rw (le-leb a c (h .0), lt-ltb c b (h .1)),
-)
 
 -- ---- a layer that is kept right
 
@@ -148,28 +141,18 @@ module _ (v : Option Outline) (s : Spans) (t : KeptAs v s) where
 
 -- ---- the sections
 
-after-le : (s : Spans) (c : ℕ) → afterHighest s c ≤ side
-unfolding afterHighest
-after-le s c = omega arith
-
 -- Runs in two lists, a number for each layer
-in-runs : (marked : ℕ → ℕ → Bool) (lo past : ℕ → ℕ) → ((l : ℕ) → l < layers → (r : ℕ) → (marked l r ≡ true) ↔ ((lo l ≤ r) × (r < past l)))
-    → ((l : ℕ) → layers ≤ l → (r : ℕ) → marked l r ≡ false) → ((l : ℕ) → past l ≤ side) → InRuns marked (numbers (table lo 0 layers)) (numbers (table past 0 layers))
+in-runs : (marked : ℕ → ℕ → Bool) (lo past : ℕ → ℕ)
+    → ((l : ℕ) → l < layers → (r : ℕ) → (marked l r ≡ true) ↔ ((lo l ≤ r) × (r < past l)))
+    → ((l : ℕ) → layers ≤ l → (r : ℕ) → marked l r ≡ false) → ((l : ℕ) → past l ≤ side) → InRuns marked (listed lo) (listed past)
 in-runs marked lo past exact none-past fits =
-    record {
-      exact = λ l r.
-          elim (decLt l layers) [
-            | yes h ↦ rw (kept lo l h, kept past l h) (exact l h r)
-            | no h ↦
-                let z = table-past past 0 layers l (omega arith) in
-                (λ e. absurd (true≢false (sym e ∙ none-past l (omega arith) r)), λ (_, k). absurd (omega (arith, z)))
-          ];
-      small = λ l k. elim (decLt l layers) [ yes h ↦ h | no h ↦ absurd (omega (arith, table-past past 0 layers l (omega arith))) ];
-      fits = λ l. elim (decLt l layers) [ yes h ↦ rw (kept past l h) (fits l) | no h ↦ omega (arith, table-past past 0 layers l (omega arith)) ];
-    }
-  where
-    kept : (f : ℕ → ℕ) (l : ℕ) → l < layers → numbers (table f 0 layers) l ≡ f l
-    kept f l h = table-at f 0 layers l h ∙ ap f (omega arith)
+    listed-runs marked lo past (λ l h. fits l) (λ l r.
+    elim (decLt l layers) [
+      | yes h ↦ rw (listed-at lo l h, listed-at past l h) (exact l h r)
+      | no h ↦
+          let none = listed-past past l (omega arith) in
+          (λ e. absurd (true≢false (sym e ∙ none-past l (omega arith) r)), λ (_, k). absurd (omega (arith, none)))
+    ])
 
 -- Every layer is kept right
 abbrev pub AllKept : Layers → List Spans → Type 0
@@ -202,19 +185,25 @@ module _ (ls : Layers) (kept : List Spans) (size : length kept ≡ layers) (t : 
       in-runs (λ l c. marks (ls l) c r) (λ l. rows (layerAt kept l .first) r) (λ l. rows (layerAt kept l .past) r)
       (λ l h c. row-exact (ls l) (layerAt kept l) (t l) c r i) (λ l h c. none-beyond l h c r) (λ l. t l .fits r)
 
+  -- The plane of a section has 16 by 255 cells, and the hull of its marked cells no others
+  pub column-plane : (c : ℕ) (x : Point) → InHull (columnMarks ls c) x → (x .col < layers) × (x .row < side)
+  column-plane c = hull-on-plane _ _ _ (column-runs c)
+
+  pub row-plane : (r : ℕ) (x : Point) → InHull (rowMarks ls r) x → (x .col < layers) × (x .row < side)
+  unfolding rowMarks
+  row-plane r x h =
+      elim (decLt r side) [
+        | yes i ↦ hull-on-plane _ _ _ (row-runs r i) x h
+        | no i ↦
+            let l = h .p .col in
+            absurd (true≢false (sym (h .p-marked) ∙ off-chart (ls l) (layerAt kept l) (t l) (h .p .row) r (omega arith)))
+      ]
+
   -- What the test of a section says
-  pub column-full : (c : ℕ) → columnClear kept c ≡ true → Full (columnMarks ls c)
+  pub column-decided : (c : ℕ) → Decided (columnClear kept c) (columnMarks ls c)
   unfolding columnClear
-  column-full c e = clear-full _ _ _ (column-runs c) e
+  column-decided c = runs-decide (column-runs c)
 
-  pub column-dent : (c : ℕ) → columnClear kept c ≡ false → HasDent (columnMarks ls c)
-  unfolding columnClear
-  column-dent c e = unclear-missing _ _ _ (column-runs c) e
-
-  pub row-full : (r : ℕ) → r < side → rowClear kept r ≡ true → Full (rowMarks ls r)
+  pub row-decided : (r : ℕ) → r < side → Decided (rowClear kept r) (rowMarks ls r)
   unfolding rowClear
-  row-full r h e = clear-full _ _ _ (row-runs r h) e
-
-  pub row-dent : (r : ℕ) → r < side → rowClear kept r ≡ false → HasDent (rowMarks ls r)
-  unfolding rowClear
-  row-dent r h e = unclear-missing _ _ _ (row-runs r h) e
+  row-decided r h = runs-decide (row-runs r h)

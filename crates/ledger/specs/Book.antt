@@ -1,31 +1,23 @@
 -- The plain book for piles, kept from the calls alone (contract 12): sixteen layers, each none or an outline, and whether the last check passed and nothing was set
 -- since. What a check says is put in words of the hull: no section holds a missing cell, or the first that does.
-use Prim.Native.Nat.{ℕ, _<_}
+use Prim.Native.Nat.{ℕ}
 use mathlib.Core.Path.{_≡_}
 use mathlib.Core.Bool.{Bool, true, false, cond}
 use mathlib.Core.Option.{Option, none, some}
 use mathlib.Core.List.{List, [], _∷_}
 use lib.Dec.{ltb}
 use Rattle.base.specs.Put.{put}
-use Rattle.chart.specs.Limits.{side}
 use Rattle.chart.specs.declared.Point.{Point}
 use Rattle.chart.specs.declared.Verdict.{Verdict}
 use Rattle.chart.specs.declared.Verdict.the-variants.{Taken, Refused}
 use Rattle.chart.specs.Outline.{Outline}
-use Rattle.lattice.specs.Hull.{Missing, Full}
 use Rattle.convexity.specs.Reading.{block}
 use Rattle.verdict.specs.Verdict.{verdictOf}
 use Rattle.polygon.specs.Loose.{badCell}
 use Rattle.pile.specs.declared.PileReply.{PileReply}
 use Rattle.pile.specs.declared.PileReply.the-variants.{Done, Inside, Outside, Judged, Cell, NotPassed, Dented, Layer}
-
--- ---- the calls
-
-pub data PileCall : Type 0 where
-  Set : ℕ → Outline → PileCall
-  SetEmpty : ℕ → PileCall
-  Check : PileCall
-  Query : ℕ → Point → PileCall
+use Rattle.pile.specs.Calls.{PileCall, Set, SetEmpty, Check, Query}
+use Rattle.pile.specs.Meaning.{AllFull, CheckedBy}
 
 -- ---- the entries
 
@@ -58,19 +50,15 @@ columnMarks ls c l r = marks (ls l) c r
 unfoldable pub rowMarks : Layers → ℕ → ℕ → ℕ → Bool
 rowMarks ls r l c = marks (ls l) c r
 
--- A cell is missing from the section's marked ones (contract 12.3)
-abbrev pub HasDent : (ℕ → ℕ → Bool) → Type 0
-HasDent marked = (x : Point) × Missing marked x
-
 -- ---- what a check says
 
 -- Nothing where no section is dented; else the first among the columns and then the rows
-pub data Checked (ls : Layers) : PileReply → Type 0 where
-  passes : ((c : ℕ) → c < side → Full (columnMarks ls c)) → ((r : ℕ) → r < side → Full (rowMarks ls r)) → Checked ls Done
-  column : (c : ℕ) → c < side → HasDent (columnMarks ls c) → ((d : ℕ) → d < c → Full (columnMarks ls d)) → Checked ls (Dented 0 c)
-  row :
-      (r : ℕ) → r < side → ((c : ℕ) → c < side → Full (columnMarks ls c)) → HasDent (rowMarks ls r) → ((d : ℕ) → d < r → Full (rowMarks ls d))
-      → Checked ls (Dented 1 r)
+abbrev pub Checked : Layers → PileReply → Type 0
+Checked ls = CheckedBy (columnMarks ls) (rowMarks ls)
+
+-- No section is dented
+abbrev pub NoneDented : Layers → Type 0
+NoneDented ls = AllFull (columnMarks ls) (rowMarks ls)
 
 -- ---- the replies
 

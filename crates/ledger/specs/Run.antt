@@ -1,17 +1,9 @@
 -- A list of calls on a pile, each given the pile that the last one handed back; and the book after the same calls and replies.
 use mathlib.Core.List.{List, [], _∷_}
 use Rattle.pile.specs.declared.Pile.{Pile}
-use Rattle.pile.specs.declared.Piled.{Piled}
 use Rattle.pile.specs.declared.PileReply.{PileReply}
-use Rattle.pile.specs.Pile.{setOf, emptyOf, checkOf, queryOf}
-use Rattle.ledger.specs.Book.{PileCall, Set, SetEmpty, Check, Query, PileBook, next}
-
--- What the functions promise of each call
-unfoldable pub answerOf : Pile → PileCall → Piled
-answerOf p (Set l o) = setOf p l o
-answerOf p (SetEmpty l) = emptyOf p l
-answerOf p Check = checkOf p
-answerOf p (Query l x) = record { reply = queryOf p l x; pile = p }
+use Rattle.pile.specs.Calls.{PileCall, answerOf}
+use Rattle.ledger.specs.Book.{PileBook, next}
 
 unfoldable pub pileReplies : Pile → List PileCall → List PileReply
 pileReplies p [] = []

@@ -1,22 +1,22 @@
--- What writing a text leaves of a lent list: the text stands in it as far as there is room, and the rest is unaltered (contract 11.4).
+-- What writing a text leaves in a buffer: the text as far as there is room, and else the bytes that were there (contract 11.4).
 use Prim.Native.Nat.{ℕ, zero, suc, _+_, _-_, min}
 use mathlib.Core.Path.{_≡_}
 use mathlib.Core.List.{List, [], _∷_}
 use lib.ListN.{length}
 
--- A lent list with a text over its front
+-- A buffer with a text over its front
 unfoldable pub over : List ℕ → List ℕ → List ℕ
 over [] lent = lent
 over (b ∷ t) [] = []
 over (b ∷ t) (x ∷ lent) = b ∷ over t lent
 
--- A lent list with a text in it from a place on
+-- A buffer with a text in it from a place on
 unfoldable pub writtenAt : ℕ → List ℕ → List ℕ → List ℕ
 writtenAt zero t lent = over t lent
 writtenAt (suc at) t [] = []
 writtenAt (suc at) t (x ∷ lent) = x ∷ writtenAt at t lent
 
--- Where n bytes from a place on end in a list of m: those without room are not counted
+-- Where n bytes from a place on end in a buffer of m. Bytes without room are not counted
 abbrev pub endAt : ℕ → ℕ → ℕ → ℕ
 endAt at n m = at + min n (m - at)
 

@@ -33,7 +33,7 @@ H3-alone : listing H3 ≡ taken
 unfolding listing H3
 H3-alone = refl
 
--- 23: a wrong mark, a cut one, a single byte that begins no mark
+-- 23: a wrong mark, half a mark, and a single byte that begins no mark
 wrong-mark : listing (H3 ++ (75 ∷ 48 ∷ 0 ∷ 1 ∷ 0 ∷ 0 ∷ [])) ≡ taken ++ faulty 51
 unfolding listing H3
 wrong-mark = refl
@@ -46,7 +46,7 @@ lone-byte : listing (H3 ++ (0 ∷ [])) ≡ taken ++ faulty 51
 unfolding listing H3
 lone-byte = refl
 
--- 24: a record cut after its mark, in its header, in its letters
+-- 24: a record truncated behind its mark, in its header, and in its letters
 cut-after-mark : listing (H3 ++ (75 ∷ 79 ∷ [])) ≡ taken ++ faulty 52
 unfolding listing H3
 cut-after-mark = refl

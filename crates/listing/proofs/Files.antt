@@ -1,16 +1,15 @@
--- A file of records has the line of each record's outline, and behind them the lines of what follows: each record is found whole at its front.
+-- Each record of a file is found whole at its front, so its outline has a line, and then what follows has its lines.
 use Prim.Native.Nat.{ℕ, _+_, _/_, _%_, _≤_}
 use native.Mathlib.Nat.{add-zero, div-add-mod}
 use native.Mathlib.Omega.{arith}
 use mathlib.Core.Path.{_≡_, refl, sym, ap, _∙_}
 use mathlib.Core.List.{List, [], _∷_, _++_, append-assoc, append-nil}
-use lib.ListN.{length, take, drop, length-append}
+use lib.ListN.{length, length-append}
 use lib.Seq.{take-append-seam, drop-at}
 use borrow.Author.Tests.{le-leb}
 use Rattle.chart.specs.Outline.{Outline}
 use Rattle.records.specs.declared.Found.the-variants.{Record}
 use Rattle.records.specs.Found.{header, wide, marked, afterMark, foundIn}
-use Rattle.lines.specs.declared.Line.{Line}
 use Rattle.listing.specs.Lines.{most, testedLine, outlineIn, linesAt, linesOf}
 use Rattle.listing.specs.Bytes.{bytesOf, fileOf, testedFrom}
 use Rattle.listing.proofs.LinesLaws.{lines-record, lines-found-end, lines-read}
@@ -18,14 +17,14 @@ use Rattle.listing.proofs.LinesLaws.{lines-record, lines-found-end, lin
 counted : (n : ℕ) → wide (n % 256) (n / 256) ≡ n
 counted n = omega (arith, div-add-mod n 256)
 
-found-record : (o : Outline) (w : List ℕ) → foundIn (bytesOf o ++ w) ≡ Record (o .start .col) (o .start .row) (length (o .letters))
+pub found-record : (o : Outline) (w : List ℕ) → foundIn (bytesOf o ++ w) ≡ Record (o .start .col) (o .start .row) (length (o .letters))
 unfolding bytesOf foundIn marked afterMark
 found-record o w =
     let n = length (o .letters) in
     let fits : n ≤ length (o .letters ++ w) = rw (length-append (o .letters) w) (omega arith) in
     rw (counted n, le-leb n (length (o .letters ++ w)) fits) refl
 
-same-outline : (o : Outline) (w : List ℕ) → outlineIn (o .start .col) (o .start .row) (length (o .letters)) (bytesOf o ++ w) ≡ o
+pub same-outline : (o : Outline) (w : List ℕ) → outlineIn (o .start .col) (o .start .row) (length (o .letters)) (bytesOf o ++ w) ≡ o
 unfolding bytesOf outlineIn
 same-outline o w = rw (take-append-seam (o .letters) w) refl
 
@@ -39,7 +38,7 @@ record-listed n at o w =
     lines-record n at (o .start .col) (o .start .row) (length (o .letters)) (bytesOf o ++ w) (found-record o w) ∙
     rw (same-outline o w, drop-at (bytesOf o) w (header + length (o .letters)) long, long) refl
 
--- Records, and whatever stands behind them: the lines of whole records stand before a fault
+-- Whole records, and then any bytes
 pub records-listed : (n at : ℕ) (os : List Outline) (w : List ℕ)
     → linesAt n at (fileOf os ++ w) ≡ testedFrom n os ++ linesAt (n + length os) (at + length (fileOf os)) w
 unfolding fileOf testedFrom

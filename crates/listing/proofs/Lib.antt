@@ -1,6 +1,11 @@
--- The laws of a fitting file's lines.
+-- The laws and the theorems of a fitting file's lines.
 pub mod LinesLaws
 pub mod Files
 pub mod Whole
+pub mod Theorems
+mod Answers
+mod EveryLine
+mod Parts
+mod Moved
 mod Cases
 mod ListingLaws

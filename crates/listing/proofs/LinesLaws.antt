@@ -1,5 +1,5 @@
 -- The bound on the lines does not matter: what is read of a record is at least its header.
-use Prim.Native.Nat.{ℕ, zero, suc, _+_, _-_, _≤_, _<_}
+use Prim.Native.Nat.{ℕ, zero, suc, _+_, _≤_, _<_}
 use native.Mathlib.Decide.{decLe}
 use native.Mathlib.Omega.{arith}
 use mathlib.Core.Path.{_≡_, refl, sym, ap, _∙_}
@@ -10,7 +10,7 @@ use borrow.Author.Tests.{lt-ltb, le-ltb}
 use Rattle.records.specs.declared.Found.{Found}
 use Rattle.records.specs.declared.Found.the-variants.{End, WrongMark, Cut, Record}
 use Rattle.records.specs.Found.{header, foundIn, width}
-use Rattle.records.proofs.FoundLaws.{found-within}
+use Rattle.records.proofs.RecordLaws.{found-within}
 use Rattle.lines.specs.declared.Line.{Line}
 use Rattle.listing.specs.Lines.{most, line, testedLine, outlineIn, listed, linesFrom, linesAt, linesOf}
 
@@ -64,11 +64,6 @@ pub lines-record : (n at c r m : ℕ) (w : List ℕ) → foundIn w ≡ Record c 
     → linesAt n at w ≡ testedLine n (outlineIn c r m w) ∷ linesAt (n + 1) (at + (header + m)) (drop (header + m) w)
 unfolding listed width
 lines-record n at c r m w e = lines-step n at w ∙ rw e refl
-
--- A whole record has its header at least, and stands in the bytes
-pub record-within : (c r m : ℕ) (w : List ℕ) → foundIn w ≡ Record c r m → header + m ≤ length w
-unfolding width
-record-within c r m w e = omega (arith, found-within w, ap width e)
 
 -- 25 comes first, and a file of no more bytes is read
 pub lines-long : (file : List ℕ) → most < length file → linesOf file ≡ line 0 25 most ∷ []

@@ -1,9 +1,9 @@
--- A listing in the making: what is written so far, finished with the lines that are left, is the whole listing.
+-- A listing in the making: what is written so far and the lines that are left are together the whole listing.
 use Prim.Native.Nat.{ℕ, _+_, _*_, _-_, _≤_, _<_, min}
 use native.Mathlib.Omega.{arith}
 use mathlib.Core.Path.{_≡_, refl, sym, ap, _∙_}
 use mathlib.Core.List.{List, [], _∷_}
-use lib.ListN.{length, take, drop, length-append, length-drop}
+use lib.ListN.{length, take, drop, length-append}
 use lib.Seq.{drop-drop}
 use lib.Dec.{lit<, lit≤}
 use Rattle.lines.specs.declared.Line.{Line}
@@ -12,14 +12,14 @@ use Rattle.lines.specs.Written.{over, writtenAt, endAt, Wrote}
 use Rattle.lines.proofs.WrittenLaws.{length-written, written-behind, written-none}
 use Rattle.lines.proofs.TextLaws.{line-short}
 use Rattle.chart.specs.Outline.{Outline, outline}
-use Rattle.records.specs.declared.Found.the-variants.{End, WrongMark, Cut, Record}
+use Rattle.records.specs.declared.Found.the-variants.{End, WrongMark, Cut}
 use Rattle.records.specs.Found.{header, foundAt}
-use Rattle.records.proofs.FoundLaws.{found-end}
+use Rattle.records.proofs.RecordLaws.{Passed}
 use Rattle.listing.specs.Lines.{most, line, testedLine, outlineIn, linesAt}
 use Rattle.listing.specs.Listed.{room, Small, Listed}
-use Rattle.listing.proofs.LinesLaws.{lines-found-end, lines-wrong-mark, lines-cut, lines-record, record-within}
+use Rattle.listing.proofs.LinesLaws.{lines-found-end, lines-wrong-mark, lines-cut, lines-record}
 
--- The lines of all and those that are left, how many are written, the list as it was lent and as it is, and where the next line goes
+-- All lines and those that are left, how many are written, the buffer as it was and as it is, and where the next line goes
 pub record Making (all left : List Line) (n : ℕ) (lent text : List ℕ) (at : ℕ) : Type 0 where
   pub finished : writtenAt at (textOf left) text ≡ over (textOf all) lent
   pub end : endAt at (length (textOf left)) (length text) ≡ min (length (textOf all)) (length lent)
@@ -63,57 +63,50 @@ module _ {file lent text : List ℕ} {at n end : ℕ} (g : Going file lent text 
   going-stops : linesAt n at (drop at file) ≡ [] → Listed (linesAt 0 0 file) lent text end
   going-stops e = making-ends (rw e at (g .making)) (omega (arith, g .within, g .records))
 
-  pub going-ends : length file ≤ at → Listed (linesAt 0 0 file) lent text end
-  going-ends h = going-stops (lines-found-end n at (drop at file) (found-end file at h))
+  pub going-end : foundAt file at ≡ End → Listed (linesAt 0 0 file) lent text end
+  going-end e = going-stops (lines-found-end n at (drop at file) e)
 
-  pub going-found-end : foundAt file at ≡ End → Listed (linesAt 0 0 file) lent text end
-  going-found-end e = going-stops (lines-found-end n at (drop at file) e)
-
-  going-last : {l : Line} {text′ : List ℕ} {r : ℕ} → at < length file → linesAt n at (drop at file) ≡ l ∷ [] → length (lineText l) ≤ 18
+  going-last : {l : Line} {text′ : List ℕ} {r : ℕ} → linesAt n at (drop at file) ≡ l ∷ [] → length (lineText l) ≤ 18
       → Wrote (lineText l) end text text′ r → Listed (linesAt 0 0 file) lent text′ r
-  going-last before e h w = making-ends (making-line (rw e at (g .making)) w h) (omega (arith, g .records))
+  going-last e h w = making-ends (making-line (rw e at (g .making)) w h) (omega (arith, g .within, g .records))
 
   fault-short : (a : ℕ) → a < 100000 → length (lineText (line n a at)) ≤ 18
   fault-short a h = line-short (line n a at) (omega (arith, g .within, g .records)) h (omega (arith, g .within))
 
-  pub going-wrong-mark : {text′ : List ℕ} {r : ℕ} → at < length file → foundAt file at ≡ WrongMark → Wrote (lineText (line n 23 at)) end text text′ r
+  pub going-wrong-mark : {text′ : List ℕ} {r : ℕ} → foundAt file at ≡ WrongMark → Wrote (lineText (line n 23 at)) end text text′ r
       → Listed (linesAt 0 0 file) lent text′ r
-  going-wrong-mark before e = going-last before (lines-wrong-mark n at (drop at file) e) (fault-short 23 (lit< tt))
+  going-wrong-mark e = going-last (lines-wrong-mark n at (drop at file) e) (fault-short 23 (lit< tt))
 
-  pub going-cut : {text′ : List ℕ} {r : ℕ} → at < length file → foundAt file at ≡ Cut → Wrote (lineText (line n 24 at)) end text text′ r
+  pub going-cut : {text′ : List ℕ} {r : ℕ} → foundAt file at ≡ Cut → Wrote (lineText (line n 24 at)) end text text′ r
       → Listed (linesAt 0 0 file) lent text′ r
-  going-cut before e = going-last before (lines-cut n at (drop at file) e) (fault-short 24 (lit< tt))
-
-  pub next-within : {c r m : ℕ} → foundAt file at ≡ Record c r m → at + header + m ≤ length file
-  next-within {c} {r} {m} e =
-      let fits : header + m ≤ length (drop at file) = record-within c r m (drop at file) e in
-      omega (arith, simp length-drop at fits, g .within)
+  going-cut e = going-last (lines-cut n at (drop at file) e) (fault-short 24 (lit< tt))
 
   record-short : {l : Line} (o : Outline) → l ≡ testedLine n o → Small l → length (lineText l) ≤ 18
   unfolding testedLine
   record-short {l} o e s =
       line-short l (rw e (omega (arith, g .within, g .records))) (omega (arith, s .answer)) (omega (arith, s .place))
 
-  pub going-record : {l : Line} {text′ : List ℕ} {c r m end′ : ℕ} → foundAt file at ≡ Record c r m → l ≡ testedLine n (outlineIn c r m (drop at file))
-      → Small l → Wrote (lineText l) end text text′ end′ → Going file lent text′ (at + header + m) (n + 1) end′
-  going-record {l} {text′} {c} {r} {m} e same s w =
-      let further : at + (header + m) ≡ at + header + m = omega arith in
-      let lines : linesAt n at (drop at file) ≡ l ∷ linesAt (n + 1) (at + header + m) (drop (at + header + m) file) =
-      lines-record n at c r m (drop at file) e ∙ rw (drop-drop (header + m) at file, further, same) refl in
+  pub going-record : {l : Line} {text′ : List ℕ} {c r m next end′ : ℕ} → Passed file at c r m next
+      → l ≡ testedLine n (outlineIn c r m (drop at file)) → Small l → Wrote (lineText l) end text text′ end′
+      → Going file lent text′ next (n + 1) end′
+  going-record {l} {text′} {c} {r} {m} {next} p same s w =
+      let further : at + (header + m) ≡ next = omega (arith, p .behind) in
+      let lines : linesAt n at (drop at file) ≡ l ∷ linesAt (n + 1) next (drop next file) =
+      lines-record n at c r m (drop at file) (p .found) ∙ rw (drop-drop (header + m) at file, further, same) refl in
       record {
         making = making-line (rw lines at (g .making)) w (record-short (outlineIn c r m (drop at file)) same s);
-        within = next-within e;
-        records = omega (arith, g .records);
+        within = p .within;
+        records = omega (arith, g .records, p .behind);
         same = ap length (w .text) ∙ length-written end (lineText l) text ∙ g .same;
       }
 
--- The letters between the header and the end of a record are its outline's
-pub letters-between : (file : List ℕ) (n at c r m : ℕ)
-    → testedLine n (outline (record { col = c; row = r }) (take (at + header + m - (at + header)) (drop (at + header) file)))
+-- The letters of a record stand between its header and the next record
+pub letters-between : {file : List ℕ} {at c r m next : ℕ} (n : ℕ) → Passed file at c r m next
+    → testedLine n (outline (record { col = c; row = r }) (take (next - (at + header)) (drop (at + header) file)))
     ≡ testedLine n (outlineIn c r m (drop at file))
 unfolding outlineIn
-letters-between file n at c r m =
-    let count : at + header + m - (at + header) ≡ m = omega arith in
+letters-between {file} {at} {c} {r} {m} {next} n p =
+    let count : next - (at + header) ≡ m = omega (arith, p .behind) in
     rw (count, drop-drop header at file) refl
 
 -- The only line of a file that is too long

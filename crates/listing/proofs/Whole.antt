@@ -1,4 +1,4 @@
--- With room for the listing of any file the whole text stands first in the list, and its length is handed back.
+-- A buffer with room for the listing of any file has the whole text at its front, and the length of the text is returned.
 use Prim.Native.Nat.{ℕ, _≤_}
 use native.Mathlib.Omega.{arith}
 use mathlib.Core.Path.{_≡_}

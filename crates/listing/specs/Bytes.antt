@@ -1,4 +1,4 @@
--- A record as bytes, and a file of records: what a program that stores outlines writes (contract 11.1).
+-- The bytes of a record and of a file of records, as a program that stores outlines writes them (contract 11.1).
 use Prim.Native.Nat.{ℕ, _+_, _/_, _%_}
 use mathlib.Core.List.{List, [], _∷_, _++_}
 use lib.ListN.{length}

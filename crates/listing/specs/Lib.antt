@@ -1,4 +1,5 @@
--- The lines of a fitting file, outlines as a file, and the list that is lent for the lines.
+-- The lines of a fitting file, the bytes of records, what a listing leaves in a buffer, and what the theorems speak of.
 pub mod Lines
 pub mod Bytes
 pub mod Listed
+pub mod Claims

@@ -1,4 +1,4 @@
--- The lines of a fitting file: one for each record, with the test's number and place, and one for the fault that ends the reading (contract 11.2 and 11.3).
+-- The lines of a fitting file: one for each whole record, and one for a fault, which is the last (contract 11.2 and 11.3).
 use Prim.Native.Nat.{ℕ, zero, suc, _+_}
 use mathlib.Core.Bool.{cond}
 use mathlib.Core.List.{List, [], _∷_}
@@ -20,7 +20,7 @@ most = 65536
 abbrev pub line : ℕ → ℕ → ℕ → Line
 line n a p = record { number = n; answer = a; place = p }
 
--- What the test says of an outline, lent a list that is long enough for any taken outline
+-- What the test says of an outline, with a buffer for as many edges as a taken outline may have
 unfoldable pub testedLine : ℕ → Outline → Line
 testedLine n o = line n (testFields o mostNumbers .number) (testFields o mostNumbers .place)
 
@@ -28,7 +28,7 @@ testedLine n o = line n (testFields o mostNumbers .number) (testFields o mostNum
 unfoldable pub outlineIn : ℕ → ℕ → ℕ → List ℕ → Outline
 outlineIn c r count w = outline (record { col = c; row = r }) (take count (drop header w))
 
--- The lines from record n on, which begins the bytes w at a position of the file, with the lines that follow a whole record. A fault ends the reading
+-- The lines from record n on, which begins the bytes w at a position of the file. The rest are the lines behind a whole record
 unfoldable pub listed : ℕ → ℕ → List ℕ → Found → List Line → List Line
 listed n at w End rest = []
 listed n at w WrongMark rest = line n 23 at ∷ []
@@ -40,7 +40,7 @@ unfoldable pub linesFrom : ℕ → ℕ → ℕ → List ℕ → List Line
 linesFrom zero n at w = []
 linesFrom (suc k) n at w = listed n at w (foundIn w) (linesFrom k (n + 1) (at + width (foundIn w)) (drop (width (foundIn w)) w))
 
--- The lines of the bytes w: no more lines than bytes, since every line is about some of them
+-- The lines of the bytes w. There are no more of them than bytes, since every line is about some byte
 unfoldable pub linesAt : ℕ → ℕ → List ℕ → List Line
 linesAt n at w = linesFrom (length w) n at w
 

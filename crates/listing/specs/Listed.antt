@@ -1,4 +1,4 @@
--- What listing promises of a lent list: the text of the lines stands in it as far as there is room, and a list for any file need not be longer than `room` (contract 11.4).
+-- What a listing leaves in a buffer: the text of the lines as far as there is room. `room` bytes are enough for any file (contract 11.4).
 use Prim.Native.Nat.{ℕ, _≤_, _<_, min}
 use mathlib.Core.Path.{_≡_}
 use mathlib.Core.List.{List}

@@ -1,4 +1,4 @@
-// A fitting file listed: a line for each record with what the test says of its outline, and a line for the fault that ends the reading (contract 11).
+// The listing of a fitting file: what the test says of each record's outline, and the fault, if there is one (contract 11).
 use chart::MOST_NUMBERS;
 use chart::Point;
 use chart::reply::of_verdict;
@@ -17,7 +17,7 @@ ghost use Rattle.listing.specs.Listed.{Small, Listed};
 // A file has at most this many bytes.
 pub const MOST: usize = 65536;
 
-// The listing of any file has room in this many bytes.
+// A buffer of this many bytes has room for the listing of any file.
 pub const ROOM: usize = 196614;
 
 // The faults of a file (contract 11.3).
@@ -27,7 +27,7 @@ const CUT: usize = 24;
 
 const TOO_LONG: usize = 25;
 
-// The line of a fault: the record's number, the fault's, and a position.
+// The line of a fault: the number of the record, that of the fault, and a position.
 fn fault(number: usize, answer: usize, place: usize) -> Line
     ensures { λ r. ⌜ r ≡ lineOf number answer place ⌝ }
 {
@@ -38,7 +38,7 @@ fn fault(number: usize, answer: usize, place: usize) -> Line
     }
 }
 
-// A record's line: what the test says, with a list lent that is long enough for any taken outline.
+// The line of a record. The test gets a buffer for as many edges as a taken outline may have.
 fn tested(number: usize, col: u8, row: u8, letters: &[u8]) -> Line
     ensures line { λ r. ⌜ r ≡ testedLine number (outline (record { col = col; row = row }) (now (letters .entry))) ⌝ }
     ensures small { λ r. ⌜ Small r ⌝ }
@@ -56,7 +56,7 @@ fn tested(number: usize, col: u8, row: u8, letters: &[u8]) -> Line
     }
 }
 
-// Reads record after record up to a fault or the end, and writes a line for each.
+// Steps through the records of a file, up to its end or a fault, and writes their lines.
 fn list_records(file: &[u8], text: &mut [u8]) -> usize
     requires { ⌜ length (now file) ≤ most ⌝ }
     ensures { λ r. ⌜ Listed (linesAt 0 0 (now (file .entry))) (now (text .entry)) (now (text .exit)) r ⌝ }
@@ -64,14 +64,16 @@ fn list_records(file: &[u8], text: &mut [u8]) -> usize
     let mut at = 0;
     let mut number = 0;
     let mut end = 0;
-    while at < file.len() {
+    loop {
         let letters = at + HEADER;
-        match next_at(file, at) {
+        let step = next_at(file, at);
+        let found = step.found;
+        match found {
             Found::End => return end,
             Found::WrongMark => return put_line(fault(number, WRONG_MARK, at), text, end),
             Found::Cut => return put_line(fault(number, CUT, at), text, end),
-            Found::Record { col, row, count } => {
-                let next = letters + count;
+            Found::Record { col, row, count: _ } => {
+                let next = step.next;
                 let line = tested(number, col, row, &file[letters..next]);
                 end = put_line(line, text, end);
                 at = next;
@@ -79,10 +81,9 @@ fn list_records(file: &[u8], text: &mut [u8]) -> usize
             }
         }
     }
-    end
 }
 
-// Lists a file: writes its lines to a lent list as far as there is room, and says how many bytes it wrote.
+// Lists a file: writes its lines to a buffer as far as there is room, and returns how many bytes it wrote.
 pub fn list(file: &[u8], text: &mut [u8]) -> usize
     ensures { λ r. ⌜ Listed (linesOf (now (file .entry))) (now (text .entry)) (now (text .exit)) r ⌝ }
 {

@@ -1,4 +1,4 @@
--- Sections with the same lists are the same; a search that asks every section.
+-- Sections with the same lists are the same.
 use mathlib.Core.Path.{_≡_}
 use mathlib.Core.List.{List}
 use Prim.Native.Nat.{ℕ}

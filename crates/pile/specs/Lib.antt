@@ -1,3 +1,5 @@
--- Replies written out; a pile as it is kept and the calls on it.
+-- Replies written out; a pile as it is kept and the calls on it; what a check means.
 pub mod Replies
 pub mod Pile
+pub mod Calls
+pub mod Meaning

@@ -4,12 +4,13 @@ use sections::Section;
 use sections::is_clear;
 use spans::ROWS;
 use spans::Spans;
-ghost use Prim.Native.Nat.{_-_, _≤_, _<_};
+ghost use Prim.Native.Nat.{ℕ, _-_, _≤_, _<_};
 ghost use mathlib.Core.Path.{_≡_};
 ghost use Rattle.base.specs.Below.{first as firstOf};
 ghost use Rattle.chart.specs.Limits.{side};
-ghost use Rattle.pile.specs.Pile.{inRow, columnSection, rowSection, columnClear, rowClear, dentedColumn, dentedRow};
-ghost use mathlib.Core.Bool.{not};
+ghost use Rattle.rows.specs.Rows.{rows as rowOf};
+ghost use Rattle.pile.specs.Pile.{inRow, columnSection, rowSection, dentedColumn, dentedRow};
+ghost use Rattle.pile.specs.Meaning.{RowFits};
 
 // Column `col` is among those of row `r`.
 fn holds(first: &[u8; ROWS], past: &[u8; ROWS], col: u8, r: usize) -> bool
@@ -65,10 +66,18 @@ fn column(layers: [Spans; LAYERS], col: u8) -> Section
     Section { lo, past }
 }
 
-// The section at a row: of each layer the columns of that row.
+// The number of row `r`. Of what a function returns it is known that it is a byte.
+fn number(list: &[u8; ROWS], r: usize) -> u8
+    requires { ⌜ r < side ⌝ }
+    ensures { λ b. ⌜ b ≡ rowOf (now (list .entry)) r ⌝ }
+{
+    list[r]
+}
+
+// The section at a row: of each layer the columns of that row, and so a run that ends on the chart.
 fn row(layers: [Spans; LAYERS], r: usize) -> Section
     requires { ⌜ r < side ⌝ }
-    ensures { λ s. ⌜ s ≡ rowSection layers r ⌝ }
+    ensures { λ s. ⌜ (s ≡ rowSection layers r) × RowFits layers r ⌝ }
 {
     let mut lo = [0u8; LAYERS];
     let mut past = [0u8; LAYERS];
@@ -76,7 +85,7 @@ fn row(layers: [Spans; LAYERS], r: usize) -> Section
     while l < LAYERS {
         let spans = layers[l];
         lo[l] = spans.first[r];
-        past[l] = spans.past[r];
+        past[l] = number(&spans.past, r);
         l += 1;
     }
     Section { lo, past }
@@ -98,7 +107,7 @@ pub fn dented_column(layers: [Spans; LAYERS]) -> u16
 
 // The first row whose section is dented, or 255.
 pub fn dented_row(layers: [Spans; LAYERS]) -> u16
-    ensures { λ r. ⌜ r ≡ dentedRow layers ⌝ }
+    ensures { λ r. ⌜ (r ≡ dentedRow layers) × ((k : ℕ) → k < side → k ≤ r → RowFits layers k) ⌝ }
 {
     let mut r = 0usize;
     while r < 255 {

@@ -1,7 +1,6 @@
 // The pile: sixteen layers, each empty or one taken outline, and the calls on them (contract 12).
 use border::judge;
 use chart::Point;
-use chart::Refusal;
 use chart::Verdict;
 use polygon::bad_cell;
 use sections::LAYERS;
@@ -12,8 +11,11 @@ use spans::within;
 ghost use Prim.Native.Nat.{_<_};
 ghost use mathlib.Core.Path.{_≡_};
 ghost use Rattle.chart.specs.Outline.{outline};
+ghost use Rattle.verdict.specs.Named.{CellNamed};
 ghost use Rattle.sections.specs.Sections.{layers};
-ghost use Rattle.pile.specs.Pile.{freshPile, put as putOf, setOf, emptyOf, judgedPile, checkOf, queryOf, locatedIn};
+ghost use Rattle.pile.specs.Replies.{pileFields};
+ghost use Rattle.pile.specs.Pile.{freshPile, put as putOf, setOf, emptyOf, judgedPile, checkOf, queryOf};
+ghost use Rattle.pile.specs.Meaning.{CheckedRuns};
 
 mod cuts;
 pub mod written;
@@ -73,7 +75,8 @@ impl Pile {
 
     // Sets a layer to an outline: 22, what a test says, and the pile with it where it is taken.
     pub fn set(self, layer: u8, start: Point, letters: &[u8]) -> Piled
-        ensures { λ r. ⌜ r ≡ setOf self layer (outline start (now (letters .entry))) ⌝ }
+        ensures answer { λ r. ⌜ r ≡ setOf self layer (outline start (now (letters .entry))) ⌝ }
+        ensures cell { λ r. ⌜ CellNamed (outline start (now (letters .entry))) (pileFields (r .reply)) ⌝ }
     {
         if 15 < layer {
             return Piled {
@@ -121,7 +124,8 @@ impl Pile {
 
     // Checks every section: the columns, then the rows.
     pub fn check(self) -> Piled
-        ensures { λ r. ⌜ r ≡ checkOf self ⌝ }
+        ensures answer { λ r. ⌜ r ≡ checkOf self ⌝ }
+        ensures meaning { λ r. ⌜ CheckedRuns (self .layers) (r .reply) ⌝ }
     {
         let layers = self.layers;
         let col = cuts::dented_column(layers);

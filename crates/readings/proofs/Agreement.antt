@@ -6,14 +6,16 @@ use mathlib.Core.Bool.{Bool, true, false, not, cond, _&&_, and-eq-true-iff, true
 use mathlib.Core.List.{List, List·Memᴰ}
 use lib.IntN.{ℤ, pos, negsuc, negℤ}
 use lib.Signed.{leZ}
-use lib.Ieee.{fin, binary32}
+use lib.Dec.{T}
+use lib.Ieee.{fin, binary32, fits}
 use lib.Ieee.Bits.{ofBits-fits}
+use lib.Ieee.Fits.{sub-fits}
 use borrow.Author.Tests.{not-true, not-false}
 use Rattle.base.specs.Each.{all, any}
 use Rattle.base.proofs.BelowLaws.{not-held}
 use Rattle.base.proofs.EachLaws.{all-at, all-of, any-found, any-at, any-none}
 use Rattle.rounding.specs.Units.{negative, units, value}
-use Rattle.rounding.proofs.Values.{Exact}
+use Rattle.rounding.proofs.Values.{Exact, exact-finite}
 use Rattle.rounding.proofs.Order.{le-value, lt-value}
 use Rattle.chart.specs.declared.Point.{Point}
 use Rattle.convexity.specs.Inside.{notNegative}
@@ -108,6 +110,11 @@ module _ (a : Point) (es : List ℤ) (r : Reading) (held : Held r) (good : badRe
   unfolding near
   near-value e m = rw high-is at (lt-value binary32 (computedSide r e) (fin false 1 (negsuc 5)) (computed-close e m .exact) high-exact)
 
+-- The last difference is rounded to 32 bits
+computed-fits : (r : Reading) (e : Edge) → T (fits binary32 (computedSide r e))
+unfolding computedSide
+computed-fits r e = sub-fits binary32 _ _
+
 -- ---- "inside" and "outside" agree with exactly inside
 
 module _ (a : Point) (es : List ℤ) (r : Reading) (held : Held r) where
@@ -192,6 +199,7 @@ module _ (a : Point) (es : List ℤ) (r : Reading) (held : Held r) where
       pub answers : Answers a es r
       answers =
           record {
+            finite = λ e m. (exact-finite binary32 _ (computed-close a es r held good on e m .exact), computed-fits r e);
             close = λ e m. computed-close a es r held good on e m .near;
             inside = inside-exact;
             outside = outside-exact;

@@ -11,7 +11,7 @@ use Rattle.chart.specs.declared.Point.{Point}
 use Rattle.chart.specs.Outline.{Outline}
 use Rattle.lattice.specs.Enclosed.{encloses}
 use Rattle.convexity.specs.Pieces.{edges, dentPiece}
-use Rattle.convexity.proofs.StraightTurn.{NoBackStep}
+use Rattle.convexity.specs.Shape.{NoBackStep}
 use Rattle.convexity.proofs.Shape.{shape}
 use Rattle.convexity.proofs.Inside.{Meets, IsCell, vertex-is-cell}
 use Rattle.convexity.proofs.Theorem.{edges-answer}

@@ -6,7 +6,9 @@ use mathlib.Core.Bool.{true, false}
 use mathlib.Core.List.{List, List·Memᴰ}
 use lib.IntN.{ℤ, pos, negℤ, natAbs, _-ℤ_}
 use lib.Signed.{leZ}
-use lib.Ieee.{binary32}
+use lib.Dec.{T}
+use lib.Ieee.{binary32, fits}
+use lib.Ieee.Scale.{finite as isFinite}
 use Rattle.rounding.specs.Units.{value, inUnits}
 use Rattle.chart.specs.declared.Point.{Point}
 use Rattle.calls.specs.declared.Reading.{Reading}
@@ -23,6 +25,8 @@ pub record Open (a : Point) (es : List ℤ) (r : Reading) : Type 0 where
   pub close : leZ (pos (2 ^ 143)) (value binary32 (computedSide r edge)) ≡ false
 
 pub record Answers (a : Point) (es : List ℤ) (r : Reading) : Type 0 where
+  -- every computed side value is a number and finite, and a float of 32 bits
+  pub finite : (e : Edge) → List·Memᴰ e (edgesAlong a es) → T (isFinite (computedSide r e)) × T (fits binary32 (computedSide r e))
   -- rounding moves a side value by less than 1/64
   pub close : (e : Edge) → List·Memᴰ e (edgesAlong a es) → natAbs (value binary32 (computedSide r e) -ℤ exactSide r e) < 2 ^ 143
   -- "inside" is said only where the reading is exactly inside, and "outside" only where it is not

@@ -1,4 +1,4 @@
--- What stands at a position, by the bytes there: the bytes from a position on are the byte there and those from the next one on.
+-- What stands at a position is read off the bytes there: those from a position on are the byte there and those from the next one on.
 use Prim.Native.Nat.{ℕ, _+_, _≤_, _<_}
 use native.Mathlib.Numerals.{add-one}
 use native.Mathlib.Omega.{arith}
@@ -8,10 +8,9 @@ use mathlib.Core.List.{List, [], _∷_}
 use lib.ListN.{length, getD, drop, length-drop, drop-of-length-le}
 use lib.Seq.{drop-cons}
 use lib.Dec.{eqb, leb}
-use borrow.Author.Tests.{leb-true, le-leb, lt-leb, eq-eqb, ne-eqb}
-use Rattle.records.specs.declared.Found.{Found}
+use borrow.Author.Tests.{le-leb, lt-leb, eq-eqb, ne-eqb}
 use Rattle.records.specs.declared.Found.the-variants.{End, WrongMark, Cut, Record}
-use Rattle.records.specs.Found.{wide, marked, afterMark, foundIn, width}
+use Rattle.records.specs.Found.{wide, marked, afterMark, foundIn}
 
 byte-at : (w : List ℕ) (i j : ℕ) → j ≡ i + 1 → i < length w → drop i w ≡ getD w i 0 ∷ drop j w
 byte-at w i j e h = rw (e, add-one, drop-cons w i 0)
@@ -26,7 +25,7 @@ marked-at : (w : List ℕ) (i : ℕ) → i + 2 ≤ length w → marked (drop i w
 unfolding marked
 marked-at w i h = rw (byte-at w i (i + 1) refl (omega arith), byte-at w (i + 1) (i + 2) (omega arith) (omega arith))
 
--- The first byte of a mark leaves it to the second; another byte is no mark
+-- With the first byte of a mark the second decides; with another first byte there is no mark
 pub first-right : (w : List ℕ) (i : ℕ) → i + 2 ≤ length w → getD w i 0 ≡ 75 → marked (drop i w) ≡ eqb (getD w (i + 1) 0) 79
 first-right w i h e = marked-at w i h ∙ ap (λ (b : Bool). b && eqb (getD w (i + 1) 0) 79) (eq-eqb _ _ e)
 
@@ -88,23 +87,3 @@ unfolding foundIn
 found-marked [] e = absurd (omega (arith, marked-two [] e))
 found-marked (a ∷ []) e = absurd (omega (arith, marked-two (a ∷ []) e))
 found-marked (a ∷ b ∷ w) e = rw e
-
-width-cond : (b : Bool) (f g : Found) (m : ℕ) → (b ≡ true → width f ≤ m) → width g ≤ m → width (cond b f g) ≤ m
-width-cond true f g m h i = h refl
-width-cond false f g m h i = i
-
-after-within : (w : List ℕ) → width (afterMark w) ≤ 2 + length w
-unfolding afterMark width
-after-within [] = omega arith
-after-within (c ∷ []) = omega arith
-after-within (c ∷ r ∷ []) = omega arith
-after-within (c ∷ r ∷ low ∷ []) = omega arith
-after-within (c ∷ r ∷ low ∷ high ∷ w) =
-    width-cond (leb (wide low high) (length w)) (Record c r (wide low high)) Cut _ (λ e. omega (arith, leb-true (wide low high) (length w) e)) (omega arith)
-
--- What is read stands whole in the bytes
-pub found-within : (w : List ℕ) → width (foundIn w) ≤ length w
-unfolding foundIn width
-found-within [] = omega arith
-found-within (a ∷ []) = omega arith
-found-within (a ∷ b ∷ w) = width-cond (marked (a ∷ b ∷ w)) (afterMark w) WrongMark _ (λ e. omega (arith, after-within w)) (omega arith)

@@ -1,2 +1,3 @@
--- The laws of a fitting file's records.
-pub mod FoundLaws
+-- The laws of a fitting file's records and of the steps over them.
+mod FoundLaws
+pub mod RecordLaws

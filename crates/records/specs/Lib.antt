@@ -1,2 +1,2 @@
--- What stands at a position of a fitting file.
+-- What stands at a position of a fitting file, and where the next record begins.
 pub mod Found

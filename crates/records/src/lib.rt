@@ -1,31 +1,37 @@
-// The records of a fitting file: what stands at a position of its bytes, and a reader that holds the file and a position (contract 11).
+// The records of a fitting file, and a reader that steps from one to the next (contract 11).
 ghost use mathlib.Core.Path.{_≡_};
 ghost use mathlib.Core.Bool.{Bool};
 ghost use Prim.Native.Nat.{_<_, _≤_};
 ghost use lib.ListN.{length, drop};
-ghost use Rattle.records.specs.Found.{wide as wideOf, marked as markedOf, afterMark, foundAt};
+ghost use Rattle.records.specs.Found.{wide as wideOf, marked as markedOf, afterMark, foundAt, stepAt};
 
-// The two bytes of the mark that a record begins with (contract 11.1).
+// A record begins with a mark of two bytes (contract 11.1).
 const FIRST: u8 = 0x4B;
 
 const SECOND: u8 = 0x4F;
 
-// A record without its letters: the mark, the start's column and row, and the count of letters in two bytes.
+// The bytes of a record before its letters: the mark, the column and the row of the start, and two for the count of letters.
 pub const HEADER: usize = 6;
 
 // What stands at a position of a file.
 pub enum Found {
     // Nothing is left.
     End,
-    // Fault 23: a mark that is wrong or cut.
+    // Fault 23: a wrong mark, or a single byte.
     WrongMark,
-    // Fault 24: a record that is cut after its mark.
+    // Fault 24: a record that is truncated after its mark.
     Cut,
-    // A whole record: its start, and the count of its letters, which stand behind the header.
+    // A whole record: its start, and the count of its letters.
     Record { col: u8, row: u8, count: usize },
 }
 
-// A file, and how far it is read.
+// A step of a reader: what stands at its position, and where the next record begins.
+pub struct Step {
+    pub found: Found,
+    pub next: usize,
+}
+
+// A file, and the position up to which it has been read.
 pub struct Reader<'a> {
     pub file: &'a [u8],
     pub at: usize,
@@ -51,7 +57,7 @@ fn is_marked(file: &[u8], at: usize) -> bool
     first == FIRST && second == SECOND
 }
 
-// What stands behind a mark: a record, or one that is cut.
+// What stands behind a mark: the rest of a whole record, or of a truncated one.
 fn after_mark(file: &[u8], at: usize) -> Found
     requires { ⌜ at ≤ length (now file) ⌝ }
     ensures { λ r. ⌜ r ≡ afterMark (drop at (now (file .entry))) ⌝ }
@@ -71,8 +77,8 @@ fn after_mark(file: &[u8], at: usize) -> Found
     Found::Record { col, row, count }
 }
 
-// The work: what stands at a position of a file.
-pub fn found_at(file: &[u8], at: usize) -> Found
+// What stands at a position of a file.
+fn found_at(file: &[u8], at: usize) -> Found
     ensures { λ r. ⌜ r ≡ foundAt (now (file .entry)) at ⌝ }
 {
     if file.len() <= at {
@@ -84,6 +90,25 @@ pub fn found_at(file: &[u8], at: usize) -> Found
     after_mark(file, at + 2)
 }
 
+// The work of a reader, on the file and the position alone. At the end and at a fault the position stays.
+fn step_at(file: &[u8], at: usize) -> Step
+    ensures { λ r. ⌜ r ≡ stepAt (now (file .entry)) at ⌝ }
+{
+    let found = found_at(file, at);
+    if let Found::Record {
+        col: _,
+        row: _,
+        count,
+    } = found {
+        let letters = at + HEADER;
+        return Step {
+            found,
+            next: letters + count,
+        };
+    }
+    Step { found, next: at }
+}
+
 // A reader at a position of a file.
 pub fn new<'a>(file: &'a [u8], at: usize) -> Reader<'a>
     ensures { λ r. ⌜ (r .file ≡ file .entry) × (r .at ≡ at) ⌝ }
@@ -91,16 +116,16 @@ pub fn new<'a>(file: &'a [u8], at: usize) -> Reader<'a>
     Reader { file, at }
 }
 
-// The next record of a reader.
-pub fn next<'a>(r: Reader<'a>) -> Found
-    ensures { λ s. ⌜ s ≡ foundAt (now (r .entry .file)) (r .entry .at) ⌝ }
+// The next step of a reader.
+pub fn next<'a>(r: Reader<'a>) -> Step
+    ensures { λ s. ⌜ s ≡ stepAt (now (r .entry .file)) (r .entry .at) ⌝ }
 {
-    found_at(r.file, r.at)
+    step_at(r.file, r.at)
 }
 
-// The next record of a file that is read up to a position.
-pub fn next_at(file: &[u8], at: usize) -> Found
-    ensures { λ r. ⌜ r ≡ foundAt (now (file .entry)) at ⌝ }
+// The next step of a reader of a file, from a position on.
+pub fn next_at(file: &[u8], at: usize) -> Step
+    ensures { λ r. ⌜ r ≡ stepAt (now (file .entry)) at ⌝ }
 {
     next(new(file, at))
 }

@@ -4,11 +4,12 @@ use Prim.Native.Nat.{ℕ, zero, suc, _+_, _*_, _-_, _/_, _≤_, _<_, min}
 use native.Mathlib.Nat.{zero-add, add-zero, le-refl}
 use native.Mathlib.Omega.{arith}
 use mathlib.Core.Path.{_≡_, refl, sym, ap, _∙_}
-use mathlib.Core.Bool.{true, false, not, true≢false}
+use mathlib.Core.Bool.{Bool, true, false, not, true≢false}
 use mathlib.Core.List.{List, [], _∷_, _++_, append-assoc, append-nil}
-use lib.ListN.{length, take, drop, length-append, length-drop, take-append-drop, drop-of-length-le}
+use lib.IntN.{pos}
+use lib.ListN.{length, take, drop, replicate, length-replicate, length-append, length-drop, take-append-drop, drop-of-length-le}
 use lib.Seq.{take-all, drop-drop, take-at, drop-at, length-take-le}
-use borrow.Author.Tests.{le-leb}
+use borrow.Author.Tests.{le-leb, not-true, not-false}
 use Rattle.chart.specs.Fields.{numbersOf, replyAfter}
 use Rattle.chart.proofs.ReplyLaws.{replyAfter-room}
 use Rattle.calls.specs.declared.Call.{Call}
@@ -20,8 +21,11 @@ use Rattle.holder.specs.declared.Holder.{Holder}
 use Rattle.agreement.proofs.ListTheorem.{list-theorem}
 use Rattle.wire.specs.declared.Decoded.{Decoded}
 use Rattle.wire.specs.declared.Decoded.the-variants.{Call as Said, Nothing}
-use Rattle.wire.specs.declared.Responded.{Responded}
-use Rattle.wire.specs.Wire.{callWidth, replyWidth, decoded, heard, responded, said, respondOf, repliedTo}
+use Rattle.wire.specs.Wire.{callWidth, replyWidth, decoded, heard}
+use Rattle.live_memory.specs.Layout.{Memory, memory, holderIn, Fits}
+use Rattle.live_memory.proofs.Zeros.{zeros, zeros-fresh}
+use Rattle.live.specs.Called.{isCall, nextHolder, replyBy, Called}
+use Rattle.live.proofs.CallLaws.{fits-by}
 use Rattle.replay.specs.Script.{followed, callsFrom, callsRead, written, repliesAfter}
 
 -- ---- the list after a replay of n calls from a holder
@@ -78,17 +82,21 @@ pub callsRead-room : (s : List ℕ) (m : ℕ) → replyWidth * length (callsRead
 unfolding callsRead
 callsRead-room s m = omega (arith, calls-few (min (length s / callWidth) (m / replyWidth)) s)
 
--- ---- the answer to what was heard
+pub callsRead-bytes : (s : List ℕ) (m : ℕ) → callWidth * length (callsRead s m) ≤ length s
+unfolding callsRead
+callsRead-bytes s m = omega (arith, calls-few (min (length s / callWidth) (m / replyWidth)) s)
 
-undone : (h : Holder) (d : Decoded) → not (responded h d .done) ≡ true → d ≡ Nothing
-unfolding responded
-undone h Nothing e = refl
-undone h (Said x) e = absurd (true≢false (sym e))
+-- ---- whether a call was answered
 
-answered : (h : Holder) (d : Decoded) → not (responded h d .done) ≡ false → (x : Call) × (d ≡ Said x)
-unfolding responded
-answered h Nothing e = absurd (true≢false e)
-answered h (Said x) e = (x, refl)
+unanswered : (d : Decoded) → false ≡ isCall d → d ≡ Nothing
+unfolding isCall
+unanswered Nothing e = refl
+unanswered (Said x) e = absurd (true≢false (sym e))
+
+answered : (d : Decoded) → true ≡ isCall d → (x : Call) × (d ≡ Said x)
+unfolding isCall
+answered Nothing e = absurd (true≢false e)
+answered (Said x) e = (x, refl)
 
 -- ---- the loop
 
@@ -101,7 +109,7 @@ pub record Underway (script lent : List ℕ) (end : ℕ) (h : Holder) (done : �
   pub count : length (callsRead script (length lent)) ≡ done + length (callsFrom (end - done) (drop (callWidth * done) script))
   pub whole : repliesAfter script lent ≡ take (replyWidth * done) list ++ listFrom h (end - done) (drop (callWidth * done) script) (drop (replyWidth * done) list)
 
-pub underway-first : (script lent : List ℕ) (end : ℕ) (h : Holder) → end ≡ min (length script / callWidth) (length lent / replyWidth) → h ≡ freshHolder → Underway script lent end h 0 lent
+underway-first : (script lent : List ℕ) (end : ℕ) (h : Holder) → end ≡ min (length script / callWidth) (length lent / replyWidth) → h ≡ freshHolder → Underway script lent end h 0 lent
 unfolding callsRead
 underway-first script lent end h most e =
     record {
@@ -112,6 +120,16 @@ underway-first script lent end h most e =
       count = let z : end - 0 ≡ end = omega arith in rw (z, sym most) (sym (zero-add _));
       whole = let z : end - 0 ≡ end = omega arith in rw (z, e) (rw most (sym (listFrom-fresh script lent)));
     }
+
+-- The lists of a fresh holder
+abbrev zeroLists : Memory
+zeroLists = memory (zeros 1224) (zeros 4080) (replicate 1600 (pos 0)) (zeros 40)
+
+pub underway-zeros : (script lent : List ℕ) (end : ℕ) → end ≡ min (length script / callWidth) (length lent / replyWidth) → Fits zeroLists × Underway script lent end (holderIn zeroLists) 0 lent
+underway-zeros script lent end most = (
+  fits-by zeroLists (length-replicate {A = ℕ} 1224 0) (length-replicate {A = ℕ} 4080 0) (length-replicate 1600 (pos 0)) (length-replicate {A = ℕ} 40 0),
+  underway-first script lent end (holderIn zeroLists) most zeros-fresh,
+)
 
 module _ (script lent : List ℕ) (end : ℕ) (h : Holder) (done : ℕ) (list : List ℕ) (st : Underway script lent end h done list) where
   -- What is left of the script and of the list
@@ -185,9 +203,9 @@ module _ (script lent : List ℕ) (end : ℕ) (h : Holder) (done : ℕ) (list : 
       carried : (g : Holder) (t : List ℕ) → g ≡ answerOf h x .holder → t ≡ next → Underway script lent end g (done + 1) t
       carried g t p q = rw (p, q) underway-next
 
-    -- What was answered to these bytes, and the part of the list that was lent for it
-    module _ (r : Responded) (part : List ℕ) (n : ℕ) (re : r ≡ respondOf h (take n s) (take (length list - replyWidth * done) l))
-        (pe : part ≡ repliedTo h (take n s) (take (length list - replyWidth * done) l)) (sent : n ≡ callWidth) where
+    -- What the lists of the holder, and the part of the list that was lent for the reply, are after these bytes
+    module _ (m k : Memory) (b : Bool) (part : List ℕ) (n : ℕ) (sent : n ≡ callWidth) (is : holderIn m ≡ h) (f : Fits m)
+        (t : Called (Fits m) m k (heard (take n s) (length (take (length list - replyWidth * done) l))) (take (length list - replyWidth * done) l) part b) where
       abbrev listed : List ℕ
       listed = take (replyWidth * done) list ++ (part ++ drop (length list - replyWidth * done) l)
 
@@ -197,19 +215,30 @@ module _ (script lent : List ℕ) (end : ℕ) (h : Holder) (done : ℕ) (list : 
           let all : length l ≤ length list - replyWidth * done = rw (length-drop (replyWidth * done) list) (le-refl _) in
           rw (drop-of-length-le l all, append-nil part)
 
-      by-call : (d : Decoded) → decoded (take callWidth s) ≡ d → (r ≡ responded h d) × (part ≡ said h d l)
-      by-call d e = (re ∙ rw (lent-part, sent, heard-decoded, e), pe ∙ rw (lent-part, sent, heard-decoded, e))
+      -- The call
+      abbrev d : Decoded
+      d = heard (take n s) (length (take (length list - replyWidth * done) l))
+
+      d-is : d ≡ decoded (take callWidth s)
+      d-is = rw (lent-part, sent, heard-decoded)
 
       -- No call: the loop stops, and the list is as it was
-      pub stops-at-none : not (r .done) ≡ true → Stopped × (listed ≡ list)
-      unfolding said
-      stops-at-none no-call =
-          let e : decoded (take callWidth s) ≡ Nothing = undone h _ (sym (ap (λ (a : Responded). not (a .done)) (by-call _ refl .0)) ∙ no-call) in
-          (calls-none h (end - done) s l e, listed-part ∙ rw (by-call Nothing e .1) (take-append-drop (replyWidth * done) list))
+      pub stops-at-none : not b ≡ true → Stopped × (listed ≡ list)
+      stops-at-none off =
+          let no : b ≡ false = not-true b off in
+          let e : decoded (take callWidth s) ≡ Nothing = sym d-is ∙ unanswered d (sym no ∙ t .done f) in
+          (calls-none h (end - done) s l e, listed-part ∙ ap (λ (p : List ℕ). take (replyWidth * done) list ++ p) (t .unaltered no .1 ∙ lent-part) ∙ take-append-drop (replyWidth * done) list)
 
       -- A call: the loop goes on from the next holder
-      pub underway-responded : not (r .done) ≡ false → Underway script lent end (r .holder) (done + 1) listed
-      unfolding responded said
-      underway-responded was =
-          let (x, e) = answered h _ (sym (ap (λ (a : Responded). not (a .done)) (by-call _ refl .0)) ∙ was) in
-          carried x e (r .holder) listed (ap (λ (a : Responded). a .holder) (by-call (Said x) e .0)) (listed-part ∙ ap (λ (t : List ℕ). take (replyWidth * done) list ++ t) (by-call (Said x) e .1))
+      by-call : (x : Call) → d ≡ Said x → b ≡ true → Underway script lent end (holderIn k) (done + 1) listed
+      unfolding nextHolder replyBy
+      by-call x q so =
+          let g : holderIn k ≡ answerOf h x .holder = t .holder so ∙ rw (q, is) in
+          let p : part ≡ replyAfter (replyFields (answerOf h x .reply)) l = t .replied so ∙ rw (q, is, lent-part) in
+          carried x (sym d-is ∙ q) (holderIn k) listed g (listed-part ∙ ap (λ (p : List ℕ). take (replyWidth * done) list ++ p) p)
+
+      pub underway-responded : not b ≡ false → Underway script lent end (holderIn k) (done + 1) listed × Fits k
+      underway-responded on =
+          let so : b ≡ true = not-false b on in
+          let (x, q) = answered d (sym so ∙ t .done f) in
+          (by-call x q so, t .fits f)

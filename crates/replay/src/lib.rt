@@ -1,5 +1,10 @@
 // A list of calls as bytes, run from a fresh holder (contract 10.3).
-use chart::reply::NUMBERS;
+use chart::reply::NUMBERS as REPLY;
+use live::respond;
+use live_memory::HEADS;
+use live_memory::LETTERS;
+use live_memory::NUMBERS;
+use live_memory::ROW_BYTES;
 use wire::BYTES;
 ghost use mathlib.Core.Path.{_≡_};
 ghost use Prim.Native.Nat.{_/_, min};
@@ -12,26 +17,36 @@ fn most(bytes: usize, numbers: usize) -> usize
     ensures { λ r. ⌜ r ≡ min (bytes / callWidth) (numbers / replyWidth) ⌝ }
 {
     let calls = bytes / BYTES;
-    let replies = numbers / NUMBERS;
+    let replies = numbers / REPLY;
     if calls < replies { calls } else { replies }
 }
 
-// Runs the calls of a script from a fresh holder, writes the replies, and says how many.
+// Runs the calls of a script from a fresh holder, writes the replies, and says how many. The holder stands in lists of zeros, which are a fresh one.
 pub fn replay(script: &[u8], replies: &mut [u16]) -> usize
     ensures count { λ r. ⌜ r ≡ length (callsRead (now (script .entry)) (length (now (replies .entry)))) ⌝ }
     ensures replies { λ r. ⌜ now (replies .exit) ≡ repliesAfter (now (script .entry)) (now (replies .entry)) ⌝ }
 {
     let end = most(script.len(), replies.len());
-    let mut holder = holder::fresh();
+    let mut letters = [0u8; LETTERS];
+    let mut rows = [0u8; ROW_BYTES];
+    let mut numbers = [0i16; NUMBERS];
+    let mut heads = [0u16; HEADS];
     let mut done = 0;
     while done < end {
         let at = BYTES * done;
-        let to = NUMBERS * done;
-        let responded = wire::respond(holder, &script[at..at + BYTES], &mut replies[to..]);
-        if !responded.done {
+        let to = REPLY * done;
+        let call = &script[at..at + BYTES];
+        let made = respond(
+            &mut letters[..],
+            &mut rows[..],
+            &mut numbers[..],
+            &mut heads[..],
+            call,
+            &mut replies[to..],
+        );
+        if !made {
             return done;
         }
-        holder = responded.holder;
         done += 1;
     }
     done

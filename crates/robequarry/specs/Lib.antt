@@ -1,2 +1,2 @@
--- What a caller in C or Rust gets of each call.
-pub mod Face
+-- The calls for C.
+pub mod At

@@ -1,64 +1,52 @@
-// The calls for C and Rust. A slice is passed as a pointer and a length. A reply is seven numbers at the front of a lent list, in the order
-// number, word (contract 4.3), place, piece, length, column, row; a list of fewer than seven is turned back.
-use calls::PARTIES;
-use calls::PLACES;
+// The calls for C (include/robequarry.h). A list is passed as a pointer and a length, and an array as a pointer. A reply is an array of seven numbers, in the order number, word
+// (contract 4.3), place, piece, length, column, row. A holder and a pile are arrays, too, which the functions in `on_holder` and `on_pile` take apart.
+use chart::Fields;
 use chart::Point;
 use chart::reply::NUMBERS;
 use chart::reply::of_comparison;
 use chart::reply::of_position;
 use chart::reply::of_verdict;
 use chart::reply::write;
-use holder::Holder;
-use holder::fresh;
-use letters::border;
-use pile::Pile;
-use sections::LAYERS;
-use spans::ROWS;
 use tracing::written::of_traced;
-use wire::draw;
-use wire::respond;
 ghost use mathlib.Core.Path.{_≡_};
-ghost use mathlib.Core.Bool.{true};
 ghost use lib.ListN.{length};
-ghost use lib.Dec.{leb};
-ghost use Rattle.chart.specs.Fields.{fieldsOf};
+ghost use Rattle.chart.specs.Fields.{numbersOf, fieldsOf, positionFields, comparisonFields};
+ghost use Rattle.chart.specs.Outline.{outline};
+ghost use Rattle.verdict.specs.Verdict.{testFields, edgesAfter};
 ghost use Rattle.verdict.specs.Named.{CellNamed};
-ghost use Rattle.polygon.specs.Loose.{HullNamed};
+ghost use Rattle.polygon.specs.Loose.{looseOf, HullNamed};
+ghost use Rattle.tracing.specs.Traced.{tracedOf, tracedFields, lettersAfter};
 ghost use Rattle.tracing.specs.Named.{BorderNamed};
 ghost use Rattle.nesting.specs.Cells.{polygon};
-ghost use Rattle.compare.specs.Compared.{CellsNamed};
-ghost use Rattle.holder.specs.Holder.{freshHolder};
-ghost use Rattle.wire.specs.Wire.{replyWidth, respondOf, repliedTo};
-ghost use Rattle.wire.specs.Drawn.{pointDrawn, pieceReplied};
+ghost use Rattle.compare.specs.Compared.{comparisonOf, CellsNamed};
 ghost use Rattle.replay.specs.Script.{callsRead, repliesAfter};
-ghost use Rattle.pile.specs.Pile.{freshPile, setOf, emptyOf, checkOf};
-ghost use Rattle.lent.specs.Lent.{handed, replied, asked};
-ghost use Rattle.robequarry.specs.Face.{at, testReply, testEdges, looseReply, borderReply, borderLetters, compareReply, holderBytes, pileBytes};
+ghost use Rattle.robequarry.specs.At.{at};
 
-// What a draft and a work take: the flag, a point of two numbers of 16 bits, the letters or the numbers, the count at the next multiple of 8, and a work's rows.
-const DRAFT_BYTES: usize = 632;
+pub mod on_holder;
+pub mod on_pile;
 
-const WORK_BYTES: usize = 928;
+// Writes a reply's seven numbers.
+fn put(f: Fields, reply: &mut [u16; NUMBERS])
+    ensures { λ _. ⌜ now (reply .exit) ≡ numbersOf f ⌝ }
+{
+    write(f, &mut reply[..]);
+}
 
-// Tests an outline: the start corner and the letters. The edges stand first in the list lent for them, where the outline is taken.
+// Tests an outline: the start corner and the letters. The edges stand first in their list, where the outline is taken.
 #[no_mangle]
 pub extern "C" fn rq_test(
     col: u16,
     row: u16,
     letters: &[u8],
     edges: &mut [i16],
-    reply: &mut [u16],
-) -> bool
-    ensures room { λ r. ⌜ r ≡ leb 7 (length (now (reply .entry))) ⌝ }
-    ensures reply { λ r. ⌜ now (reply .exit) ≡ testReply col row (now (letters .entry)) (now (edges .entry)) (now (reply .entry)) ⌝ }
-    ensures edges { λ r. ⌜ now (edges .exit) ≡ testEdges col row (now (letters .entry)) (now (edges .entry)) (now (reply .entry)) ⌝ }
-    ensures cell { λ r. ⌜ (r ≡ true → CellNamed (record { start = at col row; letters = now (letters .entry) }) (fieldsOf (now (reply .exit)))) ⌝ }
+    reply: &mut [u16; NUMBERS],
+)
+    ensures reply { λ _. ⌜ now (reply .exit) ≡ numbersOf (testFields (outline (at col row) (now (letters .entry))) (length (now (edges .entry)))) ⌝ }
+    ensures edges { λ _. ⌜ now (edges .exit) ≡ edgesAfter (outline (at col row) (now (letters .entry))) (now (edges .entry)) ⌝ }
+    ensures cell { λ _. ⌜ CellNamed (outline (at col row) (now (letters .entry))) (fieldsOf (now (reply .exit))) ⌝ }
 {
-    if reply.len() < NUMBERS {
-        return false;
-    }
     let verdict = outline::test(Point { col, row }, letters, edges);
-    write(of_verdict(verdict), reply)
+    put(of_verdict(verdict), reply);
 }
 
 // Asks whether a cell lies inside the edges that lead once round from an anchor.
@@ -69,43 +57,38 @@ pub extern "C" fn rq_loose_query(
     edges: &[i16],
     col: u16,
     row: u16,
-    reply: &mut [u16],
-) -> bool
-    ensures room { λ r. ⌜ r ≡ leb 7 (length (now (reply .entry))) ⌝ }
-    ensures reply { λ r. ⌜ now (reply .exit) ≡ looseReply «anchor_col» «anchor_row» (now (edges .entry)) col row (now (reply .entry)) ⌝ }
-    ensures hull { λ r. ⌜ (r ≡ true → HullNamed (at «anchor_col» «anchor_row») (now (edges .entry)) (at col row) (fieldsOf (now (reply .exit)))) ⌝ }
+    reply: &mut [u16; NUMBERS],
+)
+    ensures reply { λ _. ⌜ now (reply .exit) ≡ numbersOf (positionFields (looseOf (at «anchor_col» «anchor_row») (now (edges .entry)) (at col row))) ⌝ }
+    ensures hull { λ _. ⌜ HullNamed (at «anchor_col» «anchor_row») (now (edges .entry)) (at col row) (fieldsOf (now (reply .exit))) ⌝ }
 {
     let anchor = Point {
         col: anchor_col,
         row: anchor_row,
     };
     let position = polygon::loose_query(anchor, edges, Point { col, row });
-    write(of_position(position), reply)
+    put(of_position(position), reply);
 }
 
-// Writes back the border of an anchor and edges. The letters, clockwise from W on, stand first in the list lent for them.
+// Writes back the border of an anchor and edges. The letters, clockwise from W on, stand first in their list.
 #[no_mangle]
 pub extern "C" fn rq_border(
     anchor_col: u16,
     anchor_row: u16,
     edges: &[i16],
     letters: &mut [u8],
-    reply: &mut [u16],
-) -> bool
-    ensures room { λ r. ⌜ r ≡ leb 7 (length (now (reply .entry))) ⌝ }
-    ensures reply { λ r. ⌜ now (reply .exit) ≡ borderReply «anchor_col» «anchor_row» (now (edges .entry)) (now (letters .entry)) (now (reply .entry)) ⌝ }
-    ensures letters { λ r. ⌜ now (letters .exit) ≡ borderLetters «anchor_col» «anchor_row» (now (edges .entry)) (now (letters .entry)) (now (reply .entry)) ⌝ }
-    ensures outline { λ r. ⌜ (r ≡ true → BorderNamed (at «anchor_col» «anchor_row») (now (edges .entry)) (fieldsOf (now (reply .exit))) (now (letters .exit))) ⌝ }
+    reply: &mut [u16; NUMBERS],
+)
+    ensures reply { λ _. ⌜ now (reply .exit) ≡ numbersOf (tracedFields (tracedOf (at «anchor_col» «anchor_row») (now (edges .entry)) (length (now (letters .entry))))) ⌝ }
+    ensures letters { λ _. ⌜ now (letters .exit) ≡ lettersAfter (at «anchor_col» «anchor_row») (now (edges .entry)) (now (letters .entry)) ⌝ }
+    ensures outline { λ _. ⌜ BorderNamed (at «anchor_col» «anchor_row») (now (edges .entry)) (fieldsOf (now (reply .exit))) (now (letters .exit)) ⌝ }
 {
-    if NUMBERS > reply.len() {
-        return false;
-    }
     let anchor = Point {
         col: anchor_col,
         row: anchor_row,
     };
-    let traced = border(anchor, edges, letters);
-    write(of_traced(traced), reply)
+    let traced = letters::border(anchor, edges, letters);
+    put(of_traced(traced), reply);
 }
 
 // Compares two lists of edges, each from its anchor: how the cells in their hulls lie, and whose list is the inner one's.
@@ -117,11 +100,10 @@ pub extern "C" fn rq_compare(
     anchor_col_2: u16,
     anchor_row_2: u16,
     edges_2: &[i16],
-    reply: &mut [u16],
-) -> bool
-    ensures room { λ r. ⌜ r ≡ leb 7 (length (now (reply .entry))) ⌝ }
-    ensures reply { λ r. ⌜ now (reply .exit) ≡ compareReply «anchor_col_1» «anchor_row_1» (now («edges_1» .entry)) «anchor_col_2» «anchor_row_2» (now («edges_2» .entry)) (now (reply .entry)) ⌝ }
-    ensures cells { λ r. ⌜ (r ≡ true → CellsNamed (polygon (at «anchor_col_1» «anchor_row_1») (now («edges_1» .entry))) (polygon (at «anchor_col_2» «anchor_row_2») (now («edges_2» .entry))) (fieldsOf (now (reply .exit)))) ⌝ }
+    reply: &mut [u16; NUMBERS],
+)
+    ensures reply { λ _. ⌜ now (reply .exit) ≡ numbersOf (comparisonFields (comparisonOf (at «anchor_col_1» «anchor_row_1») (now («edges_1» .entry)) (at «anchor_col_2» «anchor_row_2») (now («edges_2» .entry)))) ⌝ }
+    ensures cells { λ _. ⌜ CellsNamed (polygon (at «anchor_col_1» «anchor_row_1») (now («edges_1» .entry))) (polygon (at «anchor_col_2» «anchor_row_2») (now («edges_2» .entry))) (fieldsOf (now (reply .exit))) ⌝ }
 {
     let first = Point {
         col: anchor_col_1,
@@ -132,137 +114,14 @@ pub extern "C" fn rq_compare(
         row: anchor_row_2,
     };
     let comparison = compare::relate(first, edges_1, second, edges_2);
-    write(of_comparison(comparison), reply)
+    put(of_comparison(comparison), reply);
 }
 
 // Runs a script of calls, eleven bytes each, from a fresh holder, writes a reply of seven numbers for each, and says how many.
 #[no_mangle]
-pub extern "C" fn rq_replay(script: &[u8], replies: &mut [u16]) -> usize
+pub extern "C" fn rq_replay_numbers(script: &[u8], replies: &mut [u16]) -> usize
     ensures count { λ r. ⌜ r ≡ length (callsRead (now (script .entry)) (length (now (replies .entry)))) ⌝ }
     ensures replies { λ r. ⌜ now (replies .exit) ≡ repliesAfter (now (script .entry)) (now (replies .entry)) ⌝ }
 {
     replay::replay(script, replies)
-}
-
-// How many bytes a holder is, as C lays out its fields.
-#[no_mangle]
-pub extern "C" fn rq_holder_bytes() -> usize
-    ensures { λ r. ⌜ r ≡ holderBytes ⌝ }
-{
-    DRAFT_BYTES * PARTIES + WORK_BYTES * PARTIES * PLACES
-}
-
-// Makes a holder fresh: no draft, and nothing at work.
-#[no_mangle]
-pub extern "C" fn rq_fresh(holder: &mut Holder)
-    ensures { λ r. ⌜ now (holder .exit) ≡ freshHolder ⌝ }
-{
-    *holder = fresh();
-}
-
-// Answers one call, eleven bytes, on a holder that the caller keeps, and says whether it did: where the bytes are no call, or the reply has no
-// room, nothing is altered.
-#[no_mangle]
-pub extern "C" fn rq_call(holder: &mut Holder, call: &[u8], reply: &mut [u16]) -> bool
-    ensures { λ r. ⌜ (r ≡ respondOf (now (holder .entry)) (now (call .entry)) (now (reply .entry)) .done)
-        × (now (holder .exit) ≡ respondOf (now (holder .entry)) (now (call .entry)) (now (reply .entry)) .holder)
-        × (now (reply .exit) ≡ repliedTo (now (holder .entry)) (now (call .entry)) (now (reply .entry))) ⌝ }
-{
-    let responded = respond(*holder, call, reply);
-    *holder = responded.holder;
-    responded.done
-}
-
-// Gives the piece of a drawing at a position, with its point in a list lent for it, and says whether the reply had room: where it had not, nothing is altered.
-#[no_mangle]
-pub extern "C" fn rq_piece(
-    holder: &Holder,
-    party: u8,
-    place: u8,
-    position: u16,
-    point: &mut [f32],
-    reply: &mut [u16],
-) -> bool
-    ensures { λ r. ⌜ (r ≡ leb replyWidth (length (now (reply .entry))))
-        × (now (point .exit) ≡ pointDrawn (now (holder .entry)) party place position (now (point .entry)) (now (reply .entry)))
-        × (now (reply .exit) ≡ pieceReplied (now (holder .entry)) party place position (now (reply .entry))) ⌝ }
-{
-    draw(*holder, party, place, position, point, reply)
-}
-
-// How many bytes a pile is, as C lays out its fields: two bytes for each row of each layer, and whether it passed.
-#[no_mangle]
-pub extern "C" fn rq_pile_bytes() -> usize
-    ensures { λ r. ⌜ r ≡ pileBytes ⌝ }
-{
-    2 * ROWS * LAYERS + 1
-}
-
-// Makes a pile fresh: sixteen empty layers, unchecked.
-#[no_mangle]
-pub extern "C" fn rq_pile_fresh(pile: &mut Pile)
-    ensures { λ r. ⌜ now (pile .exit) ≡ freshPile ⌝ }
-{
-    *pile = pile::fresh();
-}
-
-// Sets a layer to an outline, and says whether the reply had room: where it had not, nothing is altered.
-#[no_mangle]
-pub extern "C" fn rq_pile_set(
-    pile: &mut Pile,
-    layer: u8,
-    col: u16,
-    row: u16,
-    letters: &[u8],
-    reply: &mut [u16],
-) -> bool
-    ensures { λ r. ⌜ (r ≡ handed (now (pile .entry)) (setOf (now (pile .entry)) layer (record { start = at col row; letters = now (letters .entry) })) (now (reply .entry)) .done)
-        × (now (pile .exit) ≡ handed (now (pile .entry)) (setOf (now (pile .entry)) layer (record { start = at col row; letters = now (letters .entry) })) (now (reply .entry)) .pile)
-        × (now (reply .exit) ≡ replied (setOf (now (pile .entry)) layer (record { start = at col row; letters = now (letters .entry) })) (now (reply .entry))) ⌝ }
-{
-    let responded = lent::set(*pile, layer, col, row, letters, reply);
-    *pile = responded.pile;
-    responded.done
-}
-
-// Sets a layer to empty.
-#[no_mangle]
-pub extern "C" fn rq_pile_empty(pile: &mut Pile, layer: u8, reply: &mut [u16]) -> bool
-    ensures { λ r. ⌜ (r ≡ handed (now (pile .entry)) (emptyOf (now (pile .entry)) layer) (now (reply .entry)) .done)
-        × (now (pile .exit) ≡ handed (now (pile .entry)) (emptyOf (now (pile .entry)) layer) (now (reply .entry)) .pile)
-        × (now (reply .exit) ≡ replied (emptyOf (now (pile .entry)) layer) (now (reply .entry))) ⌝ }
-{
-    let responded = lent::set_empty(*pile, layer, reply);
-    *pile = responded.pile;
-    responded.done
-}
-
-// Checks every section.
-#[no_mangle]
-pub extern "C" fn rq_pile_check(pile: &mut Pile, reply: &mut [u16]) -> bool
-    ensures { λ r. ⌜ (r ≡ handed (now (pile .entry)) (checkOf (now (pile .entry))) (now (reply .entry)) .done)
-        × (now (pile .exit) ≡ handed (now (pile .entry)) (checkOf (now (pile .entry))) (now (reply .entry)) .pile)
-        × (now (reply .exit) ≡ replied (checkOf (now (pile .entry))) (now (reply .entry))) ⌝ }
-{
-    let responded = lent::check(*pile, reply);
-    *pile = responded.pile;
-    responded.done
-}
-
-// Asks where a cell lies; the pile stays as it is.
-#[no_mangle]
-pub extern "C" fn rq_pile_query(
-    pile: &mut Pile,
-    layer: u8,
-    col: u16,
-    row: u16,
-    reply: &mut [u16],
-) -> bool
-    ensures { λ r. ⌜ (r ≡ handed (now (pile .entry)) (asked (now (pile .entry)) layer (at col row)) (now (reply .entry)) .done)
-        × (now (pile .exit) ≡ handed (now (pile .entry)) (asked (now (pile .entry)) layer (at col row)) (now (reply .entry)) .pile)
-        × (now (reply .exit) ≡ replied (asked (now (pile .entry)) layer (at col row)) (now (reply .entry))) ⌝ }
-{
-    let responded = lent::query(*pile, layer, col, row, reply);
-    *pile = responded.pile;
-    responded.done
 }

@@ -34,6 +34,11 @@ value-is f x = go (negative x) (units f x)
 pub record Exact (f : Format) (x : Float) : Type 0 where
   pub is : HasValue x (negative x) (units f x) (2 ^ low f)
 
+pub exact-finite : (f : Format) (x : Float) → Exact f x → T (finite x)
+exact-finite f nan h = absurd (h .is)
+exact-finite f (inf s) h = absurd (h .is)
+exact-finite f (fin s m e) h = tt
+
 -- ---- the sign and the units of a value that is known as a fraction of 2 ^ low
 
 pub sign-is : (f : Format) (x : Float) (s : Bool) (w : ℕ) → HasValue x s w (2 ^ low f) → negative x ≡ s

@@ -19,7 +19,8 @@ use Rattle.lattice.specs.Refusals.{Simple}
 use Rattle.lattice.specs.Enclosed.{upAlong, downAlong}
 use Rattle.rows.specs.Search.{upColumn, downColumn, lowestGap, numbered, cornerOf, stride, rolled, keptColumn, keptUp, keptDown, missingCell, foundCell}
 use Rattle.rows.specs.Rows.{rows, Marked, RowEnds}
-use Rattle.lattice.proofs.WalkLaws.{Walked, walked, point-eq, corner-zero, corner-suc}
+use Rattle.lattice.specs.Walked.{Walked}
+use Rattle.lattice.proofs.WalkLaws.{walked, point-eq, corner-zero, corner-suc}
 use Rattle.lattice.proofs.Staying.{stays-right, stays-up, stays-left, stays-down}
 use Rattle.rows.proofs.SearchLaws.{lowestGap-same}
 

@@ -115,7 +115,7 @@ fn tangent(lo: &[u16; 256], next: &[u16; 256], i: usize, t: usize, above: usize)
 }
 
 // The same of every row from `b` on, from the top down. The row stored last stays in hand: a load of it would wait for the store.
-fn tangents(lo: &[u16; 256], b: usize, t: usize) -> [u16; 256]
+pub fn tangents(lo: &[u16; 256], b: usize, t: usize) -> [u16; 256]
     requires { ⌜ (b ≤ t) × (t ≤ side) ⌝ }
     ensures { λ r. ⌜ Tangents (rows (now (lo .entry))) (rows r) b t ⌝ }
 {
@@ -200,7 +200,7 @@ fn remaining(x: u16) -> u16
 }
 
 // The rows seen from the right.
-fn mirrored(hi: &[u16; 256]) -> [u16; 256]
+pub fn mirrored(hi: &[u16; 256]) -> [u16; 256]
     ensures { λ r. ⌜ ((k : ℕ) → k < 256 → rows r k ≡ side - rows (now (hi .entry)) k) ⌝ }
 {
     let mut left = [0u16; 256];

@@ -4,7 +4,7 @@ use libc::STDOUT_FILENO;
 ghost use Prim.Native.Nat.{_+_, _*_, _≤_, _<_};
 ghost use lib.ListN.{length};
 
-fn same(a: &[u16], b: &[u16]) -> bool {
+pub fn same(a: &[u16], b: &[u16]) -> bool {
     if a.len() != b.len() {
         return false;
     }

@@ -1,5 +1,6 @@
 // Replays a script of calls on a holder, and writes each reply as a line of seven numbers.
 mod build;
+mod by_value;
 mod lines;
 
 use build::Script;
@@ -247,12 +248,17 @@ fn script() -> Script {
     pieces(readings(s))
 }
 
-// Replays a script and writes the replies.
+// Replays a script and writes the replies; and how many replies differ from those of the same calls on a holder by value.
 fn run(script: &[u8], replies: &mut [u16]) {
     let count = replay(script, replies);
     lines::write_replies(replies, count);
     io::write_all(STDOUT_FILENO, b"calls: ");
     io::print_decimal(STDOUT_FILENO, count as u64);
+    io::write_all(STDOUT_FILENO, b"\nreplies that differ by value: ");
+    io::print_decimal(
+        STDOUT_FILENO,
+        by_value::differing(script, replies, count) as u64,
+    );
     io::write_all(STDOUT_FILENO, b"\n");
 }
 

@@ -229,13 +229,19 @@ module _ (marked : ℕ → ℕ → Bool) (lo past : ℕ → ℕ) (t : InRuns mar
   abbrev at : ℕ → ℕ → Point
   at l r = record { col = l; row = r }
 
+  -- A cell of the hull lies in the plane of layers and rows
+  pub hull-on-plane : (x : Point) → InHull marked x → (x .col < layers) × (x .row < side)
+  hull-on-plane x h =
+      let u = hull-upper marked filled lo (hi lo past) runs x h in
+      (upper-layer (x .col) (x .row) u, upper-below (x .col) (x .row) u)
+
   -- The hull's cells in a layer are those that the loops reach
   hull-reached : (x : Point) → InHull marked x → (x .col < layers) × (reached lo past (x .col) .low ≤ x .row) × (x .row < reached lo past (x .col) .high)
   hull-reached x h =
       let u = hull-upper marked filled lo (hi lo past) runs x h in
-      let near = upper-layer (x .col) (x .row) u in (
+      let (near, below) = hull-on-plane x h in (
         near,
-        reached-low lo past (x .row) small-filled (x .col) near (upper-below (x .col) (x .row) u) .1
+        reached-low lo past (x .row) small-filled (x .col) near below .1
             (strict true filled lo (x .col) (x .row) (hull-lower marked filled lo (hi lo past) runs x h)),
         reached-high lo past (x .row) small-filled (x .col) near .1 (strict false filled (hi lo past) (x .col) (x .row) u),
       )

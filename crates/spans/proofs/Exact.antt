@@ -22,12 +22,13 @@ use Rattle.rows.proofs.RowLaws.{kept-up, kept-down}
 use Rattle.convexity.specs.Cut.{turn, westPlace, clockwise}
 use Rattle.convexity.specs.Reading.{reading, reversed, border, block}
 use Rattle.convexity.specs.Pieces.{Reaches}
-use Rattle.convexity.proofs.StraightTurn.{NoBackStep}
+use Rattle.convexity.specs.Shape.{NoBackStep}
 use Rattle.convexity.proofs.AsSent.{block-turn, clear-of}
 use Rattle.convexity.proofs.Levels.{ups-tally, downs-tally}
 use Rattle.convexity.proofs.Reading.{reading-clockwise, reading-backward, simple-reading, ups-backward, downs-backward}
 use Rattle.convexity.proofs.RowEnds.{bottom, top, ups-row, downs-row, ups-off, downs-off, row-ends, row-full, enclosed-row, enclosed-on-chart}
 use Rattle.spans.specs.Spans.{lastBelow, rowSpan, lesser, greater, leftSide, rightSide, spansOf, inSpans, spanFrom, spanAt, SpanExact}
+use Rattle.spans.specs.Spans.{Describes}
 use Rattle.spans.specs.declared.Span.{Span}
 use Rattle.spans.specs.declared.Span.the-variants.{None, Columns}
 use Rattle.spans.proofs.Tables.{table-at, table-past, up-le, down-le}
@@ -276,3 +277,6 @@ module _ (o : Outline) (h : Reaches o) where
   -- And it is exact
   pub row-span-exact : (r : ℕ) → SpanExact (block o) r (rowSpan (block o) r)
   row-span-exact r = rw (run-span (block o) r _ _ (right-le o r) (λ c. row-exact c r)) (run-exact (block o) r _ _ (λ c. row-exact c r))
+
+  pub spans-describe : Describes (spansOf o) (block o)
+  spans-describe = record { cells = spans-exact; exact = λ r. rw (spans-search r) (row-span-exact r) }

@@ -71,6 +71,11 @@ spanFrom a b = cond (ltb a b) (Columns a (b - 1)) None
 unfoldable pub spanAt : Spans → ℕ → Span
 spanAt s r = cond (leb side r) None (spanFrom (rows (s .first) r) (rows (s .past) r))
 
+-- They describe marked cells: these are in them and no other, and what they have of each row is exact
+pub record Describes (s : Spans) (marked : ℕ → ℕ → Bool) : Type 0 where
+  pub cells : (c r : ℕ) → inSpans s c r ≡ marked c r
+  pub exact : (r : ℕ) → SpanExact marked r (spanAt s r)
+
 -- As a reply (contract 7.9)
 unfoldable pub spanReply : Span → Reply
 spanReply None = NoColumns

@@ -13,7 +13,7 @@ use Rattle.chart.specs.Outline.{Outline}
 use Rattle.convexity.specs.Reading.{border}
 use Rattle.convexity.specs.Pieces.{Reaches, dentPiece, edges, edgeCount}
 use Rattle.convexity.specs.Directions.{edgeCols, edgeRows, SameDirection}
-use Rattle.convexity.proofs.StraightTurn.{NoBackStep}
+use Rattle.convexity.specs.Shape.{NoBackStep}
 use Rattle.convexity.proofs.Shape.{shape}
 use Rattle.convexity.proofs.Bounds.{edges-length}
 use Rattle.convexity.proofs.Signed.{Counted, Lies}

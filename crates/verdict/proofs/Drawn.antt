@@ -14,8 +14,9 @@ use Rattle.survey.proofs.SurveyLaws.{survey-passed}
 use Rattle.convexity.specs.Cut.{turn}
 use Rattle.convexity.specs.Reading.{reversed, reading, border, placeSent}
 use Rattle.convexity.specs.Pieces.{backStepPiece, dentPiece, edgeCount}
+use Rattle.convexity.specs.SameBlock.{SameCells}
 use Rattle.convexity.proofs.Reading.{simple-backward, reading-of-backward}
-use Rattle.convexity.proofs.SameBlock.{SameCells, same-turn-iff}
+use Rattle.convexity.proofs.SameBlock.{same-turn-iff}
 use Rattle.verdict.specs.Verdict.{backStepIn, dentIn, turnVerdict, borderVerdict, afterSurvey, verdictOf}
 use Rattle.verdict.specs.Drawn.{SameButPlace}
 

@@ -1,25 +1,27 @@
 -- Back-steps are dents too: an outline past 1 to 6 is refused by 8 or 9 exactly if a cell is missing, because a back-step leaves a missing cell, and past 8 so does a
 -- dent, and nothing else does.
-use Prim.Native.Nat.{ℕ, _*_, _≤_}
+use Prim.Native.Nat.{ℕ, _*_, _≤_, _<_}
 use native.Mathlib.Omega.{arith}
 use native.Mathlib.Decide.{decLt}
 use mathlib.Core.Path.{_≡_, refl, sym, ap, _∙_}
-use mathlib.Core.Logic.{⊎-elim, _↔_}
+use mathlib.Core.Logic.{_⊎_, inl, inr, ⊎-elim, _↔_}
+use lib.Dec.{lit<, lit≤}
 use borrow.Author.Tests.{le-ltb}
-use Rattle.chart.specs.Limits.{mostNumbers}
 use Rattle.chart.specs.declared.Point.{Point}
 use Rattle.chart.specs.declared.Verdict.{Verdict}
 use Rattle.chart.specs.declared.Verdict.the-variants.{Taken, Refused}
 use Rattle.chart.specs.Outline.{Outline}
-use Rattle.chart.specs.Fields.{verdictFields}
+use Rattle.chart.specs.Fields.{refusalFields, verdictFields}
 use Rattle.lattice.specs.Hull.{Missing, Full}
 use Rattle.lattice.specs.Refusals.{Simple}
 use Rattle.convexity.specs.Reading.{border, block}
-use Rattle.convexity.specs.Pieces.{Reaches, backStepPiece, dentPiece}
+use Rattle.convexity.specs.Pieces.{Reaches, backStepPiece, dentPiece, edgeCount}
 use Rattle.convexity.proofs.Shape.{straight-of}
 use Rattle.convexity.proofs.BackSteps.{back-step-missing-sent, passes-iff-full}
-use Rattle.verdict.specs.Verdict.{verdictOf, testOf, testFields}
-use Rattle.verdict.proofs.VerdictLaws.{pastEight, simple-or-early, reaches-of, dented-or-not, taken-fits, verdict-taken, nine-of-dented, test-refused, test-short, test-taken}
+use Rattle.verdict.specs.Verdict.{dentIn, verdictOf, testFields}
+use Rattle.verdict.specs.Dents.{Dented, dentOf}
+use Rattle.verdict.proofs.VerdictLaws.{pastEight, Early, simple-or-early, reaches-or-early, reaches-of, dented-or-not}
+use Rattle.verdict.proofs.VerdictLaws.{verdict-dented, verdict-taken, nine-of-dented, test-refused, test-short, test-taken}
 
 -- The number of an answer
 abbrev number : Verdict → ℕ
@@ -32,7 +34,7 @@ module _ (o : Outline) where
       ⊎-elim (λ d. omega (arith, e, nine-of-dented o (record { reaches = r; dented = d })))
       (λ u. omega (arith, e, ap number (verdict-taken o r u))) (dented-or-not (border o))
 
-  -- Every outline that 8 turns back has a cell in the hull of its enclosed cells that is not enclosed (contract 8.5)
+  -- Every outline that 8 refuses has a cell in the hull of its enclosed cells that is not enclosed (contract 8.5)
   pub eight-missing : number (verdictOf o) ≡ 8 → (x : Point) × Missing (block o) x
   eight-missing e = ⊎-elim stepped (λ s. absurd (omega (arith, e, s .early, ap number (s .answer)))) (simple-or-early o)
     where
@@ -75,11 +77,76 @@ module _ (o : Outline) where
             | no l ↦ absurd (omega (arith, e, ap number (test-taken o m n a q (omega arith))))
           ]
 
-  -- With room for the edges of every outline, an outline past 1 to 6 is taken exactly if no cell is missing
-  pub test-taken-iff-full : (m : ℕ) → mostNumbers ≤ m → Simple o → (testFields o m .number ≡ 0) ↔ Full (block o)
-  unfolding testFields
-  test-taken-iff-full m room h = rw (go (verdictOf o) refl) (taken-iff-full h)
+  -- The outline is taken, with its own edges and anchor
+  abbrev IsTaken : Type 0
+  IsTaken = verdictOf o ≡ Taken (edgeCount (border o)) (border o .start)
+
+  -- Whatever the outline, it is taken, or one of 1 to 9 is the answer
+  taken-or-early : IsTaken ⊎ Early 9 (verdictOf o)
+  unfolding dentOf dentIn
+  taken-or-early =
+      ⊎-elim reaching (λ e. inr (record { refusal = e .refusal; some = e .some; early = omega (arith, e .early); answer = e .answer }))
+      (reaches-or-early o)
     where
-      go : (v : Verdict) → verdictOf o ≡ v → testOf o m ≡ verdictOf o
-      go (Refused f) e = test-refused o m f e ∙ sym e
-      go (Taken n a) e = test-taken o m n a e (omega (arith, taken-fits o n a e)) ∙ sym e
+      dented : Dented o → Early 9 (verdictOf o)
+      dented h = record { refusal = dentOf o; some = lit< tt; early = lit≤ tt; answer = verdict-dented o h }
+
+      reaching : Reaches o → IsTaken ⊎ Early 9 (verdictOf o)
+      reaching r =
+          ⊎-elim (λ l. inr (dented (record { reaches = r; dented = l }))) (λ u. inl (verdict-taken o r u)) (dented-or-not (border o))
+
+  module _ (m : ℕ) (h : Simple o) where
+    -- The test's number with a list of m numbers: of a taken outline it asks for room alone
+    with-room : IsTaken → 2 * edgeCount (border o) ≤ m → testFields o m .number ≡ 0
+    unfolding testFields
+    with-room e room = ap number (test-taken o m (edgeCount (border o)) (border o .start) e room)
+
+    without-room : IsTaken → m < 2 * edgeCount (border o) → testFields o m .number ≡ 10
+    unfolding testFields
+    without-room e l = ap number (test-short o m (edgeCount (border o)) (border o .start) e l)
+
+    -- One of 1 to 9 is said with every list, and only where a cell is missing
+    early-number : (e : Early 9 (verdictOf o)) → testFields o m .number ≡ refusalFields (e .refusal) .number
+    unfolding testFields
+    early-number e = ap number (test-refused o m (e .refusal) (e .answer))
+
+    not-full : Early 9 (verdictOf o) → Full (block o) → ⊥
+    not-full e full = omega (arith, e .some, ap number (e .answer), taken-iff-full h .1 full)
+
+    -- With any lent list, the number is 0 or 10 exactly if no cell is missing
+    pub test-passes-iff-full : ((testFields o m .number ≡ 0) ⊎ (testFields o m .number ≡ 10)) ↔ Full (block o)
+    test-passes-iff-full = ⊎-elim taken refused taken-or-early
+      where
+        taken : IsTaken → ((testFields o m .number ≡ 0) ⊎ (testFields o m .number ≡ 10)) ↔ Full (block o)
+        taken e = (
+          λ n. taken-iff-full h .0 (ap number e),
+          λ full. elim (decLt m (2 * edgeCount (border o))) [
+            | yes l ↦ inr (without-room e l)
+            | no l ↦ inl (with-room e (omega arith))
+          ],
+        )
+
+        refused : Early 9 (verdictOf o) → ((testFields o m .number ≡ 0) ⊎ (testFields o m .number ≡ 10)) ↔ Full (block o)
+        refused e = (
+          ⊎-elim (λ z. absurd (omega (arith, z, early-number e, e .some))) (λ t. absurd (omega (arith, t, early-number e, e .early))),
+          λ full. absurd (not-full e full),
+        )
+
+    -- It is 0 exactly if moreover the list has two numbers for each edge
+    pub test-taken-iff-full : (testFields o m .number ≡ 0) ↔ (Full (block o) × (2 * edgeCount (border o) ≤ m))
+    test-taken-iff-full = ⊎-elim taken refused taken-or-early
+      where
+        taken : IsTaken → (testFields o m .number ≡ 0) ↔ (Full (block o) × (2 * edgeCount (border o) ≤ m))
+        taken e = (
+          λ z. (
+            taken-iff-full h .0 (ap number e),
+            elim (decLt m (2 * edgeCount (border o))) [
+              | yes l ↦ absurd (omega (arith, z, without-room e l))
+              | no l ↦ omega arith
+            ],
+          ),
+          λ f. with-room e (f .1),
+        )
+
+        refused : Early 9 (verdictOf o) → (testFields o m .number ≡ 0) ↔ (Full (block o) × (2 * edgeCount (border o) ≤ m))
+        refused e = (λ z. absurd (omega (arith, z, early-number e, e .some)), λ f. absurd (not-full e (f .0)))

@@ -10,13 +10,8 @@ use Rattle.base.specs.Each.{all}
 use Rattle.base.proofs.EachLaws.{all-at}
 use Rattle.chart.proofs.Tables.{same-fields}
 use Rattle.verdict.specs.Verdict.{testFields, edgesAfter}
-use Rattle.verdict.specs.Specimens.{Specimen, specimens, right, lent, at}
+use Rattle.verdict.specs.Specimens.{Specimen, Holds, specimens, right, lent, at}
 use Rattle.verdict.proofs.Computes.{computes}
-
--- What a row says: the test replies its fields, and the lent list has its edges first and the rest unaltered
-pub record Holds (h : Specimen) : Type 0 where
-  pub replied : testFields (h .outline) (length lent) ≡ h .fields
-  pub written : edgesAfter (h .outline) lent ≡ h .edges ++ drop (length (h .edges)) lent
 
 right-holds : (h : Specimen) → right h ≡ true → Holds h
 unfolding right

@@ -1,5 +1,6 @@
 -- The specimen outlines as one table (contract 9), and the test that a row passes. All rows are proved together (proofs/Specimens.antt).
 use Prim.Native.Nat.{ℕ}
+use mathlib.Core.Path.{_≡_}
 use mathlib.Core.Bool.{Bool, _&&_}
 use mathlib.Core.List.{List, [], _∷_, _++_}
 use lib.ListN.{length, drop, replicate}
@@ -27,6 +28,11 @@ unfoldable pub right : Specimen → Bool
 right h =
     sameFields (testFields (h .outline) (length lent)) (h .fields) &&
     sameℤs (edgesAfter (h .outline) lent) (h .edges ++ drop (length (h .edges)) lent)
+
+-- What a row says: the test replies its fields, and the lent list has its edges first and the rest unaltered
+pub record Holds (h : Specimen) : Type 0 where
+  pub replied : testFields (h .outline) (length lent) ≡ h .fields
+  pub written : edgesAfter (h .outline) lent ≡ h .edges ++ drop (length (h .edges)) lent
 
 -- A start; an outline taken; one refused
 unfoldable pub at : ℕ → ℕ → Point

@@ -1,3 +1,2 @@
--- Numbers that are no call's; calls made one by one get the plain book's replies.
+-- Numbers that are no call's.
 pub mod CallLaws
-pub mod LiveTheorem

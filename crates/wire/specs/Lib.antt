@@ -1,4 +1,2 @@
--- One call as bytes; calls made one by one; a piece with its point.
+-- One call as bytes.
 pub mod Wire
-pub mod Live
-pub mod Drawn

@@ -1,21 +1,16 @@
--- A call as eleven bytes on a holder, and its reply as seven numbers (contract 10.4).
+-- A call as eleven bytes (contract 10.3).
 use Prim.Native.Nat.{ℕ, zero, suc, _+_, _*_, _%_}
-use mathlib.Core.Bool.{true, false, cond}
+use mathlib.Core.Bool.{cond}
 use mathlib.Core.List.{List}
 use lib.ListN.{length, getD}
 use lib.Dec.{leb, eqb}
 use Rattle.chart.specs.declared.Point.{Point}
-use Rattle.chart.specs.Fields.{replyAfter}
 use Rattle.calls.specs.Calls.{by}
-use Rattle.calls.specs.Replies.{replyFields}
 use Rattle.calls.specs.declared.Action.the-variants.{Begin, Add, Drop, Clear, Close, Ask}
 use Rattle.calls.specs.declared.Question.the-variants.{Cell as OfCell, Row as OfRow, Reading as OfReading, Piece as OfPiece}
 use Rattle.readings.specs.Located.{readingOf}
-use Rattle.holder.specs.declared.Holder.{Holder}
-use Rattle.holder.specs.Holder.{answerOf}
 use Rattle.wire.specs.declared.Decoded.{Decoded}
 use Rattle.wire.specs.declared.Decoded.the-variants.{Call as Said, Nothing}
-use Rattle.wire.specs.declared.Responded.{Responded}
 
 -- How many bytes a call is, and how many numbers a reply
 abbrev pub callWidth : ℕ
@@ -61,20 +56,3 @@ decoded s =
 -- The call that is answered: none where a reply has no room in so many numbers
 unfoldable pub heard : List ℕ → ℕ → Decoded
 heard call room = cond (leb replyWidth room) (decoded call) Nothing
-
--- Whether it was answered, and the next holder
-unfoldable pub responded : Holder → Decoded → Responded
-responded h Nothing = record { done = false; holder = h }
-responded h (Said c) = record { done = true; holder = answerOf h c .holder }
-
--- The list lent for the reply, afterwards
-unfoldable pub said : Holder → Decoded → List ℕ → List ℕ
-said h Nothing reply = reply
-said h (Said c) reply = replyAfter (replyFields (answerOf h c .reply)) reply
-
--- One call on a holder: by its bytes and the list lent for the reply
-abbrev pub respondOf : Holder → List ℕ → List ℕ → Responded
-respondOf h call reply = responded h (heard call (length reply))
-
-abbrev pub repliedTo : Holder → List ℕ → List ℕ → List ℕ
-repliedTo h call reply = said h (heard call (length reply)) reply

@@ -1,21 +1,12 @@
-// One call as bytes on a holder, and its reply as numbers (contract 10.4).
+// One call as bytes (contract 10.3).
 use calls::Action;
 use calls::Call;
 use calls::Question;
-use calls::written::of_reply;
-use calls::written::stroke_in;
 use chart::Point;
-use chart::reply;
 use chart::reply::NUMBERS;
-use drawing::piece_of;
-use drawing::write_point;
-use holder::Holder;
 use readings::from_bits;
 ghost use mathlib.Core.Path.{_≡_};
-ghost use lib.ListN.{length};
-ghost use lib.Dec.{leb};
-ghost use Rattle.wire.specs.Drawn.{pointDrawn, pieceReplied};
-ghost use Rattle.wire.specs.Wire.{long as longOf, shortOf, letterOf, pointOf, callOf, replyWidth, decoded as decodedOf, heard as heardOf, respondOf, repliedTo};
+ghost use Rattle.wire.specs.Wire.{long as longOf, shortOf, letterOf, pointOf, callOf, decoded as decodedOf, heard as heardOf};
 
 // How many bytes a call is.
 pub const BYTES: usize = 11;
@@ -25,12 +16,6 @@ pub enum Decoded {
     Call(Call),
     // No call: a number that is none's, or not so many bytes.
     Nothing,
-}
-
-// Whether a call was answered, and the next holder.
-pub struct Responded {
-    pub done: bool,
-    pub holder: Holder,
 }
 
 // A number of 32 bits, low byte first.
@@ -105,51 +90,11 @@ fn decode(call: &[u8]) -> Decoded
 }
 
 // The call to be answered: none where there is no room for the reply.
-fn heard(call: &[u8], room: usize) -> Decoded
+pub fn heard(call: &[u8], room: usize) -> Decoded
     ensures { λ r. ⌜ r ≡ heardOf (now (call .entry)) room ⌝ }
 {
     if room < NUMBERS {
         return Decoded::Nothing;
     }
     decode(call)
-}
-
-// Answers a call on a holder, and writes the reply. Where there is no call, or no room, nothing is altered.
-pub fn respond(holder: Holder, call: &[u8], reply: &mut [u16]) -> Responded
-    ensures { λ r. ⌜ (r ≡ respondOf holder (now (call .entry)) (now (reply .entry)))
-        × (now (reply .exit) ≡ repliedTo holder (now (call .entry)) (now (reply .entry))) ⌝ }
-{
-    let decoded = heard(call, reply.len());
-    let Decoded::Call(call) = decoded else {
-        return Responded {
-            done: false,
-            holder,
-        };
-    };
-    let answered = holder.answer(call);
-    let said = answered.reply;
-    reply::write(of_reply(said), reply);
-    let holder = answered.holder;
-    Responded { done: true, holder }
-}
-
-// Answers a piece on a holder, and writes the reply, and the point of a piece that has one. Where the reply has no room, nothing is altered.
-pub fn draw(
-    holder: Holder,
-    party: u8,
-    place: u8,
-    position: u16,
-    point: &mut [f32],
-    reply: &mut [u16],
-) -> bool
-    ensures { λ r. ⌜ (r ≡ leb replyWidth (length (now (reply .entry))))
-        × (now (point .exit) ≡ pointDrawn holder party place position (now (point .entry)) (now (reply .entry)))
-        × (now (reply .exit) ≡ pieceReplied holder party place position (now (reply .entry))) ⌝ }
-{
-    if reply.len() < NUMBERS {
-        return false;
-    }
-    let said = holder.ask(party, place, Question::Piece(position));
-    write_point(piece_of(stroke_in(said)), point);
-    reply::write(of_reply(said), reply)
 }

@@ -1,4 +1,6 @@
--- Numbers below a bound; the order, Lyndon words and their one factoring; counts of letters, Christoffel words, the dent criterion and words from counts; the searches.
+-- Computed words; the order, Lyndon words and their one factoring; counts of letters, Christoffel words, the dent criterion and words from
+-- counts; the searches.
+pub mod Checked
 pub mod Order
 pub mod Lyndon
 pub mod Factors

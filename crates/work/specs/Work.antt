@@ -10,17 +10,18 @@ use Rattle.chart.specs.Limits.{side, mostNumbers}
 use Rattle.chart.specs.declared.Point.{Point}
 use Rattle.chart.specs.declared.Refusal.the-variants.{Cell}
 use Rattle.lattice.specs.Chart.{samePoint}
-use Rattle.polygon.specs.Loose.{badCell, insideList}
+use Rattle.polygon.specs.Loose.{badCell}
 use Rattle.spans.specs.declared.Spans.{Spans}
-use Rattle.spans.specs.Spans.{noSpans, spanAt, spanReply}
+use Rattle.spans.specs.Spans.{noSpans, inSpans, spanAt, spanReply}
 use Rattle.readings.specs.Located.{locatedOf}
 use Rattle.readings.specs.Replies.{locatedReply}
 use Rattle.drawing.specs.Drawing.{strokeAt}
+use Rattle.drawing.specs.Points.{drawnReply}
 use Rattle.calls.specs.declared.Reading.{Reading}
 use Rattle.calls.specs.declared.Question.{Question}
 use Rattle.calls.specs.declared.Question.the-variants.{Cell as OfCell, Row as OfRow, Reading as OfReading, Piece as OfPiece}
 use Rattle.calls.specs.declared.Reply.{Reply}
-use Rattle.calls.specs.declared.Reply.the-variants.{Inside, Outside, Drawn, Refused, NothingAtWork}
+use Rattle.calls.specs.declared.Reply.the-variants.{Inside, Outside, Refused, NothingAtWork}
 use Rattle.work.specs.declared.Work.{Work}
 
 -- The numbers of n edges, of those that a list has space for
@@ -46,11 +47,11 @@ removed w = record { taken = false; anchor = w .anchor; numbers = w .numbers; ed
 unfoldable pub hasEdges : Work → Point → List ℤ → Bool
 hasEdges w a es = w .taken && (samePoint (w .anchor) a && sameℤs (workEdges w) es)
 
--- 12, 11, or the answer of the edges at work
+-- 12, 11, or the answer of the rows at work
 unfoldable pub located : Work → Point → Reply
 located w x =
     cond (w .taken)
-    (cond (badCell x) (Refused Cell) (cond (insideList (w .anchor) (workEdges w) x) Inside Outside)) NothingAtWork
+    (cond (badCell x) (Refused Cell) (cond (inSpans (w .spans) (x .col) (x .row)) Inside Outside)) NothingAtWork
 
 -- 12, 11, or the columns of the row (contract 7.9)
 unfoldable pub spanned : Work → ℕ → Reply
@@ -62,7 +63,7 @@ readAt w x = cond (w .taken) (locatedReply (locatedOf (w .anchor) (workEdges w) 
 
 -- 12, or the piece of the drawing (contract 7.11)
 unfoldable pub drawnAt : Work → ℕ → Reply
-drawnAt w n = cond (w .taken) (Drawn (strokeAt (w .anchor) (workEdges w) n)) NothingAtWork
+drawnAt w n = cond (w .taken) (drawnReply (strokeAt (w .anchor) (workEdges w) n)) NothingAtWork
 
 -- What is asked of it
 unfoldable pub answered : Work → Question → Reply

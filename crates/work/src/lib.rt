@@ -7,18 +7,18 @@ use chart::Point;
 use chart::Refusal;
 use chart::SIDE;
 use polygon::bad_cell;
-use polygon::inside;
 use same::same_numbers;
 use same::same_point;
 use spans::Spans;
 use spans::no_spans;
 use spans::span_at;
+use spans::within;
 ghost use mathlib.Core.Path.{_≡_};
 ghost use Prim.Native.Nat.{_*_, min};
 ghost use lib.ListN.{take};
 ghost use Rattle.chart.specs.Limits.{mostNumbers};
-ghost use Rattle.polygon.specs.Loose.{insideList};
-ghost use Rattle.work.specs.Work.{noWork, listed, workEdges, replaced, removed, hasEdges, located, spanned, readAt, drawnAt, answered};
+ghost use Rattle.spans.specs.Spans.{inSpans};
+ghost use Rattle.work.specs.Work.{noWork, listed, replaced, removed, hasEdges, located, spanned, readAt, drawnAt, answered};
 
 // The outline last taken, if one was: its anchor, its edges, two numbers an edge, and its rows.
 #[repr(C)]
@@ -105,12 +105,10 @@ impl Work {
     }
 
     fn has_inside(self, cell: Point) -> bool
-        ensures { λ b. ⌜ b ≡ insideList (self .anchor) (workEdges self) cell ⌝ }
+        ensures { λ b. ⌜ b ≡ inSpans (self .spans) (cell .col) (cell .row) ⌝ }
     {
-        let anchor = self.anchor;
-        let edges = self.edges;
-        let list = first(&self.numbers, edges);
-        inside(anchor, list, cell)
+        let spans = self.spans;
+        within(spans, cell)
     }
 
     // 12, 11, or where the cell lies.
@@ -167,7 +165,7 @@ impl Work {
         let anchor = self.anchor;
         let edges = self.edges;
         let list = first(&self.numbers, edges);
-        Reply::Drawn(drawing::stroke(anchor, list, position))
+        drawing::drawn_at(anchor, list, position)
     }
 
     pub fn answer(self, question: Question) -> Reply

@@ -4,20 +4,21 @@ use std::fmt::{self, Write as _};
 use std::str::FromStr;
 
 use robequarry::limits::{LAST_LETTER, REPLY};
+use robequarry::raw::Reply;
 
 use crate::engine::Engine;
 use crate::{Fields, Outline, Point};
 
-/// An input. `lent` and `room` are the lengths of the list for edges, for letters or for a point, and of the list for replies. A piece
-/// is asked for on the holder that its script leaves.
+/// An input. `space` is the length of a buffer: for edges, for letters, or for the numbers of a script's replies. A piece is asked for on
+/// the holder that its script leaves.
 #[derive(Clone, Debug, PartialEq)]
 pub enum Case {
-    Test { outline: Outline, lent: usize, room: usize },
-    Loose { anchor: Point, edges: Vec<i16>, cell: Point, room: usize },
-    Border { anchor: Point, edges: Vec<i16>, lent: usize, room: usize },
-    Compare { first: Polygon, second: Polygon, room: usize },
-    Script { bytes: Vec<u8>, room: usize },
-    Piece { script: Vec<u8>, asked: Asked, lent: usize, room: usize },
+    Test { outline: Outline, space: usize },
+    Loose { anchor: Point, edges: Vec<i16>, cell: Point },
+    Border { anchor: Point, edges: Vec<i16>, space: usize },
+    Compare { first: Polygon, second: Polygon },
+    Script { bytes: Vec<u8>, space: usize },
+    Piece { script: Vec<u8>, asked: Asked },
 }
 
 /// Whose drawing is asked for, and for which of its pieces.
@@ -35,10 +36,10 @@ pub struct Polygon {
     pub edges: Vec<i16>,
 }
 
-/// What an engine returned (a truth as 0 or 1), and every lent list as it left it.
+/// How many replies an engine wrote, and every buffer as it left it.
 #[derive(Clone, Debug, PartialEq)]
 pub struct Outcome {
-    pub returned: usize,
+    pub written: usize,
     pub edges: Vec<i16>,
     pub letters: Vec<u8>,
     /// The bits of floats.
@@ -46,61 +47,68 @@ pub struct Outcome {
     pub replies: Vec<u16>,
 }
 
-/// What stands in a lent list before a call: anything but what the call would write.
+/// What stands in a buffer before a call: anything but what the call would write.
 fn filler(i: usize) -> u16 {
     (i as u16).wrapping_mul(0x9e37) ^ 0x5a5a
 }
 
-/// The same in a list for letters: no letter.
+/// The same in a buffer for letters: no letter.
 fn letter_filler(i: usize) -> u8 {
     filler(i) as u8 | 0x80
 }
 
-/// The same in a list for a point, as bits: no half.
+/// The same in a buffer for a point, as bits: no half.
 fn point_filler(i: usize) -> u32 {
     u32::from(filler(i)) << 8 | 0xff
 }
 
 impl Case {
     pub fn run(&self, engine: &dyn Engine) -> Outcome {
-        let (lent_edges, lent_letters, lent_point, room) = match *self {
-            Case::Test { lent, room, .. } => (lent, 0, 0, room),
-            Case::Border { lent, room, .. } => (0, lent, 0, room),
-            Case::Piece { lent, room, .. } => (0, 0, lent, room),
-            Case::Loose { room, .. } | Case::Compare { room, .. } | Case::Script { room, .. } => (0, 0, 0, room),
+        let (edge_space, letter_space) = match *self {
+            Case::Test { space, .. } => (space, 0),
+            Case::Border { space, .. } => (0, space),
+            _ => (0, 0),
         };
-        let mut edges: Vec<i16> = (0..lent_edges).map(|i| filler(i) as i16).collect();
-        let mut letters: Vec<u8> = (0..lent_letters).map(letter_filler).collect();
-        let mut point: Vec<f32> = (0..lent_point).map(|i| f32::from_bits(point_filler(i))).collect();
-        let mut replies: Vec<u16> = (0..room).map(filler).collect();
-        let returned = match self {
-            Case::Test { outline, .. } => {
-                usize::from(engine.test(outline.start, &outline.letters, &mut edges, &mut replies))
+        let mut edges: Vec<i16> = (0..edge_space).map(|i| filler(i) as i16).collect();
+        let mut letters: Vec<u8> = (0..letter_space).map(letter_filler).collect();
+        let mut point: [f32; 2] = std::array::from_fn(|i| f32::from_bits(point_filler(i)));
+        let mut reply: Reply = std::array::from_fn(filler);
+        match self {
+            Case::Test { outline, .. } => engine.test(outline.start, &outline.letters, &mut edges, &mut reply),
+            Case::Loose { anchor, edges, cell } => engine.loose_query(*anchor, edges, *cell, &mut reply),
+            Case::Border { anchor, edges, .. } => engine.border(*anchor, edges, &mut letters, &mut reply),
+            Case::Compare { first, second } => engine.compare(first, second, &mut reply),
+            Case::Piece { script, asked } => engine.piece(script, *asked, &mut point, &mut reply),
+            Case::Script { bytes, space } => {
+                let mut replies: Vec<u16> = (0..*space).map(filler).collect();
+                let written = engine.replay(bytes, &mut replies);
+                return Outcome { written, edges, letters, point: Vec::new(), replies };
             }
-            Case::Loose { anchor, edges, cell, .. } => usize::from(engine.loose_query(*anchor, edges, *cell, &mut replies)),
-            Case::Border { anchor, edges, .. } => usize::from(engine.border(*anchor, edges, &mut letters, &mut replies)),
-            Case::Compare { first, second, .. } => usize::from(engine.compare(first, second, &mut replies)),
-            Case::Script { bytes, .. } => engine.replay(bytes, &mut replies),
-            Case::Piece { script, asked, .. } => usize::from(engine.piece(script, *asked, &mut point, &mut replies)),
-        };
-        let point = point.into_iter().map(f32::to_bits).collect();
-        Outcome { returned, edges, letters, point, replies }
+        }
+        let point = point.map(f32::to_bits).to_vec();
+        Outcome { written: 1, edges, letters, point, replies: reply.to_vec() }
     }
 }
 
 impl Outcome {
     /// The replies that were written.
     pub fn fields(&self) -> impl Iterator<Item = Fields> + '_ {
-        Fields::each(&self.replies).take(self.returned)
+        Fields::each(&self.replies).take(self.written)
+    }
+
+    /// The reply to a call that always has one.
+    pub fn reply(&self) -> Fields {
+        let mut fields = self.fields();
+        fields.next().expect("every call but a replay writes a reply")
     }
 }
 
-/// In short: what was written, and what was altered behind it.
+/// In short: what was written, and what was altered after it.
 impl fmt::Display for Outcome {
     fn fmt(&self, f: &mut fmt::Formatter<'_>) -> fmt::Result {
-        let written = REPLY * self.returned;
+        let written = REPLY * self.written;
         let (replies, rest) = self.replies.split_at(written.min(self.replies.len()));
-        write!(f, "returned {}, replies", self.returned)?;
+        write!(f, "{} replies", self.written)?;
         for reply in replies.chunks(REPLY) {
             write!(f, " {reply:?}")?;
         }
@@ -113,7 +121,7 @@ impl fmt::Display for Outcome {
             self.point[..point.map_or(0, |last| last + 1)].iter().map(|&bits| f32::from_bits(bits)).collect();
         write!(f, ", point {point:?}")?;
         let altered = (written..).zip(rest).filter(|&(i, &number)| number != filler(i)).count();
-        write!(f, ", {altered} numbers altered behind the replies")
+        write!(f, ", {altered} numbers altered after the replies")
     }
 }
 
@@ -164,24 +172,24 @@ fn number<T: FromStr>(text: &str) -> Result<T, String> {
 impl fmt::Display for Case {
     fn fmt(&self, f: &mut fmt::Formatter<'_>) -> fmt::Result {
         match self {
-            Case::Test { outline: Outline { start, letters }, lent, room } => {
-                write!(f, "test {} {} {} {lent} {room}", start.col, start.row, bytes_as_text(letters))
+            Case::Test { outline: Outline { start, letters }, space } => {
+                write!(f, "test {} {} {} {space}", start.col, start.row, bytes_as_text(letters))
             }
-            Case::Loose { anchor, edges, cell, room } => {
+            Case::Loose { anchor, edges, cell } => {
                 let edges = numbers_as_text(edges);
-                write!(f, "loose {} {} {edges} {} {} {room}", anchor.col, anchor.row, cell.col, cell.row)
+                write!(f, "loose {} {} {edges} {} {}", anchor.col, anchor.row, cell.col, cell.row)
             }
-            Case::Border { anchor, edges, lent, room } => {
-                write!(f, "border {} {} {} {lent} {room}", anchor.col, anchor.row, numbers_as_text(edges))
+            Case::Border { anchor, edges, space } => {
+                write!(f, "border {} {} {} {space}", anchor.col, anchor.row, numbers_as_text(edges))
             }
-            Case::Compare { first, second, room } => {
+            Case::Compare { first, second } => {
                 let (one, other) = (numbers_as_text(&first.edges), numbers_as_text(&second.edges));
                 let (a, b) = (first.anchor, second.anchor);
-                write!(f, "compare {} {} {one} {} {} {other} {room}", a.col, a.row, b.col, b.row)
+                write!(f, "compare {} {} {one} {} {} {other}", a.col, a.row, b.col, b.row)
             }
-            Case::Script { bytes, room } => write!(f, "script {} {room}", bytes_as_text(bytes)),
-            Case::Piece { script, asked: Asked { party, place, position }, lent, room } => {
-                write!(f, "piece {} {party} {place} {position} {lent} {room}", bytes_as_text(script))
+            Case::Script { bytes, space } => write!(f, "script {} {space}", bytes_as_text(bytes)),
+            Case::Piece { script, asked: Asked { party, place, position } } => {
+                write!(f, "piece {} {party} {place} {position}", bytes_as_text(script))
             }
         }
     }
@@ -193,44 +201,38 @@ impl FromStr for Case {
     fn from_str(line: &str) -> Result<Self, String> {
         let words: Vec<&str> = line.split_whitespace().collect();
         match words[..] {
-            ["test", col, row, letters, lent, room] => Ok(Case::Test {
+            ["test", col, row, letters, space] => Ok(Case::Test {
                 outline: Outline { start: Point::new(number(col)?, number(row)?), letters: bytes_from_text(letters)? },
-                lent: number(lent)?,
-                room: number(room)?,
+                space: number(space)?,
             }),
-            ["loose", anchor_col, anchor_row, edges, col, row, room] => Ok(Case::Loose {
+            ["loose", anchor_col, anchor_row, edges, col, row] => Ok(Case::Loose {
                 anchor: Point::new(number(anchor_col)?, number(anchor_row)?),
                 edges: numbers_from_text(edges)?,
                 cell: Point::new(number(col)?, number(row)?),
-                room: number(room)?,
             }),
-            ["border", anchor_col, anchor_row, edges, lent, room] => Ok(Case::Border {
+            ["border", anchor_col, anchor_row, edges, space] => Ok(Case::Border {
                 anchor: Point::new(number(anchor_col)?, number(anchor_row)?),
                 edges: numbers_from_text(edges)?,
-                lent: number(lent)?,
-                room: number(room)?,
+                space: number(space)?,
             }),
-            ["compare", col, row, edges, col2, row2, edges2, room] => Ok(Case::Compare {
+            ["compare", col, row, edges, col2, row2, edges2] => Ok(Case::Compare {
                 first: Polygon { anchor: Point::new(number(col)?, number(row)?), edges: numbers_from_text(edges)? },
                 second: Polygon { anchor: Point::new(number(col2)?, number(row2)?), edges: numbers_from_text(edges2)? },
-                room: number(room)?,
             }),
-            ["script", bytes, room] => Ok(Case::Script { bytes: bytes_from_text(bytes)?, room: number(room)? }),
-            ["piece", script, party, place, position, lent, room] => Ok(Case::Piece {
+            ["script", bytes, space] => Ok(Case::Script { bytes: bytes_from_text(bytes)?, space: number(space)? }),
+            ["piece", script, party, place, position] => Ok(Case::Piece {
                 script: bytes_from_text(script)?,
                 asked: Asked { party: number(party)?, place: number(place)?, position: number(position)? },
-                lent: number(lent)?,
-                room: number(room)?,
             }),
             _ => {
                 let lines = [
-                    "test COL ROW LETTERS LENT ROOM",
-                    "loose COL ROW EDGES COL ROW ROOM",
-                    "border COL ROW EDGES LENT ROOM",
-                    "compare COL ROW EDGES COL ROW EDGES ROOM",
-                    "piece BYTES PARTY PLACE POSITION LENT ROOM",
+                    "test COL ROW LETTERS SPACE",
+                    "loose COL ROW EDGES COL ROW",
+                    "border COL ROW EDGES SPACE",
+                    "compare COL ROW EDGES COL ROW EDGES",
+                    "piece BYTES PARTY PLACE POSITION",
                 ];
-                Err(format!("a line is `{}` or `script BYTES ROOM`", lines.join("`, `")))
+                Err(format!("a line is `{}` or `script BYTES SPACE`", lines.join("`, `")))
             }
         }
     }
@@ -243,19 +245,19 @@ mod tests {
     #[test]
     fn a_line_gives_its_case_again() {
         let lines = [
-            "test 0 1 1033 8 7",
-            "test 256 0 x07070707 0 6",
-            "test 0 0 - 2032 9",
-            "loose 0 0 2,0,-2,0 254 0 7",
-            "loose 3 4 - 3 4 7",
+            "test 0 1 1033 8",
+            "test 256 0 x07070707 0",
+            "test 0 0 - 2032",
+            "loose 0 0 2,0,-2,0 254 0",
+            "loose 3 4 - 3 4",
             "script x00000000000000000000000400 14",
-            "border 0 1 1,1,1,-1,-1,-1,-1,1 612 7",
-            "border 3 4 - 4 9",
-            "compare 0 0 1,1,-1,-1 0 1 - 7",
+            "border 0 1 1,1,1,-1,-1,-1,-1,1 612",
+            "border 3 4 - 4",
+            "compare 0 0 1,1,-1,-1 0 1 -",
             "script x0000000000040000000006 14",
             "script - 0",
-            "piece x0400000000000000000000 1 3 65535 2 7",
-            "piece - 0 0 0 0 0",
+            "piece x0400000000000000000000 1 3 65535",
+            "piece - 0 0 0",
         ];
         for line in lines {
             assert_eq!(line.parse::<Case>().map(|case| case.to_string()), Ok(line.to_string()));

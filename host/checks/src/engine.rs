@@ -1,34 +1,35 @@
 //! One face for whatever answers the calls: the library's own, on plain lists of numbers.
 
-use robequarry::limits::{CALL, REPLY};
-use robequarry::raw::HolderMemory;
+use robequarry::limits::CALL;
+use robequarry::raw::{self, Reply};
 use robequarry::{Action, Call};
 
 use crate::case::{Asked, Polygon};
-use crate::live::after;
-use crate::{plain, reference, Fields, Point};
+use crate::live::{after, replay_mixed};
+use crate::{plain, reference, Point};
 
 pub trait Engine {
     fn name(&self) -> &'static str;
 
-    fn test(&self, start: Point, letters: &[u8], edges: &mut [i16], reply: &mut [u16]) -> bool;
+    fn test(&self, start: Point, letters: &[u8], edges: &mut [i16], reply: &mut Reply);
 
-    fn loose_query(&self, anchor: Point, edges: &[i16], cell: Point, reply: &mut [u16]) -> bool;
+    fn loose_query(&self, anchor: Point, edges: &[i16], cell: Point, reply: &mut Reply);
 
-    fn border(&self, anchor: Point, edges: &[i16], letters: &mut [u8], reply: &mut [u16]) -> bool;
+    fn border(&self, anchor: Point, edges: &[i16], letters: &mut [u8], reply: &mut Reply);
 
-    fn compare(&self, first: &Polygon, second: &Polygon, reply: &mut [u16]) -> bool;
+    fn compare(&self, first: &Polygon, second: &Polygon, reply: &mut Reply);
 
+    /// The replies to a script, as many as there is space for. Returns their count.
     fn replay(&self, script: &[u8], replies: &mut [u16]) -> usize;
 
     /// A piece with its point, after the calls of a script.
-    fn piece(&self, script: &[u8], asked: Asked, point: &mut [f32], reply: &mut [u16]) -> bool;
+    fn piece(&self, script: &[u8], asked: Asked, point: &mut [f32; 2], reply: &mut Reply);
 }
 
 /// The proved library.
 pub struct Library;
 
-/// The same, with the calls of a script made one by one on a live holder.
+/// The same, with the calls of a script made one by one on a live holder, by bytes or by arguments.
 pub struct Live;
 
 /// The contract as written.
@@ -42,33 +43,32 @@ impl Engine for Library {
         "library"
     }
 
-    fn test(&self, start: Point, letters: &[u8], edges: &mut [i16], reply: &mut [u16]) -> bool {
-        robequarry::raw::test(start.col, start.row, letters, edges, reply)
+    fn test(&self, start: Point, letters: &[u8], edges: &mut [i16], reply: &mut Reply) {
+        raw::test(start.col, start.row, letters, edges, reply);
     }
 
-    fn loose_query(&self, anchor: Point, edges: &[i16], cell: Point, reply: &mut [u16]) -> bool {
-        robequarry::raw::loose_query(anchor.col, anchor.row, edges, cell.col, cell.row, reply)
+    fn loose_query(&self, anchor: Point, edges: &[i16], cell: Point, reply: &mut Reply) {
+        raw::loose_query(anchor.col, anchor.row, edges, cell.col, cell.row, reply);
     }
 
-    fn border(&self, anchor: Point, edges: &[i16], letters: &mut [u8], reply: &mut [u16]) -> bool {
-        robequarry::raw::border(anchor.col, anchor.row, edges, letters, reply)
+    fn border(&self, anchor: Point, edges: &[i16], letters: &mut [u8], reply: &mut Reply) {
+        raw::border(anchor.col, anchor.row, edges, letters, reply);
     }
 
-    fn compare(&self, first: &Polygon, second: &Polygon, reply: &mut [u16]) -> bool {
+    fn compare(&self, first: &Polygon, second: &Polygon, reply: &mut Reply) {
         let (a, b) = (first.anchor, second.anchor);
-        robequarry::raw::compare((a.col, a.row), &first.edges, (b.col, b.row), &second.edges, reply)
+        raw::compare((a.col, a.row), &first.edges, (b.col, b.row), &second.edges, reply);
     }
 
     fn replay(&self, script: &[u8], replies: &mut [u16]) -> usize {
-        robequarry::raw::replay(script, replies)
+        raw::replay(script, replies)
     }
 
-    fn piece(&self, script: &[u8], Asked { party, place, position }: Asked, point: &mut [f32], reply: &mut [u16]) -> bool {
-        let mut holder = after(script);
+    fn piece(&self, script: &[u8], Asked { party, place, position }: Asked, point: &mut [f32; 2], reply: &mut Reply) {
+        let holder = after(script);
         let before = holder.clone();
-        let answered = holder.piece(party, place, position, point, reply);
+        holder.piece(party, place, position, point, reply);
         assert!(holder == before, "a piece leaves the holder as it is");
-        answered
     }
 }
 
@@ -77,37 +77,28 @@ impl Engine for Live {
         "live holder"
     }
 
-    fn test(&self, start: Point, letters: &[u8], edges: &mut [i16], reply: &mut [u16]) -> bool {
-        Library.test(start, letters, edges, reply)
+    fn test(&self, start: Point, letters: &[u8], edges: &mut [i16], reply: &mut Reply) {
+        Library.test(start, letters, edges, reply);
     }
 
-    fn loose_query(&self, anchor: Point, edges: &[i16], cell: Point, reply: &mut [u16]) -> bool {
-        Library.loose_query(anchor, edges, cell, reply)
+    fn loose_query(&self, anchor: Point, edges: &[i16], cell: Point, reply: &mut Reply) {
+        Library.loose_query(anchor, edges, cell, reply);
     }
 
-    fn border(&self, anchor: Point, edges: &[i16], letters: &mut [u8], reply: &mut [u16]) -> bool {
-        Library.border(anchor, edges, letters, reply)
+    fn border(&self, anchor: Point, edges: &[i16], letters: &mut [u8], reply: &mut Reply) {
+        Library.border(anchor, edges, letters, reply);
     }
 
-    fn compare(&self, first: &Polygon, second: &Polygon, reply: &mut [u16]) -> bool {
-        Library.compare(first, second, reply)
+    fn compare(&self, first: &Polygon, second: &Polygon, reply: &mut Reply) {
+        Library.compare(first, second, reply);
     }
 
     fn replay(&self, script: &[u8], replies: &mut [u16]) -> usize {
-        let mut holder = HolderMemory::fresh();
-        let calls = script.chunks(CALL).zip(replies.chunks_mut(REPLY));
-        let mut written = 0;
-        for (call, reply) in calls {
-            if !holder.call(call, reply) {
-                break;
-            }
-            written += 1;
-        }
-        written
+        replay_mixed(script, replies)
     }
 
-    fn piece(&self, script: &[u8], asked: Asked, point: &mut [f32], reply: &mut [u16]) -> bool {
-        Library.piece(script, asked, point, reply)
+    fn piece(&self, script: &[u8], asked: Asked, point: &mut [f32; 2], reply: &mut Reply) {
+        Library.piece(script, asked, point, reply);
     }
 }
 
@@ -116,37 +107,36 @@ impl Engine for Reference {
         "reference"
     }
 
-    fn test(&self, start: Point, letters: &[u8], edges: &mut [i16], reply: &mut [u16]) -> bool {
-        answer(reply, || reference::calls::test_into(start, letters, edges))
+    fn test(&self, start: Point, letters: &[u8], edges: &mut [i16], reply: &mut Reply) {
+        *reply = reference::calls::test_into(start, letters, edges).into();
     }
 
-    fn loose_query(&self, anchor: Point, edges: &[i16], cell: Point, reply: &mut [u16]) -> bool {
-        answer(reply, || reference::calls::loose_query(anchor, edges, cell))
+    fn loose_query(&self, anchor: Point, edges: &[i16], cell: Point, reply: &mut Reply) {
+        *reply = reference::calls::loose_query(anchor, edges, cell).into();
     }
 
-    fn border(&self, anchor: Point, edges: &[i16], letters: &mut [u8], reply: &mut [u16]) -> bool {
-        answer(reply, || reference::tracing::border(anchor, edges, letters))
+    fn border(&self, anchor: Point, edges: &[i16], letters: &mut [u8], reply: &mut Reply) {
+        *reply = reference::tracing::border(anchor, edges, letters).into();
     }
 
-    fn compare(&self, first: &Polygon, second: &Polygon, reply: &mut [u16]) -> bool {
-        answer(reply, || reference::compare::compare(first, second))
+    fn compare(&self, first: &Polygon, second: &Polygon, reply: &mut Reply) {
+        *reply = reference::compare::compare(first, second).into();
     }
 
     fn replay(&self, script: &[u8], replies: &mut [u16]) -> usize {
         reference::book::replay(script, replies)
     }
 
-    fn piece(&self, script: &[u8], Asked { party, place, position }: Asked, point: &mut [f32], reply: &mut [u16]) -> bool {
+    fn piece(&self, script: &[u8], Asked { party, place, position }: Asked, point: &mut [f32; 2], reply: &mut Reply) {
         let mut book = reference::book::Book::default();
         for call in Call::each(script) {
             book.answer(call);
         }
         let piece = book.answer(Action::Piece { place, position }.by(party));
-        let written = piece.write(reply);
-        if let (true, Some(bits), Some(front)) = (written, reference::pieces::point(piece), point.first_chunk_mut()) {
-            *front = bits.map(f32::from_bits);
+        *reply = piece.into();
+        if let Some(bits) = reference::pieces::point(piece) {
+            *point = bits.map(f32::from_bits);
         }
-        written
     }
 }
 
@@ -155,35 +145,29 @@ impl Engine for Plain {
         "plain"
     }
 
-    fn test(&self, start: Point, letters: &[u8], edges: &mut [i16], reply: &mut [u16]) -> bool {
-        answer(reply, || plain::test(start, letters, edges))
+    fn test(&self, start: Point, letters: &[u8], edges: &mut [i16], reply: &mut Reply) {
+        *reply = plain::test(start, letters, edges).into();
     }
 
-    fn loose_query(&self, anchor: Point, edges: &[i16], cell: Point, reply: &mut [u16]) -> bool {
-        answer(reply, || plain::loose_query(anchor, edges, cell))
+    fn loose_query(&self, anchor: Point, edges: &[i16], cell: Point, reply: &mut Reply) {
+        *reply = plain::loose_query(anchor, edges, cell).into();
     }
 
-    fn border(&self, anchor: Point, edges: &[i16], letters: &mut [u8], reply: &mut [u16]) -> bool {
-        answer(reply, || plain::border(anchor, edges, letters))
+    fn border(&self, anchor: Point, edges: &[i16], letters: &mut [u8], reply: &mut Reply) {
+        *reply = plain::border(anchor, edges, letters).into();
     }
 
-    fn compare(&self, first: &Polygon, second: &Polygon, reply: &mut [u16]) -> bool {
-        answer(reply, || plain::compare(first, second))
+    fn compare(&self, first: &Polygon, second: &Polygon, reply: &mut Reply) {
+        *reply = plain::compare(first, second).into();
     }
 
     fn replay(&self, script: &[u8], replies: &mut [u16]) -> usize {
         plain::replay(script, replies)
     }
 
-    fn piece(&self, script: &[u8], Asked { party, place, position }: Asked, point: &mut [f32], reply: &mut [u16]) -> bool {
-        let mut holder = plain::Holder::new();
-        script.chunks(CALL).all(|call| holder.call(call, &mut [0; REPLY]));
-        holder.piece(party, place, position, point, reply)
+    fn piece(&self, script: &[u8], Asked { party, place, position }: Asked, point: &mut [f32; 2], reply: &mut Reply) {
+        let mut holder = plain::Holder::default();
+        script.chunks(CALL).all(|call| holder.call(call, &mut [0; 7]));
+        *reply = holder.piece(party, place, position, point).into();
     }
-}
-
-/// Writes an answer where the reply list has room for it; else nothing is done.
-#[inline]
-fn answer(reply: &mut [u16], call: impl FnOnce() -> Fields) -> bool {
-    reply.len() >= REPLY && call().write(reply)
 }

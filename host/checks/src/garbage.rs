@@ -1,6 +1,6 @@
 //! Letter lists and edge lists that nobody should send.
 
-use robequarry::limits::{LAST_CORNER, LAST_LETTER, LONGEST, LONGEST_LIST, REPLY, SHORTEST};
+use robequarry::limits::{LAST_CORNER, LAST_LETTER, LONGEST, LONGEST_LIST, SHORTEST};
 
 use crate::case::Case;
 use crate::draw::{reversed, Shape};
@@ -13,8 +13,8 @@ pub fn any_outline(random: &mut Random) -> Outline {
     shape.draw(random)
 }
 
-/// The length of a lent list: most often room for everything, sometimes none or nearly none.
-pub fn lent(random: &mut Random) -> usize {
+/// The length of a buffer for edges: most often space for everything, sometimes none or nearly none.
+pub fn edge_space(random: &mut Random) -> usize {
     match random.below(4) {
         0 => random.below(48),
         1 => random.from_to(LONGEST_LIST - 2, LONGEST_LIST + 68),
@@ -22,21 +22,12 @@ pub fn lent(random: &mut Random) -> usize {
     }
 }
 
-/// The length of a list lent for letters: most often room for any outline's, sometimes less or none.
-pub fn letter_room(random: &mut Random) -> usize {
+/// The length of a buffer for letters: most often space for any outline's, sometimes less or none.
+pub fn letter_space(random: &mut Random) -> usize {
     match random.below(4) {
         0 => random.below(48),
         1 => random.from_to(0, LONGEST + 68),
         _ => LONGEST,
-    }
-}
-
-/// The length of a reply list: most often just enough.
-pub fn room(random: &mut Random) -> usize {
-    match random.below(12) {
-        0 => random.below(REPLY),
-        1 => random.from_to(REPLY + 1, 20),
-        _ => REPLY,
     }
 }
 
@@ -53,7 +44,7 @@ pub fn spoilt_test(random: &mut Random) -> Case {
         7 => twice(random),
         _ => damaged(random),
     };
-    Case::Test { outline, lent: lent(random), room: room(random) }
+    Case::Test { outline, space: edge_space(random) }
 }
 
 fn any_bytes(random: &mut Random) -> Outline {
@@ -122,16 +113,15 @@ pub fn loose(random: &mut Random) -> Case {
     let count = if random.once_in(8) { count } else { count / 2 * 2 };
     let reach = [1, 3, 60, 32_767][random.below(4)];
     let edges = (0..count).map(|_| (random.from_to(0, 2 * reach as usize) as i32 - reach) as i16).collect();
-    Case::Loose { anchor: cell(random), edges, cell: cell(random), room: room(random) }
+    Case::Loose { anchor: cell(random), edges, cell: cell(random) }
 }
 
 /// A border with the list of a loose query.
 pub fn border(random: &mut Random) -> Case {
-    let Case::Loose { anchor, edges, room, .. } = (if random.once_in(2) { loose(random) } else { round_walk(random) })
-    else {
+    let Case::Loose { anchor, edges, .. } = (if random.once_in(2) { loose(random) } else { round_walk(random) }) else {
         unreachable!("those are loose queries");
     };
-    Case::Border { anchor, edges, lent: letter_room(random), room }
+    Case::Border { anchor, edges, space: letter_space(random) }
 }
 
 /// A loose query whose list leads clockwise round a parallelogram, or nearly so. It may reach far off the chart, where sides have
@@ -153,7 +143,7 @@ pub fn round_walk(random: &mut Random) -> Case {
     } else {
         Point::new(near(anchor.col, random.below(9)), near(anchor.row, random.below(9)))
     };
-    Case::Loose { anchor, edges, cell, room: room(random) }
+    Case::Loose { anchor, edges, cell }
 }
 
 /// A cell, mostly on the chart.

@@ -3,8 +3,9 @@
 //! - [`mod@reference`] is docs/CONTRACT.md once more, in the plainest Rust: every definition as written, nothing clever.
 //! - [`plain`] is the library's algorithm in plain Rust: the benchmark's first rival. It is held to the reference too.
 //! - [`hull_and_count`] is the usual way to test convexity: the benchmark's second rival.
-//! - [`engine`] gives all of them, and the library, one face; [`case`] is one input for it, which can be written as a line. [`live`] is
-//!   a holder of the library. Limits, and replies and calls as numbers, are those of the crate `robequarry`.
+//! - [`engine`] gives all of them, and the library, one face; [`case`] is one input for it, which can be written as a line. [`live`] has
+//!   holders of the library, called as bytes and by arguments, and [`typed`] the typed calls. Limits, and replies and calls as numbers,
+//!   are those of the crate `robequarry`.
 //! - [`walks`], [`draw`], [`polygons`], [`sensors`], [`garbage`], [`scripts`] and [`piles`] make the inputs, from the numbers of [`random`];
 //!   [`specimens`] has those of the contract.
 //! - [`timing`] and [`stack`] measure; [`report`] prints what was timed, and [`tally`] what was reached.
@@ -30,6 +31,7 @@ pub mod specimens;
 pub mod stack;
 pub mod tally;
 pub mod timing;
+pub mod typed;
 pub mod walks;
 
 pub use point::Point;

@@ -1,11 +1,15 @@
-//! Lists of calls on a pile, from a seed: layers that are like each other, so that about half of the checks pass.
+//! Lists of calls on a pile, from a seed: layers that are like each other, so that about half of the checks pass. And such a list on
+//! piles of the library.
 
-use robequarry::limits::{LAST_CELL, LAST_CORNER};
-use robequarry::pile::{PileCall, LAYERS};
-use robequarry::{Cell, Corner, Outline};
+use robequarry::limits::{LAST_CELL, LAST_CORNER, LAYERS, REPLY};
+use robequarry::raw::{PileMemory, Reply};
+use robequarry::{Cell, Corner, Outline, Pile, PileCall};
 
+use crate::case::Case;
 use crate::draw::Shape;
+use crate::live::FILLER;
 use crate::random::Random;
+use crate::{garbage, typed, Fields};
 
 /// A rectangle of cells.
 #[derive(Clone, Copy)]
@@ -82,7 +86,7 @@ pub fn calls(random: &mut Random) -> Vec<PileCall> {
 fn other_call(random: &mut Random, near: Block) -> PileCall {
     let end = if random.once_in(8) { 256 } else { usize::from(LAYERS) };
     let layer = random.below(end) as u8;
-    match random.below(8) {
+    match random.below(9) {
         0 => PileCall::SetEmpty(layer),
         1 => {
             let drawn = Shape::ALL[random.below(Shape::ALL.len())].draw_in(random, 24);
@@ -93,10 +97,46 @@ fn other_call(random: &mut Random, near: Block) -> PileCall {
             let cell = random.odd_point();
             PileCall::Query(layer, cell.into())
         }
+        4 => {
+            let Case::Test { outline, .. } = garbage::spoilt_test(random) else { unreachable!("that is a test") };
+            PileCall::Set(layer, Outline::new(outline.start.into(), outline.letters))
+        }
         _ => {
             let col = near.left + random.from_to(0, 8) as i32 - 4;
             let row = near.bottom + random.from_to(0, 8) as i32 - 4;
             PileCall::Query(layer, Cell::new(col.max(0) as u16, row.max(0) as u16))
         }
+    }
+}
+
+/// Two piles of the library that get the same calls, the one by the typed calls or by [`Pile::call`], as chance has it, the other in
+/// memory that held something else before it was made fresh. After each call the memory of both is the same.
+pub struct Mixed {
+    random: Random,
+    pile: Pile,
+    memory: Box<PileMemory>,
+}
+
+impl Mixed {
+    pub fn new(seed: u64) -> Self {
+        let mut memory = Box::new(PileMemory::filled(FILLER));
+        memory.fresh();
+        Mixed { random: Random::new(seed), pile: Pile::new(), memory }
+    }
+
+    pub fn call(&mut self, call: &PileCall) -> Fields {
+        let reply = if self.random.once_in(2) { self.pile.call(call) } else { typed::pile_call(&mut self.pile, call) };
+        let mut other: Reply = [u16::MAX; REPLY];
+        match call {
+            PileCall::Set(layer, Outline { start, letters }) => {
+                self.memory.set(*layer, start.col, start.row, letters, &mut other);
+            }
+            PileCall::SetEmpty(layer) => self.memory.empty(*layer, &mut other),
+            PileCall::Check => self.memory.check(&mut other),
+            PileCall::Query(layer, cell) => self.memory.query(*layer, cell.col, cell.row, &mut other),
+        }
+        assert_eq!(reply, other.into(), "{call:?}");
+        assert!(*self.pile.memory() == *self.memory, "memory differs after {call:?}");
+        reply
     }
 }

@@ -3,7 +3,7 @@
 use robequarry::limits::{LAST_CELL, LONGEST, LONGEST_LIST};
 
 use crate::case::{Case, Polygon};
-use crate::garbage::{cell, letter_room, room};
+use crate::garbage::{cell, letter_space};
 use crate::random::Random;
 use crate::reference::edges::{bad_turning, corner_cells, sooner, steps, Step};
 use crate::{plain, Outline, Point};
@@ -20,7 +20,7 @@ pub fn once_round(random: &mut Random, reach: i32, most: usize) -> Vec<i16> {
     in_order(steps)
 }
 
-/// Steps as edges that lead once round, with the one that closes them where they do not sum to nil.
+/// Steps as edges that lead once round, with the one that closes them where they do not sum to zero.
 fn in_order(mut steps: Vec<Step>) -> Vec<i16> {
     let sum = steps.iter().fold((0, 0), |sum, step| (sum.0 + step.0, sum.1 + step.1));
     steps.push((-sum.0, -sum.1));
@@ -37,7 +37,7 @@ fn in_order(mut steps: Vec<Step>) -> Vec<i16> {
     merged.iter().flat_map(|&(cols, rows)| [cols as i16, rows as i16]).collect()
 }
 
-/// Edges that lead once round, with one thing wrong: begun elsewhere, two edges exchanged, one parted in two, a nil edge put in, a
+/// Edges that lead once round, with one thing wrong: begun elsewhere, two edges exchanged, one parted in two, a zero edge put in, a
 /// number changed, an edge left out, or walked the other way. Some of these still pass.
 pub fn nearly_once_round(random: &mut Random, reach: i32, most: usize) -> Vec<i16> {
     let mut edges: Vec<[i16; 2]> = once_round(random, reach, most).chunks_exact(2).map(|edge| [edge[0], edge[1]]).collect();
@@ -72,7 +72,7 @@ fn near(random: &mut Random, edges: Vec<i16>) -> Case {
     let mut by = |x: i32, y: i32| ((x + y) / 2 + random.below(5) as i32 - 2).clamp(-2, 260) as u16;
     let near = Point::new(by(one.0, other.0), by(one.1, other.1));
     let cell = if random.once_in(4) { cell(random) } else { near };
-    Case::Loose { anchor, edges, cell, room: room(random) }
+    Case::Loose { anchor, edges, cell }
 }
 
 /// A loose query whose list passes refusal 16, or nearly does.
@@ -86,7 +86,7 @@ pub fn loose(random: &mut Random) -> Case {
 pub fn border(random: &mut Random) -> Case {
     let (reach, most) = [(1, 4), (1, 8), (2, 6), (4, 10), (9, 20), (60, 40), (300, 90)][random.below(7)];
     let edges = if random.once_in(4) { nearly_once_round(random, reach, most) } else { once_round(random, reach, most) };
-    Case::Border { anchor: cell(random), edges, lent: letter_room(random), room: room(random) }
+    Case::Border { anchor: cell(random), edges, space: letter_space(random) }
 }
 
 /// Moves an anchor so that the walk from it stays on the chart, where it can: somewhere, or close to a cell.
@@ -164,7 +164,7 @@ pub fn pair(random: &mut Random) -> Case {
     };
     let (first, second) = (Polygon { anchor, edges: one }, Polygon { anchor: second, edges: other });
     let (first, second) = if random.once_in(2) { (first, second) } else { (second, first) };
-    Case::Compare { first, second, room: room(random) }
+    Case::Compare { first, second }
 }
 
 #[cfg(test)]

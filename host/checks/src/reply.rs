@@ -20,9 +20,9 @@ pub fn said(word: u16) -> Fields {
     Fields { word, ..Fields::default() }
 }
 
-/// What a comparison replies: its word, and whose list is handed back.
+/// What a comparison replies: its word, and whose list is the inner one's.
 #[inline]
-pub fn handing(word: u16, whose: u16) -> Fields {
+pub fn compared(word: u16, whose: u16) -> Fields {
     Fields { word, piece: whose, ..Fields::default() }
 }
 

@@ -5,7 +5,7 @@ use robequarry::{Action, Call, Reading};
 
 use crate::case::{Asked, Case};
 use crate::draw::{reversed, rotated};
-use crate::garbage::{any_outline, cell, room};
+use crate::garbage::{any_outline, cell};
 use crate::random::Random;
 use crate::reference::readings::Polygon;
 use crate::{sensors, Outline, Point};
@@ -33,16 +33,15 @@ pub fn piece(random: &mut Random, outline: &Outline, edges: usize) -> Case {
     let mut other = |of: u8| if random.once_in(8) { [0, 1, 2, 3, 4, u8::MAX][random.below(6)] } else { of };
     let (asked_party, asked_place) = (other(party), other(place));
     let asked = Asked { party: asked_party, place: asked_place, position: position(random, edges) };
-    let lent = [2, 2, 2, 3, 5, 1, 0][random.below(7)];
-    Case::Piece { script: to_work(outline, party, place), asked, lent, room: room(random) }
+    Case::Piece { script: to_work(outline, party, place), asked }
 }
 
 /// An outline drawn and closed, and then asked about.
 pub fn asking(outline: &Outline, party: u8, place: u8, asked: impl IntoIterator<Item = Action>) -> Case {
     let asked = Call::script(asked.into_iter().map(|action| action.by(party)));
     let bytes = [to_work(outline, party, place), asked].concat();
-    let room = bytes.len() / CALL * REPLY;
-    Case::Script { bytes, room }
+    let space = bytes.len() / CALL * REPLY;
+    Case::Script { bytes, space }
 }
 
 /// A script that is being written.
@@ -56,7 +55,7 @@ struct Script<'a> {
     place: u8,
 }
 
-/// A script of some phrases; its end may be cut, and the room for its replies may be short.
+/// A script of some phrases; its end may be cut, and the space for its replies may be short.
 pub fn script(random: &mut Random) -> Case {
     let mut script = Script { random, bytes: Vec::new(), drawn: Vec::new(), party: 0, place: 0 };
     for _ in 0..script.random.below(14) {
@@ -68,12 +67,12 @@ pub fn script(random: &mut Random) -> Case {
         bytes.truncate(random.from_to(bytes.len() - bytes.len().min(2 * CALL), bytes.len()));
     }
     let calls = bytes.len() / CALL;
-    let room = match random.below(5) {
+    let space = match random.below(5) {
         0 => random.below(REPLY * calls + REPLY + 1),
         1 => REPLY * calls,
         _ => REPLY * calls + random.below(30),
     };
-    Case::Script { bytes, room }
+    Case::Script { bytes, space }
 }
 
 impl Script<'_> {

@@ -51,8 +51,9 @@ pub struct Tally {
     pub comparisons: Replies,
     pub calls: Replies,
     pub pieces: Replies,
-    /// Inputs whose reply list had no room.
-    pub no_room: u64,
+    pub piles: Replies,
+    /// Scripts that begin with no call, or without space for a reply.
+    pub unanswered: u64,
     /// The most letters, and the most edges, of a taken test.
     pub longest_taken: usize,
     pub most_edges: u16,
@@ -73,7 +74,7 @@ impl Tally {
             replies.count(reply);
         }
         match (case, outcome.fields().next()) {
-            (_, None) => self.no_room += 1,
+            (_, None) => self.unanswered += 1,
             (Case::Test { outline, .. }, Some(Fields { number: 0, place: edges, .. })) => {
                 self.longest_taken = self.longest_taken.max(outline.letters.len());
                 self.most_edges = self.most_edges.max(edges);
@@ -82,10 +83,15 @@ impl Tally {
         }
     }
 
+    /// Counts what the reference replied to a call on a pile.
+    pub fn count_pile(&mut self, reply: Fields) {
+        self.piles.count(reply);
+    }
+
     /// The table of numbers and words, and a complaint for each that some input reaches and none of these did.
     pub fn report(&self) -> Vec<String> {
-        // What no input reaches: a test knows no state, a loose query no outline, and a holder has room for every edge.
-        let reached: [(&str, &Replies, &[usize], &[usize]); 6] = [
+        // What no input reaches: a test knows no state, a loose query no outline, and a holder and a pile have space for every edge.
+        let reached: [(&str, &Replies, &[usize], &[usize]); 7] = [
             ("tests", &self.tests, &[0, 1, 2, 3, 4, 5, 6, 8, 9, 10], &[0]),
             ("loose queries", &self.loose_queries, &[0, 10, 11, 16], &[0, 1, 2]),
             ("borders", &self.borders, &[0, 10, 11, 16, 17, 18], &[0]),
@@ -97,8 +103,9 @@ impl Tally {
                 &[0, 1, 2, 3, 4, 5, 6, 7, 8, 9, 10],
             ),
             ("pieces", &self.pieces, &[0, 12, 19, 20], &[0, 5, 8, 9, 10]),
+            ("piles", &self.piles, &[0, 1, 2, 3, 4, 5, 6, 8, 9, 11, 12, 21, 22], &[0, 1, 2]),
         ];
-        let line = |name: &str, cells: [String; 6]| {
+        let line = |name: &str, cells: [String; 7]| {
             println!("{name:>16}{}", cells.iter().map(|cell| format!(" {cell:>14}")).collect::<String>());
         };
         line("number", reached.map(|(name, ..)| name.to_string()));
@@ -109,7 +116,7 @@ impl Tally {
         for (word, name) in NAMES {
             line(name, reached.map(|(_, replies, _, words)| cell(replies.words[word], words.contains(&word))));
         }
-        println!("{} inputs had no room for a reply", self.no_room);
+        println!("{} scripts began with no call, or had no space for a reply", self.unanswered);
         println!("taken outlines had up to {} letters and up to {} edges", self.longest_taken, self.most_edges);
         let mut complaints = Vec::new();
         for (name, replies, numbers, words) in reached {

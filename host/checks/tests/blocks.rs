@@ -1,7 +1,7 @@
 //! Every outline in a small block: the library against the reference, and the reference against itself.
 
 use robequarry::codec::INSIDE;
-use robequarry::limits::{LAST_CORNER, LAST_REFUSAL, REPLY};
+use robequarry::limits::{LAST_CORNER, LAST_REFUSAL};
 use robequarry_checks::case::Case;
 use robequarry_checks::engine::{Engine, Library, Plain, Reference};
 use robequarry_checks::reference::calls::{loose_query, test};
@@ -12,7 +12,7 @@ use robequarry_checks::Point;
 #[test]
 fn every_outline_of_3_by_3() {
     for outline in outlines(3, Point::new(0, LAST_CORNER - 3)) {
-        let case = Case::Test { outline, lent: 40, room: REPLY + 1 };
+        let case = Case::Test { outline, space: 40 };
         let expected = case.run(&Reference);
         for engine in [&Library as &dyn Engine, &Plain] {
             assert_eq!(case.run(engine), expected, "{}: {case}", engine.name());

@@ -1,6 +1,6 @@
-//! Borders written back from edges: the library and the plain Rust against a walk round the cells, each lent list as a whole.
+//! Borders from edges: the library and the plain Rust against a walk round the cells, each buffer as a whole.
 
-use robequarry::limits::{LAST_REFUSAL, REPLY};
+use robequarry::limits::LAST_REFUSAL;
 use robequarry_checks::case::Case;
 use robequarry_checks::engine::{Engine, Library, Plain, Reference};
 use robequarry_checks::garbage;
@@ -8,13 +8,12 @@ use robequarry_checks::polygons;
 use robequarry_checks::random::Random;
 use robequarry_checks::Point;
 
-fn agree(case: &Case) -> Option<u16> {
+fn agree(case: &Case) -> u16 {
     let expected = case.run(&Reference);
     for engine in [&Library as &dyn Engine, &Plain] {
         assert_eq!(case.run(engine), expected, "{}: {case}", engine.name());
     }
-    let first = expected.fields().next();
-    first.map(|reply| reply.number)
+    expected.reply().number
 }
 
 #[test]
@@ -23,9 +22,7 @@ fn borders_of_any_lists() {
     let mut counts = [0; LAST_REFUSAL as usize + 1];
     for i in 0..6_000 {
         let case = if i % 4 == 0 { garbage::border(random) } else { polygons::border(random) };
-        if let Some(number) = agree(&case) {
-            counts[usize::from(number)] += 1;
-        }
+        counts[usize::from(agree(&case))] += 1;
     }
     for number in [0, 10, 11, 16, 17, 18] {
         assert!(counts[number] > 0, "{number} was not replied: {counts:?}");
@@ -46,8 +43,8 @@ fn borders_of_all_small_lists() {
     for list in lists {
         let sum = list.chunks_exact(2).fold([0, 0], |sum, step| [sum[0] - step[0], sum[1] - step[1]]);
         let closed = if sum == [0, 0] { list } else { [&list[..], &sum].concat() };
-        let case = Case::Border { anchor: Point::new(9, 9), edges: closed, lent: 40, room: REPLY };
-        written += usize::from(agree(&case) == Some(0));
+        let case = Case::Border { anchor: Point::new(9, 9), edges: closed, space: 40 };
+        written += usize::from(agree(&case) == 0);
     }
     assert!(written > 100, "{written}");
 }

@@ -1,20 +1,18 @@
 //! Small polygons side by side: the library and counting against sets of cells, and the five words against one another.
 
 use robequarry::codec::{CROSSING, EQUAL, FIRST_WITHIN, NO_COMMON, SECOND_WITHIN};
-use robequarry::limits::REPLY;
 use robequarry_checks::case::{Case, Polygon};
 use robequarry_checks::engine::{Engine, Library, Plain, Reference};
 use robequarry_checks::polygons::small;
 use robequarry_checks::Point;
 
 fn word(first: &Polygon, second: &Polygon) -> u16 {
-    let case = Case::Compare { first: first.clone(), second: second.clone(), room: REPLY };
+    let case = Case::Compare { first: first.clone(), second: second.clone() };
     let expected = case.run(&Reference);
     for engine in [&Library as &dyn Engine, &Plain] {
         assert_eq!(case.run(engine), expected, "{}: {case}", engine.name());
     }
-    let reply = expected.fields().next();
-    reply.expect("there is room").word
+    expected.reply().word
 }
 
 /// Every two of them, from one anchor and side by side; exchanged, the two words for within are.

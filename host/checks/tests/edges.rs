@@ -1,7 +1,6 @@
 //! Every short list of small edges: the library and its rival against the reference, and the reference against triangles.
 
 use robequarry::codec::INSIDE;
-use robequarry::limits::REPLY;
 use robequarry_checks::case::Case;
 use robequarry_checks::engine::{Engine, Library, Plain, Reference};
 use robequarry_checks::reference::calls::loose_query;
@@ -28,7 +27,7 @@ fn every_short_list() {
         let reply = |cell| loose_query(ANCHOR, &edges, cell);
         passed += u32::from(reply(ANCHOR).number == 0);
         for cell in cells() {
-            let case = Case::Loose { anchor: ANCHOR, edges: edges.clone(), cell, room: REPLY };
+            let case = Case::Loose { anchor: ANCHOR, edges: edges.clone(), cell };
             let expected = case.run(&Reference);
             for engine in [&Library as &dyn Engine, &Plain] {
                 assert_eq!(case.run(engine), expected, "{}: {case}", engine.name());

@@ -1,59 +1,54 @@
-//! The Rust holder, one library call for each of its own, against the plain book.
+//! The Rust holder, by its own calls and by calls as bytes, against the plain book; and two holders against each other.
 
-use robequarry::codec::{CLOSE, COLUMNS, INSIDE, LINE, MOVE, NONE, OUTSIDE, SAME, TAKEN, UNDECIDED};
 use robequarry::limits::REPLY;
-use robequarry::{Answer, Call, Holder, Refusal, Reply, Taken};
+use robequarry::{Call, Holder};
 use robequarry_checks::case::Case;
+use robequarry_checks::engine::{Engine, Live};
+use robequarry_checks::live::replay_mixed;
 use robequarry_checks::random::Random;
 use robequarry_checks::reference::book::replay;
-use robequarry_checks::reply::{self, numbered, placed, said};
 use robequarry_checks::scripts::script;
+use robequarry_checks::typed::{answered, holder_call};
 use robequarry_checks::Fields;
 
-/// A typed reply as the fields of the reply from which it came.
-fn fields(reply: Reply) -> Fields {
-    let closed = |word, Taken { edges, anchor }| Fields { word, ..reply::taken(edges, anchor.into()) };
-    match reply {
-        Ok(Answer::Done) => numbered(0),
-        Ok(Answer::Inside) => said(INSIDE),
-        Ok(Answer::Outside) => said(OUTSIDE),
-        Ok(Answer::Undecided) => said(UNDECIDED),
-        Ok(Answer::Columns { first, last }) => Fields { col: first, row: last, ..said(COLUMNS) },
-        Ok(Answer::None) => said(NONE),
-        Ok(Answer::Move(cell)) => Fields { col: cell.col, row: cell.row, ..said(MOVE) },
-        Ok(Answer::Line(cell)) => Fields { col: cell.col, row: cell.row, ..said(LINE) },
-        Ok(Answer::Close) => said(CLOSE),
-        Ok(Answer::Taken(taken)) => closed(TAKEN, taken),
-        Ok(Answer::Same(taken)) => closed(SAME, taken),
-        Err(refusal) => refused(refusal),
-    }
+/// The calls of a drawn script, and the line by which they can be run again.
+fn calls(random: &mut Random) -> (Vec<Call>, Case) {
+    let case = script(random);
+    let Case::Script { bytes, .. } = &case else { unreachable!("a script is asked for") };
+    (Call::each(bytes).collect(), case)
 }
 
-fn refused(refusal: Refusal) -> Fields {
-    let number = refusal.number();
-    match refusal {
-        Refusal::Letter { place } | Refusal::Leaves { place } | Refusal::Touches { place } => placed(number, place),
-        Refusal::BackStep { piece, place } => Fields { piece, ..placed(number, place) },
-        Refusal::Dent { piece, place, length, missing } => {
-            Fields { piece, length: length as u16, col: missing.col, row: missing.row, ..placed(number, place) }
-        }
-        _ => numbered(number),
-    }
+/// What the book replies.
+fn booked(calls: &[Call]) -> Vec<Fields> {
+    let mut replies = vec![0; REPLY * calls.len()];
+    assert_eq!(replay(&Call::script(calls.iter().copied()), &mut replies), calls.len());
+    Fields::each(&replies).collect()
 }
 
 #[test]
 fn each_call_is_answered_as_the_book_does() {
     let mut random = Random::new(7);
     for _ in 0..400 {
-        let Case::Script { bytes, .. } = script(&mut random) else { unreachable!("a script is asked for") };
-        let calls: Vec<Call> = Call::each(&bytes).collect();
-        let mut expected = vec![0; REPLY * calls.len()];
-        assert_eq!(replay(&bytes, &mut expected), calls.len());
+        let (calls, case) = calls(&mut random);
+        let (mut by_bytes, mut by_arguments) = (Holder::new(), Holder::new());
+        for (&call, expected) in calls.iter().zip(booked(&calls)) {
+            assert_eq!(answered(by_bytes.call(call)), expected, "{call:?}: {case}");
+            assert_eq!(holder_call(&mut by_arguments, call), expected, "{call:?}: {case}");
+            assert!(by_bytes == by_arguments, "memory differs after {call:?}: {case}");
+        }
+    }
+}
 
-        let mut holder = Holder::new();
-        let found: Vec<Fields> = calls.iter().map(|&call| fields(holder.call(call))).collect();
-        let expected: Vec<Fields> = Fields::each(&expected).collect();
-        assert_eq!(found, expected, "{}", Case::Script { bytes, room: REPLY * expected.len() });
+/// Calls as bytes and by arguments, mixed on one holder: their replies are the book's, and memory is what calls as bytes leave.
+#[test]
+fn calls_of_both_kinds_are_mixed() {
+    let mut random = Random::new(9);
+    for _ in 0..400 {
+        let (calls, case) = calls(&mut random);
+        let expected = booked(&calls);
+        let mut replies = vec![0; REPLY * calls.len()];
+        assert_eq!(replay_mixed(&Call::script(calls.iter().copied()), &mut replies), calls.len());
+        assert!(Fields::each(&replies).eq(expected), "{}: {case}", Live.name());
     }
 }
 
@@ -62,11 +57,10 @@ fn each_call_is_answered_as_the_book_does() {
 fn a_party_is_answered_by_its_own_calls() {
     let mut random = Random::new(8);
     for _ in 0..400 {
-        let Case::Script { bytes, .. } = script(&mut random) else { unreachable!("a script is asked for") };
-        let calls: Vec<Call> = Call::each(&bytes).collect();
+        let (calls, _) = calls(&mut random);
         let run = |calls: &[Call]| {
             let mut holder = Holder::new();
-            calls.iter().map(|&call| (call.party, fields(holder.call(call)))).collect::<Vec<_>>()
+            calls.iter().map(|&call| (call.party, holder_call(&mut holder, call))).collect::<Vec<_>>()
         };
         let both = run(&calls);
         for party in [0, 1, 2, 255] {

@@ -24,10 +24,10 @@ fn outlines(random: &mut Random) -> Vec<Outline> {
 
 /// The word of each position and the one after the last, and the cells of moves and lines.
 fn drawing(outline: &Outline) -> (Vec<u16>, Vec<(u16, u16)>) {
-    let mut at_work = AtWork::new(outline, 0, 2);
+    let at_work = AtWork::new(outline, 0, 2);
     let mut drawn: Vec<Fields> = Vec::new();
     while drawn.last().is_none_or(|piece| piece.word != NONE) {
-        drawn.push(at_work.piece(drawn.len() as u16, &mut []));
+        drawn.push(at_work.piece(drawn.len() as u16, &mut [0.0; 2]));
     }
     let cells = drawn.iter().filter(|piece| [MOVE, LINE].contains(&piece.word)).map(|piece| (piece.col, piece.row));
     (drawn.iter().map(|piece| piece.word).collect(), cells.collect())
@@ -55,12 +55,15 @@ fn every_position() {
         assert_eq!(usize::from(last), polygon.edges.len().max(1) + 1);
         for position in (0..last + 3).chain([255, 256, 257, 32_767, 32_768, u16::MAX - 1, u16::MAX]) {
             let expected = piece(&polygon, position);
-            let before = [-7.25f32; 3];
+            let before = [-7.25f32; 2];
             let mut found = before;
             assert_eq!(at_work.piece(position, &mut found), expected, "{position} {outline:?}");
             assert_eq!(at_work.call(Action::Piece { place, position }.by(party)), expected, "{position} {outline:?}");
-            let [x, y] = point(expected).unwrap_or([before[0].to_bits(); 2]);
-            assert_eq!(found.map(f32::to_bits), [x, y, before[2].to_bits()], "{position} {outline:?}");
+            assert_eq!(
+                found.map(f32::to_bits),
+                point(expected).unwrap_or(before.map(f32::to_bits)),
+                "{position} {outline:?}"
+            );
         }
     }
 }
@@ -78,18 +81,17 @@ fn a_drawing_runs_round_the_hull() {
     }
 }
 
-fn agree(case: &Case) -> Option<Fields> {
+fn agree(case: &Case) -> Fields {
     let expected = case.run(&Reference);
     for engine in [&Library as &dyn Engine, &Plain] {
         assert_eq!(case.run(engine), expected, "{}: {case}", engine.name());
     }
-    let reply = expected.fields().next();
-    reply
+    expected.reply()
 }
 
-/// Point lists of 0 to 4 numbers and reply lists of 0 to 9, at a move, a line, a close, none and each refusal.
+/// The point is written at a move and a line, and left at a close, at none and by each refusal.
 #[test]
-fn lent_lists() {
+fn points() {
     let (party, place) = (1, 0);
     let script = to_work(&specimen("H3"), party, place);
     let asked = |party, place, position| Asked { party, place, position };
@@ -102,13 +104,11 @@ fn lent_lists() {
         (asked(party, PLACES, 0), 20, 0),
         (asked(party, 1, 0), 12, 0),
     ] {
-        for lent in 0..5 {
-            for room in 0..REPLY + 3 {
-                let reply = agree(&Case::Piece { script: script.clone(), asked, lent, room });
-                let expected = (room >= REPLY).then_some((number, word));
-                assert_eq!(reply.map(|reply| (reply.number, reply.word)), expected, "{asked:?}");
-            }
-        }
+        let case = Case::Piece { script: script.clone(), asked };
+        let reply = agree(&case);
+        assert_eq!((reply.number, reply.word), (number, word), "{asked:?}");
+        let halves = case.run(&Library).point.iter().all(|&bits| f32::from_bits(bits).fract() == 0.5);
+        assert_eq!(halves, [MOVE, LINE].contains(&word), "{asked:?}");
     }
 }
 
@@ -118,7 +118,7 @@ fn refusals_in_their_order() {
     let mut ask = |party, place| {
         let called = at_work.call(Action::Piece { place, position: 0 }.by(party));
         let mut reply = [0; REPLY];
-        assert!(at_work.holder.piece(party, place, 0, &mut [0.0; 2], &mut reply));
+        at_work.holder.piece(party, place, 0, &mut [0.0; 2], &mut reply);
         assert_eq!(called, Fields::from(reply));
         called
     };
@@ -131,7 +131,7 @@ fn refusals_in_their_order() {
     assert_eq!(ask(0, 3).word, MOVE);
 }
 
-/// Any outline, position and lists; the engine of the library holds the holder's memory to what it was.
+/// Any outline and position; the engine of the library holds the holder's memory to what it was.
 #[test]
 fn every_engine_answers_as_the_book() {
     let random = &mut Random::new(3);

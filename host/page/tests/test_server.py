@@ -1,4 +1,4 @@
-"""The server without a browser: its files, the library's answers, and requests that are turned back."""
+"""The server without a browser: its files, the library's answers, and requests that are refused."""
 
 import contextlib
 import http.client

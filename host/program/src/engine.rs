@@ -1,6 +1,6 @@
 //! What the commands ask of the library beyond a test. Everything asked here is answered by it.
 
-use robequarry::{Comparison, Edges, Holder, Located, Outline, Piece, Refusal, TurnedBack};
+use robequarry::{Comparison, Edges, Holder, Located, Outline, Piece, Refusal, RefusedList};
 
 /// Whose outline it is on the holder, and where: the knee's, at the first place.
 const PARTY: u8 = 0;
@@ -22,12 +22,12 @@ impl AtWork {
     }
 
     /// The first and the last column of a row that the outline encloses; none where it has no cell there.
-    pub fn row(&mut self, row: u16) -> Result<Option<(u16, u16)>, Refusal> {
+    pub fn row(&self, row: u16) -> Result<Option<(u16, u16)>, Refusal> {
         self.0.row(PARTY, PLACE, row)
     }
 
     /// The points of the hull's drawing, piece by piece as the tablet's canvas takes it; closed where it has more than one.
-    pub fn drawing(&mut self) -> Result<Vec<(f64, f64)>, Refusal> {
+    pub fn drawing(&self) -> Result<Vec<(f64, f64)>, Refusal> {
         let mut points = Vec::new();
         for position in 0.. {
             match self.0.piece(PARTY, PLACE, position)? {
@@ -41,7 +41,7 @@ impl AtWork {
     }
 
     /// Where a reading lies to the outline's hull.
-    pub fn reading(&mut self, angle: f32, load: f32) -> Result<Located, Refusal> {
+    pub fn reading(&self, angle: f32, load: f32) -> Result<Located, Refusal> {
         self.0.reading(PARTY, PLACE, angle, load)
     }
 }
@@ -52,6 +52,6 @@ pub fn border(edges: &Edges) -> Result<Outline, Refusal> {
 }
 
 /// How the cells of two hulls lie.
-pub fn compare<'a>(first: &'a Edges, second: &'a Edges) -> Result<Comparison<'a>, TurnedBack> {
+pub fn compare<'a>(first: &'a Edges, second: &'a Edges) -> Result<Comparison<'a>, RefusedList> {
     first.compare(second)
 }

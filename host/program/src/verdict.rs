@@ -105,7 +105,7 @@ fn refused(outline: &Outline, refusal: Refusal) -> Said {
             ("a dent", format!("cell {missing} is missing; {letters} from place {place}{down} in {piece}"))
         }
         // A test with room for every edge meets no other refusal.
-        other => ("turned back", other.to_string()),
+        other => ("another refusal", other.to_string()),
     };
     Said { what: format!("refused, {}: {meaning}", refusal.number()), place }
 }

@@ -4,7 +4,7 @@ use mathlib.Core.Path.{sym}
 use lib.Seq.{length-take-le}
 use borrow.Author.Needs.{needs}
 use Rattle.chart.specs.Outline.{outline}
-use Rattle.cuts.proofs.ReadLaws.{found-places}
+use Rattle.cuts.proofs.ReadLaws.{found-places, cuts-of}
 use Rattle.border.proofs.JudgedLaws.{Copied, letters-fit, copied-ready, copied-said}
 use Rattle.border.proofs.read.Statement.{statement}
 use Rattle.border.proofs.read.Tie as tie
@@ -32,10 +32,11 @@ copied c =
     let place = c .before .before in
     let cuts = place .before .before .before in
     let start = cuts .before .before in
+    let o = outline (start .args .start) (start .args .letters .now) in
     record {
       simple = start .pre .0;
       corners = start .pre .1;
-      cuts-of = cuts .cut-places .ensures (start .args .start) (start .pre .0) (start .pre .1);
+      cuts-of = rw (cuts .cut-places .ensures, start .pre .1) (cuts-of o (start .pre .0));
       place = place .read-place .ensures;
       letters = c .fill-turn .ensures;
       sized = c .fill-turn .kept .1 .1 .1 .0;

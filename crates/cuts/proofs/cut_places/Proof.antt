@@ -2,29 +2,26 @@
 use Prim.Native.Nat.{_≤_}
 use native.Mathlib.Omega.{arith}
 use mathlib.Core.Logic.{⊎-elim}
-use mathlib.Core.Path.{refl, sym, _∙_}
-use mathlib.Core.Bool.{true≢false}
-use lib.ListN.{length, getD}
-use lib.Dec.{eqb}
+use mathlib.Core.Path.{sym, _∙_}
+use lib.ListN.{length}
 use borrow.Author.Needs.{needs}
 use borrow.Author.Tests.{not-true, not-false}
 use Rattle.chart.specs.Limits.{longest}
-use Rattle.lattice.proofs.WalkLaws.{walked}
 use Rattle.cuts.proofs.CutLaws.{steps-le}
-use Rattle.cuts.proofs.ReadLaws.{read-lt, Places, below-places, places-below, found-places, cuts-of}
+use Rattle.cuts.specs.Cuts.{isForward}
+use Rattle.cuts.proofs.ReadLaws.{read-le, Places, below-places, cuts-long, cuts-off, cuts-summed}
 use Rattle.cuts.proofs.cut_places.Statement.{statement}
 use Rattle.cuts.proofs.cut_places.Tie as tie
 
 are-below-requires : tie.Need-are-below-requires
 are-below-requires c κs = search needs
 
--- The corners of a walk pass both tests
+-- Too many letters, or a place that is none of the list
 returns : tie.Need-returns
-returns c s simple h =
-    absurd
-    (⊎-elim (λ w. omega (arith, walked _ simple .short, w .taken))
-    (λ w. true≢false (sym (places-below _ _ (found-places simple h)) ∙ sym (w .1 .ensures) ∙ not-true _ (w .2 .taken)))
-    (c .if1 .came))
+returns c =
+    ⊎-elim (λ w. sym (cuts-long _ _ (omega (arith, w .taken))))
+    (λ w. sym (cuts-off _ _ (sym (w .1 .ensures) ∙ not-true _ (w .2 .taken))))
+    (c .if1 .came)
 
 -- Past them the four places stand in the list, which is not too long
 places : (c : tie.Else2) → Places (length (c .before .before .before .before .args .letters .now)) (c .before .before .before .before .args .found)
@@ -48,14 +45,10 @@ within : (c : tie.After-place-read3)
     (c .before .before .place-read .result ≤ n) × (c .before .place-read2 .result ≤ n) × (c .place-read3 .result ≤ n) × (n ≤ longest)
 within c =
     let past = c .before .before .before .before in
-    let a = past .before .before .before .before .args in
-    let n = length (a .letters .now) in
-    let f = a .found in
-    let way = eqb (getD (a .letters .now) (f .west) 0) 1 in
     let p = places past in (
-      omega (arith, c .before .before .place-read .ensures, read-lt way n (f .west) (f .north) (p .west) (p .north)),
-      omega (arith, c .before .place-read2 .ensures, read-lt way n (f .west) (f .east) (p .west) (p .east)),
-      omega (arith, c .place-read3 .ensures, read-lt way n (f .west) (f .south) (p .west) (p .south)),
+      read-le _ (c .before .before .place-read .ensures) (p .west) (p .north),
+      read-le _ (c .before .place-read2 .ensures) (p .west) (p .east),
+      read-le _ (c .place-read3 .ensures) (p .west) (p .south),
       omega (arith, past .before .before .if1 .left),
     )
 
@@ -90,15 +83,17 @@ add-fourth c =
     omega (arith, h .3, small, c .ahead4 .ensures, c .before .ahead3 .ensures, c .before .before .ahead2 .ensures, c .before .before .before .ahead .ensures)
 
 returns-2 : tie.Need-returns-2
-returns-2 c s simple h =
+unfolding isForward
+returns-2 c =
     let third = c .before in
     let second = third .before in
     let first = second .before in
     let south = first .before in
     let east = south .before in
     let north = east .before in
-    cuts-of simple h refl (north .place-read .ensures) (east .place-read2 .ensures) (south .place-read3 .ensures) (first .ahead .ensures) (second .ahead2 .ensures) (third .ahead3 .ensures)
-    (c .ahead4 .ensures)
+    cuts-summed _ _ (within south .3) (places (north .before .before))
+    (north .place-read .ensures) (east .place-read2 .ensures) (south .place-read3 .ensures)
+    (first .ahead .ensures) (second .ahead2 .ensures) (third .ahead3 .ensures) (c .ahead4 .ensures)
 
 pub cut-places-spec : {M : Type 1} → statement M
 cut-places-spec =

@@ -1,9 +1,9 @@
 -- Each arm is its clause of the definition.
 use borrow.Author.Needs.{needs}
 use mathlib.Core.Path.{_≡_, refl, sym, ap, ap₂, _∙_}
-use Rattle.calls.specs.declared.Stroke.{Stroke}
-use Rattle.drawing.specs.declared.Piece.{Piece}
-use Rattle.drawing.specs.declared.Piece.the-variants.{Move as MoveTo, Line as LineTo}
+use Rattle.drawing.specs.declared.Stroke.{Stroke}
+use Rattle.calls.specs.declared.Piece.{Piece}
+use Rattle.calls.specs.declared.Piece.the-variants.{Move as MoveTo, Line as LineTo}
 use Rattle.drawing.specs.Points.{pieceOf}
 use Rattle.drawing.proofs.piece_of.Statement.{statement}
 use Rattle.drawing.proofs.piece_of.Tie as tie

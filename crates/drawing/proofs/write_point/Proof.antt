@@ -3,7 +3,7 @@ use borrow.Author.Needs.{needs}
 use mathlib.Core.Path.{_≡_, refl, sym, ap, _∙_}
 use mathlib.Core.List.{List}
 use lib.Ieee.{Float}
-use Rattle.drawing.specs.declared.Piece.{Piece}
+use Rattle.calls.specs.declared.Piece.{Piece}
 use Rattle.drawing.specs.Points.{pointAfter}
 use Rattle.drawing.proofs.write_point.Statement.{statement}
 use Rattle.drawing.proofs.write_point.Tie as tie

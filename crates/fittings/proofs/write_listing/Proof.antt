@@ -1,4 +1,4 @@
--- The text ends within the list that it was written to.
+-- The text ends within the buffer that it was written to.
 use native.Mathlib.Omega.{arith}
 use mathlib.Core.Path.{sym}
 use lib.Seq.{length-take-le}

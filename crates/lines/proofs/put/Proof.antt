@@ -1,4 +1,4 @@
--- At the end of the list nothing is written, and before it one byte.
+-- At the end of the buffer nothing is written, and before it one byte.
 use native.Mathlib.Omega.{arith}
 use Rattle.lines.proofs.WrittenLaws.{wrote-none, wrote-one}
 use borrow.Author.Needs.{needs}

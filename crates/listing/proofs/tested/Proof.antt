@@ -1,4 +1,4 @@
--- The test answers for a list of as many numbers as any taken outline needs, and its number and place are the line's.
+-- The test gets a buffer with room for the edges of any taken outline, and its number and place go into the line.
 use native.Mathlib.Omega.{arith}
 use mathlib.Core.Path.{ap, _∙_}
 use Rattle.chart.specs.declared.Fields.{Fields}

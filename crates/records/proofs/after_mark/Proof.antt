@@ -1,4 +1,4 @@
--- Fewer than four bytes are a cut record; else the count of letters is held to the bytes that are left behind them.
+-- With fewer than four bytes the record is truncated; else the count of letters is compared with the bytes that are left.
 use Prim.Native.Nat.{_+_, _≤_}
 use native.Mathlib.Omega.{arith}
 use mathlib.Core.Path.{sym}

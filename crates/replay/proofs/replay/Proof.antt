@@ -1,28 +1,27 @@
--- The loop's invariant is that what is left of the script, replayed from this holder into what is left of the list, makes the whole (ReplayLaws).
+-- The loop's invariant is that what is left of the script, replayed from the holder in the lists into what is left of the replies, makes the whole (ReplayLaws).
 use borrow.Author.Needs.{needs}
-use mathlib.Core.Path.{ap, _∙_}
+use mathlib.Core.Path.{refl, ap, _∙_}
 use Prim.Native.Nat.{_+_, _*_, _-_}
-use Rattle.wire.specs.Wire.{callWidth}
 use lib.ListN.{length}
 use native.Mathlib.Omega.{arith}
-use Rattle.replay.proofs.ReplayLaws.{Underway, underway-first, underway-responded, stops-at-none, stops-at-end, underway-count, underway-list}
+use Rattle.wire.specs.Wire.{callWidth}
+use Rattle.live_memory.specs.Layout.{memory, holderIn, Fits}
+use Rattle.replay.proofs.ReplayLaws.{Underway, underway-zeros, underway-responded, stops-at-none, stops-at-end, underway-count, underway-list}
 use Rattle.replay.proofs.replay.Statement.{statement}
 use Rattle.replay.proofs.replay.Tie as tie
 
 abbrev Inv-loop : tie.InvT-loop
-Inv-loop script replies₀ end holder₀ done₀ replies holder done = Underway script replies₀ end holder done replies
+Inv-loop script replies₀ end letters₀ rows₀ numbers₀ heads₀ done₀ replies letters rows numbers heads done =
+    Fits (memory letters rows numbers heads) × Underway script replies₀ end (holderIn (memory letters rows numbers heads)) done replies
 
 abbrev μ-loop : tie.MeasureT-loop
-μ-loop script replies₀ end holder₀ done₀ replies holder done = end - done
+μ-loop script replies₀ end letters₀ rows₀ numbers₀ heads₀ done₀ replies letters rows numbers heads done = end - done
 
 most-requires : tie.Need-most-requires Inv-loop μ-loop
 most-requires c κs = search needs
 
-fresh-requires : tie.Need-fresh-requires Inv-loop μ-loop
-fresh-requires c κs = search needs
-
 loop-holds : tie.Need-loop-holds Inv-loop μ-loop
-loop-holds c = underway-first _ _ _ _ (c .before .most .ensures) (c .fresh .ensures)
+loop-holds c = underway-zeros _ _ _ (c .most .ensures)
 
 mul-at : tie.Need-mul-at Inv-loop μ-loop
 mul-at c = omega arith
@@ -30,8 +29,32 @@ mul-at c = omega arith
 mul-to : tie.Need-mul-to Inv-loop μ-loop
 mul-to c = omega arith
 
-add-respond : tie.Need-add-respond Inv-loop μ-loop
-add-respond c = omega arith
+add-call : tie.Need-add-call Inv-loop μ-loop
+add-call c = omega arith
+
+sub-call : tie.Need-sub-call Inv-loop μ-loop
+sub-call c = omega arith
+
+part-call-start : tie.Need-part-call-start Inv-loop μ-loop
+part-call-start c = omega arith
+
+part-call-end : tie.Need-part-call-end Inv-loop μ-loop
+part-call-end c = omega arith
+
+slice-aggregate-respond : tie.Need-slice-aggregate-respond Inv-loop μ-loop
+slice-aggregate-respond c = search needs
+
+slice-aggregate-respond-2 : tie.Need-slice-aggregate-respond-2 Inv-loop μ-loop
+slice-aggregate-respond-2 c = search needs
+
+slice-aggregate-respond-3 : tie.Need-slice-aggregate-respond-3 Inv-loop μ-loop
+slice-aggregate-respond-3 c = search needs
+
+slice-aggregate-respond-4 : tie.Need-slice-aggregate-respond-4 Inv-loop μ-loop
+slice-aggregate-respond-4 c = search needs
+
+mul-respond : tie.Need-mul-respond Inv-loop μ-loop
+mul-respond c = omega arith
 
 sub-respond : tie.Need-sub-respond Inv-loop μ-loop
 sub-respond c = omega arith
@@ -42,32 +65,23 @@ part-respond-start c = omega arith
 part-respond-end : tie.Need-part-respond-end Inv-loop μ-loop
 part-respond-end c = omega arith
 
-mul-respond : tie.Need-mul-respond Inv-loop μ-loop
-mul-respond c = omega arith
-
-sub-respond-2 : tie.Need-sub-respond-2 Inv-loop μ-loop
-sub-respond-2 c = omega arith
-
-part-respond-start-2 : tie.Need-part-respond-start-2 Inv-loop μ-loop
-part-respond-start-2 c = omega arith
-
-part-respond-end-2 : tie.Need-part-respond-end-2 Inv-loop μ-loop
-part-respond-end-2 c = omega arith
-
 respond-requires : tie.Need-respond-requires Inv-loop μ-loop
 respond-requires c κs = search needs
 
 same-length : tie.Need-same-length Inv-loop μ-loop
 same-length c =
-    let (z, kept) =
-    stops-at-none _ _ _ _ _ _ (c .before .before .before .before .before .before .before .before .loop .inv) (c .before .before .before .before .before .before .before .loop-test .taken) _ _ (callWidth * c .before .before .before .before .before .before .before .before .loop .done + callWidth - callWidth * c .before .before .before .before .before .before .before .before .loop .done) (c .before .before .before .before .respond .ensures .0) (c .before .before .before .before .respond .ensures .1) (omega arith) (c .if1 .taken) in
-    ap length kept ∙ c .before .before .before .before .before .before .before .before .loop .inv .same-length
+    let made = c .before .before .before .before .before .before .before in
+    let loop-test = made .before .before .before .before .before .before .before in
+    let loop = loop-test .before in
+    ap length (stops-at-none _ _ _ _ _ _ (loop .loop .inv .1) (loop-test .loop-test .taken) _ _ _ _ (callWidth * loop .loop .done + callWidth - callWidth * loop .loop .done) (omega arith) refl (loop .loop .inv .0) (made .respond .ensures) (c .if1 .taken) .1) ∙ loop .loop .inv .1 .same-length
 
 returns : tie.Need-returns Inv-loop μ-loop
 returns c =
-    let (z, kept) =
-    stops-at-none _ _ _ _ _ _ (c .before .before .before .before .before .before .before .before .loop .inv) (c .before .before .before .before .before .before .before .loop-test .taken) _ _ (callWidth * c .before .before .before .before .before .before .before .before .loop .done + callWidth - callWidth * c .before .before .before .before .before .before .before .before .loop .done) (c .before .before .before .before .respond .ensures .0) (c .before .before .before .before .respond .ensures .1) (omega arith) (c .if1 .taken) in
-    (underway-count _ _ _ _ _ _ (c .before .before .before .before .before .before .before .before .loop .inv) z, kept ∙ underway-list _ _ _ _ _ _ (c .before .before .before .before .before .before .before .before .loop .inv) z)
+    let made = c .before .before .before .before .before .before .before in
+    let loop-test = made .before .before .before .before .before .before .before in
+    let loop = loop-test .before in
+    let (none, kept) = stops-at-none _ _ _ _ _ _ (loop .loop .inv .1) (loop-test .loop-test .taken) _ _ _ _ (callWidth * loop .loop .done + callWidth - callWidth * loop .loop .done) (omega arith) refl (loop .loop .inv .0) (made .respond .ensures) (c .if1 .taken) in
+    (underway-count _ _ _ _ _ _ (loop .loop .inv .1) none, kept ∙ underway-list _ _ _ _ _ _ (loop .loop .inv .1) none)
 
 add-done : tie.Need-add-done Inv-loop μ-loop
 add-done c = omega arith
@@ -77,13 +91,18 @@ loop-less c = omega arith
 
 loop-again : tie.Need-loop-again Inv-loop μ-loop
 loop-again c =
-    underway-responded _ _ _ _ _ _ (c .before .before .before .before .before .before .before .before .before .loop .inv) (c .before .before .before .before .before .before .before .before .loop-test .taken) _ _ (callWidth * c .before .before .before .before .before .before .before .before .before .loop .done + callWidth - callWidth * c .before .before .before .before .before .before .before .before .before .loop .done) (c .before .before .before .before .before .respond .ensures .0) (c .before .before .before .before .before .respond .ensures .1) (omega arith) (c .before .if1 .left)
+    let made = c .before .before .before .before .before .before .before in
+    let loop-test = made .before .before .before .before .before .before .before in
+    let loop = loop-test .before in
+    let (on, fits) = underway-responded _ _ _ _ _ _ (loop .loop .inv .1) (loop-test .loop-test .taken) _ _ _ _ (callWidth * loop .loop .done + callWidth - callWidth * loop .loop .done) (omega arith) refl (loop .loop .inv .0) (made .respond .ensures) (c .if1 .left) in (fits, on)
 
 same-length-2 : tie.Need-same-length-2 Inv-loop μ-loop
-same-length-2 c = c .before .loop .inv .same-length
+same-length-2 c = c .before .loop .inv .1 .same-length
 
 returns-2 : tie.Need-returns-2 Inv-loop μ-loop
-returns-2 c = (underway-count _ _ _ _ _ _ (c .before .loop .inv) (stops-at-end _ _ _ _ _ _ (c .before .loop .inv) (c .loop-test .left)), underway-list _ _ _ _ _ _ (c .before .loop .inv) (stops-at-end _ _ _ _ _ _ (c .before .loop .inv) (c .loop-test .left)))
+returns-2 c =
+    let none = stops-at-end _ _ _ _ _ _ (c .before .loop .inv .1) (c .loop-test .left) in
+    (underway-count _ _ _ _ _ _ (c .before .loop .inv .1) none, underway-list _ _ _ _ _ _ (c .before .loop .inv .1) none)
 
 pub replay-spec : {M : Type 1} → statement M
 replay-spec =
@@ -92,18 +111,21 @@ replay-spec =
     Inv-loop
     μ-loop
     most-requires
-    fresh-requires
     loop-holds
     mul-at
     mul-to
-    add-respond
+    add-call
+    sub-call
+    part-call-start
+    part-call-end
+    slice-aggregate-respond
+    slice-aggregate-respond-2
+    slice-aggregate-respond-3
+    slice-aggregate-respond-4
+    mul-respond
     sub-respond
     part-respond-start
     part-respond-end
-    mul-respond
-    sub-respond-2
-    part-respond-start-2
-    part-respond-end-2
     respond-requires
     same-length
     returns

@@ -1,7 +1,7 @@
--- The replies of the calls read have room, and a replay keeps the length of its list.
+-- The calls read stand whole in the script, their replies have room, and a replay keeps the length of its list.
 use native.Mathlib.Omega.{arith}
 use lib.ListN.{length}
-use Rattle.replay.proofs.ReplayLaws.{callsRead-room}
+use Rattle.replay.proofs.ReplayLaws.{callsRead-room, callsRead-bytes}
 use borrow.Author.Needs.{needs}
 use Rattle.script.proofs.run.Statement.{statement}
 use Rattle.script.proofs.run.Tie as tie
@@ -11,8 +11,9 @@ replay-requires c κs = search needs
 
 write-replies-requires : tie.Need-write-replies-requires
 write-replies-requires c κs =
-    let a = c .before .before .before .before .before .before .before .args in
-    let r = c .before .before .before .replay in
+    let replayed = c .before .before .before in
+    let a = replayed .before .before .before .before .args in
+    let r = replayed .replay in
     omega (arith, r .ensures .0, r .kept .1 .0, callsRead-room (a .script .now) (length (a .replies .now)))
 
 slice-aggregate-write-all : tie.Need-slice-aggregate-write-all
@@ -29,6 +30,24 @@ slice-aggregate-write-all-2 c = search needs
 
 write-all-requires-2 : tie.Need-write-all-requires-2
 write-all-requires-2 c κs = search needs
+
+differing-requires : tie.Need-differing-requires
+differing-requires c κs =
+    let replayed = c .before .before .before .before .before .before .before .before .before .before in
+    let a = replayed .before .before .before .before .args in
+    let r = replayed .replay in
+    let room = callsRead-room (a .script .now) (length (a .replies .now)) in
+    let bytes = callsRead-bytes (a .script .now) (length (a .replies .now)) in
+    (omega (arith, r .ensures .0, bytes), omega (arith, r .ensures .0, r .kept .1 .0, room))
+
+print-decimal-requires-2 : tie.Need-print-decimal-requires-2
+print-decimal-requires-2 c κs = search needs
+
+slice-aggregate-write-all-3 : tie.Need-slice-aggregate-write-all-3
+slice-aggregate-write-all-3 c = search needs
+
+write-all-requires-3 : tie.Need-write-all-requires-3
+write-all-requires-3 c κs = search needs
 
 same-length : tie.Need-same-length
 same-length c = search needs
@@ -47,5 +66,9 @@ run-spec =
     print-decimal-requires
     slice-aggregate-write-all-2
     write-all-requires-2
+    differing-requires
+    print-decimal-requires-2
+    slice-aggregate-write-all-3
+    write-all-requires-3
     same-length
     returns)

@@ -11,9 +11,9 @@ use std::process::exit;
 use std::time::Instant;
 
 use robequarry::codec::{INSIDE, OUTSIDE};
-use robequarry::limits::{LAST_CELL, LAST_CORNER, LONGEST, LONGEST_LIST, REPLY, SIDE};
-use robequarry::{Action, Reading};
-use robequarry_checks::case::{self, Case};
+use robequarry::limits::{LAST_CELL, LAST_CORNER, LONGEST, LONGEST_LIST, SIDE};
+use robequarry::{Action, PileCall, Reading};
+use robequarry_checks::case::{self, Case, Outcome};
 use robequarry_checks::draw::{any_taken, rotated, Shape};
 use robequarry_checks::engine::{Engine, Library, Live, Plain, Reference};
 use robequarry_checks::garbage;
@@ -41,9 +41,9 @@ const COMPARISONS: usize = 16_000;
 const READ: usize = 3_000;
 const PIECES: usize = 6_000;
 const SCRIPTS: usize = 24_000;
-const PILES: usize = 300;
+const PILES: usize = 1_000;
 
-/// Those that are held to the reference; a script is made call by call too.
+/// Those that are held to the reference. The calls of a script are also made one by one on a live holder, as bytes and by arguments.
 fn engines(case: &Case) -> &'static [&'static dyn Engine] {
     match case {
         Case::Script { .. } => &[&Library, &Plain, &Live],
@@ -132,8 +132,8 @@ impl Run {
         self.section(&format!("{name}, seed {seed}"), |run| part(run, &mut Random::new(seed)));
     }
 
-    /// Holds every engine to the reference: what it returns, and each lent list as a whole. Gives the reply's first number.
-    fn compare(&mut self, case: &Case) -> Option<u16> {
+    /// Holds every engine to the reference: what it writes, and each buffer as a whole. Gives what the reference does.
+    fn compare(&mut self, case: &Case) -> Outcome {
         let expected = case.run(&Reference);
         for &engine in engines(case) {
             let outcome = case.run(engine);
@@ -146,15 +146,14 @@ impl Run {
         }
         self.tally.count(case, &expected);
         self.compared += 1;
-        let first = expected.fields().next();
-        first.map(|reply| reply.number)
+        expected
     }
 
-    /// A test with room for every edge.
-    fn compare_test(&mut self, outline: Outline) -> u16 {
-        let case = Case::Test { outline: outline.clone(), lent: LONGEST_LIST, room: REPLY };
-        let number = self.compare(&case).expect("there is room for the reply");
-        taken_exactly_if_no_cell_is_missing(&outline, number);
+    /// A test with so much space for edges. Gives the reply's number.
+    fn compare_test(&mut self, outline: &Outline, space: usize) -> u16 {
+        let case = Case::Test { outline: outline.clone(), space };
+        let number = self.compare(&case).reply().number;
+        taken_exactly_if_no_cell_is_missing(outline, number);
         number
     }
 }
@@ -164,7 +163,7 @@ fn every_outline_of_3_by_3(run: &mut Run) {
     let last = LAST_CORNER - 3;
     for at in [Point::new(0, 0), Point::new(120, 77), Point::new(last, last)] {
         for outline in walks::outlines(3, at) {
-            run.compare_test(outline);
+            run.compare_test(&outline, LONGEST_LIST);
         }
     }
 }
@@ -172,7 +171,7 @@ fn every_outline_of_3_by_3(run: &mut Run) {
 fn every_outline_of_4_by_4(run: &mut Run) {
     let mut counts = BTreeMap::new();
     for outline in walks::outlines(4, Point::new(0, 0)) {
-        *counts.entry(run.compare_test(outline)).or_insert(0) += 1;
+        *counts.entry(run.compare_test(&outline, LONGEST_LIST)).or_insert(0) += 1;
     }
     let expected = BTreeMap::from([(0, 61_424), (8, 251_360), (9, 13_760)]);
     if counts != expected {
@@ -194,17 +193,13 @@ fn drawings_of(shape: Shape) -> usize {
 fn drawings(run: &mut Run, shape: Shape, random: &mut Random) {
     for _ in 0..drawings_of(shape) {
         let outline = shape.draw(random);
-        let (lent, room) = (garbage::lent(random), garbage::room(random));
-        let number = run.compare(&Case::Test { outline: outline.clone(), lent, room });
-        if let Some(number) = number {
-            taken_exactly_if_no_cell_is_missing(&outline, number);
-        }
-        if number == Some(0) {
+        let space = garbage::edge_space(random);
+        if run.compare_test(&outline, space) == 0 {
             cells_against_edges(run, &outline, random);
         }
         if outline.letters.len() <= 400 && random.once_in(12) {
             for place in 0..outline.letters.len() {
-                run.compare_test(rotated(&outline, place));
+                run.compare_test(&rotated(&outline, place), LONGEST_LIST);
             }
         }
     }
@@ -227,8 +222,8 @@ fn taken_exactly_if_no_cell_is_missing(outline: &Outline, number: u16) {
 /// The border of a taken outline's edges is that outline, clockwise from W (contract 6.3).
 fn border_again(run: &mut Run, outline: &Outline, anchor: Point, edges: &[i16], random: &mut Random) {
     let count = outline.letters.len();
-    let lent = [count, count + 5, count - 1, LONGEST][random.below(4)];
-    run.compare(&Case::Border { anchor, edges: edges.to_vec(), lent, room: REPLY });
+    let space = [count, count + 5, count - 1, LONGEST][random.below(4)];
+    run.compare(&Case::Border { anchor, edges: edges.to_vec(), space });
     let mut letters = vec![0; count];
     let reply = robequarry_checks::reference::tracing::border(anchor, edges, &mut letters);
     let reading = Outline { start: outline.start, letters: reading(outline.start, &outline.letters) };
@@ -251,7 +246,7 @@ fn cells_against_edges(run: &mut Run, outline: &Outline, random: &mut Random) {
         let mut near =
             |x: u16| (usize::from(x) + random.below(2 * reach)).saturating_sub(reach).min(usize::from(LAST_CELL)) as u16;
         let cell = Point::new(near(anchor.col), near(anchor.row));
-        run.compare(&Case::Loose { anchor, edges: edges.clone(), cell, room: REPLY });
+        run.compare(&Case::Loose { anchor, edges: edges.clone(), cell });
         let inside = robequarry_checks::reference::calls::loose_query(anchor, &edges, cell).word == INSIDE;
         if inside != enclosed.has((i32::from(cell.col), i32::from(cell.row))) {
             println!("the reference contradicts contract 8.4: {cell:?} {outline:?}");
@@ -294,7 +289,7 @@ fn every_two_small_polygons(run: &mut Run) {
             for code in 0..25 {
                 let first = case::Polygon { anchor: Point::new(4, 4), edges: one.clone() };
                 let second = case::Polygon { anchor: Point::new(2 + code % 5, 2 + code / 5), edges: other.clone() };
-                run.compare(&Case::Compare { first, second, room: REPLY });
+                run.compare(&Case::Compare { first, second });
             }
         }
     }
@@ -366,31 +361,20 @@ fn random_scripts(run: &mut Run, random: &mut Random) {
 
 /// Lists of calls on a pile, reply by reply. About as many checks pass as fail.
 fn random_piles(run: &mut Run, random: &mut Random) {
-    let mut numbers = [0u64; 23];
-    let mut passed = 0u64;
-    for _ in 0..PILES {
+    let (mut passed, mut failed) = (0, 0);
+    for i in 0..PILES {
         let (mut library, mut plain, mut reference) =
-            (robequarry::Pile::fresh(), plain::Pile::default(), reference::pile::Pile::default());
+            (piles::Mixed::new(i as u64), plain::Pile::default(), reference::pile::Pile::default());
         for call in piles::calls(random) {
             let expected = reference.call(&call);
-            let mut reply = [u16::MAX; REPLY + 2];
-            assert!(
-                !library.call_into(&call, &mut reply[..REPLY - 1]) && reply == [u16::MAX; REPLY + 2],
-                "no room: {call:?}"
-            );
-            assert!(library.call_into(&call, &mut reply), "room: {call:?}");
-            assert_eq!(<[u16; REPLY]>::from(expected), reply[..REPLY], "library: {call:?}");
-            assert_eq!(reply[REPLY..], [u16::MAX; 2], "what stands behind the reply: {call:?}");
-            assert_eq!(expected, plain.call(&call), "plain: {call:?}");
-            numbers[usize::from(expected.number)] += 1;
-            passed += u64::from(call == robequarry::PileCall::Check && expected.number == 0);
+            assert_eq!(library.call(&call), expected, "library: {call:?}");
+            assert_eq!(plain.call(&call), expected, "plain: {call:?}");
+            run.tally.count_pile(expected);
+            passed += u64::from(call == PileCall::Check && expected.number == 0);
+            failed += u64::from(expected.number == 21);
             run.compared += 1;
         }
     }
-    println!(
-        "{:>9} checks passed, {} named a section; 11, 12 and 22 were replied {}, {} and {} times",
-        passed, numbers[21], numbers[11], numbers[12], numbers[22]
-    );
-    let all = [8, 9, 11, 12, 21, 22].iter().all(|&number| numbers[number] > 0);
-    assert!(all && passed > numbers[21] / 3 && numbers[21] > passed / 3, "what the lists reach");
+    println!("{passed:>9} checks passed, {failed} named a section");
+    assert!(passed > failed / 3 && failed > passed / 3, "what the lists reach");
 }

@@ -9,15 +9,6 @@ use crate::{Fields, Point};
 pub const WIDTH: usize = LAST_CORNER as usize + 1;
 const CORNERS: usize = WIDTH * WIDTH;
 
-/// The corner that a letter reaches. Above the last corner in a number, beyond the sign too, if it is off the chart.
-#[inline]
-pub fn step((col, row): (u32, u32), letter: u8) -> (u32, u32) {
-    const COLS: [u32; 4] = [1, 0, u32::MAX, 0];
-    const ROWS: [u32; 4] = [0, 1, 0, u32::MAX];
-    let letter = usize::from(letter & 3);
-    (col.wrapping_add(COLS[letter]), row.wrapping_add(ROWS[letter]))
-}
-
 /// Whether a corner is none of the chart's.
 pub fn is_off_chart(corner: Point) -> bool {
     corner.col > LAST_CORNER || corner.row > LAST_CORNER

@@ -5,7 +5,7 @@ use robequarry::limits::LONGEST_LIST;
 
 use super::loose::{is_inside, is_off_chart, leads_once_round};
 use crate::case::Polygon;
-use crate::reply::{handing, placed};
+use crate::reply::{compared, placed};
 use crate::{Fields, Point};
 
 /// The lowest and the highest column and row of the corner cells; none where one is off the chart.
@@ -59,10 +59,10 @@ pub fn compare(first: &Polygon, second: &Polygon) -> Fields {
         }
     }
     match (first_alone, second_alone, both) {
-        (0, 0, _) => handing(EQUAL, 1),
-        (0, _, _) => handing(FIRST_WITHIN, 1),
-        (_, 0, _) => handing(SECOND_WITHIN, 2),
-        (_, _, 0) => handing(NO_COMMON, 0),
-        _ => handing(CROSSING, 0),
+        (0, 0, _) => compared(EQUAL, 1),
+        (0, _, _) => compared(FIRST_WITHIN, 1),
+        (_, 0, _) => compared(SECOND_WITHIN, 2),
+        (_, _, 0) => compared(NO_COMMON, 0),
+        _ => compared(CROSSING, 0),
     }
 }

@@ -1,9 +1,12 @@
-//! The holder, and a script of calls on it.
+//! The holder: calls on it by their arguments and as bytes, and a script of calls. What it keeps is as large as the library's, 8,584
+//! bytes. The calls that are measured are no part of their caller, as the library's are none.
 
 use robequarry::codec::{COLUMNS, INSIDE, NONE, OUTSIDE, SAME, TAKEN};
 use robequarry::limits::{CALL, LAST_LETTER, LONGEST, MOST_NUMBERS, PARTIES, PLACES, REPLY, SIDE};
-use robequarry::{Action, Call};
+use robequarry::raw::Reply;
+use robequarry::{Action, Call, Reading};
 
+use super::spans::Spans;
 use super::test::{find_edges, Edges};
 use super::{chart, loose, pieces, readings};
 use crate::reply::{numbered, placed, said, taken};
@@ -12,15 +15,16 @@ use crate::{Fields, Point};
 struct Draft {
     begun: bool,
     start: Point,
+    count: u16,
     letters: [u8; LONGEST],
-    count: usize,
 }
 
 struct Work {
     taken: bool,
     anchor: Point,
-    edges: Edges,
-    spans: [(u8, u8); SIDE as usize],
+    edges: u16,
+    numbers: [i16; MOST_NUMBERS],
+    spans: Spans,
 }
 
 struct Party {
@@ -28,68 +32,117 @@ struct Party {
     works: [Work; PLACES as usize],
 }
 
-/// A draft and four works for each party, in one place.
+/// A draft and four works for each party.
 pub struct Holder {
     parties: [Party; PARTIES as usize],
 }
 
 impl Default for Holder {
     fn default() -> Self {
-        Self::new()
+        Holder { parties: std::array::from_fn(|_| Party::new()) }
     }
 }
 
 impl Holder {
-    pub fn new() -> Self {
-        Holder { parties: std::array::from_fn(|_| Party::new()) }
+    #[inline(never)]
+    pub fn begin(&mut self, party: u8, start: Point) -> Fields {
+        self.act(party, |party| party.begin(start))
     }
 
-    #[inline]
-    pub fn answer(&mut self, call: Call) -> Fields {
-        let Some(party) = self.parties.get_mut(usize::from(call.party)) else {
-            return numbered(19);
+    #[inline(never)]
+    pub fn add(&mut self, party: u8, letter: u8) -> Fields {
+        self.act(party, |party| party.add(letter))
+    }
+
+    #[inline(never)]
+    pub fn drop_draft(&mut self, party: u8) -> Fields {
+        self.act(party, Party::drop_draft)
+    }
+
+    #[inline(never)]
+    pub fn clear(&mut self, party: u8, place: u8) -> Fields {
+        self.act(party, |party| party.clear(place))
+    }
+
+    #[inline(never)]
+    pub fn close(&mut self, party: u8, place: u8) -> Fields {
+        self.act(party, |party| party.close(place))
+    }
+
+    #[inline(never)]
+    pub fn query(&self, party: u8, place: u8, cell: Point) -> Fields {
+        self.ask(party, place, |work| work.query(cell))
+    }
+
+    #[inline(never)]
+    pub fn row(&self, party: u8, place: u8, row: u16) -> Fields {
+        self.ask(party, place, |work| work.row(row))
+    }
+
+    #[inline(never)]
+    pub fn reading(&self, party: u8, place: u8, reading: Reading) -> Fields {
+        self.ask(party, place, |work| readings::located(work.anchor, work.list(), reading))
+    }
+
+    /// A piece. The point of a move or a line is written to `point`.
+    #[inline(never)]
+    pub fn piece(&self, party: u8, place: u8, position: u16, point: &mut [f32; 2]) -> Fields {
+        let piece = self.ask(party, place, |work| pieces::piece(work.anchor, work.list(), position));
+        pieces::write_point(piece, point);
+        piece
+    }
+
+    /// One call as bytes. False, with nothing altered, if it is none.
+    #[inline(never)]
+    pub fn call(&mut self, call: &[u8], reply: &mut Reply) -> bool {
+        let Some(Call { party, action }) = call.try_into().ok().and_then(Call::read) else {
+            return false;
         };
-        match call.action {
-            Action::Begin(start) => party.begin(start.into()),
-            Action::Add(letter) => party.add(letter),
-            Action::Drop => party.drop_draft(),
-            Action::Clear { place } => party.clear(place.into()),
-            Action::Close { place } => party.close(place.into()),
-            Action::Query { place, cell } => party.ask(place, |work| work.query(cell.into())),
-            Action::Row { place, row } => party.ask(place, |work| work.row(row)),
+        let fields = match action {
+            Action::Begin(start) => self.act(party, |party| party.begin(start.into())),
+            Action::Add(letter) => self.act(party, |party| party.add(letter)),
+            Action::Drop => self.act(party, Party::drop_draft),
+            Action::Clear { place } => self.act(party, |party| party.clear(place)),
+            Action::Close { place } => self.close(party, place),
+            Action::Query { place, cell } => self.ask(party, place, |work| work.query(cell.into())),
+            Action::Row { place, row } => self.ask(party, place, |work| work.row(row)),
             Action::Reading { place, reading } => {
-                party.ask(place, |work| readings::located(work.anchor, work.edges.list(), reading))
+                self.ask(party, place, |work| readings::located(work.anchor, work.list(), reading))
             }
             Action::Piece { place, position } => {
-                party.ask(place, |work| pieces::piece(work.anchor, work.edges.list(), position))
+                self.ask(party, place, |work| pieces::piece(work.anchor, work.list(), position))
             }
+        };
+        *reply = fields.into();
+        true
+    }
+
+    /// Makes it so that there is a draft, or none, as a benchmark of begins and drops needs it.
+    #[inline]
+    pub fn set_begun(&mut self, party: u8, begun: bool) {
+        self.parties[usize::from(party)].draft.begun = begun;
+    }
+
+    /// 19, or what is done for the party.
+    #[inline]
+    fn act(&mut self, party: u8, action: impl FnOnce(&mut Party) -> Fields) -> Fields {
+        match self.parties.get_mut(usize::from(party)) {
+            None => numbered(19),
+            Some(party) => action(party),
         }
     }
 
-    /// One call as bytes. False, with nothing altered, if it is none or the reply has no room.
+    /// 19, 20, 12, or what is said of the work.
     #[inline]
-    pub fn call(&mut self, call: &[u8], reply: &mut [u16]) -> bool {
-        if reply.len() < REPLY {
-            return false;
-        }
-        let Ok(bytes) = <[u8; CALL]>::try_from(call) else {
-            return false;
+    fn ask(&self, party: u8, place: u8, answer: impl FnOnce(&Work) -> Fields) -> Fields {
+        let Some(party) = self.parties.get(usize::from(party)) else {
+            return numbered(19);
         };
-        let Some(call) = Call::read(bytes) else {
-            return false;
-        };
-        self.answer(call).write(reply)
-    }
-
-    /// A piece with its point. False, with nothing altered, if the reply has no room.
-    #[inline]
-    pub fn piece(&mut self, party: u8, place: u8, position: u16, point: &mut [f32], reply: &mut [u16]) -> bool {
-        let piece = self.answer(Action::Piece { place, position }.by(party));
-        let written = piece.write(reply);
-        if written {
-            pieces::write_point(piece, point);
+        match party.works.get(usize::from(place)) {
+            None => numbered(20),
+            Some(work) if !work.taken => numbered(12),
+            Some(work) => answer(work),
         }
-        written
     }
 }
 
@@ -97,16 +150,18 @@ impl Party {
     fn new() -> Self {
         let nowhere = Point::new(0, 0);
         Party {
-            draft: Draft { begun: false, start: nowhere, letters: [0; LONGEST], count: 0 },
+            draft: Draft { begun: false, start: nowhere, count: 0, letters: [0; LONGEST] },
             works: std::array::from_fn(|_| Work {
                 taken: false,
                 anchor: nowhere,
-                edges: Edges { numbers: [0; MOST_NUMBERS], count: 0 },
-                spans: [(0, 0); SIDE as usize],
+                edges: 0,
+                numbers: [0; MOST_NUMBERS],
+                spans: Spans::NONE,
             }),
         }
     }
 
+    #[inline]
     fn begin(&mut self, start: Point) -> Fields {
         if self.draft.begun {
             return numbered(14);
@@ -120,22 +175,24 @@ impl Party {
         numbered(0)
     }
 
+    #[inline]
     fn add(&mut self, letter: u8) -> Fields {
         let draft = &mut self.draft;
         if !draft.begun {
             return numbered(13);
         }
-        if draft.count == LONGEST {
+        let Some(space) = draft.letters.get_mut(usize::from(draft.count)) else {
             return numbered(15);
-        }
+        };
         if letter > LAST_LETTER {
-            return placed(3, draft.count);
+            return placed(3, draft.count.into());
         }
-        draft.letters[draft.count] = letter;
+        *space = letter;
         draft.count += 1;
         numbered(0)
     }
 
+    #[inline]
     fn drop_draft(&mut self) -> Fields {
         if !self.draft.begun {
             return numbered(13);
@@ -144,61 +201,62 @@ impl Party {
         numbered(0)
     }
 
-    fn clear(&mut self, place: usize) -> Fields {
-        let Some(work) = self.works.get_mut(place) else {
+    #[inline]
+    fn clear(&mut self, place: u8) -> Fields {
+        let Some(work) = self.works.get_mut(usize::from(place)) else {
             return numbered(20);
         };
         work.taken = false;
         numbered(0)
     }
 
-    fn close(&mut self, place: usize) -> Fields {
+    fn close(&mut self, place: u8) -> Fields {
         let draft = &mut self.draft;
         let begun = std::mem::replace(&mut draft.begun, false);
-        let Some(work) = self.works.get_mut(place) else {
+        let Some(work) = self.works.get_mut(usize::from(place)) else {
             return numbered(20);
         };
         if !begun {
             return numbered(13);
         }
-        let letters = &draft.letters[..draft.count];
+        let letters = &draft.letters[..usize::from(draft.count)];
         let mut edges = Edges { numbers: [0; MOST_NUMBERS], count: 0 };
         let anchor = match find_edges(draft.start, letters, &mut edges) {
             Ok(anchor) => anchor,
             Err(refusal) => return refusal,
         };
-        let same = work.taken && anchor == work.anchor && edges.list() == work.edges.list();
+        let list = edges.list();
+        let same = work.taken && anchor == work.anchor && list == work.list();
         work.taken = true;
         work.anchor = anchor;
-        work.edges = edges;
-        work.spans = spans(draft.start, letters);
-        Fields { word: if same { SAME } else { TAKEN }, ..taken(work.edges.count, anchor) }
-    }
-
-    /// 20, 12, or what is said of the work.
-    #[inline]
-    fn ask(&self, place: u8, answer: impl FnOnce(&Work) -> Fields) -> Fields {
-        match self.works.get(usize::from(place)) {
-            None => numbered(20),
-            Some(work) if !work.taken => numbered(12),
-            Some(work) => answer(work),
-        }
+        work.edges = edges.count as u16;
+        work.numbers[..list.len()].copy_from_slice(list);
+        work.spans.put(draft.start, letters);
+        Fields { word: if same { SAME } else { TAKEN }, ..taken(edges.count, anchor) }
     }
 }
 
 impl Work {
+    /// The numbers of the edges.
+    #[inline]
+    fn list(&self) -> &[i16] {
+        &self.numbers[..2 * usize::from(self.edges)]
+    }
+
+    #[inline]
     fn query(&self, cell: Point) -> Fields {
         if loose::is_off_chart(cell) {
             return numbered(11);
         }
-        let inside = loose::is_inside(self.anchor, self.edges.list(), cell);
-        said(if inside { INSIDE } else { OUTSIDE })
+        said(if self.spans.has(cell) { INSIDE } else { OUTSIDE })
     }
 
+    #[inline]
     fn row(&self, row: u16) -> Fields {
-        let Some(&(first, past)) = self.spans.get(usize::from(row)) else {
+        if row >= SIDE {
             return numbered(11);
-        };
+        }
+        let (first, past) = (self.spans.first[usize::from(row)], self.spans.past[usize::from(row)]);
         if first < past {
             Fields { col: first.into(), row: u16::from(past) - 1, ..said(COLUMNS) }
         } else {
@@ -207,36 +265,12 @@ impl Work {
     }
 }
 
-/// Each row from its first enclosed column to one past its last; both the same where there is none.
-fn spans(start: Point, letters: &[u8]) -> [(u8, u8); SIDE as usize] {
-    let mut spans = [(u8::MAX, 0); SIDE as usize];
-    let (mut col, mut row) = (start.col as u8, usize::from(start.row));
-    for &letter in letters {
-        let along = match letter {
-            0 => {
-                col += 1;
-                continue;
-            }
-            1 => row,
-            2 => {
-                col -= 1;
-                continue;
-            }
-            _ => row - 1,
-        };
-        row = if letter == 1 { row + 1 } else { row - 1 };
-        let (first, past) = &mut spans[along];
-        (*first, *past) = ((*first).min(col), (*past).max(col));
-    }
-    spans
-}
-
-/// Runs a script from a fresh holder and writes a reply for each call. The result is how many were written.
+/// Runs a script from a fresh holder and writes a reply for each call. Returns how many were written.
 pub fn replay(script: &[u8], replies: &mut [u16]) -> usize {
-    let mut holder = Holder::new();
+    let mut holder = Holder::default();
     let mut written = 0;
     for (call, reply) in script.chunks_exact(CALL).zip(replies.chunks_exact_mut(REPLY)) {
-        if !holder.call(call, reply) {
+        if !holder.call(call, reply.try_into().expect("a chunk is as long")) {
             break;
         }
         written += 1;

@@ -24,7 +24,7 @@ pub fn is_off_chart(cell: Point) -> bool {
     cell.col > LAST_CELL || cell.row > LAST_CELL
 }
 
-/// No edge is nil, each direction comes sooner than the next, clockwise from up, and the edges sum to nil.
+/// No edge is zero, each direction comes sooner than the next, clockwise from up, and the edges sum to zero.
 pub fn leads_once_round(edges: &[i16]) -> bool {
     let mut last = None;
     let (mut x, mut y) = (0, 0);

@@ -11,6 +11,7 @@ mod loose;
 mod pieces;
 mod pile;
 mod readings;
+mod spans;
 mod test;
 mod tracing;
 mod words;

@@ -17,9 +17,10 @@ pub fn piece(anchor: Point, edges: &[i16], position: u16) -> Fields {
     Fields { col: at.col, row: at.row, ..said(if position == 0 { MOVE } else { LINE }) }
 }
 
-/// Writes the point of a move or a line at the front of a list, if it has room there.
-pub fn write_point(piece: Fields, list: &mut [f32]) {
-    if let (MOVE | LINE, Some(front)) = (piece.word, list.first_chunk_mut()) {
-        *front = [f32::from(piece.col) + 0.5, f32::from(piece.row) + 0.5];
+/// Writes the point of a move or a line.
+#[inline]
+pub fn write_point(piece: Fields, point: &mut [f32; 2]) {
+    if let MOVE | LINE = piece.word {
+        *point = [f32::from(piece.col) + 0.5, f32::from(piece.row) + 0.5];
     }
 }

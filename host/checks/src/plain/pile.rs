@@ -1,26 +1,17 @@
-//! The library's pile in plain Rust: a layer as the runs of its rows, a section by the lines through the ends of two runs.
+//! The library's pile in plain Rust: a layer as the runs of its rows, a section by the lines through the ends of two runs. What it keeps
+//! is as large as the library's, 8,161 bytes. The calls that are measured are no part of their caller.
 
-use robequarry::pile::{PileCall, LAYERS};
-
-use super::chart::step;
-use super::test::test;
-use crate::reply::{numbered, said};
-use crate::{Fields, Outline, Point};
 use robequarry::codec::{INSIDE, OUTSIDE};
-use robequarry::limits::{LAST_CELL, MOST_NUMBERS, SIDE};
+use robequarry::limits::{LAST_CELL, LAYERS, MOST_NUMBERS};
+use robequarry::PileCall;
 
-const ROWS: usize = SIDE as usize;
+use super::spans::{Spans, ROWS};
+use super::test::{find_edges, Edges};
+use crate::reply::{numbered, said, taken};
+use crate::{Fields, Point};
+
 const DEPTH: usize = LAYERS as usize;
 
-#[derive(Clone, Copy)]
-struct Spans {
-    first: [u8; ROWS],
-    past: [u8; ROWS],
-}
-
-const NONE: Spans = Spans { first: [0; ROWS], past: [0; ROWS] };
-
-#[derive(Clone)]
 pub struct Pile {
     layers: [Spans; DEPTH],
     passed: bool,
@@ -28,108 +19,158 @@ pub struct Pile {
 
 impl Default for Pile {
     fn default() -> Self {
-        Pile { layers: [NONE; DEPTH], passed: false }
+        Pile { layers: [Spans::NONE; DEPTH], passed: false }
     }
 }
 
 impl Pile {
     pub fn call(&mut self, call: &PileCall) -> Fields {
         match call {
-            PileCall::Set(layer, _) | PileCall::SetEmpty(layer) | PileCall::Query(layer, _) if *layer >= LAYERS => {
-                numbered(22)
-            }
-            PileCall::Set(layer, outline) => {
-                let outline = Outline { start: outline.start.into(), letters: outline.letters.clone() };
-                let reply = test(outline.start, &outline.letters, &mut [0; MOST_NUMBERS]);
-                if reply.number == 0 {
-                    self.put(*layer, spans(&outline));
-                }
-                reply
-            }
-            PileCall::SetEmpty(layer) => {
-                self.put(*layer, NONE);
-                Fields::default()
-            }
+            PileCall::Set(layer, outline) => self.set(*layer, outline.start.into(), &outline.letters),
+            PileCall::SetEmpty(layer) => self.empty(*layer),
             PileCall::Check => self.check(),
-            PileCall::Query(..) if !self.passed => numbered(12),
-            PileCall::Query(_, cell) if cell.col > LAST_CELL || cell.row > LAST_CELL => numbered(11),
-            PileCall::Query(layer, cell) => {
-                let (spans, row) = (&self.layers[usize::from(*layer)], usize::from(cell.row));
-                let inside = (u16::from(spans.first[row])..u16::from(spans.past[row])).contains(&cell.col);
-                said(if inside { INSIDE } else { OUTSIDE })
+            PileCall::Query(layer, cell) => self.query(*layer, (*cell).into()),
+        }
+    }
+
+    #[inline(never)]
+    pub fn set(&mut self, layer: u8, start: Point, letters: &[u8]) -> Fields {
+        let Some(spans) = self.layers.get_mut(usize::from(layer)) else {
+            return numbered(22);
+        };
+        let mut edges = Edges { numbers: [0; MOST_NUMBERS], count: 0 };
+        match find_edges(start, letters, &mut edges) {
+            Err(refusal) => refusal,
+            Ok(anchor) => {
+                spans.put(start, letters);
+                self.passed = false;
+                taken(edges.count, anchor)
             }
         }
     }
 
-    fn put(&mut self, layer: u8, spans: Spans) {
-        self.layers[usize::from(layer)] = spans;
+    #[inline(never)]
+    pub fn empty(&mut self, layer: u8) -> Fields {
+        let Some(spans) = self.layers.get_mut(usize::from(layer)) else {
+            return numbered(22);
+        };
+        *spans = Spans::NONE;
         self.passed = false;
+        numbered(0)
     }
 
+    #[inline(never)]
+    pub fn query(&self, layer: u8, cell: Point) -> Fields {
+        let Some(spans) = self.layers.get(usize::from(layer)) else {
+            return numbered(22);
+        };
+        if !self.passed {
+            return numbered(12);
+        }
+        if cell.col > LAST_CELL || cell.row > LAST_CELL {
+            return numbered(11);
+        }
+        said(if spans.has(cell) { INSIDE } else { OUTSIDE })
+    }
+
+    #[inline(never)]
     pub fn check(&mut self) -> Fields {
         let dented = |kind, at| Fields { number: 21, piece: kind, place: at as u16, ..Fields::default() };
-        let column = (0..ROWS).find(|&at| !is_clear(&self.column(at as u8)));
-        let dent = column
-            .map(|at| dented(0, at))
-            .or_else(|| (0..ROWS).find(|&at| !is_clear(&self.row(at))).map(|at| dented(1, at)));
+        let reach = self.reach();
+        let column = first_dented(|at| self.column(&reach, at as u8));
+        let dent = column.map(|at| dented(0, at)).or_else(|| first_dented(|at| self.row(at)).map(|at| dented(1, at)));
         self.passed = dent.is_none();
         dent.unwrap_or_default()
     }
 
-    fn column(&self, col: u8) -> Section {
-        let mut section = [(0, 0); DEPTH];
-        for (run, spans) in section.iter_mut().zip(&self.layers) {
+    /// The section at a column. The rows of a layer with that column are among those that it reaches.
+    fn column(&self, reach: &Section, col: u8) -> Section {
+        let mut section = Section::EMPTY;
+        for (l, spans) in self.layers.iter().enumerate() {
             let has = |&row: &usize| spans.first[row] <= col && col < spans.past[row];
-            let low = (0..ROWS).find(has).unwrap_or(ROWS);
-            let past = (0..ROWS).rev().find(has).map_or(0, |row| row + 1);
-            *run = (low, past);
+            let rows = usize::from(reach.lo[l])..usize::from(reach.past[l]);
+            if let Some(low) = rows.clone().find(has) {
+                let high = (low..rows.end).rev().find(has).unwrap_or(low);
+                (section.lo[l], section.past[l]) = (low as u8, high as u8 + 1);
+            }
         }
         section
     }
 
     fn row(&self, row: usize) -> Section {
-        self.layers.each_ref().map(|spans| (usize::from(spans.first[row]), usize::from(spans.past[row])))
+        let of = |column: fn(&Spans) -> &[u8; ROWS]| self.layers.each_ref().map(|spans| column(spans)[row]);
+        Section { lo: of(|spans| &spans.first), past: of(|spans| &spans.past) }
     }
-}
 
-/// Of each layer the first marked number, and the one after the last.
-type Section = [(usize, usize); DEPTH];
-
-fn is_clear(section: &Section) -> bool {
-    (0..DEPTH).all(|j| is_whole(section, j))
-}
-
-fn is_whole(section: &Section, j: usize) -> bool {
-    let is_full = |l: usize| section[l].0 < section[l].1;
-    let (mut low, mut high) = if is_full(j) { section[j] } else { (ROWS, 0) };
-    for i in (0..j).filter(|&i| is_full(i)) {
-        for k in (j + 1..DEPTH).filter(|&k| is_full(k)) {
-            let (near, far, d) = (j - i, k - j, k - i);
-            let below = far * section[i].0 + near * section[k].0;
-            let over = far * (section[i].1 - 1) + near * (section[k].1 - 1);
-            if below + d <= d * low {
-                low = below.div_ceil(d);
-            }
-            if d * high <= over {
-                high = over / d + 1;
+    /// The rows of each layer that have a cell.
+    fn reach(&self) -> Section {
+        let mut reach = Section::EMPTY;
+        for (l, spans) in self.layers.iter().enumerate() {
+            let has_cell = |&row: &usize| spans.first[row] < spans.past[row];
+            if let Some(low) = (0..ROWS).find(has_cell) {
+                let high = (low..ROWS).rev().find(has_cell).unwrap_or(low);
+                (reach.lo[l], reach.past[l]) = (low as u8, high as u8 + 1);
             }
         }
+        reach
     }
-    high <= low || (section[j].0 <= low && high <= section[j].1)
 }
 
-/// Each row from one vertical side along it to the other.
-fn spans(outline: &Outline) -> Spans {
-    let (mut up, mut down) = ([0u8; ROWS + 1], [0u8; ROWS + 1]);
-    let Point { col, row } = outline.start;
-    let mut at = (u32::from(col), u32::from(row));
-    for &letter in &outline.letters {
-        match letter {
-            1 => up[at.1 as usize] = at.0 as u8,
-            3 => down[at.1 as usize - 1] = at.0 as u8,
-            _ => {}
-        }
-        at = step(at, letter);
+/// Of each layer the first marked number, and the one after the last; the same where there is none.
+#[derive(Clone, Copy, PartialEq)]
+struct Section {
+    lo: [u8; DEPTH],
+    past: [u8; DEPTH],
+}
+
+impl Section {
+    const EMPTY: Section = Section { lo: [0; DEPTH], past: [0; DEPTH] };
+
+    fn is_clear(&self) -> bool {
+        (0..DEPTH).all(|j| self.is_whole(j))
     }
-    Spans { first: std::array::from_fn(|r| up[r].min(down[r])), past: std::array::from_fn(|r| up[r].max(down[r])) }
+
+    /// The hull has no cell in layer `j`, or all of them are in the layer's run.
+    fn is_whole(&self, j: usize) -> bool {
+        let run = |l: usize| (u32::from(self.lo[l]), u32::from(self.past[l]));
+        let (first, past) = run(j);
+        let (mut low, mut high) = if first < past { (first, past) } else { (ROWS as u32, 0) };
+        for i in 0..j {
+            let (lo, hi) = run(i);
+            if lo >= hi {
+                continue;
+            }
+            for k in j + 1..DEPTH {
+                let (other_lo, other_hi) = run(k);
+                if other_lo >= other_hi {
+                    continue;
+                }
+                let (near, far, d) = ((j - i) as u32, (k - j) as u32, (k - i) as u32);
+                let below = far * lo + near * other_lo;
+                let over = far * (hi - 1) + near * (other_hi - 1);
+                // A quotient is computed only where it moves a bound.
+                if below + d <= d * low {
+                    low = below.div_ceil(d);
+                }
+                if d * high <= over {
+                    high = over / d + 1;
+                }
+            }
+        }
+        high <= low || (first <= low && high <= past)
+    }
+}
+
+/// The first place whose section is dented. A section that is the same as the one before it is not tested again.
+fn first_dented(section: impl Fn(usize) -> Section) -> Option<usize> {
+    let mut last = section(0);
+    if !last.is_clear() {
+        return Some(0);
+    }
+    (1..ROWS).find(|&at| {
+        let next = section(at);
+        let is_dented = next != last && !next.is_clear();
+        last = next;
+        is_dented
+    })
 }

@@ -23,6 +23,7 @@ fn is_off_chart(number: f32) -> bool {
 }
 
 /// One walk along the edges: the computed side values, and the extremes of the corner cells.
+#[inline]
 fn word(anchor: Point, edges: &[i16], angle: f32, load: f32) -> u16 {
     let (mut x, mut y) = (f32::from(anchor.col), f32::from(anchor.row));
     let (mut left, mut right, mut bottom, mut top) = (x, x, y, y);
@@ -36,10 +37,11 @@ fn word(anchor: Point, edges: &[i16], angle: f32, load: f32) -> u16 {
         near |= side < SIXTY_FOURTH;
         x += dx;
         y += dy;
-        left = left.min(x);
-        right = right.max(x);
-        bottom = bottom.min(y);
-        top = top.max(y);
+        // All are numbers, so that a comparison is enough.
+        left = if x < left { x } else { left };
+        right = if x > right { x } else { right };
+        bottom = if y < bottom { y } else { bottom };
+        top = if y > top { y } else { top };
     }
     match left <= angle && angle <= right && bottom <= load && load <= top {
         false => OUTSIDE,

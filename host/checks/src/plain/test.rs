@@ -21,18 +21,19 @@ struct Dent {
     length: usize,
 }
 
-/// The test with a lent list for edges.
-pub fn test(start: Point, letters: &[u8], lent: &mut [i16]) -> Fields {
+/// The test with a buffer for edges.
+#[inline]
+pub fn test(start: Point, letters: &[u8], buffer: &mut [i16]) -> Fields {
     let mut edges = Edges { numbers: [0; MOST_NUMBERS], count: 0 };
     let anchor = match find_edges(start, letters, &mut edges) {
         Ok(anchor) => anchor,
         Err(refusal) => return refusal,
     };
     let numbers = &edges.numbers[..2 * edges.count];
-    if lent.len() < numbers.len() {
+    if buffer.len() < numbers.len() {
         return placed(10, edges.count);
     }
-    lent[..numbers.len()].copy_from_slice(numbers);
+    buffer[..numbers.len()].copy_from_slice(numbers);
     taken(edges.count, anchor)
 }
 

@@ -8,7 +8,7 @@ use super::test::{find_edges, Edges};
 use crate::reply::{numbered, placed};
 use crate::{Fields, Point};
 
-pub fn border(anchor: Point, edges: &[i16], lent: &mut [u8]) -> Fields {
+pub fn border(anchor: Point, edges: &[i16], buffer: &mut [u8]) -> Fields {
     if edges.len() % 2 == 1 || edges.len() > LONGEST_LIST {
         return numbered(10);
     }
@@ -28,10 +28,10 @@ pub fn border(anchor: Point, edges: &[i16], lent: &mut [u8]) -> Fields {
     if !is_taken_as(anchor, letters, edges) {
         return numbered(17);
     }
-    if lent.len() < count {
+    if buffer.len() < count {
         return numbered(18);
     }
-    lent[..count].copy_from_slice(letters);
+    buffer[..count].copy_from_slice(letters);
     placed(0, count)
 }
 

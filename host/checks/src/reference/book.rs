@@ -2,6 +2,7 @@
 
 use robequarry::codec::{COLUMNS, INSIDE, NONE, OUTSIDE, SAME, TAKEN};
 use robequarry::limits::{LONGEST, PARTIES, PLACES, REPLY, SIDE};
+use robequarry::raw::Reply;
 use robequarry::{Action, Call};
 
 use super::calls;
@@ -26,7 +27,7 @@ struct Page {
 }
 
 impl Book {
-    /// 19 comes first; else the party's page alone is read and turned.
+    /// 19 comes first; else the party's page alone is read and written.
     pub fn answer(&mut self, call: Call) -> Fields {
         match self.pages.get_mut(usize::from(call.party)) {
             None => numbered(19),
@@ -103,7 +104,7 @@ impl Page {
         numbered(0)
     }
 
-    /// Contract 7.7. The draft ends, also where 20 turns the close back.
+    /// Contract 7.7. The draft ends, also where 20 refuses the close.
     fn close(&mut self, place: usize) -> Fields {
         let draft = self.draft.take();
         let Some(work) = self.works.get_mut(place) else {
@@ -162,12 +163,12 @@ fn encloses_the_same(one: &Outline, other: &Outline) -> bool {
     cells(one) == cells(other)
 }
 
-/// The replies to a script (contract 10.3), as many as have room. The result is their count.
+/// The replies to a script (contract 10.3), as many as there is space for. Returns their count.
 pub fn replay(script: &[u8], replies: &mut [u16]) -> usize {
     let mut book = Book::default();
     let mut written = 0;
     for (call, reply) in Call::each(script).zip(replies.chunks_exact_mut(REPLY)) {
-        book.answer(call).write(reply);
+        reply.copy_from_slice(&Reply::from(book.answer(call)));
         written += 1;
     }
     written

@@ -10,7 +10,7 @@ use super::walk;
 use crate::reply::{numbered, placed, said, taken};
 use crate::{Fields, Point};
 
-/// What a test replies if the lent list is long enough, and the edges, which are none unless it is taken.
+/// What a test replies if the buffer is long enough, and the edges, which are none unless it is taken.
 pub struct Tested {
     pub reply: Fields,
     pub edges: Vec<(i32, i32)>,
@@ -52,14 +52,14 @@ pub fn test(start: Point, letters: &[u8]) -> Tested {
     Tested { reply: taken(edges.len(), Point::new(col as u16, row as u16)), edges }
 }
 
-/// The test with a lent list for edges, two numbers an edge.
-pub fn test_into(start: Point, letters: &[u8], lent: &mut [i16]) -> Fields {
+/// The test with a buffer for edges, two numbers an edge.
+pub fn test_into(start: Point, letters: &[u8], buffer: &mut [i16]) -> Fields {
     let tested = test(start, letters);
-    // 10: room for two numbers of each edge.
-    if lent.len() < 2 * tested.edges.len() {
+    // 10: space for two numbers of each edge.
+    if buffer.len() < 2 * tested.edges.len() {
         return placed(10, tested.edges.len());
     }
-    for (pair, &(cols, rows)) in lent.chunks_exact_mut(2).zip(&tested.edges) {
+    for (pair, &(cols, rows)) in buffer.chunks_exact_mut(2).zip(&tested.edges) {
         pair[0] = i16::try_from(cols).expect("an edge fits the chart");
         pair[1] = i16::try_from(rows).expect("an edge fits the chart");
     }

@@ -8,7 +8,7 @@ use robequarry::limits::{LAST_CELL, LONGEST_LIST};
 use super::cells::{Cell, Hull};
 use super::edges::{bad_turning, corner_cells};
 use crate::case::Polygon;
-use crate::reply::{handing, placed};
+use crate::reply::{compared, placed};
 use crate::Fields;
 
 /// The cells of the hull, each tested by itself: every one lies between the corner cells.
@@ -53,10 +53,10 @@ pub fn compare(first: &Polygon, second: &Polygon) -> Fields {
     }
     let (one, other) = (cells(first), cells(second));
     match (one.is_subset(&other), other.is_subset(&one), one.is_disjoint(&other)) {
-        (true, true, _) => handing(EQUAL, 1),
-        (true, false, _) => handing(FIRST_WITHIN, 1),
-        (false, true, _) => handing(SECOND_WITHIN, 2),
-        (false, false, true) => handing(NO_COMMON, 0),
-        (false, false, false) => handing(CROSSING, 0),
+        (true, true, _) => compared(EQUAL, 1),
+        (true, false, _) => compared(FIRST_WITHIN, 1),
+        (false, true, _) => compared(SECOND_WITHIN, 2),
+        (false, false, true) => compared(NO_COMMON, 0),
+        (false, false, false) => compared(CROSSING, 0),
     }
 }

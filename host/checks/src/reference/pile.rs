@@ -1,13 +1,13 @@
 //! A pile (contract 12): sixteen sets of cells, and each section's hull by the cells of all its layers.
 
-use robequarry::pile::{PileCall, LAYERS};
+use robequarry::codec::{INSIDE, OUTSIDE};
+use robequarry::limits::{LAYERS, LONGEST_LIST, SIDE};
+use robequarry::PileCall;
 
 use super::calls::{off_chart, test_into};
 use super::cells::{Enclosed, Hull};
 use crate::reply::{numbered, said};
 use crate::{Fields, Point};
-use robequarry::codec::{INSIDE, OUTSIDE};
-use robequarry::limits::{LONGEST_LIST, SIDE};
 
 pub struct Pile {
     layers: Vec<Option<Enclosed>>,

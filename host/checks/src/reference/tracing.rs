@@ -11,8 +11,8 @@ use super::edges::{bad_turning, corner_cells, steps};
 use crate::reply::{numbered, placed};
 use crate::{Fields, Point};
 
-/// The border, with a lent list for its letters.
-pub fn border(anchor: Point, edges: &[i16], lent: &mut [u8]) -> Fields {
+/// The border, with a buffer for its letters.
+pub fn border(anchor: Point, edges: &[i16], buffer: &mut [u8]) -> Fields {
     // 10: the count of numbers.
     if edges.len() % 2 == 1 || edges.len() > LONGEST_LIST {
         return numbered(10);
@@ -25,15 +25,15 @@ pub fn border(anchor: Point, edges: &[i16], lent: &mut [u8]) -> Fields {
     if bad_turning(edges) {
         return numbered(16);
     }
-    // 17: no taken outline has this anchor and these edges.
+    // 17: the test takes no outline with this anchor and these edges.
     let Some(letters) = outline_with(anchor, edges) else {
         return numbered(17);
     };
-    // 18: the lent list is too short.
-    if lent.len() < letters.len() {
+    // 18: the buffer is too short.
+    if buffer.len() < letters.len() {
         return numbered(18);
     }
-    lent[..letters.len()].copy_from_slice(&letters);
+    buffer[..letters.len()].copy_from_slice(&letters);
     placed(0, letters.len())
 }
 

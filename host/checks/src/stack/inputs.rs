@@ -1,13 +1,15 @@
 //! The inputs whose need of stack is measured, the same in each run.
 
-use robequarry::limits::{CALL, LAST_CORNER, LAST_LETTER, LONGEST, LONGEST_LIST, PARTIES, PLACES, REPLY, SHORTEST, SIDE};
-use robequarry::{Action, Call, Cell, Reading};
+use robequarry::limits::{
+    CALL, LAST_CORNER, LAST_LETTER, LAYERS, LONGEST, LONGEST_LIST, PARTIES, PLACES, REPLY, SHORTEST, SIDE,
+};
+use robequarry::{Action, Call, Cell, PileCall, Reading};
 
 use crate::case::{Asked, Case, Polygon};
 use crate::draw::{reversed, round_outline, whole_chart, with_a_cell_flipped, Shape};
 use crate::random::Random;
 use crate::reference::calls;
-use crate::{garbage, polygons, scripts, Outline, Point};
+use crate::{garbage, piles, polygons, scripts, Outline, Point};
 
 const SEED: u64 = 1;
 
@@ -33,6 +35,22 @@ pub fn all() -> Vec<Case> {
         cases.push(scripts::script(&mut random));
     }
     cases
+}
+
+/// Lists of calls on a pile: every outline as a layer, with calls that are refused; and lists that are drawn.
+pub fn piles() -> Vec<Vec<PileCall>> {
+    let mut random = Random::new(SEED);
+    let layer = |i: usize| (i % usize::from(LAYERS)) as u8;
+    let mut calls = Vec::new();
+    for (i, outline) in outlines(&mut random).into_iter().enumerate() {
+        let cell = outline.start.into();
+        calls.push(PileCall::Set(layer(i), robequarry::Outline::new(outline.start.into(), outline.letters)));
+        calls.extend([PileCall::Check, PileCall::Query(layer(i), cell), PileCall::Query(LAYERS, cell)]);
+    }
+    calls.extend((0..=LAYERS).map(PileCall::SetEmpty));
+    calls.extend([PileCall::Check, PileCall::Query(0, Cell::new(SIDE, 0)), PileCall::Query(0, Cell::new(0, 0))]);
+    let drawn = (0..DRAWN / 4).map(|_| piles::calls(&mut random));
+    std::iter::once(calls).chain(drawn).collect()
 }
 
 /// Outlines that are taken, dented or have a back-step, as long as there are; and one for each refusal before those.
@@ -69,36 +87,34 @@ fn dented(random: &mut Random, outline: &Outline) -> Outline {
     }
 }
 
-/// A test with room for every edge, for no edge, and without room for the reply.
-fn tests(outline: &Outline) -> [Case; 3] {
-    let test = |lent, room| Case::Test { outline: outline.clone(), lent, room };
-    [test(LONGEST_LIST, REPLY), test(0, REPLY), test(LONGEST_LIST, REPLY - 1)]
+/// A test with space for every edge, and for no edge.
+fn tests(outline: &Outline) -> [Case; 2] {
+    [LONGEST_LIST, 0].map(|space| Case::Test { outline: outline.clone(), space })
 }
 
 /// The edges of each taken outline at its anchor, which walks all of them, and their border; the longest list; and those that are refused.
 fn loose_queries(outlines: &[Outline]) -> Vec<Case> {
-    let query = |anchor, edges, cell, room| Case::Loose { anchor, edges, cell, room };
+    let query = |anchor, edges, cell| Case::Loose { anchor, edges, cell };
     let nowhere = Point::new(0, 0);
     let mut cases = vec![
-        query(nowhere, vec![0; LONGEST_LIST], nowhere, REPLY),
-        query(nowhere, vec![i16::MAX; LONGEST_LIST], nowhere, REPLY),
-        query(nowhere, vec![0; LONGEST_LIST + 2], nowhere, REPLY),
-        query(nowhere, vec![0; LONGEST_LIST - 1], nowhere, REPLY),
-        query(nowhere, Vec::new(), Point::new(SIDE, 0), REPLY),
-        query(nowhere, Vec::new(), nowhere, REPLY - 1),
+        query(nowhere, vec![0; LONGEST_LIST], nowhere),
+        query(nowhere, vec![i16::MAX; LONGEST_LIST], nowhere),
+        query(nowhere, vec![0; LONGEST_LIST + 2], nowhere),
+        query(nowhere, vec![0; LONGEST_LIST - 1], nowhere),
+        query(nowhere, Vec::new(), Point::new(SIDE, 0)),
     ];
     for outline in outlines {
         let tested = calls::test(outline.start, &outline.letters);
         let anchor = Point::new(tested.reply.col, tested.reply.row);
         let edges: Vec<i16> = tested.edges.iter().flat_map(|&(cols, rows)| [cols as i16, rows as i16]).collect();
-        cases.push(query(anchor, edges.clone(), anchor, REPLY));
-        cases.push(Case::Border { anchor, edges: edges.clone(), lent: LONGEST, room: REPLY });
-        cases.push(Case::Border { anchor, edges, lent: 0, room: REPLY });
+        cases.push(query(anchor, edges.clone(), anchor));
+        cases.push(Case::Border { anchor, edges: edges.clone(), space: LONGEST });
+        cases.push(Case::Border { anchor, edges, space: 0 });
     }
     cases
 }
 
-/// The edges of each taken outline with those of the next and with its own, a cell with itself and beside itself, and those that are refused.
+/// The edges of each taken outline with those of the next and with its own, a cell with itself, beside itself and in a square, and those that are refused.
 fn comparisons(outlines: &[Outline]) -> Vec<Case> {
     let polygon = |outline: &Outline| {
         let tested = calls::test(outline.start, &outline.letters);
@@ -106,19 +122,20 @@ fn comparisons(outlines: &[Outline]) -> Vec<Case> {
         Polygon { anchor: Point::new(tested.reply.col, tested.reply.row), edges }
     };
     let polygons: Vec<Polygon> = outlines.iter().map(polygon).collect();
-    let pair =
-        |first: &Polygon, second: &Polygon, room| Case::Compare { first: first.clone(), second: second.clone(), room };
+    let pair = |first: &Polygon, second: &Polygon| Case::Compare { first: first.clone(), second: second.clone() };
     let of = |anchor, edges| Polygon { anchor, edges };
     let cell = of(Point::new(0, 0), Vec::new());
+    let square = of(Point::new(0, 0), vec![0, 1, 1, 0, 0, -1, -1, 0]);
     let mut cases = vec![
-        pair(&cell, &cell, REPLY),
-        pair(&cell, &of(Point::new(1, 0), Vec::new()), REPLY),
-        pair(&cell, &of(Point::new(0, 0), vec![0; LONGEST_LIST + 2]), REPLY),
-        pair(&of(Point::new(SIDE, 0), Vec::new()), &cell, REPLY),
-        pair(&cell, &cell, REPLY - 1),
+        pair(&cell, &cell),
+        pair(&cell, &square),
+        pair(&square, &cell),
+        pair(&cell, &of(Point::new(1, 0), Vec::new())),
+        pair(&cell, &of(Point::new(0, 0), vec![0; LONGEST_LIST + 2])),
+        pair(&of(Point::new(SIDE, 0), Vec::new()), &cell),
     ];
     for (one, next) in polygons.iter().zip(&polygons[1..]) {
-        cases.extend([pair(one, next, REPLY), pair(next, one, REPLY), pair(one, one, REPLY)]);
+        cases.extend([pair(one, next), pair(next, one), pair(one, one)]);
     }
     cases
 }
@@ -149,17 +166,17 @@ fn draw_and_ask(outline: &Outline) -> Case {
     let actions: Vec<Action> = once().chain(once()).chain(draw()).chain(more).chain(away).chain(asked).collect();
     let bytes =
         Call::script([0, 1, PARTIES].into_iter().flat_map(|party| actions.iter().map(move |action| action.by(party))));
-    let room = bytes.len() / CALL * REPLY;
-    Case::Script { bytes, room }
+    let space = bytes.len() / CALL * REPLY;
+    Case::Script { bytes, space }
 }
 
 /// The first piece, the last line, the close and what is past it, with their points; and each refusal.
 fn pieces(outline: &Outline) -> Vec<Case> {
     let (party, place) = (1, 3);
     let edges = calls::test(outline.start, &outline.letters).edges.len() as u16;
-    let ask = |party, place, position| {
-        let asked = Asked { party, place, position };
-        Case::Piece { script: scripts::to_work(outline, party, place), asked, lent: 2, room: REPLY }
+    let ask = |party, place, position| Case::Piece {
+        script: scripts::to_work(outline, 1, 3),
+        asked: Asked { party, place, position },
     };
     let mut cases: Vec<Case> = [0, edges.max(1) - 1, edges, edges + 1].map(|position| ask(party, place, position)).to_vec();
     cases.extend([ask(PARTIES, place, 0), ask(party, PLACES, 0)]);
@@ -170,6 +187,7 @@ fn pieces(outline: &Outline) -> Vec<Case> {
 mod tests {
     use super::*;
     use crate::engine::Plain;
+    use crate::plain;
     use crate::tally::Tally;
 
     /// Every number and every word that some input reaches is reached by one of these.
@@ -177,6 +195,10 @@ mod tests {
     fn every_reply_is_reached() {
         let mut tally = Tally::default();
         all().iter().for_each(|case| tally.count(case, &case.run(&Plain)));
+        for calls in piles() {
+            let mut pile = plain::Pile::default();
+            calls.iter().for_each(|call| tally.count_pile(pile.call(call)));
+        }
         assert_eq!(tally.report(), Vec::<String>::new());
     }
 }

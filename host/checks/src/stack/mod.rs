@@ -4,149 +4,184 @@
 mod inputs;
 
 use std::arch::asm;
-use std::collections::HashSet;
+use std::collections::{BTreeMap, HashSet};
 
 use robequarry::limits::{CALL, REPLY};
-use robequarry::raw::{self, HolderMemory};
-use robequarry::{Pile, PileCall};
+use robequarry::raw::{self, HolderMemory, PileMemory, Reply};
+use robequarry::{Action, Call, PileCall, Reading};
 
 use crate::case::Case;
-use crate::live::after;
-use crate::piles;
-use crate::random::Random;
+use crate::live::{self, after};
+use crate::Fields;
 
 /// Bytes of a painted stack, many times what a call should need.
-const SIZE: usize = 4 << 20;
+const SIZE: usize = 1 << 18;
 
 /// What a byte of the stack is before a call. A call that writes the one pattern by chance does not write the other.
 const PAINTS: [u8; 2] = [0xa5, 0x5a];
 
-/// The number of a close, the one call that tests an outline (contract 10.3).
-const CLOSE: u8 = 4;
+/// The functions of include/robequarry.h, in its order. A close as bytes needs what a close needs, and every other call little.
+const FUNCTIONS: [&str; 22] = [
+    "rq_test",
+    "rq_loose_query",
+    "rq_border",
+    "rq_compare",
+    "rq_fresh",
+    "rq_begin",
+    "rq_add",
+    "rq_drop",
+    "rq_clear",
+    "rq_close",
+    "rq_query",
+    "rq_row",
+    "rq_reading",
+    "rq_piece",
+    "rq_call",
+    "rq_call, a close",
+    "rq_replay",
+    "rq_pile_fresh",
+    "rq_pile_set",
+    "rq_pile_empty",
+    "rq_pile_check",
+    "rq_pile_query",
+];
 
 /// The most bytes of stack that each function needs for any of its inputs: the longest outlines, and every way through the test.
-pub fn needs() -> [(&'static str, usize); 8] {
-    let names = [
-        "rq_test",
-        "rq_loose_query",
-        "rq_border",
-        "rq_compare",
-        "rq_replay",
-        "rq_piece",
-        "rq_call",
-        "rq_pile_set and the like",
-    ];
-    let mut needs = names.map(|name| (name, 0));
-    let mut stack = Stack::new();
+pub fn needs() -> [(&'static str, usize); FUNCTIONS.len()] {
+    let mut stack = Stack { bytes: vec![0; SIZE], needs: BTreeMap::new() };
     for case in inputs::all() {
-        let function = match case {
-            Case::Test { .. } => 0,
-            Case::Loose { .. } => 1,
-            Case::Border { .. } => 2,
-            Case::Compare { .. } => 3,
-            Case::Script { .. } => 4,
-            Case::Piece { .. } => 5,
-        };
-        needs[function].1 = needs[function].1.max(stack.need(&case));
-        if let Case::Script { bytes, .. } = &case {
-            needs[6].1 = needs[6].1.max(stack.need_of_calls(bytes));
-        }
+        stack.measure(&case);
     }
-    let mut random = Random::new(1);
-    for _ in 0..PILES {
-        needs[7].1 = needs[7].1.max(stack.need_of_a_pile(&piles::calls(&mut random)));
+    for calls in inputs::piles() {
+        stack.measure_pile(&calls);
     }
-    needs
+    FUNCTIONS.map(|function| (function, stack.needs[function]))
 }
-
-/// How many lists of calls on a pile are drawn.
-const PILES: usize = 8;
 
 struct Stack {
     bytes: Vec<u8>,
+    /// The most bytes so far, by the function.
+    needs: BTreeMap<&'static str, usize>,
 }
 
 impl Stack {
-    fn new() -> Self {
-        Stack { bytes: vec![0; SIZE] }
-    }
-
-    /// How many bytes of stack the library needs for the calls on a pile.
-    fn need_of_a_pile(&mut self, calls: &[PileCall]) -> usize {
-        let mut pile = Pile::fresh();
-        let mut most = 0;
-        for call in calls {
-            most = most.max(self.depth(&mut || {
-                pile.call(call);
-            }));
-        }
-        most
-    }
-
-    /// How many bytes of stack the library needs for an input. Its lists are on the heap.
-    fn need(&mut self, case: &Case) -> usize {
+    /// Measures the function of an input. Its lists are on the heap.
+    fn measure(&mut self, case: &Case) {
+        let mut reply = [0; REPLY];
         match case {
-            Case::Test { outline, lent, room } => {
-                let (mut edges, mut reply) = (vec![0; *lent], vec![0; *room]);
+            Case::Test { outline, space } => {
+                let mut edges = vec![0; *space];
                 let (start, letters) = (outline.start, &outline.letters[..]);
-                self.depth(&mut || {
-                    raw::test(start.col, start.row, letters, &mut edges, &mut reply);
-                })
+                self.note("rq_test", &mut || raw::test(start.col, start.row, letters, &mut edges, &mut reply));
             }
-            Case::Loose { anchor, edges, cell, room } => {
-                let mut reply = vec![0; *room];
-                self.depth(&mut || {
-                    raw::loose_query(anchor.col, anchor.row, edges, cell.col, cell.row, &mut reply);
-                })
+            Case::Loose { anchor, edges, cell } => self.note("rq_loose_query", &mut || {
+                raw::loose_query(anchor.col, anchor.row, edges, cell.col, cell.row, &mut reply);
+            }),
+            Case::Border { anchor, edges, space } => {
+                let mut letters = vec![0; *space];
+                self.note("rq_border", &mut || raw::border(anchor.col, anchor.row, edges, &mut letters, &mut reply));
             }
-            Case::Border { anchor, edges, lent, room } => {
-                let (mut letters, mut reply) = (vec![0; *lent], vec![0; *room]);
-                self.depth(&mut || {
-                    raw::border(anchor.col, anchor.row, edges, &mut letters, &mut reply);
-                })
-            }
-            Case::Compare { first, second, room } => {
-                let mut reply = vec![0; *room];
+            Case::Compare { first, second } => {
                 let (a, b) = (first.anchor, second.anchor);
-                self.depth(&mut || {
+                self.note("rq_compare", &mut || {
                     raw::compare((a.col, a.row), &first.edges, (b.col, b.row), &second.edges, &mut reply);
-                })
+                });
             }
-            Case::Script { bytes, room } => {
-                let mut replies = vec![0; *room];
-                self.depth(&mut || {
+            Case::Script { bytes, space } => {
+                let mut replies = vec![0; *space];
+                self.note("rq_replay", &mut || {
                     raw::replay(bytes, &mut replies);
-                })
+                });
+                self.measure_calls(bytes);
             }
-            Case::Piece { script, asked, lent, room } => {
-                let mut holder = after(script);
-                let (mut point, mut reply) = (vec![0.0; *lent], vec![0; *room]);
-                self.depth(&mut || {
+            Case::Piece { script, asked } => {
+                let (holder, mut point) = (after(script), [0.0; 2]);
+                self.note("rq_piece", &mut || {
                     holder.piece(asked.party, asked.place, asked.position, &mut point, &mut reply);
-                })
+                });
             }
         }
     }
 
-    /// How many bytes of stack the deepest of some calls needs: closes, and one of each other call, made on a live holder.
-    fn need_of_calls(&mut self, script: &[u8]) -> usize {
-        let mut holder = HolderMemory::fresh();
-        let mut reply = vec![0; REPLY];
+    /// Measures the calls of a script on a live holder, as bytes and by their arguments: one of each call and reply.
+    fn measure_calls(&mut self, script: &[u8]) {
+        let mut holder = Box::new(HolderMemory::filled(live::FILLER));
+        self.note("rq_fresh", &mut || holder.fresh());
         let mut seen = HashSet::new();
-        let mut deepest = 0;
-        for call in script.chunks_exact(CALL) {
-            if call[0] == CLOSE || seen.insert(call[0]) {
-                // Each of the two paints makes the call, on the holder as it is now.
-                deepest = deepest.max(self.depth(&mut || {
-                    holder.clone().call(call, &mut reply);
-                }));
+        for bytes in script.chunks_exact(CALL) {
+            let mut next = holder.clone();
+            let mut reply = [0; REPLY];
+            next.call(bytes, &mut reply);
+            let Fields { number, word, .. } = reply.into();
+            if let (true, Some(call)) = (seen.insert((bytes[0], number, word)), bytes.try_into().ok().and_then(Call::read)) {
+                let name = if matches!(call.action, Action::Close { .. }) { "rq_call, a close" } else { "rq_call" };
+                self.on_copies(name, &holder, |holder| {
+                    holder.call(bytes, &mut reply);
+                });
+                self.measure_call(&holder, call, &mut reply);
             }
-            holder.call(call, &mut reply);
+            holder = next;
         }
-        deepest
     }
 
-    /// How far below its caller's frame a call goes, its arguments and the way back included.
+    /// Measures a call by its arguments.
+    fn measure_call(&mut self, on: &HolderMemory, Call { party, action }: Call, reply: &mut Reply) {
+        match action {
+            Action::Begin(start) => self.on_copies("rq_begin", on, |h| h.begin(party, start.col, start.row, reply)),
+            Action::Add(letter) => self.on_copies("rq_add", on, |h| h.add(party, letter, reply)),
+            Action::Drop => self.on_copies("rq_drop", on, |h| h.drop_draft(party, reply)),
+            Action::Clear { place } => self.on_copies("rq_clear", on, |h| h.clear(party, place, reply)),
+            Action::Close { place } => self.on_copies("rq_close", on, |h| h.close(party, place, reply)),
+            Action::Query { place, cell } => {
+                self.note("rq_query", &mut || on.query(party, place, cell.col, cell.row, reply));
+            }
+            Action::Row { place, row } => self.note("rq_row", &mut || on.row(party, place, row, reply)),
+            Action::Reading { place, reading: Reading { angle, load } } => {
+                let (angle, load) = (f32::from_bits(angle), f32::from_bits(load));
+                self.note("rq_reading", &mut || on.reading(party, place, angle, load, reply));
+            }
+            Action::Piece { place, position } => {
+                let mut point = [0.0; 2];
+                self.note("rq_piece", &mut || on.piece(party, place, position, &mut point, reply));
+            }
+        }
+    }
+
+    /// Measures a list of calls on a pile.
+    fn measure_pile(&mut self, calls: &[PileCall]) {
+        let mut pile = Box::new(PileMemory::filled(live::FILLER));
+        self.note("rq_pile_fresh", &mut || pile.fresh());
+        let mut reply = [0; REPLY];
+        for call in calls {
+            match call {
+                PileCall::Set(layer, outline) => {
+                    let (start, letters) = (outline.start, &outline.letters[..]);
+                    self.note("rq_pile_set", &mut || pile.set(*layer, start.col, start.row, letters, &mut reply));
+                }
+                PileCall::SetEmpty(layer) => self.note("rq_pile_empty", &mut || pile.empty(*layer, &mut reply)),
+                PileCall::Check => self.note("rq_pile_check", &mut || pile.check(&mut reply)),
+                PileCall::Query(layer, cell) => {
+                    self.note("rq_pile_query", &mut || pile.query(*layer, cell.col, cell.row, &mut reply));
+                }
+            }
+        }
+    }
+
+    /// Measures a call that alters a holder: each paint has a copy of its own, made beforehand.
+    fn on_copies(&mut self, function: &'static str, holder: &HolderMemory, mut call: impl FnMut(&mut HolderMemory)) {
+        let mut copies = PAINTS.map(|_| Box::new(holder.clone()));
+        let mut each = copies.iter_mut();
+        self.note(function, &mut || call(each.next().expect("each paint has one")));
+    }
+
+    /// Keeps what a function needs, if no call before needed as much.
+    fn note<F: FnMut()>(&mut self, function: &'static str, call: &mut F) {
+        let depth = self.depth(call);
+        let most = self.needs.entry(function).or_default();
+        *most = depth.max(*most);
+    }
+
+    /// How far below its caller's frame a call goes, the way back included. Arguments on the stack are in that frame.
     fn depth<F: FnMut()>(&mut self, call: &mut F) -> usize {
         PAINTS.map(|paint| self.depth_in(paint, call)).into_iter().max().expect("there are paints")
     }
@@ -193,6 +228,8 @@ extern "C" fn enter<F: FnMut()>(run: &mut Run<'_, F>) {
     // SAFETY: it reads a register.
     unsafe { asm!("mov {}, rsp", out(reg) run.pointer, options(nomem, nostack, preserves_flags)) };
     (run.call)();
+    // SAFETY: it does nothing. The call before it is then not the last thing done, so that it comes back here.
+    unsafe { asm!("", options(nostack, preserves_flags)) };
 }
 
 #[cfg(test)]
@@ -207,9 +244,10 @@ mod tests {
 
     #[test]
     fn a_frame_is_measured() {
-        let mut stack = Stack::new();
+        let mut stack = Stack { bytes: vec![0; SIZE], needs: BTreeMap::new() };
         let (small, large) = (stack.depth(&mut use_bytes::<1000>), stack.depth(&mut use_bytes::<9000>));
         assert!((1000..2000).contains(&small) && (9000..10_000).contains(&large), "{small} {large}");
         assert_eq!(stack.depth(&mut use_bytes::<1000>), small);
+        assert!(stack.depth(&mut || ()) < 16);
     }
 }

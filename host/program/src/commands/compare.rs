@@ -33,8 +33,8 @@ fn run(arguments: &Arguments, console: &mut Console) -> Result<Status, Failure> 
             say(comparison, console)?;
             Ok(Status::Taken)
         }
-        Err(turned_back) => {
-            console.line(format_args!("refused, {}: {turned_back}", turned_back.refusal.number()))?;
+        Err(refused) => {
+            console.line(format_args!("refused, {}: {refused}", refused.refusal.number()))?;
             Ok(Status::Refused)
         }
     }

@@ -22,7 +22,7 @@ fn run(arguments: &Arguments, console: &mut Console) -> Result<Status, Failure> 
         return Err(Failure::Call("reading takes a file and two numbers, ANGLE LOAD".to_string()));
     };
     let (angle, load): (f32, f32) = (number(angle, "an angle")?, number(load, "a load")?);
-    let Some(mut at_work) = at_work(path.as_ref(), arguments, console)? else {
+    let Some(at_work) = at_work(path.as_ref(), arguments, console)? else {
         return Ok(Status::Refused);
     };
     let (word, meaning) = match at_work.reading(angle, load) {

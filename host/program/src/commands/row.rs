@@ -22,7 +22,7 @@ fn run(arguments: &Arguments, console: &mut Console) -> Result<Status, Failure> 
         [path, row] => (path, Some(number(row, "a row")?)),
         _ => return Err(Failure::Call("row takes a file and, if only one row is wanted, its number".to_string())),
     };
-    let Some(mut at_work) = at_work(path.as_ref(), arguments, console)? else {
+    let Some(at_work) = at_work(path.as_ref(), arguments, console)? else {
         return Ok(Status::Refused);
     };
     // The wanted row or, where none is wanted, all that have a cell.

@@ -80,7 +80,7 @@ fn block(outline: &Outline, verdict: &Verdict) -> Drawing {
     drawing.pieces = story.pieces.iter().map(piece).collect();
     match verdict {
         Ok(_) => {
-            let drawn = AtWork::of(outline).and_then(|mut at_work| at_work.drawing());
+            let drawn = AtWork::of(outline).and_then(|at_work| at_work.drawing());
             drawing.edges = drawn.expect("what a test takes a holder takes, and draws");
         }
         Err(refusal) => {
@@ -113,7 +113,7 @@ fn reason(drawing: &mut Drawing, story: &Story, refusal: Refusal) {
     }
 }
 
-/// Of an outline that one of refusals 1 to 6 turned back: its walk.
+/// The walk of an outline that is refused by one of 1 to 6.
 fn walk(outline: &Outline, verdict: &Verdict) -> Drawing {
     let met = walkable(outline);
     let up_to = |place: usize| met[..=place.min(met.len() - 1)].to_vec();

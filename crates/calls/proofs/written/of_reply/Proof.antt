@@ -49,8 +49,8 @@ said-requires-5 c κs = search needs
 enum-known-r-2 : tie.Need-enum-known-r-2
 enum-known-r-2 c = search needs
 
-of-stroke-requires : tie.Need-of-stroke-requires
-of-stroke-requires c κs = search needs
+of-piece-requires : tie.Need-of-piece-requires
+of-piece-requires c κs = search needs
 
 enum-known-r-3 : tie.Need-enum-known-r-3
 enum-known-r-3 c = search needs
@@ -132,7 +132,7 @@ returns-6 c = shown (c .before .enum-told5 .given .1) (c .said5 .ensures)
 
 returns-7 : tie.Need-returns-7
 unfolding replyFields
-returns-7 c = shown (c .before .before .r2 .given .1) (c .of-stroke .ensures)
+returns-7 c = shown (c .before .before .r2 .given .1) (c .of-piece .ensures)
 
 returns-8 : tie.Need-returns-8
 unfolding replyFields
@@ -187,7 +187,7 @@ of-reply-spec =
     enum-told-5
     said-requires-5
     enum-known-r-2
-    of-stroke-requires
+    of-piece-requires
     enum-known-r-3
     accepted-requires-2
     enum-known-r-4

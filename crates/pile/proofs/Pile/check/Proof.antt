@@ -1,7 +1,5 @@
--- The columns, then the rows, as in the definition.
-use mathlib.Core.Path.{sym}
-use borrow.Author.Tests.{lt-ltb, le-ltb}
-use Rattle.pile.specs.Pile.{checkOf}
+-- The columns, then the rows, as in the definition (CheckLaws).
+use Rattle.pile.proofs.CheckLaws.{column-returns, row-returns, passing-returns}
 use Rattle.pile.proofs.Pile.check.Statement.{statement}
 use Rattle.pile.proofs.Pile.check.Tie as tie
 
@@ -12,8 +10,7 @@ marked-requires : tie.Need-marked-requires
 marked-requires c κs = tt
 
 returns : tie.Need-returns
-unfolding checkOf
-returns c = rw (c .marked .ensures, sym (c .before .before .dented-column .ensures), lt-ltb _ _ (c .before .if1 .taken))
+returns c = column-returns _ _ (c .before .before .dented-column .ensures) (c .before .if1 .taken) _ (c .marked .ensures)
 
 dented-row-requires : tie.Need-dented-row-requires
 dented-row-requires c κs = tt
@@ -22,17 +19,27 @@ marked-requires-2 : tie.Need-marked-requires-2
 marked-requires-2 c κs = tt
 
 returns-2 : tie.Need-returns-2
-unfolding checkOf
 returns-2 c =
-    rw (c .marked2 .ensures, sym (c .before .before .before .before .dented-column .ensures), le-ltb _ _ (c .before .before .before .if1 .left), sym (c .before .before .dented-row .ensures), lt-ltb _ _ (c .before .if2 .taken))
+    let rows = c .before .before in
+    let columns = rows .before .before in
+    let (found, fits) = rows .dented-row .ensures in
+    row-returns _ _ (columns .dented-column .ensures) (rows .before .if1 .left) _ found fits
+    (c .before .if2 .taken)
+    _
+    (c .marked2 .ensures)
 
 marked-requires-3 : tie.Need-marked-requires-3
 marked-requires-3 c κs = tt
 
 returns-3 : tie.Need-returns-3
-unfolding checkOf
 returns-3 c =
-    rw (c .marked3 .ensures, sym (c .before .before .before .before .dented-column .ensures), le-ltb _ _ (c .before .before .before .if1 .left), sym (c .before .before .dented-row .ensures), le-ltb _ _ (c .before .if2 .left))
+    let rows = c .before .before in
+    let columns = rows .before .before in
+    let (found, fits) = rows .dented-row .ensures in
+    passing-returns _ _ (columns .dented-column .ensures) (rows .before .if1 .left) _ found fits
+    (c .before .if2 .left)
+    _
+    (c .marked3 .ensures)
 
 pub check-spec : {M : Type 1} → statement M
 check-spec =

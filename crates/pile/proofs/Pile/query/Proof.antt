@@ -1,25 +1,25 @@
--- The tests of the definition, in its order.
+-- Each return is a case of the definition (CallLaws).
 use mathlib.Core.Path.{sym, _∙_}
-use borrow.Author.Tests.{not-true, not-false, lt-ltb, le-ltb}
-use Rattle.pile.specs.Pile.{queryOf, locatedIn}
 use borrow.Author.Needs.{needs}
+use borrow.Author.Tests.{not-true, not-false}
+use Rattle.pile.proofs.CallLaws.{query-high, query-unpassed, query-bad, query-in}
 use Rattle.pile.proofs.Pile.query.Statement.{statement}
 use Rattle.pile.proofs.Pile.query.Tie as tie
 
 returns : tie.Need-returns
-unfolding queryOf
-returns c = rw (lt-ltb _ _ (c .if1 .taken))
+returns c = query-high _ _ _ (c .if1 .taken)
 
 returns-2 : tie.Need-returns-2
-unfolding queryOf
-returns-2 c = rw (le-ltb _ _ (c .before .if1 .left), not-true (c .before .before .args .t1 .passed) (c .if2 .taken))
+returns-2 c = query-unpassed _ _ _ (c .before .if1 .left) (not-true _ (c .if2 .taken))
 
 bad-cell-requires : tie.Need-bad-cell-requires
 bad-cell-requires c κs = search needs
 
 returns-3 : tie.Need-returns-3
-unfolding queryOf
-returns-3 c = rw (le-ltb _ _ (c .before .before .before .if1 .left), not-false (c .before .before .before .before .args .t1 .passed) (c .before .before .if2 .left), sym (c .before .bad-cell .ensures) ∙ c .if3 .taken)
+returns-3 c =
+    let asked = c .before in
+    let passed = asked .before in
+    query-bad _ _ _ (passed .before .if1 .left) (not-false _ (passed .if2 .left)) (sym (asked .bad-cell .ensures) ∙ c .if3 .taken)
 
 mul-spans : tie.Need-mul-spans
 mul-spans c = search needs
@@ -31,24 +31,20 @@ within-requires : tie.Need-within-requires
 within-requires c κs = search needs
 
 returns-4 : tie.Need-returns-4
-unfolding queryOf locatedIn
 returns-4 c =
-    rw (
-      le-ltb _ _ (c .before .before .before .before .before .before .if1 .left),
-      not-false (c .before .before .before .before .before .before .before .args .t1 .passed) (c .before .before .before .before .before .if2 .left),
-      sym (c .before .before .before .before .bad-cell .ensures) ∙ c .before .before .before .if3 .left,
-      sym (c .before .within .ensures) ∙ c .if4 .taken,
-    )
+    let good = c .before .before .before in
+    let asked = good .before in
+    let passed = asked .before in
+    query-in _ _ _ (passed .before .if1 .left) (not-false _ (passed .if2 .left)) (sym (asked .bad-cell .ensures) ∙ good .if3 .left) _
+    (sym (c .if4 .taken) ∙ c .before .within .ensures)
 
 returns-5 : tie.Need-returns-5
-unfolding queryOf locatedIn
 returns-5 c =
-    rw (
-      le-ltb _ _ (c .before .before .before .before .before .before .if1 .left),
-      not-false (c .before .before .before .before .before .before .before .args .t1 .passed) (c .before .before .before .before .before .if2 .left),
-      sym (c .before .before .before .before .bad-cell .ensures) ∙ c .before .before .before .if3 .left,
-      sym (c .before .within .ensures) ∙ c .if4 .left,
-    )
+    let good = c .before .before .before in
+    let asked = good .before in
+    let passed = asked .before in
+    query-in _ _ _ (passed .before .if1 .left) (not-false _ (passed .if2 .left)) (sym (asked .bad-cell .ensures) ∙ good .if3 .left) _
+    (sym (c .if4 .left) ∙ c .before .within .ensures)
 
 pub query-spec : {M : Type 1} → statement M
 query-spec =

@@ -12,13 +12,13 @@ returns c = rw (not-true (c .before .args .t1 .taken) (c .if1 .taken))
 first-requires : tie.Need-first-requires
 first-requires c κs = search needs
 
-stroke-requires : tie.Need-stroke-requires
-stroke-requires c κs = search needs
+drawn-at-requires : tie.Need-drawn-at-requires
+drawn-at-requires c κs = search needs
 
 returns-2 : tie.Need-returns-2
 unfolding drawnAt workEdges
 returns-2 c =
-    rw (not-false (c .before .before .before .before .before .before .args .t1 .taken) (c .before .before .before .before .before .if1 .left), c .stroke .ensures, c .before .first .ensures)
+    rw (not-false (c .before .before .before .before .before .before .args .t1 .taken) (c .before .before .before .before .before .if1 .left), c .drawn-at .ensures, c .before .first .ensures)
 
 pub draw-spec : {M : Type 1} → statement M
-draw-spec = tie.close (tie.spec returns first-requires stroke-requires returns-2)
+draw-spec = tie.close (tie.spec returns first-requires drawn-at-requires returns-2)

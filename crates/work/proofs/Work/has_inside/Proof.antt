@@ -1,19 +1,13 @@
--- The list lent is that of the edges at work.
-use mathlib.Core.Path.{_∙_}
-use Rattle.work.specs.Work.{workEdges}
+-- The rows at work are asked.
 use borrow.Author.Needs.{needs}
 use Rattle.work.proofs.Work.has_inside.Statement.{statement}
 use Rattle.work.proofs.Work.has_inside.Tie as tie
 
-first-requires : tie.Need-first-requires
-first-requires c κs = search needs
-
-inside-requires : tie.Need-inside-requires
-inside-requires c κs = search needs
+within-requires : tie.Need-within-requires
+within-requires c κs = search needs
 
 returns : tie.Need-returns
-unfolding workEdges
-returns c = c .inside .ensures ∙ rw (c .before .first .ensures)
+returns c = c .within .ensures
 
 pub has-inside-spec : {M : Type 1} → statement M
-has-inside-spec = tie.close (tie.spec first-requires inside-requires returns)
+has-inside-spec = tie.close (tie.spec within-requires returns)

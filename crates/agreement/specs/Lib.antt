@@ -1,0 +1,2 @@
+-- What a work of the holder keeps of the outline at work.
+pub mod Rows

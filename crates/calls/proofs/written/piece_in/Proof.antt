@@ -1,0 +1,50 @@
+-- A drawn piece is its own reply's; the other arm has every other reply, as their numbers in the enum tell.
+use Prim.Native.Nat.{ℕ}
+use mathlib.Core.Path.{_≡_, refl}
+use mathlib.Core.List.{List, [], _∷_}
+use types.Run.{OneOf, miss}
+use denote.Enum.Declared.{tagOf}
+use Rattle.calls.specs.declared.Piece.the-variants.{None as NoPiece}
+use Rattle.calls.specs.declared.Reply.{Reply}
+use Rattle.calls.specs.declared.Reply.the-variants.{Done, Inside, Outside, Undecided, Columns, None, Drawn, Taken, Same, Refused, NothingAtWork, NoDraft, DraftOpen, DraftFull, NoParty, NoPlace}
+use Rattle.calls.specs.Replies.{pieceIn}
+use Rattle.calls.proofs.Reply as R
+use borrow.Author.Needs.{needs}
+use Rattle.calls.proofs.written.piece_in.Statement.{statement}
+use Rattle.calls.proofs.written.piece_in.Tie as tie
+
+-- The numbers of all replies but a drawn piece
+abbrev others : List ℕ
+others = 0 ∷ 1 ∷ 2 ∷ 3 ∷ 4 ∷ 5 ∷ 7 ∷ 8 ∷ 9 ∷ 10 ∷ 11 ∷ 12 ∷ 13 ∷ 14 ∷ 15 ∷ []
+
+no-piece : (r : Reply) → OneOf others (tagOf R.the-type r) → NoPiece ≡ pieceIn r
+unfolding pieceIn
+no-piece (Drawn p c) h = absurd (miss others 6 tt h)
+no-piece Done h = refl
+no-piece Inside h = refl
+no-piece Outside h = refl
+no-piece Undecided h = refl
+no-piece (Columns a b) h = refl
+no-piece None h = refl
+no-piece (Taken n a) h = refl
+no-piece (Same n a) h = refl
+no-piece (Refused f) h = refl
+no-piece NothingAtWork h = refl
+no-piece NoDraft h = refl
+no-piece DraftOpen h = refl
+no-piece DraftFull h = refl
+no-piece NoParty h = refl
+no-piece NoPlace h = refl
+
+enum-known-r : tie.Need-enum-known-r
+enum-known-r c = search needs
+
+returns : tie.Need-returns
+unfolding pieceIn
+returns c = rw (c .before .r .given .1)
+
+returns-2 : tie.Need-returns-2
+returns-2 c = no-piece _ (c .match .keys2)
+
+pub piece-in-spec : {M : Type 1} → statement M
+piece-in-spec = tie.close (tie.spec enum-known-r returns returns-2)

@@ -1,2 +1,0 @@
--- The calls on a pile, with their replies in a lent list.
-pub mod Lent

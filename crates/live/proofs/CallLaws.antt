@@ -1,0 +1,170 @@
+-- A call is not made, for its lists have other lengths or there is none, or its answer is written; fresh lists are zeros.
+use Prim.Native.Nat.{ℕ, _≤_, _<_}
+use mathlib.Core.Path.{_≡_, refl, sym, ap, _∙_}
+use mathlib.Core.Bool.{Bool, true, false, true≢false}
+use mathlib.Core.List.{List, _++_, append-nil}
+use native.Mathlib.Omega.{arith}
+use lib.ListN.{length, replicate, length-replicate, drop-of-length-le}
+use lib.IntN.{ℤ, pos}
+use lib.Dec.{leb}
+use lib.Ieee.{Float}
+use borrow.Author.Tests.{le-leb, lt-leb}
+use Rattle.chart.specs.declared.Fields.{Fields}
+use Rattle.chart.specs.Fields.{numbersOf, replyAfter}
+use Rattle.chart.proofs.ReplyLaws.{seven-written}
+use Rattle.calls.specs.Replies.{replyFields, pieceIn}
+use Rattle.calls.specs.declared.Piece.{Piece}
+use Rattle.drawing.specs.Points.{pointAfter}
+use Rattle.calls.specs.declared.Call.{Call}
+use Rattle.calls.specs.declared.Reply.{Reply}
+use Rattle.holder.specs.Holder.{answerOf}
+use Rattle.wire.specs.declared.Decoded.{Decoded}
+use Rattle.wire.specs.declared.Decoded.the-variants.{Call as Said, Nothing}
+use Rattle.wire.specs.Wire.{replyWidth}
+use Rattle.live_memory.specs.Layout.{Memory, memory, holderIn, Fits}
+use Rattle.live_memory.specs.Writes.{Answers}
+use Rattle.live_memory.proofs.Zeros.{zeros, zeros-fresh}
+use Rattle.live.specs.Called.{spoken, isCall, nextHolder, replyBy, pieceDrawn, pointBy, writes, Called, Done, PointDrawn, Freshened}
+
+-- Four lists of these lengths
+pub fits-by : (m : Memory) → length (m .letters) ≡ 1224 → length (m .rows) ≡ 4080 → length (m .numbers) ≡ 1600 → length (m .heads) ≡ 40 → Fits m
+fits-by m l r n h = record { letters = l; rows = r; numbers = n; heads = h }
+
+-- ---- whether a call by its arguments has room
+
+pub spoken-short : (c : Call) (room : ℕ) → room < replyWidth → spoken c room ≡ Nothing
+unfolding spoken
+spoken-short c room h = rw (lt-leb replyWidth room h)
+
+pub spoken-said : (c : Call) (room : ℕ) → replyWidth ≤ room → spoken c room ≡ Said c
+unfolding spoken
+spoken-said c room h = rw (le-leb replyWidth room h)
+
+-- ---- not made, and made
+
+module _ (F : Type 0) (m : Memory) (d : Decoded) (reply : List ℕ) where
+  undone : (F → false ≡ isCall d) → Called F m m d reply reply false
+  undone none =
+      record {
+        done = none;
+        holder = λ z. absurd (true≢false (sym z));
+        replied = λ z. absurd (true≢false (sym z));
+        fits = λ f. f;
+        others = λ i e. refl;
+        unfit = λ n. refl;
+        unaltered = λ z. (refl, refl);
+      }
+
+  pub unfit-called : (F → ⊥) → Called F m m d reply reply false
+  unfit-called off = undone (λ f. absurd (off f))
+
+  pub nothing-called : d ≡ Nothing → Called F m m d reply reply false
+  unfolding isCall
+  nothing-called n = undone (λ f. rw n)
+
+  pub told-called : F → (c : Call) → d ≡ Said c → (n : Memory) (r : Reply) → Answers m n c r → (Fits m → Fits n) → (g : Fields) → g ≡ replyFields r → (l : List ℕ) → l ≡ replyAfter g reply
+      → (b : Bool) → b ≡ true → Called F m n d reply l b
+  unfolding isCall nextHolder replyBy writes
+  told-called f c e n r a kept g named l put b so =
+      record {
+        done = λ f. so ∙ rw e;
+        holder = λ z. rw e (a .holder);
+        replied = λ z. rw e (put ∙ rw (named, a .reply));
+        fits = kept;
+        others = λ i w. a .others i (sym (rw e) ∙ w);
+        unfit = λ n. absurd (n f);
+        unaltered = λ z. absurd (true≢false (sym so ∙ z));
+      }
+
+-- ---- a call by its arguments
+
+module _ (F : Type 0) (m : Memory) (c : Call) (reply : List ℕ) where
+  pub unfit-made : (F → ⊥) → Called F m m (spoken c (length reply)) reply reply false
+  unfit-made off = unfit-called F m (spoken c (length reply)) reply off
+
+  pub short-made : length reply < replyWidth → Called F m m (spoken c (length reply)) reply reply false
+  short-made h = nothing-called F m (spoken c (length reply)) reply (spoken-short c (length reply) h)
+
+  pub told-made : F → replyWidth ≤ length reply → (n : Memory) (r : Reply) → Answers m n c r → (Fits m → Fits n) → (g : Fields) → g ≡ replyFields r → (b : Bool) → b ≡ leb replyWidth (length reply)
+      → (l : List ℕ) → l ≡ replyAfter g reply → Called F m n (spoken c (length reply)) reply l b
+  told-made f room n r a kept g named b told l put =
+      told-called F m (spoken c (length reply)) reply f c (spoken-said c (length reply) room) n r a kept g named l put b (told ∙ le-leb replyWidth (length reply) room)
+
+-- ---- a call whose lists have their lengths
+
+module _ (F : Type 0) (m n : Memory) (c : Call) (reply reply′ : List ℕ) (size : length reply ≡ replyWidth) where
+  pub called-done : (b : Bool) → F → Called F m n (spoken c (length reply)) reply reply′ b → Done m n c reply′
+  unfolding isCall nextHolder replyBy writes
+  called-done b f t =
+      let is : spoken c (length reply) ≡ Said c = spoken-said c (length reply) (omega (arith, size)) in
+      let so : b ≡ true = t .done f ∙ rw is in
+      record {
+        holder = t .holder so ∙ rw is;
+        replied = t .replied so ∙ rw is (seven-written (replyFields (answerOf (holderIn m) c .reply)) reply size);
+        fits = t .fits;
+        others = λ i w. t .others i (rw is w);
+      }
+
+  -- So such a call is one of those that a run is made of
+  pub done-called : F → Done m n c reply′ → Called F m n (spoken c (length reply)) reply reply′ true
+  unfolding isCall nextHolder replyBy writes
+  done-called f d =
+      let is : spoken c (length reply) ≡ Said c = spoken-said c (length reply) (omega (arith, size)) in
+      record {
+        done = λ f. rw is;
+        holder = λ z. d .holder ∙ sym (rw is);
+        replied = λ z. d .replied ∙ sym (rw is (seven-written (replyFields (answerOf (holderIn m) c .reply)) reply size));
+        fits = d .fits;
+        others = λ i w. d .others i (sym (rw is) ∙ w);
+        unfit = λ off. absurd (off f);
+        unaltered = λ z. absurd (true≢false z);
+      }
+
+-- ---- the point of a piece
+
+pub undrawn-point : (m : Memory) (d : Decoded) (point : List Float) → PointDrawn m d point point false
+undrawn-point m d point = record { drawn = λ z. absurd (true≢false (sym z)); undrawn = λ z. refl }
+
+pub drawn-point : (m : Memory) (c : Call) (room : ℕ) → replyWidth ≤ room → (point point′ : List Float) (n : Memory) (r : Reply) → Answers m n c r → (p : Piece) → p ≡ pieceIn r
+    → point′ ≡ pointAfter p point → (b : Bool) → b ≡ leb replyWidth room → PointDrawn m (spoken c room) point point′ b
+unfolding pointBy pieceDrawn
+drawn-point m c room h point point′ n r a p pe e b told =
+    record {
+      drawn = λ z. rw (spoken-said c room h) (e ∙ rw (pe, a .reply));
+      undrawn = λ z. absurd (true≢false (sym (told ∙ le-leb replyWidth room h) ∙ z));
+    }
+
+-- By a call whose reply has room
+pub point-drawn : (m : Memory) (c : Call) (room : ℕ) → room ≡ replyWidth → (point point′ : List Float) (b : Bool) → b ≡ true → PointDrawn m (spoken c room) point point′ b
+    → point′ ≡ pieceDrawn (holderIn m) c point
+unfolding pointBy
+point-drawn m c room e point point′ b so p = p .drawn so ∙ rw (spoken-said c room (omega (arith, e)))
+
+-- Whether such a call is done
+pub spoken-done : (F : Type 0) (m n : Memory) (c : Call) (reply reply′ : List ℕ) (b : Bool) → F → length reply ≡ replyWidth → Called F m n (spoken c (length reply)) reply reply′ b → b ≡ true
+unfolding isCall
+spoken-done F m n c reply reply′ b f size t = t .done f ∙ rw (spoken-said c (length reply) (omega (arith, size)))
+
+-- ---- a fresh holder
+
+pub unfit-fresh : (m : Memory) → (Fits m → ⊥) → Freshened m m false
+unfit-fresh m off = record { done = λ f. absurd (off f); holder = λ f. absurd (off f); fits = λ f. f; unfit = λ n. (refl, refl) }
+
+pub fresh-lists : (m : Memory) → Fits m → (l r : List ℕ) (n : List ℤ) (h : List ℕ) → l ≡ zeros (length (m .letters)) → r ≡ zeros (length (m .rows)) → n ≡ replicate (length (m .numbers)) (pos 0) → h ≡ zeros (length (m .heads))
+    → Freshened m (memory l r n h) true
+fresh-lists m f l r n h el er en eh =
+    let l′ : l ≡ zeros 1224 = el ∙ ap zeros (f .letters) in
+    let r′ : r ≡ zeros 4080 = er ∙ ap zeros (f .rows) in
+    let n′ : n ≡ replicate 1600 (pos 0) = en ∙ ap (λ (k : ℕ). replicate k (pos 0)) (f .numbers) in
+    let h′ : h ≡ zeros 40 = eh ∙ ap zeros (f .heads) in
+    record {
+      done = λ f. refl;
+      holder = λ f. rw (l′, r′, n′, h′) zeros-fresh;
+      fits = λ f. record {
+        letters = ap length l′ ∙ length-replicate {A = ℕ} 1224 0;
+        rows = ap length r′ ∙ length-replicate {A = ℕ} 4080 0;
+        numbers = ap length n′ ∙ length-replicate 1600 (pos 0);
+        heads = ap length h′ ∙ length-replicate {A = ℕ} 40 0;
+      };
+      unfit = λ n. absurd (n f);
+    }

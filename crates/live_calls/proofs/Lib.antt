@@ -1,0 +1,1 @@
+-- No laws of its own: each call's proof cites those of live.

@@ -1,0 +1,50 @@
+use mathlib.Core.Path.{_∙_}
+use Rattle.live.proofs.CallLaws.{unfit-made, short-made, told-made}
+use borrow.Author.Needs.{needs}
+use Rattle.live_calls.proofs.add.Statement.{statement}
+use Rattle.live_calls.proofs.add.Tie as tie
+
+returns : tie.Need-returns
+returns c = λ r n. unfit-made _ _ _ _ (λ f. c .if1 .taken (f .letters))
+
+returns-2 : tie.Need-returns-2
+returns-2 c = λ r n. unfit-made _ _ _ _ (λ f. c .if2 .taken (f .heads))
+
+returns-3 : tie.Need-returns-3
+returns-3 c = λ r n. short-made _ _ _ _ (c .if3 .taken)
+
+add-of-requires : tie.Need-add-of-requires
+add-of-requires c κs = search needs
+
+of-reply-requires : tie.Need-of-reply-requires
+of-reply-requires c κs = search needs
+
+write-requires : tie.Need-write-requires
+write-requires c κs = search needs
+
+same-length : tie.Need-same-length
+same-length c = search needs
+
+same-length-2 : tie.Need-same-length-2
+same-length-2 c = search needs
+
+same-length-3 : tie.Need-same-length-3
+same-length-3 c = search needs
+
+returns-4 : tie.Need-returns-4
+returns-4 c = λ r n. told-made _ _ _ _ (record { letters = c .before .before .before .before .before .before .before .before .before .before .before .before .before .before .if1 .left; heads = c .before .before .before .before .before .before .before .before .before .before .before .before .before .if2 .left }) (c .before .before .before .before .before .before .before .before .before .before .before .before .if3 .left) _ _ (c .before .before .before .before .before .before .before .before .before .add-of .ensures r n) (λ f. record { letters = c .before .before .before .before .before .before .before .before .letters .given ∙ f .letters; rows = f .rows; numbers = f .numbers; heads = c .before .before .before .before .before .before .heads .given ∙ f .heads }) _ (c .before .before .before .before .of-reply .ensures) _ (c .before .before .write .ensures .0) _ (c .before .before .write .ensures .1)
+
+pub add-spec : {M : Type 1} → statement M
+add-spec =
+    tie.close
+    (tie.spec
+    returns
+    returns-2
+    returns-3
+    add-of-requires
+    of-reply-requires
+    write-requires
+    same-length
+    same-length-2
+    same-length-3
+    returns-4)

@@ -1,0 +1,24 @@
+use Rattle.live_memory.proofs.Acts.{add-acts}
+use mathlib.Core.Path.{refl}
+use Rattle.live_memory.proofs.Acts.{no-party, acts-answers}
+use borrow.Author.Needs.{needs}
+use Rattle.live_calls.proofs.add_of.Statement.{statement}
+use Rattle.live_calls.proofs.add_of.Tie as tie
+
+returns : tie.Need-returns
+returns c = λ r n. no-party _ _ (c .if1 .taken)
+
+add-requires : tie.Need-add-requires
+add-requires c κs = search needs
+
+same-length : tie.Need-same-length
+same-length c = search needs
+
+same-length-2 : tie.Need-same-length-2
+same-length-2 c = search needs
+
+returns-2 : tie.Need-returns-2
+returns-2 c = λ r n. acts-answers _ _ _ _ _ refl (c .before .before .before .before .before .before .before .if1 .left) (add-acts _ _ _ _ r n _ (c .before .before .before .before .before .before .before .if1 .left) _ _ (c .before .before .before .before .add .ensures))
+
+pub add-of-spec : {M : Type 1} → statement M
+add-of-spec = tie.close (tie.spec returns add-requires same-length same-length-2 returns-2)

@@ -1,0 +1,42 @@
+use mathlib.Core.Path.{_∙_}
+use Rattle.live.proofs.CallLaws.{unfit-made, short-made, told-made}
+use borrow.Author.Needs.{needs}
+use Rattle.live_calls.proofs.begin.Statement.{statement}
+use Rattle.live_calls.proofs.begin.Tie as tie
+
+returns : tie.Need-returns
+returns c = λ l r n. unfit-made _ _ _ _ (c .if1 .taken)
+
+returns-2 : tie.Need-returns-2
+returns-2 c = λ l r n. short-made _ _ _ _ (c .if2 .taken)
+
+begin-of-requires : tie.Need-begin-of-requires
+begin-of-requires c κs = search needs
+
+of-reply-requires : tie.Need-of-reply-requires
+of-reply-requires c κs = search needs
+
+write-requires : tie.Need-write-requires
+write-requires c κs = search needs
+
+same-length : tie.Need-same-length
+same-length c = search needs
+
+same-length-2 : tie.Need-same-length-2
+same-length-2 c = search needs
+
+returns-3 : tie.Need-returns-3
+returns-3 c = λ l r n. told-made _ _ _ _ (c .before .before .before .before .before .before .before .before .before .before .if1 .left) (c .before .before .before .before .before .before .before .before .before .if2 .left) _ _ (c .before .before .before .before .before .before .before .begin-of .ensures l r n) (λ f. record { letters = f .letters; rows = f .rows; numbers = f .numbers; heads = c .before .before .before .before .before .before .heads .given ∙ f .heads }) _ (c .before .before .before .before .of-reply .ensures) _ (c .before .before .write .ensures .0) _ (c .before .before .write .ensures .1)
+
+pub begin-spec : {M : Type 1} → statement M
+begin-spec =
+    tie.close
+    (tie.spec
+    returns
+    returns-2
+    begin-of-requires
+    of-reply-requires
+    write-requires
+    same-length
+    same-length-2
+    returns-3)

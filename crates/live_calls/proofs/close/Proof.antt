@@ -1,0 +1,62 @@
+use mathlib.Core.Path.{_∙_}
+use Rattle.live.proofs.CallLaws.{unfit-made, short-made, told-made}
+use borrow.Author.Needs.{needs}
+use Rattle.live_calls.proofs.close.Statement.{statement}
+use Rattle.live_calls.proofs.close.Tie as tie
+
+returns : tie.Need-returns
+returns c = unfit-made _ _ _ _ (λ f. c .if1 .taken (f .letters))
+
+returns-2 : tie.Need-returns-2
+returns-2 c = unfit-made _ _ _ _ (λ f. c .if2 .taken (f .rows))
+
+returns-3 : tie.Need-returns-3
+returns-3 c = unfit-made _ _ _ _ (λ f. c .if3 .taken (f .numbers))
+
+returns-4 : tie.Need-returns-4
+returns-4 c = unfit-made _ _ _ _ (λ f. c .if4 .taken (f .heads))
+
+returns-5 : tie.Need-returns-5
+returns-5 c = short-made _ _ _ _ (c .if5 .taken)
+
+close-of-requires : tie.Need-close-of-requires
+close-of-requires c κs = search needs
+
+of-reply-requires : tie.Need-of-reply-requires
+of-reply-requires c κs = search needs
+
+write-requires : tie.Need-write-requires
+write-requires c κs = search needs
+
+same-length : tie.Need-same-length
+same-length c = search needs
+
+same-length-2 : tie.Need-same-length-2
+same-length-2 c = search needs
+
+same-length-3 : tie.Need-same-length-3
+same-length-3 c = search needs
+
+same-length-4 : tie.Need-same-length-4
+same-length-4 c = search needs
+
+returns-6 : tie.Need-returns-6
+returns-6 c = told-made _ _ _ _ (record { letters = c .before .before .before .before .before .before .before .before .before .before .before .before .before .before .before .before .before .before .if1 .left; rows = c .before .before .before .before .before .before .before .before .before .before .before .before .before .before .before .before .before .if2 .left; numbers = c .before .before .before .before .before .before .before .before .before .before .before .before .before .before .before .before .if3 .left; heads = c .before .before .before .before .before .before .before .before .before .before .before .before .before .before .before .if4 .left }) (c .before .before .before .before .before .before .before .before .before .before .before .before .before .before .if5 .left) _ _ (c .before .before .before .before .before .before .before .before .before .before .close-of .ensures) (λ f. record { letters = f .letters; rows = c .before .before .before .before .before .before .before .before .before .rows .given ∙ f .rows; numbers = c .before .before .before .before .before .before .before .numbers .given ∙ f .numbers; heads = c .before .before .before .before .before .before .heads .given ∙ f .heads }) _ (c .before .before .before .before .of-reply .ensures) _ (c .before .before .write .ensures .0) _ (c .before .before .write .ensures .1)
+
+pub close-spec : {M : Type 1} → statement M
+close-spec =
+    tie.close
+    (tie.spec
+    returns
+    returns-2
+    returns-3
+    returns-4
+    returns-5
+    close-of-requires
+    of-reply-requires
+    write-requires
+    same-length
+    same-length-2
+    same-length-3
+    same-length-4
+    returns-6)

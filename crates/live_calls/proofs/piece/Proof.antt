@@ -1,0 +1,66 @@
+-- As every call by its arguments; the point is that of the piece in the reply.
+use Rattle.live.proofs.CallLaws.{unfit-made, short-made, told-made, undrawn-point, drawn-point}
+use borrow.Author.Needs.{needs}
+use Rattle.live_calls.proofs.piece.Statement.{statement}
+use Rattle.live_calls.proofs.piece.Tie as tie
+use Rattle.live_calls.proofs.piece_of.Reads as piece-of-reads′
+
+returns : tie.Need-returns
+returns c = (λ l r. unfit-made _ _ _ _ (λ f. c .if1 .taken (f .0)), λ l r. undrawn-point _ _ _)
+
+returns-2 : tie.Need-returns-2
+returns-2 c = (λ l r. unfit-made _ _ _ _ (λ f. c .if2 .taken (f .1)), λ l r. undrawn-point _ _ _)
+
+returns-3 : tie.Need-returns-3
+returns-3 c = (λ l r. short-made _ _ _ _ (c .if3 .taken), λ l r. undrawn-point _ _ _)
+
+piece-of-requires : tie.Need-piece-of-requires
+piece-of-requires c κs = search needs
+
+piece-in-requires : tie.Need-piece-in-requires
+piece-in-requires c κs = search needs
+
+write-point-requires : tie.Need-write-point-requires
+write-point-requires c κs = search needs
+
+of-reply-requires : tie.Need-of-reply-requires
+of-reply-requires c κs = search needs
+
+write-requires : tie.Need-write-requires
+write-requires c κs = search needs
+
+same-length : tie.Need-same-length
+same-length c = search needs
+
+same-length-2 : tie.Need-same-length-2
+same-length-2 c = search needs
+
+returns-4 : tie.Need-returns-4
+returns-4 c =
+    let wrote = c .before .before in
+    let fields = wrote .before .before in
+    let pointed = fields .before .before .before in
+    let read = pointed .before .before in
+    let answered = read .before in
+    let third = answered .before in
+    let room = third .if3 .left in (
+      λ l r. told-made _ _ _ _ (third .before .before .if1 .left, third .before .if2 .left) room _ _ (answered .piece-of .ensures l r) (λ f. f) _ (fields .of-reply .ensures) _ (wrote .write .ensures .0) _ (wrote .write .ensures .1),
+      λ l r. drawn-point _ _ _ room _ _ _ _ (answered .piece-of .ensures l r) _ (read .piece-in .ensures) (pointed .write-point .ensures) _
+          (wrote .write .ensures .0),
+    )
+
+pub piece-spec : {M : Type 1} → statement M
+piece-spec =
+    tie.close
+    (tie.spec
+    returns
+    returns-2
+    returns-3
+    piece-of-requires
+    piece-in-requires
+    write-point-requires
+    of-reply-requires
+    write-requires
+    same-length
+    same-length-2
+    returns-4)

@@ -1,0 +1,41 @@
+use Rattle.live.proofs.CallLaws.{unfit-made, short-made, told-made}
+use borrow.Author.Needs.{needs}
+use Rattle.live_calls.proofs.query.Statement.{statement}
+use Rattle.live_calls.proofs.query.Tie as tie
+
+returns : tie.Need-returns
+returns c = λ l n. unfit-made _ _ _ _ (λ f. c .if1 .taken (f .0))
+
+returns-2 : tie.Need-returns-2
+returns-2 c = λ l n. unfit-made _ _ _ _ (λ f. c .if2 .taken (f .1))
+
+returns-3 : tie.Need-returns-3
+returns-3 c = λ l n. short-made _ _ _ _ (c .if3 .taken)
+
+query-of-requires : tie.Need-query-of-requires
+query-of-requires c κs = search needs
+
+of-reply-requires : tie.Need-of-reply-requires
+of-reply-requires c κs = search needs
+
+write-requires : tie.Need-write-requires
+write-requires c κs = search needs
+
+same-length : tie.Need-same-length
+same-length c = search needs
+
+returns-4 : tie.Need-returns-4
+returns-4 c = λ l n. told-made _ _ _ _ (c .before .before .before .before .before .before .before .before .if1 .left, c .before .before .before .before .before .before .before .if2 .left) (c .before .before .before .before .before .before .if3 .left) _ _ (c .before .before .before .before .before .query-of .ensures l n) (λ f. f) _ (c .before .before .before .before .of-reply .ensures) _ (c .before .before .write .ensures .0) _ (c .before .before .write .ensures .1)
+
+pub query-spec : {M : Type 1} → statement M
+query-spec =
+    tie.close
+    (tie.spec
+    returns
+    returns-2
+    returns-3
+    query-of-requires
+    of-reply-requires
+    write-requires
+    same-length
+    returns-4)

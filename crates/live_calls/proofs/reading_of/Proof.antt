@@ -1,0 +1,29 @@
+use Rattle.work.specs.Work.{answered}
+use mathlib.Core.Path.{refl}
+use Rattle.live_memory.proofs.Acts.{no-party, acts-answers, ask-no-place, ask-done}
+use borrow.Author.Needs.{needs}
+use Rattle.live_calls.proofs.reading_of.Statement.{statement}
+use Rattle.live_calls.proofs.reading_of.Tie as tie
+
+returns : tie.Need-returns
+returns c = λ l r. no-party _ _ (c .if1 .taken)
+
+returns-2 : tie.Need-returns-2
+returns-2 c = λ l r. acts-answers _ _ _ _ _ refl (c .before .if1 .left) (ask-no-place l r _ _ _ (c .before .if1 .left) _ _ (c .if2 .taken))
+
+mul-reading : tie.Need-mul-reading
+mul-reading c = search needs
+
+add-reading : tie.Need-add-reading
+add-reading c = search needs
+
+reading-requires : tie.Need-reading-requires
+reading-requires c κs = search needs
+
+returns-3 : tie.Need-returns-3
+unfolding answered
+returns-3 c = λ l r. acts-answers _ _ _ _ _ refl (c .before .before .if1 .left) (ask-done l r _ _ _ (c .before .before .if1 .left) _ _ (c .before .if2 .left) _ (c .reading .ensures r))
+
+pub reading-of-spec : {M : Type 1} → statement M
+reading-of-spec =
+    tie.close (tie.spec returns returns-2 mul-reading add-reading reading-requires returns-3)

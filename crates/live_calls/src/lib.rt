@@ -1,0 +1,321 @@
+// One call by its arguments, on a holder in lists (contract 10.4). Each function takes the lists that its call goes by and no others, so that it needs no more stack than that call does.
+use calls::Action;
+use calls::PARTIES;
+use calls::PLACES;
+use calls::Question;
+use calls::Reading;
+use calls::Reply;
+use calls::written::of_reply;
+use calls::written::piece_in;
+use chart::Point;
+use chart::reply;
+use drawing::write_point;
+use live_memory::HEADS;
+use live_memory::LETTERS;
+use live_memory::NUMBERS;
+use live_memory::ROW_BYTES;
+ghost use mathlib.Core.Path.{_≡_};
+ghost use mathlib.Core.List.{List};
+ghost use Prim.Native.Nat.{ℕ};
+ghost use lib.ListN.{length};
+ghost use lib.IntN.{ℤ};
+ghost use Rattle.calls.specs.Calls.{by};
+ghost use Rattle.live_memory.specs.Layout.{DraftsFit, Fits, memory};
+ghost use Rattle.live_memory.specs.Writes.{Answers};
+ghost use Rattle.live.specs.Called.{spoken, Called, PointDrawn};
+
+fn begin_of(heads: &mut [u16], party: u8, start: Point) -> Reply
+    requires { ⌜ length (now heads) ≡ 40 ⌝ }
+    ensures { λ r. ⌜ ((letters rows : List ℕ) (numbers : List ℤ) → Answers (memory letters rows numbers (now (heads .entry))) (memory letters rows numbers (now (heads .exit))) (by party (Action.Begin start)) r) ⌝ }
+{
+    let at = party as usize;
+    if PARTIES <= at {
+        return Reply::NoParty;
+    }
+    live_drafts::begin(heads, at, start)
+}
+
+fn add_of(letters: &mut [u8], heads: &mut [u16], party: u8, letter: u8) -> Reply
+    requires { ⌜ DraftsFit (now letters) (now heads) ⌝ }
+    ensures { λ r. ⌜ ((rows : List ℕ) (numbers : List ℤ) → Answers (memory (now (letters .entry)) rows numbers (now (heads .entry))) (memory (now (letters .exit)) rows numbers (now (heads .exit))) (by party (Action.Add letter)) r) ⌝ }
+{
+    let at = party as usize;
+    if PARTIES <= at {
+        return Reply::NoParty;
+    }
+    live_drafts::add(letters, heads, at, letter)
+}
+
+fn drop_of(heads: &mut [u16], party: u8) -> Reply
+    requires { ⌜ length (now heads) ≡ 40 ⌝ }
+    ensures { λ r. ⌜ ((letters rows : List ℕ) (numbers : List ℤ) → Answers (memory letters rows numbers (now (heads .entry))) (memory letters rows numbers (now (heads .exit))) (by party Action.Drop) r) ⌝ }
+{
+    let at = party as usize;
+    if PARTIES <= at {
+        return Reply::NoParty;
+    }
+    live_drafts::drop(heads, at)
+}
+
+fn clear_of(heads: &mut [u16], party: u8, place: u8) -> Reply
+    requires { ⌜ length (now heads) ≡ 40 ⌝ }
+    ensures { λ r. ⌜ ((letters rows : List ℕ) (numbers : List ℤ) → Answers (memory letters rows numbers (now (heads .entry))) (memory letters rows numbers (now (heads .exit))) (by party (Action.Clear place)) r) ⌝ }
+{
+    let at = party as usize;
+    if PARTIES <= at {
+        return Reply::NoParty;
+    }
+    live::clear(heads, at, place)
+}
+
+fn close_of(
+    letters: &[u8],
+    rows: &mut [u8],
+    numbers: &mut [i16],
+    heads: &mut [u16],
+    party: u8,
+    place: u8,
+) -> Reply
+    requires { ⌜ Fits (memory (now letters) (now rows) (now numbers) (now heads)) ⌝ }
+    ensures { λ r. ⌜ Answers (memory (now (letters .entry)) (now (rows .entry)) (now (numbers .entry)) (now (heads .entry))) (memory (now (letters .entry)) (now (rows .exit)) (now (numbers .exit)) (now (heads .exit))) (by party (Action.Close place)) r ⌝ }
+{
+    let at = party as usize;
+    if PARTIES <= at {
+        return Reply::NoParty;
+    }
+    live::close_at(letters, rows, numbers, heads, at, place)
+}
+
+pub fn begin(heads: &mut [u16], party: u8, start: Point, reply: &mut [u16]) -> bool
+    ensures { λ r. ⌜ ((letters rows : List ℕ) (numbers : List ℤ) → Called (length (now (heads .entry)) ≡ 40) (memory letters rows numbers (now (heads .entry))) (memory letters rows numbers (now (heads .exit))) (spoken (by party (Action.Begin start)) (length (now (reply .entry)))) (now (reply .entry)) (now (reply .exit)) r) ⌝ }
+{
+    if heads.len() != HEADS {
+        return false;
+    }
+    if reply.len() < reply::NUMBERS {
+        return false;
+    }
+    let said = begin_of(heads, party, start);
+    reply::write(of_reply(said), reply)
+}
+
+pub fn add(letters: &mut [u8], heads: &mut [u16], party: u8, letter: u8, reply: &mut [u16]) -> bool
+    ensures { λ r. ⌜ ((rows : List ℕ) (numbers : List ℤ) → Called (DraftsFit (now (letters .entry)) (now (heads .entry))) (memory (now (letters .entry)) rows numbers (now (heads .entry))) (memory (now (letters .exit)) rows numbers (now (heads .exit))) (spoken (by party (Action.Add letter)) (length (now (reply .entry)))) (now (reply .entry)) (now (reply .exit)) r) ⌝ }
+{
+    if letters.len() != LETTERS {
+        return false;
+    }
+    if heads.len() != HEADS {
+        return false;
+    }
+    if reply.len() < reply::NUMBERS {
+        return false;
+    }
+    let said = add_of(letters, heads, party, letter);
+    reply::write(of_reply(said), reply)
+}
+
+pub fn drop(heads: &mut [u16], party: u8, reply: &mut [u16]) -> bool
+    ensures { λ r. ⌜ ((letters rows : List ℕ) (numbers : List ℤ) → Called (length (now (heads .entry)) ≡ 40) (memory letters rows numbers (now (heads .entry))) (memory letters rows numbers (now (heads .exit))) (spoken (by party Action.Drop) (length (now (reply .entry)))) (now (reply .entry)) (now (reply .exit)) r) ⌝ }
+{
+    if heads.len() != HEADS {
+        return false;
+    }
+    if reply.len() < reply::NUMBERS {
+        return false;
+    }
+    let said = drop_of(heads, party);
+    reply::write(of_reply(said), reply)
+}
+
+pub fn clear(heads: &mut [u16], party: u8, place: u8, reply: &mut [u16]) -> bool
+    ensures { λ r. ⌜ ((letters rows : List ℕ) (numbers : List ℤ) → Called (length (now (heads .entry)) ≡ 40) (memory letters rows numbers (now (heads .entry))) (memory letters rows numbers (now (heads .exit))) (spoken (by party (Action.Clear place)) (length (now (reply .entry)))) (now (reply .entry)) (now (reply .exit)) r) ⌝ }
+{
+    if heads.len() != HEADS {
+        return false;
+    }
+    if reply.len() < reply::NUMBERS {
+        return false;
+    }
+    let said = clear_of(heads, party, place);
+    reply::write(of_reply(said), reply)
+}
+
+pub fn close(
+    letters: &[u8],
+    rows: &mut [u8],
+    numbers: &mut [i16],
+    heads: &mut [u16],
+    party: u8,
+    place: u8,
+    reply: &mut [u16],
+) -> bool
+    ensures { λ r. ⌜ Called (Fits (memory (now (letters .entry)) (now (rows .entry)) (now (numbers .entry)) (now (heads .entry)))) (memory (now (letters .entry)) (now (rows .entry)) (now (numbers .entry)) (now (heads .entry))) (memory (now (letters .entry)) (now (rows .exit)) (now (numbers .exit)) (now (heads .exit))) (spoken (by party (Action.Close place)) (length (now (reply .entry)))) (now (reply .entry)) (now (reply .exit)) r ⌝ }
+{
+    if letters.len() != LETTERS {
+        return false;
+    }
+    if rows.len() != ROW_BYTES {
+        return false;
+    }
+    if numbers.len() != NUMBERS {
+        return false;
+    }
+    if heads.len() != HEADS {
+        return false;
+    }
+    if reply.len() < reply::NUMBERS {
+        return false;
+    }
+    let said = close_of(letters, rows, numbers, heads, party, place);
+    reply::write(of_reply(said), reply)
+}
+
+fn query_of(rows: &[u8], heads: &[u16], party: u8, place: u8, cell: Point) -> Reply
+    requires { ⌜ (length (now rows) ≡ 4080) × (length (now heads) ≡ 40) ⌝ }
+    ensures { λ r. ⌜ ((letters : List ℕ) (numbers : List ℤ) → Answers (memory letters (now (rows .entry)) numbers (now (heads .entry))) (memory letters (now (rows .entry)) numbers (now (heads .entry))) (by party (Action.Ask place (Question.Cell cell))) r) ⌝ }
+{
+    let at = party as usize;
+    if PARTIES <= at {
+        return Reply::NoParty;
+    }
+    let k = place as usize;
+    if PLACES <= k {
+        return Reply::NoPlace;
+    }
+    live_works::query(rows, heads, 4 * at + k, cell)
+}
+
+pub fn query(
+    rows: &[u8],
+    heads: &[u16],
+    party: u8,
+    place: u8,
+    cell: Point,
+    reply: &mut [u16],
+) -> bool
+    ensures { λ r. ⌜ ((letters : List ℕ) (numbers : List ℤ) → Called ((length (now (rows .entry)) ≡ 4080) × (length (now (heads .entry)) ≡ 40)) (memory letters (now (rows .entry)) numbers (now (heads .entry))) (memory letters (now (rows .entry)) numbers (now (heads .entry))) (spoken (by party (Action.Ask place (Question.Cell cell))) (length (now (reply .entry)))) (now (reply .entry)) (now (reply .exit)) r) ⌝ }
+{
+    if rows.len() != ROW_BYTES {
+        return false;
+    }
+    if heads.len() != HEADS {
+        return false;
+    }
+    if reply.len() < reply::NUMBERS {
+        return false;
+    }
+    let said = query_of(rows, heads, party, place, cell);
+    reply::write(of_reply(said), reply)
+}
+
+fn row_of(rows: &[u8], heads: &[u16], party: u8, place: u8, row: u16) -> Reply
+    requires { ⌜ (length (now rows) ≡ 4080) × (length (now heads) ≡ 40) ⌝ }
+    ensures { λ r. ⌜ ((letters : List ℕ) (numbers : List ℤ) → Answers (memory letters (now (rows .entry)) numbers (now (heads .entry))) (memory letters (now (rows .entry)) numbers (now (heads .entry))) (by party (Action.Ask place (Question.Row row))) r) ⌝ }
+{
+    let at = party as usize;
+    if PARTIES <= at {
+        return Reply::NoParty;
+    }
+    let k = place as usize;
+    if PLACES <= k {
+        return Reply::NoPlace;
+    }
+    live_works::row(rows, heads, 4 * at + k, row)
+}
+
+pub fn row(rows: &[u8], heads: &[u16], party: u8, place: u8, row: u16, reply: &mut [u16]) -> bool
+    ensures { λ r. ⌜ ((letters : List ℕ) (numbers : List ℤ) → Called ((length (now (rows .entry)) ≡ 4080) × (length (now (heads .entry)) ≡ 40)) (memory letters (now (rows .entry)) numbers (now (heads .entry))) (memory letters (now (rows .entry)) numbers (now (heads .entry))) (spoken (by party (Action.Ask place (Question.Row row))) (length (now (reply .entry)))) (now (reply .entry)) (now (reply .exit)) r) ⌝ }
+{
+    if rows.len() != ROW_BYTES {
+        return false;
+    }
+    if heads.len() != HEADS {
+        return false;
+    }
+    if reply.len() < reply::NUMBERS {
+        return false;
+    }
+    let said = row_of(rows, heads, party, place, row);
+    reply::write(of_reply(said), reply)
+}
+
+fn reading_of(numbers: &[i16], heads: &[u16], party: u8, place: u8, reading: Reading) -> Reply
+    requires { ⌜ (length (now numbers) ≡ 1600) × (length (now heads) ≡ 40) ⌝ }
+    ensures { λ r. ⌜ ((letters : List ℕ) (rows : List ℕ) → Answers (memory letters rows (now (numbers .entry)) (now (heads .entry))) (memory letters rows (now (numbers .entry)) (now (heads .entry))) (by party (Action.Ask place (Question.Reading reading))) r) ⌝ }
+{
+    let at = party as usize;
+    if PARTIES <= at {
+        return Reply::NoParty;
+    }
+    let k = place as usize;
+    if PLACES <= k {
+        return Reply::NoPlace;
+    }
+    live_works::reading(numbers, heads, 4 * at + k, reading)
+}
+
+pub fn reading(
+    numbers: &[i16],
+    heads: &[u16],
+    party: u8,
+    place: u8,
+    reading: Reading,
+    reply: &mut [u16],
+) -> bool
+    ensures { λ r. ⌜ ((letters : List ℕ) (rows : List ℕ) → Called ((length (now (numbers .entry)) ≡ 1600) × (length (now (heads .entry)) ≡ 40)) (memory letters rows (now (numbers .entry)) (now (heads .entry))) (memory letters rows (now (numbers .entry)) (now (heads .entry))) (spoken (by party (Action.Ask place (Question.Reading reading))) (length (now (reply .entry)))) (now (reply .entry)) (now (reply .exit)) r) ⌝ }
+{
+    if numbers.len() != NUMBERS {
+        return false;
+    }
+    if heads.len() != HEADS {
+        return false;
+    }
+    if reply.len() < reply::NUMBERS {
+        return false;
+    }
+    let said = reading_of(numbers, heads, party, place, reading);
+    reply::write(of_reply(said), reply)
+}
+
+fn piece_of(numbers: &[i16], heads: &[u16], party: u8, place: u8, position: u16) -> Reply
+    requires { ⌜ (length (now numbers) ≡ 1600) × (length (now heads) ≡ 40) ⌝ }
+    ensures { λ r. ⌜ ((letters : List ℕ) (rows : List ℕ) → Answers (memory letters rows (now (numbers .entry)) (now (heads .entry))) (memory letters rows (now (numbers .entry)) (now (heads .entry))) (by party (Action.Ask place (Question.Piece position))) r) ⌝ }
+{
+    let at = party as usize;
+    if PARTIES <= at {
+        return Reply::NoParty;
+    }
+    let k = place as usize;
+    if PLACES <= k {
+        return Reply::NoPlace;
+    }
+    live_works::piece(numbers, heads, 4 * at + k, position)
+}
+
+// With the point of a move or a line at the front of a list of its own (contract 10.5).
+pub fn piece(
+    numbers: &[i16],
+    heads: &[u16],
+    party: u8,
+    place: u8,
+    position: u16,
+    point: &mut [f32],
+    reply: &mut [u16],
+) -> bool
+    ensures call { λ r. ⌜ ((letters : List ℕ) (rows : List ℕ) → Called ((length (now (numbers .entry)) ≡ 1600) × (length (now (heads .entry)) ≡ 40)) (memory letters rows (now (numbers .entry)) (now (heads .entry))) (memory letters rows (now (numbers .entry)) (now (heads .entry))) (spoken (by party (Action.Ask place (Question.Piece position))) (length (now (reply .entry)))) (now (reply .entry)) (now (reply .exit)) r) ⌝ }
+    ensures point { λ r. ⌜ ((letters : List ℕ) (rows : List ℕ) → PointDrawn (memory letters rows (now (numbers .entry)) (now (heads .entry))) (spoken (by party (Action.Ask place (Question.Piece position))) (length (now (reply .entry)))) (now (point .entry)) (now (point .exit)) r) ⌝ }
+{
+    if numbers.len() != NUMBERS {
+        return false;
+    }
+    if heads.len() != HEADS {
+        return false;
+    }
+    if reply.len() < reply::NUMBERS {
+        return false;
+    }
+    let said = piece_of(numbers, heads, party, place, position);
+    write_point(piece_in(said), point);
+    reply::write(of_reply(said), reply)
+}

@@ -1,0 +1,2 @@
+-- The calls on a draft in lists, by cases.
+mod DraftCases

@@ -1,0 +1,63 @@
+-- Lists of other lengths and a reply without room are left; else the fields of the answer are written.
+use mathlib.Core.Path.{sym, _∙_}
+use mathlib.Core.Bool.{true≢false}
+use borrow.Author.Needs.{needs}
+use Rattle.live_pile.proofs.CallLaws.{fits-by, unfit-called, short-called, told-called, check-written}
+use Rattle.live_pile.proofs.check.Statement.{statement}
+use Rattle.live_pile.proofs.check.Tie as tie
+
+returns : tie.Need-returns
+returns c = (unfit-called _ _ _ (λ f. c .if1 .taken (f .rows)), λ e. absurd (true≢false (sym e)))
+
+returns-2 : tie.Need-returns-2
+returns-2 c = (unfit-called _ _ _ (λ f. c .if2 .taken (f .state)), λ e. absurd (true≢false (sym e)))
+
+returns-3 : tie.Need-returns-3
+returns-3 c = (short-called _ _ _ (c .if3 .taken), λ e. absurd (true≢false (sym e)))
+
+check-layers-requires : tie.Need-check-layers-requires
+check-layers-requires c κs = search needs
+
+of-reply-requires : tie.Need-of-reply-requires
+of-reply-requires c κs = search needs
+
+write-requires : tie.Need-write-requires
+write-requires c κs = search needs
+
+same-length : tie.Need-same-length
+same-length c = search needs
+
+same-length-2 : tie.Need-same-length-2
+same-length-2 c = search needs
+
+returns-4 : tie.Need-returns-4
+returns-4 c =
+    let wrote = c .before .before in
+    let named = wrote .before .before in
+    let state = named .before .before in
+    let checked = state .before in
+    let third = checked .before .before in
+    let r = third .before .before .if1 .left in
+    let s = third .before .if2 .left in
+    let room = third .if3 .left in
+    let fields = named .of-reply .ensures in (
+      told-called _ _ _ (fits-by _ r s) room _ _ (checked .check-layers .ensures .0) (fits-by _ r (state .state .given ∙ s)) _ fields _
+          (wrote .write .ensures .0)
+          _
+          (wrote .write .ensures .1),
+      λ e. check-written _ _ _ room (wrote .write .ensures .1) _ (checked .check-layers .ensures .1) fields,
+    )
+
+pub check-spec : {M : Type 1} → statement M
+check-spec =
+    tie.close
+    (tie.spec
+    returns
+    returns-2
+    returns-3
+    check-layers-requires
+    of-reply-requires
+    write-requires
+    same-length
+    same-length-2
+    returns-4)

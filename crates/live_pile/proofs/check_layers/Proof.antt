@@ -1,0 +1,77 @@
+-- The columns, then the rows, as in the definition, and the outcome in the state.
+use native.Mathlib.Omega.{arith}
+use borrow.Author.Needs.{needs}
+use Rattle.live_pile.proofs.CallLaws.{column-checks, row-checks, passing-checks}
+use Rattle.live_pile.proofs.check_layers.Statement.{statement}
+use Rattle.live_pile.proofs.check_layers.Tie as tie
+
+dented-column-requires : tie.Need-dented-column-requires
+dented-column-requires c κs = search needs
+
+slice-write-state : tie.Need-slice-write-state
+slice-write-state c = search needs
+
+same-length : tie.Need-same-length
+same-length c = search needs
+
+returns : tie.Need-returns
+returns c =
+    let columns = c .before in
+    let start = columns .before .before .before in
+    let one = start .pre .state in
+    column-checks (start .args .rows .now) (start .args .state .now) one _ (columns .dented-column .ensures) (c .if1 .taken)
+
+dented-row-requires : tie.Need-dented-row-requires
+dented-row-requires c κs = search needs
+
+slice-write-state-2 : tie.Need-slice-write-state-2
+slice-write-state-2 c = search needs
+
+same-length-2 : tie.Need-same-length-2
+same-length-2 c = search needs
+
+returns-2 : tie.Need-returns-2
+returns-2 c =
+    let columns = c .before .before .before in
+    let bytes = columns .before .before in
+    let start = bytes .before in
+    let one = start .pre .state in
+    row-checks (start .args .rows .now) (start .args .state .now) one _ (columns .dented-column .ensures) (c .before .before .if1 .left)
+    (λ i. omega (arith, bytes .shared-slice-known .given i))
+    _
+    (c .before .dented-row .ensures)
+    (c .if2 .taken)
+
+slice-write-state-3 : tie.Need-slice-write-state-3
+slice-write-state-3 c = search needs
+
+same-length-3 : tie.Need-same-length-3
+same-length-3 c = search needs
+
+returns-3 : tie.Need-returns-3
+returns-3 c =
+    let columns = c .before .before .before in
+    let bytes = columns .before .before in
+    let start = bytes .before in
+    let one = start .pre .state in
+    passing-checks (start .args .rows .now) (start .args .state .now) one _ (columns .dented-column .ensures) (c .before .before .if1 .left)
+    (λ i. omega (arith, bytes .shared-slice-known .given i))
+    _
+    (c .before .dented-row .ensures)
+    (c .if2 .left)
+
+pub check-layers-spec : {M : Type 1} → statement M
+check-layers-spec =
+    tie.close
+    (tie.spec
+    dented-column-requires
+    slice-write-state
+    same-length
+    returns
+    dented-row-requires
+    slice-write-state-2
+    same-length-2
+    returns-2
+    slice-write-state-3
+    same-length-3
+    returns-3)

@@ -1,0 +1,51 @@
+-- Lists of other lengths and a reply without room are left; else the fields of the answer are written.
+use borrow.Author.Needs.{needs}
+use Rattle.live_pile.proofs.CallLaws.{fits-by, unfit-called, short-called, told-called}
+use Rattle.live_pile.proofs.query.Statement.{statement}
+use Rattle.live_pile.proofs.query.Tie as tie
+
+returns : tie.Need-returns
+returns c = unfit-called _ _ _ (λ f. c .if1 .taken (f .rows))
+
+returns-2 : tie.Need-returns-2
+returns-2 c = unfit-called _ _ _ (λ f. c .if2 .taken (f .state))
+
+returns-3 : tie.Need-returns-3
+returns-3 c = short-called _ _ _ (c .if3 .taken)
+
+query-layer-requires : tie.Need-query-layer-requires
+query-layer-requires c κs = search needs
+
+of-reply-requires : tie.Need-of-reply-requires
+of-reply-requires c κs = search needs
+
+write-requires : tie.Need-write-requires
+write-requires c κs = search needs
+
+same-length : tie.Need-same-length
+same-length c = search needs
+
+returns-4 : tie.Need-returns-4
+returns-4 c =
+    let wrote = c .before .before in
+    let named = wrote .before .before in
+    let asked = named .before in
+    let third = asked .before in
+    let fit = fits-by _ (third .before .before .if1 .left) (third .before .if2 .left) in
+    told-called _ _ _ fit (third .if3 .left) _ _ (asked .query-layer .ensures) fit _ (named .of-reply .ensures) _
+    (wrote .write .ensures .0)
+    _
+    (wrote .write .ensures .1)
+
+pub query-spec : {M : Type 1} → statement M
+query-spec =
+    tie.close
+    (tie.spec
+    returns
+    returns-2
+    returns-3
+    query-layer-requires
+    of-reply-requires
+    write-requires
+    same-length
+    returns-4)

@@ -1,0 +1,67 @@
+-- Lists of other lengths and a reply without room are left; else the fields of the answer are written.
+use mathlib.Core.Path.{_∙_}
+use borrow.Author.Needs.{needs}
+use Rattle.live_pile.proofs.CallLaws.{fits-by, unfit-called, short-called, told-called}
+use Rattle.live_pile.proofs.set_empty.Statement.{statement}
+use Rattle.live_pile.proofs.set_empty.Tie as tie
+
+returns : tie.Need-returns
+returns c = unfit-called _ _ _ (λ f. c .if1 .taken (f .rows))
+
+returns-2 : tie.Need-returns-2
+returns-2 c = unfit-called _ _ _ (λ f. c .if2 .taken (f .state))
+
+returns-3 : tie.Need-returns-3
+returns-3 c = short-called _ _ _ (c .if3 .taken)
+
+empty-layer-requires : tie.Need-empty-layer-requires
+empty-layer-requires c κs = search needs
+
+of-reply-requires : tie.Need-of-reply-requires
+of-reply-requires c κs = search needs
+
+write-requires : tie.Need-write-requires
+write-requires c κs = search needs
+
+same-length : tie.Need-same-length
+same-length c = search needs
+
+same-length-2 : tie.Need-same-length-2
+same-length-2 c = search needs
+
+same-length-3 : tie.Need-same-length-3
+same-length-3 c = search needs
+
+returns-4 : tie.Need-returns-4
+returns-4 c =
+    let wrote = c .before .before in
+    let named = wrote .before .before in
+    let state = named .before .before in
+    let rows = state .before .before in
+    let emptied = rows .before in
+    let third = emptied .before .before .before in
+    let r = third .before .before .if1 .left in
+    let s = third .before .if2 .left in
+    let room = third .if3 .left in
+    let left = fits-by _ (rows .rows .given ∙ r) (state .state .given ∙ s) in
+    told-called _ _ _ (fits-by _ r s) room _ _ (emptied .empty-layer .ensures) left _
+    (named .of-reply .ensures)
+    _
+    (wrote .write .ensures .0)
+    _
+    (wrote .write .ensures .1)
+
+pub set-empty-spec : {M : Type 1} → statement M
+set-empty-spec =
+    tie.close
+    (tie.spec
+    returns
+    returns-2
+    returns-3
+    empty-layer-requires
+    of-reply-requires
+    write-requires
+    same-length
+    same-length-2
+    same-length-3
+    returns-4)

@@ -1,0 +1,68 @@
+use native.Mathlib.Omega.{arith}
+use mathlib.Core.Path.{refl}
+use Rattle.pile.proofs.CallLaws.{set-high, set-refused, set-taken}
+use Rattle.live_pile.proofs.CallLaws.{set-acts}
+use Rattle.live_pile.proofs.PileLaws.{pile-put}
+use borrow.Author.Needs.{needs}
+use Rattle.live_pile.proofs.set_layer.Statement.{statement}
+use Rattle.live_pile.proofs.set_layer.Tie as tie
+
+returns : tie.Need-returns
+returns c = set-acts _ _ _ _ refl _ _ (set-high _ _ _ (c .if1 .taken))
+
+slice-aggregate-judge : tie.Need-slice-aggregate-judge
+slice-aggregate-judge c = search needs
+
+judge-requires : tie.Need-judge-requires
+judge-requires c κs = search needs
+
+enum-known-verdict : tie.Need-enum-known-verdict
+enum-known-verdict c = search needs
+
+enum-known-verdict-2 : tie.Need-enum-known-verdict-2
+enum-known-verdict-2 c = search needs
+
+put-outline-requires : tie.Need-put-outline-requires
+put-outline-requires c κs = search needs
+
+slice-write-state : tie.Need-slice-write-state
+slice-write-state c = search needs
+
+returns-2 : tie.Need-returns-2
+returns-2 c =
+    let judged = c .before .before .before .before in
+    let low = judged .before .before .if1 .left in
+    set-acts _ _ _ _ refl _ _ (set-refused _ _ _ low (judged .judge .ensures .0) _ (c .before .verdict .given .1))
+
+same-length : tie.Need-same-length
+same-length c = search needs
+
+same-length-2 : tie.Need-same-length-2
+same-length-2 c = search needs
+
+returns-3 : tie.Need-returns-3
+returns-3 c =
+    let written = c .before .before in
+    let told = written .before .before .before in
+    let judged = told .before .before .before in
+    let low = judged .before .before .if1 .left in
+    let start = judged .before .before .before .before .before .before in
+    set-acts _ _ _ _
+    (pile-put (start .args .rows .now) (start .args .state .now) (start .pre .state) _ (omega (arith, low)) _ _ (written .put-outline .ensures)) _ _
+    (set-taken _ _ _ low (judged .judge .ensures .0) _ _ (told .verdict2 .given .1) _ refl _ refl)
+
+pub set-layer-spec : {M : Type 1} → statement M
+set-layer-spec =
+    tie.close
+    (tie.spec
+    returns
+    slice-aggregate-judge
+    judge-requires
+    enum-known-verdict
+    enum-known-verdict-2
+    put-outline-requires
+    slice-write-state
+    returns-2
+    same-length
+    same-length-2
+    returns-3)

@@ -1,0 +1,259 @@
+-- What a reader takes from the replies of calls made one by one: each is the reply by value after the calls before it, so what is known of that one holds of its seven numbers.
+use Prim.Native.Nat.{ℕ, _≤_, _<_}
+use native.Mathlib.Omega.{arith}
+use mathlib.Core.Path.{_≡_, refl, sym, ap, _∙_}
+use mathlib.Core.Logic.{_↔_, _⊎_, inl, inr}
+use mathlib.Core.Bool.{Bool, true, false, cond}
+use mathlib.Core.Option.{none, some}
+use mathlib.Core.List.{List}
+use lib.Ieee.{Float}
+use Rattle.chart.specs.Limits.{side}
+use Rattle.chart.specs.Outline.{Outline}
+use Rattle.chart.specs.declared.Fields.{Fields}
+use Rattle.chart.specs.declared.Point.{Point}
+use Rattle.chart.specs.declared.Refusal.{Refusal}
+use Rattle.chart.specs.declared.Refusal.the-variants.{Count, Start, Letter, Leaves, Unclosed, Touches, BackStep, Dent, Room, List as BadList, Cell, Turning}
+use Rattle.chart.specs.declared.Verdict.{Verdict}
+use Rattle.chart.specs.declared.Verdict.the-variants.{Taken, Refused}
+use Rattle.chart.specs.Fields.{inside, outside, same, undecided, refusalFields, verdictFields}
+use Rattle.lattice.specs.Hull.{Missing, Full}
+use Rattle.lattice.specs.Refusals.{Simple}
+use Rattle.convexity.specs.Reading.{border, block}
+use Rattle.convexity.specs.Pieces.{Reaches, edges}
+use Rattle.convexity.specs.SameBlock.{SameCells}
+use Rattle.verdict.specs.Verdict.{verdictOf}
+use Rattle.verdict.specs.Named.{CellNamed}
+use Rattle.spans.specs.declared.Span.{Span}
+use Rattle.spans.specs.declared.Span.the-variants.{None as Empty, Columns as Across}
+use Rattle.spans.specs.Spans.{rowSpan, SpanExact, spanReply}
+use Rattle.readings.specs.declared.Located.{Located}
+use Rattle.readings.specs.declared.Located.the-variants.{Inside as IsInside, Outside as IsOutside, Undecided as IsUndecided, Refused as IsRefused}
+use Rattle.readings.specs.Located.{Held, badReading, exactlyInside, locatedOf}
+use Rattle.readings.specs.Claims.{Open}
+use Rattle.readings.specs.Replies.{locatedReply}
+use Rattle.calls.specs.Calls.{parties, places, by}
+use Rattle.calls.specs.Replies.{columns, none as none-word, replyFields, pieceIn}
+use Rattle.calls.specs.declared.Call.{Call}
+use Rattle.calls.specs.declared.Reading.{Reading}
+use Rattle.calls.specs.declared.Reply.{Reply}
+use Rattle.calls.specs.declared.Reply.the-variants.{Inside, Outside, Undecided, Columns, None, Same}
+use Rattle.calls.specs.declared.Action.the-variants.{Close, Ask}
+use Rattle.calls.specs.declared.Question.the-variants.{Cell as OfCell, Row as OfRow, Reading as OfReading, Piece as OfPiece}
+use Rattle.drawing.specs.Drawing.{strokeAt}
+use Rattle.drawing.specs.Points.{pieceOf, drawnReply, pointAfter}
+use Rattle.book.specs.Book.{drafted, fresh, equalsWork, closedReply, bookAfter}
+use Rattle.book.specs.LastTaken.{lastTaken}
+use Rattle.holder.specs.declared.Holder.{Holder}
+use Rattle.holder.specs.Holder.{freshHolder}
+use Rattle.holder.specs.Run.{holderAfter, replyAfter as replyTo}
+use Rattle.agreement.proofs.Queries as Queries
+use Rattle.agreement.proofs.Closes as Closes
+use Rattle.agreement.proofs.Rows as Rows
+use Rattle.agreement.proofs.Readings as Readings
+use Rattle.agreement.proofs.Pieces as Pieces
+use Rattle.live.specs.Called.{pieceDrawn}
+use Rattle.live_refinement.specs.Run.{Replied}
+use Rattle.live_refinement.proofs.Entries.{replied-by-value}
+
+-- Two numerals that differ
+differ : {A : Type 0} → _≡_ {A = ℕ} 0 1 → A
+differ z = absurd (omega (arith, z))
+
+-- ---- a query
+
+word-inside : (t : Bool) → (replyFields (cond t Inside Outside) .word ≡ inside) ↔ (t ≡ true)
+unfolding replyFields
+word-inside true = (λ e. refl, λ e. refl)
+word-inside false = (λ e. absurd (omega (arith, e)), λ e. cc)
+
+word-outside : (t : Bool) → (replyFields (cond t Inside Outside) .word ≡ outside) ↔ (t ≡ false)
+unfolding replyFields
+word-outside true = (λ e. absurd (omega (arith, e)), λ e. cc)
+word-outside false = (λ e. refl, λ e. refl)
+
+module _ (cs : List Call) (p k : ℕ) (there : p < parties) (place : k < places) (x : Point) (g : Fields) (replied : Replied cs (by p (Ask k (OfCell x))) g) where
+  -- 12 exactly where nothing was taken at the party's place since the last clear
+  pub query-nothing : (g .number ≡ 12) ↔ (lastTaken p k cs ≡ none)
+  query-nothing = rw (replied-by-value cs _ g replied) (Queries.query-nothing p k there place cs x)
+
+  -- "Inside" exactly where the outline last taken there encloses the cell, and else "outside" (contract 8.4)
+  module _ (o : Outline) (last : lastTaken p k cs ≡ some o) (col : x .col < side) (row : x .row < side) where
+    pub query-inside : (g .word ≡ inside) ↔ (block o (x .col) (x .row) ≡ true)
+    query-inside = rw (replied-by-value cs _ g replied, Queries.query-answered p k there place cs x o last col row) (word-inside (block o (x .col) (x .row)))
+
+    pub query-outside : (g .word ≡ outside) ↔ (block o (x .col) (x .row) ≡ false)
+    query-outside = rw (replied-by-value cs _ g replied, Queries.query-answered p k there place cs x o last col row) (word-outside (block o (x .col) (x .row)))
+
+-- ---- a close
+
+refusal-wordless : (f : Refusal) → refusalFields f .word ≡ 0
+refusal-wordless Count = refl
+refusal-wordless Start = refl
+refusal-wordless (Letter q) = refl
+refusal-wordless (Leaves q) = refl
+refusal-wordless Unclosed = refl
+refusal-wordless (Touches q) = refl
+refusal-wordless (BackStep i q) = refl
+refusal-wordless (Dent i q l x) = refl
+refusal-wordless (Room e) = refl
+refusal-wordless BadList = refl
+refusal-wordless Cell = refl
+refusal-wordless Turning = refl
+
+word-same : (t : Bool) (v : Verdict) → (replyFields (closedReply t v) .word ≡ same) ↔ ((n : ℕ) × (a : Point) × (closedReply t v ≡ Same n a))
+unfolding replyFields closedReply
+word-same t (Refused f) = (λ e. absurd (omega (arith, e, refusal-wordless f)), λ e. let z = e .2 in differ cc)
+word-same true (Taken n a) = (λ e. (n, a, refl), λ e. refl)
+word-same false (Taken n a) = (λ e. absurd (omega (arith, e)), λ e. let z = e .2 in differ cc)
+
+refusal-number : (f : Refusal) → refusalFields f .number ≡ 0 → ⊥
+refusal-number Count e = omega (arith, e)
+refusal-number Start e = omega (arith, e)
+refusal-number (Letter q) e = omega (arith, e)
+refusal-number (Leaves q) e = omega (arith, e)
+refusal-number Unclosed e = omega (arith, e)
+refusal-number (Touches q) e = omega (arith, e)
+refusal-number (BackStep i q) e = omega (arith, e)
+refusal-number (Dent i q l x) e = omega (arith, e)
+refusal-number (Room n) e = omega (arith, e)
+refusal-number BadList e = omega (arith, e)
+refusal-number Cell e = omega (arith, e)
+refusal-number Turning e = omega (arith, e)
+
+taken-by-number : (v : Verdict) → verdictFields v .number ≡ 0 → (n : ℕ) × (a : Point) × (v ≡ Taken n a)
+taken-by-number (Taken n a) e = (n, a, refl)
+taken-by-number (Refused f) e = absurd (refusal-number f e)
+
+never-same : (v : Verdict) → replyFields (closedReply false v) .word ≡ same → ⊥
+unfolding replyFields closedReply
+never-same (Refused f) e = omega (arith, e, refusal-wordless f)
+never-same (Taken n a) e = omega (arith, e)
+
+-- A close by party p at place k, where its draft is o
+module _ (cs : List Call) (p k : ℕ) (there : p < parties) (place : k < places) (o : Outline) (draft : drafted (bookAfter fresh cs) p ≡ some o) (g : Fields)
+    (replied : Replied cs (by p (Close k)) g) where
+  closed : g ≡ replyFields (closedReply (equalsWork o (lastTaken p k cs)) (verdictOf o))
+  closed = replied-by-value cs _ g replied ∙ ap replyFields (Closes.close-reply p k there place cs o draft)
+
+  -- Its number is that of the draft's verdict
+  pub close-number : g .number ≡ verdictFields (verdictOf o) .number
+  close-number = ap (λ (f : Fields). f .number) (replied-by-value cs _ g replied) ∙ Closes.close-number p k there place cs o draft
+
+  -- 9 exactly where some cell is in the hull of the enclosed cells and not enclosed, of a draft that reaches the dent test (contract 8.4)
+  pub close-nine : Reaches o → (g .number ≡ 9) ↔ ((x : Point) × Missing (block o) x)
+  close-nine r = rw (replied-by-value cs _ g replied) (Closes.close-nine-missing p k there place cs o draft r)
+
+  -- 0 exactly where no cell is missing, of a draft past 1 to 6 (contract 8.5)
+  pub close-taken : Simple o → (g .number ≡ 0) ↔ Full (block o)
+  close-taken h = rw (replied-by-value cs _ g replied) (Closes.close-taken-full p k there place cs o draft h)
+
+  -- With 0 the cell is the anchor, and with 9 it is the lowest missing one, leftmost in its row
+  pub close-named : CellNamed o g
+  close-named = rw (replied-by-value cs _ g replied) (Closes.close-named p k there place cs o draft)
+
+  -- "Same" exactly for a draft that is taken and encloses the cells of the outline last taken at its place (contract 7.7)
+  pub close-same : (v : Outline) → lastTaken p k cs ≡ some v → (g .word ≡ same) ↔ ((g .number ≡ 0) × SameCells o v)
+  close-same v last = (to, from)
+    where
+      to : g .word ≡ same → (g .number ≡ 0) × SameCells o v
+      to e =
+          let (n, a, s) = word-same (equalsWork o (lastTaken p k cs)) (verdictOf o) .0 (sym (ap (λ (f : Fields). f .word) closed) ∙ e) in
+          let both = Closes.close-same p k there place cs o draft v last n a .0 (Closes.close-reply p k there place cs o draft ∙ s) in
+          (close-number ∙ ap (λ (w : Verdict). verdictFields w .number) (both .0), both .1)
+
+      from : (g .number ≡ 0) × SameCells o v → g .word ≡ same
+      from e =
+          let (n, a, t) = taken-by-number (verdictOf o) (sym close-number ∙ e .0) in
+          let s = Closes.close-same p k there place cs o draft v last n a .1 (t, e .1) in
+          ap (λ (f : Fields). f .word) closed ∙ word-same (equalsWork o (lastTaken p k cs)) (verdictOf o) .1 (n, a, sym (Closes.close-reply p k there place cs o draft) ∙ s)
+
+  -- And never where nothing is at work
+  pub close-not-same : lastTaken p k cs ≡ none → g .word ≡ same → ⊥
+  unfolding equalsWork
+  close-not-same last e =
+      never-same (verdictOf o) (ap (λ (t : Bool). replyFields (closedReply t (verdictOf o)) .word) (sym (ap (equalsWork o) last)) ∙ sym (ap (λ (f : Fields). f .word) closed) ∙ e)
+
+-- ---- a row
+
+word-columns : (marked : ℕ → ℕ → Bool) (r : ℕ) (s : Span) → SpanExact marked r s → replyFields (spanReply s) .word ≡ columns
+    → (c : ℕ) → (marked c r ≡ true) ↔ ((replyFields (spanReply s) .col ≤ c) × (c ≤ replyFields (spanReply s) .row))
+unfolding SpanExact spanReply replyFields
+word-columns marked r Empty exact e c = absurd (omega (arith, e))
+word-columns marked r (Across a b) exact e c = exact c
+
+word-none : (marked : ℕ → ℕ → Bool) (r : ℕ) (s : Span) → SpanExact marked r s → replyFields (spanReply s) .word ≡ none-word → (c : ℕ) → marked c r ≡ false
+unfolding SpanExact spanReply replyFields
+word-none marked r Empty exact e c = exact c
+word-none marked r (Across a b) exact e c = absurd (omega (arith, e))
+
+either-word : (s : Span) → (replyFields (spanReply s) .word ≡ columns) ⊎ (replyFields (spanReply s) .word ≡ none-word)
+unfolding spanReply replyFields
+either-word Empty = inr refl
+either-word (Across a b) = inl refl
+
+module _ (cs : List Call) (p k : ℕ) (there : p < parties) (place : k < places) (r : ℕ) (row : r < side) (o : Outline) (last : lastTaken p k cs ≡ some o) (g : Fields)
+    (replied : Replied cs (by p (Ask k (OfRow r))) g) where
+  spanned : g ≡ replyFields (spanReply (rowSpan (block o) r))
+  spanned = replied-by-value cs _ g replied ∙ ap replyFields (Rows.row-reply p k there place cs r o last row)
+
+  -- "Columns" or "none": the first with the columns that the outline last taken encloses, every one between the two given and no other; the second where it encloses none (contract 7.9)
+  pub row-word : (g .word ≡ columns) ⊎ (g .word ≡ none-word)
+  row-word = rw spanned (either-word (rowSpan (block o) r))
+
+  pub row-columns : g .word ≡ columns → (c : ℕ) → (block o c r ≡ true) ↔ ((g .col ≤ c) × (c ≤ g .row))
+  row-columns e = let w = sym (ap (λ (f : Fields). f .word) spanned) ∙ e in rw spanned (word-columns (block o) r (rowSpan (block o) r) (Rows.row-exact p k there place cs r o last row) w)
+
+  pub row-none : g .word ≡ none-word → (c : ℕ) → block o c r ≡ false
+  row-none e = word-none (block o) r (rowSpan (block o) r) (Rows.row-exact p k there place cs r o last row) (sym (ap (λ (f : Fields). f .word) spanned) ∙ e)
+
+-- ---- a reading
+
+-- The word of what was found
+word-of : (l : Located) → ((replyFields (locatedReply l) .word ≡ inside) ↔ (locatedReply l ≡ Inside)) × ((replyFields (locatedReply l) .word ≡ outside) ↔ (locatedReply l ≡ Outside))
+    × ((replyFields (locatedReply l) .word ≡ undecided) ↔ (locatedReply l ≡ Undecided))
+unfolding locatedReply replyFields
+word-of IsInside = ((λ e. refl, λ e. refl), (λ e. absurd (omega (arith, e)), λ e. differ cc), (λ e. absurd (omega (arith, e)), λ e. differ cc))
+word-of IsOutside = ((λ e. absurd (omega (arith, e)), λ e. differ cc), (λ e. refl, λ e. refl), (λ e. absurd (omega (arith, e)), λ e. differ cc))
+word-of IsUndecided = ((λ e. absurd (omega (arith, e)), λ e. differ cc), (λ e. absurd (omega (arith, e)), λ e. differ cc), (λ e. refl, λ e. refl))
+word-of IsRefused = ((λ e. absurd (omega (arith, e)), λ e. differ cc), (λ e. absurd (omega (arith, e)), λ e. differ cc), (λ e. absurd (omega (arith, e)), λ e. differ cc))
+
+module _ (cs : List Call) (p k : ℕ) (there : p < parties) (place : k < places) (x : Reading) (held : Held x) (good : badReading x ≡ false) (o : Outline) (last : lastTaken p k cs ≡ some o)
+    (g : Fields) (replied : Replied cs (by p (Ask k (OfReading x))) g) where
+  abbrev found : Located
+  found = locatedOf (border o .start) (edges (border o)) x
+
+  reply-is : g ≡ replyFields (locatedReply found)
+  reply-is = replied-by-value cs _ g replied ∙ ap replyFields (Readings.reading-reply p k there place cs x o last)
+
+  -- The word says the reply by value
+  said : {w : ℕ} {r : Reply} → (replyFields (locatedReply found) .word ≡ w) ↔ (locatedReply found ≡ r) → (g .word ≡ w) ↔ (replyTo cs (by p (Ask k (OfReading x))) ≡ r)
+  said i = (
+    λ e. Readings.reading-reply p k there place cs x o last ∙ i .0 (sym (ap (λ (f : Fields). f .word) reply-is) ∙ e),
+    λ e. ap (λ (f : Fields). f .word) reply-is ∙ i .1 (sym (Readings.reading-reply p k there place cs x o last) ∙ e),
+  )
+
+  -- "Inside" is said only where the reading is exactly inside, and "outside" only where it is not; the third word is for the strip along the edges (contract 8.7)
+  pub reading-inside : g .word ≡ inside → exactlyInside (border o .start) (edges (border o)) x ≡ true
+  reading-inside e = Readings.reading-inside p k there place cs x o last held good (said (word-of found .0) .0 e)
+
+  pub reading-outside : g .word ≡ outside → exactlyInside (border o .start) (edges (border o)) x ≡ false
+  reading-outside e = Readings.reading-outside p k there place cs x o last held good (said (word-of found .1) .0 e)
+
+  pub reading-undecided : (g .word ≡ undecided) ↔ Open (border o .start) (edges (border o)) x
+  reading-undecided =
+      let i = said (word-of found .2) in
+      let j = Readings.reading-undecided p k there place cs x o last held good in
+      (λ e. j .0 (i .0 e), λ e. i .1 (j .1 e))
+
+-- ---- a piece
+
+module _ (cs : List Call) (p k : ℕ) (there : p < parties) (place : k < places) (n : ℕ) (o : Outline) (last : lastTaken p k cs ≡ some o) where
+  -- The piece at position n of the drawing of the outline last taken: its word, and the cell at whose centre its point lies (contract 7.11)
+  pub piece-fields : (g : Fields) → Replied cs (by p (Ask k (OfPiece n))) g → g ≡ replyFields (drawnReply (strokeAt (border o .start) (edges (border o)) n))
+  piece-fields g replied = replied-by-value cs _ g replied ∙ ap replyFields (Pieces.piece-reply p k there place cs o last n)
+
+  -- And the point that is written beside the reply: two floats of a move or a line (contract 10.5)
+  pub piece-point : (h : Holder) → h ≡ holderAfter freshHolder cs → (point : List Float)
+      → pieceDrawn h (by p (Ask k (OfPiece n))) point ≡ pointAfter (pieceOf (strokeAt (border o .start) (edges (border o)) n)) point
+  unfolding pieceDrawn replyTo pieceIn drawnReply
+  piece-point h e point = rw e (ap (λ (r : Reply). pointAfter (pieceIn r) point) (Pieces.piece-reply p k there place cs o last n))

@@ -1,0 +1,124 @@
+-- Every layer passed has its rows with the column, which are among those that it reaches.
+use Prim.Native.Nat.{_-_, _<_}
+use native.Mathlib.Omega.{arith}
+use mathlib.Core.Path.{_∙_}
+use borrow.Author.Needs.{needs}
+use Rattle.sections.specs.Sections.{layers}
+use Rattle.pile.specs.Pile.{layerAt, lowestRow, afterHighest, columnSection}
+use Rattle.live_sections.specs.Layers.{layersOf}
+use Rattle.live_sections.proofs.FillLaws.{Filling, filling-start, filling-next, filling-end}
+use Rattle.live_sections.proofs.LayerLaws.{column-low, column-high}
+use Rattle.live_sections.proofs.ReachLaws.{from-none, to-none, low-none}
+use Rattle.live_sections.proofs.column.Statement.{statement}
+use Rattle.live_sections.proofs.column.Tie as tie
+
+abbrev Inv-loop : tie.InvT-loop
+Inv-loop rows col bottoms tops lo₀ past₀ l₀ lo past l =
+    Filling (λ k. lowestRow (layerAt (layersOf rows) k) col) (λ k. afterHighest (layerAt (layersOf rows) k) col) lo past l
+
+abbrev μ-loop : tie.MeasureT-loop
+μ-loop rows col bottoms tops lo₀ past₀ l₀ lo past l = layers - l
+
+loop-holds : tie.Need-loop-holds Inv-loop μ-loop
+loop-holds c = filling-start _ _
+
+mul-at : tie.Need-mul-at Inv-loop μ-loop
+mul-at c = search needs
+
+part-requires : tie.Need-part-requires Inv-loop μ-loop
+part-requires c κs = (search needs, search needs)
+
+add-part : tie.Need-add-part Inv-loop μ-loop
+add-part c = search needs
+
+part-requires-2 : tie.Need-part-requires-2 Inv-loop μ-loop
+part-requires-2 c κs = (search needs, search needs)
+
+array-read-to : tie.Need-array-read-to Inv-loop μ-loop
+array-read-to c = search needs
+
+array-read-lowest : tie.Need-array-read-lowest Inv-loop μ-loop
+array-read-lowest c = search needs
+
+lowest-requires : tie.Need-lowest-requires Inv-loop μ-loop
+lowest-requires c κs =
+    let turn = c .before .before in
+    let at = turn .before .loop in
+    let start = turn .before .before .before .before .before in
+    let rows = start .args .rows .now in
+    let in-range : at .l < layers = turn .loop-test .taken in
+    let (begins, full) = c .before .part .ensures in
+    let (ends, full-too) = c .part2 .ensures in (
+      full,
+      full-too,
+      from-none rows (at .l) in-range _ _ begins ends (start .args .reach) (start .pre .1) (start .args .col),
+      to-none rows (at .l) in-range _ _ begins ends (start .args .reach) (start .pre .1) (start .args .col),
+    )
+
+array-write-lo : tie.Need-array-write-lo Inv-loop μ-loop
+array-write-lo c = omega arith
+
+after-highest-requires : tie.Need-after-highest-requires Inv-loop μ-loop
+after-highest-requires c κs =
+    let parts = c .before in
+    let turn = parts .before .before in
+    let at = turn .before .loop in
+    let start = turn .before .before .before .before .before in
+    let rows = start .args .rows .now in
+    let in-range : at .l < layers = turn .loop-test .taken in
+    let (begins, full) = parts .before .part .ensures in
+    let (ends, full-too) = parts .part2 .ensures in (
+      full,
+      full-too,
+      low-none _ _ (start .args .col) _ (c .lowest .ensures),
+      to-none rows (at .l) in-range _ _ begins ends (start .args .reach) (start .pre .1) (start .args .col),
+    )
+
+array-write-past : tie.Need-array-write-past Inv-loop μ-loop
+array-write-past c = omega arith
+
+add-l : tie.Need-add-l Inv-loop μ-loop
+add-l c = omega arith
+
+loop-less : tie.Need-loop-less Inv-loop μ-loop
+loop-less c = omega arith
+
+loop-again : tie.Need-loop-again Inv-loop μ-loop
+loop-again c =
+    let parts = c .before .before in
+    let turn = parts .before .before in
+    let at = turn .before .loop in
+    let start = turn .before .before .before .before .before in
+    let rows = start .args .rows .now in
+    let col = start .args .col in
+    let in-range : at .l < layers = turn .loop-test .taken in
+    let begins = parts .before .part .ensures .0 in
+    let ends = parts .part2 .ensures .0 in
+    filling-next _ _ (at .inv) in-range _ _ (c .before .lowest .ensures ∙ column-low rows (at .l) in-range _ _ begins ends col)
+    (c .after-highest .ensures ∙ column-high rows (at .l) in-range _ _ begins ends col)
+
+returns : tie.Need-returns Inv-loop μ-loop
+unfolding columnSection
+returns c = filling-end _ _ (c .before .loop .inv) (c .loop-test .left)
+
+pub column-spec : {M : Type 1} → statement M
+column-spec =
+    tie.close
+    (tie.spec
+    Inv-loop
+    μ-loop
+    loop-holds
+    mul-at
+    part-requires
+    add-part
+    part-requires-2
+    array-read-to
+    array-read-lowest
+    lowest-requires
+    array-write-lo
+    after-highest-requires
+    array-write-past
+    add-l
+    loop-less
+    loop-again
+    returns)

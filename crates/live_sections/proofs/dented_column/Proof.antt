@@ -1,0 +1,100 @@
+-- No section passed is dented, and the one before has been found clear (SearchLaws).
+use Prim.Native.Nat.{_-_}
+use native.Mathlib.Omega.{arith}
+use mathlib.Core.Bool.{not}
+use Rattle.chart.specs.Limits.{side}
+use Rattle.pile.specs.Pile.{columnClear, dentedColumn}
+use Rattle.live_sections.specs.Layers.{layersOf}
+use Rattle.live_sections.proofs.SearchLaws.{clear-is, column-at, Passed, found-dented, found-clear, none-before, all-clear}
+use Rattle.live_sections.proofs.dented_column.Statement.{statement}
+use Rattle.live_sections.proofs.dented_column.Tie as tie
+
+abbrev Inv-loop : tie.InvT-loop
+Inv-loop rows reach last₀ col₀ last col = Passed (λ k. not (columnClear (layersOf rows) k)) last col
+
+abbrev μ-loop : tie.MeasureT-loop
+μ-loop rows reach last₀ col₀ last col = side - col
+
+reach-requires : tie.Need-reach-requires Inv-loop μ-loop
+reach-requires c κs = c .before .pre
+
+column-requires : tie.Need-column-requires Inv-loop μ-loop
+column-requires c κs = (c .before .before .pre, c .reach .ensures)
+
+is-clear-requires : tie.Need-is-clear-requires Inv-loop μ-loop
+is-clear-requires c κs = tt
+
+returns : tie.Need-returns Inv-loop μ-loop
+unfolding dentedColumn
+returns c =
+    let tested = c .before in
+    let section = tested .before in
+    found-dented (column-at _ 0 _ (section .column .ensures)) (none-before _) (omega arith) _ (clear-is _ _ (tested .is-clear .ensures))
+    (c .if1 .taken)
+
+loop-holds : tie.Need-loop-holds Inv-loop μ-loop
+loop-holds c =
+    let tested = c .before in
+    let section = tested .before in
+    found-clear (column-at _ 0 _ (section .column .ensures)) (none-before _) (omega arith) _ (clear-is _ _ (tested .is-clear .ensures))
+    (c .if1 .left)
+
+column-requires-2 : tie.Need-column-requires-2 Inv-loop μ-loop
+column-requires-2 c κs =
+    let reached = c .before .before .before .before .before in
+    (reached .before .before .pre, reached .reach .ensures)
+
+clear-after-requires : tie.Need-clear-after-requires Inv-loop μ-loop
+clear-after-requires c κs =
+    let at = c .before .before .loop in
+    (at .inv .clear-last, at .inv .sized, column-at _ (at .col) _ (c .column2 .ensures) .sized)
+
+cast-result : tie.Need-cast-result Inv-loop μ-loop
+cast-result c = omega arith
+
+returns-2 : tie.Need-returns-2 Inv-loop μ-loop
+unfolding dentedColumn
+returns-2 c =
+    let tested = c .before in
+    let section = tested .before in
+    let at = section .before .before .loop in
+    found-dented (column-at _ (at .col) _ (section .column2 .ensures)) (at .inv .none) (omega arith) _ (tested .clear-after .ensures)
+    (c .if2 .taken)
+
+add-col : tie.Need-add-col Inv-loop μ-loop
+add-col c = omega arith
+
+loop-less : tie.Need-loop-less Inv-loop μ-loop
+loop-less c = omega arith
+
+loop-again : tie.Need-loop-again Inv-loop μ-loop
+loop-again c =
+    let tested = c .before in
+    let section = tested .before in
+    let at = section .before .before .loop in
+    found-clear (column-at _ (at .col) _ (section .column2 .ensures)) (at .inv .none) (omega arith) _ (tested .clear-after .ensures)
+    (c .if2 .left)
+
+returns-3 : tie.Need-returns-3 Inv-loop μ-loop
+unfolding dentedColumn
+returns-3 c = all-clear (c .before .loop .inv) (c .loop-test .left)
+
+pub dented-column-spec : {M : Type 1} → statement M
+dented-column-spec =
+    tie.close
+    (tie.spec
+    Inv-loop
+    μ-loop
+    reach-requires
+    column-requires
+    is-clear-requires
+    returns
+    loop-holds
+    column-requires-2
+    clear-after-requires
+    cast-result
+    returns-2
+    add-col
+    loop-less
+    loop-again
+    returns-3)

@@ -1,0 +1,89 @@
+-- Every layer passed has its lowest row with a cell and the one after its highest.
+use Prim.Native.Nat.{_-_, _<_}
+use native.Mathlib.Omega.{arith}
+use mathlib.Core.Path.{_∙_}
+use borrow.Author.Needs.{needs}
+use Rattle.sections.specs.Sections.{layers}
+use Rattle.pile.specs.Pile.{layerAt}
+use Rattle.live_sections.specs.Layers.{layersOf}
+use Rattle.live_sections.specs.Reach.{bottomOf, topOf, reachOf}
+use Rattle.live_sections.proofs.FillLaws.{Filling, filling-start, filling-next, filling-end}
+use Rattle.live_sections.proofs.ReachLaws.{bottom-is, top-is}
+use Rattle.live_sections.proofs.reach.Statement.{statement}
+use Rattle.live_sections.proofs.reach.Tie as tie
+
+abbrev Inv-loop : tie.InvT-loop
+Inv-loop rows lo₀ past₀ l₀ lo past l =
+    Filling (λ k. bottomOf (layerAt (layersOf rows) k)) (λ k. topOf (layerAt (layersOf rows) k)) lo past l
+
+abbrev μ-loop : tie.MeasureT-loop
+μ-loop rows lo₀ past₀ l₀ lo past l = layers - l
+
+loop-holds : tie.Need-loop-holds Inv-loop μ-loop
+loop-holds c = filling-start _ _
+
+mul-at : tie.Need-mul-at Inv-loop μ-loop
+mul-at c = search needs
+
+part-requires : tie.Need-part-requires Inv-loop μ-loop
+part-requires c κs = (search needs, search needs)
+
+add-part : tie.Need-add-part Inv-loop μ-loop
+add-part c = search needs
+
+part-requires-2 : tie.Need-part-requires-2 Inv-loop μ-loop
+part-requires-2 c κs = (search needs, search needs)
+
+bottom-requires : tie.Need-bottom-requires Inv-loop μ-loop
+bottom-requires c κs = (c .before .part .ensures .1, c .part2 .ensures .1)
+
+array-write-lo : tie.Need-array-write-lo Inv-loop μ-loop
+array-write-lo c = omega arith
+
+top-requires : tie.Need-top-requires Inv-loop μ-loop
+top-requires c κs = (c .before .before .part .ensures .1, c .before .part2 .ensures .1)
+
+array-write-past : tie.Need-array-write-past Inv-loop μ-loop
+array-write-past c = omega arith
+
+add-l : tie.Need-add-l Inv-loop μ-loop
+add-l c = omega arith
+
+loop-less : tie.Need-loop-less Inv-loop μ-loop
+loop-less c = omega arith
+
+loop-again : tie.Need-loop-again Inv-loop μ-loop
+loop-again c =
+    let parts = c .before .before in
+    let turn = parts .before .before in
+    let at = turn .before .loop in
+    let rows = turn .before .before .before .args .rows .now in
+    let in-range : at .l < layers = turn .loop-test .taken in
+    let begins = parts .before .part .ensures .0 in
+    let ends = parts .part2 .ensures .0 in
+    filling-next _ _ (at .inv) in-range _ _ (c .before .bottom .ensures ∙ bottom-is rows (at .l) in-range _ _ begins ends)
+    (c .top .ensures ∙ top-is rows (at .l) in-range _ _ begins ends)
+
+returns : tie.Need-returns Inv-loop μ-loop
+unfolding reachOf
+returns c = filling-end _ _ (c .before .loop .inv) (c .loop-test .left)
+
+pub reach-spec : {M : Type 1} → statement M
+reach-spec =
+    tie.close
+    (tie.spec
+    Inv-loop
+    μ-loop
+    loop-holds
+    mul-at
+    part-requires
+    add-part
+    part-requires-2
+    bottom-requires
+    array-write-lo
+    top-requires
+    array-write-past
+    add-l
+    loop-less
+    loop-again
+    returns)

@@ -1,0 +1,84 @@
+-- Every layer passed has its run, which is read where it stands.
+use Prim.Native.Nat.{_-_, _<_}
+use native.Mathlib.Omega.{arith}
+use mathlib.Core.Path.{sym}
+use borrow.Author.Needs.{needs}
+use Rattle.rows.specs.Rows.{rows as rowOf}
+use Rattle.sections.specs.Sections.{layers}
+use Rattle.pile.specs.Pile.{layerAt, rowSection}
+use Rattle.live_sections.specs.Layers.{layersOf}
+use Rattle.live_sections.proofs.FillLaws.{Filling, filling-start, filling-next, filling-end}
+use Rattle.live_sections.proofs.LayerLaws.{row-first, row-past}
+use Rattle.live_sections.proofs.row.Statement.{statement}
+use Rattle.live_sections.proofs.row.Tie as tie
+
+abbrev Inv-loop : tie.InvT-loop
+Inv-loop rows r lo₀ past₀ l₀ lo past l =
+    Filling (λ k. rowOf (layerAt (layersOf rows) k .first) r) (λ k. rowOf (layerAt (layersOf rows) k .past) r) lo past l
+
+abbrev μ-loop : tie.MeasureT-loop
+μ-loop rows r lo₀ past₀ l₀ lo past l = layers - l
+
+loop-holds : tie.Need-loop-holds Inv-loop μ-loop
+loop-holds c = filling-start _ _
+
+mul-at : tie.Need-mul-at Inv-loop μ-loop
+mul-at c = search needs
+
+add-at : tie.Need-add-at Inv-loop μ-loop
+add-at c = search needs
+
+shared-slice-read-lo : tie.Need-shared-slice-read-lo Inv-loop μ-loop
+shared-slice-read-lo c = search needs
+
+array-write-lo : tie.Need-array-write-lo Inv-loop μ-loop
+array-write-lo c = search needs
+
+add-past : tie.Need-add-past Inv-loop μ-loop
+add-past c = search needs
+
+shared-slice-read-past : tie.Need-shared-slice-read-past Inv-loop μ-loop
+shared-slice-read-past c = search needs
+
+array-write-past : tie.Need-array-write-past Inv-loop μ-loop
+array-write-past c = search needs
+
+add-l : tie.Need-add-l Inv-loop μ-loop
+add-l c = search needs
+
+loop-less : tie.Need-loop-less Inv-loop μ-loop
+loop-less c = omega arith
+
+loop-again : tie.Need-loop-again Inv-loop μ-loop
+loop-again c =
+    let turn = c .before .before in
+    let at = turn .before .loop in
+    let start = turn .before .before in
+    let rows = start .args .rows .now in
+    let r = start .args .r in
+    let in-range : at .l < layers = turn .loop-test .taken in
+    filling-next _ _ (at .inv) in-range _ _ (sym (row-first rows (at .l) in-range r (start .pre .0)))
+    (sym (row-past rows (at .l) in-range r (start .pre .0)))
+
+returns : tie.Need-returns Inv-loop μ-loop
+unfolding rowSection
+returns c = filling-end _ _ (c .before .loop .inv) (c .loop-test .left)
+
+pub row-spec : {M : Type 1} → statement M
+row-spec =
+    tie.close
+    (tie.spec
+    Inv-loop
+    μ-loop
+    loop-holds
+    mul-at
+    add-at
+    shared-slice-read-lo
+    array-write-lo
+    add-past
+    shared-slice-read-past
+    array-write-past
+    add-l
+    loop-less
+    loop-again
+    returns)

@@ -1,0 +1,10 @@
+-- The layers of a pile that stand in one list of bytes, slot by slot, whatever it holds.
+use Prim.Native.Nat.{ℕ}
+use mathlib.Core.List.{List}
+use Rattle.spans.specs.declared.Spans.{Spans}
+use Rattle.sections.specs.Sections.{layers}
+use Rattle.windows.specs.Windows.{slotsFrom}
+use Rattle.span_list.specs.SpanList.{spansAt}
+
+unfoldable pub layersOf : List ℕ → List Spans
+layersOf rows = slotsFrom (spansAt rows) 0 layers

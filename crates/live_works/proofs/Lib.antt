@@ -1,0 +1,2 @@
+-- What is asked of a work in lists, by cases.
+mod WorkCases

@@ -1,0 +1,60 @@
+-- What a check means, by the cells that the sections mark (contract 12.3 and 12.4).
+use Prim.Native.Nat.{ℕ, _≤_, _<_}
+use mathlib.Core.Bool.{Bool, _&&_}
+use mathlib.Core.List.{List}
+use lib.Dec.{leb, ltb}
+use Rattle.chart.specs.Limits.{side}
+use Rattle.chart.specs.declared.Point.{Point}
+use Rattle.lattice.specs.Hull.{Missing, Full}
+use Rattle.rows.specs.Rows.{rows as rowOf}
+use Rattle.spans.specs.declared.Spans.{Spans}
+use Rattle.sections.specs.declared.Section.{Section}
+use Rattle.sections.specs.Sections.{layers, numbers}
+use Rattle.pile.specs.declared.PileReply.{PileReply}
+use Rattle.pile.specs.declared.PileReply.the-variants.{Done, Dented}
+use Rattle.pile.specs.Pile.{layerAt, columnSection, rowSection}
+
+-- ---- of sections by their marked cells: `columns c` are those of the section at column c, and `rows r` those of the section at row r
+
+-- A cell is missing from the section's marked ones
+abbrev pub HasDent : (ℕ → ℕ → Bool) → Type 0
+HasDent marked = (x : Point) × Missing marked x
+
+-- None of the sections before n is dented
+abbrev pub FullBefore : (ℕ → ℕ → ℕ → Bool) → ℕ → Type 0
+FullBefore sections n = (k : ℕ) → k < n → Full (sections k)
+
+-- None at all is
+pub record AllFull (columns rows : ℕ → ℕ → ℕ → Bool) : Type 0 where
+  pub at-columns : FullBefore columns side
+  pub at-rows : FullBefore rows side
+
+-- The reply of a check: done where no section is dented; else the first that is, among the columns and then the rows
+pub data CheckedBy (columns rows : ℕ → ℕ → ℕ → Bool) : PileReply → Type 0 where
+  passes : FullBefore columns side → FullBefore rows side → CheckedBy columns rows Done
+  column : (c : ℕ) → c < side → HasDent (columns c) → FullBefore columns c → CheckedBy columns rows (Dented 0 c)
+  row : (r : ℕ) → r < side → FullBefore columns side → HasDent (rows r) → FullBefore rows r → CheckedBy columns rows (Dented 1 r)
+
+-- ---- of layers as they are kept, whatever they hold
+
+-- The marked cells of a section: of layer l the run that is kept
+unfoldable pub runMarks : Section → ℕ → ℕ → Bool
+runMarks s l r = leb (numbers (s .lo) l) r && ltb r (numbers (s .past) l)
+
+-- At a column these are the rows from the lowest to the highest that have it, and at a row the columns from its first to its last
+abbrev pub columnRuns : List Spans → ℕ → ℕ → ℕ → Bool
+columnRuns ls c = runMarks (columnSection ls c)
+
+abbrev pub rowRuns : List Spans → ℕ → ℕ → ℕ → Bool
+rowRuns ls r = runMarks (rowSection ls r)
+
+-- What a check of these layers replies, and when it replies 0
+abbrev pub CheckedRuns : List Spans → PileReply → Type 0
+CheckedRuns ls = CheckedBy (columnRuns ls) (rowRuns ls)
+
+abbrev pub NoDent : List Spans → Type 0
+NoDent ls = AllFull (columnRuns ls) (rowRuns ls)
+
+-- Row r of every layer ends on the chart, as it does where the numbers are bytes
+abbrev pub RowFits : List Spans → ℕ → Type 0
+RowFits ls r = (l : ℕ) → l < layers → rowOf (layerAt ls l .past) r ≤ side

@@ -1,0 +1,53 @@
+-- The pile that calls one by one leave is the one that they leave by value, of which the book says what a check and a query reply.
+use Prim.Native.Nat.{ℕ, _≤_}
+use mathlib.Core.Path.{_≡_, refl, sym, ap, _∙_}
+use mathlib.Core.Bool.{Bool, true, false}
+use mathlib.Core.List.{List}
+use lib.ListN.{length}
+use borrow.Author.Tests.{leb-true}
+use Rattle.chart.specs.declared.Point.{Point}
+use Rattle.chart.specs.Fields.{replyAfter}
+use Rattle.polygon.specs.Loose.{badCell}
+use Rattle.pile.specs.declared.Pile.{Pile}
+use Rattle.pile.specs.declared.PileReply.{PileReply}
+use Rattle.pile.specs.Replies.{pileFields}
+use Rattle.pile.specs.Pile.{queryOf}
+use Rattle.pile.specs.Calls.{Check, Query, answerOf}
+use Rattle.ledger.specs.Book.{Checked, NoneDented, located, queried}
+use Rattle.ledger.proofs.ListTheorem.{bookOf, pile-passed, book-checked, book-queried}
+use Rattle.live_pile.specs.Layout.{Memory, Fits}
+use Rattle.live_pile.specs.Called.{Called, CheckWritten, Freshened}
+use Rattle.live_pile.proofs.CallLaws.{check-written}
+use Rattle.pile_refinement.specs.Series.{Asked, Heard, Series, heeded}
+use Rattle.pile_refinement.proofs.Theorem.{fresh-leaves}
+
+-- Lists in which a fresh pile stood, after any calls, with reply lists too short among them
+module _ (m n : Memory) (t : Bool) (f : Fits m) (s : Freshened m n t) (xs : List Asked) (ys : List Heard) (k : Memory)
+    (r : Series n xs ys k) where
+  -- A check that is done replies 0 exactly if no section, at a column or at a row, of the outlines that were taken has a missing cell;
+  -- and else it names the first that has
+  pub check-theorem : (k′ : Memory) (reply reply′ : List ℕ) → Called k k′ Check reply reply′ true
+      → CheckWritten (Checked (bookOf (heeded xs) .layers)) (NoneDented (bookOf (heeded xs) .layers)) reply reply′
+  unfolding answerOf
+  check-theorem k′ reply reply′ c =
+      let (fit, left) = fresh-leaves m n t f s xs ys k r in
+      let room : 7 ≤ length reply = leb-true 7 (length reply) (sym (c .done fit)) in
+      check-written _ reply reply′ room (c .replied refl) _ (rw left (book-checked (heeded xs))) refl
+
+  -- A query that is done gets the book's reply
+  pub query-replies : (l : ℕ) (x : Point) (k′ : Memory) (reply reply′ : List ℕ) → Called k k′ (Query l x) reply reply′ true
+      → reply′ ≡ replyAfter (pileFields (queried (bookOf (heeded xs)) l x)) reply
+  unfolding answerOf
+  query-replies l x k′ reply reply′ c =
+      c .replied refl
+      ∙ ap (λ (p : Pile). replyAfter (pileFields (queryOf p l x)) reply) (fresh-leaves m n t f s xs ys k r .1)
+      ∙ ap (λ (v : PileReply). replyAfter (pileFields v) reply) (book-queried (heeded xs) l x)
+
+  -- Where the last of the calls that set a layer or checked was a check that passed, it answers by the outline of its layer
+  pub query-theorem : bookOf (heeded xs) .passed ≡ true → (l : ℕ) (x : Point) → l ≤ 15 → badCell x ≡ false
+      → (k′ : Memory) (reply reply′ : List ℕ) → Called k k′ (Query l x) reply reply′ true
+      → reply′ ≡ replyAfter (pileFields (located (bookOf (heeded xs) .layers l) x)) reply
+  query-theorem e l x h b k′ reply reply′ c =
+      query-replies l x k′ reply reply′ c
+      ∙ ap (λ (v : PileReply). replyAfter (pileFields v) reply)
+      (sym (book-queried (heeded xs) l x) ∙ pile-passed (heeded xs) e .answers l x h b)

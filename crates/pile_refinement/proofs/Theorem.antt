@@ -1,0 +1,143 @@
+-- Each call in place is the call by value on the pile that is read, so calls one by one get the replies of a list of calls by value.
+use Prim.Native.Nat.{ℕ}
+use mathlib.Core.Path.{_≡_, refl, sym, ap, ap₂, _∙_}
+use mathlib.Core.Bool.{Bool, true, false}
+use mathlib.Core.List.{List, [], _∷_, map}
+use lib.ListN.{replicate, length-replicate}
+use Rattle.pile.specs.declared.Pile.{Pile}
+use Rattle.pile.specs.declared.PileReply.{PileReply}
+use Rattle.chart.specs.Fields.{numbersOf}
+use Rattle.pile.specs.Replies.{pileFields}
+use Rattle.pile.specs.Pile.{freshPile}
+use Rattle.pile.specs.Calls.{PileCall, answerOf}
+use Rattle.ledger.specs.Book.{fresh, AllAnswer}
+use Rattle.ledger.specs.Run.{pileReplies, pileAfter}
+use Rattle.ledger.proofs.ListTheorem.{pile-theorem, replies-once, bookOf, same-passed}
+use Rattle.live_pile.specs.Layout.{Memory, memory, pileIn, Fits}
+use Rattle.live_pile.specs.Called.{Freshened}
+use Rattle.live_pile.proofs.CallLaws.{fits-by, fresh-lists}
+use Rattle.pile_refinement.specs.Series.{Asked, Heard, Series, stop, made, Calls, end, then, roomy, heeded, answered, passedOver, told}
+
+abbrev heard : Bool → List ℕ → Heard
+heard b l = record { done = b; reply = l }
+
+-- ---- the cases of the definitions
+
+module _ (x : Asked) (xs : List Asked) where
+  heeded-room : roomy x ≡ true → heeded (x ∷ xs) ≡ x .call ∷ heeded xs
+  unfolding heeded
+  heeded-room e = rw e
+
+  heeded-none : roomy x ≡ false → heeded (x ∷ xs) ≡ heeded xs
+  unfolding heeded
+  heeded-none e = rw e
+
+  told-room : (r : PileReply) (rs : List PileReply) → roomy x ≡ true → told (x ∷ xs) (r ∷ rs) ≡ answered x r ∷ told xs rs
+  unfolding told
+  told-room r rs e = rw e
+
+  told-none : (rs : List PileReply) → roomy x ≡ false → told (x ∷ xs) rs ≡ passedOver x ∷ told xs rs
+  unfolding told
+  told-none [] e = refl
+  told-none (r ∷ rs) e = rw e
+
+told-nothing : (rs : List PileReply) → told [] rs ≡ []
+unfolding told
+told-nothing rs = refl
+
+replies-next : (p : Pile) (c : PileCall) (cs : List PileCall)
+    → pileReplies p (c ∷ cs) ≡ answerOf p c .reply ∷ pileReplies (answerOf p c .pile) cs
+unfolding pileReplies
+replies-next p c cs = refl
+
+after-next : (p : Pile) (c : PileCall) (cs : List PileCall) → pileAfter p (c ∷ cs) ≡ pileAfter (answerOf p c .pile) cs
+unfolding pileAfter
+after-next p c cs = refl
+
+after-nothing : (p : Pile) → pileAfter p (heeded []) ≡ p
+unfolding pileAfter heeded
+after-nothing p = refl
+
+-- ---- a series
+
+-- What is heard, and the pile that is left
+abbrev As : Memory → List Asked → List Heard → Memory → Type 0
+As m xs ys n = (ys ≡ told xs (pileReplies (pileIn m) (heeded xs))) × Fits n × (pileIn n ≡ pileAfter (pileIn m) (heeded xs))
+
+series-told : (m : Memory) → Fits m → (xs : List Asked) (ys : List Heard) (n : Memory) → Series m xs ys n → As m xs ys n
+series-told m f [] [] n stop = (sym (told-nothing (pileReplies (pileIn m) (heeded []))), f, sym (after-nothing (pileIn m)))
+series-told m f (x ∷ xs) (y ∷ ys) n (made {m = _} {k = k} c s) = go (roomy x) refl (series-told k (c .fits f) xs ys n s)
+  where
+    go : (t : Bool) → roomy x ≡ t → As k xs ys n → As m (x ∷ xs) (y ∷ ys) n
+    go true e (rest, fit, left) =
+        let yes : y .done ≡ true = c .done f ∙ e in (
+          ap₂ _∷_ (ap₂ heard yes (c .replied yes)) (rest ∙ ap (λ (p : Pile). told xs (pileReplies p (heeded xs))) (c .pile yes))
+              ∙ sym (ap (λ (cs : List PileCall). told (x ∷ xs) (pileReplies (pileIn m) cs)) (heeded-room x xs e)
+              ∙ ap (told (x ∷ xs)) (replies-next (pileIn m) (x .call) (heeded xs))
+              ∙ told-room x xs _ _ e),
+          fit,
+          left ∙ ap (λ (p : Pile). pileAfter p (heeded xs)) (c .pile yes)
+              ∙ sym (ap (pileAfter (pileIn m)) (heeded-room x xs e) ∙ after-next (pileIn m) (x .call) (heeded xs)),
+        )
+    go false e (rest, fit, left) =
+        let no : y .done ≡ false = c .done f ∙ e in
+        let (same, same-reply) = c .unaltered no in (
+          ap₂ _∷_ (ap₂ heard no same-reply) (rest ∙ ap (λ (k : Memory). told xs (pileReplies (pileIn k) (heeded xs))) same)
+              ∙ sym (ap (λ (cs : List PileCall). told (x ∷ xs) (pileReplies (pileIn m) cs)) (heeded-none x xs e) ∙ told-none x xs _ e),
+          fit,
+          left ∙ ap (λ (k : Memory). pileAfter (pileIn k) (heeded xs)) same ∙ sym (ap (pileAfter (pileIn m)) (heeded-none x xs e)),
+        )
+
+-- Calls made one by one, from lists in which a fresh pile stands
+module _ (m n : Memory) (t : Bool) (f : Fits m) (s : Freshened m n t) (xs : List Asked) (ys : List Heard) (k : Memory)
+    (r : Series n xs ys k) where
+  series-fresh : ys ≡ told xs (pileReplies freshPile (heeded xs))
+  series-fresh = series-told n (s .fits f) xs ys k r .0 ∙ ap (λ (p : Pile). told xs (pileReplies p (heeded xs))) (s .pile f)
+
+  -- The lists that are left have the pile that is left by value
+  pub fresh-leaves : Fits k × (pileIn k ≡ pileAfter freshPile (heeded xs))
+  fresh-leaves =
+      let told = series-told n (s .fits f) xs ys k r in
+      (told .1, told .2 ∙ ap (λ (p : Pile). pileAfter p (heeded xs)) (s .pile f))
+
+  -- They get the book's replies to the calls whose reply has room
+  pub series-theorem : (rs : List PileReply) × AllAnswer fresh (heeded xs) rs × (ys ≡ told xs rs)
+  series-theorem = (pileReplies freshPile (heeded xs), pile-theorem (heeded xs), series-fresh)
+
+  -- And no other replies are the book's
+  pub series-once : (rs : List PileReply) → AllAnswer fresh (heeded xs) rs → ys ≡ told xs rs
+  series-once rs a =
+      series-fresh ∙ ap (told xs) (replies-once (heeded xs) fresh (pileReplies freshPile (heeded xs)) rs (pile-theorem (heeded xs)) a)
+
+  -- The state says whether the book has passed
+  pub state-theorem : pileIn k .passed ≡ bookOf (heeded xs) .passed
+  state-theorem = ap (λ (p : Pile). p .passed) (fresh-leaves .1) ∙ same-passed (heeded xs)
+
+-- Lists of zeros have a fresh pile in them as they are
+abbrev pub zeros : Memory
+zeros = memory (replicate 8160 0) (replicate 1 0)
+
+pub zeros-stand : Freshened zeros zeros true
+zeros-stand =
+    let rows = length-replicate {A = ℕ} 8160 0 in
+    let state = length-replicate {A = ℕ} 1 0 in
+    fresh-lists zeros (fits-by zeros rows state) _ _ (ap (λ (n : ℕ). replicate n 0) (sym rows)) (ap (λ (n : ℕ). replicate n 0) (sym state))
+
+-- ---- calls on lists that have their lengths, as a C program makes them
+
+calls-replies : (m : Memory) (cs : List PileCall) (rs : List (List ℕ)) (k : Memory) → Calls m cs rs k
+    → rs ≡ map (λ r. numbersOf (pileFields r)) (pileReplies (pileIn m) cs)
+unfolding pileReplies
+calls-replies m [] [] k end = refl
+calls-replies m (c ∷ cs) (reply ∷ rs) k (then {m = _} {n = n} d later) =
+    ap₂ _∷_ (d .replied)
+    (calls-replies n cs rs k later ∙ ap (λ (p : Pile). map (λ r. numbersOf (pileFields r)) (pileReplies p cs)) (d .pile))
+
+-- From lists in which a fresh pile stands, the replies are the plain book's, in seven numbers
+pub calls-theorem : (m : Memory) → pileIn m ≡ freshPile → (cs : List PileCall) (rs : List (List ℕ)) (k : Memory) → Calls m cs rs k
+    → (said : List PileReply) × AllAnswer fresh cs said × (rs ≡ map (λ r. numbersOf (pileFields r)) said)
+calls-theorem m e cs rs k d = (
+  pileReplies freshPile cs,
+  pile-theorem cs,
+  calls-replies m cs rs k d ∙ ap (λ (p : Pile). map (λ r. numbersOf (pileFields r)) (pileReplies p cs)) e,
+)

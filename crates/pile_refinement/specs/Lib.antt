@@ -1,0 +1,2 @@
+-- Calls on a pile in lists, one by one.
+pub mod Series

@@ -1,0 +1,16 @@
+-- The arrays have their lengths by their types, so the call in lists is done.
+use Rattle.live.proofs.CallLaws.{fits-by}
+use borrow.Author.Needs.{needs}
+use Rattle.robequarry.proofs.on_holder.rq_fresh_parts.Statement.{statement}
+use Rattle.robequarry.proofs.on_holder.rq_fresh_parts.Tie as tie
+
+fresh-requires : tie.Need-fresh-requires
+fresh-requires c κs = search needs
+
+returns : tie.Need-returns
+returns c =
+    let fits = fits-by _ (c .before .before .before .before .fresh-arg .given .0 .1) (c .before .before .before .fresh-arg2 .given .0 .1) (c .before .before .fresh-arg3 .given .0 .1) (c .before .fresh-arg4 .given .0 .1) in
+    (c .fresh .ensures .holder fits, c .fresh .ensures .fits fits)
+
+pub rq-fresh-parts-spec : {M : Type 1} → statement M
+rq-fresh-parts-spec = tie.close (tie.spec fresh-requires returns)

@@ -1,0 +1,16 @@
+-- The arrays have their lengths by their types, so the call in lists is done.
+use Rattle.live_pile.proofs.CallLaws.{fits-by}
+use borrow.Author.Needs.{needs}
+use Rattle.robequarry.proofs.on_pile.rq_pile_fresh_parts.Statement.{statement}
+use Rattle.robequarry.proofs.on_pile.rq_pile_fresh_parts.Tie as tie
+
+fresh-requires : tie.Need-fresh-requires
+fresh-requires c κs = search needs
+
+returns : tie.Need-returns
+returns c =
+    let fits = fits-by _ (c .before .before .fresh-arg .given .0 .1) (c .before .fresh-arg2 .given .0 .1) in
+    (c .fresh .ensures .pile fits, c .fresh .ensures .fits fits)
+
+pub rq-pile-fresh-parts-spec : {M : Type 1} → statement M
+rq-pile-fresh-parts-spec = tie.close (tie.spec fresh-requires returns)

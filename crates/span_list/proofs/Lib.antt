@@ -1,0 +1,2 @@
+-- A slot's rows, written and read.
+pub mod SlotLaws

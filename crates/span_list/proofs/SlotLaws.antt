@@ -1,0 +1,104 @@
+-- The two halves of a slot are windows of the list, so a copy into both sets the slot and leaves the windows of every other.
+use Prim.Native.Nat.{ℕ, _+_, _-_, _*_, _≤_, _<_}
+use native.Mathlib.Omega.{arith}
+use mathlib.Core.Path.{_≡_, sym, ap, ap₂, _∙_}
+use mathlib.Core.Bool.{_&&_}
+use mathlib.Core.Logic.{⊎-elim}
+use mathlib.Core.List.{List}
+use lib.ListN.{length, drop, getD, replicate, length-replicate}
+use lib.Seq.{getD-take, getD-drop, paste, length-paste}
+use lib.Dec.{leb, ltb}
+use borrow.Author.Tests.{le-leb, lt-leb, lt-ltb}
+use Rattle.chart.specs.Limits.{side}
+use Rattle.rows.specs.Rows.{rows as rowOf}
+use Rattle.spans.specs.declared.Span.{Span}
+use Rattle.spans.specs.declared.Spans.{Spans}
+use Rattle.spans.specs.Spans.{noSpans, inSpans, spanFrom, spanAt}
+use Rattle.windows.specs.Windows.{window}
+use Rattle.windows.proofs.Slots.{window-paste, window-paste-before, window-paste-after, order}
+use Rattle.windows.proofs.Fills.{window-replicate}
+use Rattle.span_list.specs.declared.Ends.{Ends}
+use Rattle.span_list.specs.SpanList.{spansAt, SpansPut, endsAt}
+
+-- ---- read
+
+module _ (rows : List ℕ) (s : ℕ) where
+  pub first-at : (r : ℕ) → r < side → rowOf (spansAt rows s .first) r ≡ getD rows (510 * s + r) 0
+  unfolding spansAt
+  first-at r h = getD-take side (drop (510 * s) rows) r 0 h ∙ getD-drop (510 * s) rows r 0
+
+  pub past-at : (r : ℕ) → r < side → rowOf (spansAt rows s .past) r ≡ getD rows (510 * s + r + 255) 0
+  unfolding spansAt
+  past-at r h = getD-take side (drop (510 * s + side) rows) r 0 h ∙ getD-drop (510 * s + side) rows r 0 ∙ ap (λ (i : ℕ). getD rows i 0) (omega arith)
+
+  -- By the two bytes of a row
+  module _ (r : ℕ) (h : r < side) (e : Ends) (is : e ≡ endsAt rows s r) where
+    within-ends : (c : ℕ) → inSpans (spansAt rows s) c r ≡ (leb (e .first) c && ltb c (e .past))
+    unfolding inSpans endsAt
+    within-ends c = rw (is, lt-ltb r side h, first-at r h, past-at r h)
+
+    pub within-right : (c : ℕ) → e .first ≤ c → ltb c (e .past) ≡ inSpans (spansAt rows s) c r
+    within-right c l = sym (within-ends c ∙ rw (le-leb (e .first) c l))
+
+    pub within-left : (c : ℕ) → c < e .first → leb (e .first) c ≡ inSpans (spansAt rows s) c r
+    within-left c l = sym (within-ends c ∙ rw (lt-leb (e .first) c l))
+
+    pub span-ends : spanAt (spansAt rows s) r ≡ spanFrom (e .first) (e .past)
+    unfolding spanAt endsAt
+    span-ends = rw (is, lt-leb side r h, first-at r h, past-at r h)
+
+-- ---- written
+
+module _ (rows : List ℕ) (s : ℕ) (x : Spans) (room : 510 * s + 510 ≤ length rows) (left : length (x .first) ≡ side) (right : length (x .past) ≡ side) where
+  abbrev rows₁ : List ℕ
+  rows₁ = paste rows (510 * s) (x .first) side
+
+  abbrev rows₂ : List ℕ
+  rows₂ = paste rows₁ (510 * s + side) (x .past) side
+
+  room₁ : 510 * s + side ≤ length rows
+  room₁ = omega arith
+
+  size₁ : length rows₁ ≡ length rows
+  size₁ = length-paste rows (510 * s) (x .first) side room₁ (omega arith)
+
+  room₂ : 510 * s + side + side ≤ length rows₁
+  room₂ = omega (arith, size₁)
+
+  before : (b : ℕ) → b + side ≤ 510 * s → window b side rows₂ ≡ window b side rows
+  before b k =
+      window-paste-before rows₁ (510 * s + side) side (x .past) room₂ right b side (omega arith)
+      ∙ window-paste-before rows (510 * s) side (x .first) room₁ left b side k
+
+  after : (b : ℕ) → 510 * s + 510 ≤ b → window b side rows₂ ≡ window b side rows
+  after b k =
+      window-paste-after rows₁ (510 * s + side) side (x .past) room₂ right b side (omega arith)
+      ∙ window-paste-after rows (510 * s) side (x .first) room₁ left b side (omega arith)
+
+  halves-put : SpansPut rows rows₂ s x
+  unfolding spansAt
+  halves-put =
+      record {
+        here =
+            ap₂ (λ (a b : List ℕ). record { first = a; past = b })
+            (window-paste-before rows₁ (510 * s + side) side (x .past) room₂ right (510 * s) side (omega arith) ∙ window-paste rows (510 * s) side (x .first) room₁ left)
+            (window-paste rows₁ (510 * s + side) side (x .past) room₂ right);
+        elsewhere = λ j q.
+            ⊎-elim (λ o. rw (before (510 * j) (omega arith), before (510 * j + side) (omega arith)))
+            (λ o. rw (after (510 * j) (omega arith), after (510 * j + side) (omega arith))) (order j s q);
+        size = length-paste rows₁ (510 * s + side) (x .past) side room₂ (omega arith) ∙ size₁;
+      }
+
+  -- By what each copy left
+  pub copies-put : (r₁ : List ℕ) → r₁ ≡ paste rows (510 * s) (x .first) side → (r₂ : List ℕ) → r₂ ≡ paste r₁ (510 * s + 255) (x .past) side → SpansPut rows r₂ s x
+  copies-put r₁ e₁ r₂ e₂ = rw (e₂, e₁) halves-put
+
+pub zeros-put : (rows : List ℕ) (s : ℕ) → 510 * s + 510 ≤ length rows → (r₁ : List ℕ) → r₁ ≡ paste rows (510 * s) (replicate side 0) side
+    → (r₂ : List ℕ) → r₂ ≡ paste r₁ (510 * s + 255) (replicate side 0) side → SpansPut rows r₂ s noSpans
+unfolding noSpans
+zeros-put rows s room r₁ e₁ r₂ e₂ = copies-put rows s noSpans room (length-replicate {A = ℕ} side 0) (length-replicate {A = ℕ} side 0) r₁ e₁ r₂ e₂
+
+-- A list of zeros has no cell in any slot
+pub zeros-none : (s n : ℕ) → 510 * s + 510 ≤ n → spansAt (replicate n 0) s ≡ noSpans
+unfolding spansAt noSpans
+zeros-none s n h = rw (window-replicate {A = ℕ} (510 * s) side n 0 (omega arith), window-replicate {A = ℕ} (510 * s + side) side n 0 (omega arith))

@@ -1,0 +1,79 @@
+-- After i turns the first i numbers are the from's.
+use Prim.Native.Nat.{ℕ, _+_, _-_, _≤_}
+use native.Mathlib.Numerals.{add-one}
+use native.Mathlib.Omega.{arith}
+use mathlib.Core.Path.{_≡_, sym, ap, _∙_}
+use mathlib.Core.List.{List}
+use lib.ListN.{length, getD, set}
+use lib.Seq.{paste, paste-zero, paste-suc, length-paste}
+use borrow.Author.Needs.{needs}
+use Rattle.chart.specs.Limits.{side}
+use Rattle.span_list.proofs.put_rows.Statement.{statement}
+use Rattle.span_list.proofs.put_rows.Tie as tie
+
+abbrev Inv-loop : tie.InvT-loop
+Inv-loop from at rows₀ all i₀ rows i = (i ≤ side) × (rows ≡ paste rows₀ at from i)
+
+abbrev μ-loop : tie.MeasureT-loop
+μ-loop from at rows₀ all i₀ rows i = side - i
+
+loop-holds : tie.Need-loop-holds Inv-loop μ-loop
+loop-holds c = (search needs, paste-zero _ (c .before .args .at) (c .before .args .from .now))
+
+shared-slice-read-rows : tie.Need-shared-slice-read-rows Inv-loop μ-loop
+shared-slice-read-rows c = search needs
+
+add-rows : tie.Need-add-rows Inv-loop μ-loop
+add-rows c = search needs
+
+-- The rows from keeps its length
+kept : (c : tie.At-loop Inv-loop μ-loop) → length (c .loop .rows) ≡ length (c .before .before .args .rows .now)
+kept c =
+    let a = c .before .before .args in
+    ap length (c .loop .inv .1) ∙ length-paste (a .rows .now) (a .at) (a .from .now) (c .loop .i) (omega (arith, c .loop .inv .0, c .before .before .pre)) (omega (arith, c .loop .inv .0, c .before .all .given .0))
+
+slice-write-rows : tie.Need-slice-write-rows Inv-loop μ-loop
+slice-write-rows c = omega (arith, kept (c .before .before))
+
+add-i : tie.Need-add-i Inv-loop μ-loop
+add-i c = search needs
+
+loop-less : tie.Need-loop-less Inv-loop μ-loop
+loop-less c = search needs
+
+loop-again : tie.Need-loop-again Inv-loop μ-loop
+loop-again c =
+    let turn = c .before in
+    let a = turn .before .before .before .args in
+    let i = turn .before .loop .i in
+    let d = a .rows .now in
+    let l = a .from .now in (
+      search needs,
+      ap (λ (e : List ℕ). set e (a .at + i) (getD l i 0)) (turn .before .loop .inv .1)
+          ∙ paste-suc d (a .at) l i 0 (omega (arith, turn .loop-test .taken, turn .before .before .before .pre)) (omega (arith, turn .loop-test .taken, turn .before .before .all .given .0))
+          ∙ ap (paste d (a .at) l) (sym (add-one i)),
+    )
+
+same-length : tie.Need-same-length Inv-loop μ-loop
+same-length c = kept (c .before)
+
+returns : tie.Need-returns Inv-loop μ-loop
+returns c =
+    let e : c .before .loop .i ≡ side = omega (arith, c .before .loop .inv .0, c .loop-test .left) in
+    (c .before .loop .inv .1 ∙ rw e, c .before .before .all .given .0)
+
+pub put-rows-spec : {M : Type 1} → statement M
+put-rows-spec =
+    tie.close
+    (tie.spec
+    Inv-loop
+    μ-loop
+    loop-holds
+    shared-slice-read-rows
+    add-rows
+    slice-write-rows
+    add-i
+    loop-less
+    loop-again
+    same-length
+    returns)

@@ -1,0 +1,76 @@
+-- After i turns the first i numbers are zeros.
+use Prim.Native.Nat.{ℕ, _+_, _-_, _≤_}
+use native.Mathlib.Numerals.{add-one}
+use native.Mathlib.Omega.{arith}
+use mathlib.Core.Path.{_≡_, sym, ap, _∙_}
+use mathlib.Core.List.{List}
+use lib.ListN.{length, getD, set, replicate, length-replicate, getD-replicate}
+use lib.Seq.{paste, paste-zero, paste-suc, length-paste}
+use borrow.Author.Needs.{needs}
+use Rattle.chart.specs.Limits.{side}
+use Rattle.span_list.proofs.put_zeros.Statement.{statement}
+use Rattle.span_list.proofs.put_zeros.Tie as tie
+
+abbrev zeros : List ℕ
+zeros = replicate side 0
+
+abbrev Inv-loop : tie.InvT-loop
+Inv-loop at rows₀ i₀ rows i = (i ≤ side) × (rows ≡ paste rows₀ at zeros i)
+
+abbrev μ-loop : tie.MeasureT-loop
+μ-loop at rows₀ i₀ rows i = side - i
+
+loop-holds : tie.Need-loop-holds Inv-loop μ-loop
+loop-holds c = (search needs, paste-zero _ (c .args .at) zeros)
+
+add-rows : tie.Need-add-rows Inv-loop μ-loop
+add-rows c = search needs
+
+-- The rows list keeps its length
+kept : (c : tie.At-loop Inv-loop μ-loop) → length (c .loop .rows) ≡ length (c .before .args .rows .now)
+kept c =
+    let a = c .before .args in
+    ap length (c .loop .inv .1) ∙ length-paste (a .rows .now) (a .at) zeros (c .loop .i) (omega (arith, c .loop .inv .0, c .before .pre)) (omega (arith, c .loop .inv .0, length-replicate {A = ℕ} side 0))
+
+slice-write-rows : tie.Need-slice-write-rows Inv-loop μ-loop
+slice-write-rows c = omega (arith, kept (c .before))
+
+add-i : tie.Need-add-i Inv-loop μ-loop
+add-i c = search needs
+
+loop-less : tie.Need-loop-less Inv-loop μ-loop
+loop-less c = search needs
+
+loop-again : tie.Need-loop-again Inv-loop μ-loop
+loop-again c =
+    let l = c .before .loop in
+    let a = c .before .before .args in (
+      search needs,
+      ap (λ (e : List ℕ). set e (a .at + l .i) 0) (l .inv .1)
+          ∙ ap (set (paste (a .rows .now) (a .at) zeros (l .i)) (a .at + l .i)) (sym (getD-replicate {A = ℕ} side (l .i) 0 0 (omega (arith, c .loop-test .taken))))
+          ∙ paste-suc (a .rows .now) (a .at) zeros (l .i) 0 (omega (arith, c .loop-test .taken, c .before .before .pre)) (omega (arith, c .loop-test .taken, length-replicate {A = ℕ} side 0))
+          ∙ ap (paste (a .rows .now) (a .at) zeros) (sym (add-one (l .i))),
+    )
+
+same-length : tie.Need-same-length Inv-loop μ-loop
+same-length c = kept (c .before)
+
+returns : tie.Need-returns Inv-loop μ-loop
+returns c =
+    let e : c .before .loop .i ≡ side = omega (arith, c .before .loop .inv .0, c .loop-test .left) in
+    c .before .loop .inv .1 ∙ rw e
+
+pub put-zeros-spec : {M : Type 1} → statement M
+put-zeros-spec =
+    tie.close
+    (tie.spec
+    Inv-loop
+    μ-loop
+    loop-holds
+    add-rows
+    slice-write-rows
+    add-i
+    loop-less
+    loop-again
+    same-length
+    returns)

@@ -1,0 +1,119 @@
+// The rows of several outlines side by side in one list of bytes: read and written where they stand.
+use chart::Point;
+use spans::ROWS;
+use spans::Span;
+use spans::spans_of;
+ghost use mathlib.Core.Path.{_≡_};
+ghost use mathlib.Core.Bool.{Bool};
+ghost use Prim.Native.Nat.{_+_, _*_, _<_, _≤_};
+ghost use lib.ListN.{length, replicate};
+ghost use lib.Seq.{paste};
+ghost use Rattle.chart.specs.Limits.{side};
+ghost use Rattle.chart.specs.Outline.{outline};
+ghost use Rattle.spans.specs.Spans.{noSpans, spansOf, inSpans, spanAt};
+ghost use Rattle.span_list.specs.SpanList.{spansFrom, spansAt, SpansPut, endsAt};
+
+// How many bytes a slot has.
+pub const WIDTH: usize = 2 * ROWS;
+
+// Copies 255 bytes to a list, from an index on.
+fn put_rows(from: &[u8; ROWS], at: usize, rows: &mut [u8])
+    requires { ⌜ at + side ≤ length (now rows) ⌝ }
+    ensures { λ _. ⌜ (now (rows .exit) ≡ paste (now (rows .entry)) at (now (from .entry)) side) × (length (now (from .entry)) ≡ side) ⌝ }
+{
+    let all = &from[..];
+    let mut i = 0;
+    while i < ROWS {
+        rows[at + i] = all[i];
+        i += 1;
+    }
+}
+
+// 255 zeros in a list, from an index on.
+fn put_zeros(at: usize, rows: &mut [u8])
+    requires { ⌜ at + side ≤ length (now rows) ⌝ }
+    ensures { λ _. ⌜ now (rows .exit) ≡ paste (now (rows .entry)) at (replicate side 0) side ⌝ }
+{
+    let mut i = 0;
+    while i < ROWS {
+        rows[at + i] = 0;
+        i += 1;
+    }
+}
+
+// Spans with these first columns, and these columns past the last, stand in the slot from now on.
+fn put<'a>(rows: &mut [u8], slot: usize, first: &'a [u8; ROWS], past: &'a [u8; ROWS])
+    requires { ⌜ 510 * slot + 510 ≤ length (now rows) ⌝ }
+    ensures { λ _. ⌜ SpansPut (now (rows .entry)) (now (rows .exit)) slot (spansFrom (now (first .entry)) (now (past .entry))) ⌝ }
+{
+    let at = WIDTH * slot;
+    put_rows(first, at, rows);
+    put_rows(past, at + ROWS, rows);
+}
+
+// The rows of an outline stand in the slot from now on. They are found here, so that no caller has them on its stack while it judges the outline.
+pub fn put_outline(rows: &mut [u8], slot: usize, start: Point, letters: &[u8])
+    requires { ⌜ 510 * slot + 510 ≤ length (now rows) ⌝ }
+    ensures { λ _. ⌜ SpansPut (now (rows .entry)) (now (rows .exit)) slot (spansOf (outline start (now (letters .entry)))) ⌝ }
+{
+    let spans = spans_of(start, letters);
+    put(rows, slot, &spans.first, &spans.past);
+}
+
+// No row of the slot has a cell.
+pub fn put_none(rows: &mut [u8], slot: usize)
+    requires { ⌜ 510 * slot + 510 ≤ length (now rows) ⌝ }
+    ensures { λ _. ⌜ SpansPut (now (rows .entry)) (now (rows .exit)) slot noSpans ⌝ }
+{
+    let at = WIDTH * slot;
+    put_zeros(at, rows);
+    put_zeros(at + ROWS, rows);
+}
+
+// The two bytes of a row: its first column, and the one past its last.
+struct Ends {
+    first: u16,
+    past: u16,
+}
+
+fn wide(x: u8) -> u16
+    ensures { λ r. ⌜ r ≡ x ⌝ }
+{
+    x as u16
+}
+
+fn ends_at(rows: &[u8], slot: usize, row: u16) -> Ends
+    requires { ⌜ (510 * slot + 510 ≤ length (now rows)) × (row < side) ⌝ }
+    ensures { λ r. ⌜ r ≡ endsAt (now (rows .entry)) slot row ⌝ }
+{
+    let at = WIDTH * slot + row as usize;
+    Ends {
+        first: wide(rows[at]),
+        past: wide(rows[at + ROWS]),
+    }
+}
+
+// Whether a cell is among the columns of its row.
+pub fn within(rows: &[u8], slot: usize, cell: Point) -> bool
+    requires { ⌜ (510 * slot + 510 ≤ length (now rows)) × (cell .row < side) ⌝ }
+    ensures { λ b. ⌜ b ≡ inSpans (spansAt (now (rows .entry)) slot) (cell .col) (cell .row) ⌝ }
+{
+    let ends = ends_at(rows, slot, cell.row);
+    ends.first <= cell.col && cell.col < ends.past
+}
+
+// The columns of a row.
+pub fn span_at(rows: &[u8], slot: usize, row: u16) -> Span
+    requires { ⌜ (510 * slot + 510 ≤ length (now rows)) × (row < side) ⌝ }
+    ensures { λ r. ⌜ r ≡ spanAt (spansAt (now (rows .entry)) slot) row ⌝ }
+{
+    let ends = ends_at(rows, slot, row);
+    if ends.first < ends.past {
+        Span::Columns {
+            first: ends.first,
+            last: ends.past - 1,
+        }
+    } else {
+        Span::None
+    }
+}

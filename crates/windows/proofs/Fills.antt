@@ -1,0 +1,41 @@
+-- A list filled with one number, whole or from an index on.
+use Prim.Native.Nat.{ℕ, zero, suc, _+_, _-_, _≤_, _<_}
+use native.Mathlib.Nat.{zero-add, suc-add, not-suc-le-zero, le-of-suc-le-suc}
+use native.Mathlib.Numerals.{add-one}
+use native.Mathlib.Omega.{arith}
+use mathlib.Core.Path.{_≡_, refl, sym, ap, _∙_}
+use mathlib.Core.List.{List, [], _∷_, _++_, append-nil}
+use lib.ListN.{length, take, drop, set, replicate}
+use lib.Seq.{drop-length}
+use Rattle.windows.specs.Windows.{window, slotsFrom}
+
+module _ {A : Type 0} where
+  drop-replicate : (a b : ℕ) (x : A) → drop a (replicate (a + b) x) ≡ replicate b x
+  drop-replicate zero b x = rw (zero-add b)
+  drop-replicate (suc a) b x = rw (suc-add a b) (drop-replicate a b x)
+
+  take-replicate : (a b : ℕ) (x : A) → take a (replicate (a + b) x) ≡ replicate a x
+  take-replicate zero b x = refl
+  take-replicate (suc a) b x = rw (suc-add a b) (ap (λ (l : List A). x ∷ l) (take-replicate a b x))
+
+  pub window-replicate : (a w n : ℕ) (x : A) → a + w ≤ n → window a w (replicate n x) ≡ replicate w x
+  window-replicate a w n x h =
+      let e : a + (w + (n - (a + w))) ≡ n = omega arith in
+      ap (λ (k : ℕ). window a w (replicate k x)) (sym e) ∙ ap (take w) (drop-replicate a (w + (n - (a + w))) x) ∙ take-replicate w (n - (a + w)) x
+
+  pub slots-replicate : (i n : ℕ) (x : A) → slotsFrom (λ (k : ℕ). x) i n ≡ replicate n x
+  unfolding slotsFrom
+  slots-replicate i zero x = refl
+  slots-replicate i (suc n) x = ap (λ (l : List A). x ∷ l) (slots-replicate (suc i) n x)
+
+  -- A store of x at i takes i of them to i + 1
+  pub fill-one : (d : List A) (i : ℕ) (x : A) → i < length d → set (replicate i x ++ drop i d) i x ≡ replicate (i + 1) x ++ drop (i + 1) d
+  fill-one d i x l = rw add-one (go i d l)
+    where
+      go : (i : ℕ) (d : List A) → i < length d → set (replicate i x ++ drop i d) i x ≡ replicate (suc i) x ++ drop (suc i) d
+      go i [] l = absurd (not-suc-le-zero l)
+      go zero (y ∷ d) l = refl
+      go (suc i) (y ∷ d) l = ap (λ (t : List A). x ∷ t) (go i d (le-of-suc-le-suc l))
+
+  pub fill-all : (d : List A) (i : ℕ) (x : A) (l : List A) → i ≡ length d → l ≡ replicate i x ++ drop i d → l ≡ replicate (length d) x
+  fill-all d i x l e q = q ∙ rw (e, drop-length d) (append-nil (replicate (length d) x))
