@@ -6,6 +6,7 @@ its answer, and changes nothing.
 
 import argparse
 import json
+import signal
 import sys
 from http import HTTPStatus
 from http.server import BaseHTTPRequestHandler, ThreadingHTTPServer
@@ -151,6 +152,8 @@ def main():
     parser.add_argument("--library", required=True, help=argparse.SUPPRESS)
     parser.add_argument("--port", type=int, default=0, help="the port to listen on; without it, any that is free")
     arguments = parser.parse_args()
+    # Ctrl-C ends it, also where it was started with the signal ignored, as by nohup in the background.
+    signal.signal(signal.SIGINT, signal.default_int_handler)
     try:
         made = server(arguments.library, arguments.port)
     except (OSError, OverflowError) as error:

@@ -147,6 +147,20 @@ pub fn judge(start: Point, letters: &[u8], lent: &mut [i16]) -> Verdict
     }
 }
 
+// The judgement alone, where no edges are asked for.
+pub fn verdict_of(start: Point, letters: &[u8]) -> Verdict
+    ensures { λ r. ⌜ r ≡ verdictOf (outline start (now (letters .entry))) ⌝ }
+{
+    let surveyed = survey::survey(start, letters);
+    match surveyed {
+        Surveyed::Refused(why) => Verdict::Refused(why),
+        Surveyed::Passed(found) => {
+            let mut none = [0i16; 0];
+            read(start, letters, found, &mut none)
+        }
+    }
+}
+
 // What is said of an outline by refusals 1 to 9, and its edges, two numbers an edge and then zeros: all zeros where it is refused.
 pub struct Judged {
     pub verdict: Verdict,

@@ -8,7 +8,7 @@ use Rattle.calls.specs.declared.Piece.the-variants.{Move, Line, Close, N
 use Rattle.calls.specs.declared.Reply.{Reply}
 use Rattle.calls.specs.declared.Reply.the-variants.{Done, Inside, Outside, Undecided, Columns, None, Drawn, Taken, Same, Refused, NothingAtWork, NoDraft, DraftOpen, DraftFull, NoParty, NoPlace}
 
--- The words that only a holder says
+-- The words of a holder; "none" is also that of a witness call
 abbrev pub none : ℕ
 none = 5
 

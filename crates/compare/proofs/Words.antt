@@ -12,6 +12,7 @@ use Rattle.chart.specs.declared.Fields.{Fields}
 use Rattle.chart.specs.declared.Nesting.{Nesting}
 use Rattle.chart.specs.declared.Nesting.the-variants.{Equal, FirstWithin, SecondWithin, Apart, Crossing}
 use Rattle.chart.specs.declared.Comparison.{Comparison}
+use Rattle.chart.specs.declared.Comparison.the-variants.{Found, Refused}
 use Rattle.chart.specs.declared.Refusal.{Refusal}
 use Rattle.chart.specs.declared.Refusal.the-variants.{Count, Start, Letter, Leaves, Unclosed, Touches, BackStep, Dent, Room, List as BadList, Cell, Turning}
 use Rattle.chart.specs.Fields.{placed, refusalFields, nestingFields, comparisonFields}
@@ -20,11 +21,13 @@ use Rattle.nesting.specs.Answer.{nesting}
 use Rattle.nesting.proofs.Answer.{answer-iff}
 use Rattle.compare.specs.declared.Checked.{Checked}
 use Rattle.compare.specs.declared.Checked.the-variants.{Fit, Unfit}
-use Rattle.compare.specs.Compared.{checkedOf, decided, comparisonOf, CellsNamed, HandedBack}
+use Rattle.compare.specs.declared.Handed.{Handed}
+use Rattle.compare.specs.declared.Handed.the-variants.{First, Second, Neither}
+use Rattle.compare.specs.Compared.{checkedOf, decided, comparisonOf, CellsNamed, handedWith, handedBy, HandedBack}
 use Rattle.compare.proofs.Cases.{fit-sound}
 
 -- A refusal has a number
-refusal-number : (f : Refusal) → 0 < refusalFields f .number
+pub refusal-number : (f : Refusal) → 0 < refusalFields f .number
 refusal-number Count = omega arith
 refusal-number Start = omega arith
 refusal-number (Letter p) = omega arith
@@ -57,7 +60,7 @@ worded-is SecondWithin = refl
 worded-is Apart = refl
 worded-is Crossing = refl
 
-word-once : (v w : Nesting) → nestingFields v .word ≡ nestingFields w .word → v ≡ w
+pub word-once : (v w : Nesting) → nestingFields v .word ≡ nestingFields w .word → v ≡ w
 word-once v w e = sym (worded-is v) ∙ ap worded e ∙ worded-is w
 
 module _ (a : Point) (es : List ℤ) (b : Point) (fs : List ℤ) where
@@ -83,7 +86,25 @@ module _ (a : Point) (es : List ℤ) (b : Point) (fs : List ℤ) where
       (c : Comparison) → c ≡ comparisonOf a es b fs → (c ≡ comparisonOf a es b fs) × CellsNamed (polygon a es) (polygon b fs) (comparisonFields c)
   answer-named c e = (e, rw e cells-named)
 
--- The list that the reply's piece names
+-- The piece of a reply names the list that goes with the answer
+abbrev pub pieceBy : Handed → ℕ
+pieceBy First = 1
+pieceBy Second = 2
+pieceBy Neither = 0
+
+with-piece : (v : Nesting) → nestingFields v .piece ≡ pieceBy (handedWith v)
+unfolding handedWith
+with-piece Equal = refl
+with-piece FirstWithin = refl
+with-piece SecondWithin = refl
+with-piece Apart = refl
+with-piece Crossing = refl
+
+pub handed-piece : (c : Comparison) → comparisonFields c .piece ≡ pieceBy (handedBy c)
+unfolding handedBy
+handed-piece (Found v) = with-piece v
+handed-piece (Refused n f) = refl
+
 module _ (f : Fields) (first second : RefT (List ℤ)) where
   pub handed-one : f .piece ≡ 1 → HandedBack f first first second
   handed-one e = record { one = λ h. refl; two = λ h. absurd (omega arith); neither = λ h. absurd (omega arith) }
@@ -91,6 +112,5 @@ module _ (f : Fields) (first second : RefT (List ℤ)) where
   pub handed-two : f .piece ≡ 2 → HandedBack f second first second
   handed-two e = record { one = λ h. absurd (omega arith); two = λ h. refl; neither = λ h. absurd (omega arith) }
 
-  pub handed-neither :
-      (list : RefT (List ℤ)) → (f .piece ≡ 1 → ⊥) → (f .piece ≡ 2 → ⊥) → list .ptr ≡ first .ptr → list .now ≡ [] → HandedBack f list first second
-  handed-neither list a b p q = record { one = λ h. absurd (a h); two = λ h. absurd (b h); neither = λ h. (p, q) }
+  pub handed-neither : (list : RefT (List ℤ)) → f .piece ≡ 0 → list .ptr ≡ first .ptr → list .now ≡ [] → HandedBack f list first second
+  handed-neither list e p q = record { one = λ h. absurd (omega arith); two = λ h. absurd (omega arith); neither = λ h. (p, q) }

@@ -10,6 +10,7 @@ use Rattle.chart.specs.Limits.{longestList}
 use Rattle.chart.specs.declared.Point.{Point}
 use Rattle.chart.specs.declared.Fields.{Fields}
 use Rattle.chart.specs.declared.Nesting.{Nesting}
+use Rattle.chart.specs.declared.Nesting.the-variants.{Equal, FirstWithin, SecondWithin, Apart, Crossing}
 use Rattle.chart.specs.declared.Comparison.{Comparison}
 use Rattle.chart.specs.declared.Comparison.the-variants.{Found, Refused}
 use Rattle.chart.specs.declared.Refusal.the-variants.{List as BadList, Cell, Turning}
@@ -21,6 +22,8 @@ use Rattle.nesting.specs.Corners.{cornersOnChart}
 use Rattle.nesting.specs.Answer.{nesting}
 use Rattle.compare.specs.declared.Checked.{Checked}
 use Rattle.compare.specs.declared.Checked.the-variants.{Fit, Unfit}
+use Rattle.compare.specs.declared.Handed.{Handed}
+use Rattle.compare.specs.declared.Handed.the-variants.{First, Second, Neither}
 
 -- What refuses a list: 10, 11 of the anchor, 16, then 11 where the walk leaves the chart
 unfoldable pub checkedOf : Point → List ℤ → Checked
@@ -48,6 +51,18 @@ comparisonOf a es b fs = decided (checkedOf a es) (checkedOf b fs) (nesting (pol
 pub record CellsNamed (p q : Polygon) (f : Fields) : Type 0 where
   pub says : (v : Nesting) → f .word ≡ nestingFields v .word → Says p q v
   pub only : f .number ≡ 0 → (v : Nesting) → Says p q v → f ≡ nestingFields v
+
+-- Which list goes with an answer
+unfoldable pub handedWith : Nesting → Handed
+handedWith Equal = First
+handedWith FirstWithin = First
+handedWith SecondWithin = Second
+handedWith Apart = Neither
+handedWith Crossing = Neither
+
+unfoldable pub handedBy : Comparison → Handed
+handedBy (Found v) = handedWith v
+handedBy (Refused n f) = Neither
 
 -- The list handed back: the first, the second, or an empty part of the first, as the reply's piece says
 pub record HandedBack (f : Fields) (list first second : RefT (List ℤ)) : Type 0 where

@@ -3,6 +3,7 @@ use chart::Comparison;
 use chart::Nesting;
 use chart::Point;
 use chart::Refusal;
+use chart::reply::NUMBERS;
 use chart::reply::of_comparison;
 use chart::reply::write;
 ghost use mathlib.Core.Path.{_≡_};
@@ -11,11 +12,11 @@ ghost use Prim.Native.Nat.{_≤_};
 ghost use lib.ListN.{length};
 ghost use lib.IntN.{pos};
 ghost use Rattle.chart.specs.Limits.{longestList};
-ghost use Rattle.chart.specs.Fields.{comparisonFields, replyAfter};
+ghost use Rattle.chart.specs.Fields.{comparisonFields, numbersOf, fieldsOf};
 ghost use Rattle.nesting.specs.Cells.{polygon, Fit};
 ghost use Rattle.nesting.specs.Corners.{cornersOnChart};
 ghost use Rattle.nesting.specs.Answer.{liesWithin, nesting};
-ghost use Rattle.compare.specs.Compared.{checkedOf, Sound, comparisonOf, CellsNamed, HandedBack};
+ghost use Rattle.compare.specs.Compared.{checkedOf, Sound, comparisonOf, CellsNamed, handedBy, HandedBack};
 
 mod rows;
 mod step;
@@ -94,10 +95,10 @@ fn nest(anchor: Point, edges: &[i16], other: Point, others: &[i16]) -> Nesting
     if outward {
         return Nesting::SecondWithin;
     }
-    if rows::meet(anchor, edges, other, others) {
-        return Nesting::Crossing;
+    if !rows::meet(anchor, edges, other, others) {
+        return Nesting::Apart;
     }
-    Nesting::Apart
+    Nesting::Crossing
 }
 
 // The refusals of the first list, then of the second, and else how the cells in their hulls lie.
@@ -114,26 +115,46 @@ pub fn relate(anchor: Point, edges: &[i16], other: Point, others: &[i16]) -> Com
     }
 }
 
-// The comparison, its reply written to the front of a lent list where there is room, and the inner one's own list: the first where they are equal, and an
-// empty part of the first where neither lies within the other or a list is refused.
+// Which list is handed back.
+enum Handed {
+    First,
+    Second,
+    Neither,
+}
+
+// The inner one's: the first where they are equal, and none where neither lies within the other or a list is refused.
+fn inner(comparison: Comparison) -> Handed
+    ensures { λ r. ⌜ r ≡ handedBy comparison ⌝ }
+{
+    match comparison {
+        Comparison::Refused { .. } => Handed::Neither,
+        Comparison::Found(nesting) => match nesting {
+            Nesting::Equal => Handed::First,
+            Nesting::FirstWithin => Handed::First,
+            Nesting::SecondWithin => Handed::Second,
+            Nesting::Apart => Handed::Neither,
+            Nesting::Crossing => Handed::Neither,
+        },
+    }
+}
+
+// The comparison with its reply, and the inner one's own list, or else an empty part of the first.
 pub fn compare<'a>(
     anchor: Point,
     edges: &'a [i16],
     other: Point,
     others: &'a [i16],
-    reply: &mut [u16],
+    reply: &mut [u16; NUMBERS],
 ) -> &'a [i16]
-    ensures reply { λ _. ⌜ now (reply .exit) ≡ replyAfter (comparisonFields (comparisonOf anchor (now (edges .entry)) other (now (others .entry)))) (now (reply .entry)) ⌝ }
-    ensures list { λ r. ⌜ HandedBack (comparisonFields (comparisonOf anchor (now (edges .entry)) other (now (others .entry)))) r (edges .entry) (others .entry) ⌝ }
+    ensures reply { λ _. ⌜ now (reply .exit) ≡ numbersOf (comparisonFields (comparisonOf anchor (now (edges .entry)) other (now (others .entry)))) ⌝ }
+    ensures cells { λ _. ⌜ CellsNamed (polygon anchor (now (edges .entry))) (polygon other (now (others .entry))) (fieldsOf (now (reply .exit))) ⌝ }
+    ensures list { λ r. ⌜ HandedBack (fieldsOf (now (reply .exit))) r (edges .entry) (others .entry) ⌝ }
 {
-    let fields = of_comparison(relate(anchor, edges, other, others));
-    let whose = fields.piece;
-    write(fields, reply);
-    if whose == 1 {
-        return edges;
+    let comparison = relate(anchor, edges, other, others);
+    write(of_comparison(comparison), &mut reply[..]);
+    match inner(comparison) {
+        Handed::First => edges,
+        Handed::Second => others,
+        Handed::Neither => &edges[..0],
     }
-    if whose == 2 {
-        return others;
-    }
-    &edges[..0]
 }

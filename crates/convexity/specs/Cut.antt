@@ -49,8 +49,8 @@ unfoldable pub cutCorner : Outline → ℕ → ℕ
 cutCorner o zero = 0
 cutCorner o (suc k) = cond (ltb k 3) (cornerPlace o (suc k)) 0
 
--- The five cut places of a turn o: cut k is where piece k (counted from 0) begins and the one before it ends, in letters walked from W on, past the
--- list's end to its beginning where needed
+-- The five cut places of a turn o: cut k is where piece k (counted from 0) begins and the one before it ends, in letters walked from W on; the walk
+-- goes round, from the last letter to the first
 unfoldable pub cut : Outline → ℕ → ℕ
 cut o zero = 0
 cut o (suc k) = cut o k + ahead (size o) (cutCorner o k) (cutCorner o (suc k))

@@ -2,21 +2,21 @@
 use crate::sets;
 
 // There are this many.
-pub const CELLS: u16 = 16;
+pub(crate) const CELLS: u16 = 16;
 
 // No cell.
-pub const NONE: u16 = 16;
+pub(crate) const NONE: u16 = 16;
 
-pub fn col(k: u16) -> u16 {
+pub(crate) fn col(k: u16) -> u16 {
     k % 4
 }
 
-pub fn row(k: u16) -> u16 {
+pub(crate) fn row(k: u16) -> u16 {
     k / 4
 }
 
 // The lowest cell of a set, and in its row the leftmost: cells are numbered so.
-pub fn lowest(set: u32) -> u16 {
+pub(crate) fn lowest(set: u32) -> u16 {
     let mut k = 0;
     while k < CELLS {
         if sets::has(set, k) {
@@ -28,7 +28,7 @@ pub fn lowest(set: u32) -> u16 {
 }
 
 // The leftmost cell of a set, and in its column the lowest.
-pub fn leftmost(set: u32) -> u16 {
+pub(crate) fn leftmost(set: u32) -> u16 {
     let mut t = 0;
     while t < CELLS {
         let k = 4 * (t % 4) + t / 4;

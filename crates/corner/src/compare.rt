@@ -192,13 +192,13 @@ fn same_edges(a: &[i16; ROOM], b: &[i16; ROOM]) -> bool {
 }
 
 // What the engine answers for an outline, and whether that agrees with what was counted and with the answer for its twin.
-pub struct Answer {
-    pub number: u16,
-    pub agrees: bool,
+pub(crate) struct Answer {
+    pub(crate) number: u16,
+    pub(crate) agrees: bool,
 }
 
 // The outline of a closed walk from the corner at `first` on, and the same drawn backward.
-pub fn run(corners: &[u16; CORNERS], n: usize, first: usize, counted: Counted) -> Answer {
+pub(crate) fn run(corners: &[u16; CORNERS], n: usize, first: usize, counted: Counted) -> Answer {
     let mut letters = [0u8; CORNERS];
     let count = spell(corners, n, first, &mut letters);
     let corner = walks::corner_at(corners, n, first);

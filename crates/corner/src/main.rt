@@ -1,4 +1,4 @@
-// Runs every outline in a 4 by 4 corner of the chart, drawn either way, through the engine, compares it with plain counting of cells and with the same outline
+// Runs every outline that fits 4 by 4 cells, drawn either way, through the engine, compares it with plain counting of cells and with the same outline
 // drawn backward, and writes counts.
 mod cells;
 mod compare;

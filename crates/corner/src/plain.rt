@@ -11,10 +11,10 @@ ghost use Prim.Native.Nat.{_≤_};
 const TRIPLES: u16 = 4096;
 
 // What is counted: the number that the test is to answer, the enclosed cells, and the missing cell or the anchor.
-pub struct Counted {
-    pub number: u16,
-    pub cells: u32,
-    pub cell: u16,
+pub(crate) struct Counted {
+    pub(crate) number: u16,
+    pub(crate) cells: u32,
+    pub(crate) cell: u16,
 }
 
 // The letter between two corners runs up along the height of the cell's row, at a corner column up to the cell's.
@@ -167,7 +167,7 @@ fn count_hull(set: u32) -> Counted {
 }
 
 // A closed walk, whatever corner it starts from.
-pub fn count(corners: &[u16; CORNERS], n: usize) -> Counted {
+pub(crate) fn count(corners: &[u16; CORNERS], n: usize) -> Counted {
     let set = enclosed(corners, n);
     if has_gap(set) {
         return Counted {
@@ -197,7 +197,7 @@ fn is_edge(set: u32, p: u16, q: u16) -> bool {
 }
 
 // The vertex of the hull that comes clockwise after p, or none.
-pub fn next_vertex(set: u32, p: u16) -> u16 {
+pub(crate) fn next_vertex(set: u32, p: u16) -> u16 {
     let mut q = 0;
     while q < CELLS {
         if is_edge(set, p, q) {

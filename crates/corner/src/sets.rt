@@ -1,8 +1,8 @@
 // Sets of numbers below 32, those of cells or of corners: a bit for each.
-pub fn has(set: u32, k: u16) -> bool {
+pub(crate) fn has(set: u32, k: u16) -> bool {
     k < 32 && (set >> (k as u32)) % 2 == 1
 }
 
-pub fn with(set: u32, k: u16) -> u32 {
+pub(crate) fn with(set: u32, k: u16) -> u32 {
     if k < 32 { set | (1 << (k as u32)) } else { set }
 }

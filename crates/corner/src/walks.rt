@@ -3,26 +3,26 @@
 use crate::sets;
 
 // The block has this many corners, and no simple walk has more.
-pub const CORNERS: usize = 25;
+pub(crate) const CORNERS: usize = 25;
 
 // A walk so far: its corners up to the one at `depth`, how many letters were tried from each, and the set of those met.
-pub struct Search {
-    pub corners: [u16; CORNERS],
-    pub tried: [u16; CORNERS],
-    pub depth: usize,
-    pub met: u32,
-    pub closed: bool,
-    pub done: bool,
+pub(crate) struct Search {
+    pub(crate) corners: [u16; CORNERS],
+    pub(crate) tried: [u16; CORNERS],
+    pub(crate) depth: usize,
+    pub(crate) met: u32,
+    pub(crate) closed: bool,
+    pub(crate) done: bool,
 }
 
 // The corner at a place of a closed walk of n corners, past its end once more from its beginning.
-pub fn corner_at(corners: &[u16; CORNERS], n: usize, place: usize) -> u16 {
+pub(crate) fn corner_at(corners: &[u16; CORNERS], n: usize, place: usize) -> u16 {
     let i = if place < n { place } else { place - n };
     if i < CORNERS { corners[i] } else { 0 }
 }
 
 // The letter that leads from a corner to the next.
-pub fn letter(from: u16, to: u16) -> u8 {
+pub(crate) fn letter(from: u16, to: u16) -> u8 {
     if from < to {
         if to - from == 1 { 0 } else { 1 }
     } else {
@@ -31,7 +31,7 @@ pub fn letter(from: u16, to: u16) -> u8 {
 }
 
 // No corner: off the block.
-pub const OFF: u16 = 25;
+pub(crate) const OFF: u16 = 25;
 
 // The corner that a letter reaches.
 fn neighbour(at: u16, letter: u16) -> u16 {
@@ -46,7 +46,7 @@ fn neighbour(at: u16, letter: u16) -> u16 {
     }
 }
 
-pub fn begin(start: u16) -> Search {
+pub(crate) fn begin(start: u16) -> Search {
     Search {
         corners: [start; CORNERS],
         tried: [0; CORNERS],
@@ -99,7 +99,7 @@ fn follow(s: Search, at: u16, letter: u16) -> Search {
 }
 
 // One step of the search.
-pub fn step(s: Search) -> Search {
+pub(crate) fn step(s: Search) -> Search {
     let mut t = s;
     t.closed = false;
     let depth = t.depth;

@@ -1,44 +1,29 @@
 -- The corner cells of a taken outline are cells of the chart and its edges lead round, so the points of its drawing are its corner cells, whose hull is its block.
 use Prim.Native.Nat.{_<_}
 use native.Mathlib.Nat.{lt-trans}
-use mathlib.Core.Path.{_≡_, refl, sym, ap, subst₂}
-use mathlib.Core.Logic.{_↔_, inl, inr, Iff·trans}
+use mathlib.Core.Path.{_≡_, sym, ap}
+use mathlib.Core.Logic.{_↔_, Iff·trans}
 use mathlib.Core.Bool.{true}
 use mathlib.Core.List.{List, [], _∷_, _++_, map, List·Memᴰ}
 use lib.Dec.{lit<}
-use lib.IntN.{ℤ, pos, natAbs, _+ℤ_}
+use lib.IntN.{ℤ, pos, natAbs}
 use Rattle.chart.specs.Limits.{side}
 use Rattle.chart.specs.declared.Point.{Point}
 use Rattle.chart.specs.Outline.{Outline}
 use Rattle.convexity.specs.Reading.{border, block}
 use Rattle.convexity.specs.Pieces.{Reaches, dentPiece, edges}
-use Rattle.convexity.specs.Shape.{NoBackStep}
 use Rattle.convexity.proofs.Shape.{shape}
-use Rattle.convexity.proofs.Inside.{Meets, IsCell, vertex-is-cell, edges-return}
+use Rattle.convexity.proofs.Inside.{IsCell, edges-return}
 use Rattle.convexity.proofs.AsSent.{clear-of, edges-answer-sent}
-use Rattle.turning.specs.CornerHull.{Met, start, after}
 use Rattle.turning.proofs.Theorem.{inside-iff-hull}
 use Rattle.turning.proofs.Taken.{taken-passes}
+use Rattle.turning.proofs.Cells.{corner-is-cell}
 use Rattle.drawing.specs.declared.Stroke.{Stroke}
 use Rattle.drawing.specs.declared.Stroke.the-variants.{Move, Line, Close}
 use Rattle.drawing.specs.Drawing.{drawing}
 use Rattle.drawing.specs.Claims.{cellOf, corners, again, InHullOf, Draws}
 use Rattle.drawing.proofs.Halves.{half-raised}
 use Rattle.drawing.proofs.Corners.{endsFrom, Stays, lines-are, corners-are, met-point, hull-iff}
-
-meets-at : (P : ℤ → ℤ → Type 0) {u v : ℤ} → P u v → (es : List ℤ) (x y : ℤ) → Met es x y u v → Meets P es x y
-unfolding Meets
-meets-at P h [] x y start = h
-meets-at P h (dx ∷ []) x y start = h
-meets-at P h (dx ∷ dy ∷ es) x y start = inl h
-meets-at P h (dx ∷ dy ∷ es) x y (after m) = inr (meets-at P h es (x +ℤ dx) (y +ℤ dy) m)
-
--- Every corner cell is a cell of the chart
-edges-stay : (o : Outline) → NoBackStep o → Stays (edges o) (pos (o .start .col)) (pos (o .start .row))
-edges-stay o straight u v m =
-    let at : ℤ → ℤ → Type 0 = λ c r. (c ≡ u) × (r ≡ v) in
-    let (c, r, is, e) = vertex-is-cell o (shape o straight) at (meets-at at (refl, refl) (edges o) (pos (o .start .col)) (pos (o .start .row)) m) in
-    subst₂ IsCell (e .0) (e .1) is
 
 cell-on : {p : Point} → IsCell (pos (p .col)) (pos (p .row)) → (p .col < side) × (p .row < side)
 cell-on c = (rw (ap natAbs (c .col-is)) (c .col-on), rw (ap natAbs (c .row-is)) (c .row-on))
@@ -55,7 +40,7 @@ module _ (o : Outline) (h : Reaches o) (smooth : dentPiece (border o) ≡ 4) whe
   ends = endsFrom es (pos (a .col)) (pos (a .row))
 
   stays : Stays es (pos (a .col)) (pos (a .row))
-  stays = edges-stay (border o) (clear-of o h)
+  stays = corner-is-cell (border o) (clear-of o h)
 
   drawn : drawing a es ≡ Move a ∷ map Line ends ++ (Close ∷ [])
   unfolding drawing

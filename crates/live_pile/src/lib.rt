@@ -1,5 +1,5 @@
 // The calls on a pile that stands in two lists of bytes which the caller keeps: its layers, and whether it has passed (contract 12.8).
-use border::judge;
+use border::verdict_of;
 use chart::Point;
 use chart::Verdict;
 use chart::reply;
@@ -65,9 +65,7 @@ fn set_layer(
     if 15 < layer {
         return PileReply::Layer;
     }
-    // No edges are asked for.
-    let mut none = [0i16; 0];
-    let verdict = judge(start, letters, &mut none);
+    let verdict = verdict_of(start, letters);
     match verdict {
         Verdict::Refused(why) => PileReply::Judged(Verdict::Refused(why)),
         Verdict::Taken { edges, anchor } => {

@@ -2,25 +2,32 @@
 use mathlib.Core.Path.{_≡_, refl, sym, _∙_}
 use mathlib.Core.Logic.{_↔_}
 use mathlib.Core.Bool.{Bool, true, false, true≢false}
+use Rattle.chart.specs.declared.Point.{Point}
 use Rattle.chart.specs.declared.Nesting.{Nesting}
 use Rattle.chart.specs.declared.Nesting.the-variants.{Equal, FirstWithin, SecondWithin, Apart, Crossing}
 use Rattle.turning.specs.CornerHull.{Met}
-use Rattle.nesting.specs.Cells.{Polygon, Fit, Within, Beyond, Common, Says}
+use Rattle.nesting.specs.Cells.{Polygon, Fit, Holds, Within, Beyond, Common, Says}
 use Rattle.nesting.specs.Rows.{rowsMeet}
 use Rattle.nesting.specs.Answer.{byTests, liesWithin, nesting}
 use Rattle.nesting.proofs.Within.{corner-hull, within-iff-test, test-beyond}
 use Rattle.nesting.proofs.Meet.{meet-iff-test}
 
 -- Within and beyond exclude one another
-not-both : (p q : Polygon) → Within p q → Beyond p q → ⊥
-not-both p q w h = h .notSecond (w (h .cell) (h .inFirst))
+not-both : (P Q : Point → Type 0) → Within P Q → Beyond P Q → ⊥
+not-both P Q w h = h .notSecond (w (h .cell) (h .inFirst))
 
 module _ (p q : Polygon) (one : Fit p) (two : Fit q) where
+  abbrev P : Point → Type 0
+  P = Holds p
+
+  abbrev Q : Point → Type 0
+  Q = Holds q
+
   -- What is within has a common cell, its anchor
-  first-common : Within p q → Common p q
+  first-common : Within P Q → Common P Q
   first-common w = record { cell = p .anchor; inFirst = corner-hull Met.start; inSecond = w (p .anchor) (corner-hull Met.start) }
 
-  second-common : Within q p → Common p q
+  second-common : Within Q P → Common P Q
   second-common w = record { cell = q .anchor; inFirst = w (q .anchor) (corner-hull Met.start); inSecond = corner-hull Met.start }
 
   -- The statement that the tests name holds
@@ -39,28 +46,28 @@ module _ (p q : Polygon) (one : Fit p) (two : Fit q) where
   -- No two of the five hold
   pub says-once : (v w : Nesting) → Says p q v → Says p q w → v ≡ w
   says-once Equal Equal h k = refl
-  says-once Equal FirstWithin h k = absurd (not-both q p (h .1) (k .1))
-  says-once Equal SecondWithin h k = absurd (not-both p q (h .0) (k .1))
+  says-once Equal FirstWithin h k = absurd (not-both Q P (h .1) (k .1))
+  says-once Equal SecondWithin h k = absurd (not-both P Q (h .0) (k .1))
   says-once Equal Apart h k = absurd (k (first-common (h .0)))
-  says-once Equal Crossing h k = absurd (not-both p q (h .0) (k .1))
-  says-once FirstWithin Equal h k = absurd (not-both q p (k .1) (h .1))
+  says-once Equal Crossing h k = absurd (not-both P Q (h .0) (k .1))
+  says-once FirstWithin Equal h k = absurd (not-both Q P (k .1) (h .1))
   says-once FirstWithin FirstWithin h k = refl
-  says-once FirstWithin SecondWithin h k = absurd (not-both p q (h .0) (k .1))
+  says-once FirstWithin SecondWithin h k = absurd (not-both P Q (h .0) (k .1))
   says-once FirstWithin Apart h k = absurd (k (first-common (h .0)))
-  says-once FirstWithin Crossing h k = absurd (not-both p q (h .0) (k .1))
-  says-once SecondWithin Equal h k = absurd (not-both p q (k .0) (h .1))
-  says-once SecondWithin FirstWithin h k = absurd (not-both p q (k .0) (h .1))
+  says-once FirstWithin Crossing h k = absurd (not-both P Q (h .0) (k .1))
+  says-once SecondWithin Equal h k = absurd (not-both P Q (k .0) (h .1))
+  says-once SecondWithin FirstWithin h k = absurd (not-both P Q (k .0) (h .1))
   says-once SecondWithin SecondWithin h k = refl
   says-once SecondWithin Apart h k = absurd (k (second-common (h .0)))
-  says-once SecondWithin Crossing h k = absurd (not-both q p (h .0) (k .2))
+  says-once SecondWithin Crossing h k = absurd (not-both Q P (h .0) (k .2))
   says-once Apart Equal h k = absurd (h (first-common (k .0)))
   says-once Apart FirstWithin h k = absurd (h (first-common (k .0)))
   says-once Apart SecondWithin h k = absurd (h (second-common (k .0)))
   says-once Apart Apart h k = refl
   says-once Apart Crossing h k = absurd (h (k .0))
-  says-once Crossing Equal h k = absurd (not-both p q (k .0) (h .1))
-  says-once Crossing FirstWithin h k = absurd (not-both p q (k .0) (h .1))
-  says-once Crossing SecondWithin h k = absurd (not-both q p (k .0) (h .2))
+  says-once Crossing Equal h k = absurd (not-both P Q (k .0) (h .1))
+  says-once Crossing FirstWithin h k = absurd (not-both P Q (k .0) (h .1))
+  says-once Crossing SecondWithin h k = absurd (not-both Q P (k .0) (h .2))
   says-once Crossing Apart h k = absurd (k (h .0))
   says-once Crossing Crossing h k = refl
 

@@ -44,7 +44,7 @@ pub record MeetingRow (p q : Polygon) : Type 0 where
   pub meets : max (runFrom p row) (runFrom q row) < min (runTo p row) (runTo q row)
 
 module _ (p q : Polygon) (one : Fit p) (two : Fit q) where
-  row-common : MeetingRow p q → Common p q
+  row-common : MeetingRow p q → Common (Holds p) (Holds q)
   row-common m =
       let r = m .row in
       let c = max (runFrom p r) (runFrom q r) in
@@ -55,7 +55,7 @@ module _ (p q : Polygon) (one : Fit p) (two : Fit q) where
         inSecond = holds-iff q two c r .0 (row-run q r c l .1 (omega (arith, m .meets)));
       }
 
-  common-row : Common p q → MeetingRow p q
+  common-row : Common (Holds p) (Holds q) → MeetingRow p q
   common-row k =
       let c = k .cell .col in
       let r = k .cell .row in
@@ -64,7 +64,7 @@ module _ (p q : Polygon) (one : Fit p) (two : Fit q) where
       let t = row-run q r c (l .0) .0 (holds-iff q two c r .1 (k .inSecond)) in
       record { row = r; below = l .1; meets = omega (arith, s .0, s .1, t .0, t .1) }
 
-  pub meet-iff-rows : Common p q ↔ MeetingRow p q
+  pub meet-iff-rows : Common (Holds p) (Holds q) ↔ MeetingRow p q
   meet-iff-rows = (common-row, row-common)
 
   -- As a test
@@ -78,5 +78,5 @@ module _ (p q : Polygon) (one : Fit p) (two : Fit q) where
   unfolding rowsMeet some rowMeets
   row-test m = some-of (rowMeets p q) side (m .row) (m .below) (lt-ltb _ _ (m .meets))
 
-  pub meet-iff-test : (rowsMeet p q ≡ true) ↔ Common p q
+  pub meet-iff-test : (rowsMeet p q ≡ true) ↔ Common (Holds p) (Holds q)
   meet-iff-test = ((λ e. row-common (test-row e)), λ k. row-test (common-row k))

@@ -61,28 +61,28 @@ module _ (p q : Polygon) (one : Fit p) (two : Fit q) where
   abbrev test : ℤ → ℤ → Bool
   test u v = insideAt (q .edges) (pos (q .anchor .col)) (pos (q .anchor .row)) u v
 
-  within-corner : Within p q → (u v : ℤ) → MetBy p u v → test u v ≡ true
+  within-corner : Within (Holds p) (Holds q) → (u v : ℤ) → MetBy p u v → test u v ≡ true
   within-corner h u v m =
       let s = corner-place p one m in
       inside-place q s ∙ holds-iff q two (s .col) (s .row) .1 (h (record { col = s .col; row = s .row }) (corner-hull (met-place p s m)))
 
-  corner-within : ((u v : ℤ) → MetBy p u v → test u v ≡ true) → Within p q
+  corner-within : ((u v : ℤ) → MetBy p u v → test u v ≡ true) → Within (Holds p) (Holds q)
   corner-within h x k = holds-iff q two (x .col) (x .row) .0 (corners-hold _ _ _ _ _ _ _ _ h k)
 
   -- The claim
-  pub within-iff-corners : Within p q ↔ ((u v : ℤ) → MetBy p u v → test u v ≡ true)
+  pub within-iff-corners : Within (Holds p) (Holds q) ↔ ((u v : ℤ) → MetBy p u v → test u v ≡ true)
   within-iff-corners = (within-corner, corner-within)
 
   -- As a test, and a cell where the test fails
-  pub within-iff-test : (liesWithin p q ≡ true) ↔ Within p q
+  pub within-iff-test : (liesWithin p q ≡ true) ↔ Within (Holds p) (Holds q)
   unfolding liesWithin cornersInside
   within-iff-test = ((λ e. corner-within (λ u v m. every-met test m e)), λ h. met-every test _ _ _ (within-corner h))
 
-  pub test-beyond : liesWithin p q ≡ false → Beyond p q
+  pub test-beyond : liesWithin p q ≡ false → Beyond (Holds p) (Holds q)
   unfolding liesWithin cornersInside
   test-beyond e = go (some-fails test _ _ _ e)
     where
-      go : Fails test (p .edges) (pos (p .anchor .col)) (pos (p .anchor .row)) → Beyond p q
+      go : Fails test (p .edges) (pos (p .anchor .col)) (pos (p .anchor .row)) → Beyond (Holds p) (Holds q)
       go w =
           let s = corner-place p one (w .met) in
           record {

@@ -1,4 +1,4 @@
--- The answer for two polygons by three tests: corners of one inside the other, both ways, and rows whose runs meet.
+-- The answer for two polygons by three tests: corners of one inside the other, both ways, and rows whose runs meet; and with the two exchanged.
 use mathlib.Core.Bool.{Bool, true, false}
 use lib.IntN.{pos}
 use Rattle.chart.specs.declared.Nesting.{Nesting}
@@ -21,3 +21,11 @@ liesWithin p q = cornersInside (p .edges) (pos (p .anchor .col)) (pos (p .anchor
 
 unfoldable pub nesting : Polygon → Polygon → Nesting
 nesting p q = byTests (liesWithin p q) (liesWithin q p) (rowsMeet p q)
+
+-- The answer with the polygons exchanged: first and second within change places, and the other three stay
+unfoldable pub exchanged : Nesting → Nesting
+exchanged Equal = Equal
+exchanged FirstWithin = SecondWithin
+exchanged SecondWithin = FirstWithin
+exchanged Apart = Apart
+exchanged Crossing = Crossing

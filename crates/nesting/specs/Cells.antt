@@ -1,11 +1,13 @@
--- What the five words of a comparison say of the cells in two hulls (contract 6.4).
+-- What the five words of a comparison say of two sets of cells: those in two hulls, and those that two outlines enclose (contract 6.4).
 use mathlib.Core.Path.{_≡_}
 use mathlib.Core.Bool.{true, false}
 use mathlib.Core.List.{List}
 use lib.IntN.{ℤ, pos}
 use Rattle.chart.specs.declared.Point.{Point}
+use Rattle.chart.specs.Outline.{Outline}
 use Rattle.chart.specs.declared.Nesting.{Nesting}
 use Rattle.chart.specs.declared.Nesting.the-variants.{Equal, FirstWithin, SecondWithin, Apart, Crossing}
+use Rattle.convexity.specs.Reading.{block}
 use Rattle.turning.specs.Turning.{badTurning}
 use Rattle.turning.specs.CornerHull.{CornersHold}
 use Rattle.nesting.specs.Corners.{cornersOnChart}
@@ -27,26 +29,36 @@ pub record Fit (p : Polygon) : Type 0 where
 abbrev pub Holds : Polygon → Point → Type 0
 Holds p x = CornersHold (p .anchor) (p .edges) x
 
+-- ---- two sets of cells
+
 -- Every cell of the first is one of the second
-abbrev pub Within : Polygon → Polygon → Type 0
-Within p q = (x : Point) → Holds p x → Holds q x
+abbrev pub Within : (Point → Type 0) → (Point → Type 0) → Type 0
+Within P Q = (x : Point) → P x → Q x
 
 -- A cell of the first that is none of the second
-pub record Beyond (p q : Polygon) : Type 0 where
+pub record Beyond (P Q : Point → Type 0) : Type 0 where
   pub cell : Point
-  pub inFirst : Holds p cell
-  pub notSecond : Holds q cell → ⊥
+  pub inFirst : P cell
+  pub notSecond : Q cell → ⊥
 
 -- A cell of both
-pub record Common (p q : Polygon) : Type 0 where
+pub record Common (P Q : Point → Type 0) : Type 0 where
   pub cell : Point
-  pub inFirst : Holds p cell
-  pub inSecond : Holds q cell
+  pub inFirst : P cell
+  pub inSecond : Q cell
 
--- What an answer says of the cells
+-- What an answer says of two sets of cells
+abbrev pub SaysOf : (Point → Type 0) → (Point → Type 0) → Nesting → Type 0
+SaysOf P Q Equal = Within P Q × Within Q P
+SaysOf P Q FirstWithin = Within P Q × Beyond Q P
+SaysOf P Q SecondWithin = Within Q P × Beyond P Q
+SaysOf P Q Apart = Common P Q → ⊥
+SaysOf P Q Crossing = Common P Q × Beyond P Q × Beyond Q P
+
+-- Of the cells in two hulls
 abbrev pub Says : Polygon → Polygon → Nesting → Type 0
-Says p q Equal = Within p q × Within q p
-Says p q FirstWithin = Within p q × Beyond q p
-Says p q SecondWithin = Within q p × Beyond p q
-Says p q Apart = Common p q → ⊥
-Says p q Crossing = Common p q × Beyond p q × Beyond q p
+Says p q v = SaysOf (Holds p) (Holds q) v
+
+-- The cells that an outline encloses (contract 2.4)
+abbrev pub Encloses : Outline → Point → Type 0
+Encloses o x = block o (x .col) (x .row) ≡ true

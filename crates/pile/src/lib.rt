@@ -1,5 +1,5 @@
 // The pile: sixteen layers, each empty or one taken outline, and the calls on them (contract 12).
-use border::judge;
+use border::verdict_of;
 use chart::Point;
 use chart::Verdict;
 use polygon::bad_cell;
@@ -84,9 +84,7 @@ impl Pile {
                 pile: self,
             };
         }
-        // No edges are asked for.
-        let mut none = [0i16; 0];
-        let verdict = judge(start, letters, &mut none);
+        let verdict = verdict_of(start, letters);
         match verdict {
             Verdict::Refused(why) => Piled {
                 reply: PileReply::Judged(Verdict::Refused(why)),

@@ -3,7 +3,7 @@ use Prim.Native.Nat.{zero, suc, _-_, _^_, _<_}
 use native.Mathlib.Omega.{arith}
 use mathlib.Core.Path.{_≡_, refl, ap, _∙_}
 use mathlib.Core.Bool.{Bool, true, false, cond, _||_}
-use lib.IntN.{ℤ, pos, negsuc}
+use lib.IntN.{ℤ, pos, negsuc, _-ℤ_}
 use lib.Dec.{eqb}
 use lib.Signed.{mag, leZ, ltZ}
 use mir.Syntax.{w16, w64}
@@ -11,6 +11,8 @@ use mir.Val.{SFits, toZ, ofZ}
 use mir.ValLaws.{toZ-ofZ}
 use borrow.Author.Tests.{ne-eqb, le-leb, lt-ltb}
 use Rattle.base.proofs.Sizes.{read-back}
+use Rattle.base.proofs.BelowLaws.{same-test}
+use Rattle.base.proofs.Differences.{is-self, is-minus, le-iff}
 use Rattle.base.proofs.IntegerOrder.{at-most-iff, not-at-most}
 use Rattle.convexity.specs.Inside.{notNegative, minℤ, maxℤ}
 use Rattle.turning.specs.Round.{positive, isNil}
@@ -19,6 +21,12 @@ pub not-negative-machine : (a : ℤ) → leZ (pos 0) a ≡ notNegative a
 unfolding notNegative
 not-negative-machine (pos a) = le-leb 0 a (omega arith)
 not-negative-machine (negsuc a) = refl
+
+-- A difference is not negative exactly if the number taken away is at most the other
+pub at-most-difference : (a b : ℤ) → leZ b a ≡ notNegative (a -ℤ b)
+at-most-difference a b =
+    let iff = le-iff (is-self (pos 0)) (is-minus (is-self a) (is-self b)) in
+    same-test (leZ b a) (leZ (pos 0) (a -ℤ b)) (at-most-iff b a) (λ e. omega (arith, iff .0 e), λ h. iff .1 (omega arith)) ∙ not-negative-machine (a -ℤ b)
 
 pub positive-machine : (a : ℤ) → ltZ (pos 0) a ≡ positive a
 unfolding positive

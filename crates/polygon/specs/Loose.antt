@@ -40,7 +40,7 @@ looseOf a es x =
     (cond (badTurning es) (Refused Turning)
     (cond (insideEdges a es x) Inside Outside)))
 
--- What the words of a reply say: the cell lies in the hull of the corner cells, or it does not
+-- What the words of a reply say: "inside" that the corner cells' hull holds the cell, "outside" that it does not
 pub record HullNamed (a : Point) (es : List ℤ) (x : Point) (f : Fields) : Type 0 where
   pub within : f .word ≡ inside → CornersHold a es x
   pub beyond : f .word ≡ outside → CornersHold a es x → ⊥

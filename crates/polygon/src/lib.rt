@@ -72,7 +72,7 @@ fn beside(dx: i16, dy: i16, cols: Span, rows: Span, cell: Point) -> bool
 {
     let across = moment(dy, cols, cell.col);
     let up = moment(dx, rows, cell.row);
-    signed::not_negative(signed::difference(across, up))
+    signed::at_most(up, across)
 }
 
 // The rule of the edges (contract 3.15): side values, and the walk's extremes. No cell is inside a list that is too long.

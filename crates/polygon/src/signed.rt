@@ -5,7 +5,7 @@ ghost use lib.IntN.{pos, natAbs, _+ℤ_, _-ℤ_, _*ℤ_};
 ghost use lib.Signed.{leZ};
 ghost use mir.Syntax.{w64};
 ghost use mir.Val.{SFits};
-ghost use Rattle.convexity.specs.Inside.{notNegative as notNegativeℤ, minℤ, maxℤ};
+ghost use Rattle.convexity.specs.Inside.{minℤ, maxℤ};
 ghost use Rattle.turning.specs.Round.{positive as positiveℤ, isNil as isNilℤ};
 
 pub(crate) fn widen(x: i16) -> i64
@@ -54,12 +54,6 @@ pub(crate) fn times(a: i16, b: i16) -> i64
     ensures { λ r. ⌜ (r ≡ a *ℤ b) × (natAbs r ≤ 2 ^ 30) ⌝ }
 {
     product(widen(a), widen(b))
-}
-
-pub(crate) fn not_negative(a: i64) -> bool
-    ensures { λ r. ⌜ r ≡ notNegativeℤ a ⌝ }
-{
-    0 <= a
 }
 
 pub(crate) fn positive(a: i64) -> bool

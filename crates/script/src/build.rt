@@ -1,12 +1,12 @@
 // A script in the making: calls of eleven bytes each.
-pub const SIZE: usize = 45056;
+pub(crate) const SIZE: usize = 45056;
 
 // The bytes past the end are 9, which is no call. The calls that follow are of this party, at this place.
-pub struct Script {
-    pub bytes: [u8; SIZE],
-    pub end: usize,
-    pub party: u8,
-    pub place: u8,
+pub(crate) struct Script {
+    pub(crate) bytes: [u8; SIZE],
+    pub(crate) end: usize,
+    pub(crate) party: u8,
+    pub(crate) place: u8,
 }
 
 // What the bytes that a call does not name are.
@@ -29,7 +29,7 @@ fn letter(digit: u8) -> u8 {
 }
 
 impl Script {
-    pub fn new() -> Self {
+    pub(crate) fn new() -> Self {
         Script {
             bytes: [9; SIZE],
             end: 0,
@@ -39,7 +39,7 @@ impl Script {
     }
 
     // The calls that follow are of this party, at this place.
-    pub fn at(mut self, party: u8, place: u8) -> Self {
+    pub(crate) fn at(mut self, party: u8, place: u8) -> Self {
         self.party = party;
         self.place = place;
         self
@@ -65,45 +65,45 @@ impl Script {
         self
     }
 
-    pub fn begin(self, col: u16, row: u16) -> Self {
+    pub(crate) fn begin(self, col: u16, row: u16) -> Self {
         self.put(0, short(col), short(row))
     }
 
-    pub fn add(self, a: u8) -> Self {
+    pub(crate) fn add(self, a: u8) -> Self {
         self.put(1, LAST_THREE + a as u32, LAST_TWO)
     }
 
-    pub fn drop(self) -> Self {
+    pub(crate) fn drop(self) -> Self {
         self.put(2, LAST_TWO, LAST_TWO)
     }
 
-    pub fn clear(self) -> Self {
+    pub(crate) fn clear(self) -> Self {
         self.put(3, LAST_TWO, LAST_TWO)
     }
 
-    pub fn close(self) -> Self {
+    pub(crate) fn close(self) -> Self {
         self.put(4, LAST_TWO, LAST_TWO)
     }
 
-    pub fn query(self, col: u16, row: u16) -> Self {
+    pub(crate) fn query(self, col: u16, row: u16) -> Self {
         self.put(5, short(col), short(row))
     }
 
-    pub fn row(self, row: u16) -> Self {
+    pub(crate) fn row(self, row: u16) -> Self {
         self.put(6, short(row), LAST_TWO)
     }
 
     // By the bits of two floats.
-    pub fn reading(self, angle: u32, load: u32) -> Self {
+    pub(crate) fn reading(self, angle: u32, load: u32) -> Self {
         self.put(7, angle, load)
     }
 
-    pub fn piece(self, position: u16) -> Self {
+    pub(crate) fn piece(self, position: u16) -> Self {
         self.put(8, short(position), LAST_TWO)
     }
 
     // The letters of a word of digits.
-    pub fn letters(mut self, word: &[u8]) -> Self {
+    pub(crate) fn letters(mut self, word: &[u8]) -> Self {
         let mut i = 0;
         while i < word.len() {
             self = self.add(letter(word[i]));
@@ -113,7 +113,7 @@ impl Script {
     }
 
     // One letter, again and again.
-    pub fn times(mut self, n: usize, a: u8) -> Self {
+    pub(crate) fn times(mut self, n: usize, a: u8) -> Self {
         let mut i = 0;
         while i < n {
             self = self.add(a);
@@ -123,7 +123,7 @@ impl Script {
     }
 
     // A whole draft, closed.
-    pub fn outline(self, col: u16, row: u16, word: &[u8]) -> Self {
+    pub(crate) fn outline(self, col: u16, row: u16, word: &[u8]) -> Self {
         self.begin(col, row).letters(word).close()
     }
 }

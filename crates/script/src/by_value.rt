@@ -37,7 +37,7 @@ fn answer(holder: Holder, call: &[u8], expected: &[u16]) -> Step {
 }
 
 // How many of the replies are others than those by value.
-pub fn differing(script: &[u8], replies: &[u16], count: usize) -> usize
+pub(crate) fn differing(script: &[u8], replies: &[u16], count: usize) -> usize
     requires { ⌜ (11 * count ≤ length (now script)) × (7 * count ≤ length (now replies)) ⌝ }
 {
     let mut holder = holder::fresh();

@@ -4,7 +4,7 @@ use libc::STDOUT_FILENO;
 ghost use Prim.Native.Nat.{_+_, _*_, _≤_, _<_};
 ghost use lib.ListN.{length};
 
-pub fn same(a: &[u16], b: &[u16]) -> bool {
+pub(crate) fn same(a: &[u16], b: &[u16]) -> bool {
     if a.len() != b.len() {
         return false;
     }
@@ -46,7 +46,7 @@ fn write_number(n: u16) {
     io::print_decimal(STDOUT_FILENO, n as u64);
 }
 
-pub fn write_numbers(list: &[u16]) {
+pub(crate) fn write_numbers(list: &[u16]) {
     let mut i = 0;
     while i < list.len() {
         if 0 < i {
@@ -58,7 +58,7 @@ pub fn write_numbers(list: &[u16]) {
 }
 
 // A line for each reply, and one for those that are the same in a row, with their count.
-pub fn write_replies(replies: &[u16], count: usize)
+pub(crate) fn write_replies(replies: &[u16], count: usize)
     requires { ⌜ 7 * count ≤ length (now replies) ⌝ }
 {
     let mut i = 0;

@@ -9,7 +9,7 @@ pub enum Traced {
     Written { letters: u16 },
     // 10, 11 or 16.
     Refused(Refusal),
-    // 17. No taken outline has this anchor and these edges.
+    // 17. The edges from this anchor are no taken outline's.
     NoOutline,
     // 18. The lent letter list is too short.
     NoRoom,

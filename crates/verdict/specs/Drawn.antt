@@ -1,4 +1,4 @@
--- Replies that agree in all but the place, which is a letter's index in the list as sent and so depends on how a block was drawn.
+-- Replies that agree in all but the place: an index counts the letters in the order in which they were sent, so it depends on how a block was drawn.
 use mathlib.Core.Path.{_≡_}
 use Rattle.chart.specs.declared.Fields.{Fields}
 

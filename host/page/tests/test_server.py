@@ -90,7 +90,10 @@ class Server(unittest.TestCase):
                 connection.request("GET", "/")
                 self.assertEqual(connection.getresponse().status, 200)
             process.send_signal(signal.SIGINT)
-            self.assertEqual(process.wait(10), 0)
+            try:
+                self.assertEqual(process.wait(10), 0)
+            finally:
+                process.kill()
         taken = subprocess.run([*command, "--port", str(self.served.port)], capture_output=True, text=True, timeout=10)
         self.assertEqual(taken.returncode, 1)
         self.assertIn(f"page: cannot listen on port {self.served.port}", taken.stderr)

@@ -1,24 +1,41 @@
--- The reply is that of the relation, and its piece decides which list is handed back.
-use mathlib.Core.Path.{_≡_, refl, ap, _∙_}
+-- The reply is that of the relation, which also decides the list that is handed back: its piece names that list.
+use mathlib.Core.Path.{_≡_, refl, sym, ap, _∙_}
 use Rattle.chart.specs.declared.Fields.{Fields}
-use Rattle.chart.specs.Fields.{comparisonFields, replyAfter}
-use Rattle.compare.specs.Compared.{comparisonOf}
-use Rattle.compare.proofs.Words.{handed-one, handed-two, handed-neither}
+use Rattle.chart.specs.declared.Comparison.{Comparison}
+use Rattle.chart.specs.Fields.{comparisonFields, numbersOf, fieldsOf}
+use Rattle.chart.proofs.ReplyLaws.{seven-written, read-back}
+use Rattle.nesting.specs.Cells.{polygon}
+use Rattle.compare.specs.declared.Handed.{Handed}
+use Rattle.compare.specs.declared.Handed.the-variants.{First, Second, Neither}
+use Rattle.compare.specs.Compared.{comparisonOf, CellsNamed}
+use Rattle.compare.proofs.Words.{pieceBy, handed-piece, handed-one, handed-two, handed-neither}
 use borrow.Author.Needs.{needs}
 use Rattle.compare.proofs.compare.Statement.{statement}
 use Rattle.compare.proofs.compare.Tie as tie
 
-said-is :
-    (c : tie.After-of-comparison) →
-    let s = c .before .before .before .args in
-    c .of-comparison .result ≡ comparisonFields (comparisonOf (s .anchor) (s .edges .now) (s .other) (s .others .now))
-said-is c = c .of-comparison .ensures ∙ ap comparisonFields (c .before .relate .ensures .0)
+abbrev found : tie.After-write → Comparison
+found c = c .before .before .before .relate .result
 
-written :
+written : (c : tie.After-write) → c .write .last .1 .0 ≡ numbersOf (comparisonFields (found c))
+written c = c .write .ensures .1 ∙ seven-written _ _ (c .before .write-arg .given .0 .1) ∙ ap numbersOf (c .before .before .of-comparison .ensures)
+
+fields : (c : tie.After-write) → fieldsOf (c .write .last .1 .0) ≡ comparisonFields (found c)
+fields c = ap fieldsOf (written c) ∙ read-back (comparisonFields (found c))
+
+-- The reply of the definition, whose words name what holds of the cells
+replied :
     (c : tie.After-write) →
-    let s = c .before .before .before .before .before .args in
-    c .write .last .1 .0 ≡ replyAfter (comparisonFields (comparisonOf (s .anchor) (s .edges .now) (s .other) (s .others .now))) (s .reply .now)
-written c = c .write .ensures .1 ∙ ap (λ (f : Fields). replyAfter f (c .before .before .before .before .before .args .reply .now)) (said-is (c .before .before))
+    let s = c .before .before .before .before .args in
+    (c .write .last .1 .0 ≡ numbersOf (comparisonFields (comparisonOf (s .anchor) (s .edges .now) (s .other) (s .others .now))))
+    × CellsNamed (polygon (s .anchor) (s .edges .now)) (polygon (s .other) (s .others .now)) (fieldsOf (c .write .last .1 .0))
+replied c =
+    let r = c .before .before .before .relate in
+    (written c ∙ ap (λ (v : Comparison). numbersOf (comparisonFields v)) (r .ensures .0), rw (fields c) (r .ensures .1))
+
+-- The piece of the reply, by the arm of the list that is handed back
+piece-is : (c : tie.After-inner) (h : Handed) → c .inner .result ≡ h → fieldsOf (c .before .write .last .1 .0) .piece ≡ pieceBy h
+piece-is c h e =
+    ap (λ (f : Fields). f .piece) (fields (c .before)) ∙ handed-piece (found (c .before)) ∙ ap pieceBy (sym (c .inner .ensures) ∙ e)
 
 relate-requires : tie.Need-relate-requires
 relate-requires c κs = search needs
@@ -29,32 +46,38 @@ of-comparison-requires c κs = search needs
 write-requires : tie.Need-write-requires
 write-requires c κs = search needs
 
-same-length : tie.Need-same-length
-same-length c = search needs
+inner-requires : tie.Need-inner-requires
+inner-requires c κs = search needs
 
-returns : tie.Need-returns
-returns c =
-    let w = c .before .before .before in
-    (written w, rw (← (said-is (w .before .before))) (handed-one _ _ _ (c .if1 .taken)))
+enum-told : tie.Need-enum-told
+enum-told c = search needs
 
-same-length-2 : tie.Need-same-length-2
-same-length-2 c = search needs
+enum-told-2 : tie.Need-enum-told-2
+enum-told-2 c = search needs
 
-returns-2 : tie.Need-returns-2
-returns-2 c =
-    let w = c .before .before .before .before in
-    (written w, rw (← (said-is (w .before .before))) (handed-two _ _ _ (c .if2 .taken)))
+enum-told-3 : tie.Need-enum-told-3
+enum-told-3 c = search needs
 
 slice-aggregate-result : tie.Need-slice-aggregate-result
 slice-aggregate-result c = search needs
 
-same-length-3 : tie.Need-same-length-3
-same-length-3 c = search needs
+returns : tie.Need-returns
+returns c =
+    let n = c .before .before in
+    let r = replied (n .before) in
+    (r .0, (r .1, handed-one _ _ _ (piece-is n First (c .enum-told .given .1))))
+
+returns-2 : tie.Need-returns-2
+returns-2 c =
+    let n = c .before .before in
+    let r = replied (n .before) in
+    (r .0, (r .1, handed-two _ _ _ (piece-is n Second (c .enum-told2 .given .1))))
 
 returns-3 : tie.Need-returns-3
 returns-3 c =
-    let w = c .before .before .before .before .before in
-    (written w, rw (← (said-is (w .before .before))) (handed-neither _ _ _ _ (c .before .before .if1 .left) (c .before .if2 .left) refl refl))
+    let n = c .before .before .before in
+    let r = replied (n .before) in
+    (r .0, (r .1, handed-neither _ _ _ _ (piece-is n Neither (c .before .enum-told3 .given .1)) refl refl))
 
 pub compare-spec : {M : Type 1} → statement M
 compare-spec =
@@ -63,10 +86,11 @@ compare-spec =
     relate-requires
     of-comparison-requires
     write-requires
-    same-length
-    returns
-    same-length-2
-    returns-2
+    inner-requires
+    enum-told
+    enum-told-2
+    enum-told-3
     slice-aggregate-result
-    same-length-3
+    returns
+    returns-2
     returns-3)

@@ -1,5 +1,6 @@
 -- Each return is a case of the definition: the two tests of corner cells, and then the rows.
 use mathlib.Core.Path.{_≡_, sym, _∙_}
+use borrow.Author.Tests.{not-true, not-false}
 use Rattle.nesting.specs.Cells.{Polygon, polygon}
 use Rattle.nesting.specs.Answer.{liesWithin}
 use Rattle.compare.proofs.Cases.{nests-equal, nests-first, nests-second, nests-crossing, nests-apart}
@@ -43,13 +44,13 @@ returns-4 : tie.Need-returns-4
 returns-4 c =
     let none = c .before .before in
     let t = none .before .before in
-    nests-crossing _ _ (inward-is t ∙ none .before .if1 .left) (outward-is t ∙ none .if3 .left) (sym (c .before .meet .ensures) ∙ c .if4 .taken)
+    nests-apart _ _ (inward-is t ∙ none .before .if1 .left) (outward-is t ∙ none .if3 .left) (sym (c .before .meet .ensures) ∙ not-true _ (c .if4 .taken))
 
 returns-5 : tie.Need-returns-5
 returns-5 c =
     let none = c .before .before in
     let t = none .before .before in
-    nests-apart _ _ (inward-is t ∙ none .before .if1 .left) (outward-is t ∙ none .if3 .left) (sym (c .before .meet .ensures) ∙ c .if4 .left)
+    nests-crossing _ _ (inward-is t ∙ none .before .if1 .left) (outward-is t ∙ none .if3 .left) (sym (c .before .meet .ensures) ∙ not-false _ (c .if4 .left))
 
 pub nest-spec : {M : Type 1} → statement M
 nest-spec =

@@ -15,13 +15,13 @@ use Rattle.letters.proofs.count.Statement.{statement}
 use Rattle.letters.proofs.count.Tie as tie
 
 abbrev Inv-loop : tie.InvT-loop
-Inv-loop edges letters₀ i₀ letters i = (length edges ≤ longestList) × (i ≤ length edges) × (letters ≤ 4 + 32768 * i) × (letters + stepCount (drop i edges) ≡ 4 + stepCount edges)
+Inv-loop edges letters₀ i₀ letters i = (length edges ≤ longestList) × (i ≤ length edges) × (letters + stepCount (drop i edges) ≡ 4 + stepCount edges) × (letters ≤ 4 + 32768 * i)
 
 abbrev μ-loop : tie.MeasureT-loop
 μ-loop edges letters₀ i₀ letters i = length edges - i
 
 loop-holds : tie.Need-loop-holds Inv-loop μ-loop
-loop-holds c = (c .pre, omega arith, omega arith, refl)
+loop-holds c = (c .pre, omega arith, refl, omega arith)
 
 add-loop : tie.Need-add-loop Inv-loop μ-loop
 add-loop c = omega (arith, c .loop .inv)
@@ -80,7 +80,12 @@ loop-again : tie.Need-loop-again Inv-loop μ-loop
 loop-again c =
     let i = c .before .before .before .before in
     let inv = i .before .loop .inv in
-    (inv .0, omega arith, omega (arith, inv, c .before .size .ensures .1, c .size2 .ensures .1), omega (arith, inv, cols-are (c .before), rows-are c, steps-next (i .before .before .args .edges .now) (i .before .loop .i) (i .loop-test .taken)))
+    let next = steps-next (i .before .before .args .edges .now) (i .before .loop .i) (i .loop-test .taken) in (
+      inv .0,
+      omega arith,
+      omega (arith, inv, cols-are (c .before), rows-are c, next),
+      omega (arith, inv, c .before .size .ensures .1, c .size2 .ensures .1),
+    )
 
 returns : tie.Need-returns Inv-loop μ-loop
 returns c = let l = c .before in omega (arith, l .loop .inv, steps-end (l .before .args .edges .now) (l .loop .i) (c .loop-test .left))

@@ -10,11 +10,8 @@ use Rattle.live_pile.proofs.set_layer.Tie as tie
 returns : tie.Need-returns
 returns c = set-acts _ _ _ _ refl _ _ (set-high _ _ _ (c .if1 .taken))
 
-slice-aggregate-judge : tie.Need-slice-aggregate-judge
-slice-aggregate-judge c = search needs
-
-judge-requires : tie.Need-judge-requires
-judge-requires c κs = search needs
+verdict-of-requires : tie.Need-verdict-of-requires
+verdict-of-requires c κs = search needs
 
 enum-known-verdict : tie.Need-enum-known-verdict
 enum-known-verdict c = search needs
@@ -30,9 +27,9 @@ slice-write-state c = search needs
 
 returns-2 : tie.Need-returns-2
 returns-2 c =
-    let judged = c .before .before .before .before in
-    let low = judged .before .before .if1 .left in
-    set-acts _ _ _ _ refl _ _ (set-refused _ _ _ low (judged .judge .ensures .0) _ (c .before .verdict .given .1))
+    let judged = c .before .before .before in
+    let low = judged .before .if1 .left in
+    set-acts _ _ _ _ refl _ _ (set-refused _ _ _ low (judged .verdict-of .ensures) _ (c .before .verdict .given .1))
 
 same-length : tie.Need-same-length
 same-length c = search needs
@@ -44,20 +41,19 @@ returns-3 : tie.Need-returns-3
 returns-3 c =
     let written = c .before .before in
     let told = written .before .before .before in
-    let judged = told .before .before .before in
-    let low = judged .before .before .if1 .left in
-    let start = judged .before .before .before .before .before .before in
+    let judged = told .before .before in
+    let low = judged .before .if1 .left in
+    let start = judged .before .before .before .before .before in
     set-acts _ _ _ _
     (pile-put (start .args .rows .now) (start .args .state .now) (start .pre .state) _ (omega (arith, low)) _ _ (written .put-outline .ensures)) _ _
-    (set-taken _ _ _ low (judged .judge .ensures .0) _ _ (told .verdict2 .given .1) _ refl _ refl)
+    (set-taken _ _ _ low (judged .verdict-of .ensures) _ _ (told .verdict2 .given .1) _ refl _ refl)
 
 pub set-layer-spec : {M : Type 1} → statement M
 set-layer-spec =
     tie.close
     (tie.spec
     returns
-    slice-aggregate-judge
-    judge-requires
+    verdict-of-requires
     enum-known-verdict
     enum-known-verdict-2
     put-outline-requires

@@ -1,27 +1,28 @@
--- The difference of two moments of 43 bits fits, and is the side value.
+-- The side value is the difference of the two moments, and not negative exactly if the one taken away is at most the other.
 use borrow.Author.Needs.{needs}
-use native.Mathlib.Omega.{arith}
-use mathlib.Core.Path.{_≡_, _∙_, ap}
-use lib.IntN.{pos, _-ℤ_, _*ℤ_}
+use mathlib.Core.Path.{_≡_, _∙_}
+use lib.IntN.{ℤ, pos, _-ℤ_, _*ℤ_}
 use mir.Syntax.{w16, w64}
 use mir.Val.{toZ, ofZ}
 use mir.ValLaws.{toZ-ofZ}
-use Rattle.convexity.specs.Inside.{notNegative, sideValue}
-use Rattle.base.proofs.Sizes.{read-back, fits-size, size-difference}
+use Rattle.convexity.specs.Inside.{sideValue}
+use Rattle.base.proofs.Sizes.{read-back}
+use Rattle.polygon.proofs.Integers.{at-most-difference}
 use Rattle.polygon.proofs.beside.Statement.{statement}
 use Rattle.polygon.proofs.beside.Tie as tie
 
--- The two moments are read back as they are
-across-read :
-    (c : tie.After-moment)
-    → toZ w64 (ofZ w64 (c .moment .result)) ≡ c .before .args .dy *ℤ (pos (c .before .args .cell .col) -ℤ c .before .args .cols .at)
+-- The two moments, and that they are read back as they are
+abbrev across : tie.After-moment → ℤ
+across c = let s = c .before .args in s .dy *ℤ (pos (s .cell .col) -ℤ s .cols .at)
+
+abbrev up : tie.After-moment2 → ℤ
+up c = let s = c .before .before .args in s .dx *ℤ (pos (s .cell .row) -ℤ s .rows .at)
+
+across-read : (c : tie.After-moment) → toZ w64 (ofZ w64 (c .moment .result)) ≡ across c
 across-read c =
     read-back (c .moment .result) (c .moment .ok) ∙ simp (toZ-ofZ w16 (c .before .args .dy) (c .before .fits .dy)) at (c .moment .ensures .0)
 
-up-read :
-    (c : tie.After-moment2)
-    → toZ w64 (ofZ w64 (c .moment2 .result))
-    ≡ c .before .before .args .dx *ℤ (pos (c .before .before .args .cell .row) -ℤ c .before .before .args .rows .at)
+up-read : (c : tie.After-moment2) → toZ w64 (ofZ w64 (c .moment2 .result)) ≡ up c
 up-read c =
     read-back (c .moment2 .result) (c .moment2 .ok)
     ∙ simp (toZ-ofZ w16 (c .before .before .args .dx) (c .before .before .fits .dx)) at (c .moment2 .ensures .0)
@@ -32,23 +33,13 @@ moment-requires c κs = search needs
 moment-requires-2 : tie.Need-moment-requires-2
 moment-requires-2 c κs = search needs
 
-difference-requires : tie.Need-difference-requires
-difference-requires c κs =
-    let size = size-difference (c .before .moment .result) (c .moment2 .result) in
-    simp (read-back (c .before .moment .result) (c .before .moment .ok), read-back (c .moment2 .result) (c .moment2 .ok))
-    (fits-size w64 _ (omega (arith, size, c .before .moment .ensures .1, c .moment2 .ensures .1)))
-
-not-negative-requires : tie.Need-not-negative-requires
-not-negative-requires c κs = search needs
+at-most-requires : tie.Need-at-most-requires
+at-most-requires c κs = search needs
 
 returns : tie.Need-returns
 unfolding sideValue
 returns c =
-    c .not-negative .ensures
-    ∙ ap notNegative (read-back (c .before .difference .result) (c .before .difference .ok)
-    ∙ simp (across-read (c .before .before .before), up-read (c .before .before)) at (c .before .difference .ensures))
+    simp (across-read (c .before .before), up-read (c .before)) at (c .at-most .ensures) ∙ at-most-difference (across (c .before .before)) (up (c .before))
 
 pub beside-spec : {M : Type 1} → statement M
-beside-spec =
-    tie.close
-    (tie.spec moment-requires moment-requires-2 difference-requires not-negative-requires returns)
+beside-spec = tie.close (tie.spec moment-requires moment-requires-2 at-most-requires returns)

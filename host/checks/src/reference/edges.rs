@@ -48,7 +48,7 @@ pub fn bad_turning(edges: &[i16]) -> bool {
     some_nil || sum != (0, 0) || !rises
 }
 
-/// Whether a cell lies in the hull of the corner cells (contract 3.17).
+/// Whether the corner cells' hull holds a cell (contract 3.17).
 pub fn in_hull(anchor: Point, edges: &[i16], cell: Point) -> bool {
     Hull::of(corner_cells(anchor, edges)).has((i32::from(cell.col), i32::from(cell.row)))
 }

@@ -72,7 +72,7 @@ impl Pile {
     }
 }
 
-/// Some cell of the section lies in the hull of its marked cells and is not marked.
+/// The marked cells' hull holds a cell of the section that is not marked.
 fn is_dented(marked: impl Fn(usize, i32) -> bool) -> bool {
     let side = i32::from(SIDE);
     let cells = || (0..i32::from(LAYERS)).flat_map(|layer| (0..side).map(move |at| (layer, at)));

@@ -12,8 +12,8 @@ pub const COMMAND: Command = Command {
     usage: "compare A B [--first N] [--second N]",
     summary: "which of two blocks lies within the other",
     help: "\
-Tests an outline of each file and says how the cells of the two blocks lie: equal, first within second, second within first, no
-common cell, or crossing. Where one lies within the other, or both are equal, the inner one's edges follow.
+Tests an outline of each file and says how the cells of the two blocks lie: whether they are the same, one block is within the
+other, they have no cell in common, or they cross. Where one lies within the other, or both are equal, the inner one's edges follow.
 
   --first N    the outline of A with this number; without it, the first
   --second N   the outline of B with this number; without it, the first",

@@ -8,11 +8,8 @@ use Rattle.pile.proofs.Pile.set.Tie as tie
 returns : tie.Need-returns
 returns c = set-told _ _ _ _ (set-high _ _ _ (c .if1 .taken))
 
-slice-aggregate-judge : tie.Need-slice-aggregate-judge
-slice-aggregate-judge c = search needs
-
-judge-requires : tie.Need-judge-requires
-judge-requires c κs = search needs
+verdict-of-requires : tie.Need-verdict-of-requires
+verdict-of-requires c κs = search needs
 
 enum-known-verdict : tie.Need-enum-known-verdict
 enum-known-verdict c = search needs
@@ -28,17 +25,17 @@ put-requires c κs = search needs
 
 returns-2 : tie.Need-returns-2
 returns-2 c =
-    let judged = c .before .before .before .before in
-    let low = judged .before .before .if1 .left in
-    set-told _ _ _ _ (set-refused _ _ _ (omega (arith, low)) (judged .judge .ensures .0) _ (c .before .verdict .given .1))
+    let judged = c .before .before .before in
+    let low = judged .before .if1 .left in
+    set-told _ _ _ _ (set-refused _ _ _ (omega (arith, low)) (judged .verdict-of .ensures) _ (c .before .verdict .given .1))
 
 returns-3 : tie.Need-returns-3
 returns-3 c =
     let told = c .before .before .before in
-    let judged = told .before .before .before in
-    let low = judged .before .before .if1 .left in
+    let judged = told .before .before in
+    let low = judged .before .if1 .left in
     set-told _ _ _ _
-    (set-taken _ _ _ (omega (arith, low)) (judged .judge .ensures .0) _ _ (told .verdict2 .given .1) _ (c .before .spans-of .ensures) _
+    (set-taken _ _ _ (omega (arith, low)) (judged .verdict-of .ensures) _ _ (told .verdict2 .given .1) _ (c .before .spans-of .ensures) _
     (c .put .ensures))
 
 pub set-spec : {M : Type 1} → statement M
@@ -46,8 +43,7 @@ set-spec =
     tie.close
     (tie.spec
     returns
-    slice-aggregate-judge
-    judge-requires
+    verdict-of-requires
     enum-known-verdict
     enum-known-verdict-2
     spans-of-requires

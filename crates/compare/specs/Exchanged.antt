@@ -1,0 +1,15 @@
+-- A comparison made both ways round: which lists are handed back, the first time and the second (contract 6.4).
+use mathlib.Core.Path.{_≡_}
+use mathlib.Core.List.{List, []}
+use lib.IntN.{ℤ}
+use denote.Ref.{RefT}
+use Rattle.chart.specs.declared.Nesting.{Nesting}
+use Rattle.chart.specs.declared.Nesting.the-variants.{Equal, FirstWithin, SecondWithin, Apart, Crossing}
+
+-- Of equal hulls each time the one given first; the inner one's both times; or nothing, both times
+abbrev pub HandedBoth : Nesting → (list again first second : RefT (List ℤ)) → Type 0
+HandedBoth Equal list again first second = (list ≡ first) × (again ≡ second)
+HandedBoth FirstWithin list again first second = (list ≡ first) × (again ≡ first)
+HandedBoth SecondWithin list again first second = (list ≡ second) × (again ≡ second)
+HandedBoth Apart list again first second = (list .now ≡ []) × (again .now ≡ [])
+HandedBoth Crossing list again first second = (list .now ≡ []) × (again .now ≡ [])
