@@ -3,7 +3,8 @@
  *
  * You pass the border of a block of cells. The library says whether the block is convex. A convex block gets edges, by which a cell or
  * a sensor's reading is then located. Any other is refused, with the place where the border goes wrong; a dent also with the lowest
- * cell that is missing. The library is proved: every input has the reply that is described here.
+ * cell that is missing. A witness then shows why that cell is missing, and a completion is what to draw instead. The library is
+ * proved: every input has the reply that is described here.
  *
  * Link target/staticlib/librobequarry.a, which `rt staticlib robequarry` writes (x86-64 Linux). This header is C99 and C++.
  *
@@ -46,9 +47,12 @@
  *
  * At most so many bytes, measured on x86-64 and held by host/checks/tests/stack.rs:
  *
- *     rq_test, rq_close, rq_pile_set, a close by rq_call    11,600
- *     rq_border                                             12,000
- *     rq_replay                                             21,000
+ *     rq_test, rq_pile_set                                   8,600
+ *     rq_close                                               9,200
+ *     a close by rq_call                                     9,300
+ *     rq_border                                              9,700
+ *     rq_witness, rq_complete                               13,000
+ *     rq_replay                                             18,000
  *     rq_pile_check                                            600
  *     rq_compare; any other call by rq_call                    300
  *     every other function                                     200
@@ -75,6 +79,7 @@ enum {
     RQ_MOST_EDGES = 100,    /* edges of a taken outline at most */
     RQ_EDGE_NUMBERS = 200,  /* a buffer of so many numbers holds the edges of any taken outline */
     RQ_LIST_NUMBERS = 2032, /* numbers of a list of edges at most, where one is passed */
+    RQ_WITNESS_NUMBERS = 6, /* numbers of the three cells of a witness */
     RQ_PARTIES = 2,         /* parties of a holder: 0 the knee, 1 the ankle */
     RQ_PLACES = 4,          /* places of a party, from 0 */
     RQ_LAYERS = 16,         /* layers of a pile, from 0 */
@@ -89,7 +94,7 @@ typedef struct rq_reply {
     uint16_t place;  /* of a letter; or a count, as the call says */
     uint16_t piece;  /* of the border, clockwise: 1 left to top, 2 top to right, 3 right to bottom, 4 bottom to left; or what the call says */
     uint16_t length; /* a count of letters */
-    uint16_t col;    /* column and row of a cell */
+    uint16_t col;    /* column and row of a cell; or of a corner, as the call says */
     uint16_t row;
 } rq_reply;
 
@@ -111,8 +116,9 @@ enum {
     RQ_REFUSED_BACK_STEP = 8,        /* a letter goes backward in its piece, so a cell is missing. piece, place: the first such */
     RQ_REFUSED_DENT = 9,             /* a cell is missing. piece, place, length: one copy of the first factor that is no Christoffel word.
                                         col, row: the lowest missing cell, the leftmost of its row */
-    RQ_REFUSED_EDGE_LIST = 10,       /* test: the buffer is too short. place: the count of edges. Other calls: the list has an odd count
-                                        of numbers, or more than RQ_LIST_NUMBERS. compare, place: which list, 1 or 2 */
+    RQ_REFUSED_EDGE_LIST = 10,       /* test: the buffer is too short. place: the count of edges. witness: the buffer has fewer than
+                                        RQ_WITNESS_NUMBERS numbers. Other calls: the list has an odd count of numbers, or more than
+                                        RQ_LIST_NUMBERS. compare, place: which list, 1 or 2 */
     RQ_REFUSED_CELL = 11,            /* a number of a cell is above 254; in a reading, a number is none, infinite, below 0 or above 254;
                                         in a compare, the edges leave the chart. compare, place: which list */
     RQ_REFUSED_NOTHING_AT_WORK = 12, /* nothing is at work at the place; in a pile, no check has passed since a layer was set */
@@ -122,7 +128,7 @@ enum {
     RQ_REFUSED_DIRECTIONS = 16,      /* an edge is zero, or the edges do not sum to zero, or their directions do not increase strictly
                                         clockwise from up, which is the first. compare, place: which list */
     RQ_REFUSED_NO_OUTLINE = 17,      /* border: the test takes no outline with this anchor and these edges */
-    RQ_REFUSED_LETTER_BUFFER = 18,   /* border: the buffer is too short for the letters */
+    RQ_REFUSED_LETTER_BUFFER = 18,   /* border, complete: the buffer is too short for the letters */
     RQ_REFUSED_PARTY = 19,           /* the party is above 1 */
     RQ_REFUSED_PLACE = 20,           /* the place is above 3 */
     RQ_REFUSED_SECTION = 21,         /* pile check: a section is dented. piece: 0 at a column, 1 at a row. place: that column or row.
@@ -137,7 +143,7 @@ enum {
     RQ_WORD_OUTSIDE = 2,
     RQ_WORD_TAKEN = 3,          /* close */
     RQ_WORD_SAME = 4,           /* close: taken, with the cells that were at work before */
-    RQ_WORD_NONE = 5,           /* row: no cell; piece: past the end */
+    RQ_WORD_NONE = 5,           /* row: no cell; piece: past the end; witness: no cell is missing */
     RQ_WORD_COLUMNS = 6,        /* row */
     RQ_WORD_UNDECIDED = 7,      /* reading: too near an edge to tell */
     RQ_WORD_MOVE = 8,           /* piece */
@@ -189,6 +195,26 @@ void rq_border(uint16_t anchor_col, uint16_t anchor_row, const int16_t *edges, u
  */
 void rq_compare(uint16_t anchor_col_1, uint16_t anchor_row_1, const int16_t *edges_1, uint64_t m_1, uint16_t anchor_col_2,
                 uint16_t anchor_row_2, const int16_t *edges_2, uint64_t m_2, rq_reply *reply);
+
+/*
+ * Shows why an outline is not convex (contract 6.5): the start corner (col, row) and n letters.
+ *
+ * If a cell is missing, the word is RQ_NO_WORD, and col and row are the lowest missing cell, the leftmost of its row. Three cells of
+ * the block then stand in the buffer `cells`, which has m numbers: column and row of each, RQ_WITNESS_NUMBERS in all. The missing cell
+ * lies in their triangle, which may be flat, and two of them may be the same. If no cell is missing, the word is RQ_WORD_NONE, and the
+ * buffer is unaltered. An outline that a test refuses by 8 or 9 has a witness, and one that it takes has none. Refused by 1 to 6 and 10.
+ */
+void rq_witness(uint16_t col, uint16_t row, const uint8_t *letters, uint64_t n, uint16_t *cells, uint64_t m, rq_reply *reply);
+
+/*
+ * Completes an outline (contract 6.6): the start corner (col, row) and n letters.
+ *
+ * place is the count of letters of the smallest convex block that has every cell of the outline, and the corner (col, row) is where
+ * they start. They stand in the buffer `out`, which has m bytes: clockwise from the lowest corner of the leftmost column. A test takes
+ * them. They are never more than n, so a buffer of RQ_LETTERS bytes always suffices. An outline that a test takes gets its own border.
+ * Refused by 1 to 6 and 18.
+ */
+void rq_complete(uint16_t col, uint16_t row, const uint8_t *letters, uint64_t n, uint8_t *out, uint64_t m, rq_reply *reply);
 
 /*
  * A holder keeps outlines for two parties. Each party has a draft, or none, which is drawn letter by letter; and four places, each

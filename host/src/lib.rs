@@ -20,10 +20,13 @@
 //! # Ok::<(), Refusal>(())
 //! ```
 //!
-//! [`Edges::compare`] says which of two hulls lies within the other. A [`Holder`] keeps, for each party, a draft, letter by letter, and
-//! the outlines at work; it says where a [reading](Holder::reading) of two sensors lies among their edges, and gives them
-//! [piece by piece](Holder::piece) to a canvas. A [`Pile`] keeps sixteen layers, and checks that no section through them is dented.
-//! Both own their memory: what asks a question takes `&self`, and whatever can alter something `&mut self`.
+//! Of an outline that is not convex, [`Outline::witness`] gives three of its cells whose triangle holds a missing one, and
+//! [`Outline::complete`] the smallest convex block around it. [`Edges::compare`] says which of two hulls lies within the other.
+//!
+//! A [`Holder`] keeps, for each party, a draft, letter by letter, and the outlines at work; it says where a
+//! [reading](Holder::reading) of two sensors lies among their edges, and gives them [piece by piece](Holder::piece) to a canvas. A
+//! [`Pile`] keeps sixteen layers, and checks that no section through them is dented. Both own their memory: what asks a question takes
+//! `&self`, and whatever can alter something `&mut self`.
 //!
 //! [`raw`] has the library's functions as they are, on plain lists of numbers; [`codec`] reads and writes these, and [`limits`] names
 //! what bounds them.
@@ -39,6 +42,7 @@ mod outline;
 mod pile;
 pub mod raw;
 mod refusal;
+mod witness;
 
 pub use chart::{Cell, Corner, Reading};
 pub use codec::{Action, Call};
@@ -47,3 +51,4 @@ pub use holder::{Answer, Holder, Located, Piece, Reply};
 pub use outline::{Edges, Outline, Taken, Verdict};
 pub use pile::{Pile, PileCall};
 pub use refusal::{Refusal, SectionKind};
+pub use witness::Witness;

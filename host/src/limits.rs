@@ -27,6 +27,9 @@ pub const MOST_NUMBERS: usize = 2 * MOST_EDGES;
 /// A list of edges that is passed has at most this many numbers (contract 5.2, refusal 10).
 pub const LONGEST_LIST: usize = 2032;
 
+/// A witness has three cells, of two numbers each (contract 6.5).
+pub const WITNESS_NUMBERS: usize = 6;
+
 /// The refusals are numbered from 1 to 22 (contract 5.2); 7 is not used. The faults of a fitting file have the numbers after that.
 pub const LAST_REFUSAL: u16 = 22;
 

@@ -49,6 +49,27 @@ impl Outline {
         Refusal::check(&reply)?;
         Ok(Taken::of(reply))
     }
+
+    /// The smallest convex block that has every cell of this outline: its border, clockwise from W. An outline that a test takes gets
+    /// its own border, and completing twice changes nothing. Refused where the outline meets one of refusals 1 to 6.
+    ///
+    /// ```
+    /// use robequarry::{Cell, Corner, Outline, Refusal};
+    ///
+    /// let dented = Outline::new(Corner::new(0, 0), [1, 1, 1, 0, 3, 3, 0, 0, 3, 2, 2, 2]);
+    /// let completed = dented.complete()?;
+    /// assert_eq!(completed, Outline::new(Corner::new(0, 0), [1, 1, 1, 0, 3, 0, 3, 0, 3, 2, 2, 2]));
+    /// assert!(completed.test()?.contains(Cell::new(1, 1))?);
+    /// assert_eq!(completed.complete(), Ok(completed));
+    /// # Ok::<(), Refusal>(())
+    /// ```
+    pub fn complete(&self) -> Result<Outline, Refusal> {
+        let (mut letters, mut reply) = ([0; LONGEST], [0; REPLY]);
+        raw::complete(self.start.col, self.start.row, &self.letters, &mut letters, &mut reply);
+        Refusal::check(&reply)?;
+        let fields = Fields::from(reply);
+        Ok(Outline::new(Corner::new(fields.col, fields.row), &letters[..fields.place.into()]))
+    }
 }
 
 /// The edges of a hull, clockwise from its anchor.

@@ -75,6 +75,10 @@ mod library {
             reply: &mut Reply,
         );
 
+        pub fn rq_witness(col: u16, row: u16, letters: *const u8, n: u64, cells: *mut u16, m: u64, reply: &mut Reply);
+
+        pub fn rq_complete(col: u16, row: u16, letters: *const u8, n: u64, out: *mut u8, m: u64, reply: &mut Reply);
+
         pub fn rq_replay_numbers(script: *const u8, n: u64, replies: *mut u16, k: u64) -> u64;
 
         pub safe fn rq_fresh_parts(
@@ -213,6 +217,20 @@ pub fn compare(first: (u16, u16), edges: &[i16], second: (u16, u16), others: &[i
     let (one, m) = (edges.as_ptr(), count(edges));
     // SAFETY: each pointer comes with the count of its own slice. What is written overlaps nothing else.
     unsafe { library::rq_compare(first.0, first.1, one, m, second.0, second.1, others.as_ptr(), count(others), reply) }
+}
+
+/// Names the lowest missing cell of an outline. Three of its cells whose triangle holds that cell stand first in `cells`, two numbers each.
+#[inline]
+pub fn witness(col: u16, row: u16, letters: &[u8], cells: &mut [u16], reply: &mut Reply) {
+    // SAFETY: each pointer comes with the count of its own slice. What is written overlaps nothing else.
+    unsafe { library::rq_witness(col, row, letters.as_ptr(), count(letters), cells.as_mut_ptr(), count(cells), reply) }
+}
+
+/// Completes an outline: the border of the smallest convex block that has all its cells stands first in `out`, clockwise from W on.
+#[inline]
+pub fn complete(col: u16, row: u16, letters: &[u8], out: &mut [u8], reply: &mut Reply) {
+    // SAFETY: each pointer comes with the count of its own slice. What is written overlaps nothing else.
+    unsafe { library::rq_complete(col, row, letters.as_ptr(), count(letters), out.as_mut_ptr(), count(out), reply) }
 }
 
 /// Runs a script of calls from a fresh holder and writes a reply for each, seven numbers after seven. Returns how many it wrote.

@@ -198,7 +198,7 @@ impl fmt::Display for Refusal {
             Refusal::DraftFull => write!(f, "the draft has {LONGEST} letters"),
             Refusal::Turning => write!(f, "the edges do not lead once round, clockwise from up"),
             Refusal::NoOutline => write!(f, "the test takes no outline with this anchor and these edges"),
-            Refusal::LetterRoom => write!(f, "the buffer is too short for the border's letters"),
+            Refusal::LetterRoom => write!(f, "the buffer is too short for the letters"),
             Refusal::Party => write!(f, "the party is none of the {PARTIES}"),
             Refusal::Place => write!(f, "the place is none of the {PLACES}"),
             Refusal::Section { kind: SectionKind::Column, at } => write!(f, "the section at column {at} is dented"),

@@ -6,7 +6,9 @@ use std::fs;
 use std::path::{Path, PathBuf};
 use std::process::{Command, Stdio};
 
-use robequarry::limits::{CALL, LAYERS, LONGEST, LONGEST_LIST, MOST_EDGES, MOST_NUMBERS, PARTIES, PLACES, REPLY, SIDE};
+use robequarry::limits::{
+    CALL, LAYERS, LONGEST, LONGEST_LIST, MOST_EDGES, MOST_NUMBERS, PARTIES, PLACES, REPLY, SIDE, WITNESS_NUMBERS,
+};
 use robequarry::raw::{HolderMemory, PileMemory};
 use robequarry::{codec, Action, Cell, Corner, Reading, Refusal, SectionKind};
 
@@ -96,6 +98,7 @@ fn facts() -> Vec<(&'static str, usize)> {
         ("RQ_MOST_EDGES", MOST_EDGES),
         ("RQ_EDGE_NUMBERS", MOST_NUMBERS),
         ("RQ_LIST_NUMBERS", LONGEST_LIST),
+        ("RQ_WITNESS_NUMBERS", WITNESS_NUMBERS),
         ("RQ_PARTIES", PARTIES.into()),
         ("RQ_PLACES", PLACES.into()),
         ("RQ_LAYERS", LAYERS.into()),

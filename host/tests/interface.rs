@@ -4,11 +4,13 @@ use robequarry::limits::{CALL, LAST_CORNER, LAST_REFUSAL, LAYERS, LONGEST, LONGE
 use robequarry::raw::{self, HolderMemory, PileMemory};
 use robequarry::{
     Action, Answer, Cell, Comparison, Corner, Edges, Holder, Located, Nesting, Outline, Piece, Pile, PileCall, Reading,
-    Refusal, RefusedList, SectionKind, Taken,
+    Refusal, RefusedList, SectionKind, Taken, Witness,
 };
 
 const BAR: [u8; 8] = [1, 0, 0, 0, 3, 2, 2, 2];
 const CELL: [u8; 4] = [1, 0, 3, 2];
+/// H6: the cell (1, 1) is missing.
+const DENTED: [u8; 12] = [1, 1, 1, 0, 3, 3, 0, 0, 3, 2, 2, 2];
 
 const KNEE: u8 = 0;
 const ANKLE: u8 = 1;
@@ -32,6 +34,14 @@ fn replies_and_buffers() {
     let mut letters = [9; 10];
     raw::border(0, 0, &edges[..4], &mut letters, &mut reply);
     assert_eq!((letters, reply), ([1, 0, 0, 0, 3, 2, 2, 2, 9, 9], [0, 0, 8, 0, 0, 0, 0]));
+    let mut cells = [9; 8];
+    raw::witness(0, 0, &BAR, &mut cells, &mut reply);
+    assert_eq!((cells, reply), ([9; 8], [0, 5, 0, 0, 0, 0, 0]));
+    raw::witness(0, 0, &DENTED, &mut cells, &mut reply);
+    assert_eq!((cells, reply), ([2, 0, 0, 2, 0, 1, 9, 9], [0, 0, 0, 0, 0, 1, 1]));
+    let mut letters = [9; 14];
+    raw::complete(7, 3, &DENTED, &mut letters, &mut reply);
+    assert_eq!((letters, reply), ([1, 1, 1, 0, 3, 0, 3, 0, 3, 2, 2, 2, 9, 9], [0, 0, 12, 0, 0, 7, 3]));
     // A replay has space for whole replies alone.
     let script = [Action::Drop.by(KNEE).bytes(), Action::Drop.by(ANKLE).bytes()].concat();
     for space in 0..3 * REPLY {
@@ -133,6 +143,83 @@ fn borders() {
     let mut buffer = [9; 6];
     assert_eq!(Edges::new(anchor, []).border_into(&mut buffer), Ok(4));
     assert_eq!(buffer, [1, 0, 3, 2, 9, 9]);
+}
+
+#[test]
+fn witnesses() {
+    let at = |letters: &[u8]| Outline::new(Corner::new(0, 0), letters);
+    let cells = |cells: [(u16, u16); 3]| cells.map(|(col, row)| Cell::new(col, row));
+    let found = |missing: (u16, u16), three| Witness { missing: Cell::new(missing.0, missing.1), cells: cells(three) };
+    assert_eq!(at(&DENTED).witness(), Ok(Some(found((1, 1), [(2, 0), (0, 2), (0, 1)]))));
+    // A back-step has a missing cell as well: here between two cells of its row.
+    let back_step = at(&[1, 1, 0, 3, 0, 1, 0, 3, 3, 2, 2, 2]);
+    assert_eq!(back_step.witness(), Ok(Some(found((1, 1), [(0, 1), (2, 1), (2, 1)]))));
+    assert_eq!((at(&BAR).witness(), at(&CELL).witness()), (Ok(None), Ok(None)));
+
+    // 1 to 6 come before the buffer is looked at.
+    let mut reply = [5; REPLY];
+    for space in 0..6 {
+        raw::witness(0, 0, &DENTED, &mut vec![9; space], &mut reply);
+        assert_eq!(reply, [10, 0, 0, 0, 0, 0, 0]);
+        raw::witness(0, 1, &[1, 0, 3, 3], &mut vec![9; space], &mut reply);
+        assert_eq!(reply, [5, 0, 0, 0, 0, 0, 0]);
+    }
+    assert_eq!(at(&CELL[..3]).witness(), Err(Refusal::Count));
+    assert_eq!(Outline::new(Corner::new(256, 0), CELL).witness(), Err(Refusal::Start));
+    assert_eq!(at(&[1, 0, 3, 9]).witness(), Err(Refusal::Letter { place: 3 }));
+    assert_eq!(at(&[1, 0, 3, 3]).witness(), Err(Refusal::Leaves { place: 3 }));
+    assert_eq!(at(&[1, 0, 3, 0]).witness(), Err(Refusal::Unclosed));
+    assert_eq!(at(&[1, 0, 2, 3]).witness(), Err(Refusal::Touches { place: 2 }));
+}
+
+/// Whether a triangle holds a cell is arithmetic on any numbers, also flat, in either order, and off the chart.
+#[test]
+fn triangles_hold_cells() {
+    let holds = |missing: (u16, u16), [a, b, c]: [(u16, u16); 3]| {
+        let cell = |(col, row)| Cell::new(col, row);
+        let orders = [[a, b, c], [b, c, a], [c, b, a]];
+        let held = orders.map(|cells| Witness { missing: cell(missing), cells: cells.map(cell) }.holds());
+        assert_eq!(held, [held[0]; 3]);
+        held[0]
+    };
+    let triangle = [(0, 0), (4, 0), (0, 4)];
+    assert!(holds((1, 1), triangle) && holds((2, 2), triangle) && holds((4, 0), triangle));
+    assert!(!holds((3, 2), triangle) && !holds((5, 0), triangle));
+    let segment = [(1, 1), (3, 3), (3, 3)];
+    assert!(holds((2, 2), segment) && !holds((4, 4), segment) && !holds((2, 3), segment) && !holds((0, 0), segment));
+    assert!(holds((7, 7), [(7, 7); 3]) && !holds((7, 8), [(7, 7); 3]));
+    let far = [(0, 0), (u16::MAX, 0), (0, u16::MAX)];
+    assert!(holds((32_767, 32_767), far) && !holds((32_768, 32_768), far));
+}
+
+#[test]
+fn completions() {
+    let at = |col, row, letters: &[u8]| Outline::new(Corner::new(col, row), letters);
+    let straight = [1, 1, 1, 0, 3, 0, 3, 0, 3, 2, 2, 2];
+    assert_eq!(at(0, 0, &DENTED).complete(), Ok(at(0, 0, &straight)));
+    assert_eq!(at(9, 9, &straight).complete(), Ok(at(9, 9, &straight)));
+    // A taken outline gets its own border, wherever it was begun and whichever way it was drawn.
+    assert_eq!(at(8, 5, &[2, 2, 2, 1, 0, 0, 0, 3]).complete(), Ok(at(5, 5, &BAR)));
+    assert_eq!(at(5, 5, &[0, 0, 0, 1, 2, 2, 2, 3]).complete(), Ok(at(5, 5, &BAR)));
+    // A notch is filled: fewer letters.
+    let notched = at(0, 0, &[1, 1, 0, 3, 0, 1, 0, 3, 3, 2, 2, 2]);
+    assert_eq!(notched.complete(), Ok(at(0, 0, &[1, 1, 0, 0, 0, 3, 3, 2, 2, 2])));
+
+    // 1 to 6 and then 18; a buffer that is too short is unaltered.
+    let mut reply = [5; REPLY];
+    for space in 0..straight.len() {
+        let mut letters = vec![9; space];
+        raw::complete(0, 0, &DENTED, &mut letters, &mut reply);
+        assert_eq!((letters, reply), (vec![9; space], [18, 0, 0, 0, 0, 0, 0]));
+        raw::complete(0, 0, &[1, 0, 2, 3], &mut [9; 3], &mut reply);
+        assert_eq!(reply, [6, 0, 2, 0, 0, 0, 0]);
+    }
+    assert_eq!(at(0, 0, &[]).complete(), Err(Refusal::Count));
+    assert_eq!(at(0, 256, &CELL).complete(), Err(Refusal::Start));
+    assert_eq!(at(0, 0, &[7; 4]).complete(), Err(Refusal::Letter { place: 0 }));
+    assert_eq!(at(255, 0, &CELL).complete(), Err(Refusal::Leaves { place: 1 }));
+    assert_eq!(at(0, 0, &[1, 0, 0, 3]).complete(), Err(Refusal::Unclosed));
+    assert_eq!(Refusal::LetterRoom.to_string(), "the buffer is too short for the letters");
 }
 
 #[test]

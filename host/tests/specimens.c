@@ -138,6 +138,108 @@ static bool without_a_holder(const struct specimen *specimen) {
     return true;
 }
 
+/* What a witness and a completion give for one of the specimens. */
+struct help {
+    const char *letters;
+    uint16_t witness[RQ_WITNESS_NUMBERS];
+    const char *completion;
+};
+
+/* By the letters of the specimen. What a test takes has no witness, and is not listed. */
+static const struct help helps[] = {
+    {"111033003222", {2, 0, 0, 2, 0, 1}, "111030303222"}, /* H6 */
+    {"110301033222", {0, 1, 2, 1, 2, 1}, "1100033222"},   /* H7 */
+    {"000122112333", {2, 0, 0, 2, 0, 1}, "111030303222"}, /* H6 backward */
+    {"000112321233", {0, 1, 2, 1, 2, 1}, "1100033222"},   /* H7 backward */
+};
+
+static const struct help *help_of(const struct specimen *specimen) {
+    for (size_t i = 0; i < sizeof helps / sizeof helps[0]; i++) {
+        if (strcmp(helps[i].letters, specimen->letters) == 0) return &helps[i];
+    }
+    return NULL;
+}
+
+/* Whether the first n bytes of a list are these letters, and the next is still 9. */
+static bool written(const uint8_t *list, uint16_t n, const char *letters) {
+    if (strlen(letters) != n) return false;
+    for (uint16_t i = 0; i < n; i++) {
+        if (list[i] != (uint8_t)(letters[i] - '0')) return false;
+    }
+    return list[n] == 9;
+}
+
+/* Whether all of a list of six numbers and one more are as they were. */
+static bool untouched(const uint16_t cells[RQ_WITNESS_NUMBERS + 1]) {
+    for (int i = 0; i <= RQ_WITNESS_NUMBERS; i++) {
+        if (cells[i] != 77) return false;
+    }
+    return true;
+}
+
+/* The witness and the completion: 1 to 6 as the test has them, then 10 and 18, then what they give. */
+static bool help(const struct specimen *specimen) {
+    const struct list letters = letters_of(specimen);
+    const uint16_t number = specimen->reply.number, n = letters.count;
+    uint16_t cells[RQ_WITNESS_NUMBERS + 1];
+    uint8_t out[RQ_LETTERS + 1];
+    for (int i = 0; i <= RQ_WITNESS_NUMBERS; i++) cells[i] = 77;
+    memset(out, 9, sizeof out);
+    rq_reply reply = blank;
+    if (number >= RQ_REFUSED_LENGTH && number <= RQ_REFUSED_TOUCHES) {
+        rq_witness(specimen->col, specimen->row, letters.bytes, n, cells, 0, &reply);
+        EXPECT(same(&reply, &specimen->reply) && untouched(cells));
+        rq_witness(specimen->col, specimen->row, letters.bytes, n, cells, RQ_WITNESS_NUMBERS, &reply);
+        EXPECT(same(&reply, &specimen->reply) && untouched(cells));
+        rq_complete(specimen->col, specimen->row, letters.bytes, n, out, 0, &reply);
+        EXPECT(same(&reply, &specimen->reply) && written(out, 0, ""));
+        rq_complete(specimen->col, specimen->row, letters.bytes, n, out, RQ_LETTERS, &reply);
+        EXPECT(same(&reply, &specimen->reply) && written(out, 0, ""));
+        return true;
+    }
+
+    const struct help *expected = help_of(specimen);
+    EXPECT((expected == NULL) == (number == 0));
+    rq_witness(specimen->col, specimen->row, letters.bytes, n, cells, RQ_WITNESS_NUMBERS - 1, &reply);
+    EXPECT(plain(&reply, RQ_REFUSED_EDGE_LIST, RQ_NO_WORD) && untouched(cells));
+    rq_witness(specimen->col, specimen->row, letters.bytes, n, cells, RQ_WITNESS_NUMBERS + 1, &reply);
+    if (expected == NULL) {
+        EXPECT(plain(&reply, 0, RQ_WORD_NONE) && untouched(cells));
+    } else {
+        const rq_reply missing = {0, RQ_NO_WORD, 0, 0, 0, 1, 1};
+        EXPECT(same(&reply, &missing) && memcmp(cells, expected->witness, sizeof expected->witness) == 0);
+        EXPECT(cells[RQ_WITNESS_NUMBERS] == 77);
+    }
+
+    /* Of a taken outline its own border, which the library also writes from its edges. */
+    char own[RQ_LETTERS + 1] = "";
+    rq_reply completed = {0, RQ_NO_WORD, 0, 0, 0, 0, 0};
+    int16_t edges[RQ_EDGE_NUMBERS] = {0};
+    if (expected == NULL) {
+        uint8_t border[RQ_LETTERS] = {0};
+        rq_test(specimen->col, specimen->row, letters.bytes, n, edges, RQ_EDGE_NUMBERS, &completed);
+        rq_border(completed.col, completed.row, edges, 2u * completed.place, border, RQ_LETTERS, &reply);
+        for (uint16_t i = 0; i < reply.place; i++) own[i] = (char)('0' + border[i]);
+        completed.place = reply.place;
+    } else {
+        strcpy(own, expected->completion);
+        completed.place = (uint16_t)strlen(own);
+    }
+    rq_complete(specimen->col, specimen->row, letters.bytes, n, out, completed.place - 1u, &reply);
+    EXPECT(plain(&reply, RQ_REFUSED_LETTER_BUFFER, RQ_NO_WORD) && written(out, 0, ""));
+    rq_complete(specimen->col, specimen->row, letters.bytes, n, out, RQ_LETTERS, &reply);
+    EXPECT(same(&reply, &completed) && written(out, completed.place, own));
+
+    /* A test takes it, and it is its own completion. */
+    uint8_t again[RQ_LETTERS + 1];
+    memset(again, 9, sizeof again);
+    rq_test(completed.col, completed.row, out, completed.place, edges, RQ_EDGE_NUMBERS, &reply);
+    EXPECT(reply.number == 0 && reply.col == completed.col && reply.row == completed.row);
+    rq_complete(completed.col, completed.row, out, completed.place, again, completed.place, &reply);
+    EXPECT(same(&reply, &completed) && memcmp(again, out, sizeof out) == 0);
+    return true;
+}
+
 /* A call as bytes. */
 static void put_call(uint8_t call[RQ_CALL_BYTES], uint8_t number, uint8_t party, uint8_t place, uint32_t x, uint32_t y) {
     call[0] = number;
@@ -438,14 +540,21 @@ static bool long_lists(void) {
         rq_reply reply = blank;
         rq_test(0, 0, up, counts[i], edges, RQ_EDGE_NUMBERS, &reply);
         EXPECT(reply.number == (i == 0 ? RQ_REFUSED_OFF_CHART : RQ_REFUSED_LENGTH) && reply.place == (i == 0 ? 255 : 0));
+        rq_reply other = blank;
+        uint16_t cells[RQ_WITNESS_NUMBERS] = {0};
+        uint8_t out[RQ_LETTERS] = {0};
+        rq_witness(0, 0, up, counts[i], cells, RQ_WITNESS_NUMBERS, &other);
+        EXPECT(same(&reply, &other));
+        rq_complete(0, 0, up, counts[i], out, RQ_LETTERS, &other);
+        EXPECT(same(&reply, &other));
     }
     return true;
 }
 
 int main(void) {
     for (uint8_t i = 0; i < COUNT; i++) {
-        const bool passed = without_a_holder(&specimens[i]) && on_a_holder(&specimens[i], i % RQ_PARTIES, i / 2 % RQ_PLACES) &&
-                            on_a_pile(&specimens[i], i % RQ_LAYERS);
+        const bool passed = without_a_holder(&specimens[i]) && help(&specimens[i]) &&
+                            on_a_holder(&specimens[i], i % RQ_PARTIES, i / 2 % RQ_PLACES) && on_a_pile(&specimens[i], i % RQ_LAYERS);
         if (!passed) {
             fprintf(stderr, "specimen %d: %s\n", i, specimens[i].letters);
             return 1;

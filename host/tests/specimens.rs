@@ -1,6 +1,6 @@
 //! The specimens of contract 9, through the safe interface.
 
-use robequarry::{Cell, Corner, Outline, Refusal};
+use robequarry::{Cell, Corner, Outline, Refusal, Witness};
 
 /// An outline from a start and its letters as digits.
 fn outline(start: (u16, u16), letters: &str) -> Outline {
@@ -55,6 +55,30 @@ fn refused_specimens() {
     refused((0, 0), &"1".repeat(613), Refusal::Count, 1);
     refused((0, 0), &"1".repeat(2048), Refusal::Count, 1);
     refused((0, 0), &"1".repeat(2049), Refusal::Count, 1);
+    refused((0, 0), &"1".repeat(2049), Refusal::Count, 1);
+}
+
+/// Contract 9, the last of its lists: H6 and H7 with their witnesses, forward and backward; and H3, which needs none.
+#[test]
+fn help() {
+    let cells = |cells: [(u16, u16); 3]| cells.map(|(col, row)| Cell::new(col, row));
+    let (h6, h7) = (cells([(2, 0), (0, 2), (0, 1)]), cells([(0, 1), (2, 1), (2, 1)]));
+    for (letters, three, completed) in [
+        ("111033003222", h6, "111030303222"),
+        ("000122112333", h6, "111030303222"),
+        ("110301033222", h7, "1100033222"),
+        ("000112321233", h7, "1100033222"),
+    ] {
+        let drawn = outline((0, 0), letters);
+        let expected = Witness { missing: Cell::new(1, 1), cells: three };
+        assert_eq!(drawn.witness(), Ok(Some(expected)), "{letters}");
+        assert!(expected.holds());
+        assert_eq!(drawn.complete(), Ok(outline((0, 0), completed)), "{letters}");
+    }
+    for (start, letters) in [((0, 1), "101030323212"), ((1, 1), "210103032321"), ((0, 1), "030101212323")] {
+        let plus = outline(start, letters);
+        assert_eq!((plus.witness(), plus.complete()), (Ok(None), Ok(outline((0, 1), "101030323212"))));
+    }
 }
 
 #[test]

@@ -7,7 +7,9 @@ use chart::reply::of_comparison;
 use chart::reply::of_position;
 use chart::reply::of_verdict;
 use chart::reply::write;
+use complete::written::of_completed;
 use tracing::written::of_traced;
+use witness::written::of_witnessed;
 ghost use mathlib.Core.Path.{_≡_};
 ghost use lib.ListN.{length};
 ghost use Rattle.chart.specs.Fields.{numbersOf, fieldsOf, positionFields, comparisonFields};
@@ -17,8 +19,12 @@ ghost use Rattle.verdict.specs.Named.{CellNamed};
 ghost use Rattle.polygon.specs.Loose.{looseOf, HullNamed};
 ghost use Rattle.tracing.specs.Traced.{tracedOf, tracedFields, lettersAfter};
 ghost use Rattle.tracing.specs.Named.{BorderNamed};
+ghost use Rattle.complete.specs.Completion.{completedOf, completedFields, completionAfter};
+ghost use Rattle.complete.specs.Named.{CompletionNamed};
 ghost use Rattle.nesting.specs.Cells.{polygon};
 ghost use Rattle.compare.specs.Compared.{comparisonOf, CellsNamed};
+ghost use Rattle.witness.specs.Witnessed.{witnessedOf, witnessedFields, cellsAfter};
+ghost use Rattle.witness.specs.Named.{WitnessNamed};
 ghost use Rattle.replay.specs.Script.{callsRead, repliesAfter};
 ghost use Rattle.robequarry.specs.At.{at};
 
@@ -115,6 +121,40 @@ pub extern "C" fn rq_compare(
     };
     let comparison = compare::relate(first, edges_1, second, edges_2);
     put(of_comparison(comparison), reply);
+}
+
+// Names the lowest missing cell of an outline. Three enclosed cells that hold it stand first in their list, two numbers each.
+#[no_mangle]
+pub extern "C" fn rq_witness(
+    col: u16,
+    row: u16,
+    letters: &[u8],
+    cells: &mut [u16],
+    reply: &mut [u16; NUMBERS],
+)
+    ensures reply { λ _. ⌜ now (reply .exit) ≡ numbersOf (witnessedFields (witnessedOf (outline (at col row) (now (letters .entry))) (length (now (cells .entry))))) ⌝ }
+    ensures cells { λ _. ⌜ now (cells .exit) ≡ cellsAfter (outline (at col row) (now (letters .entry))) (now (cells .entry)) ⌝ }
+    ensures named { λ _. ⌜ WitnessNamed (outline (at col row) (now (letters .entry))) (fieldsOf (now (reply .exit))) (now (cells .entry)) (now (cells .exit)) ⌝ }
+{
+    let witnessed = show_witness::witness(Point { col, row }, letters, cells);
+    put(of_witnessed(witnessed), reply);
+}
+
+// Completes an outline. The letters round the hull of its cells, clockwise from W on, stand first in their list.
+#[no_mangle]
+pub extern "C" fn rq_complete(
+    col: u16,
+    row: u16,
+    letters: &[u8],
+    out: &mut [u8],
+    reply: &mut [u16; NUMBERS],
+)
+    ensures reply { λ _. ⌜ now (reply .exit) ≡ numbersOf (completedFields (completedOf (outline (at col row) (now (letters .entry))) (length (now (out .entry))))) ⌝ }
+    ensures letters { λ _. ⌜ now (out .exit) ≡ completionAfter (outline (at col row) (now (letters .entry))) (now (out .entry)) ⌝ }
+    ensures cells { λ _. ⌜ CompletionNamed (outline (at col row) (now (letters .entry))) (fieldsOf (now (reply .exit))) (now (out .exit)) ⌝ }
+{
+    let completed = complete::complete(Point { col, row }, letters, out);
+    put(of_completed(completed), reply);
 }
 
 // Runs a script of calls, eleven bytes each, from a fresh holder, writes a reply of seven numbers for each, and says how many.

@@ -1,9 +1,10 @@
-// Runs every specimen through the test, asks loose queries of two of them, and writes a line for each.
+// Runs every specimen through the test, asks loose queries of two of them, compares them, and writes a line for each.
 use chart::Fields;
 use chart::LONGEST;
 use chart::MOST_NUMBERS;
 use chart::Point;
 use chart::reply;
+use chart::reply::NUMBERS;
 use libc::STDOUT_FILENO;
 ghost use Rattle.io.specs.Counts.{Counts};
 
@@ -107,6 +108,7 @@ fn write_longest() {
     write_test(b"612 letters 1", start, &[1u8; LONGEST]);
     write_test(b"613 letters 1", start, &[1u8; LONGEST + 1]);
     write_test(b"2,048 letters 1", start, &[1u8; 2048]);
+    write_test(b"2,049 letters 1", start, &[1u8; 2049]);
 }
 
 // An outline of 604 letters with as many edges as any has.
@@ -153,6 +155,66 @@ fn ask_h3(col: u16, row: u16) {
     let edges = [1i16, 1, 1, -1, -1, -1, -1, 1];
     let anchor = Point { col: 0, row: 1 };
     write_query(b"H3", anchor, &edges, Point { col, row });
+}
+
+// The word of a comparison, or the number of its refusal and which list is refused.
+fn write_nesting(reply: &[u16; NUMBERS]) {
+    match reply[1] {
+        11 => {
+            io::write_all(STDOUT_FILENO, b" equal");
+        }
+        12 => {
+            io::write_all(STDOUT_FILENO, b" first within second");
+        }
+        13 => {
+            io::write_all(STDOUT_FILENO, b" second within first");
+        }
+        14 => {
+            io::write_all(STDOUT_FILENO, b" no common cell");
+        }
+        15 => {
+            io::write_all(STDOUT_FILENO, b" crossing");
+        }
+        _ => {
+            write_number(reply[0]);
+            write_number(reply[2]);
+        }
+    }
+}
+
+// Compares two lists of edges, and writes the word and the list that is handed back.
+fn write_comparison<'a>(
+    name: &[u8],
+    anchor: Point,
+    edges: &'a [i16],
+    other: Point,
+    others: &'a [i16],
+) {
+    let mut reply = [0u16; NUMBERS];
+    let inner = compare::compare(anchor, edges, other, others, &mut reply);
+    io::write_all(STDOUT_FILENO, name);
+    io::write_all(STDOUT_FILENO, b":");
+    write_nesting(&reply);
+    io::write_all(STDOUT_FILENO, b", edges");
+    write_edges(inner, inner.len() / 2);
+    io::write_all(STDOUT_FILENO, b"\n");
+}
+
+// H2 from a cell compared with H3, both ways round.
+fn compare_h2(name: &[u8], back: &[u8], col: u16, row: u16) {
+    let edges = [2i16, 0, -2, 0];
+    let anchor = Point { col, row };
+    let others = [1i16, 1, 1, -1, -1, -1, -1, 1];
+    let other = Point { col: 0, row: 1 };
+    write_comparison(name, anchor, &edges, other, &others);
+    write_comparison(back, other, &others, anchor, &edges);
+}
+
+// H3 with itself.
+fn compare_h3() {
+    let edges = [1i16, 1, 1, -1, -1, -1, -1, 1];
+    let anchor = Point { col: 0, row: 1 };
+    write_comparison(b"H3 and H3", anchor, &edges, anchor, &edges);
 }
 
 // Specimens drawn backward: the letter that is named stands as far from the other end.
@@ -203,6 +265,20 @@ fn write_queries() {
     ask_h3(3, 1);
 }
 
+// Each word of a comparison, and a refusal: H2 from (253, 0) has a corner cell off the chart.
+fn write_comparisons() {
+    compare_h3();
+    compare_h2(b"H2 from (0, 1) and H3", b"H3 and H2 from (0, 1)", 0, 1);
+    compare_h2(b"H2 and H3", b"H3 and H2", 0, 0);
+    compare_h2(b"H2 from (3, 1) and H3", b"H3 and H2 from (3, 1)", 3, 1);
+    compare_h2(
+        b"H2 from (253, 0) and H3",
+        b"H3 and H2 from (253, 0)",
+        253,
+        0,
+    );
+}
+
 fn main() {
     io::write_all(
         STDOUT_FILENO,
@@ -210,4 +286,5 @@ fn main() {
     );
     write_tests();
     write_queries();
+    write_comparisons();
 }

@@ -19,6 +19,10 @@ pub trait Engine {
 
     fn compare(&self, first: &Polygon, second: &Polygon, reply: &mut Reply);
 
+    fn witness(&self, start: Point, letters: &[u8], cells: &mut [u16], reply: &mut Reply);
+
+    fn complete(&self, start: Point, letters: &[u8], out: &mut [u8], reply: &mut Reply);
+
     /// The replies to a script, as many as there is space for. Returns their count.
     fn replay(&self, script: &[u8], replies: &mut [u16]) -> usize;
 
@@ -60,6 +64,14 @@ impl Engine for Library {
         raw::compare((a.col, a.row), &first.edges, (b.col, b.row), &second.edges, reply);
     }
 
+    fn witness(&self, start: Point, letters: &[u8], cells: &mut [u16], reply: &mut Reply) {
+        raw::witness(start.col, start.row, letters, cells, reply);
+    }
+
+    fn complete(&self, start: Point, letters: &[u8], out: &mut [u8], reply: &mut Reply) {
+        raw::complete(start.col, start.row, letters, out, reply);
+    }
+
     fn replay(&self, script: &[u8], replies: &mut [u16]) -> usize {
         raw::replay(script, replies)
     }
@@ -93,6 +105,14 @@ impl Engine for Live {
         Library.compare(first, second, reply);
     }
 
+    fn witness(&self, start: Point, letters: &[u8], cells: &mut [u16], reply: &mut Reply) {
+        Library.witness(start, letters, cells, reply);
+    }
+
+    fn complete(&self, start: Point, letters: &[u8], out: &mut [u8], reply: &mut Reply) {
+        Library.complete(start, letters, out, reply);
+    }
+
     fn replay(&self, script: &[u8], replies: &mut [u16]) -> usize {
         replay_mixed(script, replies)
     }
@@ -121,6 +141,14 @@ impl Engine for Reference {
 
     fn compare(&self, first: &Polygon, second: &Polygon, reply: &mut Reply) {
         *reply = reference::compare::compare(first, second).into();
+    }
+
+    fn witness(&self, start: Point, letters: &[u8], cells: &mut [u16], reply: &mut Reply) {
+        *reply = reference::help::witness(start, letters, cells).into();
+    }
+
+    fn complete(&self, start: Point, letters: &[u8], out: &mut [u8], reply: &mut Reply) {
+        *reply = reference::help::complete(start, letters, out).into();
     }
 
     fn replay(&self, script: &[u8], replies: &mut [u16]) -> usize {
@@ -159,6 +187,14 @@ impl Engine for Plain {
 
     fn compare(&self, first: &Polygon, second: &Polygon, reply: &mut Reply) {
         *reply = plain::compare(first, second).into();
+    }
+
+    fn witness(&self, start: Point, letters: &[u8], cells: &mut [u16], reply: &mut Reply) {
+        *reply = plain::witness(start, letters, cells).into();
+    }
+
+    fn complete(&self, start: Point, letters: &[u8], out: &mut [u8], reply: &mut Reply) {
+        *reply = plain::complete(start, letters, out).into();
     }
 
     fn replay(&self, script: &[u8], replies: &mut [u16]) -> usize {

@@ -1,6 +1,6 @@
 //! Letter lists and edge lists that nobody should send.
 
-use robequarry::limits::{LAST_CORNER, LAST_LETTER, LONGEST, LONGEST_LIST, SHORTEST};
+use robequarry::limits::{LAST_CORNER, LAST_LETTER, LONGEST, LONGEST_LIST, SHORTEST, WITNESS_NUMBERS};
 
 use crate::case::Case;
 use crate::draw::{reversed, Shape};
@@ -31,9 +31,33 @@ pub fn letter_space(random: &mut Random) -> usize {
     }
 }
 
-/// A list of letters that is spoilt in one way or another.
+/// The length of a buffer for the cells of a witness: most often enough, sometimes too short or none.
+pub fn cell_space(random: &mut Random) -> usize {
+    match random.below(4) {
+        0 => random.below(WITNESS_NUMBERS + 1),
+        1 => random.from_to(WITNESS_NUMBERS, 40),
+        _ => WITNESS_NUMBERS,
+    }
+}
+
+/// A test of a list of letters that is spoilt in one way or another.
 pub fn spoilt_test(random: &mut Random) -> Case {
-    let outline = match random.below(12) {
+    let outline = spoilt(random);
+    Case::Test { outline, space: edge_space(random) }
+}
+
+/// A witness, or a completion, of such a list.
+pub fn spoilt_help(random: &mut Random) -> Case {
+    let outline = spoilt(random);
+    if random.once_in(2) {
+        Case::Witness { outline, space: cell_space(random) }
+    } else {
+        Case::Complete { outline, space: letter_space(random) }
+    }
+}
+
+fn spoilt(random: &mut Random) -> Outline {
+    match random.below(12) {
         0 => any_bytes(random),
         1 => any_letters(random),
         2 => any_length(random),
@@ -43,8 +67,7 @@ pub fn spoilt_test(random: &mut Random) -> Case {
         6 => near_the_border(random),
         7 => twice(random),
         _ => damaged(random),
-    };
-    Case::Test { outline, space: edge_space(random) }
+    }
 }
 
 fn any_bytes(random: &mut Random) -> Outline {

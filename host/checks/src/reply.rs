@@ -31,3 +31,15 @@ pub fn compared(word: u16, whose: u16) -> Fields {
 pub fn taken(edges: usize, anchor: Point) -> Fields {
     Fields { place: edges as u16, col: anchor.col, row: anchor.row, ..Fields::default() }
 }
+
+/// What a witness replies that names a missing cell (contract 6.5).
+#[inline]
+pub fn found(missing: Point) -> Fields {
+    Fields { col: missing.col, row: missing.row, ..Fields::default() }
+}
+
+/// What a completion replies: the count of letters, and the corner at which they start (contract 6.6).
+#[inline]
+pub fn completed(letters: usize, start: Point) -> Fields {
+    Fields { place: letters as u16, col: start.col, row: start.row, ..Fields::default() }
+}

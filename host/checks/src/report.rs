@@ -55,7 +55,7 @@ impl Row {
         match ratio {
             Some(Ratio { name, value, goal }) => {
                 let verdict = goal.map_or(String::new(), |goal| goal.verdict(*value));
-                format!("{begin}  {name:<16} {value:>7.2}  {verdict}").trim_end().to_string()
+                format!("{begin}  {name:<18} {value:>7.2}  {verdict}").trim_end().to_string()
             }
             None => begin,
         }
@@ -72,7 +72,7 @@ impl Report {
     /// Begins a report: lines alone, or a table and then lines.
     pub fn new(lines_only: bool) -> Self {
         if !lines_only {
-            println!("{:<28} {:>7} {:>11}  {:<16} {:>7}  {:>8}", "", "letters", "ns a call", "ratio", "", "goal");
+            println!("{:<28} {:>7} {:>11}  {:<18} {:>7}  {:>8}", "", "letters", "ns a call", "ratio", "", "goal");
         }
         Report { lines_only, rows: Vec::new() }
     }

@@ -49,6 +49,8 @@ pub struct Tally {
     pub loose_queries: Replies,
     pub borders: Replies,
     pub comparisons: Replies,
+    pub witnesses: Replies,
+    pub completions: Replies,
     pub calls: Replies,
     pub pieces: Replies,
     pub piles: Replies,
@@ -67,6 +69,8 @@ impl Tally {
             Case::Loose { .. } => &mut self.loose_queries,
             Case::Border { .. } => &mut self.borders,
             Case::Compare { .. } => &mut self.comparisons,
+            Case::Witness { .. } => &mut self.witnesses,
+            Case::Complete { .. } => &mut self.completions,
             Case::Script { .. } => &mut self.calls,
             Case::Piece { .. } => &mut self.pieces,
         };
@@ -91,11 +95,13 @@ impl Tally {
     /// The table of numbers and words, and a complaint for each that some input reaches and none of these did.
     pub fn report(&self) -> Vec<String> {
         // What no input reaches: a test knows no state, a loose query no outline, and a holder and a pile have space for every edge.
-        let reached: [(&str, &Replies, &[usize], &[usize]); 7] = [
+        let reached: [(&str, &Replies, &[usize], &[usize]); 9] = [
             ("tests", &self.tests, &[0, 1, 2, 3, 4, 5, 6, 8, 9, 10], &[0]),
             ("loose queries", &self.loose_queries, &[0, 10, 11, 16], &[0, 1, 2]),
             ("borders", &self.borders, &[0, 10, 11, 16, 17, 18], &[0]),
             ("comparisons", &self.comparisons, &[0, 10, 11, 16], &[0, 11, 12, 13, 14, 15]),
+            ("witnesses", &self.witnesses, &[0, 1, 2, 3, 4, 5, 6, 10], &[0, 5]),
+            ("completions", &self.completions, &[0, 1, 2, 3, 4, 5, 6, 18], &[0]),
             (
                 "calls",
                 &self.calls,
@@ -105,7 +111,7 @@ impl Tally {
             ("pieces", &self.pieces, &[0, 12, 19, 20], &[0, 5, 8, 9, 10]),
             ("piles", &self.piles, &[0, 1, 2, 3, 4, 5, 6, 8, 9, 11, 12, 21, 22], &[0, 1, 2]),
         ];
-        let line = |name: &str, cells: [String; 7]| {
+        let line = |name: &str, cells: [String; 9]| {
             println!("{name:>16}{}", cells.iter().map(|cell| format!(" {cell:>14}")).collect::<String>());
         };
         line("number", reached.map(|(name, ..)| name.to_string()));

@@ -14,13 +14,15 @@ fn bound(function: &str) -> usize {
         "rq_call" | "rq_compare" => 300,
         "rq_pile_check" => 600,
         // What tests an outline has one bit for each corner, 8,192 bytes.
-        "rq_test" | "rq_pile_set" => 11_600,
+        "rq_test" | "rq_pile_set" => 8_600,
         // A close has the edges of the outline as well, until it knows whether they are those at work.
-        "rq_close" => 11_700,
-        "rq_call, a close" => 11_800,
-        "rq_border" => 12_000,
+        "rq_close" => 9_200,
+        "rq_call, a close" => 9_300,
+        "rq_border" => 9_700,
+        // The sides of every row and its hull, too, on either side of the block.
+        "rq_witness" | "rq_complete" => 13_000,
         // A replay has a holder of its own as well.
-        "rq_replay" => 21_000,
+        "rq_replay" => 18_000,
         _ => unreachable!("{function} has no bound"),
     }
 }
@@ -35,4 +37,27 @@ fn no_function_needs_more_stack_than_is_stated() {
         }
     }
     assert!(missed.is_empty(), "{missed:#?}");
+}
+
+/// The table of include/robequarry.h has these bounds.
+#[test]
+fn the_header_states_the_bounds() {
+    let header = include_str!("../../../include/robequarry.h");
+    let (_, section) = header.split_once(" * STACK\n").expect("the header has that section");
+    let (section, _) = section.split_once("*/").expect("a comment ends");
+    let stated = |name: &str| {
+        let line = section
+            .lines()
+            .find(|line| line.split([',', ';']).any(|part| part.split("  ").any(|word| word.trim() == name)))?;
+        line.split_whitespace().last()?.replace(',', "").parse::<usize>().ok()
+    };
+    for (function, _) in stack::needs() {
+        let name = match function {
+            "rq_call" => "any other call by rq_call",
+            "rq_call, a close" => "a close by rq_call",
+            other => other,
+        };
+        let bytes = stated(name).or(stated("every other function"));
+        assert_eq!(bytes, Some(bound(function)), "{function}");
+    }
 }

@@ -6,11 +6,12 @@ use std::path::PathBuf;
 use crate::input::Form;
 
 /// The options that some command takes, each with what its value is called; a command lists those that it takes.
-const OPTIONS: [(&str, Option<&str>); 7] = [
+const OPTIONS: [(&str, Option<&str>); 8] = [
     ("--out", Some("FILE")),
     ("--outline", Some("NUMBER")),
     ("--first", Some("NUMBER")),
     ("--second", Some("NUMBER")),
+    ("--complete", None),
     ("--text", None),
     ("--fitting", None),
     ("--help", None),
@@ -23,6 +24,7 @@ pub struct Arguments {
     pub outline: Option<usize>,
     pub first: Option<usize>,
     pub second: Option<usize>,
+    pub complete: bool,
     pub form: Option<Form>,
     pub help: bool,
 }
@@ -59,6 +61,7 @@ impl Arguments {
             ("--outline", Some(value)) => self.outline = Some(number(name, value)?),
             ("--first", Some(value)) => self.first = Some(number(name, value)?),
             ("--second", Some(value)) => self.second = Some(number(name, value)?),
+            ("--complete", _) => self.complete = true,
             ("--text", _) => self.form = Some(Form::Text),
             ("--fitting", _) => self.form = Some(Form::Fitting),
             _ => self.help = true,

@@ -1,6 +1,6 @@
 //! What the commands ask of the library beyond a test. Everything asked here is answered by it.
 
-use robequarry::{Comparison, Edges, Holder, Located, Outline, Piece, Refusal, RefusedList};
+use robequarry::{Comparison, Edges, Holder, Located, Outline, Piece, Refusal, RefusedList, Witness};
 
 /// Whose outline it is on the holder, and where: the knee's, at the first place.
 const PARTY: u8 = 0;
@@ -54,4 +54,21 @@ pub fn border(edges: &Edges) -> Result<Outline, Refusal> {
 /// How the cells of two hulls lie.
 pub fn compare<'a>(first: &'a Edges, second: &'a Edges) -> Result<Comparison<'a>, RefusedList> {
     first.compare(second)
+}
+
+/// What helps to draw a block again that is not convex.
+pub struct Help {
+    /// Why it is not.
+    pub witness: Witness,
+    /// The smallest convex block that has all its cells.
+    pub completed: Outline,
+}
+
+impl Help {
+    /// None where no cell is missing, and where the letters go round no block.
+    pub fn of(outline: &Outline) -> Option<Self> {
+        let witness = outline.witness().ok().flatten()?;
+        let completed = outline.complete().expect("what has a witness has a completion");
+        Some(Help { witness, completed })
+    }
 }

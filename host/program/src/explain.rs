@@ -4,8 +4,9 @@ use std::fmt::Write;
 
 use robequarry::{Edges, Outline, Refusal, Verdict};
 
+use crate::engine::Help;
 use crate::story::{Piece, Story, LETTERS, NAMES};
-use crate::verdict::{at, count, Said};
+use crate::verdict::{at, count, shown, Said};
 use crate::walk::{corner_cells, direction, start};
 use crate::words::{christoffel, divisor, is_christoffel, Factor};
 
@@ -29,6 +30,9 @@ pub fn explain(title: &str, outline: &Outline, verdict: &Verdict) -> String {
     paragraph(&mut text, "", &format!("{} - {}", capital(&said.what), said.place));
     if let Ok(edges) = verdict {
         round_the_hull(&mut text, edges);
+    }
+    if let Some(help) = Help::of(outline) {
+        instead(&mut text, outline, &help);
     }
     text
 }
@@ -113,6 +117,17 @@ fn round_the_hull(text: &mut String, edges: &Edges) {
         1 => paragraph(text, "", "The hull is the anchor alone."),
         _ => paragraph(text, "", &format!("The edges lead from cell to cell: {}", cells.join(" > "))),
     }
+}
+
+/// Why the block is not convex, and the block to draw in its place.
+fn instead(text: &mut String, outline: &Outline, Help { witness, completed }: &Help) {
+    text.push('\n');
+    paragraph(text, "", &format!("{}.", capital(&shown(witness))));
+    let added = Story::of(completed).cells_beyond(&Story::of(outline)).len();
+    let letters = count(completed.letters.len(), "letter");
+    let line = format!("Draw this instead: start {}, {letters}, {} added", at(start(completed)), count(added, "cell"));
+    paragraph(text, "", &line);
+    paragraph(text, "  ", &digits(&completed.letters));
 }
 
 /// A word in the letters of its piece.

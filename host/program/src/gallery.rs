@@ -2,8 +2,9 @@
 
 use robequarry::Verdict;
 
+use crate::engine::Help;
 use crate::input::{Entries, Entry, Form};
-use crate::picture::{picture, sheet, Tile};
+use crate::picture::{beside, picture, sheet, Tile};
 
 pub const SPECIMENS: &str = include_str!("../specimens.txt");
 pub const TRAINING: &str = include_str!("../training.txt");
@@ -11,7 +12,7 @@ pub const TRAINING: &str = include_str!("../training.txt");
 /// How many of the specimens have their tile on the sheet: H1 to H12.
 const MARKED: usize = 12;
 
-/// Each specimen and each block for training by itself, and two sheets.
+/// Each specimen and each block for training by itself, two sheets, and a block with a dent beside its completion.
 pub fn gallery() -> Vec<(String, String)> {
     let (specimens, training) = (judged(SPECIMENS), judged(TRAINING));
     let each = specimens.iter().chain(&training);
@@ -20,7 +21,11 @@ pub fn gallery() -> Vec<(String, String)> {
         .collect();
     let marked = sheet("The specimens H1 to H12", &tiles(&specimens[..MARKED]), 4, 226.0);
     let two = sheet("A block that is taken, and one with a dent", &tiles(&training[..2]), 2, 420.0);
-    pictures.extend([("specimens.svg".to_string(), marked), ("two-blocks.svg".to_string(), two)]);
+    let (dented, verdict) = &training[1];
+    let help = Help::of(&dented.outline).expect("it lacks a cell");
+    let instead = beside(name(dented), &dented.outline, verdict, &help.completed);
+    let sheets = [("specimens", marked), ("two-blocks", two), ("draw-this-instead", instead)];
+    pictures.extend(sheets.map(|(name, svg)| (format!("{name}.svg"), svg)));
     pictures
 }
 
@@ -33,7 +38,11 @@ fn judged(text: &str) -> Vec<Judged> {
 }
 
 fn tiles(judged: &[Judged]) -> Vec<Tile<'_>> {
-    judged.iter().map(|(entry, verdict)| Tile { title: name(entry), outline: &entry.outline, verdict }).collect()
+    judged.iter().map(tile).collect()
+}
+
+fn tile((entry, verdict): &Judged) -> Tile<'_> {
+    Tile { title: name(entry), outline: &entry.outline, verdict, added: Vec::new() }
 }
 
 fn name(entry: &Entry) -> &str {

@@ -125,6 +125,13 @@ impl Story {
         frame.filter(|&cell| !self.encloses(cell) && in_hull(&hull, cell)).collect()
     }
 
+    /// The cells of this outline that another does not enclose, from the lowest row up, each row from the left.
+    pub fn cells_beyond(&self, other: &Story) -> Vec<Point> {
+        let run = |row: i32, (first, last): (i32, i32)| (first..=last).map(move |col| (col, row));
+        let cells = self.rows.iter().flat_map(|(&row, runs)| runs.iter().flat_map(move |&ends| run(row, ends)));
+        cells.filter(|&cell| !other.encloses(cell)).collect()
+    }
+
     pub fn encloses(&self, (col, row): Point) -> bool {
         self.rows.get(&row).is_some_and(|runs| runs.iter().any(|&(first, last)| first <= col && col <= last))
     }

@@ -1,7 +1,7 @@
 //! What the library says of an outline, in words.
 
 use robequarry::limits::{LAST_CORNER, LONGEST, SHORTEST};
-use robequarry::{Edges, Outline, Refusal, Verdict};
+use robequarry::{Edges, Outline, Refusal, Verdict, Witness};
 
 use crate::story::{Story, LETTERS, NAMES};
 use crate::walk::{corners, direction, start, step, Point};
@@ -31,6 +31,14 @@ pub fn count(n: usize, what: &str) -> String {
 
 pub fn at((col, row): Point) -> String {
     format!("({col}, {row})")
+}
+
+/// What a witness shows.
+pub fn shown(Witness { missing, cells: [a, b, c] }: &Witness) -> String {
+    if b == c {
+        return format!("the cell {missing} lies between {a} and {b}, which are both marked");
+    }
+    format!("the cell {missing} lies in the triangle of {a}, {b}, {c}, which are all marked")
 }
 
 /// A piece by its ends and its two letters.

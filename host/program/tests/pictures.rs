@@ -12,10 +12,11 @@ use robequarry_checks::random::Random;
 use robequarry_checks::reference::cells::Enclosed;
 use robequarry_checks::walks::outlines;
 use robequarry_checks::Point;
+use robequarry_program::engine::Help;
 use robequarry_program::explain::told;
 use robequarry_program::gallery::gallery;
 use robequarry_program::input::{Entries, Form};
-use robequarry_program::picture::picture;
+use robequarry_program::picture::{beside, picture};
 use support::{parse, Element};
 
 type Cells = BTreeSet<(i32, i32)>;
@@ -74,6 +75,7 @@ fn holds(outline: &Outline) {
     let enclosed: Cells = Enclosed::of(start, &outline.letters).cells().collect();
     assert_eq!(cells(plot, "cells"), enclosed, "{outline:?}");
     let missing = cells(plot, "missing");
+    triangle(&picture, plot, outline, &enclosed);
     match verdict {
         Ok(edges) => {
             let in_hull = |&(col, row): &(i32, i32)| edges.contains(Cell::new(col as u16, row as u16)).unwrap();
@@ -90,7 +92,6 @@ fn holds(outline: &Outline) {
         Err(Refusal::Dent { length, missing: lowest, .. }) => {
             let first = missing.iter().min_by_key(|&&(col, row)| (row, col));
             assert_eq!(first, Some(&(lowest.col.into(), lowest.row.into())), "{outline:?}");
-            assert_eq!(picture.of_class("named").len(), 2, "in the plot and in the legend");
             let factor = points(only(plot, "factor").expect("the factor is drawn"));
             let chord = points(only(plot, "chord").expect("the chord is drawn"));
             assert_eq!(factor.len(), length + 1);
@@ -103,6 +104,37 @@ fn holds(outline: &Outline) {
             assert!(plot.of_class("edges").is_empty());
         }
     }
+}
+
+/// The three cells of the witness are enclosed, and joined in a triangle; where no cell is missing, there is none.
+fn triangle(picture: &Element, plot: &Element, outline: &Outline, enclosed: &Cells) {
+    let drawn = only(plot, "triangle").map(points);
+    let witness = outline.witness().expect("the letters go round a block");
+    let Some(witness) = witness else {
+        return assert_eq!((drawn, picture.of_class("named").len()), (None, 0), "{outline:?}");
+    };
+    assert_eq!(picture.of_class("named").len(), 2, "in the plot and in the legend");
+    assert_eq!(picture.of_class("tip").len(), 5, "three in the plot and two in the legend");
+    let [a, b, c] = witness.cells.map(centre);
+    assert_eq!(drawn, Some(vec![a, b, c, a]), "{outline:?}");
+    assert!([a, b, c].iter().all(|(x, y)| enclosed.contains(&(x / 2, y / 2))), "{outline:?}");
+}
+
+/// An outline beside its completion: the cells of the second plot are those of the first and the added ones, which are the missing ones.
+fn completion(outline: &Outline) {
+    let Some(help) = Help::of(outline) else {
+        return;
+    };
+    let picture = parse(&beside("a & b", outline, &outline.test(), &help.completed));
+    let plots = picture.of_class("plot");
+    assert_eq!(plots.len(), 2);
+    let (drawn, missing) = (cells(plots[0], "cells"), cells(plots[0], "missing"));
+    let (completed, added) = (cells(plots[1], "cells"), cells(plots[1], "added"));
+    assert_eq!(completed, drawn.union(&missing).copied().collect(), "{outline:?}");
+    assert_eq!(added, missing, "{outline:?}");
+    assert!(cells(plots[0], "added").is_empty() && cells(plots[1], "missing").is_empty());
+    assert_eq!((plots[0].of_class("edges").len(), plots[1].of_class("edges").len()), (0, 1));
+    assert_eq!(round(plots[1]), sides(&help.completed), "{outline:?}");
 }
 
 /// The sides that pieces 1 to 4 walk, each as the corner with the lower numbers and whether it runs up.
@@ -139,7 +171,9 @@ fn sides(outline: &Outline) -> BTreeSet<(i32, i32, bool)> {
 #[test]
 fn every_outline_of_2_by_2() {
     for outline in outlines(2, Point::new(0, 253)) {
-        holds(&Outline::new(Corner::new(outline.start.col, outline.start.row), outline.letters));
+        let outline = Outline::new(Corner::new(outline.start.col, outline.start.row), outline.letters);
+        holds(&outline);
+        completion(&outline);
     }
 }
 
@@ -149,7 +183,9 @@ fn drawings_and_garbage() {
     for shape in Shape::ALL {
         for side in [2, 5, 9, 14, 30] {
             let outline = shape.draw_in(&mut random, side);
-            holds(&Outline::new(Corner::new(outline.start.col, outline.start.row), outline.letters));
+            let outline = Outline::new(Corner::new(outline.start.col, outline.start.row), outline.letters);
+            holds(&outline);
+            completion(&outline);
         }
     }
     for length in (0..40).chain([612, 613, 2048]) {
@@ -163,7 +199,9 @@ fn drawings_and_garbage() {
 fn specimens() {
     for text in [robequarry_program::gallery::SPECIMENS, robequarry_program::gallery::TRAINING] {
         for entry in Entries::of(text.as_bytes(), Some(Form::Text)) {
-            holds(&entry.unwrap().outline);
+            let outline = entry.unwrap().outline;
+            holds(&outline);
+            completion(&outline);
         }
     }
 }

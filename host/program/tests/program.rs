@@ -155,6 +155,12 @@ fn draw_writes_a_picture_of_any_outline() {
         let shown = program(&["draw", SPECIMENS, "-n", number, "-o", "-"]);
         assert_eq!(out(&shown), svg);
     }
+    // With its completion beside it, where a cell is missing; else by itself.
+    for (number, expected, plots) in [("5", 1, 2), ("6", 1, 2), ("2", 0, 1), ("9", 1, 1)] {
+        let drawn = program(&["draw", SPECIMENS, "-n", number, "--complete", "-o", "-"]);
+        let picture = support::parse(&out(&drawn));
+        assert_eq!((picture.of_class("plot").len(), status(&drawn)), (plots, expected), "{number}");
+    }
     let nowhere = program(&["draw", SPECIMENS, "-o", "no/such/folder/a.svg"]);
     assert!(err(&nowhere).starts_with("robequarry: no/such/folder/a.svg: cannot be written: "));
     assert_eq!(status(&nowhere), 2);
@@ -166,7 +172,7 @@ fn draw_writes_a_picture_of_any_outline() {
 fn gallery_fills_a_folder() {
     let folder = PathBuf::from(env!("CARGO_TARGET_TMPDIR")).join("gallery");
     let filled = program(&["gallery", folder.to_str().expect("the folder's name is text")]);
-    assert_eq!(out(&filled), format!("23 pictures in {}\n", folder.display()));
+    assert_eq!(out(&filled), format!("24 pictures in {}\n", folder.display()));
     assert!(folder.join("H3.svg").is_file() && folder.join("specimens.svg").is_file());
 }
 
@@ -246,6 +252,34 @@ fn border_of_every_taken_specimen() {
         let again = Entries::of(line.as_bytes(), None).next().expect("there is a line").expect("it has no fault");
         assert_eq!(again.outline.test(), Ok(edges));
     }
+}
+
+#[test]
+fn complete_writes_what_to_draw_instead() {
+    let text = b"0 0 111033003222 # H6: a dent\n0 0 110301033222\n1 1 210103032321 # H4\n0 1 1033 # H12\n";
+    let completed = program(&["complete", &file("drawn.txt", text)]);
+    let lines = "0 0 111030303222  # H6: a dent\n\
+                 0 0 1100033222\n\
+                 0 1 101030323212  # H4\n\
+                 # outline 3 (H12): refused, 5: the walk does not end where it started - it starts at corner (0, 1) and ends at (1, 0)\n";
+    assert_eq!((out(&completed).as_str(), err(&completed).as_str(), status(&completed)), (lines, "", 1));
+
+    // What it writes is read again: every outline is taken, and is its own completion.
+    let again = file("completed.txt", lines.as_bytes());
+    let checked = program(&["check", &again]);
+    assert!(out(&checked).ends_with("3 outlines: 3 taken, 0 refused\n"), "{}", out(&checked));
+    let twice = program(&["complete", &again]);
+    let without_remark: String =
+        lines.lines().filter(|line| !line.starts_with('#')).map(|line| format!("{line}\n")).collect();
+    assert_eq!((out(&twice), status(&twice)), (without_remark, 0));
+
+    // A fitting file has no names; the test's refusal by 9 is none of the completion's.
+    let dented = program(&["complete", &file("dented.fit", &record((7, 3), &DENTED))]);
+    assert_eq!((out(&dented).as_str(), status(&dented)), ("7 3 111030303222\n", 0));
+    let fault = program(&["complete", &file("fault.txt", b"0 0 1032\n0 0 abc\n")]);
+    assert_eq!((out(&fault).as_str(), status(&fault)), ("0 0 1032\n", 2));
+    assert_eq!(status(&program(&["complete"])), 2);
+    assert_eq!(status(&program(&["complete", SPECIMENS, "--outline", "0"])), 2);
 }
 
 #[test]

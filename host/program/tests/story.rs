@@ -29,6 +29,11 @@ fn holds(start: Point, letters: &[u8]) {
 
     let missing = story.missing();
     assert_eq!(missing.first().copied(), enclosed.missing(), "{outline:?}");
+    let completed = Story::of(&outline.complete().expect("what has a story has a completion"));
+    assert_eq!(completed.cells_beyond(&story), missing, "{outline:?}");
+    assert_eq!(story.cells_beyond(&completed), [], "{outline:?}");
+    let witness = outline.witness().expect("what has a story has a witness, or needs none");
+    assert_eq!(witness.map(|witness| (witness.missing.col.into(), witness.missing.row.into())), enclosed.missing());
     let back_step = story.pieces.iter().find_map(|piece| {
         piece.back_step.map(|i| Refusal::BackStep { piece: piece.number as u16, place: story.sent(piece.from + i) })
     });

@@ -11,10 +11,10 @@ use std::process::exit;
 use std::time::Instant;
 
 use robequarry::codec::{INSIDE, OUTSIDE};
-use robequarry::limits::{LAST_CELL, LAST_CORNER, LONGEST, LONGEST_LIST, SIDE};
+use robequarry::limits::{LAST_CELL, LAST_CORNER, LONGEST, LONGEST_LIST, SIDE, WITNESS_NUMBERS};
 use robequarry::{Action, PileCall, Reading};
 use robequarry_checks::case::{self, Case, Outcome};
-use robequarry_checks::draw::{any_taken, rotated, Shape};
+use robequarry_checks::draw::{any_taken, reversed, rotated, Shape};
 use robequarry_checks::engine::{Engine, Library, Live, Plain, Reference};
 use robequarry_checks::garbage;
 use robequarry_checks::live::AtWork;
@@ -35,6 +35,7 @@ use robequarry_checks::{Outline, Point};
 
 const SEED: u64 = 1;
 const SPOILT: usize = 120_000;
+const SPOILT_HELP: usize = 60_000;
 const LOOSE: usize = 120_000;
 const BORDERS: usize = 60_000;
 const COMPARISONS: usize = 16_000;
@@ -77,7 +78,7 @@ fn replay(line: &str) {
     for &engine in engines(&case) {
         let outcome = case.run(engine);
         println!("{}: {outcome}", engine.name());
-        agree &= outcome == expected;
+        agree &= case.agrees(&expected, &outcome);
     }
     println!("{}", if agree { "all agree" } else { "they differ" });
     exit(i32::from(!agree));
@@ -95,6 +96,7 @@ fn run(seed: u64) {
         run.random_section(&name, seed + i as u64, |run, random| drawings(run, shape, random));
     }
     run.random_section(&format!("{SPOILT} spoilt lists of letters"), seed + 100, spoilt);
+    run.random_section(&format!("{SPOILT_HELP} witnesses and completions of spoilt lists"), seed + 150, spoilt_help);
     run.random_section(&format!("{LOOSE} loose queries"), seed + 200, loose_queries);
     run.random_section(&format!("{BORDERS} borders"), seed + 400, borders);
     run.section("every two small polygons", every_two_small_polygons);
@@ -132,12 +134,13 @@ impl Run {
         self.section(&format!("{name}, seed {seed}"), |run| part(run, &mut Random::new(seed)));
     }
 
-    /// Holds every engine to the reference: what it writes, and each buffer as a whole. Gives what the reference does.
+    /// Holds every engine to the reference: what it writes, and each buffer as a whole; of a witness, its three cells to what they
+    /// are to show. Gives what the reference does.
     fn compare(&mut self, case: &Case) -> Outcome {
         let expected = case.run(&Reference);
         for &engine in engines(case) {
             let outcome = case.run(engine);
-            if outcome != expected {
+            if !case.agrees(&expected, &outcome) {
                 println!("{}: {expected}", Reference.name());
                 println!("{}: {outcome}", engine.name());
                 println!("again: cargo run --release --bin differential -- replay {case}");
@@ -156,6 +159,12 @@ impl Run {
         taken_exactly_if_no_cell_is_missing(outline, number);
         number
     }
+
+    /// A witness and a completion, with so much space for cells and for letters.
+    fn compare_help(&mut self, outline: &Outline, cells: usize, letters: usize) {
+        self.compare(&Case::Witness { outline: outline.clone(), space: cells });
+        self.compare(&Case::Complete { outline: outline.clone(), space: letters });
+    }
 }
 
 /// In the middle of the chart, and in two of its corners.
@@ -164,6 +173,7 @@ fn every_outline_of_3_by_3(run: &mut Run) {
     for at in [Point::new(0, 0), Point::new(120, 77), Point::new(last, last)] {
         for outline in walks::outlines(3, at) {
             run.compare_test(&outline, LONGEST_LIST);
+            run.compare_help(&outline, WITNESS_NUMBERS, LONGEST);
         }
     }
 }
@@ -172,6 +182,7 @@ fn every_outline_of_4_by_4(run: &mut Run) {
     let mut counts = BTreeMap::new();
     for outline in walks::outlines(4, Point::new(0, 0)) {
         *counts.entry(run.compare_test(&outline, LONGEST_LIST)).or_insert(0) += 1;
+        run.compare_help(&outline, WITNESS_NUMBERS, LONGEST);
     }
     let expected = BTreeMap::from([(0, 61_424), (8, 251_360), (9, 13_760)]);
     if counts != expected {
@@ -197,6 +208,12 @@ fn drawings(run: &mut Run, shape: Shape, random: &mut Random) {
         if run.compare_test(&outline, space) == 0 {
             cells_against_edges(run, &outline, random);
         }
+        let count = outline.letters.len();
+        let letters = [LONGEST, count, random.below(count), garbage::letter_space(random)][random.below(4)];
+        run.compare_help(&outline, garbage::cell_space(random), letters);
+        if random.once_in(6) {
+            help_says_what_it_should(&outline);
+        }
         if outline.letters.len() <= 400 && random.once_in(12) {
             for place in 0..outline.letters.len() {
                 run.compare_test(&rotated(&outline, place), LONGEST_LIST);
@@ -215,6 +232,29 @@ fn taken_exactly_if_no_cell_is_missing(outline: &Outline, number: u16) {
     };
     if !holds {
         println!("the reply contradicts contract 8.5: {number} {outline:?}");
+        exit(1);
+    }
+}
+
+/// Contract 6.6: a test takes the completion, which has no more letters than the drawing and is its own completion; the reverse of a
+/// drawing has the same witness and completion.
+fn help_says_what_it_should(outline: &Outline) {
+    let complete = |outline: &Outline| {
+        let mut letters = [0; LONGEST];
+        let reply = reference::help::complete(outline.start, &outline.letters, &mut letters);
+        let start = Point::new(reply.col, reply.row);
+        (reply.number == 0).then(|| Outline { start, letters: letters[..reply.place.into()].to_vec() })
+    };
+    let Some(completed) = complete(outline) else {
+        return;
+    };
+    let tested = reference::calls::test(completed.start, &completed.letters);
+    let holds = tested.reply.number == 0
+        && completed.letters.len() <= outline.letters.len()
+        && complete(&completed).as_ref() == Some(&completed)
+        && complete(&reversed(outline)) == Some(completed);
+    if !holds {
+        println!("the reference contradicts contract 6.6: {outline:?}");
         exit(1);
     }
 }
@@ -258,6 +298,13 @@ fn cells_against_edges(run: &mut Run, outline: &Outline, random: &mut Random) {
 fn spoilt(run: &mut Run, random: &mut Random) {
     for _ in 0..SPOILT {
         let case = garbage::spoilt_test(random);
+        run.compare(&case);
+    }
+}
+
+fn spoilt_help(run: &mut Run, random: &mut Random) {
+    for _ in 0..SPOILT_HELP {
+        let case = garbage::spoilt_help(random);
         run.compare(&case);
     }
 }

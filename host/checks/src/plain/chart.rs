@@ -14,7 +14,7 @@ pub fn is_off_chart(corner: Point) -> bool {
     corner.col > LAST_CORNER || corner.row > LAST_CORNER
 }
 
-/// W, N, E and S: the place of the letter that leaves each, the corner W, and the rows of S and N.
+/// W, N, E and S: the place of the letter that leaves each, the corner W, the rows of S and N, and the column of E.
 pub struct Corners {
     pub west: usize,
     pub north: usize,
@@ -23,6 +23,7 @@ pub struct Corners {
     pub corner: Point,
     pub bottom: u16,
     pub top: u16,
+    pub right: u16,
 }
 
 /// The first of refusals 1 to 6 that applies, or the corners.
@@ -84,6 +85,7 @@ fn walk(start: Point, letters: &[u8]) -> Result<Corners, Fields> {
         corner: Point::new((west >> 20) as u16, (west >> 10) as u16 % 1024),
         bottom: LAST_CORNER - (south >> 24) as u16,
         top: LAST_CORNER - (north >> 24) as u16,
+        right: (east >> 20) as u16,
     })
 }
 

@@ -7,10 +7,10 @@ use super::chart::WIDTH;
 use crate::Point;
 
 /// What a letter adds to the number of a corner, its row times the width and its column.
-const STEPS: [u16; 4] = [1, WIDTH as u16, 1u16.wrapping_neg(), (WIDTH as u16).wrapping_neg()];
+pub const STEPS: [u16; 4] = [1, WIDTH as u16, 1u16.wrapping_neg(), (WIDTH as u16).wrapping_neg()];
 
 /// A column for each row, the corners' last row included.
-type Columns = [i32; WIDTH];
+pub type Columns = [i32; WIDTH];
 
 /// For each row the first column, and the column after the last.
 struct Rows {
@@ -67,7 +67,7 @@ fn climb(first: &Columns, bottom: usize, top: usize) -> Option<(i32, usize)> {
 
 /// For each row the row above it to which the line from it leans furthest left, the last among equals. It is met on the way up, from row to row so found, and a
 /// row passed by is not looked at again. The next row of the way stays in hand, and how far left the line leans.
-fn tangents(first: &Columns, bottom: usize, top: usize) -> [u8; WIDTH] {
+pub fn tangents(first: &Columns, bottom: usize, top: usize) -> [u8; WIDTH] {
     let mut next = [0; WIDTH];
     let last = top.saturating_sub(1);
     let mut above = last;
@@ -89,14 +89,19 @@ fn tangents(first: &Columns, bottom: usize, top: usize) -> [u8; WIDTH] {
     next
 }
 
-/// Whether a row begins right of the first column that is not left of the line from row `i` to row `j`: with no division.
+/// Whether a row begins right of the first column that is not left of the line from row `i` to row `j`.
 fn is_gap(first: &Columns, i: usize, j: usize, row: usize) -> bool {
+    crosses_before(first, i, j, row, first[row])
+}
+
+/// Whether the first column of a row that is not left of that line is before another: with no division.
+pub fn crosses_before(first: &Columns, i: usize, j: usize, row: usize, col: i32) -> bool {
     let (below, above, height) = ((row - i) as i32, (j - row) as i32, (j - i) as i32);
-    above * first[i] + below * first[j] + height - 1 < first[row] * height
+    above * first[i] + below * first[j] + height - 1 < col * height
 }
 
 /// The first column of a row that is not left of the line from row `i` to row `j`.
-fn crossing(first: &Columns, i: usize, j: usize, row: usize) -> i32 {
+pub fn crossing(first: &Columns, i: usize, j: usize, row: usize) -> i32 {
     let (below, above, height) = ((row - i) as i32, (j - row) as i32, (j - i) as i32);
     (above * first[i] + below * first[j] + height - 1) / height
 }

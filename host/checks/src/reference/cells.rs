@@ -139,6 +139,13 @@ fn within(numbers: impl Iterator<Item = i32> + Clone, x: i32) -> bool {
     numbers.clone().any(|n| n <= x) && numbers.clone().any(|n| n >= x)
 }
 
+/// Whether the triangle of three points, which may be flat, holds x.
+pub fn in_triangle(p: Cell, q: Cell, r: Cell, x: Cell) -> bool {
+    let sides = [area(p, q, x), area(q, r, x), area(r, p, x)];
+    let one_way = sides.iter().all(|&a| a >= 0) || sides.iter().all(|&a| a <= 0);
+    one_way && within([p.0, q.0, r.0].into_iter(), x.0) && within([p.1, q.1, r.1].into_iter(), x.1)
+}
+
 /// One half of the chain, without its last point.
 fn half<'a>(points: impl Iterator<Item = &'a Cell>) -> Vec<Cell> {
     let mut chain: Vec<Cell> = Vec::new();
@@ -165,10 +172,26 @@ mod tests {
         each().any(|p| each().any(|q| each().any(|r| in_triangle(p, q, r, x))))
     }
 
-    fn in_triangle(p: Cell, q: Cell, r: Cell, x: Cell) -> bool {
-        let sides = [area(p, q, x), area(q, r, x), area(r, p, x)];
-        let one_way = sides.iter().all(|&a| a >= 0) || sides.iter().all(|&a| a <= 0);
-        one_way && within([p.0, q.0, r.0].into_iter(), x.0) && within([p.1, q.1, r.1].into_iter(), x.1)
+    /// Contract 2.5 once more: the cell is a mean of the three with weights that are not all zero. Those of the areas suffice.
+    #[test]
+    fn a_triangle_is_its_weighted_means() {
+        let block: Vec<Cell> = (0..16).map(|i| (i % 4, i / 4)).collect();
+        let mean = |[p, q, r]: [Cell; 3], x: Cell| {
+            let weights = (0..10).flat_map(|a| (0..10).flat_map(move |b| (0..10).map(move |c| (a, b, c)))).skip(1);
+            let is_mean = |(a, b, c): (i32, i32, i32)| {
+                a * p.0 + b * q.0 + c * r.0 == (a + b + c) * x.0 && a * p.1 + b * q.1 + c * r.1 == (a + b + c) * x.1
+            };
+            weights.into_iter().any(is_mean)
+        };
+        for (i, &p) in block.iter().enumerate() {
+            for (j, &q) in block.iter().enumerate().skip(i) {
+                for &r in &block[j..] {
+                    for &x in &block {
+                        assert_eq!(in_triangle(p, q, r, x), mean([p, q, r], x), "{p:?} {q:?} {r:?} {x:?}");
+                    }
+                }
+            }
+        }
     }
 
     /// Every set of cells of a 3 by 3 block, and every cell round it.

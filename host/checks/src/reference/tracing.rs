@@ -55,7 +55,7 @@ fn outline_with(anchor: Point, edges: &[i16]) -> Option<Vec<u8>> {
 
 /// The walk round the cells of a hull with the cells on its right hand, which leaves a cell's lower left corner upward; none if it is longer
 /// than any outline.
-fn walk_round(hull: &Hull, start: Cell) -> Option<Vec<u8>> {
+pub fn walk_round(hull: &Hull, start: Cell) -> Option<Vec<u8>> {
     const STEPS: [Cell; 4] = [(1, 0), (0, 1), (-1, 0), (0, -1)];
     // Of a corner (0, 0), the cell left of the way ahead for each letter; the one right of it is that of the letter one turn to the right.
     const LEFT: [Cell; 4] = [(0, 0), (-1, 0), (-1, -1), (0, -1)];

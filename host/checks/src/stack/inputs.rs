@@ -1,7 +1,7 @@
 //! The inputs whose need of stack is measured, the same in each run.
 
 use robequarry::limits::{
-    CALL, LAST_CORNER, LAST_LETTER, LAYERS, LONGEST, LONGEST_LIST, PARTIES, PLACES, REPLY, SHORTEST, SIDE,
+    CALL, LAST_CORNER, LAST_LETTER, LAYERS, LONGEST, LONGEST_LIST, PARTIES, PLACES, REPLY, SHORTEST, SIDE, WITNESS_NUMBERS,
 };
 use robequarry::{Action, Call, Cell, PileCall, Reading};
 
@@ -20,12 +20,14 @@ pub fn all() -> Vec<Case> {
     let mut random = Random::new(SEED);
     let outlines = outlines(&mut random);
     let mut cases: Vec<Case> = outlines.iter().flat_map(tests).collect();
+    cases.extend(outlines.iter().flat_map(helps));
     cases.extend(loose_queries(&outlines));
     cases.extend(comparisons(&outlines));
     cases.extend(outlines.iter().map(draw_and_ask));
     cases.extend(outlines.iter().flat_map(pieces));
     for _ in 0..DRAWN {
         cases.push(garbage::spoilt_test(&mut random));
+        cases.push(garbage::spoilt_help(&mut random));
         cases.push(garbage::loose(&mut random));
         cases.push(garbage::round_walk(&mut random));
         cases.push(polygons::loose(&mut random));
@@ -90,6 +92,13 @@ fn dented(random: &mut Random, outline: &Outline) -> Outline {
 /// A test with space for every edge, and for no edge.
 fn tests(outline: &Outline) -> [Case; 2] {
     [LONGEST_LIST, 0].map(|space| Case::Test { outline: outline.clone(), space })
+}
+
+/// A witness and a completion with space for what they write, and with none.
+fn helps(outline: &Outline) -> [Case; 4] {
+    let witness = |space| Case::Witness { outline: outline.clone(), space };
+    let complete = |space| Case::Complete { outline: outline.clone(), space };
+    [witness(WITNESS_NUMBERS), witness(0), complete(LONGEST), complete(0)]
 }
 
 /// The edges of each taken outline at its anchor, which walks all of them, and their border; the longest list; and those that are refused.

@@ -21,11 +21,13 @@ const SIZE: usize = 1 << 18;
 const PAINTS: [u8; 2] = [0xa5, 0x5a];
 
 /// The functions of include/robequarry.h, in its order. A close as bytes needs what a close needs, and every other call little.
-const FUNCTIONS: [&str; 22] = [
+const FUNCTIONS: [&str; 24] = [
     "rq_test",
     "rq_loose_query",
     "rq_border",
     "rq_compare",
+    "rq_witness",
+    "rq_complete",
     "rq_fresh",
     "rq_begin",
     "rq_add",
@@ -86,6 +88,16 @@ impl Stack {
                 self.note("rq_compare", &mut || {
                     raw::compare((a.col, a.row), &first.edges, (b.col, b.row), &second.edges, &mut reply);
                 });
+            }
+            Case::Witness { outline, space } => {
+                let mut cells = vec![0; *space];
+                let (start, letters) = (outline.start, &outline.letters[..]);
+                self.note("rq_witness", &mut || raw::witness(start.col, start.row, letters, &mut cells, &mut reply));
+            }
+            Case::Complete { outline, space } => {
+                let mut out = vec![0; *space];
+                let (start, letters) = (outline.start, &outline.letters[..]);
+                self.note("rq_complete", &mut || raw::complete(start.col, start.row, letters, &mut out, &mut reply));
             }
             Case::Script { bytes, space } => {
                 let mut replies = vec![0; *space];

@@ -2,21 +2,23 @@ use std::fs;
 
 use super::{one, plain, title, Command, Console, Failure, Status};
 use crate::arguments::Arguments;
-use crate::picture::picture;
+use crate::engine::Help;
+use crate::picture::{beside, picture};
 
 pub const COMMAND: Command = Command {
     name: "draw",
-    usage: "draw FILE -o OUT.svg [--outline N]",
+    usage: "draw FILE -o OUT.svg [--outline N] [--complete]",
     summary: "draw one outline: block, pieces, edges, or why it is refused",
     help: "\
 Draws one outline as an SVG that stands alone: the chart with its axes, the marked cells, the border with its four pieces, the
 corners W, N, E, S, and the hull's edges from the anchor, as the tablet draws them. Of a refused outline it shows the reason
-where it is: the letter, the back-step, or the dented factor with its chord and the missing cells. The picture is written for a
-refused outline as well.
+where it is: the letter, the back-step, or the dented factor with its chord and the missing cells; and where a cell is missing,
+three marked cells and their triangle, which holds the lowest missing one. The picture is written for a refused outline as well.
 
   -o, --out FILE    where to write the picture; `-` is standard output
-  -n, --outline N   the outline with this number; without it, the first",
-    options: &["--out", "--outline", "--text", "--fitting"],
+  -n, --outline N   the outline with this number; without it, the first
+  --complete        if a cell is missing, also draw the smallest convex block that has all marked cells, beside the outline",
+    options: &["--out", "--outline", "--complete", "--text", "--fitting"],
     run,
 };
 
@@ -28,7 +30,11 @@ fn run(arguments: &Arguments, console: &mut Console) -> Result<Status, Failure> 
     let (number, entry) = one(path, arguments, arguments.outline)?;
     let verdict = entry.outline.test();
     let title = entry.name.clone().unwrap_or_else(|| title(number, &entry));
-    let svg = picture(&title, &entry.outline, &verdict);
+    let help = Help::of(&entry.outline).filter(|_| arguments.complete);
+    let svg = match help {
+        Some(help) => beside(&title, &entry.outline, &verdict, &help.completed),
+        None => picture(&title, &entry.outline, &verdict),
+    };
     if out.as_os_str() == "-" {
         console.line(svg.trim_end())?;
     } else {

@@ -8,8 +8,10 @@ pub const COMMAND: Command = Command {
     summary: "tell one outline's story: pieces, words, factors, edges",
     help: "\
 Tells how the verdict on one outline comes about: the four corners W, N, E, S, the pieces between them, each piece's word and
-its factors, whether each is a Christoffel word, the edges and the anchor; or what the outline is refused for. The verdict,
-the edges, the anchor and the named cell are the proved library's; the steps between are worked out by this program.
+its factors, whether each is a Christoffel word, the edges and the anchor; or what the outline is refused for. If a cell is
+missing, it also names three marked cells whose triangle holds that cell, and tells what to draw instead: the smallest convex
+block that has all the marked cells. The verdict, the edges, the anchor, the named cells and that block are the proved library's;
+the steps between are worked out by this program.
 
   -n, --outline N   the outline with this number; without it, the first",
     options: &["--outline", "--text", "--fitting"],

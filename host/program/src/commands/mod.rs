@@ -4,6 +4,7 @@ mod bench;
 mod border;
 mod check;
 mod compare;
+mod complete;
 mod draw;
 mod explain;
 mod gallery;
@@ -73,6 +74,7 @@ const COMMANDS: &[&Command] = &[
     &check::COMMAND,
     &explain::COMMAND,
     &draw::COMMAND,
+    &complete::COMMAND,
     &row::COMMAND,
     &reading::COMMAND,
     &compare::COMMAND,
@@ -86,7 +88,9 @@ robequarry says whether a block of cells on a chart of 255 by 255 is convex, and
 
 A block is given by its border: a start corner, and letters that walk once round the block along the sides of its cells,
 0 right, 1 up, 2 left, 3 down, either way round. An outline that is taken has edges, which lead round the hull of the block
-from its anchor; one that is refused has the refusal's number and place. Every verdict comes from the proved library.";
+from its anchor; one that is refused has the refusal's number and place. Of a block that is not convex, three marked cells show
+that a cell is missing, and the smallest convex block round it is what to draw instead. Verdicts, these cells and this block
+come from the proved library.";
 
 const FILES: &str = "\
 Files hold one or more outlines, numbered from 0, in one of two forms:
@@ -150,7 +154,7 @@ fn help(name: Option<OsString>, console: &mut Console) -> Result<Status, Failure
     match name {
         Some(name) => console.line(command_help(command(&name)?))?,
         None => {
-            let row = |command: &&Command| format!("  {:<46} {}", command.usage, command.summary);
+            let row = |command: &&Command| format!("  {:<48} {}", command.usage, command.summary);
             let rows: Vec<String> = COMMANDS.iter().map(row).collect();
             let more = "`robequarry COMMAND --help` says more of a command.";
             console.line(format!("{INTRODUCTION}\n\nCommands:\n{}\n\n{FILES}\n\n{more}", rows.join("\n")))?;

@@ -1,9 +1,9 @@
 //! What a picture of an outline shows, in corners and cells.
 
 use robequarry::limits::LAST_CORNER;
-use robequarry::{Outline, Refusal, Verdict};
+use robequarry::{Cell, Outline, Refusal, Verdict};
 
-use crate::engine::AtWork;
+use crate::engine::{AtWork, Help};
 use crate::explain::told;
 use crate::story::{Piece, Rows, Story, NAMES};
 use crate::verdict::at;
@@ -23,8 +23,12 @@ pub struct Drawing {
     /// The points of the hull's drawing, centres of cells in columns and rows; the anchor's is at both ends.
     pub edges: Vec<(f64, f64)>,
     pub missing: Vec<Point>,
-    /// The missing cell that the refusal names.
+    /// The lowest missing cell.
     pub named: Option<Point>,
+    /// Three enclosed cells whose triangle holds it.
+    pub triangle: Vec<Point>,
+    /// The enclosed cells that another drawing lacks, which this one completes.
+    pub added: Vec<Point>,
     /// The cells along one copy of the dented factor. Its chord joins the ends.
     pub factor: Vec<Point>,
     pub fault: Option<Fault>,
@@ -85,6 +89,10 @@ fn block(outline: &Outline, verdict: &Verdict) -> Drawing {
         }
         Err(refusal) => {
             drawing.missing = story.missing();
+            let point = |cell: Cell| (cell.col.into(), cell.row.into());
+            let Help { witness, .. } = Help::of(outline).expect("a block that is refused lacks a cell");
+            drawing.named = Some(point(witness.missing));
+            drawing.triangle = witness.cells.map(point).to_vec();
             reason(&mut drawing, &story, *refusal);
         }
     }
@@ -94,8 +102,7 @@ fn block(outline: &Outline, verdict: &Verdict) -> Drawing {
 /// Marks a dent or a back-step.
 fn reason(drawing: &mut Drawing, story: &Story, refusal: Refusal) {
     match refusal {
-        Refusal::Dent { piece, place, length, missing } => {
-            drawing.named = Some((missing.col.into(), missing.row.into()));
+        Refusal::Dent { piece, place, length, .. } => {
             drawing.factor = story.cells_of(piece.into(), story.on_border(place), length);
         }
         Refusal::BackStep { piece, place } => {

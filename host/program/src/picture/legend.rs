@@ -2,7 +2,7 @@
 
 use super::drawing::{Drawing, Kind};
 use super::frame::Frame;
-use super::plot::{arrow, badge, cross, named, step, CHORD_DASHES, DASHES, EDGE, FACTOR, PIECE};
+use super::plot::{arrow, badge, cross, named, step, tip, CHORD_DASHES, DASHES, EDGE, FACTOR, PIECE, TRIANGLE_DASHES};
 use super::svg::{px, Svg};
 use crate::story::{LETTERS, NAMES};
 use crate::walk::direction;
@@ -22,8 +22,10 @@ pub enum Sign {
     Start,
     Missing,
     Named,
+    Triangle,
     Factor,
     Chord,
+    Added,
     Step,
     Spot,
     Gap,
@@ -44,8 +46,10 @@ pub fn signs(drawing: &Drawing, frame: &Frame) -> Vec<Sign> {
         (Sign::Start, drawing.start.is_some()),
         (Sign::Missing, !drawing.missing.is_empty()),
         (Sign::Named, drawing.named.is_some()),
+        (Sign::Triangle, !drawing.triangle.is_empty()),
         (Sign::Factor, !drawing.factor.is_empty()),
         (Sign::Chord, !drawing.factor.is_empty()),
+        (Sign::Added, !drawing.added.is_empty()),
         (Sign::Step, matches!(fault, Some(Kind::Step(..)))),
         (Sign::Spot, matches!(fault, Some(Kind::Corner(..)))),
         (Sign::Gap, matches!(fault, Some(Kind::Gap(..)))),
@@ -68,8 +72,10 @@ impl Sign {
             Sign::Start => "start of the outline as sent".to_string(),
             Sign::Missing => "missing cell: in the hull only".to_string(),
             Sign::Named => "the lowest one, which is named".to_string(),
+            Sign::Triangle => "three marked cells round it".to_string(),
             Sign::Factor => "the dented factor".to_string(),
             Sign::Chord => "its chord".to_string(),
+            Sign::Added => "cell that is added".to_string(),
             Sign::Step => "the letter that is refused".to_string(),
             Sign::Spot => "what is refused".to_string(),
             Sign::Gap => "the walk is open here".to_string(),
@@ -86,6 +92,7 @@ impl Sign {
             Sign::Cells => tile(svg, "cells", middle),
             Sign::Off => tile(svg, "off", middle),
             Sign::Missing => tile(svg, "missing", middle),
+            Sign::Added => tile(svg, "added", middle),
             Sign::Piece(n) => {
                 line(svg, &format!("piece p{n}"), ends, PIECE, DASHES[n - 1]);
                 badge(svg, middle, n);
@@ -105,6 +112,11 @@ impl Sign {
             Sign::Factor => {
                 line(svg, "factor", ends, FACTOR, &[]);
                 svg.circle("point", middle, 3.5);
+            }
+            Sign::Triangle => {
+                line(svg, "triangle", ends, EDGE, TRIANGLE_DASHES);
+                tip(svg, ends.0);
+                tip(svg, ends.1);
             }
             Sign::Chord => line(svg, "chord", ends, EDGE, CHORD_DASHES),
             Sign::Step => step(svg, (x + 4.0, y), (x + 26.0, y)),

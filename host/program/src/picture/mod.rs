@@ -11,7 +11,8 @@ mod svg;
 use robequarry::{Outline, Verdict};
 
 use crate::explain::{digits, wrapped};
-use crate::verdict::Said;
+use crate::story::Story;
+use crate::verdict::{count, Said};
 use drawing::Drawing;
 use frame::Frame;
 use legend::{legend, signs};
@@ -20,10 +21,12 @@ use svg::Svg;
 
 const STYLE: &str = include_str!("style.css");
 
-/// The hatching of missing cells, in columns and rows.
-const HATCH: &str =
+/// The hatching of missing cells and the dots of added ones, in columns and rows.
+const PATTERNS: &str =
     "<pattern id=\"hatch\" width=\"0.25\" height=\"0.25\" patternUnits=\"userSpaceOnUse\" patternTransform=\"rotate(45)\">\
-<line class=\"hatch\" x1=\"0\" y1=\"0\" x2=\"0\" y2=\"0.25\" stroke-width=\"0.08\"/></pattern>";
+<line class=\"hatch\" x1=\"0\" y1=\"0\" x2=\"0\" y2=\"0.25\" stroke-width=\"0.08\"/></pattern>
+<pattern id=\"dots\" width=\"0.25\" height=\"0.25\" patternUnits=\"userSpaceOnUse\">\
+<circle class=\"dots\" cx=\"0.125\" cy=\"0.125\" r=\"0.06\"/></pattern>";
 
 /// Pixels round everything.
 const MARGIN: f64 = 20.0;
@@ -40,6 +43,9 @@ const COLUMN: f64 = 262.0;
 /// The sides of a plot.
 const MOST: f64 = 510.0;
 
+/// The sides of each of two plots.
+const SIDE_BY_SIDE: f64 = 420.0;
+
 /// The side of a cell.
 const CELL: f64 = 56.0;
 
@@ -55,7 +61,7 @@ pub fn picture(title: &str, outline: &Outline, verdict: &Verdict) -> String {
     let keys = top + frame.height() + BELOW + 8.0;
     let height = keys + legend::height(signs.len(), 2) + MARGIN;
 
-    let mut svg = Svg::new(width, height, &format!("{title}: {}, {}", said.what, said.place), STYLE, HATCH);
+    let mut svg = Svg::new(width, height, &format!("{title}: {}, {}", said.what, said.place), STYLE, PATTERNS);
     for (i, (class, line)) in lines.iter().enumerate() {
         svg.words(class, MARGIN, MARGIN + 12.0 + 20.0 * i as f64, line);
     }
@@ -64,6 +70,15 @@ pub fn picture(title: &str, outline: &Outline, verdict: &Verdict) -> String {
     plot::plot(&mut svg, &drawing, &frame, true);
     legend(&mut svg, &signs, MARGIN, keys, 2, COLUMN);
     svg.end()
+}
+
+/// An outline that lacks cells beside the smallest convex block that has all of its own, in which the added cells are dotted.
+pub fn beside(title: &str, outline: &Outline, verdict: &Verdict, completed: &Outline) -> String {
+    let added = Story::of(completed).cells_beyond(&Story::of(outline));
+    let instead = format!("Draw this instead: {} added", count(added.len(), "cell"));
+    let drawn = Tile { title, outline, verdict, added: Vec::new() };
+    let tiles = [drawn, Tile { title: &instead, outline: completed, verdict: &completed.test(), added }];
+    sheet(&format!("{title}, and what to draw instead"), &tiles, 2, SIDE_BY_SIDE)
 }
 
 /// The lines above a plot, each with its class.

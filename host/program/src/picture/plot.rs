@@ -21,6 +21,9 @@ pub const DASHES: [&[f64]; 4] = [&[], &[11.0, 4.0], &[3.5, 3.0], &[12.0, 3.0, 3.
 /// Of a chord and of the gap of an open walk.
 pub const CHORD_DASHES: &[f64] = &[7.0, 4.0];
 
+/// Of the triangle of three cells.
+pub const TRIANGLE_DASHES: &[f64] = &[2.0, 3.0];
+
 /// Where a piece's number stands: away from the block, to the upper left, upper right, lower right and lower left.
 const AWAY: [(f64, f64); 4] = [(-1.0, -1.0), (1.0, -1.0), (1.0, 1.0), (-1.0, 1.0)];
 
@@ -101,8 +104,10 @@ fn lines(svg: &mut Svg, drawing: &Drawing, frame: &Frame) {
     let centres = |points: &[Point]| points.iter().map(centre).collect::<Vec<_>>();
 
     svg.open("g", &[("stroke-width", &px(1.0 / frame.scale))]);
-    for (col, row) in &drawing.missing {
-        svg.empty("rect", &[("class", &"missing"), ("x", col), ("y", row), ("width", &1), ("height", &1)]);
+    for (class, cells) in [("missing", &drawing.missing), ("added", &drawing.added)] {
+        for (col, row) in cells {
+            svg.empty("rect", &[("class", &class), ("x", col), ("y", row), ("width", &1), ("height", &1)]);
+        }
     }
     svg.close();
     stroke(svg, frame, PIECE - 1.0, &[], |svg| {
@@ -122,6 +127,10 @@ fn lines(svg: &mut Svg, drawing: &Drawing, frame: &Frame) {
         stroke(svg, frame, FACTOR, &[], |svg| svg.path("factor", &centres(&drawing.factor)));
         stroke(svg, frame, EDGE, CHORD_DASHES, |svg| svg.path("chord", &centres(&[first, last])));
     }
+    if let [first, ..] = drawing.triangle[..] {
+        let round = [&drawing.triangle[..], &[first]].concat();
+        stroke(svg, frame, EDGE, TRIANGLE_DASHES, |svg| svg.path("triangle", &centres(&round)));
+    }
     if let Some(Fault { kind: Kind::Gap(from, to), .. }) = drawing.fault {
         stroke(svg, frame, FACTOR, CHORD_DASHES, |svg| svg.path("gap", &corners(&[from, to])));
     }
@@ -140,7 +149,7 @@ fn stroke(svg: &mut Svg, frame: &Frame, width: f64, dashes: &[f64], draw: impl F
     svg.close();
 }
 
-/// Marks of a fixed size: arrow heads, the anchor, the start, the named cell, the fault.
+/// Marks of a fixed size: arrow heads, the anchor, the start, the named cell and what shows it, the fault.
 fn marks(svg: &mut Svg, drawing: &Drawing, frame: &Frame) {
     for pair in drawing.edges.windows(2) {
         let (from, to) = (frame.at(pair[0]), frame.at(pair[1]));
@@ -165,6 +174,9 @@ fn marks(svg: &mut Svg, drawing: &Drawing, frame: &Frame) {
             svg.circle("point", frame.centre(cell), 3.5);
         }
     }
+    for &cell in &drawing.triangle {
+        tip(svg, frame.centre(cell));
+    }
     if let Some(cell) = drawing.named {
         named(svg, frame.centre(cell), (0.5 * frame.scale).max(6.0));
     }
@@ -174,6 +186,13 @@ fn marks(svg: &mut Svg, drawing: &Drawing, frame: &Frame) {
         Some(Fault { kind: Kind::Gap(end, _), .. }) => cross(svg, frame.corner(end), 7.0),
         None => {}
     }
+}
+
+/// A ring at a cell of the triangle.
+pub fn tip(svg: &mut Svg, at: (f64, f64)) {
+    svg.open("g", &[("stroke-width", &2)]);
+    svg.circle("tip", at, 6.5);
+    svg.close();
 }
 
 /// A cross in a ring round a cell.
@@ -220,6 +239,10 @@ fn labels(svg: &mut Svg, drawing: &Drawing, frame: &Frame) {
     for &cell in drawing.missing.iter().filter(|_| frame.scale > 12.0) {
         let (x, y) = frame.centre(cell);
         labels.take(x, y, frame.scale, frame.scale);
+    }
+    for &cell in &drawing.triangle {
+        let (x, y) = frame.centre(cell);
+        labels.take(x, y, 15.0, 15.0);
     }
     if let Some(start) = drawing.start {
         let (x, y) = frame.corner(start);

@@ -7,9 +7,10 @@ use super::frame::Frame;
 use super::legend::{self, legend, signs, Sign};
 use super::plot::plot;
 use super::svg::Svg;
-use super::{COLUMN, HATCH, MARGIN, STYLE};
+use super::{COLUMN, MARGIN, PATTERNS, STYLE};
 use crate::explain::wrapped;
 use crate::verdict::Said;
+use crate::walk::Point;
 
 /// The room of the numbers beside and below a plot.
 const NUMBERS: f64 = 30.0;
@@ -25,11 +26,14 @@ pub struct Tile<'a> {
     pub title: &'a str,
     pub outline: &'a Outline,
     pub verdict: &'a Verdict,
+    /// Cells of the block that are marked as added.
+    pub added: Vec<Point>,
 }
 
 /// A sheet with so many tiles in a row; `most` is the side of a plot.
 pub fn sheet(title: &str, tiles: &[Tile], columns: usize, most: f64) -> String {
-    let drawings: Vec<Drawing> = tiles.iter().map(|tile| Drawing::of(tile.outline, tile.verdict)).collect();
+    let drawing = |tile: &Tile| Drawing { added: tile.added.clone(), ..Drawing::of(tile.outline, tile.verdict) };
+    let drawings: Vec<Drawing> = tiles.iter().map(drawing).collect();
     let mut frames: Vec<Frame> = drawings.iter().map(|drawing| Frame::round(&drawing.corners(), most, CELL)).collect();
     let width = NUMBERS + most + MARGIN;
     let end = place(&mut frames, columns, width, most);
@@ -38,7 +42,7 @@ pub fn sheet(title: &str, tiles: &[Tile], columns: usize, most: f64) -> String {
     let whole = MARGIN + width * columns as f64;
     let key_columns = (((whole - 2.0 * MARGIN) / COLUMN) as usize).max(1);
     let height = end + 16.0 + legend::height(keys.len(), key_columns) + MARGIN;
-    let mut svg = Svg::new(whole, height, title, STYLE, HATCH);
+    let mut svg = Svg::new(whole, height, title, STYLE, PATTERNS);
     for (i, (tile, (drawing, frame))) in tiles.iter().zip(drawings.iter().zip(&frames)).enumerate() {
         svg.open("g", &[("id", &format!("tile-{i}"))]);
         heading(&mut svg, tile, MARGIN + width * (i % columns) as f64, frame.y - HEAD, width - MARGIN);
@@ -76,7 +80,7 @@ fn heading(svg: &mut Svg, tile: &Tile, x: f64, y: f64, width: f64) {
     let said = Said::of(tile.outline, tile.verdict);
     let fits = (width / 7.4) as usize;
     let place = said.place.split(';').next().unwrap_or_default();
-    svg.words("tile", x, y + 12.0, tile.title);
+    svg.words("tile", x, y + 12.0, &wrapped(tile.title, fits)[0]);
     for (line, words) in wrapped(&said.what, fits).iter().chain(&wrapped(place, fits)).take(2).enumerate() {
         svg.words("said", x, y + 31.0 + 16.0 * line as f64, words);
     }

@@ -3,7 +3,7 @@
 //!
 //!     bench            a table, and then the same rows as lines
 //!     bench --lines    the lines alone
-//!     bench PART       one part alone: outlines, lists, edges, calls or piles; also with --lines before it
+//!     bench PART       one part alone: outlines, help, lists, edges, calls or piles; also with --lines before it
 //!
 //! A line has six fields, set apart by tabs: `bench`, a name, a count of letters, the library's nanoseconds a call, and the name and
 //! the value of a ratio, or `-` and `-`. The ratios:
@@ -12,10 +12,12 @@
 //! - `cells/library` and `border/library`: how many times as long hull-and-count takes, with the hull of all enclosed cells, and
 //!   with the hull of the border cells alone
 //! - `refusal/taking`: of the library, to the outlines of the same length that were flipped
+//! - `witness/refusal` and `completion/refusal`: of the library, to the test that refuses the same outlines by 9
 //! - `counting/library`: how many times as long it takes to compare two hulls by testing every cell of both in plain Rust
 //! - `600/150` and the like: of the library, to outlines of fewer letters
 
 mod calls;
+mod help;
 mod piles;
 
 use std::env;
@@ -58,8 +60,9 @@ const REFUSAL_GOAL: Goal = Goal::AtMost(2.0);
 const GROWTH_GOAL: Goal = Goal::AtMost(4.2);
 
 /// The parts, each with random numbers of its own.
-const PARTS: [(&str, Part); 5] = [
+const PARTS: [(&str, Part); 6] = [
     ("outlines", Bench::outlines),
+    ("help", help::all),
     ("lists", Bench::spoilt_lists),
     ("edges", Bench::edges),
     ("calls", calls::all),

@@ -1,0 +1,127 @@
+-- The edge in hand spans the row in hand, each row passed begins where the hull does, and the rows ahead are as they were.
+use Prim.Native.Nat.{suc, _-_, _≤_, _<_}
+use mathlib.Core.Path.{_≡_, refl, _∙_}
+use denote.Ref.{now}
+use Rattle.rows.specs.Rows.{rows}
+use Rattle.completion.specs.HullRows.{nextRow}
+use Rattle.hull_rows.proofs.Laws.{Spanning, climbing-edge, spanning-two, spanning-low, spanning-end, Leftward, leftward-start, leftward-corner, leftward-next}
+use native.Mathlib.Omega.{arith}
+use Rattle.hull_rows.proofs.left.Statement.{statement}
+use Rattle.hull_rows.proofs.left.Tie as tie
+
+abbrev Inv-loop : tie.InvT-loop
+Inv-loop lo₀ b t next i₀ r₀ lo i r = (fits : t ≤ 256) × Leftward (rows lo₀) b t fits lo i r
+
+abbrev μ-loop : tie.MeasureT-loop
+μ-loop lo₀ b t next i₀ r₀ lo i r = t - r
+
+tangents-requires : tie.Need-tangents-requires Inv-loop μ-loop
+tangents-requires c κs = omega (arith, c .before .pre)
+
+add-r : tie.Need-add-r Inv-loop μ-loop
+add-r c = omega arith
+
+loop-holds : tie.Need-loop-holds Inv-loop μ-loop
+loop-holds c =
+    let args = c .before .before .args in
+    let fits : args .t ≤ 256 = omega (arith, c .before .before .pre) in
+    (fits, leftward-start (rows (now (args .lo))) (args .b) (args .t) fits (now (args .lo)) (c .before .before .pre .0) (c .before .before .pre .1) (λ s. refl))
+
+edge-requires : tie.Need-edge-requires Inv-loop μ-loop
+edge-requires c κs = let turn = c .before .before .loop .inv in omega (arith, turn .1 .climbing .above, turn .1 .high, turn .0)
+
+-- The edge found spans the row in hand
+record Found (c : tie.After-edge Inv-loop μ-loop) : Type 0 where
+  low : c .before .before .before .before .before .before .args .b ≤ c .edge .result
+  high : suc (c .edge .result) < c .before .before .before .before .before .before .args .t
+  spans : Spanning (rows (now (c .before .before .before .before .before .before .args .lo))) (c .before .before .before .before .before .before .args .b) (c .before .before .before .before .before .before .args .t) (c .edge .result) (c .before .before .before .loop .r)
+  corner : rows (c .before .before .before .loop .lo) (c .edge .result) ≡ rows (now (c .before .before .before .before .before .before .args .lo)) (c .edge .result)
+
+found : (c : tie.After-edge Inv-loop μ-loop) → Found c
+found c =
+    let args = c .before .before .before .before .before .before .args in
+    let start = rows (now (args .lo)) in
+    let turn = c .before .before .before .loop in
+    let climbing = turn .inv .1 .climbing in
+    let next = c .before .before .before .before .tangents .ensures .furthest-left (turn .i) (climbing .climbed .low) (omega (arith, climbing .above)) in
+    let l : turn .r < args .t = c .before .before .loop-test .taken in
+    let s = climbing-edge start (args .b) (args .t) (turn .i) (turn .r) _ (c .edge .result) climbing l next (c .edge .ensures) in
+    record {
+      low = spanning-low start (args .b) (args .t) (c .edge .result) (turn .r) s l;
+      high = spanning-two start (args .b) (args .t) (c .edge .result) (turn .r) s l;
+      spans = s;
+      corner = leftward-corner start (args .b) (args .t) (turn .inv .0) (turn .lo) (turn .i) (turn .r) (turn .inv .1) l (c .edge .result) _ next (c .edge .ensures);
+    }
+
+-- And the row read is the one at which it ends
+record Read (c : tie.After-wide Inv-loop μ-loop) : Type 0 where
+  ends : (c .before .edge .result < c .before .before .before .before .loop .r) × (c .before .before .before .before .loop .r ≤ c .wide .result) × (c .wide .result < c .before .before .before .before .before .before .before .args .t)
+  at : c .wide .result ≡ nextRow (rows (now (c .before .before .before .before .before .before .before .args .lo))) (c .before .before .before .before .before .before .before .args .t) (c .before .edge .result)
+
+read : (c : tie.After-wide Inv-loop μ-loop) → Read c
+read c =
+    let f = found (c .before) in
+    let args = c .before .before .before .before .before .before .before .args in
+    let e = c .wide .ensures .0 ∙ c .before .before .before .before .before .tangents .ensures .furthest-left (c .before .edge .result) (f .low) (f .high) in
+    record {
+      ends = spanning-end (rows (now (args .lo))) (args .b) (args .t) (c .before .edge .result) (c .before .before .before .before .loop .r) (f .spans) (c .before .before .before .loop-test .taken) (c .wide .result) e;
+      at = e;
+    }
+
+mul-wide : tie.Need-mul-wide Inv-loop μ-loop
+mul-wide c = omega (arith, found c .high, c .before .before .before .loop .inv .0)
+
+array-read-wide : tie.Need-array-read-wide Inv-loop μ-loop
+array-read-wide c = omega (arith, found c .high, c .before .before .before .loop .inv .0)
+
+wide-requires : tie.Need-wide-requires Inv-loop μ-loop
+wide-requires c κs = omega arith
+
+crossed-requires : tie.Need-crossed-requires Inv-loop μ-loop
+crossed-requires c κs = omega (arith, read (c .before) .ends, c .before .before .before .before .before .loop .inv .0)
+
+mul-lo : tie.Need-mul-lo Inv-loop μ-loop
+mul-lo c = omega arith
+
+element-write-lo : tie.Need-element-write-lo Inv-loop μ-loop
+element-write-lo c = omega arith
+
+add-r-2 : tie.Need-add-r-2 Inv-loop μ-loop
+add-r-2 c = omega arith
+
+loop-less : tie.Need-loop-less Inv-loop μ-loop
+loop-less c = omega arith
+
+loop-again : tie.Need-loop-again Inv-loop μ-loop
+loop-again c =
+    let f = found (c .before .before .before) in
+    let args = c .before .before .before .before .before .before .before .before .before .args in
+    let turn = c .before .before .before .before .before .before .loop in (
+      turn .inv .0,
+      leftward-next (rows (now (args .lo))) (args .b) (args .t) (turn .inv .0) (turn .lo) (turn .i) (turn .r) (turn .inv .1) (c .before .before .before .before .before .loop-test .taken) (c .before .before .before .edge .result)
+          (f .spans) (c .before .before .wide .result) (c .crossed .result) (f .corner) (read (c .before .before) .at) (c .crossed .ensures),
+    )
+
+returns : tie.Need-returns Inv-loop μ-loop
+returns c = record { ends = λ r h l. c .before .loop .inv .1 .passed r h (omega (arith, c .before .loop .inv .1 .high)) }
+
+pub left-spec : {M : Type 1} → statement M
+left-spec =
+    tie.close
+    (tie.spec
+    Inv-loop
+    μ-loop
+    tangents-requires
+    add-r
+    loop-holds
+    edge-requires
+    mul-wide
+    array-read-wide
+    wide-requires
+    crossed-requires
+    mul-lo
+    element-write-lo
+    add-r-2
+    loop-less
+    loop-again
+    returns)

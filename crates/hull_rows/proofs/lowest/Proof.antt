@@ -1,0 +1,76 @@
+-- The row in hand is the lowest of those that begin furthest left, of the rows passed.
+use Prim.Native.Nat.{ℕ, _-_, _≤_, _<_}
+use mathlib.Core.Path.{_≡_, subst}
+use mathlib.Core.Logic.{inl, inr}
+use denote.Ref.{now}
+use Rattle.rows.specs.Rows.{rows}
+use Rattle.hull_rows.specs.Ends.{Lowest}
+use Rattle.hull_rows.proofs.Laws.{lowest-start, lowest-moves, lowest-stays}
+use native.Mathlib.Omega.{arith}
+use Rattle.hull_rows.proofs.lowest.Statement.{statement}
+use Rattle.hull_rows.proofs.lowest.Tie as tie
+
+abbrev Inv-loop : tie.InvT-loop
+Inv-loop lo b t m₀ r₀ m r = (b < r) × (r ≤ t) × Lowest (rows lo) b r m
+
+abbrev μ-loop : tie.MeasureT-loop
+μ-loop lo b t m₀ r₀ m r = t - r
+
+add-r : tie.Need-add-r Inv-loop μ-loop
+add-r c = omega arith
+
+loop-holds : tie.Need-loop-holds Inv-loop μ-loop
+loop-holds c = (omega arith, omega arith, lowest-start _ _)
+
+mul-if1 : tie.Need-mul-if1 Inv-loop μ-loop
+mul-if1 c = omega arith
+
+element-copy-out-if1 : tie.Need-element-copy-out-if1 Inv-loop μ-loop
+element-copy-out-if1 c = omega arith
+
+mul-if1-2 : tie.Need-mul-if1-2 Inv-loop μ-loop
+mul-if1-2 c = omega arith
+
+element-copy-out-if1-2 : tie.Need-element-copy-out-if1-2 Inv-loop μ-loop
+element-copy-out-if1-2 c = omega arith
+
+add-r-2 : tie.Need-add-r-2 Inv-loop μ-loop
+add-r-2 c = omega arith
+
+loop-less : tie.Need-loop-less Inv-loop μ-loop
+loop-less c = omega arith
+
+loop-again : tie.Need-loop-again Inv-loop μ-loop
+loop-again c =
+    let turn = c .before .before .before .before .loop in
+    let lo = rows (now (c .before .before .before .before .before .args .lo)) in
+    let b = c .before .before .before .before .before .args .b in
+    let kept = turn .inv .2 in
+    elim (c .if1 .came) [
+      | inl (l, e) ↦ (omega arith, omega arith, rw e (lowest-moves lo b (turn .r) (turn .m) kept (l .taken)))
+      | inr (l, e) ↦ (omega arith, omega arith, rw e (lowest-stays lo b (turn .r) (turn .m) kept (l .left)))
+    ]
+
+returns : tie.Need-returns Inv-loop μ-loop
+returns c =
+    let turn = c .before .loop in
+    let args = c .before .before .args in
+    let e : turn .r ≡ args .t = omega arith in
+    subst (λ (z : ℕ). Lowest (rows (now (args .lo))) (args .b) z (turn .m)) e (turn .inv .2)
+
+pub lowest-spec : {M : Type 1} → statement M
+lowest-spec =
+    tie.close
+    (tie.spec
+    Inv-loop
+    μ-loop
+    add-r
+    loop-holds
+    mul-if1
+    element-copy-out-if1
+    mul-if1-2
+    element-copy-out-if1-2
+    add-r-2
+    loop-less
+    loop-again
+    returns)

@@ -1,0 +1,196 @@
+-- The pass, letter by letter: what is kept so far and the letters that are left give the sides of the rows.
+use Prim.Native.Nat.{ℕ, zero, suc, _+_, _-_, _≤_, _<_, min, max}
+use mathlib.Core.Path.{_≡_, refl, sym, ap, _∙_, subst}
+use mathlib.Core.Bool.{Bool, true, false, cond, _||_, _&&_, true≢false}
+use mathlib.Core.Logic.{_⊎_, inl, inr}
+use mathlib.Core.List.{List, [], _∷_}
+use native.Mathlib.Decide.{decLt}
+use native.Mathlib.Numerals.{add-one}
+use native.Mathlib.Omega.{arith}
+use lib.Dec.{eqb}
+use lib.ListN.{length, getD, drop, set, replicate, length-set, length-replicate, getD-replicate, drop-of-length-le}
+use lib.Seq.{drop-cons, getD-set-same, getD-set-other}
+use borrow.Author.Tests.{eqb-true, eqb-false, eq-eqb, lt-ltb, le-ltb}
+use Rattle.base.proofs.BelowLaws.{not-held, same-test}
+use Rattle.chart.specs.Limits.{side}
+use Rattle.chart.specs.declared.Point.{Point}
+use Rattle.chart.specs.Outline.{Outline}
+use Rattle.lattice.specs.Chart.{step, cornerAt, size, letterAt}
+use Rattle.lattice.specs.Refusals.{Simple}
+use Rattle.lattice.proofs.WalkLaws.{point-eq, walked, corner-zero, corner-suc}
+use Rattle.rows.specs.Rows.{rows}
+use Rattle.completion.specs.Sides.{alongRow, leastOver, greatestOver, firstSide, lastSide, lowestCorner, highestCorner}
+use Rattle.completion.proofs.Sides.{along-cases, along-up, along-down}
+use Rattle.witness.specs.Gap.{secondSide}
+use Rattle.witness.specs.Kept.{Two, keepTwo, keptTwo}
+use Rattle.witness.proofs.Kept.{keptSides, kept-first, kept-second-side}
+use Rattle.row_sides.specs.Passed.{Tells, Passed}
+
+-- ---- the row of a letter
+
+tells-by : (y a x : ℕ) → x < 256 → ((p : Point) → p .row ≡ y → (r : ℕ) → r < side → alongRow r p a ≡ true → x ≡ r) → ((p : Point) → p .row ≡ y → (r : ℕ) → r < side → x ≡ r → alongRow r p a ≡ true) → Tells y a x
+tells-by y a x l f g = record { below = l; tells = λ p e r h. same-test {P = x ≡ r} (alongRow r p a) (eqb x r) (f p e r h, g p e r h) ((λ d. eqb-true x r d), λ d. eq-eqb x r d) }
+
+pub tells-up : (y a : ℕ) → y < 256 → a ≡ 1 → Tells y a y
+tells-up y a l e =
+    tells-by y a y l
+    (λ p d r h k. elim (along-cases r p a k) [ inl (_, q) ↦ sym d ∙ q | inr (z, _) ↦ absurd (omega arith) ])
+    (λ p d r h k. along-up r p a e (d ∙ k))
+
+pub tells-down : (y a : ℕ) → y < 256 → a ≡ 3 → 0 < y → Tells y a (y - 1)
+tells-down y a l e m =
+    tells-by y a (y - 1) (omega arith)
+    (λ p d r h k. elim (along-cases r p a k) [ inl (z, _) ↦ absurd (omega arith) | inr (_, q) ↦ omega arith ])
+    (λ p d r h k. along-down r p a e (omega arith))
+
+pub tells-none : (y a : ℕ) → (a ≡ 1 → ⊥) → (a ≡ 3 → 0 < y → ⊥) → Tells y a 255
+tells-none y a f g =
+    tells-by y a 255 (omega arith)
+    (λ p d r h k. elim (along-cases r p a k) [ inl (z, _) ↦ absurd (f z) | inr (z, q) ↦ absurd (g z (omega arith)) ])
+    (λ p d r h k. absurd (omega arith))
+
+-- ---- two columns, and one more
+
+abbrev Keeps : ℕ → ℕ → ℕ → ℕ → ℕ → Type 0
+Keeps c u v u′ v′ = (u′ ≡ keepTwo c (record { one = u; two = v }) .one) × (v′ ≡ keepTwo c (record { one = u; two = v }) .two)
+
+pub keeps-least : (c u v : ℕ) → c < u → Keeps c u v c u
+unfolding keepTwo
+keeps-least c u v l = rw (lt-ltb c u l) (refl, refl)
+
+pub keeps-second : (c u v : ℕ) → u < c → c < v → Keeps c u v u c
+unfolding keepTwo
+keeps-second c u v l m = rw (le-ltb c u (omega arith), lt-ltb u c l, lt-ltb c v m) (refl, refl)
+
+pub keeps-neither : (c u v : ℕ) → u ≤ c → (c ≤ u) ⊎ (v ≤ c) → Keeps c u v u v
+unfolding keepTwo
+keeps-neither c u v l s =
+    elim (decLt u c) [
+      | yes m ↦ elim s [ inl z ↦ absurd (omega arith) | inr z ↦ rw (le-ltb c u l, lt-ltb u c m, le-ltb c v z) (refl, refl) ]
+      | no m ↦ rw (le-ltb c u l, le-ltb u c (omega arith)) (refl, refl)
+    ]
+
+-- ---- the corner that a letter reaches
+
+module _ (p : Point) where
+  pub to-right : (a : ℕ) → a ≡ 0 → _≡_ {A = Point} (record { col = p .col + 1; row = p .row }) (step p a)
+  unfolding step
+  to-right a e = ap (step p) (sym e)
+
+  pub to-up : (a : ℕ) → a ≡ 1 → _≡_ {A = Point} (record { col = p .col; row = p .row + 1 }) (step p a)
+  unfolding step
+  to-up a e = ap (step p) (sym e)
+
+  pub to-left : (a : ℕ) → a ≡ 2 → _≡_ {A = Point} (record { col = p .col - 1; row = p .row }) (step p a)
+  unfolding step
+  to-left a e = ap (step p) (sym e)
+
+  pub to-down : (a : ℕ) → a ≡ 3 → _≡_ {A = Point} (record { col = p .col; row = p .row - 1 }) (step p a)
+  unfolding step
+  to-down a e = ap (step p) (sym e)
+
+  pub to-itself : (a : ℕ) → (a ≡ 0 → ⊥) → (a ≡ 1 → ⊥) → (a ≡ 2 → 0 < p .col → ⊥) → (a ≡ 3 → 0 < p .row → ⊥) → p ≡ step p a
+  unfolding step
+  to-itself zero f g h i = absurd (f refl)
+  to-itself (suc zero) f g h i = absurd (g refl)
+  to-itself (suc (suc zero)) f g h i = point-eq p (step p 2) (elim (decLt 0 (p .col)) [ yes l ↦ absurd (h refl l) | no l ↦ omega arith ]) refl
+  to-itself (suc (suc (suc zero))) f g h i = point-eq p (step p 3) refl (elim (decLt 0 (p .row)) [ yes l ↦ absurd (i refl l) | no l ↦ omega arith ])
+  to-itself (suc (suc (suc (suc a)))) f g h i = refl
+
+-- ---- what is kept
+
+pub record Passing (o : Outline) (i : ℕ) (p : Point) (lo en hi : List ℕ) (low high : ℕ) : Type 0 where
+  pub at : p ≡ cornerAt o i
+  pub lo-size : length lo ≡ 256
+  pub en-size : length en ≡ 256
+  pub hi-size : length hi ≡ 256
+  pub two : (r : ℕ) → r < side → keptTwo r p (drop i (o .letters)) (record { one = rows lo r; two = rows en r }) ≡ keptSides o r
+  pub last : (r : ℕ) → r < side → greatestOver (alongRow r) (λ (q : Point). q .col) p (drop i (o .letters)) (rows hi r) ≡ lastSide o r
+  pub lowest : leastOver (λ q a. true) (λ (q : Point). q .row) p (drop i (o .letters)) low ≡ lowestCorner o
+  pub highest : greatestOver (λ q a. true) (λ (q : Point). q .row) p (drop i (o .letters)) high ≡ highestCorner o
+
+pub passing-start : (o : Outline) → Passing o 0 (o .start) (replicate 256 255) (replicate 256 255) (replicate 256 0) 255 0
+unfolding lastSide lowestCorner highestCorner
+passing-start o =
+    record {
+      at = sym (corner-zero o);
+      lo-size = length-replicate {A = ℕ} 256 255;
+      en-size = length-replicate {A = ℕ} 256 255;
+      hi-size = length-replicate {A = ℕ} 256 0;
+      two = λ r h. let e = getD-replicate {A = ℕ} 256 r 255 0 (omega arith) in ap (λ (n : ℕ). keptTwo r (o .start) (o .letters) (record { one = n; two = n })) e;
+      last = λ r h. ap (greatestOver (alongRow r) (λ q. q .col) (o .start) (o .letters)) (getD-replicate {A = ℕ} 256 r 0 0 (omega arith));
+      lowest = refl;
+      highest = refl;
+    }
+
+pub passing-end : (o : Outline) (i : ℕ) (p : Point) (lo en hi : List ℕ) (low high : ℕ) → size o ≤ i → Passing o i p lo en hi low high → Passed o lo en hi low high
+unfolding keptTwo leastOver greatestOver
+passing-end o i p lo en hi low high l k =
+    let d = drop-of-length-le (o .letters) l in
+    record {
+      first = λ r h. ap (λ (t : Two). t .one) (rw d at (k .two r h)) ∙ kept-first o r;
+      second = λ r h. ap (λ (t : Two). t .two) (rw d at (k .two r h)) ∙ kept-second-side o r;
+      last = λ r h. rw d at (k .last r h);
+      lowest = rw d at (k .lowest);
+      highest = rw d at (k .highest);
+    }
+
+-- The corner is one of the chart
+pub passing-on : (o : Outline) (i : ℕ) (p : Point) (lo en hi : List ℕ) (low high : ℕ) → Simple o → i < size o → Passing o i p lo en hi low high → (p .col < 256) × (p .row < 256)
+passing-on o i p lo en hi low high s l k =
+    let w = walked o s in
+    (omega (arith, ap (λ (q : Point). q .col) (k .at), w .col-le i (omega arith)), omega (arith, ap (λ (q : Point). q .row) (k .at), w .row-le i (omega arith)))
+
+two-eq : (s t : Two) → s .one ≡ t .one → s .two ≡ t .two → s ≡ t
+two-eq s t e f = λ i. record { one = e i; two = f i }
+
+-- One letter
+module _ (o : Outline) (i : ℕ) (p : Point) (lo en hi : List ℕ) (low high : ℕ) (l : i < size o) (k : Passing o i p lo en hi low high) (x : ℕ) (t : Tells (p .row) (letterAt o i) x) where
+  abbrev rest : List ℕ
+  rest = drop (suc i) (o .letters)
+
+  differ : (r : ℕ) → eqb x r ≡ false → r ≡ x → ⊥
+  differ r e d = eqb-false x r e (sym d)
+
+  pick-two :
+      (one two : ℕ)
+      → one ≡ keepTwo (p .col) (record { one = rows lo x; two = rows en x }) .one
+      → two ≡ keepTwo (p .col) (record { one = rows lo x; two = rows en x }) .two
+      → (r : ℕ) → r < side
+      → _≡_ {A = Two} (record { one = rows (set lo x one) r; two = rows (set en x two) r }) (cond (alongRow r p (letterAt o i)) (keepTwo (p .col) (record { one = rows lo r; two = rows en r })) (record { one = rows lo r; two = rows en r }))
+  pick-two one two e f r h = rw (t .tells p refl r h) (go (eqb x r) refl)
+    where
+      go : (b : Bool) → eqb x r ≡ b → _≡_ {A = Two} (record { one = rows (set lo x one) r; two = rows (set en x two) r }) (cond b (keepTwo (p .col) (record { one = rows lo r; two = rows en r })) (record { one = rows lo r; two = rows en r }))
+      go true d =
+          let z : x ≡ r = eqb-true x r d in
+          two-eq _ _
+          (subst (λ (y : ℕ). rows (set lo x one) y ≡ keepTwo (p .col) (record { one = rows lo y; two = rows en y }) .one) z (getD-set-same lo x one 0 (omega (arith, k .lo-size, t .below)) ∙ e))
+          (subst (λ (y : ℕ). rows (set en x two) y ≡ keepTwo (p .col) (record { one = rows lo y; two = rows en y }) .two) z (getD-set-same en x two 0 (omega (arith, k .en-size, t .below)) ∙ f))
+      go false d = two-eq _ _ (getD-set-other lo x r one 0 (differ r d)) (getD-set-other en x r two 0 (differ r d))
+
+  pick-last : (last : ℕ) → last ≡ max (p .col) (rows hi x) → (r : ℕ) → r < side → rows (set hi x last) r ≡ cond (alongRow r p (letterAt o i)) (max (p .col) (rows hi r)) (rows hi r)
+  pick-last last g r h = rw (t .tells p refl r h) (go (eqb x r) refl)
+    where
+      go : (b : Bool) → eqb x r ≡ b → rows (set hi x last) r ≡ cond b (max (p .col) (rows hi r)) (rows hi r)
+      go true d = subst (λ (y : ℕ). rows (set hi x last) y ≡ max (p .col) (rows hi y)) (eqb-true x r d) (getD-set-same hi x last 0 (omega (arith, k .hi-size, t .below)) ∙ g)
+      go false d = getD-set-other hi x r last 0 (differ r d)
+
+  pub passing-next :
+      (one two last low′ high′ : ℕ) (q : Point)
+      → one ≡ keepTwo (p .col) (record { one = rows lo x; two = rows en x }) .one
+      → two ≡ keepTwo (p .col) (record { one = rows lo x; two = rows en x }) .two
+      → last ≡ max (p .col) (rows hi x) → low′ ≡ min (p .row) low → high′ ≡ max (p .row) high → q ≡ step p (letterAt o i)
+      → Passing o (i + 1) q (set lo x one) (set en x two) (set hi x last) low′ high′
+  unfolding keptTwo leastOver greatestOver
+  passing-next one two last low′ high′ q e f g m n s =
+      let left : drop (i + 1) (o .letters) ≡ rest = ap (λ (z : ℕ). drop z (o .letters)) (add-one i) in
+      record {
+        at = s ∙ ap (λ (z : Point). step z (letterAt o i)) (k .at) ∙ sym (corner-suc o i l) ∙ ap (cornerAt o) (sym (add-one i));
+        lo-size = length-set lo x one ∙ k .lo-size;
+        en-size = length-set en x two ∙ k .en-size;
+        hi-size = length-set hi x last ∙ k .hi-size;
+        two = λ r h. (λ j. keptTwo r (s j) (left j) (pick-two one two e f r h j)) ∙ (rw (drop-cons (o .letters) i 0 l) at (k .two r h));
+        last = λ r h. (λ j. greatestOver (alongRow r) (λ (z : Point). z .col) (s j) (left j) (pick-last last g r h j)) ∙ (rw (drop-cons (o .letters) i 0 l) at (k .last r h));
+        lowest = (λ j. leastOver (λ z a. true) (λ (z : Point). z .row) (s j) (left j) (m j)) ∙ (rw (drop-cons (o .letters) i 0 l) at (k .lowest));
+        highest = (λ j. greatestOver (λ z a. true) (λ (z : Point). z .row) (s j) (left j) (n j)) ∙ (rw (drop-cons (o .letters) i 0 l) at (k .highest));
+      }

@@ -1,0 +1,137 @@
+-- The loop's invariant: what is kept so far and the letters that are left give the sides of the rows.
+use Prim.Native.Nat.{_-_}
+use native.Mathlib.Omega.{arith}
+use denote.Ref.{now}
+use lib.ListN.{length}
+use borrow.Author.Needs.{needs}
+use Rattle.chart.specs.Outline.{outline}
+use Rattle.row_sides.proofs.Laws.{Passing, passing-start, passing-on, passing-next, passing-end}
+use Rattle.row_sides.proofs.pass.Statement.{statement}
+use Rattle.row_sides.proofs.pass.Tie as tie
+
+abbrev Inv-loop : tie.InvT-loop
+Inv-loop w lo₀ en₀ hi₀ low₀ high₀ p₀ i₀ lo en hi low high p i = Passing (outline p₀ w) i p lo en hi low high
+
+abbrev μ-loop : tie.MeasureT-loop
+μ-loop w lo₀ en₀ hi₀ low₀ high₀ p₀ i₀ lo en hi low high p i = length w - i
+
+loop-holds : tie.Need-loop-holds Inv-loop μ-loop
+loop-holds c = let args = c .before .args in passing-start (outline (args .s) (now (args .w)))
+
+shared-slice-read-letter : tie.Need-shared-slice-read-letter Inv-loop μ-loop
+shared-slice-read-letter c = omega arith
+
+along-requires : tie.Need-along-requires Inv-loop μ-loop
+along-requires c κs =
+    let at = c .before .before .before .before in
+    let turn = c .before .before .loop in
+    passing-on (outline (at .args .s) (now (at .args .w))) (turn .i) (turn .p) (turn .lo) (turn .en) (turn .hi) (turn .low) (turn .high) (at .pre) (omega arith) (turn .inv) .1
+
+mul-keep : tie.Need-mul-keep Inv-loop μ-loop
+mul-keep c = omega arith
+
+array-read-keep : tie.Need-array-read-keep Inv-loop μ-loop
+array-read-keep c = omega arith
+
+mul-keep-2 : tie.Need-mul-keep-2 Inv-loop μ-loop
+mul-keep-2 c = omega arith
+
+array-read-keep-2 : tie.Need-array-read-keep-2 Inv-loop μ-loop
+array-read-keep-2 c = omega arith
+
+keep-requires : tie.Need-keep-requires Inv-loop μ-loop
+keep-requires c κs = search needs
+
+mul-greater : tie.Need-mul-greater Inv-loop μ-loop
+mul-greater c = omega arith
+
+array-read-greater : tie.Need-array-read-greater Inv-loop μ-loop
+array-read-greater c = omega arith
+
+greater-requires : tie.Need-greater-requires Inv-loop μ-loop
+greater-requires c κs = search needs
+
+mul-lo : tie.Need-mul-lo Inv-loop μ-loop
+mul-lo c = omega arith
+
+array-write-lo : tie.Need-array-write-lo Inv-loop μ-loop
+array-write-lo c = omega arith
+
+mul-en : tie.Need-mul-en Inv-loop μ-loop
+mul-en c = omega arith
+
+array-write-en : tie.Need-array-write-en Inv-loop μ-loop
+array-write-en c = omega arith
+
+mul-hi : tie.Need-mul-hi Inv-loop μ-loop
+mul-hi c = omega arith
+
+array-write-hi : tie.Need-array-write-hi Inv-loop μ-loop
+array-write-hi c = omega arith
+
+lesser-requires : tie.Need-lesser-requires Inv-loop μ-loop
+lesser-requires c κs = search needs
+
+greater-requires-2 : tie.Need-greater-requires-2 Inv-loop μ-loop
+greater-requires-2 c κs = search needs
+
+moved-requires : tie.Need-moved-requires Inv-loop μ-loop
+moved-requires c κs =
+    let loop = c .before .before .before .before .before .before .before in
+    let at = loop .before .before in
+    let turn = loop .loop in
+    passing-on (outline (at .args .s) (now (at .args .w))) (turn .i) (turn .p) (turn .lo) (turn .en) (turn .hi) (turn .low) (turn .high) (at .pre) (omega arith) (turn .inv)
+
+add-i : tie.Need-add-i Inv-loop μ-loop
+add-i c = omega arith
+
+loop-less : tie.Need-loop-less Inv-loop μ-loop
+loop-less c = omega arith
+
+loop-again : tie.Need-loop-again Inv-loop μ-loop
+loop-again c =
+    let loop = c .before .before .before .before .before .before .before .before in
+    let at = loop .before .before in
+    let turn = loop .loop in
+    let along = c .before .before .before .before .before .along in
+    let keep = c .before .before .before .before .keep in
+    passing-next (outline (at .args .s) (now (at .args .w))) (turn .i) (turn .p) (turn .lo) (turn .en) (turn .hi) (turn .low) (turn .high) (omega arith) (turn .inv) (along .result) (along .ensures)
+    (keep .result .one) (keep .result .two) (c .before .before .before .greater .result) (c .before .before .lesser .result) (c .before .greater2 .result) (c .moved .result)
+    (keep .ensures .0) (keep .ensures .1) (c .before .before .before .greater .ensures) (c .before .before .lesser .ensures) (c .before .greater2 .ensures) (c .moved .ensures)
+
+returns : tie.Need-returns Inv-loop μ-loop
+returns c =
+    let at = c .before .before .before .args in
+    let turn = c .before .loop in
+    passing-end (outline (at .s) (now (at .w))) (turn .i) (turn .p) (turn .lo) (turn .en) (turn .hi) (turn .low) (turn .high) (omega arith) (turn .inv)
+
+pub pass-spec : {M : Type 1} → statement M
+pass-spec =
+    tie.close
+    (tie.spec
+    Inv-loop
+    μ-loop
+    loop-holds
+    shared-slice-read-letter
+    along-requires
+    mul-keep
+    array-read-keep
+    mul-keep-2
+    array-read-keep-2
+    keep-requires
+    mul-greater
+    array-read-greater
+    greater-requires
+    mul-lo
+    array-write-lo
+    mul-en
+    array-write-en
+    mul-hi
+    array-write-hi
+    lesser-requires
+    greater-requires-2
+    moved-requires
+    add-i
+    loop-less
+    loop-again
+    returns)

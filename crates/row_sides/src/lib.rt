@@ -1,0 +1,122 @@
+// The first, the second and the last side along each row of an outline, by one pass over its letters.
+use chart::Point;
+ghost use Prim.Native.Nat.{ℕ, _<_, min, max};
+ghost use mathlib.Core.Path.{_≡_};
+ghost use Rattle.chart.specs.Limits.{side};
+ghost use Rattle.chart.specs.Outline.{outline};
+ghost use Rattle.lattice.specs.Chart.{step};
+ghost use Rattle.lattice.specs.Refusals.{Simple};
+ghost use Rattle.witness.specs.Kept.{keepTwo};
+ghost use Rattle.row_sides.specs.Passed.{Tells, Passed};
+
+// The lesser and the greater of two numbers.
+fn lesser(a: u16, b: u16) -> u16
+    ensures { λ r. ⌜ r ≡ min a b ⌝ }
+{
+    if a < b { a } else { b }
+}
+
+fn greater(a: u16, b: u16) -> u16
+    ensures { λ r. ⌜ r ≡ max a b ⌝ }
+{
+    if a < b { b } else { a }
+}
+
+// The row along which a letter runs from a corner of row `row`, or 255, which is no row.
+fn along(row: u16, letter: u8) -> usize
+    requires { ⌜ row < 256 ⌝ }
+    ensures { λ r. ⌜ Tells row letter r ⌝ }
+{
+    if letter == 1 {
+        return row as usize;
+    }
+    if letter == 3 && 0 < row {
+        return (row - 1) as usize;
+    }
+    255
+}
+
+// The two least columns met.
+struct Pair {
+    one: u16,
+    two: u16,
+}
+
+fn keep(c: u16, one: u16, two: u16) -> Pair
+    ensures { λ r. ⌜ (r .one ≡ keepTwo c (record { one = one; two = two }) .one) × (r .two ≡ keepTwo c (record { one = one; two = two }) .two) ⌝ }
+{
+    if c < one {
+        return Pair { one: c, two: one };
+    }
+    if one < c && c < two {
+        return Pair { one, two: c };
+    }
+    Pair { one, two }
+}
+
+// The corner that a letter reaches.
+fn moved(p: Point, letter: u8) -> Point
+    requires { ⌜ (p .col < 256) × (p .row < 256) ⌝ }
+    ensures { λ r. ⌜ r ≡ step p letter ⌝ }
+{
+    let col = p.col;
+    let row = p.row;
+    if letter == 0 {
+        return Point { col: col + 1, row };
+    }
+    if letter == 1 {
+        return Point { col, row: row + 1 };
+    }
+    if letter == 2 && 0 < col {
+        return Point { col: col - 1, row };
+    }
+    if letter == 3 && 0 < row {
+        return Point { col, row: row - 1 };
+    }
+    p
+}
+
+// What the pass keeps: of row `r` the columns of the first side, of the second and of the last; the rows of the lowest and of the highest corner.
+pub struct Sides {
+    pub lo: [u16; 256],
+    pub en: [u16; 256],
+    pub hi: [u16; 256],
+    pub low: u16,
+    pub high: u16,
+}
+
+// Row 255, which is none of the chart's, takes what the letters along no row would store.
+pub fn pass(s: Point, w: &[u8]) -> Sides
+    requires { ⌜ Simple (outline s (now w)) ⌝ }
+    ensures { λ r. ⌜ Passed (outline s (now (w .entry))) (r .lo) (r .en) (r .hi) (r .low) (r .high) ⌝ }
+{
+    let mut lo = [255u16; 256];
+    let mut en = [255u16; 256];
+    let mut hi = [0u16; 256];
+    let mut low = 255u16;
+    let mut high = 0u16;
+    let mut p = s;
+    let mut i = 0;
+    while i < w.len() {
+        let letter = w[i];
+        let col = p.col;
+        let row = p.row;
+        let r = along(row, letter);
+        let k = keep(col, lo[r], en[r]);
+        let last = greater(col, hi[r]);
+        lo[r] = k.one;
+        en[r] = k.two;
+        hi[r] = last;
+        low = lesser(row, low);
+        high = greater(row, high);
+        p = moved(p, letter);
+        i += 1;
+    }
+    Sides {
+        lo,
+        en,
+        hi,
+        low,
+        high,
+    }
+}

@@ -1,0 +1,2 @@
+-- The answer and the list by cases.
+pub mod Laws

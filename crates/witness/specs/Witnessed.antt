@@ -1,0 +1,54 @@
+-- A witness call: refusals 1 to 6 and 10, "none" where no cell is missing, or the lowest missing cell, and three cells in the list
+-- (contract 6.5).
+use Prim.Native.Nat.{ℕ}
+use mathlib.Core.Bool.{cond}
+use mathlib.Core.List.{List, [], _∷_, _++_}
+use lib.ListN.{length, drop}
+use lib.Dec.{ltb}
+use Rattle.chart.specs.declared.Fields.{Fields}
+use Rattle.chart.specs.declared.Refusal.the-variants.{List as BadList}
+use Rattle.chart.specs.Fields.{no-word, said, accepted, refusalFields}
+use Rattle.chart.specs.Outline.{Outline}
+use Rattle.calls.specs.Replies.{none}
+use Rattle.survey.specs.declared.Surveyed.{Surveyed}
+use Rattle.survey.specs.declared.Surveyed.the-variants.{Passed, Refused as Stopped}
+use Rattle.survey.specs.Survey.{surveyOf}
+use Rattle.witness.specs.declared.Witnessed.{Witnessed}
+use Rattle.witness.specs.declared.Witnessed.the-variants.{Found, None, Refused}
+use Rattle.witness.specs.Three.{Three}
+use Rattle.witness.specs.Gap.{isMissing, lowestMissing, witnessOf}
+
+-- Three cells are this many numbers
+abbrev pub sixNumbers : ℕ
+sixNumbers = 6
+
+-- Of an outline past 1 to 6, with a list of n numbers: 10, or the lowest missing cell, or none
+unfoldable pub shownIn : ℕ → Outline → Witnessed
+shownIn n o = cond (ltb n sixNumbers) (Refused BadList) (cond (isMissing o) (Found (lowestMissing o)) None)
+
+-- What 1 to 6 say, or else what is said further on
+unfoldable pub pastSurvey : Surveyed → Witnessed → Witnessed
+pastSurvey (Passed c) v = v
+pastSurvey (Stopped f) v = Refused f
+
+unfoldable pub witnessedOf : Outline → ℕ → Witnessed
+witnessedOf o n = pastSurvey (surveyOf o) (shownIn n o)
+
+-- The answer written out
+unfoldable pub witnessedFields : Witnessed → Fields
+witnessedFields (Found x) = accepted no-word 0 x
+witnessedFields None = said none
+witnessedFields (Refused f) = refusalFields f
+
+-- Three cells as six numbers
+unfoldable pub threeNumbers : Three → List ℕ
+threeNumbers w = w .a .col ∷ w .a .row ∷ w .b .col ∷ w .b .row ∷ w .d .col ∷ w .d .row ∷ []
+
+-- The list afterwards: the six numbers stand first in it and the rest is unaltered; where no cell is named, all of it is
+unfoldable pub shownAfter : Witnessed → Three → List ℕ → List ℕ
+shownAfter (Found x) w lent = threeNumbers w ++ drop sixNumbers lent
+shownAfter None w lent = lent
+shownAfter (Refused f) w lent = lent
+
+unfoldable pub cellsAfter : Outline → List ℕ → List ℕ
+cellsAfter o lent = shownAfter (witnessedOf o (length lent)) (witnessOf o) lent

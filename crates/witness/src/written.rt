@@ -1,0 +1,16 @@
+// An answer written out: its number, its word and its fields (contract 4).
+use crate::Witnessed;
+use chart::Fields;
+use chart::reply;
+ghost use mathlib.Core.Path.{_≡_};
+ghost use Rattle.witness.specs.Witnessed.{witnessedFields};
+
+pub fn of_witnessed(w: Witnessed) -> Fields
+    ensures { λ f. ⌜ f ≡ witnessedFields w ⌝ }
+{
+    match w {
+        Witnessed::Found { cell } => reply::accepted(0, 0, cell),
+        Witnessed::None => reply::said(5),
+        Witnessed::Refused(why) => reply::of_refusal(why),
+    }
+}
