@@ -54,7 +54,8 @@
  *     rq_witness, rq_complete                               13,000
  *     rq_replay                                             18,000
  *     rq_pile_check                                            600
- *     rq_compare; any other call by rq_call                    300
+ *     rq_compare                                             1,700
+ *     any other call by rq_call                                300
  *     every other function                                     200
  */
 #ifndef ROBEQUARRY_H

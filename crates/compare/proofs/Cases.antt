@@ -4,22 +4,17 @@ use mathlib.Core.Bool.{Bool, true, false, false≢true, cond}
 use mathlib.Core.List.{List}
 use lib.IntN.{ℤ, pos}
 use Rattle.chart.specs.declared.Point.{Point}
-use Rattle.chart.specs.declared.Nesting.{Nesting}
-use Rattle.chart.specs.declared.Nesting.the-variants.{Equal, FirstWithin, SecondWithin, Apart, Crossing}
-use Rattle.chart.specs.declared.Comparison.{Comparison}
 use Rattle.chart.specs.declared.Comparison.the-variants.{Found, Refused}
 use Rattle.chart.specs.declared.Refusal.{Refusal}
 use Rattle.chart.specs.declared.Refusal.the-variants.{List as BadList, Cell, Turning}
 use Rattle.turning.specs.Turning.{badTurning}
 use Rattle.polygon.specs.Loose.{badList, badCell}
-use Rattle.polygon.proofs.LooseCases.{short-list}
-use Rattle.nesting.specs.Cells.{Polygon, polygon}
+use Rattle.nesting.specs.Cells.{polygon, Fit as Passing}
 use Rattle.nesting.specs.Corners.{cornersOnChart}
-use Rattle.nesting.specs.Rows.{rowsMeet}
-use Rattle.nesting.specs.Answer.{byTests, liesWithin, nesting}
+use Rattle.nesting.specs.Answer.{nesting}
 use Rattle.compare.specs.declared.Checked.{Checked}
 use Rattle.compare.specs.declared.Checked.the-variants.{Fit, Unfit}
-use Rattle.compare.specs.Compared.{checkedOf, Sound, decided, comparisonOf}
+use Rattle.compare.specs.Compared.{checkedOf, decided, comparisonOf}
 
 module _ (a : Point) (es : List ℤ) where
   pub checked-list : badList es ≡ true → Unfit BadList ≡ checkedOf a es
@@ -50,42 +45,18 @@ abbrev fits : Checked → Bool
 fits Fit = true
 fits (Unfit f) = false
 
-pub fit-sound : (a : Point) (es : List ℤ) → Fit ≡ checkedOf a es → Sound a es
+pub fit-passes : (a : Point) (es : List ℤ) → Fit ≡ checkedOf a es → Passing (polygon a es)
 unfolding checkedOf
-fit-sound a es e = go (badList es) (badCell a) (badTurning es) (cornersOnChart es (pos (a .col)) (pos (a .row))) refl refl refl (sym (ap fits e))
+fit-passes a es e = go (badList es) (badCell a) (badTurning es) (cornersOnChart es (pos (a .col)) (pos (a .row))) refl refl (sym (ap fits e))
   where
     go :
-        (l c t p : Bool) → badList es ≡ l → badTurning es ≡ t → cornersOnChart es (pos (a .col)) (pos (a .row)) ≡ p
-        → fits (cond l (Unfit BadList) (cond c (Unfit Cell) (cond t (Unfit Turning) (cond p Fit (Unfit Cell))))) ≡ true → Sound a es
-    go true c t p u v w h = absurd (false≢true h)
-    go false true t p u v w h = absurd (false≢true h)
-    go false false true p u v w h = absurd (false≢true h)
-    go false false false true u v w h = record { fit = record { passes = v; placed = w }; short = short-list es u }
-    go false false false false u v w h = absurd (false≢true h)
-
--- ---- how the cells lie, by the tests
-
-module _ (p q : Polygon) where
-  pub nests-equal : liesWithin p q ≡ true → liesWithin q p ≡ true → Equal ≡ nesting p q
-  unfolding nesting byTests
-  nests-equal a b = rw (a, b)
-
-  pub nests-first : liesWithin p q ≡ true → liesWithin q p ≡ false → FirstWithin ≡ nesting p q
-  unfolding nesting byTests
-  nests-first a b = rw (a, b)
-
-  pub nests-second : liesWithin p q ≡ false → liesWithin q p ≡ true → SecondWithin ≡ nesting p q
-  unfolding nesting byTests
-  nests-second a b = rw (a, b)
-
-  module _ (a : liesWithin p q ≡ false) (b : liesWithin q p ≡ false) where
-    pub nests-crossing : rowsMeet p q ≡ true → Crossing ≡ nesting p q
-    unfolding nesting byTests
-    nests-crossing c = rw (a, b, c)
-
-    pub nests-apart : rowsMeet p q ≡ false → Apart ≡ nesting p q
-    unfolding nesting byTests
-    nests-apart c = rw (a, b, c)
+        (l c t p : Bool) → badTurning es ≡ t → cornersOnChart es (pos (a .col)) (pos (a .row)) ≡ p
+        → fits (cond l (Unfit BadList) (cond c (Unfit Cell) (cond t (Unfit Turning) (cond p Fit (Unfit Cell))))) ≡ true → Passing (polygon a es)
+    go true c t p v w h = absurd (false≢true h)
+    go false true t p v w h = absurd (false≢true h)
+    go false false true p v w h = absurd (false≢true h)
+    go false false false true v w h = record { passes = v; placed = w }
+    go false false false false v w h = absurd (false≢true h)
 
 -- ---- a comparison
 

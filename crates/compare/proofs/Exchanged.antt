@@ -10,7 +10,7 @@ use Rattle.chart.specs.declared.Nesting.{Nesting}
 use Rattle.chart.specs.declared.Nesting.the-variants.{Equal, FirstWithin, SecondWithin, Apart, Crossing}
 use Rattle.chart.specs.declared.Comparison.{Comparison}
 use Rattle.chart.specs.declared.Comparison.the-variants.{Found, Refused}
-use Rattle.chart.specs.Fields.{nestingFields, comparisonFields}
+use Rattle.chart.specs.Fields.{nestingFields}
 use Rattle.nesting.specs.Cells.{polygon}
 use Rattle.nesting.specs.Answer.{nesting, exchanged}
 use Rattle.nesting.proofs.Exchanged.{nesting-exchanged}

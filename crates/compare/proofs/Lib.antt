@@ -1,9 +1,10 @@
--- Steps on the chart; the columns that an edge bounds; runs of columns and rows; rows in which two runs meet; a comparison by its cases, and what its words say; of taken
--- outlines; with the lists exchanged.
+-- Steps on the chart; the columns that an edge bounds; lists of numbers for the rows; the walk that fills them; the tests of two such walks; a comparison by its
+-- cases, and what its words say; of taken outlines; with the lists exchanged.
 pub mod Steps
 pub mod Columns
-pub mod Runs
-pub mod Meeting
+pub mod Lists
+pub mod Sweeps
+pub mod RowTests
 pub mod Cases
 pub mod Words
 pub mod Outlines

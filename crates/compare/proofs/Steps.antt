@@ -151,27 +151,3 @@ module _ {es : List ℤ} {a : Point} {i : ℕ} {p : Point} (l : Leaving es a i p
   pub leaving-end : length es ≤ i + 1 → cornersOnChart es (pos (a .col)) (pos (a .row)) ≡ onChart (pos (p .col)) (pos (p .row))
   unfolding cornersOnChart
   leaving-end h = l .left ∙ last-corner onChart es i (pos (p .col)) (pos (p .row)) h
-
--- A test of every corner cell: what is left passes exactly if all does
-pub record Testing (f : ℤ → ℤ → Bool) (es : List ℤ) (a : Point) (i : ℕ) (p : Point) : Type 0 where
-  pub stands : Standing es i p
-  pub left : everyCorner f es (pos (a .col)) (pos (a .row)) ≡ everyCorner f (drop i es) (pos (p .col)) (pos (p .row))
-
-pub testing-start : (f : ℤ → ℤ → Bool) (es : List ℤ) (a : Point) → Standing es 0 a → Testing f es a 0 a
-testing-start f es a s = record { stands = s; left = refl }
-
-module _ {f : ℤ → ℤ → Bool} {es : List ℤ} {a : Point} {i : ℕ} {p : Point} (w : Testing f es a i p) where
-  pub testing-further :
-      i + 1 < length es → f (pos (p .col)) (pos (p .row)) ≡ true → Testing f es a (i + 2) (steppedTo p (getD es i (pos 0)) (getD es (i + 1) (pos 0)))
-  testing-further h e =
-      let n = standing-further (w .stands) h in
-      record {
-        stands = n .stands;
-        left = w .left ∙ next-corner f es i (pos (p .col)) (pos (p .row)) h ∙ rw (e, n .isCol, n .isRow);
-      }
-
-  pub testing-off : f (pos (p .col)) (pos (p .row)) ≡ false → everyCorner f es (pos (a .col)) (pos (a .row)) ≡ false
-  testing-off e = w .left ∙ corner-off f (drop i es) (pos (p .col)) (pos (p .row)) e
-
-  pub testing-end : length es ≤ i + 1 → everyCorner f es (pos (a .col)) (pos (a .row)) ≡ f (pos (p .col)) (pos (p .row))
-  testing-end h = w .left ∙ last-corner f es i (pos (p .col)) (pos (p .row)) h

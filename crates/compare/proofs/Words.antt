@@ -24,7 +24,7 @@ use Rattle.compare.specs.declared.Checked.the-variants.{Fit, Unfit}
 use Rattle.compare.specs.declared.Handed.{Handed}
 use Rattle.compare.specs.declared.Handed.the-variants.{First, Second, Neither}
 use Rattle.compare.specs.Compared.{checkedOf, decided, comparisonOf, CellsNamed, handedWith, handedBy, HandedBack}
-use Rattle.compare.proofs.Cases.{fit-sound}
+use Rattle.compare.proofs.Cases.{fit-passes}
 
 -- A refusal has a number
 pub refusal-number : (f : Refusal) → 0 < refusalFields f .number
@@ -74,7 +74,7 @@ module _ (a : Point) (es : List ℤ) (b : Point) (fs : List ℤ) where
   named (Unfit f) t p q = unnamed 1 f
   named Fit (Unfit f) p q = unnamed 2 f
   named Fit Fit p q =
-      let iff = answer-iff (polygon a es) (polygon b fs) (fit-sound a es p .fit) (fit-sound b fs q .fit) in
+      let iff = answer-iff (polygon a es) (polygon b fs) (fit-passes a es p) (fit-passes b fs q) in
       record { says = λ v e. iff v .1 (word-once (nesting (polygon a es) (polygon b fs)) v e); only = λ e v h. ap nestingFields (iff v .0 h) }
 
   cells-named : CellsNamed (polygon a es) (polygon b fs) (comparisonFields (comparisonOf a es b fs))

@@ -1,12 +1,9 @@
 -- The comparison of two lists: the refusals of the first, then of the second, and else how their cells lie (contract 6.4).
-use Prim.Native.Nat.{_≤_}
 use mathlib.Core.Path.{_≡_}
 use mathlib.Core.Bool.{cond}
 use mathlib.Core.List.{List, []}
-use lib.ListN.{length}
 use lib.IntN.{ℤ, pos}
 use denote.Ref.{RefT}
-use Rattle.chart.specs.Limits.{longestList}
 use Rattle.chart.specs.declared.Point.{Point}
 use Rattle.chart.specs.declared.Fields.{Fields}
 use Rattle.chart.specs.declared.Nesting.{Nesting}
@@ -17,7 +14,7 @@ use Rattle.chart.specs.declared.Refusal.the-variants.{List as BadList, Cell, Tu
 use Rattle.chart.specs.Fields.{nestingFields}
 use Rattle.turning.specs.Turning.{badTurning}
 use Rattle.polygon.specs.Loose.{badList, badCell}
-use Rattle.nesting.specs.Cells.{Polygon, polygon, Fit as Passing, Says}
+use Rattle.nesting.specs.Cells.{Polygon, polygon, Says}
 use Rattle.nesting.specs.Corners.{cornersOnChart}
 use Rattle.nesting.specs.Answer.{nesting}
 use Rattle.compare.specs.declared.Checked.{Checked}
@@ -32,11 +29,6 @@ checkedOf a es =
     (cond (badCell a) (Unfit Cell)
     (cond (badTurning es) (Unfit Turning)
     (cond (cornersOnChart es (pos (a .col)) (pos (a .row))) Fit (Unfit Cell))))
-
--- What a list that nothing refuses is
-pub record Sound (a : Point) (es : List ℤ) : Type 0 where
-  pub fit : Passing (polygon a es)
-  pub short : length es ≤ longestList
 
 -- The whole first list before the second
 unfoldable pub decided : Checked → Checked → Nesting → Comparison

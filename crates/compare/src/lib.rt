@@ -6,17 +6,19 @@ use chart::Refusal;
 use chart::reply::NUMBERS;
 use chart::reply::of_comparison;
 use chart::reply::write;
+use rows::Tests;
+use same::same_numbers;
+use same::same_point;
 ghost use mathlib.Core.Path.{_≡_};
-ghost use mathlib.Core.Bool.{not};
-ghost use Prim.Native.Nat.{_≤_};
-ghost use lib.ListN.{length};
+ghost use mathlib.Core.Bool.{not, _&&_};
 ghost use lib.IntN.{pos};
-ghost use Rattle.chart.specs.Limits.{longestList};
+ghost use Rattle.base.specs.Same.{sameℤs};
+ghost use Rattle.lattice.specs.Chart.{samePoint};
 ghost use Rattle.chart.specs.Fields.{comparisonFields, numbersOf, fieldsOf};
 ghost use Rattle.nesting.specs.Cells.{polygon, Fit};
 ghost use Rattle.nesting.specs.Corners.{cornersOnChart};
-ghost use Rattle.nesting.specs.Answer.{liesWithin, nesting};
-ghost use Rattle.compare.specs.Compared.{checkedOf, Sound, comparisonOf, CellsNamed, handedBy, HandedBack};
+ghost use Rattle.nesting.specs.Answer.{byTests, nesting};
+ghost use Rattle.compare.specs.Compared.{checkedOf, comparisonOf, CellsNamed, handedBy, HandedBack};
 
 mod rows;
 mod step;
@@ -62,43 +64,41 @@ fn check(anchor: Point, edges: &[i16]) -> Checked
     Checked::Fit
 }
 
-// Every corner cell of the first polygon is inside the second.
-fn lies_within(anchor: Point, edges: &[i16], other: Point, others: &[i16]) -> bool
-    requires { ⌜ Fit (polygon anchor (now edges)) × (length (now others) ≤ longestList) ⌝ }
-    ensures { λ b. ⌜ b ≡ liesWithin (polygon anchor (now (edges .entry))) (polygon other (now (others .entry))) ⌝ }
+// The same anchor and the same edges.
+fn same_lists(anchor: Point, edges: &[i16], other: Point, others: &[i16]) -> bool
+    ensures { λ b. ⌜ b ≡ (samePoint anchor other && sameℤs (now (edges .entry)) (now (others .entry))) ⌝ }
 {
-    let mut at = anchor;
-    let mut i = 0;
-    while i + 1 < edges.len() {
-        if !polygon::inside(other, others, at) {
-            return false;
-        }
-        at = step::further(at, edges[i], edges[i + 1]);
-        i += 2;
-    }
-    polygon::inside(other, others, at)
+    same_point(anchor, other) && same_numbers(edges, others)
 }
 
-// How the cells in two hulls lie: the corner cells of one inside the other, both ways, and else a common cell.
-fn nest(anchor: Point, edges: &[i16], other: Point, others: &[i16]) -> Nesting
-    requires { ⌜ Sound anchor (now edges) × Sound other (now others) ⌝ }
-    ensures { λ v. ⌜ v ≡ nesting (polygon anchor (now (edges .entry))) (polygon other (now (others .entry))) ⌝ }
+// What the tests of the rows tell of the cells.
+fn by_rows(t: Tests) -> Nesting
+    ensures { λ v. ⌜ v ≡ byTests (t .inward) (t .outward) (not (t .apart)) ⌝ }
 {
-    let inward = lies_within(anchor, edges, other, others);
-    let outward = lies_within(other, others, anchor, edges);
-    if inward {
-        if outward {
+    if t.inward {
+        if t.outward {
             return Nesting::Equal;
         }
         return Nesting::FirstWithin;
     }
-    if outward {
+    if t.outward {
         return Nesting::SecondWithin;
     }
-    if !rows::meet(anchor, edges, other, others) {
+    if t.apart {
         return Nesting::Apart;
     }
     Nesting::Crossing
+}
+
+// How the cells in two hulls lie: equal lists need no rows.
+fn nest(anchor: Point, edges: &[i16], other: Point, others: &[i16]) -> Nesting
+    requires { ⌜ Fit (polygon anchor (now edges)) × Fit (polygon other (now others)) ⌝ }
+    ensures { λ v. ⌜ v ≡ nesting (polygon anchor (now (edges .entry))) (polygon other (now (others .entry))) ⌝ }
+{
+    if same_lists(anchor, edges, other, others) {
+        return Nesting::Equal;
+    }
+    by_rows(rows::test_rows(anchor, edges, other, others))
 }
 
 // The refusals of the first list, then of the second, and else how the cells in their hulls lie.

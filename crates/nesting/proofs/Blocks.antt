@@ -2,28 +2,28 @@
 use Prim.Native.Nat.{_<_}
 use native.Mathlib.Decide.{decLt}
 use native.Mathlib.Omega.{arith}
-use mathlib.Core.Path.{_≡_, refl, sym, ap, _∙_}
+use mathlib.Core.Path.{_≡_, sym, _∙_}
 use mathlib.Core.Logic.{_↔_, inl, inr}
 use mathlib.Core.Bool.{true, true≢false, and-eq-true-iff}
 use mathlib.Core.List.{List}
-use lib.IntN.{ℤ, pos}
+use lib.IntN.{ℤ}
 use Rattle.chart.specs.Limits.{side}
 use Rattle.chart.specs.declared.Point.{Point}
 use Rattle.chart.specs.declared.Nesting.{Nesting}
 use Rattle.chart.specs.declared.Nesting.the-variants.{Equal, FirstWithin, SecondWithin, Apart, Crossing}
 use Rattle.chart.specs.Outline.{Outline}
-use Rattle.convexity.specs.Reading.{border, block}
+use Rattle.convexity.specs.Reading.{border}
 use Rattle.convexity.specs.Pieces.{edges}
 use Rattle.convexity.specs.Border.{HasEdges}
 use Rattle.convexity.proofs.Inside.{IsCell}
 use Rattle.convexity.proofs.AsSent.{clear-of, edges-answer-sent}
 use Rattle.convexity.proofs.SameBlock.{open-off}
-use Rattle.turning.specs.CornerHull.{Met, onChart}
+use Rattle.turning.specs.CornerHull.{onChart}
 use Rattle.turning.proofs.Theorem.{inside-iff-hull}
 use Rattle.turning.proofs.Taken.{taken-passes}
 use Rattle.turning.proofs.Cells.{corner-is-cell}
 use Rattle.turning.proofs.OnChart.{number-on}
-use Rattle.nesting.specs.Cells.{Polygon, polygon, Fit, Holds, Within, Beyond, Common, SaysOf, Says, Encloses}
+use Rattle.nesting.specs.Cells.{polygon, Fit, Holds, Within, Beyond, Common, SaysOf, Encloses}
 use Rattle.nesting.specs.Corners.{cornersOnChart}
 use Rattle.nesting.specs.Answer.{nesting}
 use Rattle.nesting.proofs.CornerTests.{met-every}

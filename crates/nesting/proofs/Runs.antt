@@ -22,7 +22,7 @@ abbrev pub In : ℕ → ℕ → ℕ → Type 0
 In lo hi c = (lo ≤ c) × (c < hi)
 
 -- The side value at column c is dy·c and the side value at column 0
-side-column :
+pub side-column :
     (dx dy x y r : ℤ) (c : ℕ)
     → Is (sideValue dx dy x y (pos c) r) (up (sideValue dx dy x y (pos 0) r) + up dy * c) (down (sideValue dx dy x y (pos 0) r) + down dy * c)
 side-column dx dy x y r c =
@@ -31,7 +31,7 @@ side-column dx dy x y r c =
     rw (side-cross dx dy x y (pos c) r, side-cross dx dy x y (pos 0) r) (record { eq = omega (arith, s .eq, t .eq) })
 
 -- One edge
-edge-in : (dy b : ℤ) (c : ℕ) → c < side → down b + down dy * c ≤ up b + up dy * c → In (edgeFrom dy b) (edgeTo dy b) c
+pub edge-in : (dy b : ℤ) (c : ℕ) → c < side → down b + down dy * c ≤ up b + up dy * c → In (edgeFrom dy b) (edgeTo dy b) c
 unfolding edgeFrom edgeTo
 edge-in (pos zero) (pos b) c l h = omega arith
 edge-in (pos zero) (negsuc b) c l h = absurd (omega arith)
@@ -40,7 +40,7 @@ edge-in (pos (suc n)) (negsuc b) c l h = (div-lt-iff-lt-mul {k = suc n} (omega a
 edge-in (negsuc n) (pos b) c l h = omega (arith, le-div-iff-mul-le {k = suc n} {x = c} {y = b} (omega arith) .1 (omega arith))
 edge-in (negsuc n) (negsuc b) c l h = absurd (omega arith)
 
-in-edge : (dy b : ℤ) (c : ℕ) → In (edgeFrom dy b) (edgeTo dy b) c → down b + down dy * c ≤ up b + up dy * c
+pub in-edge : (dy b : ℤ) (c : ℕ) → In (edgeFrom dy b) (edgeTo dy b) c → down b + down dy * c ≤ up b + up dy * c
 unfolding edgeFrom edgeTo
 in-edge (pos zero) (pos b) c h = omega arith
 in-edge (pos zero) (negsuc b) c h = absurd (omega arith)

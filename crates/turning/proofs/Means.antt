@@ -90,13 +90,13 @@ unfolding rowSteps
 met-row Met.start = Reach.start
 met-row (Met.after m) = Reach.after (met-row m)
 
-lowest-least : (ds : List ℤ) {x u : ℤ} → Reach ds x u → AtMost (lowestMet ds x) u
+pub lowest-least : (ds : List ℤ) {x u : ℤ} → Reach ds x u → AtMost (lowestMet ds x) u
 unfolding lowestMet
 lowest-least [] Reach.start = omega arith
 lowest-least (d ∷ ds) {x = x} Reach.start = min-low x (lowestMet ds (x +ℤ d)) .0
 lowest-least (d ∷ ds) {x = x} (Reach.after m) = omega (arith, min-low x (lowestMet ds (x +ℤ d)) .1, lowest-least ds m)
 
-highest-most : (ds : List ℤ) {x u : ℤ} → Reach ds x u → AtMost u (highestMet ds x)
+pub highest-most : (ds : List ℤ) {x u : ℤ} → Reach ds x u → AtMost u (highestMet ds x)
 unfolding highestMet
 highest-most [] Reach.start = omega arith
 highest-most (d ∷ ds) {x = x} Reach.start = max-high x (highestMet ds (x +ℤ d)) .0

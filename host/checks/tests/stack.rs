@@ -11,7 +11,9 @@ fn bound(function: &str) -> usize {
         }
         "rq_pile_fresh" | "rq_pile_empty" | "rq_pile_query" | "rq_loose_query" => 200,
         // As bytes every call but a close stays small: a close must not become a part of the function that reads the bytes.
-        "rq_call" | "rq_compare" => 300,
+        "rq_call" => 300,
+        // A byte for the first column and one for the end of each row of two polygons.
+        "rq_compare" => 1_700,
         "rq_pile_check" => 600,
         // What tests an outline has one bit for each corner, 8,192 bytes.
         "rq_test" | "rq_pile_set" => 8_600,

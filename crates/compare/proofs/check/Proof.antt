@@ -1,6 +1,6 @@
 -- Each return is a case of the definition; past refusal 10 the list is short enough for 16 to be said of it.
 use mathlib.Core.Path.{_≡_, sym, _∙_}
-use mathlib.Core.Bool.{true, false}
+use mathlib.Core.Bool.{false}
 use borrow.Author.Tests.{not-true, not-false}
 use Rattle.turning.specs.Turning.{badTurning}
 use Rattle.polygon.specs.Loose.{badList, badCell}

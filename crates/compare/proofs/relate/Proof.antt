@@ -3,7 +3,7 @@ use mathlib.Core.Path.{_≡_, sym, ap, _∙_}
 use Rattle.chart.specs.declared.Comparison.the-variants.{Found}
 use Rattle.compare.specs.declared.Checked.the-variants.{Fit}
 use Rattle.compare.specs.Compared.{checkedOf}
-use Rattle.compare.proofs.Cases.{fit-sound, compared-first, compared-second, compared-found}
+use Rattle.compare.proofs.Cases.{fit-passes, compared-first, compared-second, compared-found}
 use Rattle.compare.proofs.Words.{answer-named}
 use borrow.Author.Needs.{needs}
 use Rattle.compare.proofs.relate.Statement.{statement}
@@ -36,7 +36,7 @@ enum-told-2 : tie.Need-enum-told-2
 enum-told-2 c = search needs
 
 nest-requires : tie.Need-nest-requires
-nest-requires c κs = (fit-sound _ _ (first-fit (c .before .before .before)), fit-sound _ _ (second-fit c))
+nest-requires c κs = (fit-passes _ _ (first-fit (c .before .before .before)), fit-passes _ _ (second-fit c))
 
 returns : tie.Need-returns
 returns c = answer-named _ _ _ _ _ (compared-first _ _ _ _ _ (sym (c .before .refusal .given .1) ∙ c .before .before .before .check .ensures))

@@ -1,0 +1,3 @@
+-- The columns of each row by one walk along the edges; two polygons compared row by row.
+pub mod Sweep
+pub mod Tests
