@@ -1,9 +1,7 @@
--- The cut and its code; back-steps; edges, words and dents; the judgement.
-pub mod Buffer
-pub mod CutLaws
-pub mod BackStepLaws
-pub mod FrameSizes
-pub mod WordLaws
-pub mod DentLaws
-pub mod PieceLaws
-pub mod JudgedLaws
+-- Directions by the machine's tests; what is still to be written, one edge further.
+pub mod Directions
+pub mod Remainders
+pub mod Writing
+pub mod RestLaws
+pub mod Building
+pub mod TraceLaws

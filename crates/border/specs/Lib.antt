@@ -1,7 +1,2 @@
--- The judgement of an outline; then what the functions of src/ promise of their parts.
-pub mod Judged
-pub mod Turning
-pub mod Cutting
-pub mod BackSteps
-pub mod Edge
-pub mod Dents
+-- What is still to be written, and what writing does to a list.
+pub mod parts

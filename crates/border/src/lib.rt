@@ -1,180 +1,113 @@
-// The border of an outline, cut in four and read as edges: refusals 8 and 9 behind the survey's 1 to 6.
-use crate::back_steps::BackStep;
-use crate::cut::Turn;
-use crate::dents::Factored;
+// The border written back from an anchor and edges (contract 6.3): the letters are built in a list of their own, tested, and lent.
+use border_model::Traced;
 use chart::LONGEST;
 use chart::MOST_NUMBERS;
 use chart::Point;
 use chart::Refusal;
 use chart::Verdict;
-use survey::Corners;
-use survey::Surveyed;
-ghost use Prim.Native.Nat.{_*_, _≤_, _<_};
+use equality::same_numbers;
+use equality::same_point;
+use polygon::bad_cell;
+use polygon::bad_directions;
+use polygon::bad_list;
+ghost use Prim.Native.Nat.{_+_, _≤_};
 ghost use mathlib.Core.Path.{_≡_};
 ghost use mathlib.Core.Bool.{false};
 ghost use mathlib.Core.List.{_++_};
 ghost use lib.ListN.{length, take, drop};
-ghost use lib.Dec.{ltb};
-ghost use Rattle.chart.specs.Limits.{longest};
+ghost use Rattle.chart.specs.Limits.{longestList};
 ghost use Rattle.chart.specs.Outline.{outline};
-ghost use Rattle.lattice.specs.Refusals.{Simple};
-ghost use Rattle.convexity.specs.Pieces.{backStepPiece};
-ghost use Rattle.survey.specs.Survey.{cornersOf};
-ghost use Rattle.verdict.specs.Verdict.{verdictOf, edgesAfter};
-ghost use Rattle.border.specs.Turning.{ReadAs, dentAs};
-ghost use Rattle.border.specs.Judged.{Lent, SaidOfTurn, SaidOfBorder, judgedOf};
+ghost use Rattle.convexity.specs.FromEdges.{stepCount};
+ghost use Rattle.directions.specs.Increasing.{badDirections};
+ghost use Rattle.polygon.specs.Loose.{badList, badCell};
+ghost use Rattle.border_model.specs.Outlined.{takenAs};
+ghost use Rattle.border_model.specs.Traced.{tracedOf, tracedFields, lettersAfter};
+ghost use Rattle.border_model.specs.Named.{BorderNamed, Answers};
 
-mod back_steps;
-mod cut;
-mod dents;
-mod edge;
-mod frame;
+mod direction;
+mod writer;
 
-// Copies the first n numbers of a list to the lent one.
-fn copy_edges(list: &[i16], n: usize, lent: &mut [i16])
-    requires { ⌜ (n ≤ length (now list)) × (n ≤ length (now lent)) ⌝ }
-    ensures { λ _. ⌜ now (lent .exit) ≡ take n (now (list .entry)) ++ drop n (now (lent .entry)) ⌝ }
+// How many letters the edges write: one for each column and row, and the first of each piece.
+fn count(edges: &[i16]) -> usize
+    requires { ⌜ length (now edges) ≤ longestList ⌝ }
+    ensures { λ r. ⌜ r ≡ 4 + stepCount (now (edges .entry)) ⌝ }
+{
+    let mut letters = 4;
+    let mut i = 0;
+    while i + 1 < edges.len() {
+        let dx = edges[i];
+        let dy = edges[i + 1];
+        letters += direction::size(dx) + direction::size(dy);
+        i += 2;
+    }
+    letters
+}
+
+// The letters, begun at the anchor's corner, are an outline that is taken with this anchor and these edges.
+fn taken_as(anchor: Point, letters: &[u8], edges: &[i16]) -> bool
+    ensures { λ r. ⌜ r ≡ takenAs (outline anchor (now (letters .entry))) anchor (now (edges .entry)) ⌝ }
+{
+    let mut numbers = [0i16; MOST_NUMBERS];
+    let verdict = outline::test(anchor, letters, &mut numbers);
+    match verdict {
+        Verdict::Refused(_) => false,
+        Verdict::Taken {
+            edges: count,
+            anchor: found,
+        } => {
+            let n = 2 * (count as usize);
+            same_point(found, anchor) && same_numbers(&numbers[..n], edges)
+        }
+    }
+}
+
+// Copies the first n letters of a list to the front of the lent one.
+fn copy(list: &[u8], n: usize, letters: &mut [u8])
+    requires { ⌜ (n ≤ length (now list)) × (n ≤ length (now letters)) ⌝ }
+    ensures { λ _. ⌜ now (letters .exit) ≡ take n (now (list .entry)) ++ drop n (now (letters .entry)) ⌝ }
 {
     let mut i = 0;
     while i < n {
-        let number = list[i];
-        lent[i] = number;
+        letters[i] = list[i];
         i += 1;
     }
 }
 
-// Lends the first n numbers of a list where there is room for them.
-fn lend(list: &[i16], n: usize, lent: &mut [i16])
-    requires { ⌜ n ≤ length (now list) ⌝ }
-    ensures { λ _. ⌜ Lent (take n (now (list .entry))) n (now (lent .entry)) (now (lent .exit)) ⌝ }
+// 17 and 18, of edges that pass 10, 11 and 16, or the letters.
+fn trace(anchor: Point, edges: &[i16], letters: &mut [u8]) -> Traced
+    requires { ⌜ (badList (now edges) ≡ false) × (badCell anchor ≡ false) × (badDirections (now edges) ≡ false) ⌝ }
+    ensures { λ t. ⌜ Answers anchor (now (edges .entry)) (now (letters .entry)) (now (letters .exit)) t ⌝ }
 {
-    if n <= lent.len() {
-        copy_edges(list, n, lent);
+    let n = count(edges);
+    if LONGEST < n {
+        return Traced::NoOutline;
     }
-}
-
-// 9: the dent of `length` letters that stands `at` letters from W on in a piece, counted from 0.
-fn dent(turn: Turn, letters: &[u8], piece: usize, at: usize, length: usize) -> Refusal
-    requires { ⌜ ReadAs turn (outline (turn .west) (now letters)) ⌝ }
-    requires { ⌜ (piece < 4) × (at ≤ 4 * longest) × (length ≤ 4 * longest) ⌝ }
-    ensures { λ r. ⌜ r ≡ dentAs (turn .forward) (turn .place) (outline (turn .west) (now (letters .entry))) piece at length ⌝ }
-{
-    let place = cut::sent(letters.len(), turn.place, turn.forward, at);
-    Refusal::Dent {
-        piece: (piece + 1) as u16,
-        place: place as u16,
-        length: length as u16,
-        cell: rows::missing_cell(turn.west, letters, turn.bottom, turn.top),
+    let mut list = [0u8; LONGEST];
+    writer::build(edges, &mut list);
+    if !taken_as(anchor, &list[..n], edges) {
+        return Traced::NoOutline;
     }
-}
-
-// 9, of a turn without back-steps, or the edges.
-fn edges(turn: Turn, letters: &[u8], lent: &mut [i16]) -> Verdict
-    requires { ⌜ ReadAs turn (outline (turn .west) (now letters)) ⌝ }
-    requires { ⌜ ltb (backStepPiece (outline (turn .west) (now letters))) 4 ≡ false ⌝ }
-    ensures { λ r. ⌜ SaidOfTurn (turn .forward) (turn .place) (outline (turn .west) (now (letters .entry))) (now (lent .entry)) (now (lent .exit)) r ⌝ }
-{
-    let mut numbers = [0i16; MOST_NUMBERS];
-    let factored = dents::read(turn, letters, &mut numbers);
-    let anchor = turn.west;
-    match factored {
-        Factored::Dent { piece, at, length } => {
-            Verdict::Refused(dent(turn, letters, piece, at, length))
-        }
-        Factored::Edges { edges } => {
-            lend(&numbers, 2 * edges, lent);
-            Verdict::Taken {
-                edges: edges as u16,
-                anchor,
-            }
-        }
+    if letters.len() < n {
+        return Traced::NoRoom;
     }
+    copy(&list, n, letters);
+    Traced::Written { letters: n as u16 }
 }
 
-// 8 and 9, of a clockwise turn, or the edges.
-fn pieces(turn: Turn, letters: &[u8], lent: &mut [i16]) -> Verdict
-    requires { ⌜ ReadAs turn (outline (turn .west) (now letters)) ⌝ }
-    ensures { λ r. ⌜ SaidOfTurn (turn .forward) (turn .place) (outline (turn .west) (now (letters .entry))) (now (lent .entry)) (now (lent .exit)) r ⌝ }
+// The border: the clockwise letters from W on of the outline that has this anchor and these edges, and how many they are.
+pub fn border(anchor: Point, edges: &[i16], letters: &mut [u8]) -> Traced
+    ensures answer { λ t. ⌜ t ≡ tracedOf anchor (now (edges .entry)) (length (now (letters .entry))) ⌝ }
+    ensures letters { λ t. ⌜ now (letters .exit) ≡ lettersAfter anchor (now (edges .entry)) (now (letters .entry)) ⌝ }
+    ensures outline { λ t. ⌜ BorderNamed anchor (now (edges .entry)) (tracedFields t) (now (letters .exit)) ⌝ }
 {
-    let found = back_steps::first(turn, letters);
-    match found {
-        BackStep::At { piece, at } => {
-            let place = cut::sent(letters.len(), turn.place, turn.forward, at);
-            Verdict::Refused(Refusal::BackStep {
-                piece: (piece + 1) as u16,
-                place: place as u16,
-            })
-        }
-        BackStep::None => edges(turn, letters, lent),
+    if bad_list(edges) {
+        return Traced::Refused(Refusal::List);
     }
-}
-
-// 8 and 9, of an outline that passes 1 to 6, with its corners, or the edges: its letters are read once round from W on into a buffer, clockwise.
-fn read(start: Point, letters: &[u8], found: Corners, lent: &mut [i16]) -> Verdict
-    requires { ⌜ Simple (outline start (now letters)) ⌝ }
-    requires { ⌜ found ≡ cornersOf (outline start (now letters)) ⌝ }
-    ensures { λ r. ⌜ SaidOfBorder (outline start (now (letters .entry))) (now (lent .entry)) (now (lent .exit)) r ⌝ }
-{
-    let count = letters.len();
-    let cuts = cuts::cut_places(letters, found);
-    let forward = cuts.forward;
-    let at = cuts.at;
-    let west = found.corner;
-    let place = cut::read_place(count, found.west, forward);
-    let mut buffer = [0u8; LONGEST];
-    cut::fill_turn(letters, found.west, forward, &mut buffer);
-    let turn = Turn {
-        forward,
-        place,
-        west,
-        bottom: found.bottom,
-        top: found.top,
-        at,
-    };
-    pieces(turn, &buffer[..count], lent)
-}
-
-// The first of refusals 1 to 9 that applies, or the edges (contract 5 and 3.12), which stand first in a lent list with room for them. The list is
-// unaltered where there is none, and where the outline is refused.
-pub fn judge(start: Point, letters: &[u8], lent: &mut [i16]) -> Verdict
-    ensures { λ r. ⌜ r ≡ verdictOf (outline start (now (letters .entry))) ⌝ }
-    ensures { λ r. ⌜ now (lent .exit) ≡ edgesAfter (outline start (now (letters .entry))) (now (lent .entry)) ⌝ }
-{
-    let surveyed = survey::survey(start, letters);
-    match surveyed {
-        Surveyed::Refused(why) => Verdict::Refused(why),
-        Surveyed::Passed(found) => read(start, letters, found, lent),
+    if bad_cell(anchor) {
+        return Traced::Refused(Refusal::Cell);
     }
-}
-
-// The judgement alone, where no edges are asked for.
-pub fn verdict_of(start: Point, letters: &[u8]) -> Verdict
-    ensures { λ r. ⌜ r ≡ verdictOf (outline start (now (letters .entry))) ⌝ }
-{
-    let surveyed = survey::survey(start, letters);
-    match surveyed {
-        Surveyed::Refused(why) => Verdict::Refused(why),
-        Surveyed::Passed(found) => {
-            let mut none = [0i16; 0];
-            read(start, letters, found, &mut none)
-        }
+    if bad_directions(edges) {
+        return Traced::Refused(Refusal::Directions);
     }
-}
-
-// What is said of an outline by refusals 1 to 9, and its edges, two numbers an edge and then zeros: all zeros where it is refused.
-pub struct Judged {
-    pub verdict: Verdict,
-    pub numbers: [i16; MOST_NUMBERS],
-}
-
-// The judgement as a value.
-pub fn judgement(start: Point, letters: &[u8]) -> Judged
-    ensures { λ r. ⌜ r ≡ judgedOf (outline start (now (letters .entry))) ⌝ }
-{
-    let mut list = [0i16; MOST_NUMBERS];
-    let verdict = judge(start, letters, &mut list);
-    Judged {
-        verdict,
-        numbers: list,
-    }
+    trace(anchor, edges, letters)
 }

@@ -7,7 +7,7 @@ use lib.Dec.{leb}
 use Rattle.chart.specs.declared.Point.{Point}
 use Rattle.chart.specs.declared.Fields.{Fields}
 use Rattle.chart.specs.declared.Refusal.{Refusal}
-use Rattle.chart.specs.declared.Refusal.the-variants.{Count, Start, Letter, Leaves, Unclosed, Touches, BackStep, Dent, Room, List as BadList, Cell, Turning}
+use Rattle.chart.specs.declared.Refusal.the-variants.{Count, Start, Letter, Leaves, Unclosed, Touches, BackStep, Dent, Room, List as BadList, Cell, Directions}
 use Rattle.chart.specs.declared.Verdict.{Verdict}
 use Rattle.chart.specs.declared.Verdict.the-variants.{Taken, Refused}
 use Rattle.chart.specs.declared.Position.{Position}
@@ -77,7 +77,7 @@ refusalFields (Dent k p l x) = record { number = 9; word = no-word; place = p; p
 refusalFields (Room e) = placed 10 e
 refusalFields BadList = numbered 10
 refusalFields Cell = numbered 11
-refusalFields Turning = numbered 16
+refusalFields Directions = numbered 16
 
 abbrev pub verdictFields : Verdict → Fields
 verdictFields (Taken e a) = accepted no-word e a
@@ -114,4 +114,4 @@ fieldsOf l =
 
 -- A lent list after a reply: the seven numbers stand first and the rest is unaltered; where there is no room for seven, all of it is
 unfoldable pub replyAfter : Fields → List ℕ → List ℕ
-replyAfter f lent = cond (leb 7 (length lent)) (numbersOf f ++ drop 7 lent) lent
+replyAfter f buffer = cond (leb 7 (length buffer)) (numbersOf f ++ drop 7 buffer) buffer

@@ -63,7 +63,7 @@ pub enum Refusal {
     // 11. A cell number above 254.
     Cell,
     // 16. The edges do not lead once round clockwise.
-    Turning,
+    Directions,
 }
 
 // What is said of an outline.

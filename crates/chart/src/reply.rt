@@ -94,7 +94,7 @@ pub fn of_refusal(f: Refusal) -> Fields
         Refusal::Room { edges } => placed(10, edges),
         Refusal::List => numbered(10),
         Refusal::Cell => numbered(11),
-        Refusal::Turning => numbered(16),
+        Refusal::Directions => numbered(16),
     }
 }
 

@@ -17,14 +17,14 @@ use Rattle.lattice.proofs.WalkLaws.{point, walked, corner-zero, corner-suc, len
 use Rattle.lattice.proofs.Jumps.{downsAt, ups-jump-vertical, downs-jump-vertical, downs-found}
 use Rattle.lattice.proofs.RightHand.{level}
 use Rattle.rows.proofs.Rows.{Rows}
-use Rattle.convexity.specs.Cut.{turn, westPlace}
-use Rattle.convexity.specs.Reading.{reading, border, block}
-use Rattle.convexity.specs.Shape.{Turn}
-use Rattle.convexity.proofs.Extreme.{turn-of}
-use Rattle.convexity.proofs.Reading.{simple-reading, clockwise-reading, length-reading, west-first}
-use Rattle.convexity.proofs.AsSent.{block-turn}
+use Rattle.convexity.specs.Cut.{fromW, westPlace}
+use Rattle.convexity.specs.Clockwise.{clockwiseForm, border, block}
+use Rattle.convexity.specs.Shape.{WalkFromW}
+use Rattle.convexity.proofs.Extreme.{from-w-of}
+use Rattle.convexity.proofs.Clockwise.{simple-form, clockwise-form, length-form, west-first}
+use Rattle.convexity.proofs.AsSent.{block-from-w}
 use Rattle.convexity.proofs.SameBlock.{open-right}
-use Rattle.convexity.proofs.Levels.{enclosed-level, level-enclosed, up-counted, turn-lowest, leaves-upwards, left-of-anchor}
+use Rattle.convexity.proofs.Levels.{enclosed-level, level-enclosed, up-counted, from-w-lowest, leaves-upwards, left-of-anchor}
 use Rattle.completion.specs.Runs.{outlineOf}
 use Rattle.completion.specs.HullRows.{hullLeft, hullRight}
 use Rattle.completion.proofs.HullRows.{left-hull, beyond-lines, left-at-most, hull-rows, Ends, hull-iff}
@@ -92,7 +92,7 @@ module _ (lo hi : ℕ → ℕ) (b t : ℕ) (rows : Rows lo hi b t) where
 
 -- ---- corners of a walk around the cells that it encloses
 
-module _ (o : Outline) (h : Turn o) (up : letterAt o 0 ≡ 1) where
+module _ (o : Outline) (h : WalkFromW o) (up : letterAt o 0 ≡ 1) where
   -- Right of an enclosed cell
   right-from : (d c r : ℕ) → c + d ≡ side → encloses o c r ≡ true → (i : ℕ) × (i < size o) × (c < cornerAt o i .col)
   right-from zero c r e m = absurd (true≢false (sym m ∙ open-right o (h .walked) c r (omega arith)))
@@ -112,7 +112,7 @@ module _ (o : Outline) (h : Turn o) (up : letterAt o 0 ≡ 1) where
                 let (i, l, _, q) = downs-found o (suc c) (suc r) k in
                 (i, l, omega (arith, ap (λ (p : Point). p .col) q))
             | no k ↦
-                elim (level o (h .walked) 0 (turn-lowest o h) up (suc (suc c)) (suc r)) [
+                elim (level o (h .walked) 0 (from-w-lowest o h) up (suc (suc c)) (suc r)) [
                   | inl z ↦ absurd (omega arith)
                   | inr z ↦ absurd (true≢false (sym (level-enclosed o (point (suc c) r) z) ∙ f))
                 ]
@@ -136,12 +136,12 @@ module _ (o : Outline) (h : Turn o) (up : letterAt o 0 ≡ 1) where
   below-cell c r m = let (i, (l, _), _, d) = up-counted o c r m in (i, omega arith, d)
 
 pub length-border : (o : Outline) → Simple o → size (border o) ≡ size o
-unfolding turn
+unfolding fromW
 length-border o h =
-    let v = reading o in
+    let v = clockwiseForm o in
     let k = westPlace v in
-    let l = west-first v (walked v (simple-reading o h)) .below in
-    length-rotation v k (omega arith) ∙ length-reading o
+    let l = west-first v (walked v (simple-form o h)) .below in
+    length-rotation v k (omega arith) ∙ length-form o
 
 -- ---- an outline and the outline round its hull
 
@@ -170,14 +170,14 @@ module _ (o : Outline) (h : Simple o) (lo hi : ℕ → ℕ) (b t : ℕ) (e : End
   abbrev v : Outline
   v = border o
 
-  is-turn : Turn (border o)
-  is-turn = turn-of (reading o) (simple-reading o h)
+  is-from-w : WalkFromW (border o)
+  is-from-w = from-w-of (clockwiseForm o) (simple-form o h)
 
   is-up : letterAt (border o) 0 ≡ 1
-  is-up = leaves-upwards (border o) (clockwise-reading o h)
+  is-up = leaves-upwards (border o) (clockwise-form o h)
 
   encl : (c r : ℕ) → block o c r ≡ true → encloses (border o) c r ≡ true
-  encl c r m = block-turn o h c r ∙ m
+  encl c r m = block-from-w o h c r ∙ m
 
   abbrev wide : Rows (hullLeft lo b t) (hullRight hi b t) b t
   wide = hull-rows lo hi b t (e .rows)
@@ -193,7 +193,7 @@ module _ (o : Outline) (h : Simple o) (lo hi : ℕ → ℕ) (b t : ℕ) (e : End
       cell y m =
           elim (decLe (border o .start .col) (y .col)) [
             | yes l ↦ l
-            | no l ↦ absurd (true≢false (sym (encl (y .col) (y .row) m) ∙ left-of-anchor (border o) is-turn (y .col) (y .row) (omega arith)))
+            | no l ↦ absurd (true≢false (sym (encl (y .col) (y .row) m) ∙ left-of-anchor (border o) is-from-w (y .col) (y .row) (omega arith)))
           ]
 
   hull-at : (c r : ℕ) → b ≤ r → r < t → hullLeft lo b t r ≤ c → c < hullRight hi b t r → InHull (block o) (point c r)
@@ -203,17 +203,17 @@ module _ (o : Outline) (h : Simple o) (lo hi : ℕ → ℕ) (b t : ℕ) (e : End
   corner-right : (c r : ℕ) → InHull (block o) (point c r) → (i : ℕ) × (i ≤ size (border o)) × (suc c ≤ cornerAt (border o) i .col)
   corner-right c r k =
       let (y, m, far) = furthest-right (block o) (point c r) k in
-      let (i, l, right) = right-of-cell (border o) is-turn is-up (y .col) (y .row) (encl (y .col) (y .row) m) in
+      let (i, l, right) = right-of-cell (border o) is-from-w is-up (y .col) (y .row) (encl (y .col) (y .row) m) in
       (i, omega arith, omega arith)
 
   corner-left : (c r : ℕ) → InHull (block o) (point c r) → cornerAt (border o) 0 .col ≤ c
   corner-left c r k = rw corner-zero (not-left (point c r) k)
 
   corner-low : b < t → (i : ℕ) × (i ≤ size (border o)) × (cornerAt (border o) i .row ≡ b)
-  corner-low l = below-cell (border o) is-turn is-up (lo b) b (encl (lo b) b (e .first b (omega arith) l))
+  corner-low l = below-cell (border o) is-from-w is-up (lo b) b (encl (lo b) b (e .first b (omega arith) l))
 
   corner-high : b < t → (i : ℕ) × (i ≤ size (border o)) × (cornerAt (border o) i .row ≡ suc (pred t))
-  corner-high l = above-cell (border o) is-turn is-up (lo (pred t)) (pred t) (encl (lo (pred t)) (pred t) (e .first (pred t) (omega arith) (omega arith)))
+  corner-high l = above-cell (border o) is-from-w is-up (lo (pred t)) (pred t) (encl (lo (pred t)) (pred t) (e .first (pred t) (omega arith) (omega arith)))
 
   pub hull-shorter : size (outlineOf (hullLeft lo b t) (hullRight hi b t) b t) ≤ size o
   hull-shorter =
@@ -227,7 +227,7 @@ module _ (o : Outline) (h : Simple o) (lo hi : ℕ → ℕ) (b t : ℕ) (e : End
       sums l (omega arith) (hull-letters lo hi b t (e .rows) m n)
       (corner-left (hullLeft lo b t (m .at)) (m .at) (hull-at _ (m .at) (m .low) (m .high) (omega arith) (wide .full (m .at) (m .low) (m .high))))
       right low high
-      (perimeter (border o) (is-turn .walked .closed) 0 j k i (omega arith) j-le k-le i-le)
+      (perimeter (border o) (is-from-w .walked .closed) 0 j k i (omega arith) j-le k-le i-le)
       (length-border o h)
     where
       sums :

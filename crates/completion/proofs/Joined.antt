@@ -15,12 +15,12 @@ use Rattle.lattice.specs.Refusals.{Simple}
 use Rattle.lattice.specs.Walked.{Walked}
 use Rattle.lattice.proofs.WalkLaws.{point, point-eq, corner-zero, corner-suc, corner-all}
 use Rattle.lattice.proofs.RightHand.{rightOf, leftOf, cornerOf, no-back, clockwise-left-turn}
-use Rattle.convexity.specs.Reading.{reading, border, block}
-use Rattle.convexity.specs.Shape.{Turn}
-use Rattle.convexity.proofs.Extreme.{turn-of}
-use Rattle.convexity.proofs.Reading.{simple-reading, clockwise-reading}
-use Rattle.convexity.proofs.AsSent.{block-turn}
-use Rattle.convexity.proofs.Levels.{In, level-enclosed, up-counted, up-marked, turn-lowest, leaves-upwards}
+use Rattle.convexity.specs.Clockwise.{clockwiseForm, border, block}
+use Rattle.convexity.specs.Shape.{WalkFromW}
+use Rattle.convexity.proofs.Extreme.{from-w-of}
+use Rattle.convexity.proofs.Clockwise.{simple-form, clockwise-form}
+use Rattle.convexity.proofs.AsSent.{block-from-w}
+use Rattle.convexity.proofs.Levels.{In, level-enclosed, up-counted, up-marked, from-w-lowest, leaves-upwards}
 
 -- Rows r and r + 1 have a marked cell in the same column
 pub record Shared (marked : ℕ → ℕ → Bool) (r : ℕ) : Type 0 where
@@ -35,7 +35,7 @@ four (suc (suc zero)) l = inr (inr (inl refl))
 four (suc (suc (suc zero))) l = inr (inr (inr refl))
 four (suc (suc (suc (suc a)))) l = absurd (omega arith)
 
-module _ (o : Outline) (h : Turn o) (up : letterAt o 0 ≡ 1) (r : ℕ) where
+module _ (o : Outline) (h : WalkFromW o) (up : letterAt o 0 ≡ 1) (r : ℕ) where
   abbrev w : Walked o
   w = h .walked
 
@@ -64,7 +64,7 @@ module _ (o : Outline) (h : Turn o) (up : letterAt o 0 ≡ 1) (r : ℕ) where
       → cornerOf (cornerAt o i) a ≡ point (suc c) (suc s) → encloses o c s ≡ true
   ahead i j a c s l m e f g d =
       level-enclosed o (point c s)
-      (subst (In o) (ap (cornerOf (cornerAt o i)) f ∙ d) (clockwise-left-turn o w 0 (turn-lowest o h) up i j l m e g))
+      (subst (In o) (ap (cornerOf (cornerAt o i)) f ∙ d) (clockwise-left-turn o w 0 (from-w-lowest o h) up i j l m e g))
 
   -- The cell right of an up
   beside : (i c s : ℕ) → i < size o → letterAt o i ≡ 1 → cornerAt o i ≡ point c s → encloses o c s ≡ true
@@ -171,10 +171,10 @@ module _ (o : Outline) (h : Turn o) (up : letterAt o 0 ≡ 1) (r : ℕ) where
 pub joined :
     (o : Outline) → Simple o → (r c₁ r₁ c₂ r₂ : ℕ) → block o c₁ r₁ ≡ true → r₁ ≤ r → block o c₂ r₂ ≡ true → r < r₂ → Shared (block o) r
 joined o h r c₁ r₁ c₂ r₂ e l f m =
-    let s = shared (border o) (turn-of (reading o) (simple-reading o h)) (leaves-upwards (border o) (clockwise-reading o h)) r c₁ r₁ c₂ r₂
-    (block-turn o h c₁ r₁ ∙ e) l (block-turn o h c₂ r₂ ∙ f) m in
+    let s = shared (border o) (from-w-of (clockwiseForm o) (simple-form o h)) (leaves-upwards (border o) (clockwise-form o h)) r c₁ r₁ c₂ r₂
+    (block-from-w o h c₁ r₁ ∙ e) l (block-from-w o h c₂ r₂ ∙ f) m in
     record {
       column = s .column;
-      lower = sym (block-turn o h (s .column) r) ∙ s .lower;
-      upper = sym (block-turn o h (s .column) (suc r)) ∙ s .upper;
+      lower = sym (block-from-w o h (s .column) r) ∙ s .lower;
+      upper = sym (block-from-w o h (s .column) (suc r)) ∙ s .upper;
     }

@@ -21,13 +21,13 @@ use Rattle.lattice.proofs.WalkLaws.{point, walked, corner-suc, SameCorners, out
 use Rattle.lattice.proofs.Jumps.{upsTo, downsTo, upsAt, downsAt, ups-jump-vertical, downs-jump-vertical, ups-column-zero, downs-column-zero, ups-row-zero, ups-found, downs-found, next}
 use Rattle.lattice.proofs.RightHand.{rightOf, leftOf, Lowest, level, clockwise-right}
 use Rattle.convexity.specs.Cut.{westPlace}
-use Rattle.convexity.specs.Reading.{opposite, reversed, reading, border, block}
-use Rattle.convexity.proofs.Reading.{length-backward, letter-backward, corner-backward, backward-corners, backward-backward, simple-backward, simple-reading, clockwise-reading, by-reading, west-first, leaving-west}
+use Rattle.convexity.specs.Clockwise.{opposite, reversed, clockwiseForm, border, block}
+use Rattle.convexity.proofs.Clockwise.{length-backward, letter-backward, corner-backward, backward-corners, backward-backward, simple-backward, simple-form, clockwise-form, by-reading, west-first, leaving-west}
 use Rattle.convexity.proofs.Levels.{In, tested, enclosed-level, level-enclosed, up-counted, first-lowest, leaves-upwards}
 use Rattle.completion.specs.Runs.{outlineOf}
 use Rattle.completion.specs.HullRows.{hullLeft, hullRight}
 use Rattle.completion.specs.Complete.{firstCell, pastCell, firstRow, pastRow, hullOutline, complete}
-use Rattle.completion.specs.Sides.{alongRow, firstSide, lastSide, lowestCorner, highestCorner, completeBySides}
+use Rattle.completion.specs.parts.Sides.{alongRow, firstSide, lastSide, lowestCorner, highestCorner, completeBySides}
 use Rattle.completion.proofs.Folds.{Met, least-is, greatest-is}
 use Rattle.completion.proofs.BlockEnds.{JoinedUp, block-joined, row-after, row-before, bottom-cell, top-cell, cell-after, cell-before}
 
@@ -112,50 +112,50 @@ module _ (o : Outline) (h : Simple o) (r c : ℕ) where
       side-forward (reversed o) (simple-backward o h) r c
       (subst (λ (w : Outline). Side w r c) (sym (outline-eq (reversed (reversed o)) o refl (backward-backward o h))) m)
 
-  pub side-sent : Side (reading o) r c → Side o r c
+  pub side-sent : Side (clockwiseForm o) r c → Side o r c
   side-sent = by-reading o (λ v. Side v r c → Side o r c) (λ e m. m) (λ e. side-forward o h r c)
 
-  pub side-read : Side o r c → Side (reading o) r c
+  pub side-read : Side o r c → Side (clockwiseForm o) r c
   side-read m = by-reading o (λ v. Side v r c) (λ e. m) (λ e. side-backward m)
 
 -- ---- the clockwise reading
 
 module _ (o : Outline) (h : Simple o) where
   abbrev v : Outline
-  v = reading o
+  v = clockwiseForm o
 
-  w : Walked (reading o)
-  w = walked (reading o) (simple-reading o h)
+  w : Walked (clockwiseForm o)
+  w = walked (clockwiseForm o) (simple-form o h)
 
   joined-up : JoinedUp (block o)
   joined-up = block-joined o h
 
-  lowest : Lowest (reading o) (westPlace (reading o))
-  lowest = first-lowest (reading o) (westPlace (reading o)) (west-first (reading o) w)
+  lowest : Lowest (clockwiseForm o) (westPlace (clockwiseForm o))
+  lowest = first-lowest (clockwiseForm o) (westPlace (clockwiseForm o)) (west-first (clockwiseForm o) w)
 
-  up : letterAt (reading o) (westPlace (reading o)) ≡ 1
-  up = sym (leaving-west (reading o) w) ∙ leaves-upwards (border o) (clockwise-reading o h)
+  up : letterAt (clockwiseForm o) (westPlace (clockwiseForm o)) ≡ 1
+  up = sym (leaving-west (clockwiseForm o) w) ∙ leaves-upwards (border o) (clockwise-form o h)
 
   -- A point of level 1 stands for a cell of the block
-  cell-of : (q : Point) → In (reading o) q → (c : ℕ) × (r : ℕ) × (q .col ≡ suc c) × (q .row ≡ suc r) × (block o c r ≡ true)
+  cell-of : (q : Point) → In (clockwiseForm o) q → (c : ℕ) × (r : ℕ) × (q .col ≡ suc c) × (q .row ≡ suc r) × (block o c r ≡ true)
   cell-of q e = go (q .col) (q .row) refl refl e
     where
-      go : (x y : ℕ) → q .col ≡ x → q .row ≡ y → upsTo (reading o) x y ≡ downsTo (reading o) x y + 1 → (c : ℕ) × (r : ℕ) × (q .col ≡ suc c) × (q .row ≡ suc r) × (block o c r ≡ true)
-      go zero y f g d = absurd (omega (arith, ups-column-zero (reading o) y))
-      go (suc x) zero f g d = absurd (omega (arith, ups-row-zero (reading o) (suc x)))
-      go (suc x) (suc y) f g d = (x, y, f, g, level-enclosed (reading o) (point x y) d)
+      go : (x y : ℕ) → q .col ≡ x → q .row ≡ y → upsTo (clockwiseForm o) x y ≡ downsTo (clockwiseForm o) x y + 1 → (c : ℕ) × (r : ℕ) × (q .col ≡ suc c) × (q .row ≡ suc r) × (block o c r ≡ true)
+      go zero y f g d = absurd (omega (arith, ups-column-zero (clockwiseForm o) y))
+      go (suc x) zero f g d = absurd (omega (arith, ups-row-zero (clockwiseForm o) (suc x)))
+      go (suc x) (suc y) f g d = (x, y, f, g, level-enclosed (clockwiseForm o) (point x y) d)
 
-  right-cell : (i : ℕ) → i < size (reading o) → (c : ℕ) × (r : ℕ) × (rightOf (cornerAt (reading o) i) (letterAt (reading o) i) .col ≡ suc c) × (rightOf (cornerAt (reading o) i) (letterAt (reading o) i) .row ≡ suc r) × (block o c r ≡ true)
-  right-cell i l = cell-of (rightOf (cornerAt (reading o) i) (letterAt (reading o) i)) (clockwise-right (reading o) w (westPlace (reading o)) lowest up i l)
+  right-cell : (i : ℕ) → i < size (clockwiseForm o) → (c : ℕ) × (r : ℕ) × (rightOf (cornerAt (clockwiseForm o) i) (letterAt (clockwiseForm o) i) .col ≡ suc c) × (rightOf (cornerAt (clockwiseForm o) i) (letterAt (clockwiseForm o) i) .row ≡ suc r) × (block o c r ≡ true)
+  right-cell i l = cell-of (rightOf (cornerAt (clockwiseForm o) i) (letterAt (clockwiseForm o) i)) (clockwise-right (clockwiseForm o) w (westPlace (clockwiseForm o)) lowest up i l)
 
   -- A side has the block's cell to its right if it runs up, and to its left if it runs down
-  side-cell : (r c : ℕ) → Side (reading o) r c → (d : ℕ) × (block o d r ≡ true) × (d ≤ c) × (c ≤ suc d)
+  side-cell : (r c : ℕ) → Side (clockwiseForm o) r c → (d : ℕ) × (block o d r ≡ true) × (d ≤ c) × (c ≤ suc d)
   unfolding rightOf leftOf
   side-cell r c m =
       let i = m .place in
-      let p = cornerAt (reading o) i in
+      let p = cornerAt (clockwiseForm o) i in
       let (d, s, e, f, g) = right-cell i (m .below) in
-      elim (along-cases r p (letterAt (reading o) i) (m .passes)) [
+      elim (along-cases r p (letterAt (clockwiseForm o) i) (m .passes)) [
         | inl (a, q) ↦
             let x : suc (p .col) ≡ suc d = sym (ap (λ (b : ℕ). rightOf p b .col) a) ∙ e in
             let y : suc (p .row) ≡ suc s = sym (ap (λ (b : ℕ). rightOf p b .row) a) ∙ f in
@@ -179,56 +179,56 @@ module _ (o : Outline) (h : Simple o) where
   first-met : (r : ℕ) → block o (firstCell (block o) r) r ≡ true → Side o r (firstCell (block o) r)
   first-met r e = side-sent o h r _ (go (firstCell (block o) r) refl)
     where
-      found : (f : ℕ) → 1 ≤ upsAt (reading o) f (suc r) → Side (reading o) r f
+      found : (f : ℕ) → 1 ≤ upsAt (clockwiseForm o) f (suc r) → Side (clockwiseForm o) r f
       found f k =
-          let (i, l, a, d, _) = ups-found (reading o) f (suc r) k in
-          record { place = i; below = l; passes = along-up r (cornerAt (reading o) i) (letterAt (reading o) i) a (row-is d ∙ omega arith); said = col-is d }
+          let (i, l, a, d, _) = ups-found (clockwiseForm o) f (suc r) k in
+          record { place = i; below = l; passes = along-up r (cornerAt (clockwiseForm o) i) (letterAt (clockwiseForm o) i) a (row-is d ∙ omega arith); said = col-is d }
 
-      go : (f : ℕ) → firstCell (block o) r ≡ f → Side (reading o) r (firstCell (block o) r)
+      go : (f : ℕ) → firstCell (block o) r ≡ f → Side (clockwiseForm o) r (firstCell (block o) r)
       go zero d =
-          subst (Side (reading o) r) (sym d)
+          subst (Side (clockwiseForm o) r) (sym d)
           (found 0 (omega (
             arith,
-            enclosed-level (reading o) (point 0 r) (ap (λ (c : ℕ). block o c r) (sym d) ∙ e),
-            ups-jump-vertical (reading o) 0 (suc r),
-            downs-jump-vertical (reading o) 0 (suc r),
-            ups-column-zero (reading o) (suc r),
-            downs-column-zero (reading o) (suc r),
+            enclosed-level (clockwiseForm o) (point 0 r) (ap (λ (c : ℕ). block o c r) (sym d) ∙ e),
+            ups-jump-vertical (clockwiseForm o) 0 (suc r),
+            downs-jump-vertical (clockwiseForm o) 0 (suc r),
+            ups-column-zero (clockwiseForm o) (suc r),
+            downs-column-zero (clockwiseForm o) (suc r),
           )))
       go (suc f) d =
-          subst (Side (reading o) r) (sym d)
+          subst (Side (clockwiseForm o) r) (sym d)
           (found (suc f) (
-          elim (level (reading o) w (westPlace (reading o)) lowest up (suc f) (suc r)) [
+          elim (level (clockwiseForm o) w (westPlace (clockwiseForm o)) lowest up (suc f) (suc r)) [
             | inl z ↦
                 omega (
                   arith,
-                  enclosed-level (reading o) (point (suc f) r) (ap (λ (c : ℕ). block o c r) (sym d) ∙ e),
-                  ups-jump-vertical (reading o) (suc f) (suc r),
-                  downs-jump-vertical (reading o) (suc f) (suc r),
+                  enclosed-level (clockwiseForm o) (point (suc f) r) (ap (λ (c : ℕ). block o c r) (sym d) ∙ e),
+                  ups-jump-vertical (clockwiseForm o) (suc f) (suc r),
+                  downs-jump-vertical (clockwiseForm o) (suc f) (suc r),
                   z,
                 )
-            | inr z ↦ absurd (omega (arith, d, cell-after (block o) joined-up f r (level-enclosed (reading o) (point f r) z)))
+            | inr z ↦ absurd (omega (arith, d, cell-after (block o) joined-up f r (level-enclosed (clockwiseForm o) (point f r) z)))
           ]
           ))
 
   last-met : (r : ℕ) → 0 < pastCell (block o) r → block o (pred (pastCell (block o) r)) r ≡ true → Side o r (pastCell (block o) r)
   last-met r pos e = side-sent o h r _ (go (pred (pastCell (block o) r)) (omega arith) e)
     where
-      go : (f : ℕ) → pastCell (block o) r ≡ suc f → block o f r ≡ true → Side (reading o) r (pastCell (block o) r)
+      go : (f : ℕ) → pastCell (block o) r ≡ suc f → block o f r ≡ true → Side (clockwiseForm o) r (pastCell (block o) r)
       go f d g =
-          elim (level (reading o) w (westPlace (reading o)) lowest up (suc (suc f)) (suc r)) [
-            | inr z ↦ absurd (omega (arith, d, cell-before (block o) joined-up (suc f) r (level-enclosed (reading o) (point (suc f) r) z)))
+          elim (level (clockwiseForm o) w (westPlace (clockwiseForm o)) lowest up (suc (suc f)) (suc r)) [
+            | inr z ↦ absurd (omega (arith, d, cell-before (block o) joined-up (suc f) r (level-enclosed (clockwiseForm o) (point (suc f) r) z)))
             | inl z ↦
-                let k : 1 ≤ downsAt (reading o) (suc f) (suc r) =
+                let k : 1 ≤ downsAt (clockwiseForm o) (suc f) (suc r) =
                 omega (
                   arith,
-                  enclosed-level (reading o) (point f r) g,
-                  ups-jump-vertical (reading o) (suc f) (suc r),
-                  downs-jump-vertical (reading o) (suc f) (suc r),
+                  enclosed-level (clockwiseForm o) (point f r) g,
+                  ups-jump-vertical (clockwiseForm o) (suc f) (suc r),
+                  downs-jump-vertical (clockwiseForm o) (suc f) (suc r),
                   z,
                 ) in
-                let (i, l, a, q) = downs-found (reading o) (suc f) (suc r) k in
-                record { place = i; below = l; passes = along-down r (cornerAt (reading o) i) (letterAt (reading o) i) a (row-is q); said = col-is q ∙ sym d }
+                let (i, l, a, q) = downs-found (clockwiseForm o) (suc f) (suc r) k in
+                record { place = i; below = l; passes = along-down r (cornerAt (clockwiseForm o) i) (letterAt (clockwiseForm o) i) a (row-is q); said = col-is q ∙ sym d }
           ]
 
   pub first-side : (r : ℕ) → firstSide o r ≡ firstCell (block o) r
@@ -268,7 +268,7 @@ module _ (o : Outline) (h : Simple o) where
   row-into : (u : Outline) → SameCorners o u → (n : ℕ) → Row u n → Row o n
   row-into u s n m = let (j, l, e) = s .back (m .place) (m .below) in at-row o j n l (row-is e ∙ m .said)
 
-  same-corners : SameCorners o (reading o)
+  same-corners : SameCorners o (clockwiseForm o)
   same-corners =
       by-reading o (SameCorners o) (λ e. record { there = λ i l. (i, l, refl); back = λ i l. (i, l, refl) })
       (λ e. let s = backward-corners o (walked o h) in record { there = s .back; back = s .there })
@@ -284,27 +284,27 @@ module _ (o : Outline) (h : Simple o) where
 
   row-bounds : (n : ℕ) → Row o n → (firstRow (block o) ≤ n) × (n ≤ pastRow (block o))
   row-bounds n m =
-      let k = row-from (reading o) same-corners n m in
+      let k = row-from (clockwiseForm o) same-corners n m in
       let i = k .place in
       let (c, r, _, e, g) = right-cell i (k .below) in
-      let q = right-row (cornerAt (reading o) i) (letterAt (reading o) i) (w .letter i (k .below)) in
+      let q = right-row (cornerAt (clockwiseForm o) i) (letterAt (clockwiseForm o) i) (w .letter i (k .below)) in
       omega (arith, q, e, k .said, row-after (block o) joined-up c r g, row-before (block o) joined-up c r g)
 
   low-met : Row o (firstRow (block o))
   low-met =
       let (c, e) = bottom-cell (block o) joined-up in
-      let (i, a, _, d) = up-counted (reading o) c (firstRow (block o)) e in
-      row-into (reading o) same-corners _ (at-row (reading o) i _ (a .0) d)
+      let (i, a, _, d) = up-counted (clockwiseForm o) c (firstRow (block o)) e in
+      row-into (clockwiseForm o) same-corners _ (at-row (clockwiseForm o) i _ (a .0) d)
 
   high-met : Row o (pastRow (block o))
   unfolding step
   high-met =
       let (c, e) = top-cell (block o) joined-up in
-      let (i, a, _, d) = up-counted (reading o) c (pred (pastRow (block o))) e in
-      let (j, l, q, _) = next (reading o) w i (a .0) in
+      let (i, a, _, d) = up-counted (clockwiseForm o) c (pred (pastRow (block o))) e in
+      let (j, l, q, _) = next (clockwiseForm o) w i (a .0) in
       let z = row-before (block o) joined-up c (pred (pastRow (block o))) e in
-      let x = row-is (sym q ∙ corner-suc (reading o) i (a .0) ∙ ap (step (cornerAt (reading o) i)) (a .1)) in
-      row-into (reading o) same-corners _ (at-row (reading o) j _ l (omega arith))
+      let x = row-is (sym q ∙ corner-suc (clockwiseForm o) i (a .0) ∙ ap (step (cornerAt (clockwiseForm o) i)) (a .1)) in
+      row-into (clockwiseForm o) same-corners _ (at-row (clockwiseForm o) j _ l (omega arith))
 
   fits : pastRow (block o) ≤ side
   unfolding pastRow
@@ -338,7 +338,7 @@ module _ (o : Outline) (h : Simple o) where
   col-cell n m =
       let (i, l, e) = same-corners .there (m .place) (m .below) in
       let (c, r, d, _, g) = right-cell i l in
-      let q = right-col (cornerAt (reading o) i) (letterAt (reading o) i) (w .letter i l) in
+      let q = right-col (cornerAt (clockwiseForm o) i) (letterAt (clockwiseForm o) i) (w .letter i l) in
       (c, r, g, omega (arith, q, d, col-is e, m .said), omega (arith, q, d, col-is e, m .said))
 
   side-col : (r c : ℕ) → Side o r c → Col o c

@@ -10,26 +10,26 @@ use Rattle.chart.specs.declared.Point.{Point}
 use Rattle.chart.specs.Outline.{Outline, outline}
 use Rattle.chart.specs.Fields.{verdictFields}
 use Rattle.lattice.specs.Chart.{size}
-use Rattle.lattice.specs.Hull.{InHull, Full}
+use Rattle.lattice.specs.Hull.{InHull, Convex}
 use Rattle.lattice.specs.Refusals.{Simple}
 use Rattle.lattice.proofs.WalkLaws.{point, walked}
 use Rattle.lattice.proofs.HullLaws.{enclosed-in-hull, missing-same}
-use Rattle.rows.specs.Rows.{inRows}
+use Rattle.rows.specs.parts.Rows.{inRows}
 use Rattle.rows.proofs.Rows.{Rows, within-marked, marked-within}
-use Rattle.convexity.specs.Cut.{turn, clockwise}
-use Rattle.convexity.specs.Reading.{border, block}
+use Rattle.convexity.specs.Cut.{fromW, clockwise}
+use Rattle.convexity.specs.Clockwise.{border, block}
 use Rattle.convexity.specs.SameBlock.{SameCells}
-use Rattle.convexity.proofs.SameBlock.{same-turn-iff}
+use Rattle.convexity.proofs.SameBlock.{same-from-w-iff}
 use Rattle.verdict.specs.Verdict.{verdictOf}
-use Rattle.verdict.proofs.Full.{taken-iff-full}
+use Rattle.verdict.proofs.Convex.{taken-iff-convex}
 use Rattle.completion.specs.Runs.{outlineOf, Overlapping}
 use Rattle.completion.specs.HullRows.{hullLeft, hullRight}
 use Rattle.completion.specs.Complete.{firstCell, pastCell, firstRow, pastRow, hullOutline, complete}
 use Rattle.completion.proofs.Round.{outline-simple}
 use Rattle.completion.proofs.Marks.{outline-clockwise, outline-block}
-use Rattle.completion.proofs.HullRows.{Ends, hull-rows, wider-left, wider-right, hull-full, hull-iff}
+use Rattle.completion.proofs.HullRows.{Ends, hull-rows, wider-left, wider-right, hull-convex, hull-iff}
 use Rattle.completion.proofs.BlockEnds.{block-joined, rows-fit, ends, overlapping}
-use Rattle.completion.specs.Written.{writtenFrom}
+use Rattle.completion.specs.parts.Written.{writtenFrom}
 use Rattle.completion.proofs.Extent.{hull-shorter}
 use Rattle.completion.proofs.FromWest.{from-west}
 
@@ -44,7 +44,7 @@ wider-overlap lo hi lo′ hi′ b t left right h r l m =
     )
 
 -- The cells of a set that has no missing cell hold the hull of every part of it
-full-holds : (marked whole : ℕ → ℕ → Bool) → Full whole → ((c r : ℕ) → marked c r ≡ true → whole c r ≡ true) → (x : Point) → InHull marked x → whole (x .col) (x .row) ≡ true
+full-holds : (marked whole : ℕ → ℕ → Bool) → Convex whole → ((c r : ℕ) → marked c r ≡ true → whole c r ≡ true) → (x : Point) → InHull marked x → whole (x .col) (x .row) ≡ true
 full-holds marked whole full part x h = go (whole (x .col) (x .row)) refl
   where
     go : (b : Bool) → whole (x .col) (x .row) ≡ b → whole (x .col) (x .row) ≡ true
@@ -111,7 +111,7 @@ module _ (o : Outline) (h : Simple o) where
   unfolding complete hullOutline
   complete-simple = outline-simple (hullLeft lo b t) (hullRight hi b t) b t rows high shares short
 
-  pub complete-clockwise : clockwise (turn (complete o)) ≡ true
+  pub complete-clockwise : clockwise (fromW (complete o)) ≡ true
   unfolding complete hullOutline
   complete-clockwise = outline-clockwise (hullLeft lo b t) (hullRight hi b t) b t rows high shares short
 
@@ -131,21 +131,21 @@ module _ (o : Outline) (h : Simple o) where
   complete-holds c r m = complete-hull (point c r) .1 (enclosed-in-hull (block o) (point c r) m)
 
   -- No cell is missing from it: the hull of the hull is the hull
-  pub complete-full : Full (block (complete o))
-  complete-full x m = hull-full lo hi b t (row-ends .rows) x (missing-same complete-rows m)
+  pub complete-convex : Convex (block (complete o))
+  complete-convex x m = hull-convex lo hi b t (row-ends .rows) x (missing-same complete-rows m)
 
   pub hull-of-hull : (x : Point) → InHull (block (complete o)) x → InHull (block o) x
-  hull-of-hull x k = complete-hull x .0 (full-holds (block (complete o)) (block (complete o)) complete-full (λ c r m. m) x k)
+  hull-of-hull x k = complete-hull x .0 (full-holds (block (complete o)) (block (complete o)) complete-convex (λ c r m. m) x k)
 
   -- It is taken
   pub complete-taken : verdictFields (verdictOf (complete o)) .number ≡ 0
-  complete-taken = taken-iff-full (complete o) complete-simple .1 complete-full
+  complete-taken = taken-iff-convex (complete o) complete-simple .1 complete-convex
 
   -- And it is the least: a taken outline that marks the outline's cells marks the completion's
   pub complete-least :
       (v : Outline) → Simple v → verdictFields (verdictOf v) .number ≡ 0 → ((c r : ℕ) → block o c r ≡ true → block v c r ≡ true)
       → (c r : ℕ) → block (complete o) c r ≡ true → block v c r ≡ true
-  complete-least v k taken part c r m = full-holds (block o) (block v) (taken-iff-full v k .0 taken) part (point c r) (complete-hull (point c r) .0 m)
+  complete-least v k taken part c r m = full-holds (block o) (block v) (taken-iff-convex v k .0 taken) part (point c r) (complete-hull (point c r) .0 m)
 
   -- A taken outline's completion marks its own block, and has its border
   pub complete-own : verdictFields (verdictOf o) .number ≡ 0 → SameCells (complete o) o
@@ -157,7 +157,7 @@ module _ (o : Outline) (h : Simple o) where
       go true false e f = absurd (true≢false (sym (complete-holds c r e) ∙ f))
 
   pub complete-own-border : verdictFields (verdictOf o) .number ≡ 0 → border (complete o) ≡ border o
-  complete-own-border taken = same-turn-iff (complete o) o complete-simple h .0 (complete-own taken)
+  complete-own-border taken = same-from-w-iff (complete o) o complete-simple h .0 (complete-own taken)
 
 module _ (o : Outline) (h : Simple o) where
   -- Its border, clockwise from W, as loops write it: W is the lower left corner of the lowest of the hull's rows that begin furthest left, here row m

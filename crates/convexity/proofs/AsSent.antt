@@ -14,34 +14,34 @@ use Rattle.lattice.specs.Refusals.{Simple}
 use Rattle.rows.specs.Search.{missingCell}
 use Rattle.lattice.proofs.WalkLaws.{walked}
 use Rattle.lattice.proofs.RightHand.{encloses-rotation}
-use Rattle.convexity.specs.Cut.{turn, westPlace, cornerPlace, cutCorner}
-use Rattle.convexity.specs.Reading.{reading, block, border}
+use Rattle.convexity.specs.Cut.{fromW, westPlace, cornerPlace, cutCorner}
+use Rattle.convexity.specs.Clockwise.{clockwiseForm, block, border}
 use Rattle.convexity.specs.Pieces.{Reaches, IsAnchor, dentPiece, edges}
 use Rattle.convexity.specs.Inside.{insideEdges}
 use Rattle.lattice.proofs.HullLaws.{missing-same, lowest-same}
 use Rattle.convexity.specs.Shape.{NoBackStep}
-use Rattle.convexity.proofs.Extreme.{turn-of}
+use Rattle.convexity.proofs.Extreme.{from-w-of}
 use Rattle.convexity.proofs.Shape.{shape, straight-of}
 use Rattle.convexity.proofs.Levels.{leaves-upwards, anchor-lowest}
-use Rattle.convexity.proofs.Reading.{simple-reading, clockwise-reading}
+use Rattle.convexity.proofs.Clockwise.{simple-form, clockwise-form}
 use Rattle.convexity.proofs.Theorem.{edges-answer, dent-iff-missing, search-finds}
 
 module _ (o : Outline) where
   -- The same cells, from W on
-  pub encloses-turn : Simple o → (c r : ℕ) → encloses (turn o) c r ≡ encloses o c r
-  unfolding turn
-  encloses-turn h c r = encloses-rotation o (westPlace o) (walked o h .closed) c r
+  pub encloses-from-w : Simple o → (c r : ℕ) → encloses (fromW o) c r ≡ encloses o c r
+  unfolding fromW
+  encloses-from-w h c r = encloses-rotation o (westPlace o) (walked o h .closed) c r
 
 module _ (o : Outline) where
   -- The block is what the reading from W on encloses
-  pub block-turn : Simple o → (c r : ℕ) → encloses (border o) c r ≡ block o c r
-  block-turn h = encloses-turn (reading o) (simple-reading o h)
+  pub block-from-w : Simple o → (c r : ℕ) → encloses (border o) c r ≡ block o c r
+  block-from-w h = encloses-from-w (clockwiseForm o) (simple-form o h)
 
   pub clear-of : Reaches o → NoBackStep (border o)
   clear-of h =
       record {
-        turn = turn-of (reading o) (simple-reading o (h .simple));
-        clockwise = clockwise-reading o (h .simple);
+        walk = from-w-of (clockwiseForm o) (simple-form o (h .simple));
+        clockwise = clockwise-form o (h .simple);
         straight = straight-of (border o) (h .straight);
       }
 
@@ -52,14 +52,14 @@ module _ (o : Outline) where
     -- E1: the edges answer for the block
     pub edges-answer-sent : dentPiece t ≡ 4 → (x : Point) → x .col < side → x .row < side
         → insideEdges (t .start) (edges t) x ≡ block o (x .col) (x .row)
-    edges-answer-sent smooth x c r = edges-answer t (clear-of h) smooth x c r ∙ block-turn (h .simple) (x .col) (x .row)
+    edges-answer-sent smooth x c r = edges-answer t (clear-of h) smooth x c r ∙ block-from-w (h .simple) (x .col) (x .row)
 
     -- E2: an outline that reaches the dent test is dented exactly when some cell is in the hull of its enclosed cells and not enclosed
     pub dented-iff-missing : (dentPiece t < 4) ↔ ((x : Point) × Missing (block o) x)
     dented-iff-missing =
         let e = dent-iff-missing t (clear-of h) in (
-          λ d. let (x, m) = e .0 d in (x, missing-same (block-turn (h .simple)) m),
-          λ m. e .1 (m .0, missing-same (λ c r. sym (block-turn (h .simple) c r)) (m .1)),
+          λ d. let (x, m) = e .0 d in (x, missing-same (block-from-w (h .simple)) m),
+          λ m. e .1 (m .0, missing-same (λ c r. sym (block-from-w (h .simple) c r)) (m .1)),
         )
 
     -- E3: and the cell that the search names is the lowest such cell, leftmost in its row
@@ -71,15 +71,15 @@ module _ (o : Outline) where
         subst₂ (λ (b u : ℕ). LowestMissing (block o) (missingCell t b u))
         (ap (λ (i : ℕ). cornerAt t i .row) (f .corners 3 (lit< tt)))
         (ap (λ (i : ℕ). cornerAt t i .row) (f .corners 1 (lit< tt)))
-        (lowest-same (block-turn (h .simple)) (search-finds t (clear-of h) d))
+        (lowest-same (block-from-w (h .simple)) (search-finds t (clear-of h) d))
 
     -- The cell at W is the lowest enclosed cell of the leftmost column
     pub west-anchor : IsAnchor (block o) (t .start)
     west-anchor =
-        let simple = simple-reading o (h .simple) in
-        let a = anchor-lowest t (turn-of (reading o) simple) (leaves-upwards t (clockwise-reading o (h .simple))) in
+        let simple = simple-form o (h .simple) in
+        let a = anchor-lowest t (from-w-of (clockwiseForm o) simple) (leaves-upwards t (clockwise-form o (h .simple))) in
         record {
-          enclosed = sym (block-turn (h .simple) _ _) ∙ a .enclosed;
-          leftmost = λ c r l. sym (block-turn (h .simple) c r) ∙ a .leftmost c r l;
-          lowest = λ r l. sym (block-turn (h .simple) _ r) ∙ a .lowest r l;
+          enclosed = sym (block-from-w (h .simple) _ _) ∙ a .enclosed;
+          leftmost = λ c r l. sym (block-from-w (h .simple) c r) ∙ a .leftmost c r l;
+          lowest = λ r l. sym (block-from-w (h .simple) _ r) ∙ a .lowest r l;
         }

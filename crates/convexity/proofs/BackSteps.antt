@@ -15,23 +15,23 @@ use Rattle.base.proofs.BelowLaws.{first-le, first-found}
 use Rattle.chart.specs.declared.Point.{Point}
 use Rattle.chart.specs.Outline.{Outline}
 use Rattle.lattice.specs.Chart.{step, cornerAt, size, letterAt}
-use Rattle.lattice.specs.Hull.{Missing, Full}
+use Rattle.lattice.specs.Hull.{Missing, Convex}
 use Rattle.lattice.specs.Refusals.{Simple}
 use Rattle.lattice.specs.Walked.{Walked}
 use Rattle.lattice.proofs.WalkLaws.{corner-suc, or-left, or-right}
 use Rattle.convexity.specs.Frame.{Frame, frameOf, along, next}
 use Rattle.convexity.specs.Cut.{cutCorner, cut}
-use Rattle.convexity.specs.Reading.{reading, block, border, opposite}
+use Rattle.convexity.specs.Clockwise.{clockwiseForm, block, border, opposite}
 use Rattle.convexity.specs.Pieces.{piece, isBackStep, backStepAt, backStepPiece, factors, dentLength, dentPiece, Reaches}
 use Rattle.lattice.proofs.HullLaws.{missing-same}
-use Rattle.convexity.specs.Shape.{Turn}
-use Rattle.convexity.proofs.Extreme.{not-before-earlier, Moved, earlier-on, later-on, earlier-back, later-back, Bend, by-later, by-earlier, on-chart, corner-round, moves, bend, turn-of}
+use Rattle.convexity.specs.Shape.{WalkFromW}
+use Rattle.convexity.proofs.Extreme.{not-before-earlier, Moved, earlier-on, later-on, earlier-back, later-back, Bend, by-later, by-earlier, on-chart, corner-round, moves, bend, from-w-of}
 use Rattle.convexity.proofs.Shape.{straight-of}
 use Rattle.convexity.proofs.Cuts.{previous-pos, cut-zero, corner-west, cut-on, cut-round, cuts-fit, piece-length, piece-at, corner-first, corner-after}
 use Rattle.convexity.proofs.Ring.{next-lt, Apart, apart, turns, along-next}
 use Rattle.convexity.proofs.Levels.{LetterAt, leaves-upwards}
-use Rattle.convexity.proofs.Reading.{simple-reading, clockwise-reading}
-use Rattle.convexity.proofs.AsSent.{block-turn, dented-iff-missing}
+use Rattle.convexity.proofs.Clockwise.{simple-form, clockwise-form}
+use Rattle.convexity.proofs.AsSent.{block-from-w, dented-iff-missing}
 use Rattle.convexity.proofs.OneRun.{SomeMissing, twice, back-gap}
 
 -- ---- a frame's later letter, on and back
@@ -71,7 +71,7 @@ other-letter (suc (suc (suc k))) a h x y = elim (ℕ-discrete a 3) [ yes z ↦ i
 back-step-goes : (k a : ℕ) → a < 4 → isBackStep (frameOf k) a ≡ true → (a ≡ opposite (frameOf k .earlier)) ⊎ (a ≡ opposite (frameOf k .later))
 back-step-goes k a h e = let n = back-step-not (frameOf k) a e in other-letter k a h (n .0) (n .1)
 
-module _ (o : Outline) (h : Turn o) (up : letterAt o 0 ≡ 1) where
+module _ (o : Outline) (h : WalkFromW o) (up : letterAt o 0 ≡ 1) where
   abbrev corner : ℕ → Point
   corner i = cornerAt o i
 
@@ -346,11 +346,11 @@ module _ (o : Outline) (h : Simple o) where
   -- Every outline that refusal 8 turns back has a missing cell
   pub back-step-missing-sent : backStepPiece (border o) < 4 → (x : Point) × Missing (block o) x
   back-step-missing-sent l =
-      let (x, m) = back-step-missing (border o) (turn-of (reading o) (simple-reading o h)) (leaves-upwards (border o) (clockwise-reading o h)) l in
-      (x, missing-same (block-turn o h) m)
+      let (x, m) = back-step-missing (border o) (from-w-of (clockwiseForm o) (simple-form o h)) (leaves-upwards (border o) (clockwise-form o h)) l in
+      (x, missing-same (block-from-w o h) m)
 
   -- An outline with no missing cell has no back-step
-  pub full-straight : Full (block o) → ltb (backStepPiece (border o)) 4 ≡ false
+  pub full-straight : Convex (block o) → ltb (backStepPiece (border o)) 4 ≡ false
   full-straight full =
       elim (decLt (backStepPiece (border o)) 4) [
         | yes l ↦ let (x, m) = back-step-missing-sent l in absurd (full x m)
@@ -358,10 +358,10 @@ module _ (o : Outline) (h : Simple o) where
       ]
 
   -- So past refusals 1 to 6 an outline passes 8 and 9 exactly if no cell is missing
-  pub passes-iff-full :
-      ((backStepPiece (border o) ≡ 4) × (dentPiece (border o) ≡ 4)) ↔ Full (block o)
+  pub passes-iff-convex :
+      ((backStepPiece (border o) ≡ 4) × (dentPiece (border o) ≡ 4)) ↔ Convex (block o)
   unfolding dentPiece
-  passes-iff-full = (
+  passes-iff-convex = (
     λ e x m. absurd (omega (arith, dented-iff-missing o (reaches (e .0)) .1 (x, m))),
     λ full.
         let straight = straight-of (border o) (full-straight full) in
@@ -371,7 +371,7 @@ module _ (o : Outline) (h : Simple o) where
       reaches : backStepPiece (border o) ≡ 4 → Reaches o
       reaches e = record { simple = h; straight = le-ltb (backStepPiece (border o)) 4 (omega arith) }
 
-      smooth : Full (block o) → backStepPiece (border o) ≡ 4 → dentPiece (border o) ≡ 4
+      smooth : Convex (block o) → backStepPiece (border o) ≡ 4 → dentPiece (border o) ≡ 4
       smooth full e =
           elim (decLt (dentPiece (border o)) 4) [
             | yes l ↦ let (x, m) = dented-iff-missing o (reaches e) .0 l in absurd (full x m)

@@ -15,20 +15,20 @@ use Rattle.lattice.specs.Refusals.{Simple}
 use Rattle.lattice.specs.Enclosed.{encloses}
 use Rattle.lattice.specs.Walked.{Walked}
 use Rattle.lattice.proofs.WalkLaws.{walked, corner-zero, corner-injective, rotated-simple, outline-eq}
-use Rattle.convexity.specs.Cut.{cornerPlace, westPlace, west, turn, clockwise}
-use Rattle.convexity.specs.Reading.{reading, block, border}
+use Rattle.convexity.specs.Cut.{cornerPlace, westPlace, west, fromW, clockwise}
+use Rattle.convexity.specs.Clockwise.{clockwiseForm, block, border}
 use Rattle.convexity.specs.Pieces.{IsAnchor, backStepPiece, dentPiece, edges}
 use Rattle.convexity.specs.FromEdges.{lettersFrom}
 use Rattle.convexity.specs.Border.{HasEdges}
-use Rattle.convexity.specs.Shape.{Turn}
-use Rattle.convexity.proofs.Extreme.{cornerPlace-lt, cornerPlace-first, first-unique, on-chart, turn-of}
-use Rattle.convexity.proofs.Reading.{reading-clockwise, simple-reading, clockwise-reading}
-use Rattle.convexity.proofs.AsSent.{block-turn, west-anchor}
+use Rattle.convexity.specs.Shape.{WalkFromW}
+use Rattle.convexity.proofs.Extreme.{cornerPlace-lt, cornerPlace-first, first-unique, on-chart, from-w-of}
+use Rattle.convexity.proofs.Clockwise.{form-clockwise, simple-form, clockwise-form}
+use Rattle.convexity.proofs.AsSent.{block-from-w, west-anchor}
 use Rattle.convexity.proofs.FromEdges.{sent-from-edges}
 
 -- ---- a turn's W is its start
 
-module _ (o : Outline) (h : Turn o) where
+module _ (o : Outline) (h : WalkFromW o) where
   pub west-start : westPlace o ≡ 0
   unfolding westPlace
   west-start =
@@ -38,30 +38,30 @@ module _ (o : Outline) (h : Turn o) where
       (first-unique 0 (cornerAt o (cornerPlace o 0)) (cornerAt o 0) (on-chart o (h .walked) (cornerPlace o 0) (omega arith)) (on-chart o (h .walked) 0 (omega arith)) (rw (corner-zero o) (h .west (cornerPlace o 0) m)) (cornerPlace-first o 0 0 some))
 
   pub west-self : west o ≡ o .start
-  unfolding turn
+  unfolding fromW
   west-self = ap (cornerAt o) west-start ∙ corner-zero o
 
-  pub turn-self : turn o ≡ o
-  unfolding turn
-  turn-self = outline-eq (turn o) o west-self (ap (λ (i : ℕ). rotation i (o .letters)) west-start ∙ append-nil (o .letters))
+  pub from-w-self : fromW o ≡ o
+  unfolding fromW
+  from-w-self = outline-eq (fromW o) o west-self (ap (λ (i : ℕ). rotation i (o .letters)) west-start ∙ append-nil (o .letters))
 
   -- A clockwise turn is the turn of its reading
-  reading-self : clockwise o ≡ true → border o ≡ o
-  reading-self round = ap turn (reading-clockwise o (rw turn-self round)) ∙ turn-self
+  form-self : clockwise o ≡ true → border o ≡ o
+  form-self round = ap fromW (form-clockwise o (rw from-w-self round)) ∙ from-w-self
 
   has-self :
       (es : List ℤ) → Simple o → clockwise o ≡ true → ltb (backStepPiece o) 4 ≡ false → dentPiece o ≡ 4 → edges o ≡ es → HasEdges o (o .start) es
   has-self es simple round straight smooth same =
       record {
-        reaches = record { simple = simple; straight = rw (reading-self round) straight };
-        smooth = rw (reading-self round) smooth;
-        anchor = ap (λ (v : Outline). v .start) (reading-self round);
-        edged = rw (reading-self round) same;
+        reaches = record { simple = simple; straight = rw (form-self round) straight };
+        smooth = rw (form-self round) smooth;
+        anchor = ap (λ (v : Outline). v .start) (form-self round);
+        edged = rw (form-self round) same;
       }
 
-simple-turn : (o : Outline) → Simple o → Simple (turn o)
-unfolding turn westPlace
-simple-turn o h =
+simple-from-w : (o : Outline) → Simple o → Simple (fromW o)
+unfolding fromW westPlace
+simple-from-w o h =
     let d : Walked o = walked o h in
     let l : cornerPlace o 0 ≤ size o = omega (arith, cornerPlace-lt o 0 (omega (arith, d .long))) in
     rotated-simple o (cornerPlace o 0) l h
@@ -70,8 +70,8 @@ simple-turn o h =
 
 module _ {o : Outline} {a : Point} {es : List ℤ} (h : HasEdges o a es) where
   -- A taken outline's reading from W on is the anchor with the letters that its edges write
-  pub border-reading : border o ≡ outline a (lettersFrom es)
-  border-reading = outline-eq (border o) (outline a (lettersFrom es)) (h .anchor) (sent-from-edges o (h .reaches) (h .smooth) ∙ ap lettersFrom (h .edged))
+  pub border-form : border o ≡ outline a (lettersFrom es)
+  border-form = outline-eq (border o) (outline a (lettersFrom es)) (h .anchor) (sent-from-edges o (h .reaches) (h .smooth) ∙ ap lettersFrom (h .edged))
 
   -- The anchor is that of contract 3.13
   pub border-anchor : IsAnchor (block o) a
@@ -81,13 +81,13 @@ module _ {o : Outline} {a : Point} {es : List ℤ} (h : HasEdges o a es) where
   pub border-has : HasEdges (outline a (lettersFrom es)) a es
   border-has =
       let r = h .reaches in
-      let simple = simple-reading o (r .simple) in
-      subst (λ (v : Outline). HasEdges v (v .start) es) border-reading
-      (has-self (border o) (turn-of (reading o) simple) es (simple-turn (reading o) simple) (clockwise-reading o (r .simple)) (r .straight) (h .smooth) (h .edged))
+      let simple = simple-form o (r .simple) in
+      subst (λ (v : Outline). HasEdges v (v .start) es) border-form
+      (has-self (border o) (from-w-of (clockwiseForm o) simple) es (simple-from-w (clockwiseForm o) simple) (clockwise-form o (r .simple)) (r .straight) (h .smooth) (h .edged))
 
   -- It encloses the same cells
   pub border-encloses : (c r : ℕ) → encloses (outline a (lettersFrom es)) c r ≡ block o c r
-  border-encloses c r = ap (λ (v : Outline). encloses v c r) (sym border-reading) ∙ block-turn o (h .reaches .simple) c r
+  border-encloses c r = ap (λ (v : Outline). encloses v c r) (sym border-form) ∙ block-from-w o (h .reaches .simple) c r
 
 -- Refusal 17: some taken outline has this anchor and these edges exactly if the letters written back from the anchor's corner are one
 pub border-iff : (a : Point) (es : List ℤ) → ((o : Outline) × HasEdges o a es) ↔ HasEdges (outline a (lettersFrom es)) a es
@@ -97,4 +97,4 @@ border-iff a es = (λ h. border-has (h .1), λ h. (outline a (lettersFrom es), h
 pub border-unique :
     {o o′ : Outline} {a : Point} {es : List ℤ} → HasEdges o a es → HasEdges o′ a es
     → (border o ≡ border o′) × ((c r : ℕ) → block o c r ≡ block o′ c r)
-border-unique h k = (border-reading h ∙ sym (border-reading k), λ c r. sym (border-encloses h c r) ∙ border-encloses k c r)
+border-unique h k = (border-form h ∙ sym (border-form k), λ c r. sym (border-encloses h c r) ∙ border-encloses k c r)

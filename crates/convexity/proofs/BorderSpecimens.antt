@@ -7,7 +7,7 @@ use lib.IntN.{pos, negsuc}
 use Rattle.words.specs.Lyndon
 use Rattle.words.specs.Counted
 use Rattle.convexity.specs.Frame
-use Rattle.convexity.specs.InFrame
+use Rattle.convexity.specs.parts.InFrame
 use Rattle.convexity.specs.FromEdges
 
 -- A name that opens the definitions, for the rows that follow

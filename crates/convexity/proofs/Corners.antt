@@ -13,11 +13,11 @@ use Rattle.lattice.specs.Refusals.{Simple}
 use Rattle.lattice.specs.Walked.{Walked}
 use Rattle.lattice.proofs.WalkLaws.{walked, corner-injective, rotated-walked, rotated-corners}
 use Rattle.convexity.specs.Frame.{frameOf, along}
-use Rattle.convexity.specs.Cut.{cornerPlace, westPlace, turn}
-use Rattle.convexity.specs.Reading.{reversed, reading, border}
+use Rattle.convexity.specs.Cut.{cornerPlace, westPlace, fromW}
+use Rattle.convexity.specs.Clockwise.{reversed, clockwiseForm, border}
 use Rattle.convexity.specs.Corners.{OnWalk, IsWest, IsNorth, IsEast, IsSouth, OnlyAt, FourCorners}
-use Rattle.convexity.proofs.Extreme.{FirstAt, cornerPlace-lt, first-at-cornerPlace, not-before-earlier, not-before-later, on-chart, along-injective, turn-of, first-shared}
-use Rattle.convexity.proofs.Reading.{backward-corners, walked-backward, by-reading, simple-reading}
+use Rattle.convexity.proofs.Extreme.{FirstAt, cornerPlace-lt, first-at-cornerPlace, not-before-earlier, not-before-later, on-chart, along-injective, from-w-of, first-shared}
+use Rattle.convexity.proofs.Clockwise.{backward-corners, walked-backward, by-reading, simple-form}
 
 module _ (o : Outline) where
   -- ---- one law for every frame
@@ -146,8 +146,8 @@ module _ (o : Outline) where
 
 -- ---- an outline that passes 1 to 6, and its reading from W
 
-turned-corner : (o : Outline) → Walked o → (k : ℕ) → cornerAt (turn o) (cornerPlace (turn o) k) ≡ cornerAt o (cornerPlace o k)
-unfolding turn westPlace
+turned-corner : (o : Outline) → Walked o → (k : ℕ) → cornerAt (fromW o) (cornerPlace (fromW o) k) ≡ cornerAt o (cornerPlace o k)
+unfolding fromW westPlace
 turned-corner o d k =
     let b : cornerPlace o 0 ≤ size o = omega (arith, cornerPlace-lt o 0 (omega (arith, d .long))) in
     first-shared (rotated (cornerPlace o 0) o) o (rotated-walked o (cornerPlace o 0) b d) d (rotated-corners o (cornerPlace o 0) b (d .closed)) k
@@ -159,9 +159,9 @@ module _ (o : Outline) (simple : Simple o) where
   pub four-corners : FourCorners o
   four-corners = walk-corners o d
 
-  pub four-corners-reading : FourCorners (border o)
-  four-corners-reading = walk-corners (border o) (turn-of (reading o) (simple-reading o simple) .walked)
+  pub four-corners-form : FourCorners (border o)
+  four-corners-form = walk-corners (border o) (from-w-of (clockwiseForm o) (simple-form o simple) .walked)
 
   -- The reading from W on leaves the same corners, so its W, N, E and S are those of the outline
-  pub corner-reading : (k : ℕ) → cornerAt (border o) (cornerPlace (border o) k) ≡ cornerAt o (cornerPlace o k)
-  corner-reading k = turned-corner (reading o) (walked (reading o) (simple-reading o simple)) k ∙ by-reading o (λ v. cornerAt v (cornerPlace v k) ≡ cornerAt o (cornerPlace o k)) (λ _. refl) (λ _. first-shared (reversed o) o (walked-backward o d) d (backward-corners o d) k)
+  pub corner-form : (k : ℕ) → cornerAt (border o) (cornerPlace (border o) k) ≡ cornerAt o (cornerPlace o k)
+  corner-form k = turned-corner (clockwiseForm o) (walked (clockwiseForm o) (simple-form o simple)) k ∙ by-reading o (λ v. cornerAt v (cornerPlace v k) ≡ cornerAt o (cornerPlace o k)) (λ _. refl) (λ _. first-shared (reversed o) o (walked-backward o d) d (backward-corners o d) k)

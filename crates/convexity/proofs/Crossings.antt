@@ -20,7 +20,7 @@ use Rattle.lattice.specs.Chart.{cornerAt, letterAt}
 use Rattle.convexity.specs.Frame.{frameOf, along, next}
 use Rattle.convexity.specs.Cut.{cut}
 use Rattle.convexity.specs.Pieces.{word}
-use Rattle.convexity.specs.InFrame.{startE, startL, cellE, cellL, UnderFrom}
+use Rattle.convexity.specs.parts.InFrame.{startE, startL, cellE, cellL, UnderFrom}
 use Rattle.convexity.specs.Shape.{NoBackStep, Shape}
 use Rattle.convexity.proofs.Frame.{EarlierAt, LaterAt, earlier-at, later-at, take-split}
 use Rattle.convexity.proofs.Ring.{next-lt, turns, earlier-injective, later-injective, along-next, cell-turned, cell-next}

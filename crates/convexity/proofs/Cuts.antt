@@ -17,10 +17,10 @@ use Rattle.lattice.proofs.RightHand.{arriving-up}
 use Rattle.convexity.specs.Frame.{Frame, frameOf, next}
 use Rattle.convexity.specs.Cut.{cornerPlace, ahead, cutCorner, cut}
 use Rattle.convexity.specs.Pieces.{rounds, piece}
-use Rattle.convexity.specs.Reading.{opposite}
-use Rattle.convexity.specs.Shape.{Turn}
+use Rattle.convexity.specs.Clockwise.{opposite}
+use Rattle.convexity.specs.Shape.{WalkFromW}
 use Rattle.convexity.proofs.Ring.{next-lt, below-four, Apart, apart, Turns, turns}
-use Rattle.convexity.proofs.Levels.{turn-first, turn-lowest}
+use Rattle.convexity.proofs.Levels.{from-w-first, from-w-lowest}
 use Rattle.convexity.proofs.Extreme.{FirstAt, first-at-cornerPlace, Bend, by-later, by-earlier, previous, corner-round, bend}
 
 -- ---- the cut places
@@ -119,10 +119,10 @@ west-only (suc (suc zero)) h (by-earlier p q) = omega arith
 west-only (suc (suc (suc k))) h (by-later p q) = omega arith
 west-only (suc (suc (suc k))) h (by-earlier p q) = omega arith
 
-module _ (o : Outline) (h : Turn o) where
+module _ (o : Outline) (h : WalkFromW o) where
   pub corner-first : (k : ℕ) → k < 4 → FirstAt o k (cutCorner o k)
   unfolding cutCorner
-  corner-first zero l = turn-first o h
+  corner-first zero l = from-w-first o h
   corner-first (suc k) l = rw (lt-ltb k 3 (omega arith)) (first-at-cornerPlace o (suc k) (omega (arith, h .walked .long)))
 
   pub corners-differ : (k : ℕ) → k < 4 → cutCorner o k ≢ cutCorner o (next k)
@@ -134,7 +134,7 @@ module _ (o : Outline) (h : Turn o) where
     pub coming-west : letterAt o (size o - 1) ≡ 2
     coming-west =
         let l : suc (size o - 1) ≡ size o = omega (arith, h .walked .long) in
-        arriving-up o (h .walked) 0 (turn-lowest o h) (size o - 1) (omega arith) (ap (cornerAt o) l ∙ corner-round o (h .walked)) up
+        arriving-up o (h .walked) 0 (from-w-lowest o h) (size o - 1) (omega arith) (ap (cornerAt o) l ∙ corner-round o (h .walked)) up
 
     pub corner-after : (k : ℕ) → 0 < k → k < 4 → 0 < cutCorner o k
     unfolding previous

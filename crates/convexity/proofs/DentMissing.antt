@@ -27,7 +27,7 @@ use Rattle.convexity.specs.Pieces.{word, factors, dentLength, dentPiece}
 use Rattle.base.proofs.Mean.{mean-mirror, mean-at-most}
 use Rattle.convexity.specs.Shape.{NoBackStep}
 use Rattle.convexity.proofs.Frame.{Dented, InTriangle, dent-in-piece, above-not-under}
-use Rattle.convexity.specs.InFrame.{startE, startL, UnderFrom}
+use Rattle.convexity.specs.parts.InFrame.{startE, startL, UnderFrom}
 use Rattle.convexity.proofs.RowEnds.{enclosed-iff}
 use Rattle.convexity.proofs.PathCells.{cellOf, cellE-cellOf, cellL-cellOf, col-cellOf, row-cellOf, pathCell, across-le, up-le, path-across-le, path-up-le, path-enclosed}
 

@@ -47,11 +47,11 @@ slope-trans e l a b c d h k =
 -- ---- lists of edges whose directions turn one way
 
 -- Each edge of the list is past the one before it, and the first is past the bound
-pub data Turning : ℕ → ℕ → ℕ → List ℤ → Type 0 where
-  none : {n e l : ℕ} → Turning n e l []
+pub data Increasing : ℕ → ℕ → ℕ → List ℤ → Type 0 where
+  none : {n e l : ℕ} → Increasing n e l []
   more :
-      {n e l k e′ l′ : ℕ} {dx dy : ℤ} {es : List ℤ} → After n e l k e′ l′ → Points k e′ l′ dx dy → Turning (suc k) e′ l′ es
-      → Turning n e l (dx ∷ dy ∷ es)
+      {n e l k e′ l′ : ℕ} {dx dy : ℤ} {es : List ℤ} → After n e l k e′ l′ → Points k e′ l′ dx dy → Increasing (suc k) e′ l′ es
+      → Increasing n e l (dx ∷ dy ∷ es)
 
 pub cols-next : (dx dy : ℤ) (es : List ℤ) (i : ℕ) → edgeCols (dx ∷ dy ∷ es) (suc i) ≡ edgeCols es i
 unfolding edgeCols
@@ -62,7 +62,7 @@ unfolding edgeRows
 rows-next dx dy es i = let d : 2 * suc i + 1 ≡ suc (suc (2 * i + 1)) = omega arith in rw d
 
 -- A bound that only says how many frames are begun
-turning-from : {n m e l : ℕ} {es : List ℤ} → n ≤ m → Turning m 0 0 es → Turning n e l es
+turning-from : {n m e l : ℕ} {es : List ℤ} → n ≤ m → Increasing m 0 0 es → Increasing n e l es
 turning-from h none = none
 turning-from h (more (later-frame m) p r) = more (later-frame (le-trans h m)) p r
 turning-from h (more (same-frame m s) p r) = absurd (omega arith)
@@ -102,7 +102,7 @@ ends-later-rest f fs ends x b e =
     let w : Word = copies (f .times) (f .word) in
     ends (w ++ x) b (ap (λ (v : Word). w ++ v) e ∙ sym (append-assoc w x (b ∷ [])))
 
-module _ (k : ℕ) (small : k < 4) {es : List ℤ} (rest : Turning (suc k) 0 0 es) where
+module _ (k : ℕ) (small : k < 4) {es : List ℤ} (rest : Increasing (suc k) 0 0 es) where
   points :
       (f : Factor) (fs : List Factor) → EdgesFall (f ∷ fs) → EndsLater (written (f ∷ fs))
       → Points k (run f) (rise f) (stepCols (frameOf k) (run f) (rise f)) (stepRows (frameOf k) (run f) (rise f))
@@ -110,14 +110,14 @@ module _ (k : ℕ) (small : k < 4) {es : List ℤ} (rest : Turning (suc k) 0 0 e
 
   turning-factors :
       (f : Factor) (fs : List Factor) → EdgesFall (f ∷ fs) → EndsLater (written (f ∷ fs)) → {n e l : ℕ} → After n e l k (run f) (rise f)
-      → Turning n e l (edgesOf (frameOf k) (f ∷ fs) ++ es)
+      → Increasing n e l (edgesOf (frameOf k) (f ∷ fs) ++ es)
   unfolding EdgesFall Falls edgesOf
   turning-factors f [] h ends a = more a (points f [] h ends) (turning-from (le-refl (suc k)) rest)
   turning-factors f (g ∷ gs) h ends a =
       more a (points f (g ∷ gs) h ends)
       (turning-factors g gs (h .2) (ends-later-rest f (g ∷ gs) ends) (same-frame refl (edge-falls f g (h .0 .repeated) (h .2 .0 .repeated) (h .1))))
 
-  turning-piece : (fs : List Factor) → EdgesFall fs → EndsLater (written fs) → Turning k 0 0 (edgesOf (frameOf k) fs ++ es)
+  turning-piece : (fs : List Factor) → EdgesFall fs → EndsLater (written fs) → Increasing k 0 0 (edgesOf (frameOf k) fs ++ es)
   unfolding edgesOf
   turning-piece [] h ends = turning-from (omega arith) rest
   turning-piece (f ∷ fs) h ends = turning-factors f fs h ends (later-frame (le-refl k))
@@ -125,13 +125,13 @@ module _ (k : ℕ) (small : k < 4) {es : List ℤ} (rest : Turning (suc k) 0 0 e
 -- ---- the four pieces
 
 module _ (o : Outline) (straight : NoBackStep o) (smooth : dentPiece o ≡ 4) where
-  piece-turning : (k : ℕ) → k < 4 → {es : List ℤ} → Turning (suc k) 0 0 es → Turning k 0 0 (edgesOf (frameOf k) (factors o k) ++ es)
+  piece-turning : (k : ℕ) → k < 4 → {es : List ℤ} → Increasing (suc k) 0 0 es → Increasing k 0 0 (edgesOf (frameOf k) (factors o k) ++ es)
   unfolding factors
   piece-turning k h rest =
       turning-piece k h rest (factors o k) (smooth-edges o smooth k h) (rw (factors-exist (word o k) .whole) (shape o straight .ends k h))
 
   -- From up, inclusive, the directions turn clockwise to just short of up again
-  pub edges-turning : Turning 0 0 0 (edges o)
+  pub edges-turning : Increasing 0 0 0 (edges o)
   unfolding edges
   edges-turning =
       piece-turning 0 (lit< tt) (piece-turning 1 (lit< tt) (piece-turning 2 (lit< tt) (rw append-nil at (piece-turning 3 (lit< tt) none))))

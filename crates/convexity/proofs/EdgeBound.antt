@@ -20,7 +20,7 @@ use Rattle.words.proofs.Factors.{factors-exist, falling-head, falling-tail}
 use Rattle.chart.specs.Limits.{mostNumbers}
 use Rattle.chart.specs.Outline.{Outline}
 use Rattle.convexity.specs.Frame.{frameOf}
-use Rattle.convexity.specs.Reading.{border}
+use Rattle.convexity.specs.Clockwise.{border}
 use Rattle.convexity.specs.Pieces.{Reaches, piece, word, factors, edgeCount, dentLength, dentPiece}
 use Rattle.convexity.specs.Shape.{NoBackStep}
 use Rattle.convexity.proofs.Frame.{Falls, EdgesFall}
@@ -190,7 +190,7 @@ module _ (o : Outline) (straight : NoBackStep o) where
 
 -- At most 100 edges, of the longest outlines too
 pub edges-at-most-100 : (o : Outline) → NoBackStep o → dentPiece o ≡ 4 → 2 * edgeCount o ≤ mostNumbers
-edges-at-most-100 o straight smooth = omega (arith, edges-and-letters o straight smooth, straight .turn .walked .short)
+edges-at-most-100 o straight smooth = omega (arith, edges-and-letters o straight smooth, straight .walk .walked .short)
 
 -- The same for an outline as sent: the holder has room for the edges of every outline that is taken
 pub edges-fit : (o : Outline) → Reaches o → dentPiece (border o) ≡ 4 → 2 * edgeCount (border o) ≤ mostNumbers

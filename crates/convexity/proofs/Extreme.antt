@@ -17,9 +17,9 @@ use Rattle.lattice.specs.Walked.{Walked}
 use Rattle.lattice.proofs.WalkLaws.{OnChart, SameCorners, walked, rotated-walked, turned, length-rotation, point-eq, corner-zero}
 use Rattle.lattice.proofs.WalkLaws.{corner-suc, corner-all, corner-injective}
 use Rattle.convexity.specs.Frame.{Frame, frameOf, along}
-use Rattle.convexity.specs.Cut.{before, least, cornerPlace, westPlace, west, turn}
-use Rattle.convexity.specs.Reading.{opposite}
-use Rattle.convexity.specs.Shape.{Turn}
+use Rattle.convexity.specs.Cut.{before, least, cornerPlace, westPlace, west, fromW}
+use Rattle.convexity.specs.Clockwise.{opposite}
+use Rattle.convexity.specs.Shape.{WalkFromW}
 
 -- ---- the least number below a bound
 
@@ -126,9 +126,9 @@ pub first-at-cornerPlace : (o : Outline) (k : ℕ) → 0 < size o → FirstAt o 
 first-at-cornerPlace o k h = record { below = cornerPlace-lt o k h; none = cornerPlace-first o k }
 
 -- The letters from W on are a turn
-pub turn-of : (o : Outline) → Simple o → Turn (turn o)
-unfolding turn westPlace
-turn-of o t =
+pub from-w-of : (o : Outline) → Simple o → WalkFromW (fromW o)
+unfolding fromW westPlace
+from-w-of o t =
     let d : Walked o = walked o t in
     let k : ℕ = cornerPlace o 0 in
     let h : k ≤ size o = omega (arith, cornerPlace-lt o 0 (omega arith)) in

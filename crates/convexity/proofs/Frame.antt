@@ -140,14 +140,14 @@ Sides [] vp vq p q = Unit
 Sides (f ∷ fs) vp vq p q = (run f * q + rise f * vp ≤ rise f * p + run f * vq) × Sides fs (vp + run f) (vq + rise f) p q
 
 -- What is used of a Christoffel word: its path points are on or under the chord, and the point one up and one left of each is strictly over it
-pub record Hugs (w : Word) : Type 0 where
+pub record RunsAlong (w : Word) : Type 0 where
   pub under : (i : ℕ) → i ≤ length w → laters (take i w) * earliers w ≤ earliers (take i w) * laters w
   pub left : (i : ℕ) → i ≤ length w → earliers (take i w) * laters w < (laters (take i w) + 1) * earliers w + laters w
 
 pub record Edge (f : Factor) : Type 0 where
   pub repeated : 0 < f .times
   pub some : 0 < length (f .word)
-  pub hugs : Hugs (f .word)
+  pub hugs : RunsAlong (f .word)
 
 -- The edge after f, if there is one, is less steep
 unfoldable pub Falls : Factor → List Factor → Type 0

@@ -17,9 +17,9 @@ use Rattle.words.proofs.Factors.{factors-exist, falling-head, falling-tail}
 use Rattle.words.proofs.Counted.{factor-edge, edge-length}
 use Rattle.chart.specs.Outline.{Outline}
 use Rattle.convexity.specs.Frame.{frameOf}
-use Rattle.convexity.specs.Reading.{border}
+use Rattle.convexity.specs.Clockwise.{border}
 use Rattle.convexity.specs.Pieces.{Reaches, piece, word, factors, dentLength, dentPiece, edgesOf, edges}
-use Rattle.convexity.specs.InFrame.{spell}
+use Rattle.convexity.specs.parts.InFrame.{spell}
 use Rattle.convexity.specs.FromEdges.{quadrantOf, runIn, riseIn, sizesIn, pieceFrom, lettersFrom, stepCount}
 use Rattle.convexity.specs.Shape.{NoBackStep}
 use Rattle.convexity.proofs.Frame.{run, rise, EdgesFall}
@@ -207,20 +207,20 @@ module _ (o : Outline) (straight : NoBackStep o) (smooth : dentPiece o ≡ 4) wh
   piece-from-edges k h =
       shape o straight .spelled k h ∙ ap (λ (w : Word). spell (frameOf k) (true ∷ w)) (word-sizes o smooth k h ∙ ap edgesWord (sym (edges-sizes k h)))
 
-  pub turn-from-edges : o .letters ≡ lettersFrom (edges o)
+  pub from-w-from-edges : o .letters ≡ lettersFrom (edges o)
   unfolding lettersFrom
-  turn-from-edges =
+  from-w-from-edges =
       shape o straight .whole
       ∙ rw (piece-from-edges 0 (lit< tt), piece-from-edges 1 (lit< tt), piece-from-edges 2 (lit< tt), piece-from-edges 3 (lit< tt))
 
 -- Two turns with the same edges are the same letters
-pub turn-unique : {o o′ : Outline} → NoBackStep o → NoBackStep o′ → dentPiece o ≡ 4 → dentPiece o′ ≡ 4 → edges o ≡ edges o′ → o .letters ≡ o′ .letters
-turn-unique {o} {o′} h h′ e e′ same = turn-from-edges o h e ∙ ap lettersFrom same ∙ sym (turn-from-edges o′ h′ e′)
+pub from-w-unique : {o o′ : Outline} → NoBackStep o → NoBackStep o′ → dentPiece o ≡ 4 → dentPiece o′ ≡ 4 → edges o ≡ edges o′ → o .letters ≡ o′ .letters
+from-w-unique {o} {o′} h h′ e e′ same = from-w-from-edges o h e ∙ ap lettersFrom same ∙ sym (from-w-from-edges o′ h′ e′)
 
 -- ---- outlines as sent
 
 pub sent-from-edges : (o : Outline) → Reaches o → dentPiece (border o) ≡ 4 → border o .letters ≡ lettersFrom (edges (border o))
-sent-from-edges o h smooth = turn-from-edges (border o) (clear-of o h) smooth
+sent-from-edges o h smooth = from-w-from-edges (border o) (clear-of o h) smooth
 
 -- ---- how many letters a list writes
 

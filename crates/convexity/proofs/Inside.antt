@@ -23,7 +23,7 @@ use Rattle.convexity.specs.Pieces.{word, factors, edgesOf, edges}
 use Rattle.convexity.specs.Inside.{minℤ, maxℤ, noneOutside, colSteps, rowSteps, total, lowestMet, highestMet, within, insideAt, insideEdges}
 use Rattle.convexity.specs.Shape.{Shape}
 use Rattle.convexity.proofs.Frame.{Sides, run, rise}
-use Rattle.convexity.specs.InFrame.{startOf, startE, startL, cellAlong, cellE, cellL}
+use Rattle.convexity.specs.parts.InFrame.{startOf, startE, startL, cellAlong, cellE, cellL}
 use Rattle.convexity.proofs.Ring.{next-lt, next-suc, next-round, below-four, all-round}
 use Rattle.base.proofs.IntegerOrder.{up, down, at-most-iff, not-at-most}
 use Rattle.base.proofs.Differences.{Is, is-self, is-add, is-unique, le-iff}
@@ -163,20 +163,20 @@ module _ (o : Outline) where
   first-placed-0 = record { counted = omega arith }
 
   -- The next piece starts where the edges of this one end
-  turn : Shape o → (k : ℕ) → k < 4 → {x y : ℤ} → Placed k (startE o k + earliers (word o k)) (startL o k + laters (word o k)) x y
+  next-corner : Shape o → (k : ℕ) → k < 4 → {x y : ℤ} → Placed k (startE o k + earliers (word o k)) (startL o k + laters (word o k)) x y
       → Placed (next k) (startE o (next k)) (startL o (next k)) x y
-  turn g k h p = rw (g .next-later k h) (lies-next k (omega (arith, g .next-earlier k h)) p)
+  next-corner g k h p = rw (g .next-later k h) (lies-next k (omega (arith, g .next-earlier k h)) p)
 
   first-placed : Shape o → (k : ℕ) → k < 4 → Placed k (startE o k) (startL o k) (firstCol k) (firstRow k)
   unfolding firstCol firstRow
   first-placed g zero l = first-placed-0
   first-placed g (suc k) l =
-      rw (next-suc k (omega arith)) at (turn g k (omega arith) (rw whole-piece at (lies-end k (factors o k) (first-placed g k (omega arith)))))
+      rw (next-suc k (omega arith)) at (next-corner g k (omega arith) (rw whole-piece at (lies-end k (factors o k) (first-placed g k (omega arith)))))
 
   -- The last piece ends at the first cell of the first
   last-placed : Shape o → Placed 0 (startE o 0) (startL o 0) (firstCol 4) (firstRow 4)
   unfolding firstCol firstRow
-  last-placed g = turn g 3 (omega arith) (rw whole-piece at (lies-end 3 (factors o 3) (first-placed g 3 (omega arith))))
+  last-placed g = next-corner g 3 (omega arith) (rw whole-piece at (lies-end 3 (factors o 3) (first-placed g 3 (omega arith))))
 
   -- Some vertex of piece k has P
   abbrev MeetsPiece : (ℤ → ℤ → Type 0) → ℕ → Type 0

@@ -18,14 +18,14 @@ use Rattle.lattice.specs.Walked.{Walked}
 use Rattle.lattice.proofs.WalkLaws.{walk-append, corner-injective}
 use Rattle.convexity.specs.Frame.{Frame, frameOf, next}
 use Rattle.convexity.specs.Cut.{cornerPlace, westPlace, ahead, cutCorner, cut}
-use Rattle.convexity.specs.Reading.{reading, border}
+use Rattle.convexity.specs.Clockwise.{clockwiseForm, border}
 use Rattle.convexity.specs.Pieces.{rounds, piece, isBackStep}
-use Rattle.convexity.specs.Shape.{Turn}
+use Rattle.convexity.specs.Shape.{WalkFromW}
 use Rattle.convexity.specs.Leads.{cornerRound, Leads, PiecesLead}
-use Rattle.convexity.proofs.Extreme.{cornerPlace-lt, turn-of, Bend, by-later, by-earlier, bend}
+use Rattle.convexity.proofs.Extreme.{cornerPlace-lt, from-w-of, Bend, by-later, by-earlier, bend}
 use Rattle.convexity.proofs.Cuts.{ahead-on, ahead-round, cut-step, cut-zero, corner-west, corner-first, corners-differ}
-use Rattle.convexity.proofs.Reading.{simple-reading}
-use Rattle.convexity.proofs.Corners.{four-corners, corner-reading}
+use Rattle.convexity.proofs.Clockwise.{simple-form}
+use Rattle.convexity.proofs.Corners.{four-corners, corner-form}
 use Rattle.convexity.proofs.Border.{west-start}
 use Rattle.convexity.proofs.Ring.{next-lt, below-four}
 
@@ -111,7 +111,7 @@ own-letter f a b (by-earlier p q) = rw (eq-eqb b (f .earlier) q)
 
 -- ---- the pieces of a turn
 
-module _ (o : Outline) (t : Turn o) where
+module _ (o : Outline) (t : WalkFromW o) where
   abbrev d : Walked o
   d = t .walked
 
@@ -294,12 +294,12 @@ module _ (o : Outline) (t : Turn o) where
 -- ---- outlines past 1 to 6
 
 module _ (o : Outline) (h : Simple o) where
-  turning : Turn (border o)
-  turning = turn-of (reading o) (simple-reading o h)
+  turning : WalkFromW (border o)
+  turning = from-w-of (clockwiseForm o) (simple-form o h)
 
   -- Piece k of the border, counted from 0, leads from the first corner of frame k to that of the next frame
   pub piece-leads : (k : ℕ) → k < 4 → Leads (border o) k (cornerAt o (cornerPlace o k)) (cornerAt o (cornerPlace o (next k)))
-  piece-leads k l = rw (corner-reading o h k, corner-reading o h (next k)) at (leads-on (border o) turning k l)
+  piece-leads k l = rw (corner-form o h k, corner-form o h (next k)) at (leads-on (border o) turning k l)
 
   -- Its first letter, which its word leaves out, is never a back-step (contract 3.5 and 3.6)
   pub first-letter-own : (k : ℕ) → k < 4 → isBackStep (frameOf k) (getD (piece (border o) k) 0 0) ≡ false

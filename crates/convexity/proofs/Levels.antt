@@ -19,7 +19,7 @@ use Rattle.lattice.proofs.RightHand.{leftOf, rightOf, Lowest, clockwise-right, 
 use Rattle.convexity.specs.Frame.{frameOf, along}
 use Rattle.convexity.specs.Cut.{clockwise}
 use Rattle.convexity.specs.Pieces.{IsAnchor}
-use Rattle.convexity.specs.Shape.{Turn}
+use Rattle.convexity.specs.Shape.{WalkFromW}
 use Rattle.convexity.proofs.Extreme.{FirstAt, not-before-earlier, not-before-later}
 
 -- The corner that comes first in frame 0 is the lowest of the leftmost
@@ -95,30 +95,30 @@ module _ (o : Outline) where
       go false e = e
       go true e = let (i, l, a, b) = up-counted c r e in absurd (h i (l .0) a b)
 
-  module _ (h : Turn o) where
+  module _ (h : WalkFromW o) where
     -- A turn begins at its lowest corner
-    pub turn-first : FirstAt o 0 0
-    turn-first = record { below = omega (arith, h .walked .long); none = λ i l. rw corner-zero (h .west i l) }
+    pub from-w-first : FirstAt o 0 0
+    from-w-first = record { below = omega (arith, h .walked .long); none = λ i l. rw corner-zero (h .west i l) }
 
-    pub turn-lowest : Lowest o 0
-    turn-lowest = first-lowest o 0 turn-first
+    pub from-w-lowest : Lowest o 0
+    from-w-lowest = first-lowest o 0 from-w-first
 
     -- No cell of a column left of W is enclosed, and none below the cell at W in its column
     pub left-of-anchor : (c r : ℕ) → c < o .start .col → encloses o c r ≡ false
-    left-of-anchor c r k = open-of-no-ups c r (λ i l a b. omega (arith, rw corner-zero at (turn-lowest .least-col i l)))
+    left-of-anchor c r k = open-of-no-ups c r (λ i l a b. omega (arith, rw corner-zero at (from-w-lowest .least-col i l)))
 
     pub below-anchor : (r : ℕ) → r < o .start .row → encloses o (o .start .col) r ≡ false
     below-anchor r k =
         open-of-no-ups (o .start .col) r (λ i l a b.
-        let least = rw corner-zero at (turn-lowest .least-col i l) in
-        omega (arith, rw corner-zero at (turn-lowest .least-row i l) (omega arith)))
+        let least = rw corner-zero at (from-w-lowest .least-col i l) in
+        omega (arith, rw corner-zero at (from-w-lowest .least-row i l) (omega arith)))
 
     module _ (up : letterAt o 0 ≡ 1) where
       pub right-in : (a i : ℕ) → LetterAt (o .letters) a i → In o (rightOf (cornerAt o i) a)
-      right-in a i e = subst (λ (b : ℕ). In o (rightOf (cornerAt o i) b)) (e .1) (clockwise-right o (h .walked) 0 turn-lowest up i (e .0))
+      right-in a i e = subst (λ (b : ℕ). In o (rightOf (cornerAt o i) b)) (e .1) (clockwise-right o (h .walked) 0 from-w-lowest up i (e .0))
 
       pub left-out : (a i : ℕ) → LetterAt (o .letters) a i → Out o (leftOf (cornerAt o i) a)
-      left-out a i e = subst (λ (b : ℕ). Out o (leftOf (cornerAt o i) b)) (e .1) (clockwise-left o (h .walked) 0 turn-lowest up i (e .0))
+      left-out a i e = subst (λ (b : ℕ). Out o (leftOf (cornerAt o i) b)) (e .1) (clockwise-left o (h .walked) 0 from-w-lowest up i (e .0))
 
       -- The cell right of an up
       pub up-marked : (i : ℕ) → LetterAt (o .letters) 1 i → encloses o (cornerAt o i .col) (cornerAt o i .row) ≡ true
@@ -128,4 +128,4 @@ module _ (o : Outline) where
       -- The cell at W is the lowest enclosed cell of the leftmost column
       pub anchor-lowest : IsAnchor (encloses o) (o .start)
       anchor-lowest =
-          record { enclosed = rw corner-zero at (up-marked 0 (turn-lowest .below, up)); leftmost = left-of-anchor; lowest = below-anchor }
+          record { enclosed = rw corner-zero at (up-marked 0 (from-w-lowest .below, up)); leftmost = left-of-anchor; lowest = below-anchor }

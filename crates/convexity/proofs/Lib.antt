@@ -17,7 +17,7 @@ pub mod Inside
 pub mod PathCells
 pub mod DentMissing
 pub mod Theorem
-pub mod Reading
+pub mod Clockwise
 pub mod Places
 pub mod AsSent
 pub mod Corners

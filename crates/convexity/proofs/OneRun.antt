@@ -14,10 +14,10 @@ use Rattle.lattice.proofs.WalkLaws.{point, point-eq, corner-injective}
 use Rattle.lattice.proofs.Jumps.{upsTo, ups-column-zero, ups-row-zero}
 use Rattle.lattice.proofs.RightHand.{leftOf, rightOf}
 use Rattle.convexity.specs.Frame.{frameOf, along}
-use Rattle.convexity.specs.Reading.{opposite}
+use Rattle.convexity.specs.Clockwise.{opposite}
 use Rattle.base.proofs.Mean.{mean-same, mean-at-least}
 use Rattle.lattice.specs.Enclosed.{encloses}
-use Rattle.convexity.specs.Shape.{Turn}
+use Rattle.convexity.specs.Shape.{WalkFromW}
 use Rattle.convexity.proofs.Extreme.{along-injective, on-chart}
 use Rattle.convexity.proofs.Levels.{LetterAt, In, Out, shifted, level-enclosed, level-open, right-in, left-out}
 
@@ -109,7 +109,7 @@ module _ (o : Outline) where
 
   -- ---- two letters across one line of a turn that leaves W upwards
 
-  module _ (h : Turn o) (up : letterAt o 0 ≡ 1) where
+  module _ (h : WalkFromW o) (up : letterAt o 0 ≡ 1) where
     abbrev corner : ℕ → Point
     corner i = cornerAt o i
 

@@ -16,14 +16,14 @@ use Rattle.chart.specs.Outline.{Outline}
 use Rattle.lattice.specs.Chart.{cornerAt, letterAt}
 use Rattle.lattice.specs.Enclosed.{encloses}
 use Rattle.lattice.proofs.WalkLaws.{point, point-eq, corner-suc}
-use Rattle.lattice.proofs.RightHand.{leftOf, rightOf, cornerOf, turn, clockwise-left-turn}
+use Rattle.lattice.proofs.RightHand.{leftOf, rightOf, cornerOf, quarterTurn, clockwise-left-turn}
 use Rattle.convexity.specs.Frame.{frameOf, along, next}
 use Rattle.convexity.specs.Cut.{cut}
 use Rattle.convexity.specs.Pieces.{word}
-use Rattle.convexity.specs.InFrame.{cellAlong, startE, startL, cellE, cellL}
+use Rattle.convexity.specs.parts.InFrame.{cellAlong, startE, startL, cellE, cellL}
 use Rattle.convexity.specs.Shape.{NoBackStep}
 use Rattle.convexity.proofs.Ring.{next-lt}
-use Rattle.convexity.proofs.Levels.{LetterAt, In, shifted, level-enclosed, leaves-upwards, turn-lowest, right-in}
+use Rattle.convexity.proofs.Levels.{LetterAt, In, shifted, level-enclosed, leaves-upwards, from-w-lowest, right-in}
 use Rattle.convexity.proofs.Shape.{shape, letterOf, CornerIn, place-lt, letter-in-piece, corner-in-piece}
 
 -- ---- cells in a frame
@@ -87,7 +87,7 @@ right-earlier (suc (suc (suc k))) p P Q c h l =
     point-eq (shifted p) (shifted (point (side - 1 - Q) P)) (omega arith) (ap suc (c .across))
 
 -- From the earlier letter to the later one is a left turn
-left-turn-letters : (k : ℕ) → frameOf k .later ≡ turn (frameOf k .earlier)
+left-turn-letters : (k : ℕ) → frameOf k .later ≡ quarterTurn (frameOf k .earlier)
 unfolding frameOf
 left-turn-letters zero = refl
 left-turn-letters (suc zero) = refl
@@ -157,7 +157,7 @@ module _ (o : Outline) (c : NoBackStep o) where
         letter m n d e = (place-lt o c k h m n, letter-in-piece o c k h m n ∙ ap (letterOf (frameOf k)) e)
 
         right : (m : ℕ) → m < length spelt → (d : Bool) → getD spelt m false ≡ d → In o (rightOf (cornerAt o (cut o k + m)) (letterOf (frameOf k) d))
-        right m n d e = right-in o (c .turn) up (letterOf (frameOf k) d) (cut o k + m) (letter m n d e)
+        right m n d e = right-in o (c .walk) up (letterOf (frameOf k) d) (cut o k + m) (letter m n d e)
 
         corner : CornerIn k (cornerAt o b) (pathE o k i) (suc (pathL o k i))
         corner = let q = corner-in-piece o c k h (suc i) (omega arith) in record { on-chart = q .on-chart; across = q .across; up = omega arith }
@@ -172,7 +172,7 @@ module _ (o : Outline) (c : NoBackStep o) where
             subst (In o)
             (ap (λ (p : Point). rightOf p (letterAt o a)) (sym (corner-suc o a n) ∙ next) ∙ ap (rightOf (cornerAt o b)) f
             ∙ right-earlier k (cornerAt o b) _ _ corner (path-across-le i) (path-up-le i))
-            (clockwise-left-turn o (c .turn .walked) 0 (turn-lowest o (c .turn)) up a b n n′ next (g ∙ left-turn-letters k ∙ ap turn (sym f)))
+            (clockwise-left-turn o (c .walk .walked) 0 (from-w-lowest o (c .walk)) up a b n n′ next (g ∙ left-turn-letters k ∙ ap quarterTurn (sym f)))
 
         arrives : (d : Bool) → getD spelt i false ≡ d → In o (shifted (pathCell o k i))
         arrives true e =

@@ -8,8 +8,8 @@ use Rattle.chart.specs.Limits.{side}
 use Rattle.chart.specs.declared.Point.{Point}
 use Rattle.lattice.proofs.WalkLaws.{OnChart}
 use Rattle.convexity.specs.Frame.{Frame, frameOf, next, along}
-use Rattle.convexity.specs.InFrame.{cellAlong, cellE, cellL}
-use Rattle.convexity.specs.Reading.{opposite}
+use Rattle.convexity.specs.parts.InFrame.{cellAlong, cellE, cellL}
+use Rattle.convexity.specs.Clockwise.{opposite}
 
 pub next-lt : (k : ℕ) → next k < 4
 next-lt zero = omega arith

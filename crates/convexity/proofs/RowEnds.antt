@@ -19,7 +19,7 @@ use Rattle.rows.specs.Search.{upColumn, downColumn}
 use Rattle.lattice.proofs.Jumps.{tally, tally-none}
 use Rattle.convexity.specs.Frame.{frameOf, along}
 use Rattle.convexity.specs.Cut.{cut}
-use Rattle.convexity.specs.InFrame.{cellAlong, startOf, startE, cellE, cellL}
+use Rattle.convexity.specs.parts.InFrame.{cellAlong, startOf, startE, cellE, cellL}
 use Rattle.convexity.specs.Shape.{NoBackStep}
 use Rattle.convexity.proofs.Ring.{below-four}
 use Rattle.convexity.proofs.Levels.{ups-tally, downs-tally, tested, leaves-upwards, up-counted, up-marked}
@@ -108,7 +108,7 @@ module _ (o : Outline) (c : NoBackStep o) where
 
   top-start : startE o 1 + top o ≡ side
   unfolding startE startOf frameOf along
-  top-start = omega (arith, c .turn .walked .row-le (cut o 1) (cut-le o c 0 (omega arith)))
+  top-start = omega (arith, c .walk .walked .row-le (cut o 1) (cut-le o c 0 (omega arith)))
 
   -- An up leads across the rows, from piece 3 to piece 0, and so does a down, from piece 1 to piece 2
   module _ (r : ℕ) (low : bottom o ≤ r) (high : r < top o) where
@@ -133,7 +133,7 @@ module _ (o : Outline) (c : NoBackStep o) where
     finds-down : Finds (λ p a. downAlong p a r) o (down .place)
     unfolding downAlong frameOf along
     finds-down =
-        let h = c .turn .walked .row-le (down .place) (omega (arith, down .letter .0)) in
+        let h = c .walk .walked .row-le (down .place) (omega (arith, down .letter .0)) in
         finds-of (λ p a. downAlong p a r) o (down .place) (down .letter .0)
         (rw (eq-eqb _ 3 (down .letter .1)) (eq-eqb (cornerAt o (down .place) .row) (suc r) (omega (arith, down .here, top-start))))
         (λ i l e. let (a, b) = tested (letterAt o i) 3 (cornerAt o i .row) (suc r) e in down .only i (l, a) (omega arith))
@@ -160,18 +160,18 @@ module _ (o : Outline) (c : NoBackStep o) where
     row-ends c = rw (up-column, down-column) (ends c)
 
     -- The cell right of the up is one of them
-    pub row-full : upColumn (o .start) (o .letters) r 0 < downColumn (o .start) (o .letters) r 0
+    pub row-convex : upColumn (o .start) (o .letters) r 0 < downColumn (o .start) (o .letters) r 0
     unfolding frameOf along
-    row-full = rw (up-column, down-column) (ends upCol .0 (rw (up .here) at (up-marked o (c .turn) (leaves-upwards o (c .clockwise)) (up .place) (up .letter))) .1)
+    row-convex = rw (up-column, down-column) (ends upCol .0 (rw (up .here) at (up-marked o (c .walk) (leaves-upwards o (c .clockwise)) (up .place) (up .letter))) .1)
 
     pub row-fits : downColumn (o .start) (o .letters) r 0 ≤ side
-    row-fits = rw down-column (c .turn .walked .col-le (down .place) (omega (arith, down .letter .0)))
+    row-fits = rw down-column (c .walk .walked .col-le (down .place) (omega (arith, down .letter .0)))
 
     -- Right of the up is under the paths of pieces 3 and 0, left of the down under those of pieces 1 and 2
     row-under : (x : Point) → x .row ≡ r → x .col < side → (encloses o (x .col) r ≡ true) ↔ ((k : ℕ) → k < 4 → UnderPiece o k x)
     unfolding cellE cellL cellAlong frameOf along
     row-under x e l =
-        let h = c .turn .walked .col-le (down .place) (omega (arith, down .letter .0)) in
+        let h = c .walk .walked .col-le (down .place) (omega (arith, down .letter .0)) in
         let a = up .under x l (omega (arith, top-start)) e in
         let b = down .under x l (omega (arith, top-start)) (omega arith) in (
           λ g.
@@ -203,7 +203,7 @@ module _ (o : Outline) (c : NoBackStep o) where
         not-held _ (λ e.
         let (a, b) = tested (letterAt o i) 3 (cornerAt o i .row) (suc r) (and-left (downAlong (cornerAt o i) (letterAt o i) r) (leb (cornerAt o i .col) c′) e) in
         let lines = line-bounds o c 1 (omega arith) i (l, a) in
-        let h = c .turn .walked .row-le i (omega arith) in
+        let h = c .walk .walked .row-le i (omega arith) in
         off (omega (arith, bottom-start, top-start)) (omega (arith, bottom-start, top-start))))
 
   pub enclosed-row : (c r : ℕ) → encloses o c r ≡ true → (bottom o ≤ r) × (r < top o)

@@ -19,16 +19,16 @@ use Rattle.lattice.proofs.WalkLaws.{walked, point, point-eq, corner-zero, corne
 use Rattle.lattice.proofs.WalkLaws.{rotated-walked, rotated-simple, outline-eq}
 use Rattle.lattice.proofs.Jumps.{rises, falls, upsTo, downsTo, upsAt, rightsAt, leftsAt, ups-to, downs-to, ups-jump-vertical, downs-jump-vertical, ups-column-zero, downs-column-zero, ups-row-zero, downs-row-zero, jump-horizontal, ups-found, downs-found, rights-found, lefts-found, ups-none, rights-none, lefts-none}
 use Rattle.lattice.proofs.RightHand.{leftOf, rightOf, OneAbove, left-hand, level, tally-rotation}
-use Rattle.convexity.specs.Cut.{westPlace, west, turn, clockwise}
+use Rattle.convexity.specs.Cut.{westPlace, west, fromW, clockwise}
 use Rattle.convexity.specs.Pieces.{Reaches, dentPiece, edges}
 use Rattle.convexity.specs.Inside.{insideEdges}
 use Rattle.convexity.specs.SameBlock.{SameCells, SameEdges}
-use Rattle.convexity.specs.Reading.{reading, reversed, block, border}
-use Rattle.convexity.specs.Shape.{Turn}
-use Rattle.convexity.proofs.Extreme.{turn-of, first-shared}
-use Rattle.convexity.proofs.Levels.{enclosed-level, level-enclosed, leaves-upwards, turn-lowest, left-of-anchor, below-anchor, anchor-lowest}
-use Rattle.convexity.proofs.AsSent.{block-turn, edges-answer-sent}
-use Rattle.convexity.proofs.Reading.{simple-reading, clockwise-reading, turn-reading}
+use Rattle.convexity.specs.Clockwise.{clockwiseForm, reversed, block, border}
+use Rattle.convexity.specs.Shape.{WalkFromW}
+use Rattle.convexity.proofs.Extreme.{from-w-of, first-shared}
+use Rattle.convexity.proofs.Levels.{enclosed-level, level-enclosed, leaves-upwards, from-w-lowest, left-of-anchor, below-anchor, anchor-lowest}
+use Rattle.convexity.proofs.AsSent.{block-from-w, edges-answer-sent}
+use Rattle.convexity.proofs.Clockwise.{simple-form, clockwise-form, from-w-form}
 
 -- ---- a side is walked where the level jumps
 
@@ -120,7 +120,7 @@ same-walk o o′ e t t′ same =
 
 -- A turn that begins at W and leaves it upwards
 record UpTurn (o : Outline) : Type 0 where
-  turn : Turn o
+  walk : WalkFromW o
   up : letterAt o 0 ≡ 1
 
 -- Two walks enclose the same cells
@@ -132,14 +132,14 @@ module _ (o : Outline) (d : UpTurn o) where
   west-left : (c r : ℕ) → encloses o c r ≡ true → o .start .col ≤ c
   west-left c r e =
       elim (decLt c (o .start .col)) [
-        | yes l ↦ let z : _≡_ {A = ℕ} 0 1 = cc (left-of-anchor o (d .turn) c r l) in absurd (omega arith)
+        | yes l ↦ let z : _≡_ {A = ℕ} 0 1 = cc (left-of-anchor o (d .walk) c r l) in absurd (omega arith)
         | no l ↦ omega arith
       ]
 
   west-low : (c r : ℕ) → c ≡ o .start .col → encloses o c r ≡ true → o .start .row ≤ r
   west-low c r f e =
       elim (decLt r (o .start .row)) [
-        | yes l ↦ let z : _≡_ {A = ℕ} 0 1 = cc (below-anchor o (d .turn) r l) in absurd (omega arith)
+        | yes l ↦ let z : _≡_ {A = ℕ} 0 1 = cc (below-anchor o (d .walk) r l) in absurd (omega arith)
         | no l ↦ omega arith
       ]
 
@@ -147,8 +147,8 @@ module _ (o o′ : Outline) (d : UpTurn o) (d′ : UpTurn o′) (same : SameEncl
   -- The cell at W is the same
   same-start : o .start ≡ o′ .start
   same-start =
-      let here : encloses o′ (o .start .col) (o .start .row) ≡ true = sym (same (o .start .col) (o .start .row)) ∙ anchor-lowest o (d .turn) (d .up) .enclosed in
-      let there : encloses o (o′ .start .col) (o′ .start .row) ≡ true = same (o′ .start .col) (o′ .start .row) ∙ anchor-lowest o′ (d′ .turn) (d′ .up) .enclosed in
+      let here : encloses o′ (o .start .col) (o .start .row) ≡ true = sym (same (o .start .col) (o .start .row)) ∙ anchor-lowest o (d .walk) (d .up) .enclosed in
+      let there : encloses o (o′ .start .col) (o′ .start .row) ≡ true = same (o′ .start .col) (o′ .start .row) ∙ anchor-lowest o′ (d′ .walk) (d′ .up) .enclosed in
       let c : o .start .col ≡ o′ .start .col = omega (arith, west-left o′ d′ (o .start .col) (o .start .row) here, west-left o d (o′ .start .col) (o′ .start .row) there) in
       point-eq (o .start) (o′ .start) c (omega (arith, west-low o d (o′ .start .col) (o′ .start .row) (sym c) there, west-low o′ d′ (o .start .col) (o .start .row) c here))
 
@@ -159,14 +159,14 @@ module _ (o o′ : Outline) (d : UpTurn o) (d′ : UpTurn o′) (same : SameEncl
       omega (
         arith,
         ups-row-zero o (suc c),
-        downs-row-zero o (d .turn .walked .stays) (suc c),
+        downs-row-zero o (d .walk .walked .stays) (suc c),
         ups-row-zero o′ (suc c),
-        downs-row-zero o′ (d′ .turn .walked .stays) (suc c),
+        downs-row-zero o′ (d′ .walk .walked .stays) (suc c),
       )
   same-levels (suc c) (suc r) =
-      elim (level o (d .turn .walked) 0 (turn-lowest o (d .turn)) (d .up) (suc c) (suc r)) [
+      elim (level o (d .walk .walked) 0 (from-w-lowest o (d .walk)) (d .up) (suc c) (suc r)) [
         | inl f ↦
-            elim (level o′ (d′ .turn .walked) 0 (turn-lowest o′ (d′ .turn)) (d′ .up) (suc c) (suc r)) [
+            elim (level o′ (d′ .walk .walked) 0 (from-w-lowest o′ (d′ .walk)) (d′ .up) (suc c) (suc r)) [
               | inl g ↦ omega arith
               | inr g ↦ absurd (omega (arith, enclosed-level o (point c r) (same c r ∙ level-enclosed o′ (point c r) g)))
             ]
@@ -174,7 +174,7 @@ module _ (o o′ : Outline) (d : UpTurn o) (d′ : UpTurn o′) (same : SameEncl
       ]
 
   same-turns : o ≡ o′
-  same-turns = same-walk o o′ same-start (d .turn .walked) (d′ .turn .walked) same-levels
+  same-turns = same-walk o o′ same-start (d .walk .walked) (d′ .walk .walked) same-levels
 
 -- ---- cells off the chart are not enclosed
 
@@ -221,26 +221,26 @@ module _ (o : Outline) (t : Walked o) where
 
 -- No cell off the chart is in a block
 pub open-off : (o : Outline) → Simple o → (c r : ℕ) → (side ≤ c) ⊎ (side ≤ r) → block o c r ≡ false
-open-off o h c r (inl a) = open-right (reading o) (walked (reading o) (simple-reading o h)) c r a
-open-off o h c r (inr a) = open-above (reading o) (walked (reading o) (simple-reading o h)) c r a
+open-off o h c r (inl a) = open-right (clockwiseForm o) (walked (clockwiseForm o) (simple-form o h)) c r a
+open-off o h c r (inr a) = open-above (clockwiseForm o) (walked (clockwiseForm o) (simple-form o h)) c r a
 
 -- ---- outlines as sent, past refusals 1 to 6
 
 up-turn : (o : Outline) → Simple o → UpTurn (border o)
-up-turn o h = record { turn = turn-of (reading o) (simple-reading o h); up = leaves-upwards (border o) (clockwise-reading o h) }
+up-turn o h = record { walk = from-w-of (clockwiseForm o) (simple-form o h); up = leaves-upwards (border o) (clockwise-form o h) }
 
 module _ (o o′ : Outline) (h : Simple o) (h′ : Simple o′) where
   turns-of-cells : SameCells o o′ → border o ≡ border o′
   turns-of-cells same =
       same-turns (border o) (border o′) (up-turn o h) (up-turn o′ h′)
-      (λ c r. block-turn o h c r ∙ same c r ∙ sym (block-turn o′ h′ c r))
+      (λ c r. block-from-w o h c r ∙ same c r ∙ sym (block-from-w o′ h′ c r))
 
   cells-of-turns : border o ≡ border o′ → SameCells o o′
-  cells-of-turns e c r = sym (block-turn o h c r) ∙ ap (λ (v : Outline). encloses v c r) e ∙ block-turn o′ h′ c r
+  cells-of-turns e c r = sym (block-from-w o h c r) ∙ ap (λ (v : Outline). encloses v c r) e ∙ block-from-w o′ h′ c r
 
   -- Outlines mark the same block exactly if their readings have the same W and the same letters from there on, whichever way and from wherever they were drawn
-  pub same-turn-iff : SameCells o o′ ↔ (border o ≡ border o′)
-  same-turn-iff = (turns-of-cells, cells-of-turns)
+  pub same-from-w-iff : SameCells o o′ ↔ (border o ≡ border o′)
+  same-from-w-iff = (turns-of-cells, cells-of-turns)
 
 -- ---- outlines past the test: their edges
 
@@ -248,7 +248,7 @@ module _ (o o′ : Outline) (h : Reaches o) (h′ : Reaches o′)
     (d : dentPiece (border o) ≡ 4) (d′ : dentPiece (border o′) ≡ 4) where
   edges-of-cells : SameCells o o′ → SameEdges o o′
   edges-of-cells e =
-      let same = same-turn-iff o o′ (h .simple) (h′ .simple) .0 e in
+      let same = same-from-w-iff o o′ (h .simple) (h′ .simple) .0 e in
       (ap (λ (v : Outline). v .start) same, ap edges same)
 
   open-past : (c r : ℕ) → (side ≤ c) ⊎ (side ≤ r) → block o c r ≡ block o′ c r
@@ -283,33 +283,33 @@ downs-around : (o : Outline) (k : ℕ) → Closed o → (C R : ℕ) → downsTo 
 unfolding downsTo
 downs-around o k e C R = tally-rotation (falls C R) o k e
 
-levels-turn : (o : Outline) → Closed o → SameLevels (turn o) o
-unfolding turn
-levels-turn o e C R = omega (arith, ups-around o (westPlace o) e C R, downs-around o (westPlace o) e C R)
+levels-from-w : (o : Outline) → Closed o → SameLevels (fromW o) o
+unfolding fromW
+levels-from-w o e C R = omega (arith, ups-around o (westPlace o) e C R, downs-around o (westPlace o) e C R)
 
 module _ (o : Outline) (h : Simple o) (k : ℕ) (b : k ≤ size o) where
   pub west-rotation : west (rotated k o) ≡ west o
-  unfolding turn westPlace
+  unfolding fromW westPlace
   west-rotation =
       let d = walked o h in
       first-shared (rotated k o) o (rotated-walked o k b d) d (rotated-corners o k b (d .closed)) 0
 
-  pub turn-rotation : turn (rotated k o) ≡ turn o
-  turn-rotation =
+  pub from-w-rotation : fromW (rotated k o) ≡ fromW o
+  from-w-rotation =
       let d = walked o h in
       let closed : Closed (rotated k o) = rotated-walked o k b d .closed in
-      same-walk (turn (rotated k o)) (turn o) west-rotation (turn-of (rotated k o) (rotated-simple o k b h) .walked) (turn-of o h .walked)
+      same-walk (fromW (rotated k o)) (fromW o) west-rotation (from-w-of (rotated k o) (rotated-simple o k b h) .walked) (from-w-of o h .walked)
       (λ C R.
       omega (
         arith,
-        levels-turn (rotated k o) closed C R,
-        levels-turn o (d .closed) C R,
+        levels-from-w (rotated k o) closed C R,
+        levels-from-w o (d .closed) C R,
         ups-around o k (d .closed) C R,
         downs-around o k (d .closed) C R,
       ))
 
   -- Wherever the pen began, the reading from W on is the same, and so is the block
-  pub reading-rotation : border (rotated k o) ≡ border o
-  reading-rotation =
-      turn-reading (rotated k o) (rotated-simple o k b h) ∙ ap (λ (v : Outline). cond (clockwise v) v (reversed v)) turn-rotation
-      ∙ sym (turn-reading o h)
+  pub form-rotation : border (rotated k o) ≡ border o
+  form-rotation =
+      from-w-form (rotated k o) (rotated-simple o k b h) ∙ ap (λ (v : Outline). cond (clockwise v) v (reversed v)) from-w-rotation
+      ∙ sym (from-w-form o h)

@@ -25,8 +25,8 @@ use Rattle.lattice.proofs.WalkLaws.{OnChart}
 use Rattle.convexity.specs.Frame.{Frame, frameOf, along, next}
 use Rattle.convexity.specs.Cut.{cutCorner, cut}
 use Rattle.convexity.specs.Pieces.{rounds, piece, isBackStep, backStepAt, backStepPiece, word}
-use Rattle.convexity.specs.InFrame.{spell, startOf, startE, startL}
-use Rattle.convexity.specs.Reading.{opposite}
+use Rattle.convexity.specs.parts.InFrame.{spell, startOf, startE, startL}
+use Rattle.convexity.specs.Clockwise.{opposite}
 use Rattle.convexity.specs.Shape.{NoBackStep, Shape}
 use Rattle.convexity.proofs.Ring.{next-lt, next-suc, below-four, round-ring, Apart, apart, Turns, turns, along-next}
 use Rattle.convexity.proofs.Levels.{leaves-upwards}
@@ -160,7 +160,7 @@ corner-on k true p q P Q o c (later-back x y z) = absurd (omega (arith, apart k)
 
 module _ (o : Outline) (c : NoBackStep o) where
   steps : Walked o
-  steps = c .turn .walked
+  steps = c .walk .walked
 
   up : letterAt o 0 ≡ 1
   up = leaves-upwards o (c .clockwise)
@@ -176,14 +176,14 @@ module _ (o : Outline) (c : NoBackStep o) where
       elim (decLt a b) [
         | yes l ↦ l
         | no l ↦
-            let m : b < a = omega (arith, rw (next-suc k h) at (corners-differ o (c .turn) k (omega arith))) in
-            let below : a < n = corner-first o (c .turn) k (omega arith) .below in
-            let after : 0 < b = corner-after o (c .turn) up (suc k) (omega arith) (omega arith) in
+            let m : b < a = omega (arith, rw (next-suc k h) at (corners-differ o (c .walk) k (omega arith))) in
+            let below : a < n = corner-first o (c .walk) k (omega arith) .below in
+            let after : 0 < b = corner-after o (c .walk) up (suc k) (omega arith) (omega arith) in
             let far : cut o (suc k) ≡ b + n = omega (arith, cut-step o k, ahead-round n a b m) in
             let of : (i : ℕ) → a ≤ i → i < b + n → LetterOf (frameOf k) (getD (rounds (o .letters)) i 0) =
             λ i x y. of-piece o (c .straight) k (omega arith) i (omega arith) (omega arith) (omega (arith, length-rounds (o .letters))) in
             absurd (not-both k h
-            (rw (rounds-before (o .letters) (n - 1) (omega arith), coming-west o (c .turn) up) at (of (n - 1) (omega arith) (omega arith)))
+            (rw (rounds-before (o .letters) (n - 1) (omega arith), coming-west o (c .walk) up) at (of (n - 1) (omega arith) (omega arith)))
             (rw (rounds-after (o .letters) 0 (omega arith), up) at (of (n + 0) (omega arith) (omega arith))))
       ]
 
@@ -197,17 +197,17 @@ module _ (o : Outline) (c : NoBackStep o) where
   rise : (k : ℕ) → k < 3 → cutCorner o k < cutCorner o (suc k)
   rise k h = corner-rises k h (cut-corner k (omega arith))
 
-  whole-turn : cut o 4 ≡ size o
-  whole-turn = cut-round o cut-corner rise (corner-first o (c .turn) 3 (omega arith) .below)
+  whole-from-w : cut o 4 ≡ size o
+  whole-from-w = cut-round o cut-corner rise (corner-first o (c .walk) 3 (omega arith) .below)
 
   rising : (k : ℕ) → k < 4 → cut o k < cut o (suc k)
-  rising = cuts-rise o cut-corner rise (corner-first o (c .turn) 3 (omega arith) .below)
+  rising = cuts-rise o cut-corner rise (corner-first o (c .walk) 3 (omega arith) .below)
 
   pub cut-le : (k : ℕ) → k < 4 → cut o (suc k) ≤ size o
-  cut-le = cuts-fit o cut-corner rise (corner-first o (c .turn) 3 (omega arith) .below)
+  cut-le = cuts-fit o cut-corner rise (corner-first o (c .walk) 3 (omega arith) .below)
 
   cut-first : (k : ℕ) → k < 4 → FirstAt o k (cut o k)
-  cut-first k h = rw (cut-corner k h) (corner-first o (c .turn) k h)
+  cut-first k h = rw (cut-corner k h) (corner-first o (c .walk) k h)
 
   -- ---- the pieces are parts of the turn
 
@@ -224,7 +224,7 @@ module _ (o : Outline) (c : NoBackStep o) where
       let e0 : o .letters ≡ piece o 0 ++ drop (cut o 1) (o .letters) = ap (λ (m : ℕ). drop m (o .letters)) (sym (cut-zero o)) ∙ piece-rest 0 (omega arith) in
       let e1 = piece-rest 1 (omega arith) in
       let e2 = piece-rest 2 (omega arith) in
-      let e3 : drop (cut o 3) (o .letters) ≡ piece o 3 = piece-rest 3 (omega arith) ∙ ap (λ (m : ℕ). piece o 3 ++ drop m (o .letters)) whole-turn ∙ ap (λ (v : List ℕ). piece o 3 ++ v) (drop-length (o .letters)) ∙ append-nil (piece o 3) in
+      let e3 : drop (cut o 3) (o .letters) ≡ piece o 3 = piece-rest 3 (omega arith) ∙ ap (λ (m : ℕ). piece o 3 ++ drop m (o .letters)) whole-from-w ∙ ap (λ (v : List ℕ). piece o 3 ++ v) (drop-length (o .letters)) ∙ append-nil (piece o 3) in
       e0 ∙ ap (λ (v : List ℕ). piece o 0 ++ v) (e1 ∙ ap (λ (v : List ℕ). piece o 1 ++ v) (e2 ∙ ap (λ (v : List ℕ). piece o 2 ++ v) e3))
 
   -- ---- a piece begins and ends with its later letter
@@ -239,7 +239,7 @@ module _ (o : Outline) (c : NoBackStep o) where
   place-before =
       round-ring (λ k j. previous (size o) (cut o j) ≡ cut o (suc k) - 1)
       (λ k h. previous-pos (size o) (cut o (suc k)) (omega (arith, rising k (omega arith))))
-      (rw cut-zero (previous-zero (size o) ∙ ap (λ (n : ℕ). n - 1) (sym whole-turn)))
+      (rw cut-zero (previous-zero (size o) ∙ ap (λ (n : ℕ). n - 1) (sym whole-from-w)))
 
   meeting : (k : ℕ) → k < 4 → (letterAt o (cut o (suc k) - 1) ≡ frameOf k .later) × (letterAt o (cut o (next k)) ≡ frameOf (next k) .later)
   meeting k h =
@@ -328,7 +328,7 @@ module _ (o : Outline) (c : NoBackStep o) where
     pub place : cut o piece + offset ≡ i
 
   pub in-piece : (i : ℕ) → i < size o → InPiece i
-  in-piece i h = go 4 (omega arith) (omega (arith, whole-turn))
+  in-piece i h = go 4 (omega arith) (omega (arith, whole-from-w))
     where
       go : (n : ℕ) → n ≤ 4 → i < cut o n → InPiece i
       go zero l m = absurd (omega (arith, cut-zero o))
@@ -353,7 +353,7 @@ module _ (o : Outline) (c : NoBackStep o) where
   unfolding startOf
   start-next =
       round-ring (λ k j. cornerAt o (cut o (suc k)) ≡ cornerAt o (cut o j)) (λ k h. refl)
-      (ap (cornerAt o) whole-turn ∙ corner-round o steps ∙ ap (cornerAt o) (sym (cut-zero o)))
+      (ap (cornerAt o) whole-from-w ∙ corner-round o steps ∙ ap (cornerAt o) (sym (cut-zero o)))
 
   next-later : (k : ℕ) → k < 4 → startL o (next k) ≡ startE o k + earliers (word o k)
   unfolding startL earliers
@@ -370,7 +370,7 @@ pub shape : (o : Outline) → NoBackStep o → Shape o
 shape o c =
     record {
       corners = cut-corner o c;
-      round = whole-turn o c;
+      round = whole-from-w o c;
       rises = rising o c;
       whole = pieces-whole o c;
       spelled = spelled o c;

@@ -10,7 +10,7 @@ use Rattle.words.specs.Word.{earliers, laters}
 use Rattle.words.specs.Lyndon.{Factor, written}
 use Rattle.base.proofs.Mean.{Mean, mean-line, mean-le}
 use Rattle.convexity.proofs.Frame.{Under, Sides, EdgesFall, run, rise, sides-mono, under-iff-sides}
-use Rattle.convexity.specs.InFrame.{UnderFrom}
+use Rattle.convexity.specs.parts.InFrame.{UnderFrom}
 
 -- A point lower down stays on the right side of every edge
 pub sides-lower : (fs : List Factor) (vp vq p q q′ : ℕ) → q′ ≤ q → Sides fs vp vq p q → Sides fs vp vq p q′

@@ -18,7 +18,7 @@ use Rattle.convexity.specs.Frame.{Frame, frameOf, next}
 use Rattle.convexity.specs.Pieces.{edgesOf}
 use Rattle.convexity.specs.Inside.{notNegative, sideValue, noneOutside, colSteps, rowSteps}
 use Rattle.convexity.proofs.Frame.{Sides, run, rise}
-use Rattle.convexity.specs.InFrame.{cellAlong, cellE, cellL}
+use Rattle.convexity.specs.parts.InFrame.{cellAlong, cellE, cellL}
 
 -- ---- side values
 

@@ -14,7 +14,7 @@ use Rattle.words.specs.Lyndon
 use Rattle.words.specs.Christoffel
 use Rattle.convexity.specs.Frame
 use Rattle.convexity.specs.Cut
-use Rattle.convexity.specs.Reading
+use Rattle.convexity.specs.Clockwise
 use Rattle.convexity.specs.Pieces
 use Rattle.convexity.specs.Inside
 
@@ -26,12 +26,12 @@ pub record Cut-up : Type 0 where
 
 unfoldable pub cutUp : Outline → Cut-up
 cutUp o =
-    let t = Cut.turn (Reading.reading o) in
+    let t = Cut.fromW (Clockwise.clockwiseForm o) in
     record { corner = t .start; dented = Pieces.dentPiece t; edges = Pieces.edges t }
 
 -- A name that opens the definitions, for the rows that follow
 opened : Bool
-unfolding cutUp Below.every Below.first Below.further Word.wordOf Word.earliers Word.laters Word.less Lyndon.copies Lyndon.same Lyndon.push Lyndon.factorsOf Christoffel.coprime Christoffel.remainders Christoffel.christoffel Chart.step Chart.walk Chart.cornerAt Frame.frameOf Frame.along Cut.before Cut.least Cut.cornerPlace Cut.westPlace Cut.turn Cut.clockwise Reading.opposite Reading.backward Reading.reading Cut.ahead Cut.cutCorner Cut.cut Pieces.rounds Pieces.piece Pieces.word Pieces.factors Pieces.dentLength Pieces.dentPiece Pieces.edgesOf Pieces.edges Inside.notNegative Inside.minℤ Inside.maxℤ Inside.sideValue Inside.noneOutside Inside.colSteps Inside.rowSteps Inside.lowestMet Inside.highestMet Inside.within Inside.insideAt Inside.insideEdges
+unfolding cutUp Below.every Below.first Below.further Word.wordOf Word.earliers Word.laters Word.less Lyndon.copies Lyndon.same Lyndon.push Lyndon.factorsOf Christoffel.coprime Christoffel.remainders Christoffel.christoffel Chart.step Chart.walk Chart.cornerAt Frame.frameOf Frame.along Cut.before Cut.least Cut.cornerPlace Cut.westPlace Cut.fromW Cut.clockwise Clockwise.opposite Clockwise.backward Clockwise.clockwiseForm Cut.ahead Cut.cutCorner Cut.cut Pieces.rounds Pieces.piece Pieces.word Pieces.factors Pieces.dentLength Pieces.dentPiece Pieces.edgesOf Pieces.edges Inside.notNegative Inside.minℤ Inside.maxℤ Inside.sideValue Inside.noneOutside Inside.colSteps Inside.rowSteps Inside.lowestMet Inside.highestMet Inside.within Inside.insideAt Inside.insideEdges
 opened = true
 
 abbrev at : ℕ → ℕ → Point

@@ -21,16 +21,16 @@ use Rattle.convexity.specs.Pieces.{word, factors, dentPiece, edges}
 use Rattle.convexity.specs.Inside.{insideEdges}
 use Rattle.base.proofs.Mean.{mean-mirror, mean-at-least}
 use Rattle.lattice.proofs.HullLaws.{missing-same, lowest-same}
-use Rattle.rows.specs.Rows.{inRows}
+use Rattle.rows.specs.parts.Rows.{inRows}
 use Rattle.lattice.proofs.WalkLaws.{point}
 use Rattle.convexity.specs.Shape.{NoBackStep, Shape}
 use Rattle.convexity.proofs.Frame.{Sides}
-use Rattle.convexity.specs.InFrame.{startE, startL, cellE, cellL, cellAlong, UnderFrom}
+use Rattle.convexity.specs.parts.InFrame.{startE, startL, cellE, cellL, cellAlong, UnderFrom}
 use Rattle.convexity.proofs.Ring.{next-lt, cell-next}
 use Rattle.convexity.proofs.Shape.{shape}
 use Rattle.convexity.proofs.UnderLaws.{under-from-left, under-from-high}
 use Rattle.convexity.proofs.Crossings.{UnderPiece}
-use Rattle.convexity.proofs.RowEnds.{enclosed-iff, enclosed-on-chart, enclosed-row, row-ends, row-full, row-fits, bottom-lt-top, bottom, top}
+use Rattle.convexity.proofs.RowEnds.{enclosed-iff, enclosed-on-chart, enclosed-row, row-ends, row-convex, row-fits, bottom-lt-top, bottom, top}
 use Rattle.convexity.proofs.SidesFrom.{underfrom-iff-sides, sides-mean}
 use Rattle.convexity.proofs.Inside.{inside-iff}
 use Rattle.convexity.proofs.Smooth.{smooth-edges}
@@ -116,9 +116,9 @@ module _ (o : Outline) (straight : NoBackStep o) where
       (on, all-under-iff-sides smooth x (on .0) (on .1) .0 (enclosed-iff o straight x (on .0) (on .1) .0 e))
 
   -- Without a dent every hull cell is enclosed: means keep the extremes and the sides
-  smooth-full : dentPiece o ≡ 4 → (x : Point) → InHull (encloses o) x → encloses o (x .col) (x .row) ≡ true
+  smooth-convex : dentPiece o ≡ 4 → (x : Point) → InHull (encloses o) x → encloses o (x .col) (x .row) ≡ true
   unfolding CellOnChart UnderAll
-  smooth-full smooth x h =
+  smooth-convex smooth x h =
       let v = h .triangle in
       let p = enclosed-sides smooth (h .p) (h .p-marked) in
       let q = enclosed-sides smooth (h .q) (h .q-marked) in
@@ -141,7 +141,7 @@ module _ (o : Outline) (straight : NoBackStep o) where
           | yes l ↦ l
           | no n ↦
               let smooth : dentPiece o ≡ 4 = omega (arith, dentPiece-le) in
-              absurd (true≢false (sym (smooth-full smooth (m .0) (m .1 .hull)) ∙ m .1 .open-cell))
+              absurd (true≢false (sym (smooth-convex smooth (m .0) (m .1 .hull)) ∙ m .1 .open-cell))
         ],
   )
 
@@ -153,7 +153,7 @@ module _ (o : Outline) (straight : NoBackStep o) where
   hi r = downColumn (o .start) (o .letters) r 0
 
   block-rows : Rows lo hi (bottom o) (top o)
-  block-rows = record { below = bottom-lt-top o straight; full = row-full o straight; fits = row-fits o straight }
+  block-rows = record { below = bottom-lt-top o straight; full = row-convex o straight; fits = row-fits o straight }
 
   -- Its cells are the enclosed ones
   enclosed-rows : (c r : ℕ) → encloses o c r ≡ inRows lo hi (bottom o) (top o) c r

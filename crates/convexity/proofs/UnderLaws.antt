@@ -10,7 +10,7 @@ use lib.Seq.{take-length}
 use Rattle.words.specs.Word.{Word, earliers, laters}
 use Rattle.words.proofs.Counts.{laters-take-le}
 use Rattle.convexity.proofs.Frame.{Under, rowwise, columnwise}
-use Rattle.convexity.specs.InFrame.{UnderFrom}
+use Rattle.convexity.specs.parts.InFrame.{UnderFrom}
 
 module _ (w : Word) (vp vq P Q : ℕ) where
   pub under-from-iff : UnderFrom w vp vq P Q ↔ ((vp ≤ P) × Under w (P - vp) (Q - vq))

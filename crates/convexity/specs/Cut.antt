@@ -26,11 +26,11 @@ cornerPlace o k = least (λ i j. before (frameOf k) (cornerAt o i) (cornerAt o j
 unfoldable pub westPlace : Outline → ℕ
 westPlace o = cornerPlace o 0
 
-unfoldable pub turn : Outline → Outline
-turn o = rotated (westPlace o) o
+unfoldable pub fromW : Outline → Outline
+fromW o = rotated (westPlace o) o
 
 abbrev pub west : Outline → Point
-west o = turn o .start
+west o = fromW o .start
 
 -- Clockwise: the letter that leaves W is 1. For a turn o
 unfoldable pub clockwise : Outline → Bool

@@ -7,7 +7,7 @@ use lib.Dec.{eqb}
 use lib.IntN.{ℤ, pos, negsuc, natAbs}
 use Rattle.words.specs.Counted.{edgesWord}
 use Rattle.convexity.specs.Frame.{frameOf}
-use Rattle.convexity.specs.InFrame.{spell}
+use Rattle.convexity.specs.parts.InFrame.{spell}
 
 -- The quadrant in which a direction lies: 0 from up, inclusive, to right, exclusive; 1 from right to down; 2 from down to left; 3 from left to up. For (0, 0): 4
 unfoldable pub quadrantOf : ℤ → ℤ → ℕ

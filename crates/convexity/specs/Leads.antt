@@ -6,7 +6,7 @@ use Rattle.chart.specs.declared.Point.{Point}
 use Rattle.chart.specs.Outline.{Outline}
 use Rattle.lattice.specs.Chart.{walk}
 use Rattle.convexity.specs.Cut.{cut}
-use Rattle.convexity.specs.Reading.{border}
+use Rattle.convexity.specs.Clockwise.{border}
 use Rattle.convexity.specs.Pieces.{rounds, piece}
 use Rattle.convexity.specs.Corners.{IsWest, IsNorth, IsEast, IsSouth}
 

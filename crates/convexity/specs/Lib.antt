@@ -3,13 +3,13 @@
 pub mod Frame
 pub mod Cut
 pub mod Corners
-pub mod Reading
+pub mod Clockwise
 pub mod Pieces
 pub mod Inside
 pub mod Directions
-pub mod InFrame
 pub mod FromEdges
 pub mod Border
 pub mod Shape
 pub mod SameBlock
 pub mod Leads
+pub mod parts

@@ -15,7 +15,7 @@ use Rattle.chart.specs.Outline.{Outline}
 use Rattle.convexity.specs.Frame.{Frame, frameOf}
 use Rattle.lattice.specs.Refusals.{Simple}
 use Rattle.convexity.specs.Cut.{cut}
-use Rattle.convexity.specs.Reading.{border}
+use Rattle.convexity.specs.Clockwise.{border}
 
 -- The letters from W on, as often round as four pieces can reach
 unfoldable pub rounds : List ℕ → List ℕ

@@ -11,16 +11,16 @@ use Rattle.lattice.specs.Walked.{Walked}
 use Rattle.convexity.specs.Frame.{frameOf, next}
 use Rattle.convexity.specs.Cut.{before, cutCorner, cut, clockwise}
 use Rattle.convexity.specs.Pieces.{piece, word, backStepPiece}
-use Rattle.convexity.specs.InFrame.{spell, startE, startL}
+use Rattle.convexity.specs.parts.InFrame.{spell, startE, startL}
 
 -- A walk that passes refusals 1 to 6 and begins at W, the first corner of piece 1
-pub record Turn (o : Outline) : Type 0 where
+pub record WalkFromW (o : Outline) : Type 0 where
   pub walked : Walked o
   pub west : (i : ℕ) → i < size o → before (frameOf 0) (cornerAt o i) (o .start) ≡ false
 
 -- A clockwise turn to which 8 does not apply: no piece has a back-step
 pub record NoBackStep (o : Outline) : Type 0 where
-  pub turn : Turn o
+  pub walk : WalkFromW o
   pub clockwise : clockwise o ≡ true
   pub straight : backStepPiece o ≡ 4
 

@@ -1,9 +1,9 @@
 // The draft: an outline in the making, and the calls on it (contract 7.3 to 7.5).
-use border::Judged;
 use calls::Reply;
 use chart::LONGEST;
 use chart::Point;
 use chart::Refusal;
+use judge::Judged;
 use spans::Spans;
 use spans::spans_of;
 use survey::checks;
@@ -11,7 +11,7 @@ ghost use mathlib.Core.Path.{_≡_};
 ghost use Prim.Native.Nat.{min};
 ghost use lib.ListN.{take};
 ghost use Rattle.chart.specs.Limits.{longest};
-ghost use Rattle.border.specs.Judged.{judgedOf};
+ghost use Rattle.judge.specs.Judged.{judgedOf};
 ghost use Rattle.spans.specs.Spans.{spansOf};
 ghost use Rattle.draft.specs.Draft.{outlineOf, noDraft, endOf, beginOf, addOf, dropOf};
 
@@ -73,7 +73,7 @@ impl Draft {
         let start = self.start;
         let count = self.count;
         let sent = first(&self.letters, count);
-        border::judgement(start, sent)
+        judge::judgement(start, sent)
     }
 
     // The first and the last column that it encloses in each row.

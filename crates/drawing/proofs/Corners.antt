@@ -8,8 +8,8 @@ use Rattle.chart.specs.declared.Point.{Point}
 use Rattle.convexity.specs.Inside.{colSteps, rowSteps}
 use Rattle.convexity.proofs.Signed.{reached}
 use Rattle.convexity.proofs.Inside.{IsCell}
-use Rattle.turning.specs.CornerHull.{onChart, Met, start, after, CornersHold}
-use Rattle.turning.proofs.OnChart.{number-on}
+use Rattle.directions.specs.CornerHull.{onChart, Met, start, after, CornersHold}
+use Rattle.directions.proofs.OnChart.{number-on}
 use Rattle.drawing.specs.declared.Stroke.the-variants.{Line}
 use Rattle.drawing.specs.Drawing.{lineTo, linesFrom}
 use Rattle.drawing.specs.Claims.{Cell, cellOf, cornersFrom, corners, again, InHullOf}

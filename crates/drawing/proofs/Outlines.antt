@@ -10,14 +10,14 @@ use lib.IntN.{ℤ, pos, natAbs}
 use Rattle.chart.specs.Limits.{side}
 use Rattle.chart.specs.declared.Point.{Point}
 use Rattle.chart.specs.Outline.{Outline}
-use Rattle.convexity.specs.Reading.{border, block}
+use Rattle.convexity.specs.Clockwise.{border, block}
 use Rattle.convexity.specs.Pieces.{Reaches, dentPiece, edges}
 use Rattle.convexity.proofs.Shape.{shape}
 use Rattle.convexity.proofs.Inside.{IsCell, edges-return}
 use Rattle.convexity.proofs.AsSent.{clear-of, edges-answer-sent}
-use Rattle.turning.proofs.Theorem.{inside-iff-hull}
-use Rattle.turning.proofs.Taken.{taken-passes}
-use Rattle.turning.proofs.Cells.{corner-is-cell}
+use Rattle.directions.proofs.Theorem.{inside-iff-hull}
+use Rattle.directions.proofs.Taken.{taken-passes}
+use Rattle.directions.proofs.Cells.{corner-is-cell}
 use Rattle.drawing.specs.declared.Stroke.{Stroke}
 use Rattle.drawing.specs.declared.Stroke.the-variants.{Move, Line, Close}
 use Rattle.drawing.specs.Drawing.{drawing}

@@ -6,7 +6,7 @@ use mathlib.Core.List.{[], _∷_}
 use lib.IntN.{pos, negsuc}
 use lib.Ieee.{fin, add, ofInt}
 use Rattle.chart.specs.declared.Point.{Point}
-use Rattle.turning.specs.CornerHull.{chartNumber, onChart}
+use Rattle.directions.specs.CornerHull.{chartNumber, onChart}
 use Rattle.drawing.specs.declared.Stroke.the-variants.{Move, Line, Close}
 use Rattle.drawing.specs.Drawing.{lineTo, linesFrom, drawing}
 use Rattle.drawing.specs.Points.{half}

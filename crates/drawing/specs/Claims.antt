@@ -13,7 +13,7 @@ use Rattle.rounding.specs.Units.{value}
 use Rattle.chart.specs.Limits.{side}
 use Rattle.chart.specs.declared.Point.{Point}
 use Rattle.lattice.specs.Hull.{InTriangle}
-use Rattle.turning.specs.Turning.{badTurning}
+use Rattle.directions.specs.Increasing.{badDirections}
 use Rattle.drawing.specs.declared.Stroke.the-variants.{Move, Line, Close}
 use Rattle.drawing.specs.Drawing.{drawing}
 use Rattle.drawing.specs.Points.{half}
@@ -66,6 +66,6 @@ pub record Draws (a : Point) (es : List ℤ) (marked : ℕ → ℕ → Bool) : T
   pub on-chart : (p : Point) → List·Memᴰ p (a ∷ ends) → (p .col < side) × (p .row < side)
   pub raised : (p : Point) → List·Memᴰ p (a ∷ ends) → Raised (p .col) (half (p .col)) × Raised (p .row) (half (p .row))
   -- The edges between them are not nil, turn strictly clockwise, and lead back to the anchor
-  pub turning : badTurning es ≡ false
+  pub turning : badDirections es ≡ false
   -- A cell is marked exactly if it lies in the hull of the points
   pub hull : (x : Point) → x .col < side → x .row < side → (marked (x .col) (x .row) ≡ true) ↔ InHullOf (a ∷ ends) x

@@ -6,7 +6,7 @@ use mathlib.Core.List.{List, [], _∷_, _++_}
 use lib.ListN.{getD}
 use lib.IntN.{ℤ, pos, natAbs, _+ℤ_}
 use Rattle.chart.specs.declared.Point.{Point}
-use Rattle.turning.specs.CornerHull.{onChart}
+use Rattle.directions.specs.CornerHull.{onChart}
 use Rattle.drawing.specs.declared.Stroke.{Stroke}
 use Rattle.drawing.specs.declared.Stroke.the-variants.{Move, Line, Close, None}
 

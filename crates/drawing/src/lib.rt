@@ -6,7 +6,7 @@ use chart::SIDE;
 ghost use mathlib.Core.Path.{_≡_};
 ghost use Prim.Native.Nat.{_^_, _≤_};
 ghost use lib.IntN.{natAbs, _+ℤ_};
-ghost use Rattle.turning.specs.CornerHull.{chartNumber};
+ghost use Rattle.directions.specs.CornerHull.{chartNumber};
 ghost use Rattle.drawing.specs.Drawing.{lineTo, strokeAt};
 ghost use Rattle.drawing.specs.Points.{half as halfOf, pieceOf, cellIn, drawnReply, pairAfter, pointAfter};
 

@@ -1,12 +1,12 @@
 // Lists the fitting file on standard input, and writes the text to standard output (contract 11.5).
+use fitting_listing::MOST;
+use fitting_listing::ROOM;
 use libc::STDIN_FILENO;
 use libc::STDOUT_FILENO;
-use listing::MOST;
-use listing::ROOM;
 
 // Lists a file in a buffer, and writes what was listed.
 fn write_listing(file: &[u8], text: &mut [u8]) {
-    let end = listing::list(file, text);
+    let end = fitting_listing::list(file, text);
     io::write_all(STDOUT_FILENO, &text[..end]);
 }
 

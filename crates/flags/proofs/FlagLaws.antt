@@ -12,7 +12,7 @@ use lib.Dec.{eqb, ltb, lit<}
 use lib.Bits.{bitOr, or-step, or-shr}
 use lib.Pow.{pow-lt, pow-add, shl-shr, shl-exact}
 use borrow.Author.Tests.{eq-eqb, lt-ltb, le-ltb}
-use Rattle.flags.specs.Flags.{bitAt, wordOf, noNumbers, isSet, withNumber}
+use Rattle.flags.specs.parts.Flags.{bitAt, wordOf, noNumbers, isSet, withNumber}
 
 or-bit : (a b j : ℕ) → bitAt (bitOr a b) j ≡ max (bitAt a j) (bitAt b j)
 or-bit a b j = rw (or-shr a b j) (omega (arith, or-step (a / 2 ^ j) (b / 2 ^ j)))

@@ -1,7 +1,7 @@
 // Sets of numbers below 65,536, one bit each: bit n / 1024 of word n % 1024 says whether n is in the set. Neighbouring numbers are in different
 // words, so that marking the one does not wait for the other's word to be stored.
 ghost use mathlib.Core.Path.{_≡_};
-ghost use Rattle.flags.specs.Flags.{noNumbers, isSet, withNumber};
+ghost use Rattle.flags.specs.parts.Flags.{noNumbers, isSet, withNumber};
 
 // The empty set.
 pub fn none() -> [u64; 1024]

@@ -12,7 +12,7 @@ use lib.ListN.{length, set, length-set}
 use lib.Seq.{getD-set-same, getD-set-other}
 use borrow.Author.Tests.{le-leb, lt-leb}
 use Rattle.base.proofs.BelowLaws.{below-suc}
-use Rattle.rows.specs.Rows.{rows}
+use Rattle.rows.specs.parts.Rows.{rows}
 use Rattle.rows.specs.Search.{crossing}
 use Rattle.rows.proofs.Line.{right-end, right-of-end}
 use Rattle.rows.proofs.Rows.{begin}
@@ -20,7 +20,7 @@ use Rattle.rows.proofs.Side.{furthest-furthest}
 use Rattle.completion.specs.HullRows.{nextRow, hullLeft}
 use Rattle.completion.proofs.Climb.{Climbed, climbed-start, climbed-writes, climbed-next, lowest-row}
 use Rattle.completion.proofs.Edges.{crossing-le}
-use Rattle.hull_rows.specs.Ends.{Lowest}
+use Rattle.hull_rows.specs.parts.Ends.{Lowest}
 
 -- A mean of two numbers, rounded up, is below what bounds both
 mean-small : (u v x y b : ℕ) → 0 < u + v → x < b → y < b → (u * x + v * y + (u + v - 1)) / (u + v) < b

@@ -6,9 +6,9 @@ ghost use mathlib.Core.Bool.{cond};
 ghost use lib.ListN.{length};
 ghost use lib.Dec.{leb};
 ghost use Rattle.chart.specs.Limits.{side};
-ghost use Rattle.rows.specs.Rows.{rows};
+ghost use Rattle.rows.specs.parts.Rows.{rows};
 ghost use Rattle.rows.specs.Search.{crossing as crossingOf};
-ghost use Rattle.hull_rows.specs.Ends.{LeftEnds, Lowest};
+ghost use Rattle.hull_rows.specs.parts.Ends.{LeftEnds, Lowest};
 
 // A number of 16 bits as an index.
 fn wide(x: u16) -> usize

@@ -31,8 +31,8 @@ unfoldable pub rightOf : Point → ℕ → Point
 rightOf p zero = leftOf p 3
 rightOf p (suc a) = leftOf p a
 
-abbrev pub turn : ℕ → ℕ
-turn a = (a + 1) % 4
+abbrev pub quarterTurn : ℕ → ℕ
+quarterTurn a = (a + 1) % 4
 
 abbrev pub opposite : ℕ → ℕ
 opposite a = (a + 2) % 4
@@ -44,9 +44,9 @@ letter-cases P p₀ p₁ p₂ p₃ (suc (suc zero)) l = p₂
 letter-cases P p₀ p₁ p₂ p₃ (suc (suc (suc zero))) l = p₃
 letter-cases P p₀ p₁ p₂ p₃ (suc (suc (suc (suc a)))) l = absurd (omega arith)
 
-right-of-turn : (p : Point) (a : ℕ) → a < 4 → (b : ℕ) → b ≡ turn a → rightOf p b ≡ leftOf p a
+right-of-turn : (p : Point) (a : ℕ) → a < 4 → (b : ℕ) → b ≡ quarterTurn a → rightOf p b ≡ leftOf p a
 unfolding rightOf leftOf
-right-of-turn p a l b e = ap (rightOf p) e ∙ letter-cases (λ a. rightOf p (turn a) ≡ leftOf p a) refl refl refl refl a l
+right-of-turn p a l b e = ap (rightOf p) e ∙ letter-cases (λ a. rightOf p (quarterTurn a) ≡ leftOf p a) refl refl refl refl a l
 
 -- To the right of a letter as seen from the corner where it arrives
 right-arriving : (p : Point) (a : ℕ) → a < 4 → leaves p a ≡ false → rightOf p a ≡ leftOf (step p a) (opposite a)
@@ -198,22 +198,22 @@ module _ (o : Outline) (t : Walked o) where
         right-arriving (corner i) (letter i) (t .letter i l) (t .stays i l)
         ∙ ap (λ (q : Point). leftOf q (opposite (letter i))) (sym (corner-suc o i l) ∙ e)
 
-    across-turn : (k : ℕ) → k < 4 → turn k ≢ letter j → turn k ≢ opposite (letter i) → SameLevel o (leftOf (corner j) k) (leftOf (corner j) (turn k))
-    across-turn k b n m′ = rw (right-of-turn (corner j) k b (turn k) refl) at (across (turn k) (omega arith) n m′)
+    across-turn : (k : ℕ) → k < 4 → quarterTurn k ≢ letter j → quarterTurn k ≢ opposite (letter i) → SameLevel o (leftOf (corner j) k) (leftOf (corner j) (quarterTurn k))
+    across-turn k b n m′ = rw (right-of-turn (corner j) k b (quarterTurn k) refl) at (across (quarterTurn k) (omega arith) n m′)
 
-    straight : letter i ≢ turn (letter j) → SameLevel o (rightOf (corner i) (letter i)) (rightOf (corner j) (letter i))
+    straight : letter i ≢ quarterTurn (letter j) → SameLevel o (rightOf (corner i) (letter i)) (rightOf (corner j) (letter i))
     straight n =
         let behind = opposite (letter i) in
         let a : letter i < 4 = t .letter i l in
         let b : letter j < 4 = t .letter j m in
-        rw (right-seen, right-of-turn (corner j) (turn behind) (omega arith) (letter i) (omega arith)) (across-turn behind (omega arith) (omega arith) (omega arith))
+        rw (right-seen, right-of-turn (corner j) (quarterTurn behind) (omega arith) (letter i) (omega arith)) (across-turn behind (omega arith) (omega arith) (omega arith))
 
     right-hand-next : SameLevel o (rightOf (corner i) (letter i)) (rightOf (corner j) (letter j))
     right-hand-next =
         let behind = opposite (letter i) in
         let a : letter i < 4 = t .letter i l in
         let b : letter j < 4 = t .letter j m in
-        elim (ℕ-discrete (letter j) (turn behind)) [
+        elim (ℕ-discrete (letter j) (quarterTurn behind)) [
           | yes f ↦ rw (right-seen, right-of-turn (corner j) behind (omega arith) (letter j) f) (omega arith)
           | no f ↦
               let ahead = straight (omega arith) in
@@ -221,9 +221,9 @@ module _ (o : Outline) (t : Walked o) where
                 | yes g ↦ rw g ahead
                 | no g ↦
                     let b′ = no-back in
-                    let beside = across-turn (turn behind) (omega arith) (omega arith) (omega arith) in
-                    rw (right-of-turn (corner j) (turn (turn behind)) (omega arith) (letter j) (omega arith))
-                    (omega (arith, rw (right-of-turn (corner j) (turn behind) (omega arith) (letter i) (omega arith)) at ahead))
+                    let beside = across-turn (quarterTurn behind) (omega arith) (omega arith) (omega arith) in
+                    rw (right-of-turn (corner j) (quarterTurn (quarterTurn behind)) (omega arith) (letter j) (omega arith))
+                    (omega (arith, rw (right-of-turn (corner j) (quarterTurn behind) (omega arith) (letter i) (omega arith)) at ahead))
               ]
         ]
 
@@ -251,7 +251,7 @@ module _ (o : Outline) (t : Walked o) where
 
   -- The cell inside a left turn has that level too. Here j is the place after i, or the first where i is the last
   pub left-turn :
-      (i j : ℕ) → i < size o → j < size o → cornerAt o (suc i) ≡ cornerAt o j → letterAt o j ≡ turn (letterAt o i)
+      (i j : ℕ) → i < size o → j < size o → cornerAt o (suc i) ≡ cornerAt o j → letterAt o j ≡ quarterTurn (letterAt o i)
       → SameLevel o (rightOf (cornerAt o i) (letterAt o i)) (cornerOf (cornerAt o i) (letterAt o i))
   unfolding cornerOf
   left-turn i j l m e f =
@@ -368,7 +368,7 @@ module _ (o : Outline) (t : Walked o) (k : ℕ) (m : Lowest o k) where
     clockwise-left i l = omega (arith, clockwise-right i l, left-hand o t i l)
 
     pub clockwise-left-turn :
-        (i j : ℕ) → i < size o → j < size o → cornerAt o (suc i) ≡ cornerAt o j → letterAt o j ≡ turn (letterAt o i)
+        (i j : ℕ) → i < size o → j < size o → cornerAt o (suc i) ≡ cornerAt o j → letterAt o j ≡ quarterTurn (letterAt o i)
         → upsTo o (cornerOf (cornerAt o i) (letterAt o i) .col) (cornerOf (cornerAt o i) (letterAt o i) .row)
         ≡ downsTo o (cornerOf (cornerAt o i) (letterAt o i) .col) (cornerOf (cornerAt o i) (letterAt o i) .row) + 1
     clockwise-left-turn i j l b e f = omega (arith, clockwise-right i l, left-turn o t i j l b e f)

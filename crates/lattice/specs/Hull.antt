@@ -31,8 +31,8 @@ pub record Missing (marked : ℕ → ℕ → Bool) (x : Point) : Type 0 where
   pub open-cell : marked (x .col) (x .row) ≡ false
 
 -- No cell is missing: the set holds every cell of its hull
-abbrev pub Full : (ℕ → ℕ → Bool) → Type 0
-Full marked = (x : Point) → Missing marked x → ⊥
+abbrev pub Convex : (ℕ → ℕ → Bool) → Type 0
+Convex marked = (x : Point) → Missing marked x → ⊥
 
 -- y lies in a higher row than x, or in the same row further right
 unfoldable pub After : Point → Point → Type 0

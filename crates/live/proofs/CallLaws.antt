@@ -22,7 +22,7 @@ use Rattle.wire.specs.declared.Decoded.{Decoded}
 use Rattle.wire.specs.declared.Decoded.the-variants.{Call as Said, Nothing}
 use Rattle.wire.specs.Wire.{replyWidth}
 use Rattle.live_memory.specs.Layout.{Memory, memory, holderIn, Fits}
-use Rattle.live_memory.specs.Writes.{Answers}
+use Rattle.live_memory.specs.parts.Writes.{Answers}
 use Rattle.live_memory.proofs.Zeros.{zeros, zeros-fresh}
 use Rattle.live.specs.Called.{spoken, isCall, nextHolder, replyBy, pieceDrawn, pointBy, writes, Called, Done, PointDrawn, Freshened}
 

@@ -16,7 +16,7 @@ use Rattle.wire.specs.declared.Decoded.{Decoded}
 use Rattle.wire.specs.declared.Decoded.the-variants.{Call as Said, Nothing}
 use Rattle.wire.specs.Wire.{replyWidth}
 use Rattle.live_memory.specs.Layout.{Memory, holderIn, Fits}
-use Rattle.live_memory.specs.Writes.{callWrites}
+use Rattle.live_memory.specs.parts.Writes.{callWrites}
 
 -- A call by its arguments, with a list of so many numbers for its reply: none where the reply has no room. A call as bytes is wire's `heard`
 unfoldable pub spoken : Call → ℕ → Decoded

@@ -27,7 +27,7 @@ use windows::zero_i16;
 use windows::zero_u8;
 use windows::zero_u16;
 use wire::Decoded;
-use wire::heard;
+use wire::received;
 ghost use mathlib.Core.Path.{_≡_};
 ghost use mathlib.Core.Bool.{cond};
 ghost use mathlib.Core.List.{List};
@@ -35,9 +35,9 @@ ghost use Prim.Native.Nat.{ℕ, _<_};
 ghost use lib.ListN.{length};
 ghost use lib.IntN.{ℤ};
 ghost use Rattle.calls.specs.Calls.{parties, places};
-ghost use Rattle.wire.specs.Wire.{heard as heardOf};
+ghost use Rattle.wire.specs.Wire.{received as receivedOf};
 ghost use Rattle.live_memory.specs.Layout.{memory, Fits, WorksFit};
-ghost use Rattle.live_memory.specs.Writes.{Acts, Answers};
+ghost use Rattle.live_memory.specs.parts.Writes.{Acts, Answers};
 ghost use Rattle.live.specs.Called.{Called, Freshened};
 
 // The reply of a close that took the draft.
@@ -74,7 +74,7 @@ fn close(
     let count = heads[at + 3] as usize;
     let outline = sent(letters, party, count);
     let mut list = [0i16; MOST_NUMBERS];
-    let verdict = border::judge(start, outline, &mut list);
+    let verdict = judge::judge(start, outline, &mut list);
     match verdict {
         Verdict::Refused(why) => {
             end(heads, party);
@@ -187,7 +187,7 @@ pub fn respond(
     bytes: &[u8],
     reply: &mut [u16],
 ) -> bool
-    ensures { λ r. ⌜ Called (Fits (memory (now (letters .entry)) (now (rows .entry)) (now (numbers .entry)) (now (heads .entry)))) (memory (now (letters .entry)) (now (rows .entry)) (now (numbers .entry)) (now (heads .entry))) (memory (now (letters .exit)) (now (rows .exit)) (now (numbers .exit)) (now (heads .exit))) (heardOf (now (bytes .entry)) (length (now (reply .entry)))) (now (reply .entry)) (now (reply .exit)) r ⌝ }
+    ensures { λ r. ⌜ Called (Fits (memory (now (letters .entry)) (now (rows .entry)) (now (numbers .entry)) (now (heads .entry)))) (memory (now (letters .entry)) (now (rows .entry)) (now (numbers .entry)) (now (heads .entry))) (memory (now (letters .exit)) (now (rows .exit)) (now (numbers .exit)) (now (heads .exit))) (receivedOf (now (bytes .entry)) (length (now (reply .entry)))) (now (reply .entry)) (now (reply .exit)) r ⌝ }
 {
     if letters.len() != LETTERS {
         return false;
@@ -201,7 +201,7 @@ pub fn respond(
     if heads.len() != HEADS {
         return false;
     }
-    let decoded = heard(bytes, reply.len());
+    let decoded = received(bytes, reply.len());
     let Decoded::Call(call) = decoded else {
         return false;
     };

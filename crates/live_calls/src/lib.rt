@@ -21,7 +21,7 @@ ghost use lib.ListN.{length};
 ghost use lib.IntN.{ℤ};
 ghost use Rattle.calls.specs.Calls.{by};
 ghost use Rattle.live_memory.specs.Layout.{DraftsFit, Fits, memory};
-ghost use Rattle.live_memory.specs.Writes.{Answers};
+ghost use Rattle.live_memory.specs.parts.Writes.{Answers};
 ghost use Rattle.live.specs.Called.{spoken, Called, PointDrawn};
 
 fn begin_of(heads: &mut [u16], party: u8, start: Point) -> Reply

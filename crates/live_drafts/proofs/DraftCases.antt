@@ -17,7 +17,7 @@ use Rattle.draft.specs.declared.Draft.{Draft}
 use Rattle.draft.specs.declared.Drafted.{Drafted}
 use Rattle.draft.specs.Draft.{begunAt, endOf, lengthened, beginOf, addOf, dropOf}
 use Rattle.live_memory.specs.Layout.{draftAt, DraftsFit}
-use Rattle.live_memory.specs.Writes.{headPut, DraftPut, DraftSaid}
+use Rattle.live_memory.specs.parts.Writes.{headPut, DraftPut, DraftSaid}
 use Rattle.live_memory.proofs.Heads.{cond-yes, cond-no, none-begun, one-begun}
 use Rattle.live_memory.proofs.Stores.{draft-kept, lengthened-put, begun-put}
 

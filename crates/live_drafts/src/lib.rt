@@ -14,7 +14,7 @@ ghost use Rattle.calls.specs.Calls.{parties};
 ghost use Rattle.draft.specs.Draft.{beginOf, addOf, dropOf, endOf};
 ghost use Rattle.windows.specs.Windows.{window};
 ghost use Rattle.live_memory.specs.Layout.{draftAt, DraftsFit};
-ghost use Rattle.live_memory.specs.Writes.{DraftPut, DraftSaid};
+ghost use Rattle.live_memory.specs.parts.Writes.{DraftPut, DraftSaid};
 
 pub fn begin(heads: &mut [u16], party: usize, start: Point) -> Reply
     requires { ⌜ (party < parties) × (length (now heads) ≡ 40) ⌝ }

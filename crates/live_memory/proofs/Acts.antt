@@ -15,8 +15,8 @@ use Rattle.chart.specs.declared.Verdict.{Verdict}
 use Rattle.chart.specs.declared.Verdict.the-variants.{Taken, Refused}
 use Rattle.chart.specs.Outline.{outline}
 use Rattle.chart.specs.Limits.{longest}
-use Rattle.border.specs.declared.Judged.{Judged}
-use Rattle.border.specs.Judged.{judgedOf}
+use Rattle.judge.specs.declared.Judged.{Judged}
+use Rattle.judge.specs.Judged.{judgedOf}
 use Rattle.spans.specs.declared.Spans.{Spans}
 use Rattle.spans.specs.Spans.{spansOf}
 use Rattle.calls.specs.Calls.{parties, places}
@@ -37,7 +37,7 @@ use Rattle.holder.specs.declared.Answered.{Answered}
 use Rattle.holder.specs.Holder.{blankDraft, blankWork, draftOf, workOf, slot, withDraft, withWork, keptPlace, reachedBy, turned, actOf, answerOf}
 use Rattle.windows.specs.Windows.{window}
 use Rattle.live_memory.specs.Layout.{draftAt, workAt, holderOf, Memory, memory, holderIn}
-use Rattle.live_memory.specs.Writes.{DraftPut, DraftSaid, WorkPut, inHead, actWrites, callWrites, Acts, Answers}
+use Rattle.live_memory.specs.parts.Writes.{DraftPut, DraftSaid, WorkPut, inHead, actWrites, callWrites, Acts, Answers}
 use Rattle.live_memory.proofs.Heads.{cond-yes, cond-no, none-begun, one-begun, apart}
 use Rattle.live_memory.proofs.Stores.{draft-read, work-read}
 

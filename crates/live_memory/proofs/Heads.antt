@@ -11,7 +11,7 @@ use lib.IntN.{ℤ}
 use lib.Dec.{leb, ltb}
 use borrow.Author.Tests.{lt-ltb, le-ltb, leb-false, ltb-false}
 use Rattle.live_memory.specs.Layout.{draftAt, workAt}
-use Rattle.live_memory.specs.Writes.{inHead}
+use Rattle.live_memory.specs.parts.Writes.{inHead}
 
 pub cond-yes : {A : Type 0} {b : Bool} (x y : A) → b ≡ true → cond b x y ≡ x
 cond-yes x y e = rw e

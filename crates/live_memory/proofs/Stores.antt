@@ -19,7 +19,7 @@ use Rattle.holder.specs.Holder.{blankDraft, blankWork, draftOf, workOf, slot, w
 use Rattle.windows.specs.Windows.{window}
 use Rattle.windows.proofs.Slots.{slots-same, slots-below, slots-set, slots-at, window-set, window-before, window-after, order}
 use Rattle.live_memory.specs.Layout.{draftAt, workAt, holderOf, DraftsFit}
-use Rattle.live_memory.specs.Writes.{headPut, OtherHeads, DraftPut, WorkPut}
+use Rattle.live_memory.specs.parts.Writes.{headPut, OtherHeads, DraftPut, WorkPut}
 
 abbrev held : List Draft → List Work → Holder
 held ds ws = record { drafts = ds; works = ws }

@@ -18,7 +18,7 @@ use Rattle.windows.specs.Windows.{window}
 use Rattle.windows.proofs.Slots.{window-paste, window-paste-before, window-paste-after, order}
 use Rattle.span_list.specs.SpanList.{spansAt, SpansPut}
 use Rattle.live_memory.specs.Layout.{workAt, WorksFit}
-use Rattle.live_memory.specs.Writes.{headPut, OtherHeads, WorkPut}
+use Rattle.live_memory.specs.parts.Writes.{headPut, OtherHeads, WorkPut}
 use Rattle.live_memory.proofs.Stores.{work-put, head-flag, head-col, head-row, head-count, head-else}
 
 -- The numbers of other slots are as they were, and their windows

@@ -1,3 +1,3 @@
 -- A holder in lists of numbers that a caller keeps.
 pub mod Layout
-pub mod Writes
+pub mod parts

@@ -3,7 +3,7 @@ use chart::Point;
 ghost use mathlib.Core.Path.{_≡_};
 ghost use Prim.Native.Nat.{_+_, _≤_};
 ghost use lib.ListN.{length};
-ghost use Rattle.live_memory.specs.Writes.{headPut};
+ghost use Rattle.live_memory.specs.parts.Writes.{headPut};
 
 // The letters of two drafts, 612 each.
 pub const LETTERS: usize = 1224;

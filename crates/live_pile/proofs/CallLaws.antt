@@ -23,7 +23,7 @@ use Rattle.pile.specs.Replies.{pileFields}
 use Rattle.pile.specs.declared.PileReply.the-variants.{Done as Fine, Dented}
 use Rattle.pile.specs.Pile.{dentedColumn, dentedRow, setOf, emptyOf, checkOf, queryOf}
 use Rattle.pile.specs.Calls.{PileCall, Set, SetEmpty, Check, Query, answerOf}
-use Rattle.pile.specs.Meaning.{AllFull, CheckedBy, CheckedRuns, RowFits}
+use Rattle.pile.specs.Meaning.{AllConvex, CheckedBy, CheckedRuns, RowFits}
 use Rattle.pile.proofs.CallLaws.{says, set-named}
 use Rattle.pile.proofs.CheckLaws.{Answered, column-returns, row-returns, passing-returns, checked-number}
 use Rattle.live_sections.specs.Layers.{layersOf}
@@ -133,7 +133,7 @@ module _ (g : Fields) (reply reply′ : List ℕ) (room : 7 ≤ length reply) (p
 
   -- What the reply of a check says
   pub check-written : {columns rows : ℕ → ℕ → ℕ → Bool} (r : PileReply) → CheckedBy columns rows r → g ≡ pileFields r
-      → CheckWritten (CheckedBy columns rows) (AllFull columns rows) reply reply′
+      → CheckWritten (CheckedBy columns rows) (AllConvex columns rows) reply reply′
   check-written r said named =
       record {
         said = r;

@@ -1,8 +1,8 @@
 // The calls on a pile that stands in two lists of bytes which the caller keeps: its layers, and whether it has passed (contract 12.8).
-use border::verdict_of;
 use chart::Point;
 use chart::Verdict;
 use chart::reply;
+use judge::verdict_of;
 use live_sections::dented_column;
 use live_sections::dented_row;
 use pile::PileReply;

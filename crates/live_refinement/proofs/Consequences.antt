@@ -12,13 +12,13 @@ use Rattle.chart.specs.Outline.{Outline}
 use Rattle.chart.specs.declared.Fields.{Fields}
 use Rattle.chart.specs.declared.Point.{Point}
 use Rattle.chart.specs.declared.Refusal.{Refusal}
-use Rattle.chart.specs.declared.Refusal.the-variants.{Count, Start, Letter, Leaves, Unclosed, Touches, BackStep, Dent, Room, List as BadList, Cell, Turning}
+use Rattle.chart.specs.declared.Refusal.the-variants.{Count, Start, Letter, Leaves, Unclosed, Touches, BackStep, Dent, Room, List as BadList, Cell, Directions}
 use Rattle.chart.specs.declared.Verdict.{Verdict}
 use Rattle.chart.specs.declared.Verdict.the-variants.{Taken, Refused}
 use Rattle.chart.specs.Fields.{inside, outside, same, undecided, refusalFields, verdictFields}
-use Rattle.lattice.specs.Hull.{Missing, Full}
+use Rattle.lattice.specs.Hull.{Missing, Convex}
 use Rattle.lattice.specs.Refusals.{Simple}
-use Rattle.convexity.specs.Reading.{border, block}
+use Rattle.convexity.specs.Clockwise.{border, block}
 use Rattle.convexity.specs.Pieces.{Reaches, edges}
 use Rattle.convexity.specs.SameBlock.{SameCells}
 use Rattle.verdict.specs.Verdict.{verdictOf}
@@ -41,16 +41,16 @@ use Rattle.calls.specs.declared.Action.the-variants.{Close, Ask}
 use Rattle.calls.specs.declared.Question.the-variants.{Cell as OfCell, Row as OfRow, Reading as OfReading, Piece as OfPiece}
 use Rattle.drawing.specs.Drawing.{strokeAt}
 use Rattle.drawing.specs.Points.{pieceOf, drawnReply, pointAfter}
-use Rattle.book.specs.Book.{drafted, fresh, equalsWork, closedReply, bookAfter}
-use Rattle.book.specs.LastTaken.{lastTaken}
+use Rattle.holder_model.specs.Book.{drafted, fresh, equalsWork, closedReply, bookAfter}
+use Rattle.holder_model.specs.LastTaken.{lastTaken}
 use Rattle.holder.specs.declared.Holder.{Holder}
 use Rattle.holder.specs.Holder.{freshHolder}
 use Rattle.holder.specs.Run.{holderAfter, replyAfter as replyTo}
-use Rattle.agreement.proofs.Queries as Queries
-use Rattle.agreement.proofs.Closes as Closes
-use Rattle.agreement.proofs.Rows as Rows
-use Rattle.agreement.proofs.Readings as Readings
-use Rattle.agreement.proofs.Pieces as Pieces
+use Rattle.holder_refinement.proofs.Queries as Queries
+use Rattle.holder_refinement.proofs.Closes as Closes
+use Rattle.holder_refinement.proofs.Rows as Rows
+use Rattle.holder_refinement.proofs.Readings as Readings
+use Rattle.holder_refinement.proofs.Pieces as Pieces
 use Rattle.live.specs.Called.{pieceDrawn}
 use Rattle.live_refinement.specs.Run.{Replied}
 use Rattle.live_refinement.proofs.Entries.{replied-by-value}
@@ -98,7 +98,7 @@ refusal-wordless (Dent i q l x) = refl
 refusal-wordless (Room e) = refl
 refusal-wordless BadList = refl
 refusal-wordless Cell = refl
-refusal-wordless Turning = refl
+refusal-wordless Directions = refl
 
 word-same : (t : Bool) (v : Verdict) → (replyFields (closedReply t v) .word ≡ same) ↔ ((n : ℕ) × (a : Point) × (closedReply t v ≡ Same n a))
 unfolding replyFields closedReply
@@ -118,7 +118,7 @@ refusal-number (Dent i q l x) e = omega (arith, e)
 refusal-number (Room n) e = omega (arith, e)
 refusal-number BadList e = omega (arith, e)
 refusal-number Cell e = omega (arith, e)
-refusal-number Turning e = omega (arith, e)
+refusal-number Directions e = omega (arith, e)
 
 taken-by-number : (v : Verdict) → verdictFields v .number ≡ 0 → (n : ℕ) × (a : Point) × (v ≡ Taken n a)
 taken-by-number (Taken n a) e = (n, a, refl)
@@ -144,8 +144,8 @@ module _ (cs : List Call) (p k : ℕ) (there : p < parties) (place : k < places)
   close-nine r = rw (replied-by-value cs _ g replied) (Closes.close-nine-missing p k there place cs o draft r)
 
   -- 0 exactly where no cell is missing, of a draft past 1 to 6 (contract 8.5)
-  pub close-taken : Simple o → (g .number ≡ 0) ↔ Full (block o)
-  close-taken h = rw (replied-by-value cs _ g replied) (Closes.close-taken-full p k there place cs o draft h)
+  pub close-taken : Simple o → (g .number ≡ 0) ↔ Convex (block o)
+  close-taken h = rw (replied-by-value cs _ g replied) (Closes.close-taken-convex p k there place cs o draft h)
 
   -- With 0 the cell is the anchor, and with 9 it is the lowest missing one, leftmost in its row
   pub close-named : CellNamed o g

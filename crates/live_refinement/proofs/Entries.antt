@@ -13,16 +13,16 @@ use Rattle.chart.specs.declared.Fields.{Fields}
 use Rattle.calls.specs.declared.Call.{Call}
 use Rattle.calls.specs.declared.Reply.{Reply}
 use Rattle.calls.specs.Replies.{replyFields}
-use Rattle.book.specs.Book.{Book, fresh, bookAfter}
+use Rattle.holder_model.specs.Book.{Book, fresh, bookAfter}
 use Rattle.holder.specs.Run.{handledFrom, holderAfter, replyAfter as replyTo}
 use Rattle.holder.specs.declared.Holder.{Holder}
 use Rattle.holder.specs.Holder.{answerOf}
-use Rattle.agreement.proofs.ListTheorem.{reply-after}
+use Rattle.holder_refinement.proofs.ListTheorem.{reply-after}
 use Rattle.wire.specs.declared.Decoded.{Decoded}
 use Rattle.wire.specs.declared.Decoded.the-variants.{Call as Said, Nothing}
-use Rattle.wire.specs.Wire.{replyWidth, decoded, heard}
+use Rattle.wire.specs.Wire.{replyWidth, decoded, received}
 use Rattle.live.specs.Called.{spoken}
-use Rattle.live_refinement.specs.Run.{Sent, Bytes, Arguments, Asked, Heard, sentCall, callIn, withCall, callsIn, heardInBook, nextBook, bookedFrom, unheard, Replied}
+use Rattle.live_refinement.specs.Run.{Sent, Bytes, Arguments, Asked, Received, sentCall, callIn, withCall, callsIn, receivedInModel, nextBook, modelFrom, unreceived, Replied}
 use Rattle.live_refinement.proofs.Theorem.{run-theorem}
 
 -- ---- an entry of a whole list
@@ -41,10 +41,10 @@ unfolding nextBook withCall bookAfter
 book-after b Nothing cs = refl
 book-after b (Said c) cs = refl
 
-booked-entry : (b : Book) (us : List Asked) (x : Asked) (vs : List Asked) → getD (bookedFrom b (us ++ (x ∷ vs))) (length us) unheard ≡ heardInBook (bookAfter b (callsIn us)) (callIn x) (x .reply)
-unfolding bookedFrom callsIn bookAfter
+booked-entry : (b : Book) (us : List Asked) (x : Asked) (vs : List Asked) → getD (modelFrom b (us ++ (x ∷ vs))) (length us) unreceived ≡ receivedInModel (bookAfter b (callsIn us)) (callIn x) (x .reply)
+unfolding modelFrom callsIn bookAfter
 booked-entry b [] x vs = refl
-booked-entry b (u ∷ us) x vs = booked-entry (nextBook b (callIn u)) us x vs ∙ ap (λ (c : Book). heardInBook c (callIn x) (x .reply)) (book-after b (callIn u) (callsIn us))
+booked-entry b (u ∷ us) x vs = booked-entry (nextBook b (callIn u)) us x vs ∙ ap (λ (c : Book). receivedInModel c (callIn x) (x .reply)) (book-after b (callIn u) (callsIn us))
 
 -- A call that is answered has room for its reply
 room-of : (t : Bool) (d : Decoded) (c : Call) → cond t d Nothing ≡ Said c → t ≡ true
@@ -52,19 +52,19 @@ room-of true d c e = refl
 room-of false d c e = let z : _≡_ {A = ℕ} 0 1 = cc in absurd (omega (arith, z))
 
 pub sent-room : (s : Sent) (room : ℕ) (c : Call) → sentCall s room ≡ Said c → replyWidth ≤ room
-unfolding sentCall heard spoken
+unfolding sentCall received spoken
 sent-room (Bytes b) room c e = leb-true replyWidth room (room-of (leb replyWidth room) (decoded b) c e)
 sent-room (Arguments a) room c e = leb-true replyWidth room (room-of (leb replyWidth room) (Said a) c e)
 
 -- The seven numbers of a reply are those of the reply by value, after the calls before it
 pub replied-by-value : (cs : List Call) (c : Call) (g : Fields) → Replied cs c g → g ≡ replyFields (replyTo cs c)
-unfolding heardInBook
+unfolding receivedInModel
 replied-by-value cs c g e =
     let x = e .asked in
     let xs = e .earlier ++ (x ∷ e .later) in
-    let heard : getD (e .heard) (length (e .earlier)) unheard ≡ record { done = true; reply = replyAfter (replyFields (replyTo cs c)) (x .reply) } =
-    ap (λ (l : List Heard). getD l (length (e .earlier)) unheard) (run-theorem (e .given) (e .lists) (e .told) (e .fits) (e .freshened) xs (e .heard) (e .left) (e .run))
+    let received : getD (e .received) (length (e .earlier)) unreceived ≡ record { done = true; reply = replyAfter (replyFields (replyTo cs c)) (x .reply) } =
+    ap (λ (l : List Received). getD l (length (e .earlier)) unreceived) (run-theorem (e .given) (e .lists) (e .told) (e .fits) (e .freshened) xs (e .received) (e .left) (e .run))
     ∙ booked-entry fresh (e .earlier) x (e .later)
     ∙ rw (e .calls, e .call, reply-after cs c) in
-    sym (e .fields) ∙ ap (λ (y : Heard). fieldsOf (y .reply)) heard
+    sym (e .fields) ∙ ap (λ (y : Received). fieldsOf (y .reply)) received
     ∙ fields-written (replyFields (replyTo cs c)) (x .reply) (sent-room (x .sent) (length (x .reply)) c (e .call))

@@ -11,14 +11,14 @@ use Rattle.chart.proofs.ReplyLaws.{fields-written}
 use Rattle.calls.specs.declared.Call.{Call}
 use Rattle.calls.specs.declared.Reply.{Reply}
 use Rattle.calls.specs.Replies.{replyFields}
-use Rattle.book.specs.Book.{Book, fresh, answer, repliesFrom, replies}
-use Rattle.book.specs.Parties.{callsOf, repliesTo}
-use Rattle.book.proofs.Parties.{replies-to}
+use Rattle.holder_model.specs.Book.{Book, fresh, answer, repliesFrom, replies}
+use Rattle.holder_model.specs.Parties.{callsOf, repliesTo}
+use Rattle.holder_model.proofs.Parties.{replies-to}
 use Rattle.wire.specs.declared.Decoded.{Decoded}
 use Rattle.wire.specs.declared.Decoded.the-variants.{Call as Said, Nothing}
 use Rattle.live_memory.specs.Layout.{Memory, Fits}
 use Rattle.live.specs.Called.{Freshened}
-use Rattle.live_refinement.specs.Run.{Asked, Heard, callIn, Run, withCall, callsIn, heardInBook, nextBook, bookedFrom, isOf, heardBy}
+use Rattle.live_refinement.specs.Run.{Asked, Received, callIn, Run, withCall, callsIn, receivedInModel, nextBook, modelFrom, isOf, receivedBy}
 use Rattle.live_refinement.proofs.Theorem.{run-theorem}
 use Rattle.live_refinement.proofs.Entries.{sent-room}
 
@@ -33,31 +33,31 @@ map-cond false r rs = refl
 module _ (p : ℕ) (b : Book) (x : Asked) (xs : List Asked) where
   -- One call more
   step : (d : Decoded) → ((c : Call) → d ≡ Said c → 7 ≤ length (x .reply))
-      → heardBy p xs (bookedFrom (nextBook b d) xs) ≡ map replyFields (repliesTo p (callsIn xs) (repliesFrom (nextBook b d) (callsIn xs)))
-      → cond (isOf p d) (fieldsOf (heardInBook b d (x .reply) .reply) ∷ heardBy p xs (bookedFrom (nextBook b d) xs)) (heardBy p xs (bookedFrom (nextBook b d) xs))
+      → receivedBy p xs (modelFrom (nextBook b d) xs) ≡ map replyFields (repliesTo p (callsIn xs) (repliesFrom (nextBook b d) (callsIn xs)))
+      → cond (isOf p d) (fieldsOf (receivedInModel b d (x .reply) .reply) ∷ receivedBy p xs (modelFrom (nextBook b d) xs)) (receivedBy p xs (modelFrom (nextBook b d) xs))
       ≡ map replyFields (repliesTo p (withCall d (callsIn xs)) (repliesFrom b (withCall d (callsIn xs))))
-  unfolding isOf heardInBook nextBook withCall repliesTo repliesFrom
+  unfolding isOf receivedInModel nextBook withCall repliesTo repliesFrom
   step Nothing room rest = rest
   step (Said c) room rest =
       one-more (eqb p (c .party)) _ _ _ _ (fields-written (replyFields (answer b c .reply)) (x .reply) (room c refl)) rest
       ∙ sym (map-cond (eqb p (c .party)) (answer b c .reply) _)
 
 -- What a party hears are the replies to its calls
-heard-replies : (p : ℕ) (b : Book) (xs : List Asked) → heardBy p xs (bookedFrom b xs) ≡ map replyFields (repliesTo p (callsIn xs) (repliesFrom b (callsIn xs)))
-unfolding heardBy bookedFrom callsIn repliesTo repliesFrom
-heard-replies p b [] = refl
-heard-replies p b (x ∷ xs) = step p b x xs (callIn x) (λ c e. sent-room (x .sent) (length (x .reply)) c e) (heard-replies p (nextBook b (callIn x)) xs)
+received-replies : (p : ℕ) (b : Book) (xs : List Asked) → receivedBy p xs (modelFrom b xs) ≡ map replyFields (repliesTo p (callsIn xs) (repliesFrom b (callsIn xs)))
+unfolding receivedBy modelFrom callsIn repliesTo repliesFrom
+received-replies p b [] = refl
+received-replies p b (x ∷ xs) = step p b x xs (callIn x) (λ c e. sent-room (x .sent) (length (x .reply)) c e) (received-replies p (nextBook b (callIn x)) xs)
 
 -- Lists that were made fresh, and calls made on them one by one
-module _ (m n : Memory) (t : Bool) (f : Fits m) (s : Freshened m n t) (xs : List Asked) (ys : List Heard) (k : Memory) (r : Run n xs ys k) where
+module _ (m n : Memory) (t : Bool) (f : Fits m) (s : Freshened m n t) (xs : List Asked) (ys : List Received) (k : Memory) (r : Run n xs ys k) where
   -- A party hears the replies that its own calls alone would get (contract 8.6)
-  pub heard-alone : (p : ℕ) → heardBy p xs ys ≡ map replyFields (replies (callsOf p (callsIn xs)))
+  pub received-alone : (p : ℕ) → receivedBy p xs ys ≡ map replyFields (replies (callsOf p (callsIn xs)))
   unfolding replies
-  heard-alone p = ap (heardBy p xs) (run-theorem m n t f s xs ys k r) ∙ heard-replies p fresh xs ∙ ap (map replyFields) (replies-to p (callsIn xs))
+  received-alone p = ap (receivedBy p xs) (run-theorem m n t f s xs ys k r) ∙ received-replies p fresh xs ∙ ap (map replyFields) (replies-to p (callsIn xs))
 
 -- So two runs with the same calls of a party, in the same order, give it the same replies, whatever other calls stand between
-pub heard-independent : (m n : Memory) (t : Bool) → Fits m → Freshened m n t → (xs : List Asked) (ys : List Heard) (k : Memory) → Run n xs ys k
-    → (m′ n′ : Memory) (t′ : Bool) → Fits m′ → Freshened m′ n′ t′ → (xs′ : List Asked) (ys′ : List Heard) (k′ : Memory) → Run n′ xs′ ys′ k′
-    → (p : ℕ) → callsOf p (callsIn xs) ≡ callsOf p (callsIn xs′) → heardBy p xs ys ≡ heardBy p xs′ ys′
-heard-independent m n t f s xs ys k r m′ n′ t′ f′ s′ xs′ ys′ k′ r′ p alike =
-    heard-alone m n t f s xs ys k r p ∙ ap (λ (cs : List Call). map replyFields (replies cs)) alike ∙ sym (heard-alone m′ n′ t′ f′ s′ xs′ ys′ k′ r′ p)
+pub received-independent : (m n : Memory) (t : Bool) → Fits m → Freshened m n t → (xs : List Asked) (ys : List Received) (k : Memory) → Run n xs ys k
+    → (m′ n′ : Memory) (t′ : Bool) → Fits m′ → Freshened m′ n′ t′ → (xs′ : List Asked) (ys′ : List Received) (k′ : Memory) → Run n′ xs′ ys′ k′
+    → (p : ℕ) → callsOf p (callsIn xs) ≡ callsOf p (callsIn xs′) → receivedBy p xs ys ≡ receivedBy p xs′ ys′
+received-independent m n t f s xs ys k r m′ n′ t′ f′ s′ xs′ ys′ k′ r′ p alike =
+    received-alone m n t f s xs ys k r p ∙ ap (λ (cs : List Call). map replyFields (replies cs)) alike ∙ sym (received-alone m′ n′ t′ f′ s′ xs′ ys′ k′ r′ p)

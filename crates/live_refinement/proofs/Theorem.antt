@@ -10,49 +10,49 @@ use Rattle.calls.specs.Calls.{parties, places}
 use Rattle.calls.specs.declared.Call.{Call}
 use Rattle.calls.specs.declared.Reply.{Reply}
 use Rattle.calls.specs.Replies.{replyFields}
-use Rattle.book.specs.Book.{Book, fresh, replies}
-use Rattle.book.specs.LastTaken.{lastTaken}
+use Rattle.holder_model.specs.Book.{Book, fresh, replies}
+use Rattle.holder_model.specs.LastTaken.{lastTaken}
 use Rattle.holder.specs.declared.Holder.{Holder}
 use Rattle.holder.specs.Holder.{freshHolder, workOf}
 use Rattle.holder.specs.Run.{handledFrom, handled, holderAfter}
-use Rattle.agreement.proofs.Slots.{Represents, represents-fresh}
-use Rattle.agreement.specs.Rows.{KeepsRows}
-use Rattle.agreement.proofs.ListTheorem.{call-agrees, list-theorem}
-use Rattle.agreement.proofs.Rows.{rows-kept}
+use Rattle.holder_refinement.proofs.Slots.{Represents, represents-fresh}
+use Rattle.holder_refinement.specs.Rows.{KeepsRows}
+use Rattle.holder_refinement.proofs.ListTheorem.{call-agrees, list-theorem}
+use Rattle.holder_refinement.proofs.Rows.{rows-kept}
 use Rattle.wire.specs.declared.Decoded.{Decoded}
 use Rattle.wire.specs.declared.Decoded.the-variants.{Call as Said, Nothing}
 use Rattle.live_memory.specs.Layout.{Memory, holderIn, Fits}
 use Rattle.live.specs.Called.{isCall, nextHolder, replyBy, Called, Freshened}
-use Rattle.live_refinement.specs.Run.{Asked, Heard, callIn, Run, stop, next, Calls, end, then, withCall, callsIn, heardInBook, nextBook, bookedFrom}
+use Rattle.live_refinement.specs.Run.{Asked, Received, callIn, Run, stop, next, Calls, end, then, withCall, callsIn, receivedInModel, nextBook, modelFrom}
 
-abbrev heard : Bool → List ℕ → Heard
-heard d l = record { done = d; reply = l }
+abbrev received : Bool → List ℕ → Received
+received d l = record { done = d; reply = l }
 
 -- ---- one call
 
 module _ (F : Type 0) (m n : Memory) (d : Decoded) (reply reply′ : List ℕ) (r : Bool) (c : Called F m n d reply reply′ r) (f : F) where
   -- Done or not, the holder and the reply are those of the call by value
-  by-value : (holderIn n ≡ nextHolder (holderIn m) d) × (heard r reply′ ≡ heard (isCall d) (replyBy (holderIn m) d reply))
+  by-value : (holderIn n ≡ nextHolder (holderIn m) d) × (received r reply′ ≡ received (isCall d) (replyBy (holderIn m) d reply))
   unfolding isCall nextHolder replyBy
   by-value = go d refl
     where
-      go : (e : Decoded) → d ≡ e → (holderIn n ≡ nextHolder (holderIn m) d) × (heard r reply′ ≡ heard (isCall d) (replyBy (holderIn m) d reply))
+      go : (e : Decoded) → d ≡ e → (holderIn n ≡ nextHolder (holderIn m) d) × (received r reply′ ≡ received (isCall d) (replyBy (holderIn m) d reply))
       go Nothing e =
           let no : r ≡ false = c .done f ∙ ap isCall e in
           let left = c .unaltered no in
-          (ap holderIn (left .0) ∙ rw e, ap₂ heard (c .done f) (left .1 ∙ rw e))
-      go (Said x) e = let so : r ≡ true = c .done f ∙ ap isCall e in (c .holder so, ap₂ heard (c .done f) (c .replied so))
+          (ap holderIn (left .0) ∙ rw e, ap₂ received (c .done f) (left .1 ∙ rw e))
+      go (Said x) e = let so : r ≡ true = c .done f ∙ ap isCall e in (c .holder so, ap₂ received (c .done f) (c .replied so))
 
 -- ---- any calls
 
 module _ (b : Book) (h : Holder) (k : Represents h b) (d : Decoded) where
-  one-heard : (reply : List ℕ) → heard (isCall d) (replyBy h d reply) ≡ heardInBook b d reply
-  unfolding isCall replyBy heardInBook
-  one-heard reply = go d
+  one-received : (reply : List ℕ) → received (isCall d) (replyBy h d reply) ≡ receivedInModel b d reply
+  unfolding isCall replyBy receivedInModel
+  one-received reply = go d
     where
-      go : (d : Decoded) → heard (isCall d) (replyBy h d reply) ≡ heardInBook b d reply
+      go : (d : Decoded) → received (isCall d) (replyBy h d reply) ≡ receivedInModel b d reply
       go Nothing = refl
-      go (Said c) = ap (λ (r : Reply). heard true (replyAfter (replyFields r) reply)) (call-agrees h b k c .0)
+      go (Said c) = ap (λ (r : Reply). received true (replyAfter (replyFields r) reply)) (call-agrees h b k c .0)
 
   one-next : Represents (nextHolder h d) (nextBook b d)
   unfolding nextHolder nextBook
@@ -62,12 +62,12 @@ module _ (b : Book) (h : Holder) (k : Represents h b) (d : Decoded) where
       go Nothing = k
       go (Said c) = call-agrees h b k c .1
 
-run-agrees : (m : Memory) (b : Book) → Fits m → Represents (holderIn m) b → (xs : List Asked) (ys : List Heard) (k : Memory) → Run m xs ys k → ys ≡ bookedFrom b xs
-unfolding bookedFrom
+run-agrees : (m : Memory) (b : Book) → Fits m → Represents (holderIn m) b → (xs : List Asked) (ys : List Received) (k : Memory) → Run m xs ys k → ys ≡ modelFrom b xs
+unfolding modelFrom
 run-agrees m b f p [] [] k stop = refl
 run-agrees m b f p (x ∷ xs) (y ∷ ys) k (next {m = _} {n = n} F h c r) =
     let one = by-value F m n (callIn x) (x .reply) (y .reply) (y .done) c (h f) in
-    ap₂ _∷_ (one .1 ∙ one-heard b (holderIn m) p (callIn x) (x .reply))
+    ap₂ _∷_ (one .1 ∙ one-received b (holderIn m) p (callIn x) (x .reply))
     (run-agrees n (nextBook b (callIn x)) (c .fits f) (rw (one .0) (one-next b (holderIn m) p (callIn x))) xs ys k r)
 
 after-next : (h : Holder) (d : Decoded) (cs : List Call) → holderAfter (nextHolder h d) cs ≡ holderAfter h (withCall d cs)
@@ -75,7 +75,7 @@ unfolding nextHolder withCall holderAfter
 after-next h Nothing cs = refl
 after-next h (Said c) cs = refl
 
-run-leaves : (m : Memory) → Fits m → (xs : List Asked) (ys : List Heard) (k : Memory) → Run m xs ys k → Fits k × (holderIn k ≡ holderAfter (holderIn m) (callsIn xs))
+run-leaves : (m : Memory) → Fits m → (xs : List Asked) (ys : List Received) (k : Memory) → Run m xs ys k → Fits k × (holderIn k ≡ holderAfter (holderIn m) (callsIn xs))
 unfolding callsIn holderAfter
 run-leaves m f [] [] k stop = (f, refl)
 run-leaves m f (x ∷ xs) (y ∷ ys) k (next {m = _} {n = n} F h c r) =
@@ -84,9 +84,9 @@ run-leaves m f (x ∷ xs) (y ∷ ys) k (next {m = _} {n = n} F h c r) =
     (rest .0, rest .1 ∙ ap (λ (g : Holder). holderAfter g (callsIn xs)) (one .0) ∙ after-next (holderIn m) (callIn x) (callsIn xs))
 
 -- Lists that were made fresh, and any calls made on them one by one, as bytes and by their arguments mixed as they may be, lists too short for a reply among them
-module _ (m n : Memory) (t : Bool) (f : Fits m) (s : Freshened m n t) (xs : List Asked) (ys : List Heard) (k : Memory) (r : Run n xs ys k) where
+module _ (m n : Memory) (t : Bool) (f : Fits m) (s : Freshened m n t) (xs : List Asked) (ys : List Received) (k : Memory) (r : Run n xs ys k) where
   -- What is heard is what the plain book says (contract 8.2 and 10.4)
-  pub run-theorem : ys ≡ bookedFrom fresh xs
+  pub run-theorem : ys ≡ modelFrom fresh xs
   run-theorem = run-agrees n fresh (s .fits f) (rw (s .holder f) represents-fresh) xs ys k r
 
   -- And the holder in the lists afterwards is the holder by value after the same calls

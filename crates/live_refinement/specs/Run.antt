@@ -9,10 +9,10 @@ use Rattle.chart.specs.declared.Fields.{Fields}
 use Rattle.chart.specs.Fields.{replyAfter, fieldsOf}
 use Rattle.calls.specs.declared.Call.{Call}
 use Rattle.calls.specs.Replies.{replyFields}
-use Rattle.book.specs.Book.{Book, answer}
+use Rattle.holder_model.specs.Book.{Book, answer}
 use Rattle.wire.specs.declared.Decoded.{Decoded}
 use Rattle.wire.specs.declared.Decoded.the-variants.{Call as Said, Nothing}
-use Rattle.wire.specs.Wire.{heard as heardIn}
+use Rattle.wire.specs.Wire.{received as receivedIn}
 use Rattle.live_memory.specs.Layout.{Memory, Fits}
 use Rattle.live.specs.Called.{spoken, Called, Done, Freshened}
 
@@ -27,22 +27,22 @@ pub record Asked : Type 0 where
   pub reply : List ℕ
 
 -- Whether it was done, and that list afterwards
-pub record Heard : Type 0 where
+pub record Received : Type 0 where
   pub done : Bool
   pub reply : List ℕ
 
 -- The call that is answered: none where the bytes are none, or the reply has no room
 unfoldable pub sentCall : Sent → ℕ → Decoded
-sentCall (Bytes b) room = heardIn b room
+sentCall (Bytes b) room = receivedIn b room
 sentCall (Arguments c) room = spoken c room
 
 abbrev pub callIn : Asked → Decoded
 callIn x = sentCall (x .sent) (length (x .reply))
 
 -- From lists m to lists k: each call is made on the lists that the last one left, and promises what `Called` says
-pub data Run : Memory → List Asked → List Heard → Memory → Type 1 where
+pub data Run : Memory → List Asked → List Received → Memory → Type 1 where
   stop : {m : Memory} → Run m [] [] m
-  next : {m n k : Memory} {x : Asked} {y : Heard} {xs : List Asked} {ys : List Heard} (F : Type 0) → (Fits m → F)
+  next : {m n k : Memory} {x : Asked} {y : Received} {xs : List Asked} {ys : List Received} (F : Type 0) → (Fits m → F)
       → Called F m n (callIn x) (x .reply) (y .reply) (y .done) → Run n xs ys k → Run m (x ∷ xs) (y ∷ ys) k
 
 -- The calls that are answered, in their order
@@ -57,17 +57,17 @@ callsIn (x ∷ xs) = withCall (callIn x) (callsIn xs)
 -- ---- in the book
 
 -- What is no call, or has no room for its reply, alters nothing
-unfoldable pub heardInBook : Book → Decoded → List ℕ → Heard
-heardInBook b Nothing reply = record { done = false; reply = reply }
-heardInBook b (Said c) reply = record { done = true; reply = replyAfter (replyFields (answer b c .reply)) reply }
+unfoldable pub receivedInModel : Book → Decoded → List ℕ → Received
+receivedInModel b Nothing reply = record { done = false; reply = reply }
+receivedInModel b (Said c) reply = record { done = true; reply = replyAfter (replyFields (answer b c .reply)) reply }
 
 unfoldable pub nextBook : Book → Decoded → Book
 nextBook b Nothing = b
 nextBook b (Said c) = answer b c .next
 
-unfoldable pub bookedFrom : Book → List Asked → List Heard
-bookedFrom b [] = []
-bookedFrom b (x ∷ xs) = heardInBook b (callIn x) (x .reply) ∷ bookedFrom (nextBook b (callIn x)) xs
+unfoldable pub modelFrom : Book → List Asked → List Received
+modelFrom b [] = []
+modelFrom b (x ∷ xs) = receivedInModel b (callIn x) (x .reply) ∷ modelFrom (nextBook b (callIn x)) xs
 
 -- ---- calls by their arguments alone, on lists that have their lengths
 
@@ -79,8 +79,8 @@ pub data Calls : Memory → List Call → List (List ℕ) → Memory → Type 0 
 
 -- ---- one reply among many
 
-abbrev pub unheard : Heard
-unheard = record { done = false; reply = [] }
+abbrev pub unreceived : Received
+unreceived = record { done = false; reply = [] }
 
 -- Lists were made fresh and calls made on them one by one. Among these, after the calls cs, call c got the reply whose seven numbers are g
 pub record Replied (cs : List Call) (c : Call) (g : Fields) : Type 1 where
@@ -92,12 +92,12 @@ pub record Replied (cs : List Call) (c : Call) (g : Fields) : Type 1 where
   pub earlier : List Asked
   pub asked : Asked
   pub later : List Asked
-  pub heard : List Heard
+  pub received : List Received
   pub left : Memory
-  pub run : Run lists (earlier ++ (asked ∷ later)) heard left
+  pub run : Run lists (earlier ++ (asked ∷ later)) received left
   pub calls : callsIn earlier ≡ cs
   pub call : callIn asked ≡ Said c
-  pub fields : fieldsOf (getD heard (length earlier) unheard .reply) ≡ g
+  pub fields : fieldsOf (getD received (length earlier) unreceived .reply) ≡ g
 
 -- ---- what one party hears
 
@@ -107,7 +107,7 @@ isOf p Nothing = false
 isOf p (Said c) = eqb p (c .party)
 
 -- The replies to the calls of party p, in their order
-unfoldable pub heardBy : ℕ → List Asked → List Heard → List Fields
-heardBy p [] ys = []
-heardBy p (x ∷ xs) [] = []
-heardBy p (x ∷ xs) (y ∷ ys) = cond (isOf p (callIn x)) (fieldsOf (y .reply) ∷ heardBy p xs ys) (heardBy p xs ys)
+unfoldable pub receivedBy : ℕ → List Asked → List Received → List Fields
+receivedBy p [] ys = []
+receivedBy p (x ∷ xs) [] = []
+receivedBy p (x ∷ xs) (y ∷ ys) = cond (isOf p (callIn x)) (fieldsOf (y .reply) ∷ receivedBy p xs ys) (receivedBy p xs ys)

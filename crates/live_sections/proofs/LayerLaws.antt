@@ -6,7 +6,7 @@ use mathlib.Core.List.{List, []}
 use lib.ListN.{getD}
 use Rattle.base.specs.Below.{first}
 use Rattle.chart.specs.Limits.{side}
-use Rattle.rows.specs.Rows.{rows as rowOf}
+use Rattle.rows.specs.parts.Rows.{rows as rowOf}
 use Rattle.spans.specs.declared.Spans.{Spans}
 use Rattle.sections.specs.Sections.{layers}
 use Rattle.pile.specs.Pile.{layerAt, inRow, lowestRow, afterHighest}

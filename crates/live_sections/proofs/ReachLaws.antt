@@ -13,7 +13,7 @@ use borrow.Author.Tests.{leb-true, ltb-true, lt-ltb}
 use Rattle.base.specs.Below.{first}
 use Rattle.base.proofs.BelowLaws.{below-suc, and-left, and-right, not-held, first-before, first-none, first-none-at}
 use Rattle.chart.specs.Limits.{side}
-use Rattle.rows.specs.Rows.{rows as rowOf}
+use Rattle.rows.specs.parts.Rows.{rows as rowOf}
 use Rattle.spans.specs.declared.Spans.{Spans}
 use Rattle.sections.specs.declared.Section.{Section}
 use Rattle.sections.specs.Sections.{layers, numbers}
@@ -21,7 +21,7 @@ use Rattle.pile.specs.Pile.{layerAt, inRow}
 use Rattle.pile.proofs.RunLaws.{listed-at}
 use Rattle.windows.specs.Windows.{window}
 use Rattle.live_sections.specs.Layers.{layersOf}
-use Rattle.live_sections.specs.Reach.{hasCell, bottomOf, topOf, reachOf, NoneBelow, NoneFrom}
+use Rattle.live_sections.specs.parts.Reach.{hasCell, bottomOf, topOf, reachOf, NoneBelow, NoneFrom}
 use Rattle.live_sections.proofs.LayerLaws.{spans-are}
 
 module _ (begins ends : List ℕ) (c : ℕ) where

@@ -8,14 +8,14 @@ use borrow.Author.Tests.{not-false}
 use Rattle.base.specs.Below.{first}
 use Rattle.base.proofs.BelowLaws.{first-step, first-stop}
 use Rattle.chart.specs.Limits.{side}
-use Rattle.rows.specs.Rows.{rows as rowOf}
+use Rattle.rows.specs.parts.Rows.{rows as rowOf}
 use Rattle.spans.specs.declared.Spans.{Spans}
 use Rattle.spans.specs.Spans.{table}
 use Rattle.spans.proofs.Tables.{length-table}
 use Rattle.sections.specs.declared.Section.{Section}
 use Rattle.sections.specs.Sections.{layers, numbers, clear}
 use Rattle.pile.specs.Pile.{layerAt, lowestRow, afterHighest, columnSection, rowSection, columnClear, rowClear}
-use Rattle.live_sections.specs.Reach.{clearOf, Sized}
+use Rattle.live_sections.specs.parts.Reach.{clearOf, Sized}
 
 pub clear-is : (s : Section) (b : Bool) → b ≡ clear (numbers (s .lo)) (numbers (s .past)) → b ≡ clearOf s
 unfolding clearOf

@@ -13,7 +13,7 @@ ghost use Rattle.chart.specs.Limits.{side};
 ghost use Rattle.windows.specs.Windows.{window};
 ghost use Rattle.pile.specs.Pile.{inRow, columnSection, rowSection, dentedColumn, dentedRow};
 ghost use Rattle.live_sections.specs.Layers.{layersOf};
-ghost use Rattle.live_sections.specs.Reach.{hasCell, reachOf, NoneBelow, NoneFrom, clearOf, Sized};
+ghost use Rattle.live_sections.specs.parts.Reach.{hasCell, reachOf, NoneBelow, NoneFrom, clearOf, Sized};
 
 // The 255 numbers from an index on.
 fn part(rows: &[u8], from: usize) -> &[u8]

@@ -6,9 +6,9 @@ use chart::MOST_NUMBERS;
 use chart::Point;
 use chart::Refusal;
 use chart::SIDE;
+use equality::same_numbers;
+use equality::same_point;
 use live_memory::write_head;
-use same::same_numbers;
-use same::same_point;
 use span_list::put_outline;
 use span_list::span_at;
 use span_list::within;
@@ -25,7 +25,7 @@ ghost use Rattle.calls.specs.Calls.{parties, places};
 ghost use Rattle.work.specs.Work.{listed, removed, replaced, hasEdges, located, spanned, readAt, drawnAt, answered as answeredOf};
 ghost use Rattle.windows.specs.Windows.{window};
 ghost use Rattle.live_memory.specs.Layout.{workAt, WorksFit};
-ghost use Rattle.live_memory.specs.Writes.{WorkPut};
+ghost use Rattle.live_memory.specs.parts.Writes.{WorkPut};
 
 // Nothing is at work at the place.
 pub fn remove(heads: &mut [u16], party: usize, place: usize)
@@ -153,15 +153,15 @@ pub fn answered(
 }
 
 // Copies the numbers of edges to a lent list, from an index on.
-fn put_numbers(list: &[i16; MOST_NUMBERS], at: usize, lent: &mut [i16])
-    requires { ⌜ at + mostNumbers ≤ length (now lent) ⌝ }
-    ensures { λ _. ⌜ (now (lent .exit) ≡ paste (now (lent .entry)) at (now (list .entry)) mostNumbers) × (length (now (list .entry)) ≡ mostNumbers) ⌝ }
+fn put_numbers(list: &[i16; MOST_NUMBERS], at: usize, buffer: &mut [i16])
+    requires { ⌜ at + mostNumbers ≤ length (now buffer) ⌝ }
+    ensures { λ _. ⌜ (now (buffer .exit) ≡ paste (now (buffer .entry)) at (now (list .entry)) mostNumbers) × (length (now (list .entry)) ≡ mostNumbers) ⌝ }
 {
     let all = &list[..];
     let mut i = 0;
     while i < MOST_NUMBERS {
         let number = all[i];
-        lent[at + i] = number;
+        buffer[at + i] = number;
         i += 1;
     }
 }

@@ -5,7 +5,7 @@ use mathlib.Core.Bool.{Bool, true, false, true≢false}
 use Rattle.chart.specs.declared.Point.{Point}
 use Rattle.chart.specs.declared.Nesting.{Nesting}
 use Rattle.chart.specs.declared.Nesting.the-variants.{Equal, FirstWithin, SecondWithin, Apart, Crossing}
-use Rattle.turning.specs.CornerHull.{Met}
+use Rattle.directions.specs.CornerHull.{Met}
 use Rattle.nesting.specs.Cells.{Polygon, Fit, Holds, Within, Beyond, Common, Says}
 use Rattle.nesting.specs.Rows.{rowsMeet}
 use Rattle.nesting.specs.Answer.{byTests, liesWithin, nesting}

@@ -12,17 +12,17 @@ use Rattle.chart.specs.declared.Point.{Point}
 use Rattle.chart.specs.declared.Nesting.{Nesting}
 use Rattle.chart.specs.declared.Nesting.the-variants.{Equal, FirstWithin, SecondWithin, Apart, Crossing}
 use Rattle.chart.specs.Outline.{Outline}
-use Rattle.convexity.specs.Reading.{border}
+use Rattle.convexity.specs.Clockwise.{border}
 use Rattle.convexity.specs.Pieces.{edges}
 use Rattle.convexity.specs.Border.{HasEdges}
 use Rattle.convexity.proofs.Inside.{IsCell}
 use Rattle.convexity.proofs.AsSent.{clear-of, edges-answer-sent}
 use Rattle.convexity.proofs.SameBlock.{open-off}
-use Rattle.turning.specs.CornerHull.{onChart}
-use Rattle.turning.proofs.Theorem.{inside-iff-hull}
-use Rattle.turning.proofs.Taken.{taken-passes}
-use Rattle.turning.proofs.Cells.{corner-is-cell}
-use Rattle.turning.proofs.OnChart.{number-on}
+use Rattle.directions.specs.CornerHull.{onChart}
+use Rattle.directions.proofs.Theorem.{inside-iff-hull}
+use Rattle.directions.proofs.Taken.{taken-passes}
+use Rattle.directions.proofs.Cells.{corner-is-cell}
+use Rattle.directions.proofs.OnChart.{number-on}
 use Rattle.nesting.specs.Cells.{polygon, Fit, Holds, Within, Beyond, Common, SaysOf, Encloses}
 use Rattle.nesting.specs.Corners.{cornersOnChart}
 use Rattle.nesting.specs.Answer.{nesting}

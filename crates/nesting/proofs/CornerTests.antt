@@ -5,8 +5,8 @@ use mathlib.Core.Bool.{Bool, true, false, _&&_, and-eq-true-iff}
 use mathlib.Core.List.{List, [], _∷_}
 use lib.IntN.{ℤ, pos, _+ℤ_}
 use Rattle.chart.specs.Limits.{side}
-use Rattle.turning.specs.CornerHull.{onChart, Met}
-use Rattle.turning.proofs.OnChart.{number, on-parts}
+use Rattle.directions.specs.CornerHull.{onChart, Met}
+use Rattle.directions.proofs.OnChart.{number, on-parts}
 use Rattle.nesting.specs.Corners.{everyCorner}
 
 pub every-met : (f : ℤ → ℤ → Bool) {es : List ℤ} {x y u v : ℤ} → Met es x y u v → everyCorner f es x y ≡ true → f u v ≡ true

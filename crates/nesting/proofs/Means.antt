@@ -7,8 +7,8 @@ use lib.IntN.{ℤ}
 use lib.Signed.{leZ}
 use Rattle.base.proofs.IntegerOrder.{AtMost, at-most-iff}
 use Rattle.convexity.specs.Inside.{colSteps, rowSteps, lowestMet, highestMet, noneOutside, within, insideAt}
-use Rattle.turning.proofs.Passing.{Inner, inner, none-outside}
-use Rattle.turning.proofs.Means.{Meanℤ, mean-least, mean-side, mean-low, mean-high}
+use Rattle.directions.proofs.Passing.{Inner, inner, none-outside}
+use Rattle.directions.proofs.Means.{Meanℤ, mean-least, mean-side, mean-low, mean-high}
 
 -- Inside, taken apart
 pub inside-parts :

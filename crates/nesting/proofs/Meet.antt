@@ -10,7 +10,7 @@ use Rattle.chart.specs.Limits.{side}
 use Rattle.base.specs.Below.{some, first}
 use Rattle.base.proofs.BelowLaws.{first-found, some-of}
 use Rattle.base.proofs.IntegerOrder.{AtMost}
-use Rattle.turning.proofs.Means.{Meanℤ, mean-high}
+use Rattle.directions.proofs.Means.{Meanℤ, mean-high}
 use Rattle.nesting.specs.Cells.{Polygon, Fit, Holds, Common}
 use Rattle.nesting.specs.Rows.{runFrom, runTo, rowMeets, rowsMeet}
 use Rattle.nesting.proofs.CornerTests.{Place}

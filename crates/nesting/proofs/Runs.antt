@@ -12,7 +12,7 @@ use Rattle.base.proofs.IntegerOrder.{up, down, AtMost}
 use Rattle.base.proofs.Differences.{Is, is-self, is-minus}
 use Rattle.convexity.specs.Inside.{notNegative, sideValue, noneOutside, colSteps, rowSteps, lowestMet, highestMet, within, insideAt}
 use Rattle.convexity.proofs.Signed.{not-negative-iff}
-use Rattle.turning.proofs.Cross.{is-cross, side-cross}
+use Rattle.directions.proofs.Cross.{is-cross, side-cross}
 use Rattle.nesting.specs.Cells.{Polygon}
 use Rattle.nesting.specs.Rows.{edgeFrom, edgeTo, edgesFrom, edgesTo, startAt, endAfter, runFrom, runTo}
 use Rattle.nesting.proofs.Means.{inside-parts, inside-of-parts, within-parts, within-of}

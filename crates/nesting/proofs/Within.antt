@@ -7,9 +7,9 @@ use mathlib.Core.Bool.{Bool, true, false, true≢false}
 use mathlib.Core.List.{List}
 use lib.IntN.{ℤ, pos}
 use Rattle.convexity.specs.Inside.{insideAt}
-use Rattle.turning.specs.CornerHull.{Met, Corner, InCornerHull}
-use Rattle.turning.proofs.Means.{Meanℤ, mean-of}
-use Rattle.turning.proofs.Theorem.{inside-at-iff-hull}
+use Rattle.directions.specs.CornerHull.{Met, Corner, InCornerHull}
+use Rattle.directions.proofs.Means.{Meanℤ, mean-of}
+use Rattle.directions.proofs.Theorem.{inside-at-iff-hull}
 use Rattle.nesting.specs.Cells.{Polygon, Fit, Holds, Within, Beyond}
 use Rattle.nesting.specs.Corners.{cornersOnChart, cornersInside}
 use Rattle.nesting.specs.Answer.{liesWithin}

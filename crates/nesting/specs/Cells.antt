@@ -7,9 +7,9 @@ use Rattle.chart.specs.declared.Point.{Point}
 use Rattle.chart.specs.Outline.{Outline}
 use Rattle.chart.specs.declared.Nesting.{Nesting}
 use Rattle.chart.specs.declared.Nesting.the-variants.{Equal, FirstWithin, SecondWithin, Apart, Crossing}
-use Rattle.convexity.specs.Reading.{block}
-use Rattle.turning.specs.Turning.{badTurning}
-use Rattle.turning.specs.CornerHull.{CornersHold}
+use Rattle.convexity.specs.Clockwise.{block}
+use Rattle.directions.specs.Increasing.{badDirections}
+use Rattle.directions.specs.CornerHull.{CornersHold}
 use Rattle.nesting.specs.Corners.{cornersOnChart}
 
 -- An anchor and a list of edges
@@ -22,7 +22,7 @@ polygon a es = record { anchor = a; edges = es }
 
 -- What is asked of a polygon: its edges pass refusal 16, and its walk stays on the chart
 pub record Fit (p : Polygon) : Type 0 where
-  pub passes : badTurning (p .edges) ≡ false
+  pub passes : badDirections (p .edges) ≡ false
   pub placed : cornersOnChart (p .edges) (pos (p .anchor .col)) (pos (p .anchor .row)) ≡ true
 
 -- The hull of the corner cells holds a cell

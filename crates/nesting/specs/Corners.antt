@@ -3,7 +3,7 @@ use mathlib.Core.Bool.{Bool, _&&_}
 use mathlib.Core.List.{List, [], _∷_}
 use lib.IntN.{ℤ, _+ℤ_}
 use Rattle.convexity.specs.Inside.{insideAt}
-use Rattle.turning.specs.CornerHull.{onChart}
+use Rattle.directions.specs.CornerHull.{onChart}
 
 -- Every corner cell met by the walk from (x, y) passes a test
 unfoldable pub everyCorner : (ℤ → ℤ → Bool) → List ℤ → ℤ → ℤ → Bool

@@ -32,6 +32,6 @@ pub fn test(start: Point, letters: &[u8], edges: &mut [i16]) -> Verdict
     ensures cell { λ r. ⌜ CellNamed (outline start (now (letters .entry))) (verdictFields r) ⌝ }
 {
     let room = edges.len();
-    let verdict = border::judge(start, letters, edges);
+    let verdict = judge::judge(start, letters, edges);
     with_room(room, verdict)
 }

@@ -16,39 +16,39 @@ use Rattle.pile.specs.declared.PileReply.{PileReply}
 use Rattle.pile.specs.declared.PileReply.the-variants.{Done, Dented}
 use Rattle.pile.specs.Replies.{pileFields}
 use Rattle.pile.specs.Pile.{judgedPile, columnClear, rowClear, dentedColumn, dentedRow, checkOf}
-use Rattle.pile.specs.Meaning.{FullBefore, AllFull, CheckedBy, passes, column, row, rowRuns, CheckedRuns, RowFits}
+use Rattle.pile.specs.Meaning.{ConvexBefore, AllConvex, CheckedBy, passes, column, row, rowRuns, CheckedRuns, RowFits}
 use Rattle.pile.proofs.CallLaws.{says, check-column, check-row, check-passes}
 use Rattle.pile.proofs.RunLaws.{Decided, column-decided, row-decided}
 
 -- ---- what the two searches find
 
 module _ (columns rows : ℕ → ℕ → ℕ → Bool) (ls : List Spans) (by-column : (c : ℕ) → c < side → Decided (columnClear ls c) (columns c)) where
-  columns-full : (n : ℕ) → n ≤ side → n ≤ dentedColumn ls → FullBefore columns n
+  columns-convex : (n : ℕ) → n ≤ side → n ≤ dentedColumn ls → ConvexBefore columns n
   unfolding dentedColumn
-  columns-full n s h c l = by-column c (omega arith) .full (not-false _ (first-before (λ k. not (columnClear ls k)) side c (omega arith)))
+  columns-convex n s h c l = by-column c (omega arith) .full (not-false _ (first-before (λ k. not (columnClear ls k)) side c (omega arith)))
 
   pub column-said : dentedColumn ls < side → CheckedBy columns rows (Dented 0 (dentedColumn ls))
   unfolding dentedColumn
   column-said h =
       column (dentedColumn ls) h (by-column (dentedColumn ls) h .dent (not-true _ (first-found (λ k. not (columnClear ls k)) side h)))
-      (columns-full (dentedColumn ls) (omega arith) (omega arith))
+      (columns-convex (dentedColumn ls) (omega arith) (omega arith))
 
   -- Where no column is dented the rows are asked, as far as the first that is
   module _ (clear : side ≤ dentedColumn ls) (by-row : (r : ℕ) → r < side → r ≤ dentedRow ls → Decided (rowClear ls r) (rows r)) where
-    rows-full : (n : ℕ) → n ≤ side → n ≤ dentedRow ls → FullBefore rows n
+    rows-convex : (n : ℕ) → n ≤ side → n ≤ dentedRow ls → ConvexBefore rows n
     unfolding dentedRow
-    rows-full n s h r l =
+    rows-convex n s h r l =
         by-row r (omega arith) (omega arith) .full (not-false _ (first-before (λ k. not (rowClear ls k)) side r (omega arith)))
 
     pub row-said : dentedRow ls < side → CheckedBy columns rows (Dented 1 (dentedRow ls))
     unfolding dentedRow
     row-said h =
-        row (dentedRow ls) h (columns-full side (omega arith) clear)
+        row (dentedRow ls) h (columns-convex side (omega arith) clear)
         (by-row (dentedRow ls) h (omega arith) .dent (not-true _ (first-found (λ k. not (rowClear ls k)) side h)))
-        (rows-full (dentedRow ls) (omega arith) (omega arith))
+        (rows-convex (dentedRow ls) (omega arith) (omega arith))
 
     pub none-said : side ≤ dentedRow ls → CheckedBy columns rows Done
-    none-said h = passes (columns-full side (omega arith) clear) (rows-full side (omega arith) h)
+    none-said h = passes (columns-convex side (omega arith) clear) (rows-convex side (omega arith) h)
 
 -- ---- a check
 
@@ -99,7 +99,7 @@ module _ (p : Pile) (c : ℕ) (ec : c ≡ dentedColumn (p .layers)) where
 
 -- Its number is 0 exactly if no section is dented
 pub checked-number : {columns rows : ℕ → ℕ → ℕ → Bool} (r : PileReply) → CheckedBy columns rows r
-    → (pileFields r .number ≡ 0) ↔ AllFull columns rows
+    → (pileFields r .number ≡ 0) ↔ AllConvex columns rows
 unfolding pileFields
 checked-number r (passes cs rs) = (λ e. record { at-columns = cs; at-rows = rs }, λ n. refl)
 checked-number r (column c h (x, d) f) = (λ e. absurd (omega arith), λ n. absurd (n .at-columns c h x d))

@@ -10,13 +10,13 @@ use lib.Dec.{leb, ltb}
 use borrow.Author.Tests.{le-leb, lt-ltb, leb-true, ltb-true}
 use Rattle.base.proofs.BelowLaws.{and-left, and-right}
 use Rattle.chart.specs.Limits.{side}
-use Rattle.lattice.specs.Hull.{Full}
-use Rattle.rows.specs.Rows.{rows as rowOf}
+use Rattle.lattice.specs.Hull.{Convex}
+use Rattle.rows.specs.parts.Rows.{rows as rowOf}
 use Rattle.spans.specs.declared.Spans.{Spans}
 use Rattle.spans.specs.Spans.{table}
 use Rattle.spans.proofs.Tables.{table-at, table-past}
 use Rattle.sections.specs.Sections.{layers, numbers, clear}
-use Rattle.sections.proofs.Decides.{InRuns, clear-full, unclear-missing}
+use Rattle.sections.proofs.Decides.{InRuns, clear-convex, unclear-missing}
 use Rattle.pile.specs.Pile.{layerAt, lowestRow, afterHighest, columnSection, rowSection, columnClear, rowClear}
 use Rattle.pile.specs.Meaning.{HasDent, runMarks, columnRuns, rowRuns, RowFits}
 
@@ -53,11 +53,11 @@ listed-runs marked lo past on-chart exact =
 -- ---- the test of a section says whether it is dented
 
 pub record Decided (clear : Bool) (marked : ℕ → ℕ → Bool) : Type 0 where
-  pub full : clear ≡ true → Full marked
+  pub full : clear ≡ true → Convex marked
   pub dent : clear ≡ false → HasDent marked
 
 pub runs-decide : {marked : ℕ → ℕ → Bool} {lo past : ℕ → ℕ} → InRuns marked lo past → Decided (clear lo past) marked
-runs-decide {marked} {lo} {past} t = record { full = clear-full marked lo past t; dent = unclear-missing marked lo past t }
+runs-decide {marked} {lo} {past} t = record { full = clear-convex marked lo past t; dent = unclear-missing marked lo past t }
 
 pub after-le : (s : Spans) (c : ℕ) → afterHighest s c ≤ side
 unfolding afterHighest

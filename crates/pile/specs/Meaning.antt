@@ -5,8 +5,8 @@ use mathlib.Core.List.{List}
 use lib.Dec.{leb, ltb}
 use Rattle.chart.specs.Limits.{side}
 use Rattle.chart.specs.declared.Point.{Point}
-use Rattle.lattice.specs.Hull.{Missing, Full}
-use Rattle.rows.specs.Rows.{rows as rowOf}
+use Rattle.lattice.specs.Hull.{Missing, Convex}
+use Rattle.rows.specs.parts.Rows.{rows as rowOf}
 use Rattle.spans.specs.declared.Spans.{Spans}
 use Rattle.sections.specs.declared.Section.{Section}
 use Rattle.sections.specs.Sections.{layers, numbers}
@@ -21,19 +21,19 @@ abbrev pub HasDent : (ℕ → ℕ → Bool) → Type 0
 HasDent marked = (x : Point) × Missing marked x
 
 -- None of the sections before n is dented
-abbrev pub FullBefore : (ℕ → ℕ → ℕ → Bool) → ℕ → Type 0
-FullBefore sections n = (k : ℕ) → k < n → Full (sections k)
+abbrev pub ConvexBefore : (ℕ → ℕ → ℕ → Bool) → ℕ → Type 0
+ConvexBefore sections n = (k : ℕ) → k < n → Convex (sections k)
 
 -- None at all is
-pub record AllFull (columns rows : ℕ → ℕ → ℕ → Bool) : Type 0 where
-  pub at-columns : FullBefore columns side
-  pub at-rows : FullBefore rows side
+pub record AllConvex (columns rows : ℕ → ℕ → ℕ → Bool) : Type 0 where
+  pub at-columns : ConvexBefore columns side
+  pub at-rows : ConvexBefore rows side
 
 -- The reply of a check: done where no section is dented; else the first that is, among the columns and then the rows
 pub data CheckedBy (columns rows : ℕ → ℕ → ℕ → Bool) : PileReply → Type 0 where
-  passes : FullBefore columns side → FullBefore rows side → CheckedBy columns rows Done
-  column : (c : ℕ) → c < side → HasDent (columns c) → FullBefore columns c → CheckedBy columns rows (Dented 0 c)
-  row : (r : ℕ) → r < side → FullBefore columns side → HasDent (rows r) → FullBefore rows r → CheckedBy columns rows (Dented 1 r)
+  passes : ConvexBefore columns side → ConvexBefore rows side → CheckedBy columns rows Done
+  column : (c : ℕ) → c < side → HasDent (columns c) → ConvexBefore columns c → CheckedBy columns rows (Dented 0 c)
+  row : (r : ℕ) → r < side → ConvexBefore columns side → HasDent (rows r) → ConvexBefore rows r → CheckedBy columns rows (Dented 1 r)
 
 -- ---- of layers as they are kept, whatever they hold
 
@@ -53,7 +53,7 @@ abbrev pub CheckedRuns : List Spans → PileReply → Type 0
 CheckedRuns ls = CheckedBy (columnRuns ls) (rowRuns ls)
 
 abbrev pub NoDent : List Spans → Type 0
-NoDent ls = AllFull (columnRuns ls) (rowRuns ls)
+NoDent ls = AllConvex (columnRuns ls) (rowRuns ls)
 
 -- Row r of every layer ends on the chart, as it does where the numbers are bytes
 abbrev pub RowFits : List Spans → ℕ → Type 0

@@ -1,7 +1,7 @@
 // The pile: sixteen layers, each empty or one taken outline, and the calls on them (contract 12).
-use border::verdict_of;
 use chart::Point;
 use chart::Verdict;
+use judge::verdict_of;
 use polygon::bad_cell;
 use sections::LAYERS;
 use spans::Spans;
@@ -17,7 +17,7 @@ ghost use Rattle.pile.specs.Replies.{pileFields};
 ghost use Rattle.pile.specs.Pile.{freshPile, put as putOf, setOf, emptyOf, judgedPile, checkOf, queryOf};
 ghost use Rattle.pile.specs.Meaning.{CheckedRuns};
 
-mod cuts;
+mod section_at;
 pub mod written;
 
 // What is kept of each layer, and whether the last check passed and nothing was set since. Zeros: a fresh pile.
@@ -126,14 +126,14 @@ impl Pile {
         ensures meaning { λ r. ⌜ CheckedRuns (self .layers) (r .reply) ⌝ }
     {
         let layers = self.layers;
-        let col = cuts::dented_column(layers);
+        let col = section_at::dented_column(layers);
         if col < 255 {
             return Piled {
                 reply: PileReply::Dented { kind: 0, at: col },
                 pile: self.marked(false),
             };
         }
-        let row = cuts::dented_row(layers);
+        let row = section_at::dented_row(layers);
         if row < 255 {
             return Piled {
                 reply: PileReply::Dented { kind: 1, at: row },

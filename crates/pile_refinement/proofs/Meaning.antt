@@ -13,16 +13,16 @@ use Rattle.pile.specs.declared.PileReply.{PileReply}
 use Rattle.pile.specs.Replies.{pileFields}
 use Rattle.pile.specs.Pile.{queryOf}
 use Rattle.pile.specs.Calls.{Check, Query, answerOf}
-use Rattle.ledger.specs.Book.{Checked, NoneDented, located, queried}
-use Rattle.ledger.proofs.ListTheorem.{bookOf, pile-passed, book-checked, book-queried}
+use Rattle.pile_model.specs.Book.{Checked, NoneDented, located, queried}
+use Rattle.pile_model.proofs.ListTheorem.{bookOf, pile-passed, book-checked, book-queried}
 use Rattle.live_pile.specs.Layout.{Memory, Fits}
 use Rattle.live_pile.specs.Called.{Called, CheckWritten, Freshened}
 use Rattle.live_pile.proofs.CallLaws.{check-written}
-use Rattle.pile_refinement.specs.Series.{Asked, Heard, Series, heeded}
+use Rattle.pile_refinement.specs.Series.{Asked, Received, Series, heeded}
 use Rattle.pile_refinement.proofs.Theorem.{fresh-leaves}
 
 -- Lists in which a fresh pile stood, after any calls, with reply lists too short among them
-module _ (m n : Memory) (t : Bool) (f : Fits m) (s : Freshened m n t) (xs : List Asked) (ys : List Heard) (k : Memory)
+module _ (m n : Memory) (t : Bool) (f : Fits m) (s : Freshened m n t) (xs : List Asked) (ys : List Received) (k : Memory)
     (r : Series n xs ys k) where
   -- A check that is done replies 0 exactly if no section, at a column or at a row, of the outlines that were taken has a missing cell;
   -- and else it names the first that has

@@ -10,16 +10,16 @@ use Rattle.chart.specs.Fields.{numbersOf}
 use Rattle.pile.specs.Replies.{pileFields}
 use Rattle.pile.specs.Pile.{freshPile}
 use Rattle.pile.specs.Calls.{PileCall, answerOf}
-use Rattle.ledger.specs.Book.{fresh, AllAnswer}
-use Rattle.ledger.specs.Run.{pileReplies, pileAfter}
-use Rattle.ledger.proofs.ListTheorem.{pile-theorem, replies-once, bookOf, same-passed}
+use Rattle.pile_model.specs.Book.{fresh, AllAnswer}
+use Rattle.pile_model.specs.Run.{pileReplies, pileAfter}
+use Rattle.pile_model.proofs.ListTheorem.{pile-theorem, replies-once, bookOf, same-passed}
 use Rattle.live_pile.specs.Layout.{Memory, memory, pileIn, Fits}
 use Rattle.live_pile.specs.Called.{Freshened}
 use Rattle.live_pile.proofs.CallLaws.{fits-by, fresh-lists}
-use Rattle.pile_refinement.specs.Series.{Asked, Heard, Series, stop, made, Calls, end, then, roomy, heeded, answered, passedOver, told}
+use Rattle.pile_refinement.specs.Series.{Asked, Received, Series, stop, made, Calls, end, then, roomy, heeded, answered, passedOver, told}
 
-abbrev heard : Bool → List ℕ → Heard
-heard b l = record { done = b; reply = l }
+abbrev received : Bool → List ℕ → Received
+received b l = record { done = b; reply = l }
 
 -- ---- the cases of the definitions
 
@@ -61,17 +61,17 @@ after-nothing p = refl
 -- ---- a series
 
 -- What is heard, and the pile that is left
-abbrev As : Memory → List Asked → List Heard → Memory → Type 0
+abbrev As : Memory → List Asked → List Received → Memory → Type 0
 As m xs ys n = (ys ≡ told xs (pileReplies (pileIn m) (heeded xs))) × Fits n × (pileIn n ≡ pileAfter (pileIn m) (heeded xs))
 
-series-told : (m : Memory) → Fits m → (xs : List Asked) (ys : List Heard) (n : Memory) → Series m xs ys n → As m xs ys n
+series-told : (m : Memory) → Fits m → (xs : List Asked) (ys : List Received) (n : Memory) → Series m xs ys n → As m xs ys n
 series-told m f [] [] n stop = (sym (told-nothing (pileReplies (pileIn m) (heeded []))), f, sym (after-nothing (pileIn m)))
 series-told m f (x ∷ xs) (y ∷ ys) n (made {m = _} {k = k} c s) = go (roomy x) refl (series-told k (c .fits f) xs ys n s)
   where
     go : (t : Bool) → roomy x ≡ t → As k xs ys n → As m (x ∷ xs) (y ∷ ys) n
     go true e (rest, fit, left) =
         let yes : y .done ≡ true = c .done f ∙ e in (
-          ap₂ _∷_ (ap₂ heard yes (c .replied yes)) (rest ∙ ap (λ (p : Pile). told xs (pileReplies p (heeded xs))) (c .pile yes))
+          ap₂ _∷_ (ap₂ received yes (c .replied yes)) (rest ∙ ap (λ (p : Pile). told xs (pileReplies p (heeded xs))) (c .pile yes))
               ∙ sym (ap (λ (cs : List PileCall). told (x ∷ xs) (pileReplies (pileIn m) cs)) (heeded-room x xs e)
               ∙ ap (told (x ∷ xs)) (replies-next (pileIn m) (x .call) (heeded xs))
               ∙ told-room x xs _ _ e),
@@ -82,14 +82,14 @@ series-told m f (x ∷ xs) (y ∷ ys) n (made {m = _} {k = k} c s) = go (roomy x
     go false e (rest, fit, left) =
         let no : y .done ≡ false = c .done f ∙ e in
         let (same, same-reply) = c .unaltered no in (
-          ap₂ _∷_ (ap₂ heard no same-reply) (rest ∙ ap (λ (k : Memory). told xs (pileReplies (pileIn k) (heeded xs))) same)
+          ap₂ _∷_ (ap₂ received no same-reply) (rest ∙ ap (λ (k : Memory). told xs (pileReplies (pileIn k) (heeded xs))) same)
               ∙ sym (ap (λ (cs : List PileCall). told (x ∷ xs) (pileReplies (pileIn m) cs)) (heeded-none x xs e) ∙ told-none x xs _ e),
           fit,
           left ∙ ap (λ (k : Memory). pileAfter (pileIn k) (heeded xs)) same ∙ sym (ap (pileAfter (pileIn m)) (heeded-none x xs e)),
         )
 
 -- Calls made one by one, from lists in which a fresh pile stands
-module _ (m n : Memory) (t : Bool) (f : Fits m) (s : Freshened m n t) (xs : List Asked) (ys : List Heard) (k : Memory)
+module _ (m n : Memory) (t : Bool) (f : Fits m) (s : Freshened m n t) (xs : List Asked) (ys : List Received) (k : Memory)
     (r : Series n xs ys k) where
   series-fresh : ys ≡ told xs (pileReplies freshPile (heeded xs))
   series-fresh = series-told n (s .fits f) xs ys k r .0 ∙ ap (λ (p : Pile). told xs (pileReplies p (heeded xs))) (s .pile f)

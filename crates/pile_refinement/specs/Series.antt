@@ -16,15 +16,15 @@ pub record Asked : Type 0 where
   pub call : PileCall
   pub reply : List ℕ
 
-pub record Heard : Type 0 where
+pub record Received : Type 0 where
   pub done : Bool
   pub reply : List ℕ
 
 -- Calls made one by one from lists m to lists n, each on the lists that the last one left, with what was heard of each
-pub data Series : Memory → List Asked → List Heard → Memory → Type 0 where
+pub data Series : Memory → List Asked → List Received → Memory → Type 0 where
   stop : {m : Memory} → Series m [] [] m
   made :
-      {m k n : Memory} {x : Asked} {y : Heard} {xs : List Asked} {ys : List Heard} →
+      {m k n : Memory} {x : Asked} {y : Received} {xs : List Asked} {ys : List Received} →
       Called m k (x .call) (x .reply) (y .reply) (y .done) →
       Series k xs ys n →
       Series m (x ∷ xs) (y ∷ ys) n
@@ -49,13 +49,13 @@ heeded (x ∷ xs) = cond (roomy x) (x .call ∷ heeded xs) (heeded xs)
 
 -- What is heard where the heeded calls get these replies, one after the other: each is written to the list of its call, and a list
 -- without room is as it was
-abbrev pub answered : Asked → PileReply → Heard
+abbrev pub answered : Asked → PileReply → Received
 answered x r = record { done = true; reply = replyAfter (pileFields r) (x .reply) }
 
-abbrev pub passedOver : Asked → Heard
+abbrev pub passedOver : Asked → Received
 passedOver x = record { done = false; reply = x .reply }
 
-unfoldable pub told : List Asked → List PileReply → List Heard
+unfoldable pub told : List Asked → List PileReply → List Received
 told [] rs = []
 told (x ∷ xs) [] = passedOver x ∷ told xs []
 told (x ∷ xs) (r ∷ rs) = cond (roomy x) (answered x r ∷ told xs rs) (passedOver x ∷ told xs (r ∷ rs))

@@ -15,7 +15,7 @@ use Rattle.base.proofs.BelowLaws.{same-test}
 use Rattle.base.proofs.Differences.{is-self, is-minus, le-iff}
 use Rattle.base.proofs.IntegerOrder.{at-most-iff, not-at-most}
 use Rattle.convexity.specs.Inside.{notNegative, minℤ, maxℤ}
-use Rattle.turning.specs.Round.{positive, isNil}
+use Rattle.directions.specs.Round.{positive, isNil}
 
 pub not-negative-machine : (a : ℤ) → leZ (pos 0) a ≡ notNegative a
 unfolding notNegative

@@ -11,10 +11,10 @@ use Rattle.base.proofs.BelowLaws.{or-false-iff}
 use Rattle.chart.specs.Limits.{longestList}
 use Rattle.chart.specs.declared.Point.{Point}
 use Rattle.convexity.specs.Inside.{insideEdges}
-use Rattle.chart.specs.declared.Refusal.the-variants.{List as BadList, Cell, Turning}
+use Rattle.chart.specs.declared.Refusal.the-variants.{List as BadList, Cell, Directions}
 use Rattle.chart.specs.declared.Position.the-variants.{Inside, Outside, Refused}
-use Rattle.turning.specs.Turning.{badTurning}
-use Rattle.polygon.specs.Loose.{insideList, badList, badCell, badTurningList, looseOf}
+use Rattle.directions.specs.Increasing.{badDirections}
+use Rattle.polygon.specs.Loose.{insideList, badList, badCell, badDirectionsList, looseOf}
 
 -- A list that refusal 10 lets pass is no longer than the longest
 pub short-list : (es : List ℤ) → badList es ≡ false → length es ≤ longestList
@@ -22,12 +22,12 @@ unfolding badList
 short-list es e = ltb-false _ _ (or-false-iff (eqb (length es % 2) 1) (ltb longestList (length es)) .0 e .1)
 
 -- Refusal 16, by the length of the list
-pub turning-long : (es : List ℤ) → longestList < length es → true ≡ badTurningList es
-unfolding badTurningList
+pub turning-long : (es : List ℤ) → longestList < length es → true ≡ badDirectionsList es
+unfolding badDirectionsList
 turning-long es h = rw (lt-ltb longestList (length es) h)
 
-pub turning-short : (es : List ℤ) → length es ≤ longestList → badTurningList es ≡ badTurning es
-unfolding badTurningList
+pub turning-short : (es : List ℤ) → length es ≤ longestList → badDirectionsList es ≡ badDirections es
+unfolding badDirectionsList
 turning-short es h = rw (le-ltb longestList (length es) h)
 
 module _ (a : Point) (es : List ℤ) (x : Point) where
@@ -52,11 +52,11 @@ module _ (a : Point) (es : List ℤ) (x : Point) where
   unfolding looseOf
   loose-cell e h k = rw (e, h, k)
 
-  pub loose-turning : badList es ≡ false → badCell a ≡ false → badCell x ≡ false → badTurning es ≡ true → Refused Turning ≡ looseOf a es x
+  pub loose-turning : badList es ≡ false → badCell a ≡ false → badCell x ≡ false → badDirections es ≡ true → Refused Directions ≡ looseOf a es x
   unfolding looseOf
   loose-turning e h k t = rw (e, h, k, t)
 
   pub loose-edges :
-      badList es ≡ false → badCell a ≡ false → badCell x ≡ false → badTurning es ≡ false → looseOf a es x ≡ cond (insideEdges a es x) Inside Outside
+      badList es ≡ false → badCell a ≡ false → badCell x ≡ false → badDirections es ≡ false → looseOf a es x ≡ cond (insideEdges a es x) Inside Outside
   unfolding looseOf
   loose-edges e h k t = rw (e, h, k, t)

@@ -9,15 +9,15 @@ use Rattle.chart.specs.declared.Point.{Point}
 use Rattle.chart.specs.declared.Position.{Position}
 use Rattle.chart.specs.declared.Position.the-variants.{Inside, Outside, Refused}
 use Rattle.chart.specs.declared.Refusal.{Refusal}
-use Rattle.chart.specs.declared.Refusal.the-variants.{List as BadList, Cell, Turning}
+use Rattle.chart.specs.declared.Refusal.the-variants.{List as BadList, Cell, Directions}
 use Rattle.chart.specs.Fields.{positionFields, refusalFields}
 use Rattle.chart.specs.Outline.{Outline}
-use Rattle.convexity.specs.Reading.{border}
+use Rattle.convexity.specs.Clockwise.{border}
 use Rattle.convexity.specs.Pieces.{Reaches, dentPiece, edges}
 use Rattle.convexity.specs.Inside.{insideEdges}
-use Rattle.turning.specs.Turning.{badTurning}
-use Rattle.turning.proofs.Theorem.{inside-iff-hull}
-use Rattle.turning.proofs.Taken.{taken-passes}
+use Rattle.directions.specs.Increasing.{badDirections}
+use Rattle.directions.proofs.Theorem.{inside-iff-hull}
+use Rattle.directions.proofs.Taken.{taken-passes}
 use Rattle.polygon.specs.Loose.{badList, badCell, looseOf, HullNamed}
 
 module _ (a : Point) (es : List ℤ) (x : Point) where
@@ -26,33 +26,33 @@ module _ (a : Point) (es : List ℤ) (x : Point) where
   unnamed f e = record { within = λ w. absurd (omega arith); beyond = λ w. absurd (omega arith) }
 
   named :
-      (l c t i : Bool) → badTurning es ≡ t → insideEdges a es x ≡ i
-      → HullNamed a es x (positionFields (cond l (Refused BadList) (cond c (Refused Cell) (cond t (Refused Turning) (cond i Inside Outside)))))
+      (l c t i : Bool) → badDirections es ≡ t → insideEdges a es x ≡ i
+      → HullNamed a es x (positionFields (cond l (Refused BadList) (cond c (Refused Cell) (cond t (Refused Directions) (cond i Inside Outside)))))
   named true c t i p q = unnamed BadList refl
   named false true t i p q = unnamed Cell refl
-  named false false true i p q = unnamed Turning refl
+  named false false true i p q = unnamed Directions refl
   named false false false true p q = record { within = λ w. inside-iff-hull a es x p .0 q; beyond = λ w. absurd (omega arith) }
   named false false false false p q =
       record { within = λ w. absurd (omega arith); beyond = λ w h. true≢false (sym (inside-iff-hull a es x p .1 h) ∙ q) }
 
   hull-named : HullNamed a es x (positionFields (looseOf a es x))
   unfolding looseOf
-  hull-named = named (badList es) (badCell a || badCell x) (badTurning es) (insideEdges a es x) refl refl
+  hull-named = named (badList es) (badCell a || badCell x) (badDirections es) (insideEdges a es x) refl refl
 
   -- So does whatever is that answer
   pub answer-named : (p : Position) → p ≡ looseOf a es x → (p ≡ looseOf a es x) × HullNamed a es x (positionFields p)
   answer-named p e = (e, rw e hull-named)
 
 -- A loose query is turned back by 16 only where the list does not pass
-turned-back : (a : Point) (es : List ℤ) (x : Point) → looseOf a es x ≡ Refused Turning → badTurning es ≡ true
+turned-back : (a : Point) (es : List ℤ) (x : Point) → looseOf a es x ≡ Refused Directions → badDirections es ≡ true
 unfolding looseOf
-turned-back a es x = go (badList es) (badCell a || badCell x) (badTurning es) (insideEdges a es x)
+turned-back a es x = go (badList es) (badCell a || badCell x) (badDirections es) (insideEdges a es x)
   where
     number : Position → ℕ
     number p = positionFields p .number
 
     go :
-        (l c t i : Bool) → cond l (Refused BadList) (cond c (Refused Cell) (cond t (Refused Turning) (cond i Inside Outside))) ≡ Refused Turning
+        (l c t i : Bool) → cond l (Refused BadList) (cond c (Refused Cell) (cond t (Refused Directions) (cond i Inside Outside))) ≡ Refused Directions
         → t ≡ true
     go true c t i e = absurd (omega (arith, ap number e))
     go false true t i e = absurd (omega (arith, ap number e))
@@ -61,5 +61,5 @@ turned-back a es x = go (badList es) (badCell a || badCell x) (badTurning es) (i
     go false false false false e = absurd (omega (arith, ap number e))
 
 -- So it never is with the edges of a taken outline
-pub taken-passed : (o : Outline) → Reaches o → dentPiece (border o) ≡ 4 → (a x : Point) → looseOf a (edges (border o)) x ≡ Refused Turning → ⊥
+pub taken-passed : (o : Outline) → Reaches o → dentPiece (border o) ≡ 4 → (a x : Point) → looseOf a (edges (border o)) x ≡ Refused Directions → ⊥
 taken-passed o h smooth a x e = true≢false (sym (turned-back a (edges (border o)) x e) ∙ taken-passes o h smooth)

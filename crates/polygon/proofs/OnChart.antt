@@ -5,8 +5,8 @@ use lib.Dec.{leb}
 use lib.IntN.{pos}
 use Rattle.chart.specs.Limits.{side}
 use Rattle.chart.specs.declared.Point.{Point}
-use Rattle.turning.specs.CornerHull.{onChart}
-use Rattle.turning.proofs.OnChart.{number-is}
+use Rattle.directions.specs.CornerHull.{onChart}
+use Rattle.directions.proofs.OnChart.{number-is}
 use Rattle.polygon.specs.Loose.{badCell}
 
 pub bad-cell : (p : Point) → badCell p ≡ not (onChart (pos (p .col)) (pos (p .row)))

@@ -14,7 +14,7 @@ use Rattle.chart.specs.Limits.{longestList}
 use Rattle.chart.specs.declared.Point.{Point}
 use Rattle.convexity.specs.Inside.{notNegative, minℤ, maxℤ, sideValue, noneOutside, colSteps, rowSteps, lowestMet, highestMet, within, insideAt, insideEdges}
 use Rattle.polygon.specs.declared.Span.{Span}
-use Rattle.polygon.specs.Span.{begun, stepped, spans}
+use Rattle.polygon.specs.parts.Span.{begun, stepped, spans}
 use Rattle.base.proofs.Sizes.{size-sum}
 use Rattle.polygon.proofs.Integers.{min-at-most, max-at-least}
 

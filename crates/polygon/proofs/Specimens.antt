@@ -8,13 +8,13 @@ use Rattle.base.specs.Each.{all}
 use Rattle.base.proofs.EachLaws.{all-at}
 use Rattle.chart.proofs.Tables.{same-fields}
 use Rattle.convexity.specs.Inside.{notNegative, minℤ, maxℤ, sideValue, noneOutside, colSteps, rowSteps, total, lowestMet, highestMet, within, insideAt, insideEdges}
-use Rattle.turning.specs.Round.{cross, positive, isNil, firstHalf, sooner}
-use Rattle.turning.specs.Turning.{someNil, sumsToNil, soonerThanFirst, rising, badTurning}
+use Rattle.directions.specs.Round.{cross, positive, isNil, firstHalf, precedes}
+use Rattle.directions.specs.Increasing.{someZero, sumsToZero, precedesFirst, rising, badDirections}
 use Rattle.polygon.specs.Loose.{badList, badCell, looseOf}
 use Rattle.polygon.specs.Specimens.{Query, queries, passing, turnedBack, answered}
 
 queried : all answered (queries ++ (passing ++ turnedBack)) ≡ true
-unfolding all answered sameFields queries passing turnedBack notNegative minℤ maxℤ sideValue noneOutside colSteps rowSteps total lowestMet highestMet within insideAt insideEdges cross positive isNil firstHalf sooner someNil sumsToNil soonerThanFirst rising badTurning badList badCell looseOf
+unfolding all answered sameFields queries passing turnedBack notNegative minℤ maxℤ sideValue noneOutside colSteps rowSteps total lowestMet highestMet within insideAt insideEdges cross positive isNil firstHalf precedes someZero sumsToZero precedesFirst rising badDirections badList badCell looseOf
 queried = refl
 
 -- The loose queries of H2's and H3's edges, of lists that pass refusal 16 and of lists that do not

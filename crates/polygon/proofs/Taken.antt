@@ -15,7 +15,7 @@ use Rattle.base.proofs.BelowLaws.{or-false-iff}
 use Rattle.chart.specs.Limits.{side, longestList}
 use Rattle.chart.specs.declared.Point.{Point}
 use Rattle.chart.specs.Outline.{Outline}
-use Rattle.convexity.specs.Reading.{border}
+use Rattle.convexity.specs.Clockwise.{border}
 use Rattle.convexity.specs.Pieces.{edgeCount}
 use Rattle.convexity.specs.Border.{HasEdges}
 use Rattle.convexity.proofs.Bounds.{edges-length}

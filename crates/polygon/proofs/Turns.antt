@@ -9,9 +9,9 @@ use lib.IntN.{ℤ, pos, natAbs, _+ℤ_, +ℤ-assoc, +ℤ-idl, +ℤ-idr}
 use Rattle.chart.specs.Limits.{longestList}
 use Rattle.base.proofs.Sizes.{size-sum}
 use Rattle.convexity.specs.Inside.{colSteps, rowSteps, total}
-use Rattle.turning.specs.Round.{isNil, sooner}
-use Rattle.turning.specs.Turning.{someNil, sumsToNil, soonerThanFirst, rising, badTurning}
-use Rattle.polygon.specs.Turns.{turnsOn}
+use Rattle.directions.specs.Round.{isNil, precedes}
+use Rattle.directions.specs.Increasing.{someZero, sumsToZero, precedesFirst, rising, badDirections}
+use Rattle.polygon.specs.parts.Turns.{turnsOn}
 use Rattle.polygon.proofs.Spans.{drop-two}
 
 -- Every edge that is left turns on, and with what was passed they sum to nil
@@ -28,13 +28,13 @@ regroup false false m c r = sym (and-false (not m && c))
 
 turns-from-is :
     (es : List ℤ) (x y : ℤ)
-    → turnsFrom es x y ≡ ((not (someNil es) && (isNil (x +ℤ total (colSteps es)) && isNil (y +ℤ total (rowSteps es)))) && rising es)
-unfolding turnsFrom turnsOn someNil total colSteps rowSteps rising
+    → turnsFrom es x y ≡ ((not (someZero es) && (isNil (x +ℤ total (colSteps es)) && isNil (y +ℤ total (rowSteps es)))) && rising es)
+unfolding turnsFrom turnsOn someZero total colSteps rowSteps rising
 turns-from-is [] x y = simp (+ℤ-idr, and-true)
 turns-from-is (dx ∷ []) x y = simp (+ℤ-idr, and-true)
 turns-from-is (dx ∷ dy ∷ es) x y =
-    ap (λ (b : Bool). (not (isNil dx && isNil dy) && soonerThanFirst dx dy es) && b) (turns-from-is es (x +ℤ dx) (y +ℤ dy))
-    ∙ regroup (isNil dx && isNil dy) (soonerThanFirst dx dy es) (someNil es) _ (rising es)
+    ap (λ (b : Bool). (not (isNil dx && isNil dy) && precedesFirst dx dy es) && b) (turns-from-is es (x +ℤ dx) (y +ℤ dy))
+    ∙ regroup (isNil dx && isNil dy) (precedesFirst dx dy es) (someZero es) _ (rising es)
     ∙ rw (+ℤ-assoc x dx (total (colSteps es)), +ℤ-assoc y dy (total (rowSteps es)))
 
 not-all : (n s r : Bool) → (n || (not s || not r)) ≡ not ((not n && s) && r)
@@ -42,17 +42,17 @@ not-all true s r = refl
 not-all false true r = refl
 not-all false false r = refl
 
-bad-turns-from : (es : List ℤ) → badTurning es ≡ not (turnsFrom es (pos 0) (pos 0))
-unfolding badTurning sumsToNil
-bad-turns-from es = not-all (someNil es) (sumsToNil es) (rising es) ∙ sym (ap not (turns-from-is es (pos 0) (pos 0)) ∙ simp +ℤ-idl)
+bad-turns-from : (es : List ℤ) → badDirections es ≡ not (turnsFrom es (pos 0) (pos 0))
+unfolding badDirections sumsToZero
+bad-turns-from es = not-all (someZero es) (sumsToZero es) (rising es) ∙ sym (ap not (turns-from-is es (pos 0) (pos 0)) ∙ simp +ℤ-idl)
 
 -- ---- one edge and the next
 
-sooner-than-none : (dx dy : ℤ) (es : List ℤ) → length es < 2 → soonerThanFirst dx dy es ≡ true
-unfolding soonerThanFirst
-sooner-than-none dx dy [] h = refl
-sooner-than-none dx dy (ex ∷ []) h = refl
-sooner-than-none dx dy (ex ∷ ey ∷ es) h = absurd (omega arith)
+precedes-than-none : (dx dy : ℤ) (es : List ℤ) → length es < 2 → precedesFirst dx dy es ≡ true
+unfolding precedesFirst
+precedes-than-none dx dy [] h = refl
+precedes-than-none dx dy (ex ∷ []) h = refl
+precedes-than-none dx dy (ex ∷ ey ∷ es) h = absurd (omega arith)
 
 module _ (es : List ℤ) (i : ℕ) (h : i + 1 < length es) where
   pub turns-on-nil : (isNil (getD es i (pos 0)) && isNil (getD es (i + 1) (pos 0))) ≡ true → turnsOn (drop i es) ≡ false
@@ -62,13 +62,13 @@ module _ (es : List ℤ) (i : ℕ) (h : i + 1 < length es) where
   module _ (e : (isNil (getD es i (pos 0)) && isNil (getD es (i + 1) (pos 0))) ≡ false) where
     pub turns-on-next :
         i + 2 + 1 < length es
-        → turnsOn (drop i es) ≡ sooner (getD es i (pos 0)) (getD es (i + 1) (pos 0)) (getD es (i + 2) (pos 0)) (getD es (i + 2 + 1) (pos 0))
-    unfolding turnsOn soonerThanFirst
+        → turnsOn (drop i es) ≡ precedes (getD es i (pos 0)) (getD es (i + 1) (pos 0)) (getD es (i + 2) (pos 0)) (getD es (i + 2 + 1) (pos 0))
+    unfolding turnsOn precedesFirst
     turns-on-next l = rw (drop-two es i h, e, drop-two es (i + 2) l)
 
     pub turns-on-last : length es ≤ i + 2 + 1 → turnsOn (drop i es) ≡ true
     unfolding turnsOn
-    turns-on-last l = rw (drop-two es i h, e) (sooner-than-none _ _ (drop (i + 2) es) (simp length-drop (omega arith)))
+    turns-on-last l = rw (drop-two es i h, e) (precedes-than-none _ _ (drop (i + 2) es) (simp length-drop (omega arith)))
 
 -- ---- a turn of the loop
 
@@ -90,7 +90,7 @@ pub record Turned (es : List ℤ) (x y : ℤ) (i : ℕ) : Type 0 where
   pub passed : i ≤ length es
   pub col-size : natAbs x ≤ 32768 * i
   pub row-size : natAbs y ≤ 32768 * i
-  pub left : badTurning es ≡ not (turnsFrom (drop i es) x y)
+  pub left : badDirections es ≡ not (turnsFrom (drop i es) x y)
 
 pub turned-start : (es : List ℤ) → length es ≤ longestList → Turned es (pos 0) (pos 0) 0
 turned-start es h =
@@ -110,9 +110,9 @@ turned-edge {es} {x} {y} {i} t h k l e =
     }
 
 -- An edge that does not turn on
-pub turned-off : {es : List ℤ} {x y : ℤ} {i : ℕ} → Turned es x y i → i + 1 < length es → turnsOn (drop i es) ≡ false → badTurning es ≡ true
+pub turned-off : {es : List ℤ} {x y : ℤ} {i : ℕ} → Turned es x y i → i + 1 < length es → turnsOn (drop i es) ≡ false → badDirections es ≡ true
 turned-off {es} {x} {y} {i} t h e = t .left ∙ ap not (turns-edge es i x y h) ∙ rw e
 
 -- No edge is left: the sums decide
-pub turned-end : {es : List ℤ} {x y : ℤ} {i : ℕ} → Turned es x y i → length es ≤ i + 1 → badTurning es ≡ not (isNil x && isNil y)
+pub turned-end : {es : List ℤ} {x y : ℤ} {i : ℕ} → Turned es x y i → length es ≤ i + 1 → badDirections es ≡ not (isNil x && isNil y)
 turned-end {es} {x} {y} {i} t h = t .left ∙ ap not (turns-short (drop i es) x y (simp length-drop (omega arith)))

@@ -11,9 +11,9 @@ use Rattle.chart.specs.declared.Point.{Point}
 use Rattle.chart.specs.declared.Fields.{Fields}
 use Rattle.chart.specs.Fields.{inside, outside}
 use Rattle.convexity.specs.Inside.{insideEdges}
-use Rattle.turning.specs.Turning.{badTurning}
-use Rattle.turning.specs.CornerHull.{CornersHold}
-use Rattle.chart.specs.declared.Refusal.the-variants.{List as BadList, Cell, Turning}
+use Rattle.directions.specs.Increasing.{badDirections}
+use Rattle.directions.specs.CornerHull.{CornersHold}
+use Rattle.chart.specs.declared.Refusal.the-variants.{List as BadList, Cell, Directions}
 use Rattle.chart.specs.declared.Position.{Position}
 use Rattle.chart.specs.declared.Position.the-variants.{Inside, Outside, Refused}
 
@@ -30,14 +30,14 @@ unfoldable pub badCell : Point → Bool
 badCell x = leb side (x .col) || leb side (x .row)
 
 -- 16, of every list: one that is too long does not pass
-unfoldable pub badTurningList : List ℤ → Bool
-badTurningList es = ltb longestList (length es) || badTurning es
+unfoldable pub badDirectionsList : List ℤ → Bool
+badDirectionsList es = ltb longestList (length es) || badDirections es
 
 unfoldable pub looseOf : Point → List ℤ → Point → Position
 looseOf a es x =
     cond (badList es) (Refused BadList)
     (cond (badCell a || badCell x) (Refused Cell)
-    (cond (badTurning es) (Refused Turning)
+    (cond (badDirections es) (Refused Directions)
     (cond (insideEdges a es x) Inside Outside)))
 
 -- What the words of a reply say: "inside" that the corner cells' hull holds the cell, "outside" that it does not

@@ -10,9 +10,9 @@ ghost use lib.ListN.{length, drop};
 ghost use lib.IntN.{pos, natAbs, _-ℤ_, _*ℤ_};
 ghost use Rattle.chart.specs.Fields.{positionFields};
 ghost use Rattle.convexity.specs.Inside.{notNegative, sideValue};
-ghost use Rattle.polygon.specs.Span.{begun, stepped, spans};
-ghost use Rattle.polygon.specs.Turns.{turnsOn};
-ghost use Rattle.polygon.specs.Loose.{insideList, badList, badCell, badTurningList, looseOf, HullNamed};
+ghost use Rattle.polygon.specs.parts.Span.{begun, stepped, spans};
+ghost use Rattle.polygon.specs.parts.Turns.{turnsOn};
+ghost use Rattle.polygon.specs.Loose.{insideList, badList, badCell, badDirectionsList, looseOf, HullNamed};
 
 mod round;
 mod signed;
@@ -112,7 +112,7 @@ fn turns_on(edges: &[i16], i: usize) -> bool
 {
     let dx = edges[i];
     let dy = edges[i + 1];
-    if round::nil(dx, dy) {
+    if round::zero_step(dx, dy) {
         return false;
     }
     let next = i + 2;
@@ -121,12 +121,12 @@ fn turns_on(edges: &[i16], i: usize) -> bool
     }
     let ex = edges[next];
     let ey = edges[next + 1];
-    round::sooner(dx, dy, ex, ey)
+    round::precedes(dx, dy, ex, ey)
 }
 
 // 16: the edges do not lead once round clockwise. No list that is too long does.
-pub fn bad_turning(edges: &[i16]) -> bool
-    ensures { λ b. ⌜ b ≡ badTurningList (now (edges .entry)) ⌝ }
+pub fn bad_directions(edges: &[i16]) -> bool
+    ensures { λ b. ⌜ b ≡ badDirectionsList (now (edges .entry)) ⌝ }
 {
     if LONGEST_LIST < edges.len() {
         return true;
@@ -144,7 +144,7 @@ pub fn bad_turning(edges: &[i16]) -> bool
         up = signed::further(up, dy);
         i += 2;
     }
-    !signed::is_nil(across) || !signed::is_nil(up)
+    !signed::is_zero(across) || !signed::is_zero(up)
 }
 
 // 11: a number that is none of a cell's.
@@ -165,8 +165,8 @@ pub fn loose_query(anchor: Point, edges: &[i16], cell: Point) -> Position
     if bad_cell(anchor) || bad_cell(cell) {
         return Position::Refused(Refusal::Cell);
     }
-    if bad_turning(edges) {
-        return Position::Refused(Refusal::Turning);
+    if bad_directions(edges) {
+        return Position::Refused(Refusal::Directions);
     }
     if inside(anchor, edges, cell) {
         Position::Inside

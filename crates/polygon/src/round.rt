@@ -2,13 +2,13 @@
 use crate::signed;
 ghost use mathlib.Core.Path.{_≡_};
 ghost use mathlib.Core.Bool.{_&&_};
-ghost use Rattle.turning.specs.Round.{cross, positive, isNil, firstHalf, sooner as soonerOf};
+ghost use Rattle.directions.specs.Round.{cross, positive, isNil, firstHalf, precedes as precedesOf};
 
 // (dx, dy) is no direction.
-pub(crate) fn nil(dx: i16, dy: i16) -> bool
+pub(crate) fn zero_step(dx: i16, dy: i16) -> bool
     ensures { λ b. ⌜ b ≡ (isNil dx && isNil dy) ⌝ }
 {
-    signed::is_nil(signed::widen(dx)) && signed::is_nil(signed::widen(dy))
+    signed::is_zero(signed::widen(dx)) && signed::is_zero(signed::widen(dy))
 }
 
 // The half round from up, included, to down, excluded.
@@ -16,7 +16,7 @@ fn first_half(dx: i16, dy: i16) -> bool
     ensures { λ b. ⌜ b ≡ firstHalf dx dy ⌝ }
 {
     let across = signed::widen(dx);
-    signed::positive(across) || (signed::is_nil(across) && signed::positive(signed::widen(dy)))
+    signed::positive(across) || (signed::is_zero(across) && signed::positive(signed::widen(dy)))
 }
 
 // The cross product is above 0: (ex, ey) lies clockwise of (dx, dy) by less than half a round.
@@ -29,8 +29,8 @@ fn clockwise(dx: i16, dy: i16, ex: i16, ey: i16) -> bool
 }
 
 // The round meets (dx, dy) sooner than (ex, ey).
-pub(crate) fn sooner(dx: i16, dy: i16, ex: i16, ey: i16) -> bool
-    ensures { λ b. ⌜ b ≡ soonerOf dx dy ex ey ⌝ }
+pub(crate) fn precedes(dx: i16, dy: i16, ex: i16, ey: i16) -> bool
+    ensures { λ b. ⌜ b ≡ precedesOf dx dy ex ey ⌝ }
 {
     if first_half(dx, dy) {
         !first_half(ex, ey) || clockwise(dx, dy, ex, ey)

@@ -6,7 +6,7 @@ ghost use lib.Signed.{leZ};
 ghost use mir.Syntax.{w64};
 ghost use mir.Val.{SFits};
 ghost use Rattle.convexity.specs.Inside.{minℤ, maxℤ};
-ghost use Rattle.turning.specs.Round.{positive as positiveℤ, isNil as isNilℤ};
+ghost use Rattle.directions.specs.Round.{positive as positiveℤ, isNil as isNilℤ};
 
 pub(crate) fn widen(x: i16) -> i64
     ensures { λ r. ⌜ r ≡ x ⌝ }
@@ -62,7 +62,7 @@ pub(crate) fn positive(a: i64) -> bool
     0 < a
 }
 
-pub(crate) fn is_nil(a: i64) -> bool
+pub(crate) fn is_zero(a: i64) -> bool
     ensures { λ r. ⌜ r ≡ isNilℤ a ⌝ }
 {
     a == 0

@@ -11,8 +11,8 @@ use Rattle.base.proofs.IntegerOrder.{up, down}
 use Rattle.base.proofs.Differences.{is-self, is-eq, is-add}
 use Rattle.base.proofs.Sizes.{size-at-most}
 use Rattle.chart.specs.declared.Point.{Point}
-use Rattle.turning.specs.CornerHull.{onChart}
-use Rattle.turning.proofs.OnChart.{on-parts}
+use Rattle.directions.specs.CornerHull.{onChart}
+use Rattle.directions.proofs.OnChart.{on-parts}
 use Rattle.readings.specs.Sides.{Edge, edgesFrom, edgesAlong}
 use Rattle.readings.specs.Located.{endsOn, staysOn}
 use Rattle.readings.proofs.Numbers.{Cell, cell-of}

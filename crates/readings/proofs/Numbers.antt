@@ -15,8 +15,8 @@ use Rattle.rounding.specs.Units.{negative, units, value, inUnits}
 use Rattle.rounding.proofs.Values.{Exact, fits-exact}
 use Rattle.rounding.proofs.Near.{whole-exact, whole-is}
 use Rattle.rounding.proofs.Order.{le-value}
-use Rattle.turning.specs.CornerHull.{chartNumber}
-use Rattle.turning.proofs.OnChart.{number}
+use Rattle.directions.specs.CornerHull.{chartNumber}
+use Rattle.directions.proofs.OnChart.{number}
 use Rattle.calls.specs.declared.Reading.{Reading}
 use Rattle.readings.specs.Located.{badNumber, badReading}
 

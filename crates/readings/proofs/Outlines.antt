@@ -15,8 +15,8 @@ use Rattle.convexity.specs.Shape.{NoBackStep}
 use Rattle.convexity.proofs.Shape.{shape}
 use Rattle.convexity.proofs.Inside.{Meets, IsCell, vertex-is-cell}
 use Rattle.convexity.proofs.Theorem.{edges-answer}
-use Rattle.turning.specs.CornerHull.{onChart}
-use Rattle.turning.proofs.OnChart.{number-on}
+use Rattle.directions.specs.CornerHull.{onChart}
+use Rattle.directions.proofs.OnChart.{number-on}
 use Rattle.calls.specs.declared.Reading.{Reading}
 use Rattle.readings.specs.declared.Located.the-variants.{Inside, Outside}
 use Rattle.readings.specs.Sides.{edgesFrom}

@@ -13,7 +13,7 @@ use Rattle.rounding.specs.Units.{negative, units, value, inUnits}
 use Rattle.chart.specs.Same.{sameFields}
 use Rattle.chart.proofs.Tables.{same-fields}
 use Rattle.convexity.specs.Inside.{minℤ, maxℤ, sideValue, colSteps, rowSteps, lowestMet, highestMet}
-use Rattle.turning.specs.CornerHull.{chartNumber, onChart}
+use Rattle.directions.specs.CornerHull.{chartNumber, onChart}
 use Rattle.readings.specs.Sides.{Edge, edgesFrom, exactSide, computedSide}
 use Rattle.readings.specs.Located.{badNumber, badReading, between, withinExtremes, far, near, sided, endsOn, staysOn, locatedOf, readingOf}
 use Rattle.calls.specs.Replies.{replyFields}

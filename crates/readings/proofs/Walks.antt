@@ -15,7 +15,7 @@ use Rattle.rounding.specs.Units.{value, inUnits}
 use Rattle.rounding.proofs.InUnits.{units-le}
 use Rattle.chart.specs.declared.Point.{Point}
 use Rattle.convexity.specs.Inside.{minℤ, maxℤ, colSteps, rowSteps}
-use Rattle.turning.specs.CornerHull.{onChart}
+use Rattle.directions.specs.CornerHull.{onChart}
 use Rattle.polygon.specs.Loose.{badCell}
 use Rattle.polygon.proofs.Integers.{min-at-most, max-at-least}
 use Rattle.polygon.proofs.Spans.{meets, lowest-meets, highest-meets, drop-two}
@@ -29,7 +29,7 @@ use Rattle.readings.specs.declared.walk.Passed.{Passed}
 use Rattle.readings.specs.declared.walk.Passed.the-variants.{Out, On}
 use Rattle.readings.specs.Sides.{edgesFrom}
 use Rattle.readings.specs.Located.{badReading, between, withinExtremes, far, near, sided, endsOn, staysOn, locatedOf}
-use Rattle.readings.specs.Walk.{met, arrived, noneMet, begun, edgeOf, stepped, passed, settled}
+use Rattle.readings.specs.parts.Walk.{met, arrived, noneMet, begun, edgeOf, stepped, passed, settled}
 
 -- ---- one coordinate
 

@@ -4,4 +4,4 @@ pub mod Located
 pub mod Claims
 pub mod Replies
 pub mod Specimens
-pub mod Walk
+pub mod parts

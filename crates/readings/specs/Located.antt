@@ -11,7 +11,7 @@ use Rattle.rounding.specs.Units.{value, inUnits}
 use Rattle.chart.specs.Limits.{side}
 use Rattle.chart.specs.declared.Point.{Point}
 use Rattle.convexity.specs.Inside.{notNegative, colSteps, rowSteps, lowestMet, highestMet}
-use Rattle.turning.specs.CornerHull.{onChart}
+use Rattle.directions.specs.CornerHull.{onChart}
 use Rattle.calls.specs.declared.Reading.{Reading}
 use Rattle.readings.specs.declared.Located.{Located}
 use Rattle.readings.specs.declared.Located.the-variants.{Inside, Outside, Undecided, Refused}

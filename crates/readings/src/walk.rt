@@ -5,10 +5,10 @@ use calls::Reading;
 ghost use mathlib.Core.Path.{_≡_};
 ghost use mathlib.Core.Bool.{true, false};
 ghost use lib.IntN.{_+ℤ_};
-ghost use Rattle.turning.specs.CornerHull.{chartNumber, onChart};
+ghost use Rattle.directions.specs.CornerHull.{chartNumber, onChart};
 ghost use Rattle.readings.specs.Sides.{computedSide};
 ghost use Rattle.readings.specs.Located.{badNumber, badReading};
-ghost use Rattle.readings.specs.Walk.{met, arrived, begun, passed, settled};
+ghost use Rattle.readings.specs.parts.Walk.{met, arrived, begun, passed, settled};
 
 // Below this, and above its negative, a computed side value leaves open on which side of the edge the reading lies.
 const SIXTY_FOURTH: f32 = 0.015625;

@@ -18,10 +18,10 @@ use Rattle.calls.specs.Replies.{replyFields}
 use Rattle.holder.specs.Run.{handled, handledFrom}
 use Rattle.holder.specs.Holder.{freshHolder, answerOf}
 use Rattle.holder.specs.declared.Holder.{Holder}
-use Rattle.agreement.proofs.ListTheorem.{list-theorem}
+use Rattle.holder_refinement.proofs.ListTheorem.{list-theorem}
 use Rattle.wire.specs.declared.Decoded.{Decoded}
 use Rattle.wire.specs.declared.Decoded.the-variants.{Call as Said, Nothing}
-use Rattle.wire.specs.Wire.{callWidth, replyWidth, decoded, heard}
+use Rattle.wire.specs.Wire.{callWidth, replyWidth, decoded, received}
 use Rattle.live_memory.specs.Layout.{Memory, memory, holderIn, Fits}
 use Rattle.live_memory.proofs.Zeros.{zeros, zeros-fresh}
 use Rattle.live.specs.Called.{isCall, nextHolder, replyBy, Called}
@@ -62,11 +62,11 @@ module _ (h : Holder) (n : ℕ) (s l : List ℕ) where
         (append-assoc (numbersOf (replyFields (answerOf h x .reply))) (written (handledFrom (answerOf h x .holder) cs)) (drop (replyWidth * length cs) (drop replyWidth l)))
 
 -- From a fresh holder: the plain book's replies, by the list theorem
-listFrom-fresh : (script lent : List ℕ) → listFrom freshHolder (min (length script / callWidth) (length lent / replyWidth)) script lent ≡ repliesAfter script lent
+listFrom-fresh : (script buffer : List ℕ) → listFrom freshHolder (min (length script / callWidth) (length buffer / replyWidth)) script buffer ≡ repliesAfter script buffer
 unfolding listFrom repliesAfter handled callsRead
-listFrom-fresh script lent =
-    let cs = callsRead script (length lent) in
-    ap (λ (t : List Reply). written t ++ drop (replyWidth * length cs) lent) (list-theorem cs)
+listFrom-fresh script buffer =
+    let cs = callsRead script (length buffer) in
+    ap (λ (t : List Reply). written t ++ drop (replyWidth * length cs) buffer) (list-theorem cs)
 
 -- No more calls than are asked for, and so the replies of those read have room
 calls-few : (n : ℕ) (s : List ℕ) → length (callsFrom n s) ≤ n
@@ -101,37 +101,37 @@ answered (Said x) e = (x, refl)
 -- ---- the loop
 
 -- Where it stands after some calls: what is left of the script, replayed from this holder into what is left of the list, makes the whole
-pub record Underway (script lent : List ℕ) (end : ℕ) (h : Holder) (done : ℕ) (list : List ℕ) : Type 0 where
+pub record Underway (script buffer : List ℕ) (end : ℕ) (h : Holder) (done : ℕ) (list : List ℕ) : Type 0 where
   pub bytes : callWidth * end ≤ length script
   pub numbers : replyWidth * end ≤ length list
   pub begun : done ≤ end
-  pub same-length : length list ≡ length lent
-  pub count : length (callsRead script (length lent)) ≡ done + length (callsFrom (end - done) (drop (callWidth * done) script))
-  pub whole : repliesAfter script lent ≡ take (replyWidth * done) list ++ listFrom h (end - done) (drop (callWidth * done) script) (drop (replyWidth * done) list)
+  pub same-length : length list ≡ length buffer
+  pub count : length (callsRead script (length buffer)) ≡ done + length (callsFrom (end - done) (drop (callWidth * done) script))
+  pub whole : repliesAfter script buffer ≡ take (replyWidth * done) list ++ listFrom h (end - done) (drop (callWidth * done) script) (drop (replyWidth * done) list)
 
-underway-first : (script lent : List ℕ) (end : ℕ) (h : Holder) → end ≡ min (length script / callWidth) (length lent / replyWidth) → h ≡ freshHolder → Underway script lent end h 0 lent
+underway-first : (script buffer : List ℕ) (end : ℕ) (h : Holder) → end ≡ min (length script / callWidth) (length buffer / replyWidth) → h ≡ freshHolder → Underway script buffer end h 0 buffer
 unfolding callsRead
-underway-first script lent end h most e =
+underway-first script buffer end h most e =
     record {
       bytes = omega arith;
       numbers = omega arith;
       begun = omega arith;
       same-length = refl;
       count = let z : end - 0 ≡ end = omega arith in rw (z, sym most) (sym (zero-add _));
-      whole = let z : end - 0 ≡ end = omega arith in rw (z, e) (rw most (sym (listFrom-fresh script lent)));
+      whole = let z : end - 0 ≡ end = omega arith in rw (z, e) (rw most (sym (listFrom-fresh script buffer)));
     }
 
 -- The lists of a fresh holder
 abbrev zeroLists : Memory
 zeroLists = memory (zeros 1224) (zeros 4080) (replicate 1600 (pos 0)) (zeros 40)
 
-pub underway-zeros : (script lent : List ℕ) (end : ℕ) → end ≡ min (length script / callWidth) (length lent / replyWidth) → Fits zeroLists × Underway script lent end (holderIn zeroLists) 0 lent
-underway-zeros script lent end most = (
+pub underway-zeros : (script buffer : List ℕ) (end : ℕ) → end ≡ min (length script / callWidth) (length buffer / replyWidth) → Fits zeroLists × Underway script buffer end (holderIn zeroLists) 0 buffer
+underway-zeros script buffer end most = (
   fits-by zeroLists (length-replicate {A = ℕ} 1224 0) (length-replicate {A = ℕ} 4080 0) (length-replicate 1600 (pos 0)) (length-replicate {A = ℕ} 40 0),
-  underway-first script lent end (holderIn zeroLists) most zeros-fresh,
+  underway-first script buffer end (holderIn zeroLists) most zeros-fresh,
 )
 
-module _ (script lent : List ℕ) (end : ℕ) (h : Holder) (done : ℕ) (list : List ℕ) (st : Underway script lent end h done list) where
+module _ (script buffer : List ℕ) (end : ℕ) (h : Holder) (done : ℕ) (list : List ℕ) (st : Underway script buffer end h done list) where
   -- What is left of the script and of the list
   abbrev s : List ℕ
   s = drop (callWidth * done) script
@@ -147,10 +147,10 @@ module _ (script lent : List ℕ) (end : ℕ) (h : Holder) (done : ℕ) (list : 
   unfolding callsFrom
   stops-at-end i = let z : end - done ≡ 0 = omega arith in rw z
 
-  pub underway-count : Stopped → done ≡ length (callsRead script (length lent))
+  pub underway-count : Stopped → done ≡ length (callsRead script (length buffer))
   underway-count z = sym (st .count ∙ ap (λ (t : List Call). done + length t) z ∙ add-zero done)
 
-  pub underway-list : Stopped → list ≡ repliesAfter script lent
+  pub underway-list : Stopped → list ≡ repliesAfter script buffer
   underway-list z =
       sym (st .whole ∙ ap (λ (t : List ℕ). take (replyWidth * done) list ++ t) (listFrom-none h (end - done) s l z) ∙ take-append-drop (replyWidth * done) list)
 
@@ -161,20 +161,20 @@ module _ (script lent : List ℕ) (end : ℕ) (h : Holder) (done : ℕ) (list : 
     room = rw (length-drop (replyWidth * done) list) (omega (arith, st .numbers))
 
     -- The call is heard: there is room for its reply
-    heard-decoded : heard (take callWidth s) (length l) ≡ decoded (take callWidth s)
-    unfolding heard
-    heard-decoded = rw (le-leb replyWidth (length l) room)
+    received-decoded : received (take callWidth s) (length l) ≡ decoded (take callWidth s)
+    unfolding received
+    received-decoded = rw (le-leb replyWidth (length l) room)
 
     -- The list is lent from here on, to its end
-    lent-part : take (length list - replyWidth * done) l ≡ l
-    lent-part = take-all (length list - replyWidth * done) l (rw (length-drop (replyWidth * done) list) (le-refl _))
+    buffer-part : take (length list - replyWidth * done) l ≡ l
+    buffer-part = take-all (length list - replyWidth * done) l (rw (length-drop (replyWidth * done) list) (le-refl _))
 
     -- And to one that is a call
     module _ (x : Call) (e : decoded (take callWidth s) ≡ Said x) where
       abbrev next : List ℕ
       next = take (replyWidth * done) list ++ replyAfter (replyFields (answerOf h x .reply)) l
 
-      underway-next : Underway script lent end (answerOf h x .holder) (done + 1) next
+      underway-next : Underway script buffer end (answerOf h x .holder) (done + 1) next
       unfolding numbersOf
       underway-next =
           let f = replyFields (answerOf h x .reply) in
@@ -200,12 +200,12 @@ module _ (script lent : List ℕ) (end : ℕ) (h : Holder) (done : ℕ) (list : 
             whole = st .whole ∙ rw (one, listFrom-some h (end - (done + 1)) s l x e, front, back, left) (sym (append-assoc a n _));
           }
 
-      carried : (g : Holder) (t : List ℕ) → g ≡ answerOf h x .holder → t ≡ next → Underway script lent end g (done + 1) t
+      carried : (g : Holder) (t : List ℕ) → g ≡ answerOf h x .holder → t ≡ next → Underway script buffer end g (done + 1) t
       carried g t p q = rw (p, q) underway-next
 
     -- What the lists of the holder, and the part of the list that was lent for the reply, are after these bytes
     module _ (m k : Memory) (b : Bool) (part : List ℕ) (n : ℕ) (sent : n ≡ callWidth) (is : holderIn m ≡ h) (f : Fits m)
-        (t : Called (Fits m) m k (heard (take n s) (length (take (length list - replyWidth * done) l))) (take (length list - replyWidth * done) l) part b) where
+        (t : Called (Fits m) m k (received (take n s) (length (take (length list - replyWidth * done) l))) (take (length list - replyWidth * done) l) part b) where
       abbrev listed : List ℕ
       listed = take (replyWidth * done) list ++ (part ++ drop (length list - replyWidth * done) l)
 
@@ -217,27 +217,27 @@ module _ (script lent : List ℕ) (end : ℕ) (h : Holder) (done : ℕ) (list : 
 
       -- The call
       abbrev d : Decoded
-      d = heard (take n s) (length (take (length list - replyWidth * done) l))
+      d = received (take n s) (length (take (length list - replyWidth * done) l))
 
       d-is : d ≡ decoded (take callWidth s)
-      d-is = rw (lent-part, sent, heard-decoded)
+      d-is = rw (buffer-part, sent, received-decoded)
 
       -- No call: the loop stops, and the list is as it was
       pub stops-at-none : not b ≡ true → Stopped × (listed ≡ list)
       stops-at-none off =
           let no : b ≡ false = not-true b off in
           let e : decoded (take callWidth s) ≡ Nothing = sym d-is ∙ unanswered d (sym no ∙ t .done f) in
-          (calls-none h (end - done) s l e, listed-part ∙ ap (λ (p : List ℕ). take (replyWidth * done) list ++ p) (t .unaltered no .1 ∙ lent-part) ∙ take-append-drop (replyWidth * done) list)
+          (calls-none h (end - done) s l e, listed-part ∙ ap (λ (p : List ℕ). take (replyWidth * done) list ++ p) (t .unaltered no .1 ∙ buffer-part) ∙ take-append-drop (replyWidth * done) list)
 
       -- A call: the loop goes on from the next holder
-      by-call : (x : Call) → d ≡ Said x → b ≡ true → Underway script lent end (holderIn k) (done + 1) listed
+      by-call : (x : Call) → d ≡ Said x → b ≡ true → Underway script buffer end (holderIn k) (done + 1) listed
       unfolding nextHolder replyBy
       by-call x q so =
           let g : holderIn k ≡ answerOf h x .holder = t .holder so ∙ rw (q, is) in
-          let p : part ≡ replyAfter (replyFields (answerOf h x .reply)) l = t .replied so ∙ rw (q, is, lent-part) in
+          let p : part ≡ replyAfter (replyFields (answerOf h x .reply)) l = t .replied so ∙ rw (q, is, buffer-part) in
           carried x (sym d-is ∙ q) (holderIn k) listed g (listed-part ∙ ap (λ (p : List ℕ). take (replyWidth * done) list ++ p) p)
 
-      pub underway-responded : not b ≡ false → Underway script lent end (holderIn k) (done + 1) listed × Fits k
+      pub underway-responded : not b ≡ false → Underway script buffer end (holderIn k) (done + 1) listed × Fits k
       underway-responded on =
           let so : b ≡ true = not-false b on in
           let (x, q) = answered d (sym so ∙ t .done f) in

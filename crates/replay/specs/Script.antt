@@ -6,7 +6,7 @@ use Rattle.chart.specs.Fields.{numbersOf}
 use Rattle.calls.specs.declared.Call.{Call}
 use Rattle.calls.specs.declared.Reply.{Reply}
 use Rattle.calls.specs.Replies.{replyFields}
-use Rattle.book.specs.Book.{replies}
+use Rattle.holder_model.specs.Book.{replies}
 use Rattle.wire.specs.declared.Decoded.{Decoded}
 use Rattle.wire.specs.declared.Decoded.the-variants.{Call as Said, Nothing}
 use Rattle.wire.specs.Wire.{callWidth, replyWidth, decoded}
@@ -31,5 +31,5 @@ callsRead script m = callsFrom (min (length script / callWidth) (m / replyWidth)
 
 -- The list after a replay: the book's replies to the calls read stand first; the rest is unaltered
 unfoldable pub repliesAfter : List ℕ → List ℕ → List ℕ
-repliesAfter script lent =
-    written (replies (callsRead script (length lent))) ++ drop (replyWidth * length (callsRead script (length lent))) lent
+repliesAfter script buffer =
+    written (replies (callsRead script (length buffer))) ++ drop (replyWidth * length (callsRead script (length buffer))) buffer

@@ -1,5 +1,6 @@
 // The calls for C (include/robequarry.h). A list is passed as a pointer and a length, and an array as a pointer. A reply is an array of seven numbers, in the order number, word
 // (contract 4.3), place, piece, length, column, row. A holder and a pile are arrays, too, which the functions in `on_holder` and `on_pile` take apart.
+use border_model::written::of_traced;
 use chart::Fields;
 use chart::Point;
 use chart::reply::NUMBERS;
@@ -7,8 +8,7 @@ use chart::reply::of_comparison;
 use chart::reply::of_position;
 use chart::reply::of_verdict;
 use chart::reply::write;
-use complete::written::of_completed;
-use tracing::written::of_traced;
+use completion_call::written::of_completed;
 use witness::written::of_witnessed;
 ghost use mathlib.Core.Path.{_≡_};
 ghost use lib.ListN.{length};
@@ -17,12 +17,12 @@ ghost use Rattle.chart.specs.Outline.{outline};
 ghost use Rattle.verdict.specs.Verdict.{testFields, edgesAfter};
 ghost use Rattle.verdict.specs.Named.{CellNamed};
 ghost use Rattle.polygon.specs.Loose.{looseOf, HullNamed};
-ghost use Rattle.tracing.specs.Traced.{tracedOf, tracedFields, lettersAfter};
-ghost use Rattle.tracing.specs.Named.{BorderNamed};
-ghost use Rattle.complete.specs.Completion.{completedOf, completedFields, completionAfter};
-ghost use Rattle.complete.specs.Named.{CompletionNamed};
+ghost use Rattle.border_model.specs.Traced.{tracedOf, tracedFields, lettersAfter};
+ghost use Rattle.border_model.specs.Named.{BorderNamed};
+ghost use Rattle.completion_call.specs.Completion.{completedOf, completedFields, completionAfter};
+ghost use Rattle.completion_call.specs.Named.{CompletionNamed};
 ghost use Rattle.nesting.specs.Cells.{polygon};
-ghost use Rattle.compare.specs.Compared.{comparisonOf, CellsNamed};
+ghost use Rattle.comparison.specs.Compared.{comparisonOf, CellsNamed};
 ghost use Rattle.witness.specs.Witnessed.{witnessedOf, witnessedFields, cellsAfter};
 ghost use Rattle.witness.specs.Named.{WitnessNamed};
 ghost use Rattle.replay.specs.Script.{callsRead, repliesAfter};
@@ -93,7 +93,7 @@ pub extern "C" fn rq_border(
         col: anchor_col,
         row: anchor_row,
     };
-    let traced = letters::border(anchor, edges, letters);
+    let traced = border::border(anchor, edges, letters);
     put(of_traced(traced), reply);
 }
 
@@ -119,7 +119,7 @@ pub extern "C" fn rq_compare(
         col: anchor_col_2,
         row: anchor_row_2,
     };
-    let comparison = compare::relate(first, edges_1, second, edges_2);
+    let comparison = comparison::relate(first, edges_1, second, edges_2);
     put(of_comparison(comparison), reply);
 }
 
@@ -136,7 +136,7 @@ pub extern "C" fn rq_witness(
     ensures cells { λ _. ⌜ now (cells .exit) ≡ cellsAfter (outline (at col row) (now (letters .entry))) (now (cells .entry)) ⌝ }
     ensures named { λ _. ⌜ WitnessNamed (outline (at col row) (now (letters .entry))) (fieldsOf (now (reply .exit))) (now (cells .entry)) (now (cells .exit)) ⌝ }
 {
-    let witnessed = show_witness::witness(Point { col, row }, letters, cells);
+    let witnessed = witness_call::witness(Point { col, row }, letters, cells);
     put(of_witnessed(witnessed), reply);
 }
 
@@ -153,7 +153,7 @@ pub extern "C" fn rq_complete(
     ensures letters { λ _. ⌜ now (out .exit) ≡ completionAfter (outline (at col row) (now (letters .entry))) (now (out .entry)) ⌝ }
     ensures cells { λ _. ⌜ CompletionNamed (outline (at col row) (now (letters .entry))) (fieldsOf (now (reply .exit))) (now (out .exit)) ⌝ }
 {
-    let completed = complete::complete(Point { col, row }, letters, out);
+    let completed = completion_call::complete(Point { col, row }, letters, out);
     put(of_completed(completed), reply);
 }
 

@@ -15,7 +15,7 @@ ghost use Rattle.calls.specs.Calls.{by};
 ghost use Rattle.calls.specs.declared.Action.{Action};
 ghost use Rattle.calls.specs.declared.Question.{Question};
 ghost use Rattle.holder.specs.Holder.{freshHolder};
-ghost use Rattle.wire.specs.Wire.{heard};
+ghost use Rattle.wire.specs.Wire.{received};
 ghost use Rattle.live_memory.specs.Layout.{memory, holderIn, Fits};
 ghost use Rattle.live.specs.Called.{Called, Done, pieceDrawn};
 ghost use Rattle.robequarry.specs.At.{at};
@@ -214,7 +214,7 @@ pub extern "C" fn rq_call_parts(
     call: &[u8],
     reply: &mut [u16; REPLY],
 ) -> bool
-    ensures { λ r. ⌜ Called (Fits (memory (now (letters .entry)) (now (rows .entry)) (now (numbers .entry)) (now (heads .entry)))) (memory (now (letters .entry)) (now (rows .entry)) (now (numbers .entry)) (now (heads .entry))) (memory (now (letters .exit)) (now (rows .exit)) (now (numbers .exit)) (now (heads .exit))) (heard (now (call .entry)) 7) (now (reply .entry)) (now (reply .exit)) r ⌝ }
+    ensures { λ r. ⌜ Called (Fits (memory (now (letters .entry)) (now (rows .entry)) (now (numbers .entry)) (now (heads .entry)))) (memory (now (letters .entry)) (now (rows .entry)) (now (numbers .entry)) (now (heads .entry))) (memory (now (letters .exit)) (now (rows .exit)) (now (numbers .exit)) (now (heads .exit))) (received (now (call .entry)) 7) (now (reply .entry)) (now (reply .exit)) r ⌝ }
     ensures fits { λ _. ⌜ Fits (memory (now (letters .entry)) (now (rows .entry)) (now (numbers .entry)) (now (heads .entry))) ⌝ }
 {
     live::respond(

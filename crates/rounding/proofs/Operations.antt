@@ -70,12 +70,12 @@ round-difference :
 round-difference f s a b c v w t C fine p q l h =
     let k : w ≤ v = in-order f b a c w v C q p l in
     let e : (a - b) * 2 ^ low f ≡ (v - w) * c = difference a b (a - b) v w (v - w) c (2 ^ low f) (omega arith) (omega arith) p q in
-    rounds-as f (round f s (a - b) c) (cond s 0 (v - w)) (cond s (v - w) 0) (cond s w v) (cond s v w) t (turn s k)
+    rounds-as f (round f s (a - b) c) (cond s 0 (v - w)) (cond s (v - w) 0) (cond s w v) (cond s v w) t (exchanged s k)
     (round-units f s (a - b) c (v - w) t C fine e (omega arith))
   where
-    turn : (s : Bool) → w ≤ v → cond s 0 (v - w) + cond s v w ≡ cond s w v + cond s (v - w) 0
-    turn true k = omega arith
-    turn false k = omega arith
+    exchanged : (s : Bool) → w ≤ v → cond s 0 (v - w) + cond s v w ≡ cond s w v + cond s (v - w) 0
+    exchanged true k = omega arith
+    exchanged false k = omega arith
 
 sum-rounds :
     (f : Format) (s : Bool) (a : ℕ) (r : Bool) (b c v w t : ℕ) → 0 < c → prec f + t ≤ low f + emax f → a * 2 ^ low f ≡ v * c → b * 2 ^ low f ≡ w * c

@@ -18,13 +18,13 @@ use Rattle.chart.specs.Outline.{Outline}
 use Rattle.lattice.specs.Chart.{step, cornerAt, size, letterAt}
 use Rattle.lattice.specs.Refusals.{Simple}
 use Rattle.lattice.proofs.WalkLaws.{point-eq, walked, corner-zero, corner-suc}
-use Rattle.rows.specs.Rows.{rows}
-use Rattle.completion.specs.Sides.{alongRow, leastOver, greatestOver, firstSide, lastSide, lowestCorner, highestCorner}
+use Rattle.rows.specs.parts.Rows.{rows}
+use Rattle.completion.specs.parts.Sides.{alongRow, leastOver, greatestOver, firstSide, lastSide, lowestCorner, highestCorner}
 use Rattle.completion.proofs.Sides.{along-cases, along-up, along-down}
 use Rattle.witness.specs.Gap.{secondSide}
-use Rattle.witness.specs.Kept.{Two, keepTwo, keptTwo}
+use Rattle.witness.specs.parts.Kept.{Two, keepTwo, keptTwo}
 use Rattle.witness.proofs.Kept.{keptSides, kept-first, kept-second-side}
-use Rattle.row_sides.specs.Passed.{Tells, Passed}
+use Rattle.row_sides.specs.parts.Passed.{Tells, Passed}
 
 -- ---- the row of a letter
 

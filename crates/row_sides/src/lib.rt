@@ -6,8 +6,8 @@ ghost use Rattle.chart.specs.Limits.{side};
 ghost use Rattle.chart.specs.Outline.{outline};
 ghost use Rattle.lattice.specs.Chart.{step};
 ghost use Rattle.lattice.specs.Refusals.{Simple};
-ghost use Rattle.witness.specs.Kept.{keepTwo};
-ghost use Rattle.row_sides.specs.Passed.{Tells, Passed};
+ghost use Rattle.witness.specs.parts.Kept.{keepTwo};
+ghost use Rattle.row_sides.specs.parts.Passed.{Tells, Passed};
 
 // The lesser and the greater of two numbers.
 fn lesser(a: u16, b: u16) -> u16

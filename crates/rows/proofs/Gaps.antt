@@ -11,11 +11,11 @@ use borrow.Author.Tests.{leb-true, leb-false}
 use Rattle.chart.specs.Limits.{side}
 use Rattle.chart.specs.declared.Point.{Point}
 use Rattle.lattice.specs.Hull.{InHull, Missing, After, LowestMissing}
-use Rattle.rows.specs.Rows.{inRows}
-use Rattle.rows.specs.Search.{climb, lowestGap}
+use Rattle.rows.specs.parts.Rows.{inRows}
+use Rattle.rows.specs.Search.{chain, lowestGap}
 use Rattle.lattice.proofs.WalkLaws.{point-eq}
 use Rattle.rows.proofs.Rows.{Rows, Within, open-outside, outside-open, hull-above, hull-below, hull-cols}
-use Rattle.rows.proofs.Side.{Left, climb-bottom}
+use Rattle.rows.proofs.Side.{Left, chain-bottom}
 use Rattle.rows.proofs.Mirror.{Mirrored, mirror, mirrored-back, mirrored-rows, mirrored-hull}
 
 -- No cell of the hull below row r is right of its row, and the cell next to row r on the right is in the hull
@@ -66,8 +66,8 @@ module _ (lo hi : ℕ → ℕ) (b t : ℕ) (rows : Rows lo hi b t) where
             rw e at (mirrored-hull (mirrored-back mirrored) k h);
       }
 
-  climb-right : RightRow lo hi b t (climb (λ r. side - hi r) t b (t - b) .row)
-  climb-right = left-right _ (climb-bottom _ _ b t (mirrored-rows mirrored rows))
+  chain-right : RightRow lo hi b t (chain (λ r. side - hi r) t b (t - b) .row)
+  chain-right = left-right _ (chain-bottom _ _ b t (mirrored-rows mirrored rows))
 
   module _ (g : Point) (r : ℕ) (left : Left lo hi b t b g) (right : RightRow lo hi b t r) where
     -- A cell of the hull below both rows is in the block
@@ -104,14 +104,14 @@ module _ (lo hi : ℕ → ℕ) (b t : ℕ) (rows : Rows lo hi b t) where
 -- What the search finds in a row of the block is a missing cell
 pub search-sound : {lo hi : ℕ → ℕ} {b t : ℕ} → Rows lo hi b t → lowestGap lo hi b t .row < t → Missing (inRows lo hi b t) (lowestGap lo hi b t)
 unfolding lowestGap
-search-sound {lo} {hi} {b} {t} rows = lower-gap lo hi b t rows _ _ (climb-bottom lo hi b t rows) (climb-right lo hi b t rows) _ refl
+search-sound {lo} {hi} {b} {t} rows = lower-gap lo hi b t rows _ _ (chain-bottom lo hi b t rows) (chain-right lo hi b t rows) _ refl
 
 -- Every missing cell is the one found or after it
 pub search-first :
     {lo hi : ℕ → ℕ} {b t : ℕ} → Rows lo hi b t → (y : Point) → Missing (inRows lo hi b t) y
     → (y ≡ lowestGap lo hi b t) ⊎ After (lowestGap lo hi b t) y
 unfolding lowestGap
-search-first {lo} {hi} {b} {t} rows = lower-first lo hi b t rows _ _ (climb-bottom lo hi b t rows) (climb-right lo hi b t rows) _ refl
+search-first {lo} {hi} {b} {t} rows = lower-first lo hi b t rows _ _ (chain-bottom lo hi b t rows) (chain-right lo hi b t rows) _ refl
 
 -- Where a cell is missing, the search finds the lowest, leftmost in its row
 pub search-lowest :

@@ -38,7 +38,7 @@ right-trans {p} {q} {u} {x} l m n =
     trans-offsets p q u x (q .row - p .row) (u .row - p .row) (x .row - p .row) (omega arith) (omega arith) (omega arith) (omega arith)
 
 -- The point q with x rows down to p, y rows down to u and z rows up to v
-turn-offsets :
+from-w-offsets :
     (p q u v : Point) (x y z : ℕ) →
     q .row ≡ p .row + x →
     q .row ≡ u .row + y →
@@ -47,7 +47,7 @@ turn-offsets :
     Right p q u →
     Right p q v →
     Right u q v
-turn-offsets p q u v x y z i j k l h h′ =
+from-w-offsets p q u v x y z i j k l h h′ =
     let times : (e : ℕ) → (q .row * e ≡ (p .row + x) * e) × (q .row * e ≡ (u .row + y) * e) × (v .row * e ≡ (q .row + z) * e)
     = λ e. (ap (λ n. n * e) i, ap (λ n. n * e) j, ap (λ n. n * e) k) in
     let m : y * p .col + x * q .col ≤ x * u .col + y * q .col = omega (arith, times (p .col), times (q .col), times (u .col)) in
@@ -60,7 +60,7 @@ turn-offsets p q u v x y z i j k l h h′ =
 -- Points below and above q that are right of a line up to q: the higher is right of the line from the lower to q
 pub right-turn : {p q u v : Point} → p .row < q .row → u .row ≤ q .row → q .row ≤ v .row → Right p q u → Right p q v → Right u q v
 right-turn {p} {q} {u} {v} l m n h k =
-    turn-offsets p q u v (q .row - p .row) (q .row - u .row) (v .row - q .row) (omega arith) (omega arith) (omega arith) (omega arith) h k
+    from-w-offsets p q u v (q .row - p .row) (q .row - u .row) (v .row - q .row) (omega arith) (omega arith) (omega arith) (omega arith) h k
 
 -- The point q with x rows down to p, y rows down to u and z rows down to v
 below-offsets :

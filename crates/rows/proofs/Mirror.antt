@@ -5,7 +5,7 @@ use native.Mathlib.Omega.{arith}
 use Rattle.chart.specs.Limits.{side}
 use Rattle.chart.specs.declared.Point.{Point}
 use Rattle.lattice.specs.Hull.{InTriangle, InHull}
-use Rattle.rows.specs.Rows.{inRows}
+use Rattle.rows.specs.parts.Rows.{inRows}
 use Rattle.base.proofs.Mean.{mean-mirror}
 use Rattle.rows.proofs.Rows.{Rows, Within, within-marked, within-cols, p-within, q-within, t-within, hull-cols}
 

@@ -17,8 +17,8 @@ use Rattle.chart.specs.Outline.{Outline}
 use Rattle.lattice.specs.Chart.{step, leaves, cornerAt, size, letterAt}
 use Rattle.lattice.specs.Refusals.{Simple}
 use Rattle.lattice.specs.Enclosed.{upAlong, downAlong}
-use Rattle.rows.specs.Search.{upColumn, downColumn, lowestGap, numbered, cornerOf, stride, rolled, keptColumn, keptUp, keptDown, missingCell, foundCell}
-use Rattle.rows.specs.Rows.{rows, Marked, RowEnds}
+use Rattle.rows.specs.Search.{upColumn, downColumn, lowestGap, numbered, cornerNumbered, stride, wrapped, keptColumn, keptUp, keptDown, missingCell, foundCell}
+use Rattle.rows.specs.parts.Rows.{rows, Marked, RowEnds}
 use Rattle.lattice.specs.Walked.{Walked}
 use Rattle.lattice.proofs.WalkLaws.{walked, point-eq, corner-zero, corner-suc}
 use Rattle.lattice.proofs.Staying.{stays-right, stays-up, stays-left, stays-down}
@@ -74,7 +74,7 @@ module _ (along : Point → ℕ → ℕ → Bool) (n₀ : ℕ) (w : List ℕ) wh
       }
 
   kept-next :
-      (i n m : ℕ) (l l′ : List ℕ) → i < length w → Marked (along (cornerOf n) (getD w i 0)) (n % 256) l l′ → m ≡ rolled n (getD w i 0) →
+      (i n m : ℕ) (l l′ : List ℕ) → i < length w → Marked (along (cornerNumbered n) (getD w i 0)) (n % 256) l l′ → m ≡ wrapped n (getD w i 0) →
       Kept along n₀ w i n l → Kept along n₀ w (i + 1) m l′
   unfolding keptColumn
   kept-next i n m l l′ h d e k = record { size = d .size; rest = λ r b. go r b (k .rest r b) }
@@ -93,9 +93,9 @@ pub record Marks (n₀ : ℕ) (w : List ℕ) (i n : ℕ) (lo hi : List ℕ) : Ty
   pub downs : Kept downAlong n₀ w i n hi
 
 -- The number of the next corner as it is added up
-pub rolled-sum : (n a b m : ℕ) → b ≡ stride (a % 4) → m ≡ (n + b) % 2 ^ 16 → m ≡ rolled n a
-unfolding rolled
-rolled-sum n a b m h e = rw (e, h)
+pub wrapped-sum : (n a b m : ℕ) → b ≡ stride (a % 4) → m ≡ (n + b) % 2 ^ 16 → m ≡ wrapped n a
+unfolding wrapped
+wrapped-sum n a b m h e = rw (e, h)
 
 module _ (n₀ : ℕ) (w : List ℕ) where
   pub marks-start : Marks n₀ w 0 n₀ (replicate 256 0) (replicate 256 0)
@@ -103,8 +103,8 @@ module _ (n₀ : ℕ) (w : List ℕ) where
 
   module _ (i n m : ℕ) (lo hi lo′ hi′ : List ℕ) where
     pub marks-next :
-        i < length w → Marked (upAlong (cornerOf n) (getD w i 0)) (n % 256) lo lo′ → Marked (downAlong (cornerOf n) (getD w i 0)) (n % 256) hi hi′ →
-        m ≡ rolled n (getD w i 0) → Marks n₀ w i n lo hi → Marks n₀ w (i + 1) m lo′ hi′
+        i < length w → Marked (upAlong (cornerNumbered n) (getD w i 0)) (n % 256) lo lo′ → Marked (downAlong (cornerNumbered n) (getD w i 0)) (n % 256) hi hi′ →
+        m ≡ wrapped n (getD w i 0) → Marks n₀ w i n lo hi → Marks n₀ w (i + 1) m lo′ hi′
     marks-next h u d e t =
         record { ups = kept-next upAlong n₀ w i n m lo lo′ h u e (t .ups); downs = kept-next downAlong n₀ w i n m hi hi′ h d e (t .downs) }
 
@@ -134,8 +134,8 @@ module _ (o : Outline) (b t : ℕ) where
 -- ---- outlines
 
 -- A corner of the chart has its number, and a letter that does not leave the chart reaches the number of the next
-corner-numbered : (p : Point) → p .col ≤ side → p .row ≤ side → cornerOf (numbered p) ≡ p
-corner-numbered p h k = point-eq (cornerOf (numbered p)) p (omega arith) (omega arith)
+corner-numbered : (p : Point) → p .col ≤ side → p .row ≤ side → cornerNumbered (numbered p) ≡ p
+corner-numbered p h k = point-eq (cornerNumbered (numbered p)) p (omega arith) (omega arith)
 
 one-less : (n : ℕ) → 0 < n → n < 65536 → (n + 65535) % 65536 ≡ n - 1
 one-less n h k = omega arith
@@ -143,16 +143,16 @@ one-less n h k = omega arith
 number-left : (c r : ℕ) → 0 < c → c ≤ side → r ≤ side → r % 256 * 256 + c % 256 - 1 ≡ r % 256 * 256 + (c - 1) % 256
 number-left c r l h k = omega arith
 
-rolled-staying : (p : Point) (a : ℕ) → p .col ≤ side → p .row ≤ side → a < 4 → leaves p a ≡ false → rolled (numbered p) a ≡ numbered (step p a)
-unfolding rolled step
-rolled-staying p zero h k l e = omega (arith, stays-right p 0 e refl)
-rolled-staying p (suc zero) h k l e = omega (arith, stays-up p 1 e refl)
-rolled-staying p (suc (suc zero)) h k l e =
+wrapped-staying : (p : Point) (a : ℕ) → p .col ≤ side → p .row ≤ side → a < 4 → leaves p a ≡ false → wrapped (numbered p) a ≡ numbered (step p a)
+unfolding wrapped step
+wrapped-staying p zero h k l e = omega (arith, stays-right p 0 e refl)
+wrapped-staying p (suc zero) h k l e = omega (arith, stays-up p 1 e refl)
+wrapped-staying p (suc (suc zero)) h k l e =
     let low : 0 < p .col = omega (arith, stays-left p 2 e refl) in one-less (numbered p) (omega arith) (omega arith) ∙ number-left (p .col) (p .row) low h k
-rolled-staying p (suc (suc (suc zero))) h k l e = omega (arith, stays-down p 3 e refl)
-rolled-staying p (suc (suc (suc (suc a)))) h k l e = absurd (omega arith)
+wrapped-staying p (suc (suc (suc zero))) h k l e = omega (arith, stays-down p 3 e refl)
+wrapped-staying p (suc (suc (suc (suc a)))) h k l e = absurd (omega arith)
 
-kept-more : (along : Point → ℕ → ℕ → Bool) {p : Point} {m : ℕ} (n a : ℕ) (v : List ℕ) (r d : ℕ) → cornerOf n ≡ p → rolled n a ≡ m
+kept-more : (along : Point → ℕ → ℕ → Bool) {p : Point} {m : ℕ} (n a : ℕ) (v : List ℕ) (r d : ℕ) → cornerNumbered n ≡ p → wrapped n a ≡ m
     → keptColumn along n (a ∷ v) r d ≡ keptColumn along m v r (cond (along p a r) (p .col) d)
 unfolding keptColumn
 kept-more along n a v r d e f i = keptColumn along (f i) v r (cond (along (e i) a r) (e i .col) d)
@@ -174,8 +174,8 @@ module _ (o : Outline) (simple : Simple o) where
       let v : List ℕ = drop (suc i) (o .letters) in
       let col : p .col ≤ side = walk .col-le i (omega arith) in
       let row : p .row ≤ side = walk .row-le i (omega arith) in
-      let next : rolled (numbered p) a ≡ numbered (cornerAt o (suc i)) =
-      rolled-staying p a col row (walk .letter i l) (walk .stays i l) ∙ ap (λ (q : Point). numbered q) (sym (corner-suc o i l)) in
+      let next : wrapped (numbered p) a ≡ numbered (cornerAt o (suc i)) =
+      wrapped-staying p a col row (walk .letter i l) (walk .stays i l) ∙ ap (λ (q : Point). numbered q) (sym (corner-suc o i l)) in
       rw (drop-cons (o .letters) i 0 l, more p a v r d, ← corner-suc o i l)
       (kept-more along (numbered p) a v r d (corner-numbered p col row) next ∙ kept-column along column none more r m (suc i) (cond (along p a r) (p .col) d) (omega arith))
 

@@ -10,7 +10,7 @@ use Rattle.base.proofs.BelowLaws.{not-held}
 use Rattle.chart.specs.Limits.{side}
 use Rattle.chart.specs.declared.Point.{Point}
 use Rattle.lattice.specs.Hull.{InHull}
-use Rattle.rows.specs.Rows.{inRows}
+use Rattle.rows.specs.parts.Rows.{inRows}
 use Rattle.rows.proofs.Line.{Right, right-beyond, right-mean, triangle-above, triangle-below, triangle-cols}
 
 pub record Rows (lo hi : ℕ → ℕ) (b t : ℕ) : Type 0 where

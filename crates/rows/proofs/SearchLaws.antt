@@ -10,7 +10,7 @@ use lib.Dec.{ltb}
 use borrow.Author.Tests.{le-leb, lt-leb, lt-ltb, le-ltb}
 use Rattle.base.proofs.BelowLaws.{below-suc, first-same, first-none, first-is}
 use Rattle.chart.specs.declared.Point.{Point}
-use Rattle.rows.specs.Search.{leans, furthest, crossing, gapRow, climb, lowestGap}
+use Rattle.rows.specs.Search.{leans, furthest, crossing, gapRow, chain, lowestGap}
 use Rattle.chart.specs.Limits.{side}
 use Rattle.lattice.proofs.WalkLaws.{point}
 
@@ -126,37 +126,37 @@ module _ (lo : ℕ → ℕ) (t i : ℕ) where
         | yes l ↦ elim (decLt (edgeGap lo t i) (edgeEnd lo t i)) [ yes g ↦ gap l g | no g ↦ on l (omega arith) ]
       ]
 
-  climb-zero : climb lo t i 0 ≡ point 0 t
-  unfolding climb
-  climb-zero = refl
+  chain-zero : chain lo t i 0 ≡ point 0 t
+  unfolding chain
+  chain-zero = refl
 
-  pub climb-done : (n : ℕ) → t ≤ suc i → climb lo t i n ≡ point 0 t
-  unfolding climb
-  climb-done zero h = refl
-  climb-done (suc n) h = simp (le-leb t (suc i) h)
+  pub chain-done : (n : ℕ) → t ≤ suc i → chain lo t i n ≡ point 0 t
+  unfolding chain
+  chain-done zero h = refl
+  chain-done (suc n) h = simp (le-leb t (suc i) h)
 
-  pub climb-gap :
+  pub chain-gap :
       (n : ℕ) → suc i < t → edgeGap lo t i < edgeEnd lo t i →
-      climb lo t i (suc n) ≡ point (crossing lo i (edgeEnd lo t i) (edgeGap lo t i)) (edgeGap lo t i)
-  unfolding climb
-  climb-gap n h g = simp (lt-leb t (suc i) h, lt-ltb (edgeGap lo t i) (edgeEnd lo t i) g)
+      chain lo t i (suc n) ≡ point (crossing lo i (edgeEnd lo t i) (edgeGap lo t i)) (edgeGap lo t i)
+  unfolding chain
+  chain-gap n h g = simp (lt-leb t (suc i) h, lt-ltb (edgeGap lo t i) (edgeEnd lo t i) g)
 
-  pub climb-on : (n : ℕ) → suc i < t → edgeEnd lo t i ≤ edgeGap lo t i → climb lo t i (suc n) ≡ climb lo t (edgeEnd lo t i) n
-  unfolding climb
-  climb-on n h g = simp (lt-leb t (suc i) h, le-ltb (edgeGap lo t i) (edgeEnd lo t i) g)
+  pub chain-on : (n : ℕ) → suc i < t → edgeEnd lo t i ≤ edgeGap lo t i → chain lo t i (suc n) ≡ chain lo t (edgeEnd lo t i) n
+  unfolding chain
+  chain-on n h g = simp (lt-leb t (suc i) h, le-ltb (edgeGap lo t i) (edgeEnd lo t i) g)
 
 -- More edges than there are rows above change nothing
-pub climb-fuel : (lo : ℕ → ℕ) (t i m n : ℕ) → t ≤ i + m → t ≤ i + n → climb lo t i m ≡ climb lo t i n
-climb-fuel lo t i zero n h k = climb-done lo t i 0 (omega arith) ∙ sym (climb-done lo t i n (omega arith))
-climb-fuel lo t i (suc m) zero h k = climb-done lo t i (suc m) (omega arith) ∙ sym (climb-done lo t i 0 (omega arith))
-climb-fuel lo t i (suc m) (suc n) h k =
+pub chain-fuel : (lo : ℕ → ℕ) (t i m n : ℕ) → t ≤ i + m → t ≤ i + n → chain lo t i m ≡ chain lo t i n
+chain-fuel lo t i zero n h k = chain-done lo t i 0 (omega arith) ∙ sym (chain-done lo t i n (omega arith))
+chain-fuel lo t i (suc m) zero h k = chain-done lo t i (suc m) (omega arith) ∙ sym (chain-done lo t i 0 (omega arith))
+chain-fuel lo t i (suc m) (suc n) h k =
     elim (edge lo t i) [
-      | done l ↦ climb-done lo t i (suc m) l ∙ sym (climb-done lo t i (suc n) l)
-      | gap l g ↦ climb-gap lo t i m l g ∙ sym (climb-gap lo t i n l g)
+      | done l ↦ chain-done lo t i (suc m) l ∙ sym (chain-done lo t i (suc n) l)
+      | gap l g ↦ chain-gap lo t i m l g ∙ sym (chain-gap lo t i n l g)
       | on l g ↦
-          climb-on lo t i m l g
-          ∙ climb-fuel lo t (edgeEnd lo t i) m n (omega (arith, edge-above lo t i)) (omega (arith, edge-above lo t i))
-          ∙ sym (climb-on lo t i n l g)
+          chain-on lo t i m l g
+          ∙ chain-fuel lo t (edgeEnd lo t i) m n (omega (arith, edge-above lo t i)) (omega (arith, edge-above lo t i))
+          ∙ sym (chain-on lo t i n l g)
     ]
 
 -- An edge from row i to row j, and the first row r right of it
@@ -164,29 +164,29 @@ module _ (lo : ℕ → ℕ) (t i j r : ℕ) (above : suc i < t) (end : j ≡ edg
   at-edge : r ≡ edgeGap lo t i
   at-edge = next ∙ ap (gapRow lo i) end
 
-  pub climb-stops : r < j → climb lo t i (t - i) ≡ point (crossing lo i j r) r
-  climb-stops h =
+  pub chain-stops : r < j → chain lo t i (t - i) ≡ point (crossing lo i j r) r
+  chain-stops h =
       let d : t - i ≡ suc (t - suc i) = omega arith in
       let e = at-edge in
-      let f = climb-gap lo t i (t - suc i) above (omega arith) in
+      let f = chain-gap lo t i (t - suc i) above (omega arith) in
       cc
 
-  pub climb-goes-on : j ≤ r → climb lo t i (t - i) ≡ climb lo t j (t - j)
-  climb-goes-on h =
+  pub chain-goes-on : j ≤ r → chain lo t i (t - i) ≡ chain lo t j (t - j)
+  chain-goes-on h =
       let d : t - i ≡ suc (t - suc i) = omega arith in
       let e = at-edge in
-      let f = climb-on lo t i (t - suc i) above (omega arith) in
-      let g = climb-fuel lo t j (t - suc i) (t - j) (omega (arith, edge-above lo t i)) (omega arith) in
+      let f = chain-on lo t i (t - suc i) above (omega arith) in
+      let g = chain-fuel lo t j (t - suc i) (t - j) (omega (arith, edge-above lo t i)) (omega arith) in
       cc
 
 -- The climb ends in a row up to the top
-pub climb-row-le : (lo : ℕ → ℕ) (t i n : ℕ) → climb lo t i n .row ≤ t
-climb-row-le lo t i zero = rw climb-zero (omega arith)
-climb-row-le lo t i (suc n) =
+pub chain-row-le : (lo : ℕ → ℕ) (t i n : ℕ) → chain lo t i n .row ≤ t
+chain-row-le lo t i zero = rw chain-zero (omega arith)
+chain-row-le lo t i (suc n) =
     elim (edge lo t i) [
-      | done l ↦ rw (climb-done lo t i (suc n) l) (omega arith)
-      | gap l g ↦ rw (climb-gap lo t i n l g) (omega (arith, edge-below lo t i l))
-      | on l g ↦ rw (climb-on lo t i n l g) (climb-row-le lo t (edgeEnd lo t i) n)
+      | done l ↦ rw (chain-done lo t i (suc n) l) (omega arith)
+      | gap l g ↦ rw (chain-gap lo t i n l g) (omega (arith, edge-below lo t i l))
+      | on l g ↦ rw (chain-on lo t i n l g) (chain-row-le lo t (edgeEnd lo t i) n)
     ]
 
 -- Rows that begin alike below the top give the same climb
@@ -226,30 +226,30 @@ module _ (f g : ℕ → ℕ) (t : ℕ) (same : (r : ℕ) → r < t → f r ≡ g
   edgeGap-same : (i : ℕ) → suc i < t → edgeGap f t i ≡ edgeGap g t i
   edgeGap-same i h = gapRow-same i (edgeEnd f t i) (omega arith) (edge-below f t i h) ∙ ap (gapRow g i) (edgeEnd-same i h)
 
-  pub climb-same : (i n : ℕ) → climb f t i n ≡ climb g t i n
-  climb-same i zero = climb-zero f t i ∙ sym (climb-zero g t i)
-  climb-same i (suc n) =
+  pub chain-same : (i n : ℕ) → chain f t i n ≡ chain g t i n
+  chain-same i zero = chain-zero f t i ∙ sym (chain-zero g t i)
+  chain-same i (suc n) =
       elim (edge f t i) [
-        | done l ↦ climb-done f t i (suc n) l ∙ sym (climb-done g t i (suc n) l)
+        | done l ↦ chain-done f t i (suc n) l ∙ sym (chain-done g t i (suc n) l)
         | gap l h ↦
             let d = edgeEnd-same i l in
             let e = edgeGap-same i l in
-            let x = climb-gap f t i n l h in
-            let y = climb-gap g t i n l (omega arith) in
+            let x = chain-gap f t i n l h in
+            let y = chain-gap g t i n l (omega arith) in
             cc (crossing-same i (edgeEnd f t i) (edgeGap f t i) (omega arith) (edge-below f t i l))
         | on l h ↦
             let d = edgeEnd-same i l in
             let e = edgeGap-same i l in
-            climb-on f t i n l h
-            ∙ climb-same (edgeEnd f t i) n
-            ∙ ap (λ (j : ℕ). climb g t j n) d
-            ∙ sym (climb-on g t i n l (omega arith))
+            chain-on f t i n l h
+            ∙ chain-same (edgeEnd f t i) n
+            ∙ ap (λ (j : ℕ). chain g t j n) d
+            ∙ sym (chain-on g t i n l (omega arith))
       ]
 
 -- The lower gap, from the climb p up the left side and the climb q up the mirror image m of the right side
-module _ (lo hi m : ℕ → ℕ) (b t : ℕ) (p q : Point) (mirror : (r : ℕ) → r < t → m r ≡ side - hi r) (left : p ≡ climb lo t b (t - b)) (right : q ≡ climb m t b (t - b)) where
-  right-row : q ≡ climb (λ r. side - hi r) t b (t - b)
-  right-row = right ∙ climb-same m (λ r. side - hi r) t mirror b (t - b)
+module _ (lo hi m : ℕ → ℕ) (b t : ℕ) (p q : Point) (mirror : (r : ℕ) → r < t → m r ≡ side - hi r) (left : p ≡ chain lo t b (t - b)) (right : q ≡ chain m t b (t - b)) where
+  right-row : q ≡ chain (λ r. side - hi r) t b (t - b)
+  right-row = right ∙ chain-same m (λ r. side - hi r) t mirror b (t - b)
 
   pub lowestGap-left : p .row ≤ q .row → p ≡ lowestGap lo hi b t
   unfolding lowestGap
@@ -264,15 +264,15 @@ pub lowestGap-same :
     (lo hi lo′ hi′ : ℕ → ℕ) (b t : ℕ) → ((r : ℕ) → r < t → lo r ≡ lo′ r) → ((r : ℕ) → r < t → hi r ≡ hi′ r) → lowestGap lo hi b t ≡ lowestGap lo′ hi′ b t
 lowestGap-same lo hi lo′ hi′ b t begin end =
     let m : ℕ → ℕ = λ r. side - hi r in
-    let p = climb lo t b (t - b) in
-    let q = climb m t b (t - b) in
+    let p = chain lo t b (t - b) in
+    let q = chain m t b (t - b) in
     let mirror : (r : ℕ) → r < t → m r ≡ side - hi′ r = λ r h. ap (λ (x : ℕ). side - x) (end r h) in
-    let left : p ≡ climb lo′ t b (t - b) = climb-same lo lo′ t begin b (t - b) in
+    let left : p ≡ chain lo′ t b (t - b) = chain-same lo lo′ t begin b (t - b) in
     elim (decLt (q .row) (p .row)) [
       | no h ↦
           sym (lowestGap-left lo hi m b t p q (λ r l. refl) refl refl (omega arith)) ∙ lowestGap-left lo′ hi′ m b t p q mirror left refl (omega arith)
       | yes h ↦
           sym (lowestGap-right lo hi m b t p q (λ r l. refl) refl refl h)
-          ∙ ap (λ (x : ℕ). point x (q .row)) (end (q .row) (omega (arith, climb-row-le lo t b (t - b))))
+          ∙ ap (λ (x : ℕ). point x (q .row)) (end (q .row) (omega (arith, chain-row-le lo t b (t - b))))
           ∙ lowestGap-right lo′ hi′ m b t p q mirror left refl h
     ]

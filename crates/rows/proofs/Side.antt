@@ -13,8 +13,8 @@ use borrow.Author.Tests.{ltb-true, ltb-false, leb-true, leb-false}
 use Rattle.base.proofs.BelowLaws.{below-suc, first-le, first-found, first-before}
 use Rattle.chart.specs.declared.Point.{Point}
 use Rattle.lattice.specs.Hull.{InHull}
-use Rattle.rows.specs.Rows.{inRows}
-use Rattle.rows.specs.Search.{leans, furthest, crossing, gapRow, climb}
+use Rattle.rows.specs.parts.Rows.{inRows}
+use Rattle.rows.specs.Search.{leans, furthest, crossing, gapRow, chain}
 use Rattle.rows.proofs.Line.{Right, right-trans, right-turn, right-start, right-end, right-cycle, right-of-start, right-of-end, right-in-triangle}
 use Rattle.rows.proofs.Rows.{Rows, begin, begin-marked, hull-right}
 
@@ -191,10 +191,10 @@ module _ (lo hi : ℕ → ℕ) (b t : ℕ) (rows : Rows lo hi b t) where
       ]
 
   -- The climb passes the edge from row i to row j, or stops at row r of it
-  climb-edge : (i j r : ℕ) (g : Point) → b ≤ i → j < t → Edge lo b t i j → GapRow lo i j r → Clear i →
+  chain-edge : (i j r : ℕ) (g : Point) → b ≤ i → j < t → Edge lo b t i j → GapRow lo i j r → Clear i →
       (Corner lo b t j → Clear j → Left lo hi b t j g) →
       Left lo hi b t i (cond (ltb r j) (record { col = crossing lo i j r; row = r }) g)
-  climb-edge i j r g h l e p c rest = go (ltb r j) refl
+  chain-edge i j r g h l e p c rest = go (ltb r j) refl
     where
       clear : (y : Point) → InHull (inRows lo hi b t) y → i ≤ y .row → y .row < r → lo (y .row) ≤ y .col
       clear y k m n =
@@ -223,14 +223,14 @@ module _ (lo hi : ℕ → ℕ) (b t : ℕ) (rows : Rows lo hi b t) where
             furthest = n .furthest;
           }
 
-  climb-left : (n i : ℕ) → t ≤ i + n → b ≤ i → i < t → Corner lo b t i → Clear i → Left lo hi b t i (climb lo t i n)
-  unfolding climb
-  climb-left zero i e h l c k = absurd (omega arith)
-  climb-left (suc n) i e h l c k =
+  chain-left : (n i : ℕ) → t ≤ i + n → b ≤ i → i < t → Corner lo b t i → Clear i → Left lo hi b t i (chain lo t i n)
+  unfolding chain
+  chain-left zero i e h l c k = absurd (omega arith)
+  chain-left (suc n) i e h l c k =
       go (leb t (suc i)) refl _ λ m.
       let f = furthest-furthest lo i t m in
-      climb-edge i _ _ _ h (f .below) (furthest-edge lo b t i _ c f) (gapRow-gap lo i _ (f .above)) k
-      (climb-left n _ (omega arith) (omega arith) (f .below))
+      chain-edge i _ _ _ h (f .below) (furthest-edge lo b t i _ c f) (gapRow-gap lo i _ (f .above)) k
+      (chain-left n _ (omega arith) (omega arith) (f .below))
     where
       go : (a : Bool) → leb t (suc i) ≡ a → (g : Point) → (suc i < t → Left lo hi b t i g) → Left lo hi b t i (cond a (record { col = 0; row = t }) g)
       go true d g rest =
@@ -242,5 +242,5 @@ module _ (lo hi : ℕ → ℕ) (b t : ℕ) (rows : Rows lo hi b t) where
           }
       go false d g rest = rest (leb-false t (suc i) d)
 
-  pub climb-bottom : Left lo hi b t b (climb lo t b (t - b))
-  climb-bottom = climb-left (t - b) b (omega (arith, rows .below)) (omega arith) (rows .below) bottom-corner bottom-clear
+  pub chain-bottom : Left lo hi b t b (chain lo t b (t - b))
+  chain-bottom = chain-left (t - b) b (omega (arith, rows .below)) (omega arith) (rows .below) bottom-corner bottom-clear

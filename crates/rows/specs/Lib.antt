@@ -1,3 +1,3 @@
 -- The lowest missing cell from the ends of the rows, and what the code keeps of them.
 pub mod Search
-pub mod Rows
+pub mod parts

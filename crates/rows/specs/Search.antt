@@ -39,20 +39,20 @@ gapRow lo i j = suc i + first (λ k. ltb (crossing lo i j (suc i + k)) (lo (suc 
 
 -- Up the left side of the hull from row i, by at most n of its edges: the first column of the first row that begins right of that side,
 -- or a cell of row t where there is none
-unfoldable pub climb : (ℕ → ℕ) → ℕ → ℕ → ℕ → Point
-climb lo t i zero = record { col = 0; row = t }
-climb lo t i (suc n) =
+unfoldable pub chain : (ℕ → ℕ) → ℕ → ℕ → ℕ → Point
+chain lo t i zero = record { col = 0; row = t }
+chain lo t i (suc n) =
     let j : ℕ = furthest lo i (suc i) (suc (suc i)) (t - suc (suc i)) in
     let r : ℕ = gapRow lo i j in
-    let higher : Point = climb lo t j n in
+    let higher : Point = chain lo t j n in
     cond (leb t (suc i)) (record { col = 0; row = t }) (cond (ltb r j) (record { col = crossing lo i j r; row = r }) higher)
 
 -- Of rows b to t - 1, row r from column lo r up to but not including column hi r: the lower of the gaps at the left side and at the right side,
 -- which is the left side's mirror image; the left one in the same row. Of a gap at the right side only the cell next to the row counts
 unfoldable pub lowestGap : (ℕ → ℕ) → (ℕ → ℕ) → ℕ → ℕ → Point
 lowestGap lo hi b t =
-    let left : Point = climb lo t b (t - b) in
-    let right : ℕ = climb (λ r. side - hi r) t b (t - b) .row in
+    let left : Point = chain lo t b (t - b) in
+    let right : ℕ = chain (λ r. side - hi r) t b (t - b) .row in
     cond (leb (left .row) right) left (record { col = hi right; row = right })
 
 -- The lowest missing cell, leftmost in its row, of an outline between the corner rows b and t
@@ -66,8 +66,8 @@ missingCell o b t = lowestGap (λ r. upColumn (o .start) (o .letters) r 0) (λ r
 abbrev pub numbered : Point → ℕ
 numbered p = p .row % 256 * 256 + p .col % 256
 
-abbrev pub cornerOf : ℕ → Point
-cornerOf n = record { col = n % 256; row = n / 256 }
+abbrev pub cornerNumbered : ℕ → Point
+cornerNumbered n = record { col = n % 256; row = n / 256 }
 
 abbrev pub stride : ℕ → ℕ
 stride zero = 1
@@ -75,13 +75,13 @@ stride (suc zero) = 256
 stride (suc (suc zero)) = 65535
 stride (suc (suc (suc a))) = 65280
 
-unfoldable pub rolled : ℕ → ℕ → ℕ
-rolled n a = (n + stride (a % 4)) % 65536
+unfoldable pub wrapped : ℕ → ℕ → ℕ
+wrapped n a = (n + stride (a % 4)) % 65536
 
 -- The column kept for row r: that of the last up (or down) along it
 unfoldable pub keptColumn : (Point → ℕ → ℕ → Bool) → ℕ → List ℕ → ℕ → ℕ → ℕ
 keptColumn along n [] r d = d
-keptColumn along n (a ∷ w) r d = keptColumn along (rolled n a) w r (cond (along (cornerOf n) a r) (n % 256) d)
+keptColumn along n (a ∷ w) r d = keptColumn along (wrapped n a) w r (cond (along (cornerNumbered n) a r) (n % 256) d)
 
 abbrev pub keptUp : Outline → ℕ → ℕ
 keptUp o r = keptColumn upAlong (numbered (o .start)) (o .letters) r 0

@@ -7,9 +7,9 @@ ghost use lib.ListN.{length};
 ghost use lib.Dec.{leb, ltb};
 ghost use Rattle.chart.specs.Limits.{side};
 ghost use Rattle.chart.specs.Outline.{outline};
-ghost use Rattle.rows.specs.Search.{furthest as furthestOf, crossing as crossingOf, gapRow, climb as climbOf, lowestGap, cornerOf, stride as strideOf, foundCell};
+ghost use Rattle.rows.specs.Search.{furthest as furthestOf, crossing as crossingOf, gapRow, chain as chainOf, lowestGap, cornerNumbered, stride as strideOf, foundCell};
 ghost use Rattle.lattice.specs.Enclosed.{upAlong, downAlong};
-ghost use Rattle.rows.specs.Rows.{rows, Marked, RowEnds, Tangents};
+ghost use Rattle.rows.specs.parts.Rows.{rows, Marked, RowEnds, Tangents};
 
 // A number of 16 bits as an index.
 fn wide(x: u16) -> usize
@@ -39,7 +39,7 @@ fn stride(letter: u8) -> u16
 // An up along a row begins it.
 fn mark_up(lo: &mut [u16; 256], number: u16, letter: u8)
     requires { ⌜ length (now lo) ≡ 256 ⌝ }
-    ensures { λ _. ⌜ Marked (upAlong (cornerOf number) letter) (number % 256) (now (lo .entry)) (now (lo .exit)) ⌝ }
+    ensures { λ _. ⌜ Marked (upAlong (cornerNumbered number) letter) (number % 256) (now (lo .entry)) (now (lo .exit)) ⌝ }
 {
     let row = wide(number / 256);
     if letter == 1 {
@@ -50,7 +50,7 @@ fn mark_up(lo: &mut [u16; 256], number: u16, letter: u8)
 // A down along a row ends it.
 fn mark_down(hi: &mut [u16; 256], number: u16, letter: u8)
     requires { ⌜ length (now hi) ≡ 256 ⌝ }
-    ensures { λ _. ⌜ Marked (downAlong (cornerOf number) letter) (number % 256) (now (hi .entry)) (now (hi .exit)) ⌝ }
+    ensures { λ _. ⌜ Marked (downAlong (cornerNumbered number) letter) (number % 256) (now (hi .entry)) (now (hi .exit)) ⌝ }
 {
     let row = wide(number / 256);
     if letter == 3 && 0 < row {
@@ -169,9 +169,9 @@ fn gap_row(lo: &[u16; 256], i: usize, j: usize) -> usize
 }
 
 // Up the left side of the hull from row `b`: the first column of the first row that begins right of that side, or a cell of row `t` where there is none.
-fn climb(lo: &[u16; 256], t: usize, b: usize) -> Point
+fn chain(lo: &[u16; 256], t: usize, b: usize) -> Point
     requires { ⌜ (b ≤ t) × (t ≤ side) ⌝ }
-    ensures { λ r. ⌜ (r ≡ climbOf (rows (now (lo .entry))) t b (t - b)) × (r .row ≤ t) ⌝ }
+    ensures { λ r. ⌜ (r ≡ chainOf (rows (now (lo .entry))) t b (t - b)) × (r .row ≤ t) ⌝ }
 {
     let next = tangents(lo, b, t);
     let mut i = b;
@@ -219,9 +219,9 @@ fn lowest_gap(ends: Ends, b: usize, t: usize) -> Point
 {
     let lo = ends.lo;
     let hi = ends.hi;
-    let left = climb(&lo, t, b);
+    let left = chain(&lo, t, b);
     let mirror = mirrored(&hi);
-    let right = climb(&mirror, t, b);
+    let right = chain(&mirror, t, b);
     if left.row <= right.row {
         return left;
     }

@@ -13,7 +13,7 @@ use Rattle.base.specs.Below.{every}
 use Rattle.base.proofs.BelowLaws.{and-left, and-right, or-false-iff, not-held, every-at, every-fails}
 use Rattle.chart.specs.Limits.{side}
 use Rattle.chart.specs.declared.Point.{Point}
-use Rattle.lattice.specs.Hull.{InHull, Missing, Full}
+use Rattle.lattice.specs.Hull.{InHull, Missing, Convex}
 use Rattle.sections.specs.declared.Reach.{Reach}
 use Rattle.sections.specs.Sections.{layers, fold, ceiling, above, lowLine, highLine, full, alone, joined, joinedFrom, reached, wholeIn, whole, clear}
 use Rattle.sections.proofs.Lines.{Runs, Line, own, line, Upper}
@@ -265,9 +265,9 @@ module _ (marked : ℕ → ℕ → Bool) (lo past : ℕ → ℕ) (t : InRuns mar
           let b : reached lo past j .high ≤ past j = leb-true _ _ (and-right (leb (lo j) (reached lo past j .low)) (leb (reached lo past j .high) (past j)) g) in
           t .exact j r .1 (omega arith, omega arith)
 
-  pub clear-full : clear lo past ≡ true → Full marked
+  pub clear-convex : clear lo past ≡ true → Convex marked
   unfolding clear
-  clear-full e x m =
+  clear-convex e x m =
       let (near, low, high) = hull-reached x (m .hull) in
       true≢false (sym (whole-full (x .col) (x .row) (every-at (whole lo past) layers e (x .col) near) low high) ∙ m .open-cell)
 
@@ -295,9 +295,9 @@ module _ (marked : ℕ → ℕ → Bool) (lo past : ℕ → ℕ) (t : InRuns mar
   unclear-missing e = let (j, l, f) = every-fails (whole lo past) layers e in broken j l f
 
   -- The test decides the hull statement
-  pub clear-iff : (clear lo past ≡ true) ↔ Full marked
-  clear-iff = (clear-full, back (clear lo past) refl)
+  pub clear-iff : (clear lo past ≡ true) ↔ Convex marked
+  clear-iff = (clear-convex, back (clear lo past) refl)
     where
-      back : (b : Bool) → clear lo past ≡ b → Full marked → clear lo past ≡ true
+      back : (b : Bool) → clear lo past ≡ b → Convex marked → clear lo past ≡ true
       back true e h = e
       back false e h = let (x, m) = unclear-missing e in absurd (h x m)

@@ -11,8 +11,8 @@ use Rattle.chart.specs.Fields.{verdictFields}
 use Rattle.verdict.specs.Verdict.{verdictOf}
 use Rattle.verdict.specs.Named.{CellNamed}
 use Rattle.verdict.proofs.Cells.{verdict-named}
-use Rattle.border.specs.Judged.{judgedOf}
-use Rattle.border.proofs.JudgedLaws.{judged-verdict}
+use Rattle.judge.specs.Judged.{judgedOf}
+use Rattle.judge.proofs.JudgedLaws.{judged-verdict}
 use Rattle.calls.specs.Calls.{badPlace}
 use Rattle.calls.specs.Replies.{replyFields}
 use Rattle.calls.specs.declared.Reply.the-variants.{Taken as WasTaken, Same}

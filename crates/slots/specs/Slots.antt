@@ -5,8 +5,8 @@ use mathlib.Core.List.{List}
 use lib.IntN.{ℤ}
 use Rattle.chart.specs.declared.Verdict.{Verdict}
 use Rattle.chart.specs.declared.Verdict.the-variants.{Taken, Refused}
-use Rattle.border.specs.declared.Judged.{Judged}
-use Rattle.border.specs.Judged.{judgedOf}
+use Rattle.judge.specs.declared.Judged.{Judged}
+use Rattle.judge.specs.Judged.{judgedOf}
 use Rattle.spans.specs.Spans.{spansOf}
 use Rattle.calls.specs.Calls.{badPlace}
 use Rattle.calls.specs.declared.Action.{Action}

@@ -1,5 +1,4 @@
 // What a call does to its party's draft and to the work at the place that it names (contract 7.3 to 7.11).
-use border::Judged;
 use calls::Action;
 use calls::PLACES;
 use calls::Question;
@@ -8,6 +7,7 @@ use chart::Point;
 use chart::Verdict;
 use draft::Draft;
 use draft::Drafted;
+use judge::Judged;
 use work::Work;
 ghost use mathlib.Core.Bool.{cond};
 ghost use mathlib.Core.Path.{_≡_};

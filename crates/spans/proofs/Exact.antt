@@ -17,16 +17,16 @@ use Rattle.lattice.specs.Refusals.{Simple}
 use Rattle.lattice.proofs.WalkLaws.{walked}
 use Rattle.lattice.proofs.RightHand.{ups-rotation, downs-rotation}
 use Rattle.rows.specs.Search.{upColumn, downColumn}
-use Rattle.rows.specs.Rows.{rows}
+use Rattle.rows.specs.parts.Rows.{rows}
 use Rattle.rows.proofs.RowLaws.{kept-up, kept-down}
-use Rattle.convexity.specs.Cut.{turn, westPlace, clockwise}
-use Rattle.convexity.specs.Reading.{reading, reversed, border, block}
+use Rattle.convexity.specs.Cut.{fromW, westPlace, clockwise}
+use Rattle.convexity.specs.Clockwise.{clockwiseForm, reversed, border, block}
 use Rattle.convexity.specs.Pieces.{Reaches}
 use Rattle.convexity.specs.Shape.{NoBackStep}
-use Rattle.convexity.proofs.AsSent.{block-turn, clear-of}
+use Rattle.convexity.proofs.AsSent.{block-from-w, clear-of}
 use Rattle.convexity.proofs.Levels.{ups-tally, downs-tally}
-use Rattle.convexity.proofs.Reading.{reading-clockwise, reading-backward, simple-reading, ups-backward, downs-backward}
-use Rattle.convexity.proofs.RowEnds.{bottom, top, ups-row, downs-row, ups-off, downs-off, row-ends, row-full, enclosed-row, enclosed-on-chart}
+use Rattle.convexity.proofs.Clockwise.{form-clockwise, form-backward, simple-form, ups-backward, downs-backward}
+use Rattle.convexity.proofs.RowEnds.{bottom, top, ups-row, downs-row, ups-off, downs-off, row-ends, row-convex, enclosed-row, enclosed-on-chart}
 use Rattle.spans.specs.Spans.{lastBelow, rowSpan, lesser, greater, leftSide, rightSide, spansOf, inSpans, spanFrom, spanAt, SpanExact}
 use Rattle.spans.specs.Spans.{Describes}
 use Rattle.spans.specs.declared.Span.{Span}
@@ -47,13 +47,13 @@ abbrev from : ℕ → ℕ → ℕ
 from m c = count (leb m c)
 
 -- The counts of a turn are those of the walk
-turn-ups : (o : Outline) → Simple o → (c r : ℕ) → ups (turn o .start) (turn o .letters) c r ≡ ups (o .start) (o .letters) c r
-unfolding turn
-turn-ups o h c r = ups-rotation o (westPlace o) (walked o h .closed) c r
+from-w-ups : (o : Outline) → Simple o → (c r : ℕ) → ups (fromW o .start) (fromW o .letters) c r ≡ ups (o .start) (o .letters) c r
+unfolding fromW
+from-w-ups o h c r = ups-rotation o (westPlace o) (walked o h .closed) c r
 
-turn-downs : (o : Outline) → Simple o → (c r : ℕ) → downs (turn o .start) (turn o .letters) c r ≡ downs (o .start) (o .letters) c r
-unfolding turn
-turn-downs o h c r = downs-rotation o (westPlace o) (walked o h .closed) c r
+from-w-downs : (o : Outline) → Simple o → (c r : ℕ) → downs (fromW o .start) (fromW o .letters) c r ≡ downs (o .start) (o .letters) c r
+unfolding fromW
+from-w-downs o h c r = downs-rotation o (westPlace o) (walked o h .closed) c r
 
 -- The column of an up that is counted once, or of none; so of a down
 module _ (o : Outline) (r : ℕ) (u d : ℕ → ℕ) (t : Counts o r u d) where
@@ -83,17 +83,17 @@ module _ (o : Outline) (r : ℕ) (u d : ℕ → ℕ) (t : Counts o r u d) where
 
 -- The border's counts are those of the outline as sent, or change places
 as-sent : (o : Outline) → Simple o → (r : ℕ) (u d : ℕ → ℕ) → Counts (border o) r u d → Counts o r u d ⊎ Counts o r d u
-as-sent o h r u d t = go (clockwise (turn o)) refl
+as-sent o h r u d t = go (clockwise (fromW o)) refl
   where
-    read : Counts (reading o) r u d
+    read : Counts (clockwiseForm o) r u d
     read =
-        let s : Simple (reading o) = simple-reading o h in
-        record { up = λ c. sym (turn-ups (reading o) s c r) ∙ t .up c; down = λ c. sym (turn-downs (reading o) s c r) ∙ t .down c }
+        let s : Simple (clockwiseForm o) = simple-form o h in
+        record { up = λ c. sym (from-w-ups (clockwiseForm o) s c r) ∙ t .up c; down = λ c. sym (from-w-downs (clockwiseForm o) s c r) ∙ t .down c }
 
-    go : (b : Bool) → clockwise (turn o) ≡ b → Counts o r u d ⊎ Counts o r d u
-    go true e = inl (subst (λ (v : Outline). Counts v r u d) (reading-clockwise o e) read)
+    go : (b : Bool) → clockwise (fromW o) ≡ b → Counts o r u d ⊎ Counts o r d u
+    go true e = inl (subst (λ (v : Outline). Counts v r u d) (form-clockwise o e) read)
     go false e =
-        let back : Counts (reversed o) r u d = subst (λ (v : Outline). Counts v r u d) (reading-backward o e) read in
+        let back : Counts (reversed o) r u d = subst (λ (v : Outline). Counts v r u d) (form-backward o e) read in
         inr (record { up = λ c. sym (downs-backward o h c r) ∙ back .down c; down = λ c. sym (ups-backward o h c r) ∙ back .up c })
 
 lesser-left : (a b : ℕ) → a ≤ b → lesser a b ≡ a
@@ -226,7 +226,7 @@ module _ (o : Outline) (h : Reaches o) where
   t = border o
 
   enclosed : (c r : ℕ) → (block o c r ≡ true) ↔ (encloses t c r ≡ true)
-  enclosed c r = (λ e. block-turn o (h .simple) c r ∙ e, λ e. sym (block-turn o (h .simple) c r) ∙ e)
+  enclosed c r = (λ e. block-from-w o (h .simple) c r ∙ e, λ e. sym (block-from-w o (h .simple) c r) ∙ e)
 
   -- A cell of row r is enclosed exactly between the row's two sides
   row-exact : (c r : ℕ) → (block o c r ≡ true) ↔ ((leftSide o r ≤ c) × (c < rightSide o r))
@@ -241,7 +241,7 @@ module _ (o : Outline) (h : Reaches o) where
 
       inside : bottom t ≤ r → r < top t → (block o c r ≡ true) ↔ ((leftSide o r ≤ c) × (c < rightSide o r))
       inside low high =
-          let b = between-once o (h .simple) r _ _ (row-full t clear r low high) (record { up = ups-row t clear r low high; down = downs-row t clear r low high }) in
+          let b = between-once o (h .simple) r _ _ (row-convex t clear r low high) (record { up = ups-row t clear r low high; down = downs-row t clear r low high }) in
           let e = enclosed c r in
           let f = row-ends t clear r low high c in
           rw (b .left, b .right) (λ g. f .0 (e .0 g), λ g. e .1 (f .1 g))

@@ -12,7 +12,7 @@ use Rattle.chart.specs.Limits.{side}
 use Rattle.chart.specs.declared.Point.{Point}
 use Rattle.chart.specs.Outline.{Outline}
 use Rattle.lattice.specs.Enclosed.{upAlong, downAlong}
-use Rattle.rows.specs.Search.{numbered, cornerOf, rolled, keptColumn, keptUp, keptDown}
+use Rattle.rows.specs.Search.{numbered, cornerNumbered, wrapped, keptColumn, keptUp, keptDown}
 use Rattle.spans.specs.Spans.{table}
 
 pub length-table : (f : ℕ → ℕ) (i n : ℕ) → length (table f i n) ≡ n
@@ -64,7 +64,7 @@ filled-same h t = record { sized = t .sized; filled = λ m l. t .filled m l ∙ 
 kept-column-le : (along : Point → ℕ → ℕ → Bool) (w : List ℕ) (n r d : ℕ) → d ≤ side → keptColumn along n w r d ≤ side
 unfolding keptColumn
 kept-column-le along [] n r d h = h
-kept-column-le along (a ∷ w) n r d h = kept-column-le along w (rolled n a) r _ (go (along (cornerOf n) a r))
+kept-column-le along (a ∷ w) n r d h = kept-column-le along w (wrapped n a) r _ (go (along (cornerNumbered n) a r))
   where
     go : (x : Bool) → cond x (n % 256) d ≤ side
     go true = omega arith

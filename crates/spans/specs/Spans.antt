@@ -13,7 +13,7 @@ use Rattle.chart.specs.Outline.{Outline}
 use Rattle.calls.specs.declared.Reply.{Reply}
 use Rattle.calls.specs.declared.Reply.the-variants.{Columns as ColumnsReply, None as NoColumns}
 use Rattle.rows.specs.Search.{keptUp, keptDown}
-use Rattle.rows.specs.Rows.{rows}
+use Rattle.rows.specs.parts.Rows.{rows}
 use Rattle.spans.specs.declared.Span.{Span}
 use Rattle.spans.specs.declared.Span.the-variants.{None, Columns}
 use Rattle.spans.specs.declared.Spans.{Spans}

@@ -11,11 +11,11 @@ use Rattle.lattice.specs.Chart.{cornerAt, size, letterAt}
 use Rattle.lattice.specs.Refusals.{leavingPlace}
 use Rattle.lattice.proofs.WalkLaws.{OnChart, corner-zero}
 use Rattle.convexity.specs.Cut.{cornerPlace}
-use Rattle.flags.specs.Flags.{noNumbers, isSet, withNumber}
+use Rattle.flags.specs.parts.Flags.{noNumbers, isSet, withNumber}
 use Rattle.survey.specs.declared.Corners.{Corners}
-use Rattle.survey.specs.Numbers.{colNumber, colStride, offChart, rowNumber, rowStride, lowerOf, higherOf, cornersFrom}
+use Rattle.survey.specs.parts.Numbers.{colNumber, colStride, offChart, rowNumber, rowStride, lowerOf, higherOf, cornersFrom}
 use Rattle.survey.specs.Survey.{cornersOf}
-use Rattle.survey.specs.Walks.{Begun, Out, MetAt, AllRound}
+use Rattle.survey.specs.parts.Walks.{Begun, Out, MetAt, AllRound}
 use Rattle.survey.proofs.NumberLaws.{Visits, west-least, north-least, east-greatest, south-greatest}
 use Rattle.survey.proofs.WalkLaws.{size-small, reached-on-chart, out-start, out-next, out-leaves, rows-next, out-stays, out-number}
 use Rattle.survey.proofs.MetLaws.{Passed, passed-start, met-again, new, passed-next, passed-end}

@@ -12,7 +12,7 @@ use Rattle.lattice.proofs.WalkLaws.{OnChart, point-eq}
 use Rattle.convexity.specs.Frame.{frameOf}
 use Rattle.convexity.specs.Cut.{before, least, cornerPlace}
 use Rattle.convexity.proofs.Extreme.{least-lt}
-use Rattle.survey.specs.Numbers.{colNumber, rowNumber, lowerOf, higherOf, cornerOf, rowOf}
+use Rattle.survey.specs.parts.Numbers.{colNumber, rowNumber, lowerOf, higherOf, cornerRead, rowOf}
 use Rattle.survey.proofs.NumberLaws.{Visits, LeastFirst, GreatestFirst}
 
 module _ (o : Outline) (k : ℕ) where
@@ -62,8 +62,8 @@ module _ {p : Point} {i n : ℕ} (h : OnChart p) (small : i < 1024) where
   pub col-place : n ≡ colNumber p i → n % 1024 ≡ i
   col-place e = omega (arith, h .col, h .row)
 
-  pub col-corner : n ≡ colNumber p i → cornerOf n ≡ p
-  col-corner e = point-eq (cornerOf n) p (omega (arith, h .col, h .row)) (omega (arith, h .col, h .row))
+  pub col-corner : n ≡ colNumber p i → cornerRead n ≡ p
+  col-corner e = point-eq (cornerRead n) p (omega (arith, h .col, h .row)) (omega (arith, h .col, h .row))
 
   pub row-place : n ≡ rowNumber p i → n % 65536 ≡ i
   row-place e = omega (arith, h .col, h .row)

@@ -13,9 +13,9 @@ use Rattle.chart.specs.Outline.{Outline}
 use Rattle.lattice.specs.Chart.{samePoint, cornerAt, size}
 use Rattle.lattice.specs.Refusals.{meets, touchingPlace}
 use Rattle.lattice.proofs.WalkLaws.{same-point-self, not-same-point, absent-first, OnChart}
-use Rattle.flags.specs.Flags.{noNumbers, isSet, withNumber}
+use Rattle.flags.specs.parts.Flags.{noNumbers, isSet, withNumber}
 use Rattle.flags.proofs.FlagLaws.{none-length, none-set, with-length, with-here, with-other}
-use Rattle.survey.specs.Numbers.{rowNumber}
+use Rattle.survey.specs.parts.Numbers.{rowNumber}
 use Rattle.survey.proofs.CheckLaws.{first-zero}
 use Rattle.survey.proofs.NumberLaws.{row-injective}
 

@@ -12,9 +12,9 @@ use Rattle.chart.specs.Outline.{Outline}
 use Rattle.lattice.specs.Chart.{walk, size}
 use Rattle.survey.specs.declared.Surveyed.the-variants.{Passed, Refused as Stopped}
 use Rattle.survey.specs.declared.Corners.{Corners}
-use Rattle.survey.specs.Numbers.{colNumber}
+use Rattle.survey.specs.parts.Numbers.{colNumber}
 use Rattle.survey.specs.Survey.{cornersOf, surveyOf}
-use Rattle.survey.specs.Walks.{Begun}
+use Rattle.survey.specs.parts.Walks.{Begun}
 use Rattle.survey.proofs.WalkLaws.{away-unclosed}
 
 -- A place below the bound, and one at it

@@ -5,7 +5,7 @@ use chart::Refusal;
 ghost use mathlib.Core.Path.{_≡_};
 ghost use Rattle.chart.specs.Outline.{outline};
 ghost use Rattle.survey.specs.Survey.{surveyOf};
-ghost use Rattle.survey.specs.Walks.{Begun, MetAt};
+ghost use Rattle.survey.specs.parts.Walks.{Begun, MetAt};
 
 pub mod checks;
 mod walk;

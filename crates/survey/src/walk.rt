@@ -10,8 +10,8 @@ ghost use lib.Dec.{eqb};
 ghost use Rattle.chart.specs.Limits.{side};
 ghost use Rattle.chart.specs.declared.Point.{Point};
 ghost use Rattle.chart.specs.Outline.{outline};
-ghost use Rattle.survey.specs.Numbers.{colNumber, colStride, offChart, rowNumber, rowStride, lowerOf, higherOf, cornersFrom};
-ghost use Rattle.survey.specs.Walks.{Begun, Out, RestOf, WalkedAs};
+ghost use Rattle.survey.specs.parts.Numbers.{colNumber, colStride, offChart, rowNumber, rowStride, lowerOf, higherOf, cornersFrom};
+ghost use Rattle.survey.specs.parts.Walks.{Begun, Out, RestOf, WalkedAs};
 
 // The numbers of the corner at which a walk begins.
 fn col_number(p: Point) -> u32

@@ -11,10 +11,10 @@ use mathlib.Core.List.{List}
 use lib.IntN.{ℤ, pos, _+ℤ_}
 use Rattle.base.proofs.IntegerOrder.{AtMost}
 use Rattle.convexity.specs.Inside.{colSteps, rowSteps, lowestMet, highestMet, insideAt}
-use Rattle.turning.specs.CornerHull.{Met, start, after}
-use Rattle.turning.proofs.Corners.{Leaves, first, later}
-use Rattle.turning.proofs.Passing.{Passed, passes-iff, Inner, none-outside, corner-inner}
-use Rattle.turning.proofs.Means.{Reach, met-col, met-row, lowest-least, highest-most}
+use Rattle.directions.specs.CornerHull.{Met, start, after}
+use Rattle.directions.proofs.Corners.{Leaves, first, later}
+use Rattle.directions.proofs.Passing.{Passed, passes-iff, Inner, none-outside, corner-inner}
+use Rattle.directions.proofs.Means.{Reach, met-col, met-row, lowest-least, highest-most}
 use Rattle.nesting.specs.Cells.{Polygon, Fit}
 use Rattle.nesting.proofs.Means.{inside-of-parts, within-of}
 use Rattle.nesting.proofs.Within.{MetBy, corner-place}

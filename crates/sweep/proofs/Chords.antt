@@ -8,8 +8,8 @@ use lib.IntN.{ℤ, pos, _+ℤ_, _-ℤ_}
 use Rattle.base.proofs.IntegerOrder.{up, down}
 use Rattle.base.proofs.Differences.{Is, is-self, is-add, is-minus}
 use Rattle.convexity.specs.Inside.{sideValue}
-use Rattle.turning.proofs.Cross.{is-cross, side-cross}
-use Rattle.turning.proofs.Directions.{Least0}
+use Rattle.directions.proofs.Cross.{is-cross, side-cross}
+use Rattle.directions.proofs.Directions.{Least0}
 
 -- ---- numbers
 

@@ -10,10 +10,10 @@ use Rattle.base.specs.Same.{sameℤ}
 use Rattle.base.proofs.Same.{same-ℤ, same-self}
 use Rattle.chart.specs.Limits.{side}
 use Rattle.convexity.specs.Inside.{sideValue}
-use Rattle.turning.specs.CornerHull.{Met, start, after}
-use Rattle.turning.proofs.Corners.{Leaves, first, later}
+use Rattle.directions.specs.CornerHull.{Met, start, after}
+use Rattle.directions.proofs.Corners.{Leaves, first, later}
 use Rattle.nesting.specs.Rows.{edgeFrom, edgeTo, startAt, endAfter}
-use Rattle.sweep.specs.Sweep.{between, cornerFrom, cornerTo, riseFrom, fallTo, sweptFrom, sweptTo}
+use Rattle.sweep.specs.parts.Sweep.{between, cornerFrom, cornerTo, riseFrom, fallTo, sweptFrom, sweptTo}
 
 -- What has its column at c or before it, and what has its end after c
 pub data FromItem (es : List ℤ) (x y : ℤ) (r c : ℕ) : Type 0 where

@@ -15,17 +15,17 @@ use borrow.Author.Tests.{ltb-true, lt-ltb}
 use Rattle.base.proofs.IntegerOrder.{up, down, AtMost, at-most-iff, not-at-most}
 use Rattle.chart.specs.Limits.{side}
 use Rattle.convexity.specs.Inside.{sideValue, colSteps, rowSteps, minℤ, maxℤ, lowestMet, highestMet, insideAt}
-use Rattle.turning.specs.CornerHull.{Met, start, after}
-use Rattle.turning.proofs.Directions.{Least0}
-use Rattle.turning.proofs.Means.{Reach, met-row, lowest-least, highest-most}
-use Rattle.turning.proofs.Passing.{Passed, passes-iff, Inner, inner}
+use Rattle.directions.specs.CornerHull.{Met, start, after}
+use Rattle.directions.proofs.Directions.{Least0}
+use Rattle.directions.proofs.Means.{Reach, met-row, lowest-least, highest-most}
+use Rattle.directions.proofs.Passing.{Passed, passes-iff, Inner, inner}
 use Rattle.nesting.specs.Cells.{Polygon, Fit, Holds}
 use Rattle.nesting.specs.Rows.{edgeFrom, edgeTo, startAt, endAfter}
 use Rattle.nesting.proofs.CornerTests.{Place}
 use Rattle.nesting.proofs.Means.{inside-parts, within-parts}
 use Rattle.nesting.proofs.Runs.{In, side-column, edge-in, in-edge, start-iff, end-iff}
 use Rattle.nesting.proofs.Within.{MetBy, corner-place, holds-iff}
-use Rattle.sweep.specs.Sweep.{between, rowFrom, rowTo}
+use Rattle.sweep.specs.parts.Sweep.{between, rowFrom, rowTo}
 use Rattle.sweep.proofs.Through.{turns}
 use Rattle.sweep.proofs.Chords.{Passes, Natural, is-ey, side-passes}
 use Rattle.sweep.proofs.Between.{leaves-start, leaves-finish, EdgeOf, natural, Chord, NotLeft, NotRight, chords-inside}

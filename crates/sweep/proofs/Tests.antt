@@ -18,8 +18,8 @@ use Rattle.nesting.proofs.Runs.{In}
 use Rattle.nesting.proofs.Within.{within-iff-test}
 use Rattle.nesting.proofs.Meet.{held-below, meet-iff-test}
 use Rattle.nesting.proofs.Answer.{answer-iff}
-use Rattle.sweep.specs.Sweep.{rowFrom, rowTo}
-use Rattle.sweep.specs.Tests.{runWithin, runsMeet, rowsWithin, rowsApart}
+use Rattle.sweep.specs.parts.Sweep.{rowFrom, rowTo}
+use Rattle.sweep.specs.parts.Tests.{runWithin, runsMeet, rowsWithin, rowsApart}
 use Rattle.sweep.proofs.Runs.{run-holds, run-below}
 
 -- ---- two runs

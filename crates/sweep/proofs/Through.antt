@@ -3,8 +3,8 @@ use mathlib.Core.Path.{_≡_, refl, sym, _∙_}
 use mathlib.Core.Bool.{Bool, true, false, true≢false}
 use mathlib.Core.List.{List, _∷_}
 use lib.IntN.{ℤ, _+ℤ_}
-use Rattle.turning.specs.CornerHull.{Met, start, after}
-use Rattle.turning.proofs.Corners.{Ends, Leaves, first, later}
+use Rattle.directions.specs.CornerHull.{Met, start, after}
+use Rattle.directions.proofs.Corners.{Ends, Leaves, first, later}
 
 -- An edge along which the test turns true
 pub record Turns (P : ℤ → Bool) (es : List ℤ) (x y : ℤ) : Type 0 where

@@ -1,3 +1,2 @@
 -- The columns of each row by one walk along the edges; two polygons compared row by row.
-pub mod Sweep
-pub mod Tests
+pub mod parts

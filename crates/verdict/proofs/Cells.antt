@@ -14,7 +14,7 @@ use Rattle.chart.specs.declared.Verdict.the-variants.{Taken, Refused}
 use Rattle.chart.specs.Outline.{Outline}
 use Rattle.chart.specs.Fields.{verdictFields}
 use Rattle.lattice.specs.Hull.{Missing, LowestMissing}
-use Rattle.convexity.specs.Reading.{border, block}
+use Rattle.convexity.specs.Clockwise.{border, block}
 use Rattle.convexity.specs.Pieces.{Reaches, IsAnchor, edges}
 use Rattle.convexity.specs.Inside.{insideEdges}
 use Rattle.convexity.proofs.AsSent.{edges-answer-sent, dented-iff-missing, named-lowest, west-anchor}
@@ -66,10 +66,10 @@ module _ (o : Outline) where
           ]
 
   -- A taken outline's anchor and edges, as they stand in the lent list, answer for its cells
-  pub taken-answers : (lent : List ℤ) (n : ℕ) (a : Point) → testOf o (length lent) ≡ Taken n a → (x : Point) → x .col < side → x .row < side
-      → insideEdges a (take (2 * n) (edgesAfter o lent)) x ≡ block o (x .col) (x .row)
-  taken-answers lent n a e x i j =
-      let f : TakenFacts o n a = taken-facts o n a (roomy o (length lent) n a e .said) in
-      ap (λ (es : List ℤ). insideEdges a es x) (edges-first o lent n a e) ∙
+  pub taken-answers : (buffer : List ℤ) (n : ℕ) (a : Point) → testOf o (length buffer) ≡ Taken n a → (x : Point) → x .col < side → x .row < side
+      → insideEdges a (take (2 * n) (edgesAfter o buffer)) x ≡ block o (x .col) (x .row)
+  taken-answers buffer n a e x i j =
+      let f : TakenFacts o n a = taken-facts o n a (roomy o (length buffer) n a e .said) in
+      ap (λ (es : List ℤ). insideEdges a es x) (edges-first o buffer n a e) ∙
       (ap (λ (b : Point). insideEdges b (edges (border o)) x) (f .anchor) ∙
       edges-answer-sent o (f .reaches) (f .undented) x i j)

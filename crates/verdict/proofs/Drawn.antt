@@ -11,18 +11,18 @@ use Rattle.chart.specs.Outline.{Outline}
 use Rattle.chart.specs.Fields.{verdictFields}
 use Rattle.lattice.specs.Refusals.{Simple}
 use Rattle.survey.proofs.SurveyLaws.{survey-passed}
-use Rattle.convexity.specs.Cut.{turn}
-use Rattle.convexity.specs.Reading.{reversed, reading, border, placeSent}
+use Rattle.convexity.specs.Cut.{fromW}
+use Rattle.convexity.specs.Clockwise.{reversed, clockwiseForm, border, placeSent}
 use Rattle.convexity.specs.Pieces.{backStepPiece, dentPiece, edgeCount}
 use Rattle.convexity.specs.SameBlock.{SameCells}
-use Rattle.convexity.proofs.Reading.{simple-backward, reading-of-backward}
-use Rattle.convexity.proofs.SameBlock.{same-turn-iff}
-use Rattle.verdict.specs.Verdict.{backStepIn, dentIn, turnVerdict, borderVerdict, afterSurvey, verdictOf}
+use Rattle.convexity.proofs.Clockwise.{simple-backward, form-of-backward}
+use Rattle.convexity.proofs.SameBlock.{same-from-w-iff}
+use Rattle.verdict.specs.Verdict.{backStepIn, dentIn, roundVerdict, borderVerdict, afterSurvey, verdictOf}
 use Rattle.verdict.specs.Drawn.{SameButPlace}
 
 -- Only the places come from the list as sent
-said-alike : (p q : ℕ → ℕ) (t : Outline) → SameButPlace (verdictFields (turnVerdict p t)) (verdictFields (turnVerdict q t))
-unfolding turnVerdict backStepIn dentIn
+said-alike : (p q : ℕ → ℕ) (t : Outline) → SameButPlace (verdictFields (roundVerdict p t)) (verdictFields (roundVerdict q t))
+unfolding roundVerdict backStepIn dentIn
 said-alike p q t = go (ltb (backStepPiece t) 4) (ltb (dentPiece t) 4)
   where
     go :
@@ -35,7 +35,7 @@ said-alike p q t = go (ltb (backStepPiece t) 4) (ltb (dentPiece t) 4)
     go false false = record { number = refl; word = refl; piece = refl; length = refl; col = refl; row = refl; edges = λ z. refl }
 
 -- Past 1 to 6 the border decides
-verdict-border : (o : Outline) → Simple o → verdictOf o ≡ turnVerdict (placeSent o) (border o)
+verdict-border : (o : Outline) → Simple o → verdictOf o ≡ roundVerdict (placeSent o) (border o)
 unfolding verdictOf afterSurvey borderVerdict
 verdict-border o h = rw (← survey-passed o h)
 
@@ -44,11 +44,11 @@ same-border-verdict o v h k e = rw (verdict-border o h, verdict-border v k, e) (
 
 -- Outlines past 1 to 6 of the same block get the same reply, places apart
 pub same-block-verdict : (o v : Outline) → Simple o → Simple v → SameCells o v → SameButPlace (verdictFields (verdictOf o)) (verdictFields (verdictOf v))
-same-block-verdict o v h k same = same-border-verdict o v h k (same-turn-iff o v h k .0 same)
+same-block-verdict o v h k same = same-border-verdict o v h k (same-from-w-iff o v h k .0 same)
 
 -- So does an outline drawn backward, and taken it has the same anchor and the same edges
 pub backward-border : (o : Outline) → Simple o → border (reversed o) ≡ border o
-backward-border o h = ap turn (reading-of-backward o h)
+backward-border o h = ap fromW (form-of-backward o h)
 
 pub backward-verdict : (o : Outline) → Simple o → SameButPlace (verdictFields (verdictOf (reversed o))) (verdictFields (verdictOf o))
 backward-verdict o h = same-border-verdict (reversed o) o (simple-backward o h) h (backward-border o h)

@@ -4,6 +4,6 @@ pub mod Specimens
 pub mod VerdictLaws
 pub mod Cells
 pub mod Drawn
-pub mod Full
+pub mod Convex
 pub mod Rule
 pub mod RuleSpecimens

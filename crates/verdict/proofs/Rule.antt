@@ -23,7 +23,7 @@ use Rattle.chart.specs.declared.Verdict.the-variants.{Taken, Refused}
 use Rattle.chart.specs.Outline.{Outline}
 use Rattle.lattice.specs.Hull.{LowestMissing}
 use Rattle.convexity.specs.Frame.{frameOf}
-use Rattle.convexity.specs.Reading.{border, block, placeSent}
+use Rattle.convexity.specs.Clockwise.{border, block, placeSent}
 use Rattle.convexity.specs.Pieces.{Reaches, word, factors, dentAt, dentLength, dentPiece, edgesOf, edges, edgeCount, IsAnchor}
 use Rattle.convexity.proofs.Smooth.{dent-first}
 use Rattle.lattice.proofs.HullLaws.{lowest-unique}

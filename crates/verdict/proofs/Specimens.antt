@@ -10,20 +10,20 @@ use Rattle.base.specs.Each.{all}
 use Rattle.base.proofs.EachLaws.{all-at}
 use Rattle.chart.proofs.Tables.{same-fields}
 use Rattle.verdict.specs.Verdict.{testFields, edgesAfter}
-use Rattle.verdict.specs.Specimens.{Specimen, Holds, specimens, right, lent, at}
+use Rattle.verdict.specs.Specimens.{Specimen, Holds, specimens, right, buffer, at}
 use Rattle.verdict.proofs.Computes.{computes}
 
 right-holds : (h : Specimen) → right h ≡ true → Holds h
 unfolding right
 right-holds h e =
     let both =
-    and-eq-true-iff (sameFields (testFields (h .outline) (length lent)) (h .fields))
-    (sameℤs (edgesAfter (h .outline) lent) (h .edges ++ drop (length (h .edges)) lent)) .0
+    and-eq-true-iff (sameFields (testFields (h .outline) (length buffer)) (h .fields))
+    (sameℤs (edgesAfter (h .outline) buffer) (h .edges ++ drop (length (h .edges)) buffer)) .0
     e in
     record { replied = same-fields _ _ (both .0); written = same-ℤs _ _ (both .1) }
 
 computed : all right specimens ≡ true
-unfolding all right sameFields sameℤs sameℤ specimens at lent computes
+unfolding all right sameFields sameℤs sameℤ specimens at buffer computes
 computed = refl
 
 -- H1 to H12, and the start above 255

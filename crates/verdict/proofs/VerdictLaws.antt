@@ -27,11 +27,11 @@ use Rattle.survey.specs.declared.Surveyed.{Surveyed}
 use Rattle.survey.specs.declared.Surveyed.the-variants.{Refused as Stopped}
 use Rattle.survey.specs.Survey.{surveyOf}
 use Rattle.survey.proofs.SurveyLaws.{survey-passed}
-use Rattle.convexity.specs.Reading.{border, placeSent}
+use Rattle.convexity.specs.Clockwise.{border, placeSent}
 use Rattle.convexity.specs.Pieces.{backStepPiece, factors, dentLength, dentPiece, edges, edgeCount, Reaches}
 use Rattle.convexity.proofs.Bounds.{edges-length}
 use Rattle.convexity.proofs.EdgeBound.{edges-fit}
-use Rattle.verdict.specs.Verdict.{backStepIn, dentIn, turnVerdict, borderVerdict, afterSurvey, verdictOf, withRoom, testOf, lentAfter, edgesAfter}
+use Rattle.verdict.specs.Verdict.{backStepIn, dentIn, roundVerdict, borderVerdict, afterSurvey, verdictOf, withRoom, testOf, bufferAfter, edgesAfter}
 use Rattle.verdict.specs.Dents.{Dented, dentOf}
 
 -- ---- refusals 1 to 8
@@ -96,7 +96,7 @@ module _ (o : Outline) where
 
   -- None of 1 to 8 applies, or one of them is the answer
   pub reaches-or-early : Reaches o ⊎ Early 8 (verdictOf o)
-  unfolding verdictOf borderVerdict turnVerdict backStepIn afterSurvey
+  unfolding verdictOf borderVerdict roundVerdict backStepIn afterSurvey
   reaches-or-early =
       ⊎-elim straight (λ e. inr (record { refusal = e .refusal; some = e .some; early = omega (arith, e .early); answer = e .answer }))
       simple-or-early
@@ -121,7 +121,7 @@ module _ (o : Outline) where
 
   -- Past 1 to 8 the dent decides
   verdict-past-eight : Reaches o → verdictOf o ≡ cond (ltb dent 4) (Refused (dentOf o)) (Taken count (border o .start))
-  unfolding verdictOf borderVerdict turnVerdict dentOf afterSurvey
+  unfolding verdictOf borderVerdict roundVerdict dentOf afterSurvey
   verdict-past-eight r = rw (← survey-passed o (r .simple), r .straight)
 
   pub verdict-dented : Dented o → verdictOf o ≡ Refused (dentOf o)
@@ -217,18 +217,18 @@ module _ (o : Outline) where
 
   -- ---- the lent list afterwards
 
-  pub edges-after : (lent : List ℤ) (n : ℕ) (a : Point) → testOf o (length lent) ≡ Taken n a →
-      edgesAfter o lent ≡ edges (border o) ++ drop (length (edges (border o))) lent
-  unfolding edgesAfter lentAfter
-  edges-after lent n a e = rw e
+  pub edges-after : (buffer : List ℤ) (n : ℕ) (a : Point) → testOf o (length buffer) ≡ Taken n a →
+      edgesAfter o buffer ≡ edges (border o) ++ drop (length (edges (border o))) buffer
+  unfolding edgesAfter bufferAfter
+  edges-after buffer n a e = rw e
 
-  pub edges-refused : (lent : List ℤ) (f : Refusal) → testOf o (length lent) ≡ Refused f → edgesAfter o lent ≡ lent
-  unfolding edgesAfter lentAfter
-  edges-refused lent f e = rw e
+  pub edges-refused : (buffer : List ℤ) (f : Refusal) → testOf o (length buffer) ≡ Refused f → edgesAfter o buffer ≡ buffer
+  unfolding edgesAfter bufferAfter
+  edges-refused buffer f e = rw e
 
-  pub edges-first : (lent : List ℤ) (n : ℕ) (a : Point) → testOf o (length lent) ≡ Taken n a
-      → take (2 * n) (edgesAfter o lent) ≡ edges (border o)
-  edges-first lent n a e =
-      let k : TakenFacts n a = taken-facts n a (roomy (length lent) n a e .said) in
-      ap (take (2 * n)) (edges-after lent n a e) ∙
-      take-at (edges (border o)) (drop (length (edges (border o))) lent) (2 * n) (edges-length (border o) ∙ ap (λ (j : ℕ). 2 * j) (sym (k .count)))
+  pub edges-first : (buffer : List ℤ) (n : ℕ) (a : Point) → testOf o (length buffer) ≡ Taken n a
+      → take (2 * n) (edgesAfter o buffer) ≡ edges (border o)
+  edges-first buffer n a e =
+      let k : TakenFacts n a = taken-facts n a (roomy (length buffer) n a e .said) in
+      ap (take (2 * n)) (edges-after buffer n a e) ∙
+      take-at (edges (border o)) (drop (length (edges (border o))) buffer) (2 * n) (edges-length (border o) ∙ ap (λ (j : ℕ). 2 * j) (sym (k .count)))

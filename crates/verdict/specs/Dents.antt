@@ -2,7 +2,7 @@
 use Prim.Native.Nat.{_<_}
 use Rattle.chart.specs.declared.Refusal.{Refusal}
 use Rattle.chart.specs.Outline.{Outline}
-use Rattle.convexity.specs.Reading.{border, placeSent}
+use Rattle.convexity.specs.Clockwise.{border, placeSent}
 use Rattle.convexity.specs.Pieces.{dentPiece, Reaches}
 use Rattle.verdict.specs.Verdict.{dentIn}
 

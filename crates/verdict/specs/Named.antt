@@ -4,7 +4,7 @@ use Rattle.chart.specs.declared.Point.{Point}
 use Rattle.chart.specs.declared.Fields.{Fields}
 use Rattle.chart.specs.Outline.{Outline}
 use Rattle.lattice.specs.Hull.{LowestMissing}
-use Rattle.convexity.specs.Reading.{block}
+use Rattle.convexity.specs.Clockwise.{block}
 use Rattle.convexity.specs.Pieces.{IsAnchor}
 
 -- The cell of a reply

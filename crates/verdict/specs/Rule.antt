@@ -16,7 +16,7 @@ use Rattle.chart.specs.Outline.{Outline}
 use Rattle.lattice.specs.Hull.{LowestMissing}
 use Rattle.convexity.specs.Frame.{frameOf}
 use Rattle.convexity.specs.Cut.{cut}
-use Rattle.convexity.specs.Reading.{border, block, placeSent}
+use Rattle.convexity.specs.Clockwise.{border, block, placeSent}
 use Rattle.convexity.specs.Pieces.{word, edgesOf, edges, IsAnchor}
 use Rattle.verdict.specs.Verdict.{verdictOf}
 

@@ -20,19 +20,19 @@ pub record Specimen : Type 0 where
   pub edges : List ℤ
 
 -- A list lent for sixteen edges
-unfoldable pub lent : List ℤ
-lent = replicate 32 (pos 99)
+unfoldable pub buffer : List ℤ
+buffer = replicate 32 (pos 99)
 
 -- The test replies the row's fields, and the lent list then has the row's edges first and is otherwise unaltered
 unfoldable pub right : Specimen → Bool
 right h =
-    sameFields (testFields (h .outline) (length lent)) (h .fields) &&
-    sameℤs (edgesAfter (h .outline) lent) (h .edges ++ drop (length (h .edges)) lent)
+    sameFields (testFields (h .outline) (length buffer)) (h .fields) &&
+    sameℤs (edgesAfter (h .outline) buffer) (h .edges ++ drop (length (h .edges)) buffer)
 
 -- What a row says: the test replies its fields, and the lent list has its edges first and the rest unaltered
 pub record Holds (h : Specimen) : Type 0 where
-  pub replied : testFields (h .outline) (length lent) ≡ h .fields
-  pub written : edgesAfter (h .outline) lent ≡ h .edges ++ drop (length (h .edges)) lent
+  pub replied : testFields (h .outline) (length buffer) ≡ h .fields
+  pub written : edgesAfter (h .outline) buffer ≡ h .edges ++ drop (length (h .edges)) buffer
 
 -- A start; an outline taken; one refused
 unfoldable pub at : ℕ → ℕ → Point

@@ -19,7 +19,7 @@ use Rattle.survey.specs.declared.Surveyed.the-variants.{Passed, Refused as Stop
 use Rattle.survey.specs.Survey.{surveyOf}
 use Rattle.rows.specs.Search.{missingCell}
 use Rattle.convexity.specs.Cut.{cornerPlace, cut}
-use Rattle.convexity.specs.Reading.{border, placeSent}
+use Rattle.convexity.specs.Clockwise.{border, placeSent}
 use Rattle.convexity.specs.Pieces.{backStepAt, backStepPiece, factors, dentAt, dentLength, dentPiece, edges, edgeCount}
 
 -- 8, in piece k of a turn t from W: the first letter that is none of the piece's two
@@ -35,14 +35,14 @@ unfoldable pub dentIn : (ℕ → ℕ) → Outline → ℕ → Refusal
 dentIn place t k = Dent (suc k) (place (cut t k + 1 + dentAt (factors t k))) (dentLength (factors t k)) (cellFound t)
 
 -- 8 and 9 of a turn from W, or taken: the count of edges, and the anchor, which is the cell at W
-unfoldable pub turnVerdict : (ℕ → ℕ) → Outline → Verdict
-turnVerdict place t =
+unfoldable pub roundVerdict : (ℕ → ℕ) → Outline → Verdict
+roundVerdict place t =
     cond (ltb (backStepPiece t) 4) (Refused (backStepIn place t (backStepPiece t)))
     (cond (ltb (dentPiece t) 4) (Refused (dentIn place t (dentPiece t))) (Taken (edgeCount t) (t .start)))
 
 -- 8 and 9 of an outline, or taken: those of its border, with places in the list as sent
 unfoldable pub borderVerdict : Outline → Verdict
-borderVerdict o = turnVerdict (placeSent o) (border o)
+borderVerdict o = roundVerdict (placeSent o) (border o)
 
 -- What 1 to 6 say, or else what is said further on
 unfoldable pub afterSurvey : Surveyed → Verdict → Verdict
@@ -67,9 +67,9 @@ unfoldable pub testFields : Outline → ℕ → Fields
 testFields o m = verdictFields (testOf o m)
 
 -- A lent list afterwards: the edges stand first in it and the rest is unaltered; where the outline is refused, all of it is
-unfoldable pub lentAfter : Verdict → List ℤ → List ℤ → List ℤ
-lentAfter (Taken n a) es lent = es ++ drop (length es) lent
-lentAfter (Refused f) es lent = lent
+unfoldable pub bufferAfter : Verdict → List ℤ → List ℤ → List ℤ
+bufferAfter (Taken n a) es buffer = es ++ drop (length es) buffer
+bufferAfter (Refused f) es buffer = buffer
 
 unfoldable pub edgesAfter : Outline → List ℤ → List ℤ
-edgesAfter o lent = lentAfter (testOf o (length lent)) (edges (border o)) lent
+edgesAfter o buffer = bufferAfter (testOf o (length buffer)) (edges (border o)) buffer

@@ -54,5 +54,5 @@ decoded s =
     Nothing
 
 -- The call that is answered: none where a reply has no room in so many numbers
-unfoldable pub heard : List ℕ → ℕ → Decoded
-heard call room = cond (leb replyWidth room) (decoded call) Nothing
+unfoldable pub received : List ℕ → ℕ → Decoded
+received call room = cond (leb replyWidth room) (decoded call) Nothing

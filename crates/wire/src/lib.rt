@@ -6,7 +6,7 @@ use chart::Point;
 use chart::reply::NUMBERS;
 use readings::from_bits;
 ghost use mathlib.Core.Path.{_≡_};
-ghost use Rattle.wire.specs.Wire.{long as longOf, shortOf, letterOf, pointOf, callOf, decoded as decodedOf, heard as heardOf};
+ghost use Rattle.wire.specs.Wire.{long as longOf, shortOf, letterOf, pointOf, callOf, decoded as decodedOf, received as receivedOf};
 
 // How many bytes a call is.
 pub const BYTES: usize = 11;
@@ -90,8 +90,8 @@ fn decode(call: &[u8]) -> Decoded
 }
 
 // The call to be answered: none where there is no room for the reply.
-pub fn heard(call: &[u8], room: usize) -> Decoded
-    ensures { λ r. ⌜ r ≡ heardOf (now (call .entry)) room ⌝ }
+pub fn received(call: &[u8], room: usize) -> Decoded
+    ensures { λ r. ⌜ r ≡ receivedOf (now (call .entry)) room ⌝ }
 {
     if room < NUMBERS {
         return Decoded::Nothing;

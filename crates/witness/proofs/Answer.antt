@@ -11,7 +11,7 @@ use lib.Dec.{ltb}
 use borrow.Author.Tests.{lt-ltb, le-ltb}
 use Rattle.chart.specs.declared.Point.{Point}
 use Rattle.chart.specs.declared.Refusal.{Refusal}
-use Rattle.chart.specs.declared.Refusal.the-variants.{Count, Start, Letter, Leaves, Unclosed, Touches, BackStep, Dent, Room, List as BadList, Cell, Turning}
+use Rattle.chart.specs.declared.Refusal.the-variants.{Count, Start, Letter, Leaves, Unclosed, Touches, BackStep, Dent, Room, List as BadList, Cell, Directions}
 use Rattle.chart.specs.Fields.{refusalFields}
 use Rattle.chart.specs.Outline.{Outline}
 use Rattle.calls.specs.Replies.{none}
@@ -42,7 +42,7 @@ above (Dent k p l x) = omega arith
 above (Room e) = omega arith
 above BadList = omega arith
 above Cell = omega arith
-above Turning = omega arith
+above Directions = omega arith
 
 module _ (o : Outline) where
   -- ---- the answer

@@ -18,11 +18,11 @@ use Rattle.lattice.proofs.WalkLaws.{point, point-eq, walked}
 use Rattle.lattice.proofs.Jumps.{upsTo, downsTo, upsAt, downsAt, ups-jump-vertical, downs-jump-vertical, ups-found, downs-found}
 use Rattle.lattice.proofs.RightHand.{rightOf, leftOf, Lowest, clockwise-left}
 use Rattle.convexity.specs.Cut.{westPlace}
-use Rattle.convexity.specs.Reading.{reading, border, block}
-use Rattle.convexity.proofs.Reading.{simple-reading, clockwise-reading, west-first, leaving-west}
+use Rattle.convexity.specs.Clockwise.{clockwiseForm, border, block}
+use Rattle.convexity.proofs.Clockwise.{simple-form, clockwise-form, west-first, leaving-west}
 use Rattle.convexity.proofs.Levels.{Out, enclosed-level, level-enclosed, level-open, first-lowest, leaves-upwards}
 use Rattle.completion.specs.Complete.{firstCell, pastCell, firstRow, pastRow}
-use Rattle.completion.specs.Sides.{alongRow, firstSide, lastSide, lowestCorner, highestCorner}
+use Rattle.completion.specs.parts.Sides.{alongRow, firstSide, lastSide, lowestCorner, highestCorner}
 use Rattle.completion.proofs.HullRows.{Ends}
 use Rattle.completion.proofs.BlockEnds.{JoinedUp, block-joined, ends}
 use Rattle.completion.proofs.Folds.{Met, least-met, least-is-met, least-le}
@@ -37,37 +37,37 @@ col-is : {p q : Point} → p ≡ q → p .col ≡ q .col
 col-is e = ap (λ (x : Point). x .col) e
 
 module _ (o : Outline) (h : Simple o) where
-  w : Walked (reading o)
-  w = walked (reading o) (simple-reading o h)
+  w : Walked (clockwiseForm o)
+  w = walked (clockwiseForm o) (simple-form o h)
 
-  lowest : Lowest (reading o) (westPlace (reading o))
-  lowest = first-lowest (reading o) (westPlace (reading o)) (west-first (reading o) w)
+  lowest : Lowest (clockwiseForm o) (westPlace (clockwiseForm o))
+  lowest = first-lowest (clockwiseForm o) (westPlace (clockwiseForm o)) (west-first (clockwiseForm o) w)
 
-  up : letterAt (reading o) (westPlace (reading o)) ≡ 1
-  up = sym (leaving-west (reading o) w) ∙ leaves-upwards (border o) (clockwise-reading o h)
+  up : letterAt (clockwiseForm o) (westPlace (clockwiseForm o)) ≡ 1
+  up = sym (leaving-west (clockwiseForm o) w) ∙ leaves-upwards (border o) (clockwise-form o h)
 
   -- Without a side the next cell is as the one before
   goes-on : (c r : ℕ) → block o c r ≡ true → (Side o r (suc c) → ⊥) → block o (suc c) r ≡ true
   goes-on c r e n =
-      level-enclosed (reading o) (point (suc c) r)
-      (omega (arith, enclosed-level (reading o) (point c r) e, ups-jump-vertical (reading o) (suc c) (suc r), downs-jump-vertical (reading o) (suc c) (suc r), no-ups, no-downs))
+      level-enclosed (clockwiseForm o) (point (suc c) r)
+      (omega (arith, enclosed-level (clockwiseForm o) (point c r) e, ups-jump-vertical (clockwiseForm o) (suc c) (suc r), downs-jump-vertical (clockwiseForm o) (suc c) (suc r), no-ups, no-downs))
     where
-      no-ups : upsAt (reading o) (suc c) (suc r) ≡ 0
+      no-ups : upsAt (clockwiseForm o) (suc c) (suc r) ≡ 0
       no-ups =
-          elim (decLe 1 (upsAt (reading o) (suc c) (suc r))) [
+          elim (decLe 1 (upsAt (clockwiseForm o) (suc c) (suc r))) [
             | no k ↦ omega arith
             | yes k ↦
-                let (i, l, a, d, _) = ups-found (reading o) (suc c) (suc r) k in
-                absurd (n (side-sent o h r (suc c) (record { place = i; below = l; passes = along-up r (cornerAt (reading o) i) (letterAt (reading o) i) a (row-is d ∙ omega arith); said = col-is d })))
+                let (i, l, a, d, _) = ups-found (clockwiseForm o) (suc c) (suc r) k in
+                absurd (n (side-sent o h r (suc c) (record { place = i; below = l; passes = along-up r (cornerAt (clockwiseForm o) i) (letterAt (clockwiseForm o) i) a (row-is d ∙ omega arith); said = col-is d })))
           ]
 
-      no-downs : downsAt (reading o) (suc c) (suc r) ≡ 0
+      no-downs : downsAt (clockwiseForm o) (suc c) (suc r) ≡ 0
       no-downs =
-          elim (decLe 1 (downsAt (reading o) (suc c) (suc r))) [
+          elim (decLe 1 (downsAt (clockwiseForm o) (suc c) (suc r))) [
             | no k ↦ omega arith
             | yes k ↦
-                let (i, l, a, d) = downs-found (reading o) (suc c) (suc r) k in
-                absurd (n (side-sent o h r (suc c) (record { place = i; below = l; passes = along-down r (cornerAt (reading o) i) (letterAt (reading o) i) a (row-is d); said = col-is d })))
+                let (i, l, a, d) = downs-found (clockwiseForm o) (suc c) (suc r) k in
+                absurd (n (side-sent o h r (suc c) (record { place = i; below = l; passes = along-down r (cornerAt (clockwiseForm o) i) (letterAt (clockwiseForm o) i) a (row-is d); said = col-is d })))
           ]
 
   -- A side right of an enclosed cell runs down, and the cell beyond it is open
@@ -76,16 +76,16 @@ module _ (o : Outline) (h : Simple o) where
   stops c r e s =
       let m = side-read o h r (suc c) s in
       let i = m .place in
-      let p = cornerAt (reading o) i in
-      let a = letterAt (reading o) i in
-      let k : Out (reading o) (leftOf p a) = clockwise-left (reading o) w (westPlace (reading o)) lowest up i (m .below) in
+      let p = cornerAt (clockwiseForm o) i in
+      let a = letterAt (clockwiseForm o) i in
+      let k : Out (clockwiseForm o) (leftOf p a) = clockwise-left (clockwiseForm o) w (westPlace (clockwiseForm o)) lowest up i (m .below) in
       elim (along-cases r p a (m .passes)) [
         | inl (d, q) ↦
             let cell : leftOf p a ≡ point (suc c) (suc r) = ap (leftOf p) d ∙ point-eq (point (p .col) (suc (p .row))) (point (suc c) (suc r)) (m .said) (ap suc q) in
-            absurd (omega (arith, enclosed-level (reading o) (point c r) e, subst (Out (reading o)) cell k))
+            absurd (omega (arith, enclosed-level (clockwiseForm o) (point c r) e, subst (Out (clockwiseForm o)) cell k))
         | inr (d, q) ↦
             let cell : leftOf p a ≡ point (suc (suc c)) (suc r) = ap (leftOf p) d ∙ point-eq (point (suc (p .col)) (p .row)) (point (suc (suc c)) (suc r)) (ap suc (m .said)) q in
-            level-open (reading o) (point (suc c) r) (subst (Out (reading o)) cell k)
+            level-open (clockwiseForm o) (point (suc c) r) (subst (Out (clockwiseForm o)) cell k)
       ]
 
   -- ---- the rows as the letters give them

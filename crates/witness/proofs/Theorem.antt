@@ -11,21 +11,21 @@ use Rattle.chart.specs.declared.Point.{Point}
 use Rattle.chart.specs.Outline.{Outline}
 use Rattle.chart.specs.Fields.{verdictFields}
 use Rattle.lattice.specs.Chart.{cornerAt}
-use Rattle.lattice.specs.Hull.{InHull, Missing, Full, LowestMissing}
+use Rattle.lattice.specs.Hull.{InHull, Missing, Convex, LowestMissing}
 use Rattle.lattice.specs.Refusals.{Simple}
 use Rattle.lattice.proofs.HullLaws.{lowest-unique, lowest-same}
 use Rattle.rows.specs.Search.{missingCell}
 use Rattle.convexity.specs.Cut.{cornerPlace}
-use Rattle.convexity.specs.Reading.{border, block}
+use Rattle.convexity.specs.Clockwise.{border, block}
 use Rattle.convexity.specs.Pieces.{Reaches, dentPiece}
 use Rattle.convexity.specs.SameBlock.{SameCells}
 use Rattle.convexity.proofs.AsSent.{named-lowest}
 use Rattle.verdict.specs.Verdict.{verdictOf}
 use Rattle.verdict.specs.Named.{cellOf}
 use Rattle.verdict.proofs.Cells.{verdict-named}
-use Rattle.verdict.proofs.Full.{taken-iff-full}
+use Rattle.verdict.proofs.Convex.{taken-iff-convex}
 use Rattle.completion.specs.Complete.{firstCell, pastCell, firstRow, pastRow}
-use Rattle.completion.specs.Sides.{firstSide, lastSide, lowestCorner, highestCorner}
+use Rattle.completion.specs.parts.Sides.{firstSide, lastSide, lowestCorner, highestCorner}
 use Rattle.completion.proofs.Sides.{first-side, last-side, lowest-corner, highest-corner}
 use Rattle.witness.specs.Witness.{Witness}
 use Rattle.witness.specs.Three.{Three, threeFor}
@@ -44,14 +44,14 @@ module _ (o : Outline) (h : Simple o) where
   missing-lowest e = finds (block o) (firstSide o) (secondSide o) (lastSide o) (lowestCorner o) (highestCorner o) (side-ends o h) (first-run o h) (ltb-true row (highestCorner o) e)
 
   -- It finds none: none is missing
-  pub missing-none : isMissing o ≡ false → Full (block o)
+  pub missing-none : isMissing o ≡ false → Convex (block o)
   unfolding isMissing
   missing-none e = none-missing (block o) (firstSide o) (secondSide o) (lastSide o) (lowestCorner o) (highestCorner o) (side-ends o h) (first-run o h) (ltb-false row (highestCorner o) e)
 
-  pub found-or-full : LowestMissing (block o) (lowestMissing o) ⊎ Full (block o)
-  found-or-full = go (isMissing o) refl
+  pub found-or-convex : LowestMissing (block o) (lowestMissing o) ⊎ Convex (block o)
+  found-or-convex = go (isMissing o) refl
     where
-      go : (a : Bool) → isMissing o ≡ a → LowestMissing (block o) (lowestMissing o) ⊎ Full (block o)
+      go : (a : Bool) → isMissing o ≡ a → LowestMissing (block o) (lowestMissing o) ⊎ Convex (block o)
       go true e = inl (missing-lowest e)
       go false e = inr (missing-none e)
 
@@ -62,10 +62,10 @@ module _ (o : Outline) (h : Simple o) where
       go true e m = e
       go false e m = absurd (missing-none e (m .0) (m .1))
 
-  pub full-iff : (isMissing o ≡ false) ↔ Full (block o)
+  pub full-iff : (isMissing o ≡ false) ↔ Convex (block o)
   full-iff = (missing-none, λ f. go (isMissing o) refl f)
     where
-      go : (a : Bool) → isMissing o ≡ a → Full (block o) → isMissing o ≡ false
+      go : (a : Bool) → isMissing o ≡ a → Convex (block o) → isMissing o ≡ false
       go false e f = e
       go true e f = absurd (f (lowestMissing o) (missing-lowest e .missing))
 
@@ -87,7 +87,7 @@ module _ (o : Outline) (h : Simple o) where
 
   -- An outline is taken exactly if the search finds none
   pub taken-iff : (verdictFields (verdictOf o) .number ≡ 0) ↔ (isMissing o ≡ false)
-  taken-iff = let t = taken-iff-full o h in ((λ e. full-iff .1 (t .0 e)), λ e. t .1 (full-iff .0 e))
+  taken-iff = let t = taken-iff-convex o h in ((λ e. full-iff .1 (t .0 e)), λ e. t .1 (full-iff .0 e))
 
   -- Refusal 9 names the same cell
   pub verdict-same : verdictFields (verdictOf o) .number ≡ 9 → lowestMissing o ≡ cellOf (verdictFields (verdictOf o))

@@ -3,6 +3,6 @@
 pub mod Witness
 pub mod Three
 pub mod Gap
-pub mod Kept
 pub mod Witnessed
 pub mod Named
+pub mod parts

@@ -8,9 +8,9 @@ use Rattle.chart.specs.declared.Point.{Point}
 use Rattle.chart.specs.declared.Fields.{Fields}
 use Rattle.chart.specs.Outline.{Outline}
 use Rattle.calls.specs.Replies.{none}
-use Rattle.lattice.specs.Hull.{Full, LowestMissing}
+use Rattle.lattice.specs.Hull.{Convex, LowestMissing}
 use Rattle.lattice.specs.Refusals.{Simple}
-use Rattle.convexity.specs.Reading.{block}
+use Rattle.convexity.specs.Clockwise.{block}
 use Rattle.verdict.specs.Named.{cellOf}
 use Rattle.witness.specs.Witness.{Witness}
 use Rattle.witness.specs.Witnessed.{sixNumbers}
@@ -24,7 +24,7 @@ cellIn l k = record { col = getD l (2 * k) 0; row = getD l (suc (2 * k)) 0 }
 -- The list is altered in this case alone, and then in its first six numbers alone
 pub record WitnessNamed (o : Outline) (f : Fields) (before after : List ℕ) : Type 0 where
   pub answers : (f .number ≡ 0) ↔ (Simple o × (sixNumbers ≤ length before))
-  pub full : f .number ≡ 0 → (f .word ≡ none) ↔ Full (block o)
+  pub full : f .number ≡ 0 → (f .word ≡ none) ↔ Convex (block o)
   pub lowest : f .number ≡ 0 → ¬ (f .word ≡ none) → LowestMissing (block o) (cellOf f)
   pub shown : f .number ≡ 0 → ¬ (f .word ≡ none) → Witness (block o) (cellOf f) (cellIn after 0) (cellIn after 1) (cellIn after 2)
   pub rest : drop sixNumbers after ≡ drop sixNumbers before

@@ -46,9 +46,9 @@ threeNumbers w = w .a .col ∷ w .a .row ∷ w .b .col ∷ w .b .row ∷ w .d .c
 
 -- The list afterwards: the six numbers stand first in it and the rest is unaltered; where no cell is named, all of it is
 unfoldable pub shownAfter : Witnessed → Three → List ℕ → List ℕ
-shownAfter (Found x) w lent = threeNumbers w ++ drop sixNumbers lent
-shownAfter None w lent = lent
-shownAfter (Refused f) w lent = lent
+shownAfter (Found x) w buffer = threeNumbers w ++ drop sixNumbers buffer
+shownAfter None w buffer = buffer
+shownAfter (Refused f) w buffer = buffer
 
 unfoldable pub cellsAfter : Outline → List ℕ → List ℕ
-cellsAfter o lent = shownAfter (witnessedOf o (length lent)) (witnessOf o) lent
+cellsAfter o buffer = shownAfter (witnessedOf o (length buffer)) (witnessOf o) buffer

@@ -12,7 +12,7 @@ use lib.Dec.{eqb}
 use borrow.Author.Tests.{eq-eqb, ne-eqb}
 use Rattle.words.specs.Word.{Word, Begins, wordOf, laters}
 use Rattle.words.specs.Lyndon.{Lyndon, copies, factorsOf}
-use Rattle.words.specs.Search.{rank, rankOf, firstOf}
+use Rattle.words.specs.parts.Search.{rank, rankOf, firstOf}
 use Rattle.words.proofs.WordOf.{length-wordOf, letter-wordOf}
 use Rattle.words.proofs.Lyndon.{lyndon-single, length-cut}
 use Rattle.words.proofs.Factors.{Stops, factors-first}

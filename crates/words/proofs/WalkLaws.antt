@@ -9,10 +9,10 @@ use lib.ListN.{length, take, drop, length-append, length-drop, drop-of-length-le
 use lib.Seq.{take-append-seam, drop-at, drop-drop}
 use Rattle.words.specs.Word.{Word, wordOf, laters}
 use Rattle.words.specs.Lyndon.{Factor, copies, written, Proper, Factoring, factorsOf}
-use Rattle.words.specs.Search.{judge, judged, firstOf}
+use Rattle.words.specs.parts.Search.{judge, judged, firstOf}
 use Rattle.words.specs.Christoffel.{christoffel}
 use Rattle.words.specs.declared.Found.{Found}
-use Rattle.words.specs.declared.Judged.{Judged}
+use Rattle.words.specs.declared.JudgedFactor.{JudgedFactor}
 use Rattle.words.proofs.WordOf.{length-wordOf, wordOf-take, wordOf-drop}
 use Rattle.words.proofs.Counts.{laters-le-length, length-copies}
 use Rattle.words.proofs.Factors.{factors-exist, factors-of, falling-head, falling-tail, written-first}
@@ -77,7 +77,7 @@ module _ (w : Word) (f : Factor) (fs : List Factor) (e : factorsOf w ≡ f ∷ f
 -- ---- in a list of letters, from a place on
 
 -- What a judged factor says of the walk: the factor that it judges, and where the next one begins
-pub record Step (l : List ℕ) (at later : ℕ) (r : Judged) : Type 0 where
+pub record Step (l : List ℕ) (at later : ℕ) (r : JudgedFactor) : Type 0 where
   pub first : Factor
   pub read : r ≡ judge first
   pub proper : Proper first
@@ -108,11 +108,11 @@ step-of l at later f fs h e =
       factors = e ∙ ap (λ (gs : List Factor). f ∷ gs) (factors-rest w f fs e ∙ ap factorsOf (sym (wordOf-drop later size (drop at l)) ∙ ap (wordOf later) (drop-drop size at l)));
     }
 
-pub step-at : (l : List ℕ) (at later : ℕ) → at < length l → {r : Judged} → r ≡ judged (factorsOf (wordOf later (drop at l))) → Step l at later r
+pub step-at : (l : List ℕ) (at later : ℕ) → at < length l → {r : JudgedFactor} → r ≡ judged (factorsOf (wordOf later (drop at l))) → Step l at later r
 unfolding judged
 step-at l at later h e =
     let d = factors-head (wordOf later (drop at l)) (omega (arith, length-wordOf later (drop at l), length-drop at l)) in
-    subst (λ (r : Judged). Step l at later r) (sym (e ∙ ap judged (d .factors))) (step-of l at later (d .first) (d .others) h (d .factors))
+    subst (λ (r : JudgedFactor). Step l at later r) (sym (e ∙ ap judged (d .factors))) (step-of l at later (d .first) (d .others) h (d .factors))
 
 -- At the end of the list nothing follows
 pub judged-none : (l : List ℕ) (at later : ℕ) → length l ≤ at → record { length = 0; times = 0; laters = 0; christoffel = false } ≡ judged (factorsOf (wordOf later (drop at l)))

@@ -3,4 +3,4 @@ pub mod Word
 pub mod Lyndon
 pub mod Christoffel
 pub mod Counted
-pub mod Search
+pub mod parts

@@ -6,7 +6,7 @@ ghost use lib.ListN.{length, drop};
 ghost use Rattle.words.specs.Word.{wordOf, laters};
 ghost use Rattle.words.specs.Lyndon.{factorsOf};
 ghost use Rattle.words.specs.Christoffel.{coprime, remainders, christoffel};
-ghost use Rattle.words.specs.Search.{rankOf, firstOf, judged};
+ghost use Rattle.words.specs.parts.Search.{rankOf, firstOf, judged};
 
 // The first factor of a word: the letters of one copy, how often it is repeated, and the later letters of one copy.
 pub struct Found {
@@ -114,7 +114,7 @@ fn is_christoffel(w: &[u8], k: usize, later: u8) -> bool
 }
 
 // A factor, with the count of later letters in one copy, and whether it is a Christoffel word.
-pub struct Judged {
+pub struct JudgedFactor {
     pub length: usize,
     pub times: usize,
     pub laters: usize,
@@ -122,11 +122,11 @@ pub struct Judged {
 }
 
 // One step of a walk over all factors: the first one of what follows `at`. The next begins times · length further on.
-pub fn factor_at(w: &[u8], at: usize, later: u8) -> Judged
+pub fn factor_at(w: &[u8], at: usize, later: u8) -> JudgedFactor
     ensures { λ r. ⌜ r ≡ judged (factorsOf (wordOf later (drop at (now (w .entry))))) ⌝ }
 {
     if w.len() <= at {
-        return Judged {
+        return JudgedFactor {
             length: 0,
             times: 0,
             laters: 0,
@@ -136,7 +136,7 @@ pub fn factor_at(w: &[u8], at: usize, later: u8) -> Judged
     let found = first_factor(w, at, later);
     let end = at + found.length;
     let copy = &w[at..end];
-    Judged {
+    JudgedFactor {
         length: found.length,
         times: found.times,
         laters: found.laters,

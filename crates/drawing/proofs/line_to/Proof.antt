@@ -4,8 +4,8 @@ use mathlib.Core.Path.{_≡_, sym, ap₂, _∙_}
 use mathlib.Core.Bool.{true, _&&_}
 use mir.Syntax.{w64}
 use mir.ValLaws.{toZ-ofZ}
-use Rattle.turning.specs.CornerHull.{onChart}
-use Rattle.turning.proofs.OnChart.{number-fits, on-parts}
+use Rattle.directions.specs.CornerHull.{onChart}
+use Rattle.directions.proofs.OnChart.{number-fits, on-parts}
 use Rattle.drawing.specs.Drawing.{lineTo}
 use Rattle.drawing.proofs.line_to.Statement.{statement}
 use Rattle.drawing.proofs.line_to.Tie as tie

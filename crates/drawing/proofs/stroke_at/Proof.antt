@@ -23,16 +23,16 @@ abbrev μ-loop : tie.MeasureT-loop
 μ-loop edges position x₀ y₀ left₀ i₀ x y left i = length edges - i
 
 -- A turn's edge
-abbrev Turn : Type 0
-Turn = tie.In-loop Inv-loop μ-loop
+abbrev Iteration : Type 0
+Iteration = tie.In-loop Inv-loop μ-loop
 
-abbrev list : Turn → List ℤ
+abbrev list : Iteration → List ℤ
 list t = t .before .before .before .before .before .args .edges .now
 
-abbrev stepX : Turn → ℤ
+abbrev stepX : Iteration → ℤ
 stepX t = getD (list t) (t .before .loop .i) (pos 0)
 
-abbrev stepY : Turn → ℤ
+abbrev stepY : Iteration → ℤ
 stepY t = getD (list t) (t .before .loop .i + 1) (pos 0)
 
 fits-x : (c : tie.After-further-arg Inv-loop μ-loop) → SFits w16 (stepX (c .before))

@@ -4,7 +4,7 @@ use mathlib.Core.Path.{_≡_, refl}
 use native.Mathlib.Omega.{arith}
 use denote.Ref.{now}
 use Rattle.rows.specs.Search.{crossing}
-use Rattle.rows.specs.Rows.{rows}
+use Rattle.rows.specs.parts.Rows.{rows}
 use Rattle.rows.proofs.SearchLaws.{product-small}
 use Rattle.hull_rows.proofs.Laws.{crossing-fits}
 use borrow.Author.Needs.{needs}

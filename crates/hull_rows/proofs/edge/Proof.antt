@@ -3,7 +3,7 @@ use mathlib.Core.Path.{refl}
 use native.Mathlib.Omega.{arith}
 use denote.Ref.{now}
 use borrow.Author.Tests.{le-leb, lt-leb}
-use Rattle.rows.specs.Rows.{rows}
+use Rattle.rows.specs.parts.Rows.{rows}
 use borrow.Author.Needs.{needs}
 use Rattle.hull_rows.proofs.edge.Statement.{statement}
 use Rattle.hull_rows.proofs.edge.Tie as tie

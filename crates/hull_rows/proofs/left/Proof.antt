@@ -2,7 +2,7 @@
 use Prim.Native.Nat.{suc, _-_, _≤_, _<_}
 use mathlib.Core.Path.{_≡_, refl, _∙_}
 use denote.Ref.{now}
-use Rattle.rows.specs.Rows.{rows}
+use Rattle.rows.specs.parts.Rows.{rows}
 use Rattle.completion.specs.HullRows.{nextRow}
 use Rattle.hull_rows.proofs.Laws.{Spanning, climbing-edge, spanning-two, spanning-low, spanning-end, Leftward, leftward-start, leftward-corner, leftward-next}
 use native.Mathlib.Omega.{arith}
@@ -28,7 +28,7 @@ loop-holds c =
     (fits, leftward-start (rows (now (args .lo))) (args .b) (args .t) fits (now (args .lo)) (c .before .before .pre .0) (c .before .before .pre .1) (λ s. refl))
 
 edge-requires : tie.Need-edge-requires Inv-loop μ-loop
-edge-requires c κs = let turn = c .before .before .loop .inv in omega (arith, turn .1 .climbing .above, turn .1 .high, turn .0)
+edge-requires c κs = let iteration = c .before .before .loop .inv in omega (arith, iteration .1 .climbing .above, iteration .1 .high, iteration .0)
 
 -- The edge found spans the row in hand
 record Found (c : tie.After-edge Inv-loop μ-loop) : Type 0 where
@@ -41,16 +41,16 @@ found : (c : tie.After-edge Inv-loop μ-loop) → Found c
 found c =
     let args = c .before .before .before .before .before .before .args in
     let start = rows (now (args .lo)) in
-    let turn = c .before .before .before .loop in
-    let climbing = turn .inv .1 .climbing in
-    let next = c .before .before .before .before .tangents .ensures .furthest-left (turn .i) (climbing .climbed .low) (omega (arith, climbing .above)) in
-    let l : turn .r < args .t = c .before .before .loop-test .taken in
-    let s = climbing-edge start (args .b) (args .t) (turn .i) (turn .r) _ (c .edge .result) climbing l next (c .edge .ensures) in
+    let iteration = c .before .before .before .loop in
+    let climbing = iteration .inv .1 .climbing in
+    let next = c .before .before .before .before .tangents .ensures .furthest-left (iteration .i) (climbing .climbed .low) (omega (arith, climbing .above)) in
+    let l : iteration .r < args .t = c .before .before .loop-test .taken in
+    let s = climbing-edge start (args .b) (args .t) (iteration .i) (iteration .r) _ (c .edge .result) climbing l next (c .edge .ensures) in
     record {
-      low = spanning-low start (args .b) (args .t) (c .edge .result) (turn .r) s l;
-      high = spanning-two start (args .b) (args .t) (c .edge .result) (turn .r) s l;
+      low = spanning-low start (args .b) (args .t) (c .edge .result) (iteration .r) s l;
+      high = spanning-two start (args .b) (args .t) (c .edge .result) (iteration .r) s l;
       spans = s;
-      corner = leftward-corner start (args .b) (args .t) (turn .inv .0) (turn .lo) (turn .i) (turn .r) (turn .inv .1) l (c .edge .result) _ next (c .edge .ensures);
+      corner = leftward-corner start (args .b) (args .t) (iteration .inv .0) (iteration .lo) (iteration .i) (iteration .r) (iteration .inv .1) l (c .edge .result) _ next (c .edge .ensures);
     }
 
 -- And the row read is the one at which it ends
@@ -96,9 +96,9 @@ loop-again : tie.Need-loop-again Inv-loop μ-loop
 loop-again c =
     let f = found (c .before .before .before) in
     let args = c .before .before .before .before .before .before .before .before .before .args in
-    let turn = c .before .before .before .before .before .before .loop in (
-      turn .inv .0,
-      leftward-next (rows (now (args .lo))) (args .b) (args .t) (turn .inv .0) (turn .lo) (turn .i) (turn .r) (turn .inv .1) (c .before .before .before .before .before .loop-test .taken) (c .before .before .before .edge .result)
+    let iteration = c .before .before .before .before .before .before .loop in (
+      iteration .inv .0,
+      leftward-next (rows (now (args .lo))) (args .b) (args .t) (iteration .inv .0) (iteration .lo) (iteration .i) (iteration .r) (iteration .inv .1) (c .before .before .before .before .before .loop-test .taken) (c .before .before .before .edge .result)
           (f .spans) (c .before .before .wide .result) (c .crossed .result) (f .corner) (read (c .before .before) .at) (c .crossed .ensures),
     )
 

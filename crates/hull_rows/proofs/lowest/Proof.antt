@@ -3,8 +3,8 @@ use Prim.Native.Nat.{ℕ, _-_, _≤_, _<_}
 use mathlib.Core.Path.{_≡_, subst}
 use mathlib.Core.Logic.{inl, inr}
 use denote.Ref.{now}
-use Rattle.rows.specs.Rows.{rows}
-use Rattle.hull_rows.specs.Ends.{Lowest}
+use Rattle.rows.specs.parts.Rows.{rows}
+use Rattle.hull_rows.specs.parts.Ends.{Lowest}
 use Rattle.hull_rows.proofs.Laws.{lowest-start, lowest-moves, lowest-stays}
 use native.Mathlib.Omega.{arith}
 use Rattle.hull_rows.proofs.lowest.Statement.{statement}
@@ -42,21 +42,21 @@ loop-less c = omega arith
 
 loop-again : tie.Need-loop-again Inv-loop μ-loop
 loop-again c =
-    let turn = c .before .before .before .before .loop in
+    let iteration = c .before .before .before .before .loop in
     let lo = rows (now (c .before .before .before .before .before .args .lo)) in
     let b = c .before .before .before .before .before .args .b in
-    let kept = turn .inv .2 in
+    let kept = iteration .inv .2 in
     elim (c .if1 .came) [
-      | inl (l, e) ↦ (omega arith, omega arith, rw e (lowest-moves lo b (turn .r) (turn .m) kept (l .taken)))
-      | inr (l, e) ↦ (omega arith, omega arith, rw e (lowest-stays lo b (turn .r) (turn .m) kept (l .left)))
+      | inl (l, e) ↦ (omega arith, omega arith, rw e (lowest-moves lo b (iteration .r) (iteration .m) kept (l .taken)))
+      | inr (l, e) ↦ (omega arith, omega arith, rw e (lowest-stays lo b (iteration .r) (iteration .m) kept (l .left)))
     ]
 
 returns : tie.Need-returns Inv-loop μ-loop
 returns c =
-    let turn = c .before .loop in
+    let iteration = c .before .loop in
     let args = c .before .before .args in
-    let e : turn .r ≡ args .t = omega arith in
-    subst (λ (z : ℕ). Lowest (rows (now (args .lo))) (args .b) z (turn .m)) e (turn .inv .2)
+    let e : iteration .r ≡ args .t = omega arith in
+    subst (λ (z : ℕ). Lowest (rows (now (args .lo))) (args .b) z (iteration .m)) e (iteration .inv .2)
 
 pub lowest-spec : {M : Type 1} → statement M
 lowest-spec =

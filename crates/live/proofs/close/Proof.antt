@@ -1,6 +1,6 @@
 use Rattle.spans.specs.Spans.{spansOf}
-use Rattle.border.specs.Judged.{judgedOf}
-use Rattle.border.proofs.JudgedLaws.{judged-of}
+use Rattle.judge.specs.Judged.{judgedOf}
+use Rattle.judge.proofs.JudgedLaws.{judged-of}
 use mathlib.Core.Path.{_∙_, ap}
 use Prim.Native.Nat.{_+_, _*_}
 use native.Mathlib.Omega.{arith}

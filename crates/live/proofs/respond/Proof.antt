@@ -17,8 +17,8 @@ returns-3 c = unfit-called _ _ _ _ (λ f. c .if3 .taken (f .numbers))
 returns-4 : tie.Need-returns-4
 returns-4 c = unfit-called _ _ _ _ (λ f. c .if4 .taken (f .heads))
 
-heard-requires : tie.Need-heard-requires
-heard-requires c κs = search needs
+received-requires : tie.Need-received-requires
+received-requires c κs = search needs
 
 enum-known-decoded : tie.Need-enum-known-decoded
 enum-known-decoded c = search needs
@@ -27,7 +27,7 @@ enum-told : tie.Need-enum-told
 enum-told c = search needs
 
 returns-5 : tie.Need-returns-5
-returns-5 c = nothing-called _ _ _ _ (sym (c .before .before .heard .ensures) ∙ c .enum-told .given .1)
+returns-5 c = nothing-called _ _ _ _ (sym (c .before .before .received .ensures) ∙ c .enum-told .given .1)
 
 answer-requires : tie.Need-answer-requires
 answer-requires c κs = search needs
@@ -63,13 +63,13 @@ returns-6 c =
     let letters = rows .before .before in
     let answered = letters .before in
     let decoded = answered .before .before .before .before .before .before in
-    let heard = decoded .before .before in
-    let fourth = heard .before in
+    let received = decoded .before .before in
+    let fourth = received .before in
     let l = fourth .before .before .before .if1 .left in
     let r = fourth .before .before .if2 .left in
     let n = fourth .before .if3 .left in
     let h = fourth .if4 .left in
-    told-called _ _ _ _ (fits-by _ l r n h) _ (sym (heard .heard .ensures) ∙ decoded .decoded .given .1) _ _ (answered .answer .ensures)
+    told-called _ _ _ _ (fits-by _ l r n h) _ (sym (received .received .ensures) ∙ decoded .decoded .given .1) _ _ (answered .answer .ensures)
     (λ f. fits-by _ (letters .letters .given ∙ l) (rows .rows .given ∙ r) (numbers .numbers .given ∙ n) (heads .heads .given ∙ h)) _
     (fields .of-reply .ensures) _ (wrote .write .ensures .1) _ refl
 
@@ -81,7 +81,7 @@ respond-spec =
     returns-2
     returns-3
     returns-4
-    heard-requires
+    received-requires
     enum-known-decoded
     enum-told
     returns-5

@@ -1,7 +1,7 @@
 -- The same section is clear as the last one was; another is tested.
 use mathlib.Core.Path.{sym, ap, _∙_}
 use borrow.Author.Needs.{needs}
-use Rattle.live_sections.specs.Reach.{clearOf}
+use Rattle.live_sections.specs.parts.Reach.{clearOf}
 use Rattle.live_sections.proofs.SearchLaws.{clear-is}
 use Rattle.live_sections.proofs.clear_after.Statement.{statement}
 use Rattle.live_sections.proofs.clear_after.Tie as tie

@@ -42,11 +42,11 @@ array-read-lowest c = search needs
 
 lowest-requires : tie.Need-lowest-requires Inv-loop μ-loop
 lowest-requires c κs =
-    let turn = c .before .before in
-    let at = turn .before .loop in
-    let start = turn .before .before .before .before .before in
+    let iteration = c .before .before in
+    let at = iteration .before .loop in
+    let start = iteration .before .before .before .before .before in
     let rows = start .args .rows .now in
-    let in-range : at .l < layers = turn .loop-test .taken in
+    let in-range : at .l < layers = iteration .loop-test .taken in
     let (begins, full) = c .before .part .ensures in
     let (ends, full-too) = c .part2 .ensures in (
       full,
@@ -61,11 +61,11 @@ array-write-lo c = omega arith
 after-highest-requires : tie.Need-after-highest-requires Inv-loop μ-loop
 after-highest-requires c κs =
     let parts = c .before in
-    let turn = parts .before .before in
-    let at = turn .before .loop in
-    let start = turn .before .before .before .before .before in
+    let iteration = parts .before .before in
+    let at = iteration .before .loop in
+    let start = iteration .before .before .before .before .before in
     let rows = start .args .rows .now in
-    let in-range : at .l < layers = turn .loop-test .taken in
+    let in-range : at .l < layers = iteration .loop-test .taken in
     let (begins, full) = parts .before .part .ensures in
     let (ends, full-too) = parts .part2 .ensures in (
       full,
@@ -86,12 +86,12 @@ loop-less c = omega arith
 loop-again : tie.Need-loop-again Inv-loop μ-loop
 loop-again c =
     let parts = c .before .before in
-    let turn = parts .before .before in
-    let at = turn .before .loop in
-    let start = turn .before .before .before .before .before in
+    let iteration = parts .before .before in
+    let at = iteration .before .loop in
+    let start = iteration .before .before .before .before .before in
     let rows = start .args .rows .now in
     let col = start .args .col in
-    let in-range : at .l < layers = turn .loop-test .taken in
+    let in-range : at .l < layers = iteration .loop-test .taken in
     let begins = parts .before .part .ensures .0 in
     let ends = parts .part2 .ensures .0 in
     filling-next _ _ (at .inv) in-range _ _ (c .before .lowest .ensures ∙ column-low rows (at .l) in-range _ _ begins ends col)

@@ -1,7 +1,7 @@
 -- The test of the definition.
 use mathlib.Core.Path.{refl}
 use borrow.Author.Needs.{needs}
-use Rattle.live_sections.specs.Reach.{hasCell}
+use Rattle.live_sections.specs.parts.Reach.{hasCell}
 use Rattle.live_sections.proofs.has_cell.Statement.{statement}
 use Rattle.live_sections.proofs.has_cell.Tie as tie
 

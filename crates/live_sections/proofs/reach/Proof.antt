@@ -6,7 +6,7 @@ use borrow.Author.Needs.{needs}
 use Rattle.sections.specs.Sections.{layers}
 use Rattle.pile.specs.Pile.{layerAt}
 use Rattle.live_sections.specs.Layers.{layersOf}
-use Rattle.live_sections.specs.Reach.{bottomOf, topOf, reachOf}
+use Rattle.live_sections.specs.parts.Reach.{bottomOf, topOf, reachOf}
 use Rattle.live_sections.proofs.FillLaws.{Filling, filling-start, filling-next, filling-end}
 use Rattle.live_sections.proofs.ReachLaws.{bottom-is, top-is}
 use Rattle.live_sections.proofs.reach.Statement.{statement}
@@ -55,10 +55,10 @@ loop-less c = omega arith
 loop-again : tie.Need-loop-again Inv-loop μ-loop
 loop-again c =
     let parts = c .before .before in
-    let turn = parts .before .before in
-    let at = turn .before .loop in
-    let rows = turn .before .before .before .args .rows .now in
-    let in-range : at .l < layers = turn .loop-test .taken in
+    let iteration = parts .before .before in
+    let at = iteration .before .loop in
+    let rows = iteration .before .before .before .args .rows .now in
+    let in-range : at .l < layers = iteration .loop-test .taken in
     let begins = parts .before .part .ensures .0 in
     let ends = parts .part2 .ensures .0 in
     filling-next _ _ (at .inv) in-range _ _ (c .before .bottom .ensures ∙ bottom-is rows (at .l) in-range _ _ begins ends)

@@ -3,7 +3,7 @@ use Prim.Native.Nat.{_-_, _<_}
 use native.Mathlib.Omega.{arith}
 use mathlib.Core.Path.{sym}
 use borrow.Author.Needs.{needs}
-use Rattle.rows.specs.Rows.{rows as rowOf}
+use Rattle.rows.specs.parts.Rows.{rows as rowOf}
 use Rattle.sections.specs.Sections.{layers}
 use Rattle.pile.specs.Pile.{layerAt, rowSection}
 use Rattle.live_sections.specs.Layers.{layersOf}
@@ -51,12 +51,12 @@ loop-less c = omega arith
 
 loop-again : tie.Need-loop-again Inv-loop μ-loop
 loop-again c =
-    let turn = c .before .before in
-    let at = turn .before .loop in
-    let start = turn .before .before in
+    let iteration = c .before .before in
+    let at = iteration .before .loop in
+    let start = iteration .before .before in
     let rows = start .args .rows .now in
     let r = start .args .r in
-    let in-range : at .l < layers = turn .loop-test .taken in
+    let in-range : at .l < layers = iteration .loop-test .taken in
     filling-next _ _ (at .inv) in-range _ _ (sym (row-first rows (at .l) in-range r (start .pre .0)))
     (sym (row-past rows (at .l) in-range r (start .pre .0)))
 

@@ -5,7 +5,7 @@ use mathlib.Core.Path.{_≡_, refl, sym, ap, _∙_}
 use Rattle.base.specs.Below.{first}
 use Rattle.base.proofs.BelowLaws.{first-step, first-stop}
 use Rattle.chart.specs.Limits.{side}
-use Rattle.live_sections.specs.Reach.{hasCell}
+use Rattle.live_sections.specs.parts.Reach.{hasCell}
 use Rattle.live_sections.proofs.top.Statement.{statement}
 use Rattle.live_sections.proofs.top.Tie as tie
 

@@ -15,10 +15,10 @@ use Rattle.live_works.proofs.put_numbers.Statement.{statement}
 use Rattle.live_works.proofs.put_numbers.Tie as tie
 
 abbrev Inv-loop : tie.InvT-loop
-Inv-loop list at lent₀ all i₀ lent i = (i ≤ mostNumbers) × (lent ≡ paste lent₀ at list i)
+Inv-loop list at lent₀ all i₀ buffer i = (i ≤ mostNumbers) × (buffer ≡ paste lent₀ at list i)
 
 abbrev μ-loop : tie.MeasureT-loop
-μ-loop list at lent₀ all i₀ lent i = mostNumbers - i
+μ-loop list at lent₀ all i₀ buffer i = mostNumbers - i
 
 loop-holds : tie.Need-loop-holds Inv-loop μ-loop
 loop-holds c = (search needs, paste-zero _ (c .before .args .at) (c .before .args .list .now))
@@ -36,10 +36,10 @@ mul-number-2 : tie.Need-mul-number-2 Inv-loop μ-loop
 mul-number-2 c = search needs
 
 -- The lent list keeps its length
-kept : (c : tie.At-loop Inv-loop μ-loop) → length (c .loop .lent) ≡ length (c .before .before .args .lent .now)
+kept : (c : tie.At-loop Inv-loop μ-loop) → length (c .loop .buffer) ≡ length (c .before .before .args .buffer .now)
 kept c =
     let a = c .before .before .args in
-    ap length (c .loop .inv .1) ∙ length-paste (a .lent .now) (a .at) (a .list .now) (c .loop .i) (omega (arith, c .loop .inv .0, c .before .before .pre)) (omega (arith, c .loop .inv .0, c .before .all .given .0))
+    ap length (c .loop .inv .1) ∙ length-paste (a .buffer .now) (a .at) (a .list .now) (c .loop .i) (omega (arith, c .loop .inv .0, c .before .before .pre)) (omega (arith, c .loop .inv .0, c .before .all .given .0))
 
 slice-set-from-number : tie.Need-slice-set-from-number Inv-loop μ-loop
 slice-set-from-number c = omega (arith, kept (c .before .before))
@@ -52,15 +52,15 @@ loop-less c = search needs
 
 loop-again : tie.Need-loop-again Inv-loop μ-loop
 loop-again c =
-    let turn = c .before in
-    let a = turn .before .before .before .args in
-    let i = turn .before .loop .i in
-    let d = a .lent .now in
+    let iteration = c .before in
+    let a = iteration .before .before .before .args in
+    let i = iteration .before .loop .i in
+    let d = a .buffer .now in
     let l = a .list .now in (
       search needs,
       rw (toZ-ofZ w16 (getD l i (pos 0)) (record { sfits = c .number .given }))
-          (ap (λ (e : List ℤ). set e (a .at + i) (getD l i (pos 0))) (turn .before .loop .inv .1)
-          ∙ paste-suc d (a .at) l i (pos 0) (omega (arith, turn .loop-test .taken, turn .before .before .before .pre)) (omega (arith, turn .loop-test .taken, turn .before .before .all .given .0))
+          (ap (λ (e : List ℤ). set e (a .at + i) (getD l i (pos 0))) (iteration .before .loop .inv .1)
+          ∙ paste-suc d (a .at) l i (pos 0) (omega (arith, iteration .loop-test .taken, iteration .before .before .before .pre)) (omega (arith, iteration .loop-test .taken, iteration .before .before .all .given .0))
           ∙ ap (paste d (a .at) l) (sym (add-one i))),
     )
 

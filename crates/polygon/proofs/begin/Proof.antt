@@ -1,6 +1,6 @@
 -- The number met first is the lowest and the highest.
 use borrow.Author.Needs.{needs}
-use Rattle.polygon.specs.Span.{begun}
+use Rattle.polygon.specs.parts.Span.{begun}
 use Rattle.base.proofs.Sizes.{read-back}
 use Rattle.polygon.proofs.begin.Statement.{statement}
 use Rattle.polygon.proofs.begin.Tie as tie

@@ -12,7 +12,7 @@ use borrow.Author.Needs.{needs}
 use borrow.Author.Tests.{not-true, not-false}
 use Rattle.convexity.specs.Inside.{notNegative, sideValue}
 use Rattle.polygon.specs.Loose.{insideList}
-use Rattle.polygon.specs.Span.{begun, stepped}
+use Rattle.polygon.specs.parts.Span.{begun, stepped}
 use Rattle.base.proofs.Sizes.{size-16}
 use Rattle.polygon.proofs.Spans.{insideFrom, Walked, walked-edge, walked-outside, walked-end, inside-from-anchor}
 use Rattle.polygon.proofs.LooseCases.{inside-long, inside-short}
@@ -26,19 +26,19 @@ abbrev μ-loop : tie.MeasureT-loop
 μ-loop edges cell cols₀ rows₀ i₀ cols rows i = length edges - i
 
 -- A turn's edge, where the walk stands, and the cell
-abbrev Turn : Type 0
-Turn = tie.In-loop Inv-loop μ-loop
+abbrev Iteration : Type 0
+Iteration = tie.In-loop Inv-loop μ-loop
 
-abbrev list : Turn → List ℤ
+abbrev list : Iteration → List ℤ
 list t = t .before .before .before .before .before .args .edges .now
 
-abbrev stepX : Turn → ℤ
+abbrev stepX : Iteration → ℤ
 stepX t = getD (list t) (t .before .loop .i) (pos 0)
 
-abbrev stepY : Turn → ℤ
+abbrev stepY : Iteration → ℤ
 stepY t = getD (list t) (t .before .loop .i + 1) (pos 0)
 
-abbrev side : Turn → ℤ
+abbrev side : Iteration → ℤ
 side t =
     let x = t .before .before .before .before .before .args .cell in
     sideValue (stepX t) (stepY t) (t .before .loop .cols .at) (t .before .loop .rows .at) (pos (x .col)) (pos (x .row))

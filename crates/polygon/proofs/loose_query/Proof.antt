@@ -5,7 +5,7 @@ use mathlib.Core.Logic.{⊎-elim}
 use mathlib.Core.Bool.{Bool, false, cond}
 use Rattle.chart.specs.declared.Position.the-variants.{Inside, Outside, Refused}
 use Rattle.chart.specs.declared.Refusal.the-variants.{Cell}
-use Rattle.turning.specs.Turning.{badTurning}
+use Rattle.directions.specs.Increasing.{badDirections}
 use Rattle.polygon.specs.Loose.{badList, badCell, looseOf}
 use Rattle.polygon.proofs.LooseCases.{inside-short, short-list, turning-short, loose-list, loose-anchor, loose-cell, loose-turning, loose-edges}
 use Rattle.polygon.proofs.LooseHull.{answer-named}
@@ -34,8 +34,8 @@ returns-2 c =
     (λ w. loose-cell _ _ _ listed (sym (c .before .bad-cell .ensures) ∙ w .0 .left) (sym (w .1 .ensures) ∙ w .2 .taken))
     (c .if2 .came))
 
-bad-turning-requires : tie.Need-bad-turning-requires
-bad-turning-requires c κs = search needs
+bad-directions-requires : tie.Need-bad-directions-requires
+bad-directions-requires c κs = search needs
 
 -- The list and the two cells pass 10 and 11
 module _ (c : tie.Else3) where
@@ -48,8 +48,8 @@ module _ (c : tie.Else3) where
   placed : badCell (c .before .before .before .before .before .before .args .cell) ≡ false
   placed = sym (c .before .bad-cell2 .ensures) ∙ c .if3 .left
 
-turned : (c : tie.After-bad-turning) → c .bad-turning .result ≡ badTurning (c .before .before .before .before .before .before .before .args .edges .now)
-turned c = c .bad-turning .ensures ∙ turning-short _ (short-list _ (listed (c .before)))
+turned : (c : tie.After-bad-directions) → c .bad-directions .result ≡ badDirections (c .before .before .before .before .before .before .before .args .edges .now)
+turned c = c .bad-directions .ensures ∙ turning-short _ (short-list _ (listed (c .before)))
 
 returns-3 : tie.Need-returns-3
 returns-3 c =
@@ -85,7 +85,7 @@ loose-query-spec =
     bad-cell-requires
     bad-cell-requires-2
     returns-2
-    bad-turning-requires
+    bad-directions-requires
     returns-3
     inside-requires
     returns-4

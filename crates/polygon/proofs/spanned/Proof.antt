@@ -5,7 +5,7 @@ use lib.IntN.{pos}
 use lib.Signed.{leZ}
 use mir.Syntax.{w64}
 use mir.Val.{toZ, ofZ}
-use Rattle.polygon.specs.Span.{spans}
+use Rattle.polygon.specs.parts.Span.{spans}
 use Rattle.base.proofs.Sizes.{read-back}
 use Rattle.polygon.proofs.spanned.Statement.{statement}
 use Rattle.polygon.proofs.spanned.Tie as tie

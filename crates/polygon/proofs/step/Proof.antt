@@ -5,7 +5,7 @@ use lib.IntN.{_+ℤ_}
 use mir.Syntax.{w16}
 use mir.ValLaws.{toZ-ofZ}
 use Rattle.convexity.specs.Inside.{minℤ, maxℤ}
-use Rattle.polygon.specs.Span.{stepped}
+use Rattle.polygon.specs.parts.Span.{stepped}
 use Rattle.base.proofs.Sizes.{read-back}
 use Rattle.polygon.proofs.step.Statement.{statement}
 use Rattle.polygon.proofs.step.Tie as tie

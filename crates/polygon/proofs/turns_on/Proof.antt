@@ -9,7 +9,7 @@ use lib.IntN.{ℤ, pos}
 use mir.Syntax.{w16}
 use mir.Val.{SFits}
 use mir.ValLaws.{toZ-ofZ}
-use Rattle.turning.specs.Round.{isNil, sooner}
+use Rattle.directions.specs.Round.{isNil, precedes}
 use Rattle.polygon.proofs.Turns.{turns-on-nil, turns-on-next, turns-on-last}
 use Rattle.polygon.proofs.turns_on.Statement.{statement}
 use Rattle.polygon.proofs.turns_on.Tie as tie
@@ -36,22 +36,22 @@ fits-x c = record { sfits = c .dx .given }
 fits-y : (c : tie.After-dy) → SFits w16 (stepY (c .before .before))
 fits-y c = record { sfits = c .dy .given }
 
-nil-is : (c : tie.After-nil) → let s = c .before .before .before in c .nil .result ≡ (isNil (stepX s) && isNil (stepY s))
-nil-is c = simp (toZ-ofZ w16 _ (fits-x (c .before .before)), toZ-ofZ w16 _ (fits-y (c .before))) at (c .nil .ensures)
+nil-is : (c : tie.After-zero-step) → let s = c .before .before .before in c .zero-step .result ≡ (isNil (stepX s) && isNil (stepY s))
+nil-is c = simp (toZ-ofZ w16 _ (fits-x (c .before .before)), toZ-ofZ w16 _ (fits-y (c .before))) at (c .zero-step .ensures)
 
 not-nil : (c : tie.Else1) → let s = c .before .before .before .before in (isNil (stepX s) && isNil (stepY s)) ≡ false
 not-nil c = sym (nil-is (c .before)) ∙ c .if1 .left
 
-sooner-is :
-    (c : tie.After-sooner) →
+precedes-is :
+    (c : tie.After-precedes) →
     let s = c .before .before .before .before .before .before .before .before in
-    c .sooner .result ≡ sooner (stepX s) (stepY s) (nextX s) (nextY s)
-sooner-is c =
+    c .precedes .result ≡ precedes (stepX s) (stepY s) (nextX s) (nextY s)
+precedes-is c =
     let e = c .before in
     let one = e .before .before .before .before .before in
     let fits-ex : SFits w16 (nextX (one .before .before)) = record { sfits = e .before .ex .given } in
     let fits-ey : SFits w16 (nextY (one .before .before)) = record { sfits = e .ey .given } in
-    simp (toZ-ofZ w16 _ (fits-x (one .before)), toZ-ofZ w16 _ (fits-y one), toZ-ofZ w16 _ fits-ex, toZ-ofZ w16 _ fits-ey) at (c .sooner .ensures)
+    simp (toZ-ofZ w16 _ (fits-x (one .before)), toZ-ofZ w16 _ (fits-y one), toZ-ofZ w16 _ fits-ex, toZ-ofZ w16 _ fits-ey) at (c .precedes .ensures)
 
 mul-dx : tie.Need-mul-dx
 mul-dx c = search needs
@@ -68,8 +68,8 @@ mul-dy c = search needs
 shared-slice-copy-out-dy : tie.Need-shared-slice-copy-out-dy
 shared-slice-copy-out-dy c = search needs
 
-nil-requires : tie.Need-nil-requires
-nil-requires c κs = search needs
+zero-step-requires : tie.Need-zero-step-requires
+zero-step-requires c κs = search needs
 
 returns : tie.Need-returns
 returns c =
@@ -102,14 +102,14 @@ mul-ey c = search needs
 shared-slice-copy-out-ey : tie.Need-shared-slice-copy-out-ey
 shared-slice-copy-out-ey c = search needs
 
-sooner-requires : tie.Need-sooner-requires
-sooner-requires c κs = search needs
+precedes-requires : tie.Need-precedes-requires
+precedes-requires c κs = search needs
 
 returns-3 : tie.Need-returns-3
 returns-3 c =
     let two = c .before .before .before in
     let s = two .before .before .before .before .before in
-    sooner-is c ∙ sym (turns-on-next (list s) (s .args .i) (s .pre) (not-nil (two .before)) (two .if2 .left))
+    precedes-is c ∙ sym (turns-on-next (list s) (s .args .i) (s .pre) (not-nil (two .before)) (two .if2 .left))
 
 pub turns-on-spec : {M : Type 1} → statement M
 turns-on-spec =
@@ -120,7 +120,7 @@ turns-on-spec =
     add-dy
     mul-dy
     shared-slice-copy-out-dy
-    nil-requires
+    zero-step-requires
     returns
     add-next
     add-if2
@@ -130,5 +130,5 @@ turns-on-spec =
     add-ey
     mul-ey
     shared-slice-copy-out-ey
-    sooner-requires
+    precedes-requires
     returns-3)

@@ -9,11 +9,11 @@ use lib.ListN.{length, drop, getD}
 use lib.IntN.{ℤ, pos}
 use mir.Syntax.{w16}
 use mir.ValLaws.{toZ-ofZ}
-use Rattle.turning.specs.CornerHull.{onChart}
-use Rattle.turning.proofs.OnChart.{on-parts}
+use Rattle.directions.specs.CornerHull.{onChart}
+use Rattle.directions.proofs.OnChart.{on-parts}
 use Rattle.readings.specs.declared.walk.Passed.{Passed}
 use Rattle.readings.specs.Located.{badReading, locatedOf}
-use Rattle.readings.specs.Walk.{passed}
+use Rattle.readings.specs.parts.Walk.{passed}
 use Rattle.readings.proofs.Numbers.{cell-fits}
 use Rattle.readings.proofs.Walks.{after, from, walk-locates, located-bad, anchor-on, located-off, from-edge, from-end}
 use Rattle.readings.proofs.locate.Statement.{statement}
@@ -54,19 +54,19 @@ rule c =
     rw start (walk-locates (a .anchor) (a .edges .now) (a .reading) (good (e .before .before)) (anchored e))
 
 -- A turn's edge, and the pass along it
-abbrev Turn : Type 0
-Turn = tie.In-loop Inv-loop μ-loop
+abbrev Iteration : Type 0
+Iteration = tie.In-loop Inv-loop μ-loop
 
-abbrev start : Turn → tie.Start Inv-loop μ-loop
+abbrev start : Iteration → tie.Start Inv-loop μ-loop
 start t = t .before .before .before .before .before .before .before .before .before .before
 
-abbrev list : Turn → List ℤ
+abbrev list : Iteration → List ℤ
 list t = start t .args .edges .now
 
-abbrev stepX : Turn → ℤ
+abbrev stepX : Iteration → ℤ
 stepX t = getD (list t) (t .before .loop .i) (pos 0)
 
-abbrev stepY : Turn → ℤ
+abbrev stepY : Iteration → ℤ
 stepY t = getD (list t) (t .before .loop .i + 1) (pos 0)
 
 pass-is : (c : tie.After-pass Inv-loop μ-loop) →

@@ -1,7 +1,7 @@
 -- The border is written back, and its fields are the reply.
 use mathlib.Core.Path.{ap, _∙_}
 use Rattle.chart.specs.Fields.{numbersOf}
-use Rattle.tracing.specs.Traced.{tracedFields}
+use Rattle.border_model.specs.Traced.{tracedFields}
 use Rattle.chart.proofs.ReplyLaws.{read-back}
 use borrow.Author.Needs.{needs}
 use Rattle.robequarry.proofs.rq_border.Statement.{statement}

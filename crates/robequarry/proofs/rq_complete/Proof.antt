@@ -1,7 +1,7 @@
 -- The completion is written, and its fields are the reply.
 use mathlib.Core.Path.{ap, _∙_}
 use Rattle.chart.specs.Fields.{numbersOf}
-use Rattle.complete.specs.Completion.{completedFields}
+use Rattle.completion_call.specs.Completion.{completedFields}
 use Rattle.chart.proofs.ReplyLaws.{read-back}
 use borrow.Author.Needs.{needs}
 use Rattle.robequarry.proofs.rq_complete.Statement.{statement}

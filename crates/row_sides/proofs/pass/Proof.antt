@@ -24,8 +24,8 @@ shared-slice-read-letter c = omega arith
 along-requires : tie.Need-along-requires Inv-loop μ-loop
 along-requires c κs =
     let at = c .before .before .before .before in
-    let turn = c .before .before .loop in
-    passing-on (outline (at .args .s) (now (at .args .w))) (turn .i) (turn .p) (turn .lo) (turn .en) (turn .hi) (turn .low) (turn .high) (at .pre) (omega arith) (turn .inv) .1
+    let iteration = c .before .before .loop in
+    passing-on (outline (at .args .s) (now (at .args .w))) (iteration .i) (iteration .p) (iteration .lo) (iteration .en) (iteration .hi) (iteration .low) (iteration .high) (at .pre) (omega arith) (iteration .inv) .1
 
 mul-keep : tie.Need-mul-keep Inv-loop μ-loop
 mul-keep c = omega arith
@@ -79,8 +79,8 @@ moved-requires : tie.Need-moved-requires Inv-loop μ-loop
 moved-requires c κs =
     let loop = c .before .before .before .before .before .before .before in
     let at = loop .before .before in
-    let turn = loop .loop in
-    passing-on (outline (at .args .s) (now (at .args .w))) (turn .i) (turn .p) (turn .lo) (turn .en) (turn .hi) (turn .low) (turn .high) (at .pre) (omega arith) (turn .inv)
+    let iteration = loop .loop in
+    passing-on (outline (at .args .s) (now (at .args .w))) (iteration .i) (iteration .p) (iteration .lo) (iteration .en) (iteration .hi) (iteration .low) (iteration .high) (at .pre) (omega arith) (iteration .inv)
 
 add-i : tie.Need-add-i Inv-loop μ-loop
 add-i c = omega arith
@@ -92,18 +92,18 @@ loop-again : tie.Need-loop-again Inv-loop μ-loop
 loop-again c =
     let loop = c .before .before .before .before .before .before .before .before in
     let at = loop .before .before in
-    let turn = loop .loop in
+    let iteration = loop .loop in
     let along = c .before .before .before .before .before .along in
     let keep = c .before .before .before .before .keep in
-    passing-next (outline (at .args .s) (now (at .args .w))) (turn .i) (turn .p) (turn .lo) (turn .en) (turn .hi) (turn .low) (turn .high) (omega arith) (turn .inv) (along .result) (along .ensures)
+    passing-next (outline (at .args .s) (now (at .args .w))) (iteration .i) (iteration .p) (iteration .lo) (iteration .en) (iteration .hi) (iteration .low) (iteration .high) (omega arith) (iteration .inv) (along .result) (along .ensures)
     (keep .result .one) (keep .result .two) (c .before .before .before .greater .result) (c .before .before .lesser .result) (c .before .greater2 .result) (c .moved .result)
     (keep .ensures .0) (keep .ensures .1) (c .before .before .before .greater .ensures) (c .before .before .lesser .ensures) (c .before .greater2 .ensures) (c .moved .ensures)
 
 returns : tie.Need-returns Inv-loop μ-loop
 returns c =
     let at = c .before .before .before .args in
-    let turn = c .before .loop in
-    passing-end (outline (at .s) (now (at .w))) (turn .i) (turn .p) (turn .lo) (turn .en) (turn .hi) (turn .low) (turn .high) (omega arith) (turn .inv)
+    let iteration = c .before .loop in
+    passing-end (outline (at .s) (now (at .w))) (iteration .i) (iteration .p) (iteration .lo) (iteration .en) (iteration .hi) (iteration .low) (iteration .high) (omega arith) (iteration .inv)
 
 pub pass-spec : {M : Type 1} → statement M
 pass-spec =

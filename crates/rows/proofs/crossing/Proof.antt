@@ -5,7 +5,7 @@ use denote.Ref.{now}
 use borrow.Author.Needs.{needs}
 use native.Mathlib.Omega.{arith}
 use Rattle.rows.specs.Search.{crossing}
-use Rattle.rows.specs.Rows.{rows}
+use Rattle.rows.specs.parts.Rows.{rows}
 use Rattle.rows.proofs.SearchLaws.{product-small, crossing-small}
 use Rattle.rows.proofs.crossing.Statement.{statement}
 use Rattle.rows.proofs.crossing.Tie as tie

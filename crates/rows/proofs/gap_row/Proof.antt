@@ -4,7 +4,7 @@ use mathlib.Core.Path.{_≡_, sym, _∙_}
 use borrow.Author.Tests.{ltb-true, ltb-false}
 use native.Mathlib.Omega.{arith}
 use denote.Ref.{now}
-use Rattle.rows.specs.Rows.{rows}
+use Rattle.rows.specs.parts.Rows.{rows}
 use Rattle.rows.proofs.SearchLaws.{NoGap, no-gap-start, no-gap-next, gapRow-none, gapRow-found}
 use Rattle.rows.proofs.gap_row.Statement.{statement}
 use Rattle.rows.proofs.gap_row.Tie as tie
@@ -26,9 +26,9 @@ is-gap-requires c κs = omega arith
 
 returns : tie.Need-returns Inv-loop μ-loop
 returns c =
-    let turn = c .before .before .before .loop in
+    let iteration = c .before .before .before .loop in
     let args = c .before .before .before .before .args in (
-      sym (gapRow-found (rows (now (args .lo))) (args .i) (args .j) (turn .r) (omega arith) (omega arith) (turn .inv .2) (ltb-true _ _ (sym (c .before .is-gap .ensures) ∙ c .if1 .taken))),
+      sym (gapRow-found (rows (now (args .lo))) (args .i) (args .j) (iteration .r) (omega arith) (omega arith) (iteration .inv .2) (ltb-true _ _ (sym (c .before .is-gap .ensures) ∙ c .if1 .taken))),
       omega arith,
       omega arith,
     )
@@ -41,16 +41,16 @@ loop-less c = omega arith
 
 loop-again : tie.Need-loop-again Inv-loop μ-loop
 loop-again c =
-    let turn = c .before .before .before .loop in
+    let iteration = c .before .before .before .loop in
     let args = c .before .before .before .before .args in
-    (omega arith, omega arith, no-gap-next (rows (now (args .lo))) (args .i) (args .j) (turn .r) (turn .inv .2) (ltb-false _ _ (sym (c .before .is-gap .ensures) ∙ c .if1 .left)))
+    (omega arith, omega arith, no-gap-next (rows (now (args .lo))) (args .i) (args .j) (iteration .r) (iteration .inv .2) (ltb-false _ _ (sym (c .before .is-gap .ensures) ∙ c .if1 .left)))
 
 returns-2 : tie.Need-returns-2 Inv-loop μ-loop
 returns-2 c =
     let args = c .before .before .args in
-    let turn = c .before .loop in
-    let e : turn .r ≡ args .j = omega arith in
-    (sym (gapRow-none (rows (now (args .lo))) (args .i) (args .j) (omega arith) (rw e at (turn .inv .2))), omega arith, omega arith)
+    let iteration = c .before .loop in
+    let e : iteration .r ≡ args .j = omega arith in
+    (sym (gapRow-none (rows (now (args .lo))) (args .i) (args .j) (omega arith) (rw e at (iteration .inv .2))), omega arith, omega arith)
 
 pub gap-row-spec : {M : Type 1} → statement M
 gap-row-spec =

@@ -8,7 +8,7 @@ use lib.Dec.{ltb}
 use borrow.Author.Needs.{needs}
 use borrow.Author.Tests.{lt-ltb, le-ltb}
 use denote.Ref.{now}
-use Rattle.rows.specs.Rows.{rows}
+use Rattle.rows.specs.parts.Rows.{rows}
 use Rattle.rows.specs.Search.{crossing}
 use Rattle.rows.proofs.SearchLaws.{product-small}
 use Rattle.rows.proofs.is_gap.Statement.{statement}

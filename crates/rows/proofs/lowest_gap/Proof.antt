@@ -1,26 +1,26 @@
 -- The climb up the mirror image finds the gap at the right side.
 use native.Mathlib.Omega.{arith}
-use Rattle.rows.specs.Rows.{rows}
+use Rattle.rows.specs.parts.Rows.{rows}
 use Rattle.rows.proofs.SearchLaws.{lowestGap-left, lowestGap-right}
 use borrow.Author.Needs.{needs}
 use Rattle.rows.proofs.lowest_gap.Statement.{statement}
 use Rattle.rows.proofs.lowest_gap.Tie as tie
 
-climb-requires : tie.Need-climb-requires
-climb-requires c κs = search needs
+chain-requires : tie.Need-chain-requires
+chain-requires c κs = search needs
 
 mirrored-requires : tie.Need-mirrored-requires
 mirrored-requires c κs = search needs
 
-climb-requires-2 : tie.Need-climb-requires-2
-climb-requires-2 c κs = search needs
+chain-requires-2 : tie.Need-chain-requires-2
+chain-requires-2 c κs = search needs
 
 returns : tie.Need-returns
 returns c =
     let args = c .before .before .before .before .before .before .before .before .before .before .before .args in
-    let left = c .before .before .before .before .before .before .before .climb in
+    let left = c .before .before .before .before .before .before .before .chain in
     let mirror = c .before .before .before .before .before .mirrored in
-    let right = c .before .before .before .climb2 in
+    let right = c .before .before .before .chain2 in
     lowestGap-left
     (rows (args .ends .lo))
     (rows (args .ends .hi))
@@ -46,9 +46,9 @@ array-read-t18 c = search needs
 returns-2 : tie.Need-returns-2
 returns-2 c = rw (c .wide .ensures .0) (
     let args = c .before .before .before .before .before .before .before .before .before .before .before .before .args in
-    let left = c .before .before .before .before .before .before .before .before .climb in
+    let left = c .before .before .before .before .before .before .before .before .chain in
     let mirror = c .before .before .before .before .before .before .mirrored in
-    let right = c .before .before .before .before .climb2 in
+    let right = c .before .before .before .before .chain2 in
     lowestGap-right
     (rows (args .ends .lo))
     (rows (args .ends .hi))
@@ -66,9 +66,9 @@ pub lowest-gap-spec : {M : Type 1} → statement M
 lowest-gap-spec =
     tie.close
     (tie.spec
-    climb-requires
+    chain-requires
     mirrored-requires
-    climb-requires-2
+    chain-requires-2
     returns
     wide-requires
     mul-t15

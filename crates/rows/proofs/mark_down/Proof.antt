@@ -5,7 +5,7 @@ use denote.Ref.{now}
 use mathlib.Core.Logic.{⊎-elim}
 use borrow.Author.Tests.{ltb-true, ltb-false}
 use Rattle.lattice.specs.Enclosed.{downAlong}
-use Rattle.rows.specs.Search.{cornerOf}
+use Rattle.rows.specs.Search.{cornerNumbered}
 use Rattle.rows.proofs.RowLaws.{down-along, along-down, marked-set, marked-none}
 use borrow.Author.Needs.{needs}
 use Rattle.rows.proofs.mark_down.Statement.{statement}
@@ -27,20 +27,20 @@ returns : tie.Need-returns
 returns c =
     let args = c .before .before .before .args in
     marked-set
-    (downAlong (cornerOf (args .number)) (args .letter))
+    (downAlong (cornerNumbered (args .number)) (args .letter))
     (args .number % 256)
     (now (args .hi))
     (omega arith)
     (c .before .before .wide .result - 1)
     (omega arith)
-    (along-down (cornerOf (args .number)) (args .letter) (c .before .before .wide .result - 1) (omega arith) (omega (arith, ltb-true)))
-    (λ r e. omega (arith, down-along (cornerOf (args .number)) (args .letter) r e))
+    (along-down (cornerNumbered (args .number)) (args .letter) (c .before .before .wide .result - 1) (omega arith) (omega (arith, ltb-true)))
+    (λ r e. omega (arith, down-along (cornerNumbered (args .number)) (args .letter) r e))
 
 returns-2 : tie.Need-returns-2
 returns-2 c =
     let args = c .before .before .args in
-    marked-none (downAlong (cornerOf (args .number)) (args .letter)) (args .number % 256) (now (args .hi)) (omega arith) λ r e.
-    let (letter, row) = down-along (cornerOf (args .number)) (args .letter) r e in ⊎-elim (λ w. omega (arith, ltb-false)) (λ w. w .left letter) (c .if1 .came)
+    marked-none (downAlong (cornerNumbered (args .number)) (args .letter)) (args .number % 256) (now (args .hi)) (omega arith) λ r e.
+    let (letter, row) = down-along (cornerNumbered (args .number)) (args .letter) r e in ⊎-elim (λ w. omega (arith, ltb-false)) (λ w. w .left letter) (c .if1 .came)
 
 pub mark-down-spec : {M : Type 1} → statement M
 mark-down-spec =

@@ -3,7 +3,7 @@ use Prim.Native.Nat.{_%_}
 use native.Mathlib.Omega.{arith}
 use denote.Ref.{now}
 use Rattle.lattice.specs.Enclosed.{upAlong}
-use Rattle.rows.specs.Search.{cornerOf}
+use Rattle.rows.specs.Search.{cornerNumbered}
 use Rattle.rows.proofs.RowLaws.{up-along, along-up, marked-set, marked-none}
 use borrow.Author.Needs.{needs}
 use Rattle.rows.proofs.mark_up.Statement.{statement}
@@ -22,20 +22,20 @@ returns : tie.Need-returns
 returns c =
     let args = c .before .before .args in
     marked-set
-    (upAlong (cornerOf (args .number)) (args .letter))
+    (upAlong (cornerNumbered (args .number)) (args .letter))
     (args .number % 256)
     (now (args .lo))
     (omega arith)
     (c .before .wide .result)
     (omega arith)
-    (along-up (cornerOf (args .number)) (args .letter) (c .before .wide .result) (omega arith) (omega arith))
-    (λ r e. omega (arith, up-along (cornerOf (args .number)) (args .letter) r e))
+    (along-up (cornerNumbered (args .number)) (args .letter) (c .before .wide .result) (omega arith) (omega arith))
+    (λ r e. omega (arith, up-along (cornerNumbered (args .number)) (args .letter) r e))
 
 returns-2 : tie.Need-returns-2
 returns-2 c =
     let args = c .before .before .args in
-    marked-none (upAlong (cornerOf (args .number)) (args .letter)) (args .number % 256) (now (args .lo)) (omega arith) λ r e.
-    let (letter, row) = up-along (cornerOf (args .number)) (args .letter) r e in c .if1 .left letter
+    marked-none (upAlong (cornerNumbered (args .number)) (args .letter)) (args .number % 256) (now (args .lo)) (omega arith) λ r e.
+    let (letter, row) = up-along (cornerNumbered (args .number)) (args .letter) r e in c .if1 .left letter
 
 pub mark-up-spec : {M : Type 1} → statement M
 mark-up-spec = tie.close (tie.spec wide-requires mul-lo element-write-lo returns returns-2)

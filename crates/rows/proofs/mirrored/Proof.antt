@@ -8,7 +8,7 @@ use lib.ListN.{length, length-set}
 use lib.Seq.{getD-set-same, getD-set-other}
 use Rattle.base.proofs.BelowLaws.{below-suc}
 use Rattle.chart.specs.Limits.{side}
-use Rattle.rows.specs.Rows.{rows}
+use Rattle.rows.specs.parts.Rows.{rows}
 use Rattle.rows.proofs.mirrored.Statement.{statement}
 use Rattle.rows.proofs.mirrored.Tie as tie
 
@@ -44,15 +44,15 @@ loop-less c = omega arith
 
 loop-again : tie.Need-loop-again Inv-loop μ-loop
 loop-again c =
-    let turn = c .before .before .before .loop in
+    let iteration = c .before .before .before .loop in
     let hi = now (c .before .before .before .before .args .hi) in
     let x = c .remaining .result in (
       omega arith,
-      simp length-set (turn .inv .1),
+      simp length-set (iteration .inv .1),
       λ m h.
-          elim (below-suc m (turn .k) (omega arith)) [
-            | inl e ↦ rw e (getD-set-same (turn .left) (turn .k) x 0 (omega arith) ∙ c .remaining .ensures)
-            | inr l ↦ getD-set-other (turn .left) (turn .k) m x 0 (λ e. omega arith) ∙ turn .inv .2 m l
+          elim (below-suc m (iteration .k) (omega arith)) [
+            | inl e ↦ rw e (getD-set-same (iteration .left) (iteration .k) x 0 (omega arith) ∙ c .remaining .ensures)
+            | inr l ↦ getD-set-other (iteration .left) (iteration .k) m x 0 (λ e. omega arith) ∙ iteration .inv .2 m l
           ],
     )
 

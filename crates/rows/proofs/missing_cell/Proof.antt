@@ -2,7 +2,7 @@
 use mathlib.Core.Path.{_∙_}
 use denote.Ref.{now}
 use native.Mathlib.Omega.{arith}
-use Rattle.rows.specs.Rows.{rows}
+use Rattle.rows.specs.parts.Rows.{rows}
 use Rattle.rows.specs.Search.{keptUp, keptDown}
 use Rattle.rows.proofs.SearchLaws.{lowestGap-same}
 use Rattle.rows.proofs.RowLaws.{found-high, found-below, found-gap}

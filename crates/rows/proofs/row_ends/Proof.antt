@@ -6,7 +6,7 @@ use lib.ListN.{length}
 use borrow.Author.Needs.{needs}
 use Rattle.chart.specs.Outline.{outline}
 use Rattle.rows.specs.Search.{numbered}
-use Rattle.rows.proofs.RowLaws.{Marks, rolled-sum, marks-start, marks-next, marks-end}
+use Rattle.rows.proofs.RowLaws.{Marks, wrapped-sum, marks-start, marks-next, marks-end}
 use Rattle.rows.proofs.row_ends.Statement.{statement}
 use Rattle.rows.proofs.row_ends.Tie as tie
 
@@ -49,31 +49,31 @@ loop-less c = omega arith
 loop-again : tie.Need-loop-again Inv-loop μ-loop
 loop-again c =
     let added = c .before .before .before .before in
-    let turn = added .before .before .before .before .loop in
+    let iteration = added .before .before .before .before .loop in
     let args = added .before .before .before .before .before .before .before .before .args in
     let up = c .before .before .mark-up in
     let down = c .mark-down in
     marks-next
     (numbered (args .s))
     (now (args .w))
-    (turn .i)
-    (turn .number)
+    (iteration .i)
+    (iteration .number)
     (added .wrapping-add-u16 .result)
-    (turn .lo)
-    (turn .hi)
+    (iteration .lo)
+    (iteration .hi)
     (up .last .0)
     (down .last .0)
     (omega arith)
     (up .ensures)
     (down .ensures)
-    (rolled-sum (turn .number) _ (added .before .stride .result) (added .wrapping-add-u16 .result) (added .before .stride .ensures) (added .wrapping-add-u16 .ensures))
-    (turn .inv)
+    (wrapped-sum (iteration .number) _ (added .before .stride .result) (added .wrapping-add-u16 .result) (added .before .stride .ensures) (added .wrapping-add-u16 .ensures))
+    (iteration .inv)
 
 returns : tie.Need-returns Inv-loop μ-loop
 returns c =
     let args = c .before .before .before .before .before .args in
-    let turn = c .before .loop in
-    marks-end (outline (args .s) (now (args .w))) (turn .i) (turn .number) (turn .lo) (turn .hi) (omega arith) (turn .inv)
+    let iteration = c .before .loop in
+    marks-end (outline (args .s) (now (args .w))) (iteration .i) (iteration .number) (iteration .lo) (iteration .hi) (omega arith) (iteration .inv)
 
 pub row-ends-spec : {M : Type 1} → statement M
 row-ends-spec =

@@ -4,7 +4,7 @@ use mathlib.Core.Path.{_≡_, sym, _∙_}
 use native.Mathlib.Omega.{arith}
 use borrow.Author.Tests.{not-true, not-false}
 use denote.Ref.{now}
-use Rattle.rows.specs.Rows.{rows}
+use Rattle.rows.specs.parts.Rows.{rows}
 use Rattle.rows.specs.Search.{leans}
 use Rattle.rows.proofs.Side.{Furthest, furthest-start, furthest-furthest}
 use Rattle.rows.proofs.TangentLaws.{leans-columns, furthest-on, furthest-off, furthest-is}
@@ -39,13 +39,13 @@ add-loop c = omega arith
 hand-furthest :
     (c : tie.In-loop Inv-loop μ-loop) →
     let start = c .before .before .before .before .args in
-    let turn = c .before .loop in
-    Furthest (rows (now (start .lo))) (turn .j) (turn .k) (start .t)
+    let iteration = c .before .loop in
+    Furthest (rows (now (start .lo))) (iteration .j) (iteration .k) (start .t)
 hand-furthest c =
     let start = c .before .before .before .before in
-    let turn = c .before .loop in
-    let e = turn .inv .4 ∙ start .pre .3 .furthest-left (turn .j) (omega arith) (omega arith) in
-    rw e (furthest-furthest (rows (now (start .args .lo))) (turn .j) (start .args .t) (omega arith))
+    let iteration = c .before .loop in
+    let e = iteration .inv .4 ∙ start .pre .3 .furthest-left (iteration .j) (omega arith) (omega arith) in
+    rw e (furthest-furthest (rows (now (start .args .lo))) (iteration .j) (start .args .t) (omega arith))
 
 begins-requires-3 : tie.Need-begins-requires-3 Inv-loop μ-loop
 begins-requires-3 c κs = omega (arith, hand-furthest c)
@@ -63,25 +63,25 @@ leans-requires c κs = omega (arith, hand-furthest (c .before))
 test-leans :
     (c : tie.After-leans Inv-loop μ-loop) →
     let start = c .before .before .before .before .before .before .args in
-    let turn = c .before .before .before .loop in
-    c .leans .result ≡ leans (rows (now (start .lo))) (start .i) (turn .j) (turn .k)
+    let iteration = c .before .before .before .loop in
+    c .leans .result ≡ leans (rows (now (start .lo))) (start .i) (iteration .j) (iteration .k)
 test-leans c =
     let start = c .before .before .before .before .before .before .args in
-    let turn = c .before .before .before .loop in
+    let iteration = c .before .before .before .loop in
     let a = c .before .before .before .before .before .begins .ensures in
     let d = c .before .begins3 .ensures in
     let hand = hand-furthest (c .before .before) in
     c .leans .ensures
-    ∙ rw (a .0, turn .inv .2, d .0) (leans-columns (rows (now (start .lo))) (start .i) (turn .j) (turn .k) (omega arith) (omega arith))
+    ∙ rw (a .0, iteration .inv .2, d .0) (leans-columns (rows (now (start .lo))) (start .i) (iteration .j) (iteration .k) (omega arith) (omega arith))
 
 returns : tie.Need-returns Inv-loop μ-loop
 returns c =
     let args = c .before .before .before .before .before .before .before .args in
-    let turn = c .before .before .before .before .loop in
+    let iteration = c .before .before .before .before .loop in
     let lo = rows (now (args .lo)) in
     let hand = hand-furthest (c .before .before .before) in
-    let off = furthest-off lo (args .t) (args .i) (turn .j) (turn .k) (turn .inv .5) hand (sym (test-leans (c .before)) ∙ not-true _ (c .if1 .taken)) in
-    (furthest-is lo (args .t) (args .i) (turn .j) (turn .inv .5) (omega arith) off, omega arith, omega arith)
+    let off = furthest-off lo (args .t) (args .i) (iteration .j) (iteration .k) (iteration .inv .5) hand (sym (test-leans (c .before)) ∙ not-true _ (c .if1 .taken)) in
+    (furthest-is lo (args .t) (args .i) (iteration .j) (iteration .inv .5) (omega arith) off, omega arith, omega arith)
 
 mul-wide : tie.Need-mul-wide Inv-loop μ-loop
 mul-wide c = omega (arith, hand-furthest (c .before .before .before))
@@ -98,7 +98,7 @@ loop-less c = omega (arith, hand-furthest (c .before .before .before .before .be
 loop-again : tie.Need-loop-again Inv-loop μ-loop
 loop-again c =
     let args = c .before .before .before .before .before .before .before .before .before .args in
-    let turn = c .before .before .before .before .before .before .loop in
+    let iteration = c .before .before .before .before .before .before .loop in
     let column = c .before .before .before .before .begins3 .ensures in
     let hand = hand-furthest (c .before .before .before .before .before) in
     let test = sym (test-leans (c .before .before .before)) ∙ not-false _ (c .before .before .if1 .left) in (
@@ -107,14 +107,14 @@ loop-again c =
       column .0,
       column .1,
       c .wide .ensures .0,
-      furthest-on (rows (now (args .lo))) (args .t) (args .i) (turn .j) (turn .k) (turn .inv .5) hand test,
+      furthest-on (rows (now (args .lo))) (args .t) (args .i) (iteration .j) (iteration .k) (iteration .inv .5) hand test,
     )
 
 returns-2 : tie.Need-returns-2 Inv-loop μ-loop
 returns-2 c =
     let args = c .before .before .before .before .args in
-    let turn = c .before .loop in
-    (furthest-is (rows (now (args .lo))) (args .t) (args .i) (turn .j) (turn .inv .5) (omega arith) (λ r l m. absurd (omega arith)), omega arith, omega arith)
+    let iteration = c .before .loop in
+    (furthest-is (rows (now (args .lo))) (args .t) (args .i) (iteration .j) (iteration .inv .5) (omega arith) (λ r l m. absurd (omega arith)), omega arith, omega arith)
 
 pub tangent-spec : {M : Type 1} → statement M
 tangent-spec =

@@ -5,7 +5,7 @@ use native.Mathlib.Decide.{decLt}
 use native.Mathlib.Omega.{arith}
 use lib.ListN.{length, length-set, getD-replicate}
 use lib.Seq.{getD-set-same, getD-set-other}
-use Rattle.rows.specs.Rows.{rows, Tangents}
+use Rattle.rows.specs.parts.Rows.{rows, Tangents}
 use Rattle.rows.proofs.tangents.Statement.{statement}
 use Rattle.rows.proofs.tangents.Tie as tie
 
@@ -34,9 +34,9 @@ sub-tangent c = omega arith
 
 tangent-requires : tie.Need-tangent-requires Inv-loop μ-loop
 tangent-requires c κs =
-    let turn = c .before .before .loop in
-    let e : suc (turn .i - 1 - 1) ≡ turn .i - 1 = omega arith in
-    (omega arith, omega arith, rw e (turn .inv .2), rw e (turn .inv .3))
+    let iteration = c .before .before .loop in
+    let e : suc (iteration .i - 1 - 1) ≡ iteration .i - 1 = omega arith in
+    (omega arith, omega arith, rw e (iteration .inv .2), rw e (iteration .inv .3))
 
 cast-next : tie.Need-cast-next Inv-loop μ-loop
 cast-next c = omega arith
@@ -55,17 +55,17 @@ loop-less c = omega arith
 
 loop-again : tie.Need-loop-again Inv-loop μ-loop
 loop-again c =
-    let turn = c .before .before .before .loop in
-    let n = turn .i - 1 - 1 in
+    let iteration = c .before .before .before .loop in
+    let n = iteration .i - 1 - 1 in
     let x = c .tangent .result in
-    let stored = getD-set-same (turn .next) n x 0 (omega arith) in (
+    let stored = getD-set-same (iteration .next) n x 0 (omega arith) in (
       omega arith,
-      simp length-set (turn .inv .1),
+      simp length-set (iteration .inv .1),
       sym stored,
       record {
         furthest-left = λ k h l.
             elim (decLt n k) [
-              | yes m ↦ getD-set-other (turn .next) n k x 0 (λ e. omega arith) ∙ turn .inv .3 .furthest-left k (omega arith) l
+              | yes m ↦ getD-set-other (iteration .next) n k x 0 (λ e. omega arith) ∙ iteration .inv .3 .furthest-left k (omega arith) l
               | no m ↦
                   let e : k ≡ n = omega arith in
                   rw e (stored ∙ c .tangent .ensures .0)
@@ -75,8 +75,8 @@ loop-again c =
 
 returns : tie.Need-returns Inv-loop μ-loop
 returns c =
-    let turn = c .before .loop in
-    record { furthest-left = λ k h l. turn .inv .3 .furthest-left k (omega arith) l }
+    let iteration = c .before .loop in
+    record { furthest-left = λ k h l. iteration .inv .3 .furthest-left k (omega arith) l }
 
 pub tangents-spec : {M : Type 1} → statement M
 tangents-spec =

@@ -43,14 +43,14 @@ loop-less c = search needs
 
 loop-again : tie.Need-loop-again Inv-loop μ-loop
 loop-again c =
-    let turn = c .before in
-    let a = turn .before .before .before .args in
-    let i = turn .before .loop .i in
+    let iteration = c .before in
+    let a = iteration .before .before .before .args in
+    let i = iteration .before .loop .i in
     let d = a .rows .now in
     let l = a .from .now in (
       search needs,
-      ap (λ (e : List ℕ). set e (a .at + i) (getD l i 0)) (turn .before .loop .inv .1)
-          ∙ paste-suc d (a .at) l i 0 (omega (arith, turn .loop-test .taken, turn .before .before .before .pre)) (omega (arith, turn .loop-test .taken, turn .before .before .all .given .0))
+      ap (λ (e : List ℕ). set e (a .at + i) (getD l i 0)) (iteration .before .loop .inv .1)
+          ∙ paste-suc d (a .at) l i 0 (omega (arith, iteration .loop-test .taken, iteration .before .before .before .pre)) (omega (arith, iteration .loop-test .taken, iteration .before .before .all .given .0))
           ∙ ap (paste d (a .at) l) (sym (add-one i)),
     )
 

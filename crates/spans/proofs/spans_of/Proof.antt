@@ -7,7 +7,7 @@ use lib.ListN.{length, length-replicate}
 use borrow.Author.Needs.{needs}
 use Rattle.chart.specs.Limits.{side}
 use Rattle.chart.specs.Outline.{Outline}
-use Rattle.rows.specs.Rows.{rows, RowEnds}
+use Rattle.rows.specs.parts.Rows.{rows, RowEnds}
 use Rattle.spans.specs.Spans.{lesser, greater, leftSide, rightSide, spansOf}
 use Rattle.spans.specs.declared.Spans.{Spans}
 use Rattle.spans.proofs.Tables.{Filled, filled-start, filled-next, filled-end, filled-same, up-le, down-le}
@@ -69,18 +69,18 @@ loop-less c = omega arith
 
 loop-again : tie.Need-loop-again Inv-loop μ-loop
 loop-again c =
-    let turn = c .before .before .before .loop in
-    (omega arith, filled-next (turn .inv .1) (omega arith) _ (c .before .lesser .ensures), filled-next (turn .inv .2) (omega arith) _ (c .greater .ensures))
+    let iteration = c .before .before .before .loop in
+    (omega arith, filled-next (iteration .inv .1) (omega arith) _ (c .before .lesser .ensures), filled-next (iteration .inv .2) (omega arith) _ (c .greater .ensures))
 
 returns : tie.Need-returns Inv-loop μ-loop
 unfolding spansOf leftSide rightSide
 returns c =
-    let turn = c .before .loop in
+    let iteration = c .before .loop in
     let ends = c .before .before .before .before .row-ends .ensures in
-    let k : turn .k ≡ side = omega arith in
+    let k : iteration .k ≡ side = omega arith in
     spans-eq
-    (filled-end _ side (turn .first) (filled-same (λ m h. same lesser (ends .lo-up m (omega arith)) (ends .hi-down m (omega arith))) (rw k at (turn .inv .1))))
-    (filled-end _ side (turn .past) (filled-same (λ m h. same greater (ends .lo-up m (omega arith)) (ends .hi-down m (omega arith))) (rw k at (turn .inv .2))))
+    (filled-end _ side (iteration .first) (filled-same (λ m h. same lesser (ends .lo-up m (omega arith)) (ends .hi-down m (omega arith))) (rw k at (iteration .inv .1))))
+    (filled-end _ side (iteration .past) (filled-same (λ m h. same greater (ends .lo-up m (omega arith)) (ends .hi-down m (omega arith))) (rw k at (iteration .inv .2))))
 
 pub spans-of-spec : {M : Type 1} → statement M
 spans-of-spec =

@@ -2,7 +2,7 @@
 use native.Mathlib.Omega.{arith}
 use mathlib.Core.Path.{sym, _∙_}
 use borrow.Author.Needs.{needs}
-use Rattle.survey.specs.Walks.{WalkedAs}
+use Rattle.survey.specs.parts.Walks.{WalkedAs}
 use Rattle.survey.proofs.CheckLaws.{counted-short}
 use Rattle.survey.proofs.SurveyLaws.{walk-leaves, walk-unclosed, walk-passed}
 use Rattle.survey.proofs.walked.Statement.{statement}

@@ -44,8 +44,8 @@ add-i c = search needs
 add-laters : tie.Need-add-laters Inv-loop μ-loop
 add-laters c =
     let ranked = c .before .before in
-    let turn = ranked .before .before .before in
-    omega (arith, search-fits (turn .before .loop .inv) (turn .loop-test .taken) (ranked .rank2 .ensures))
+    let iteration = ranked .before .before .before in
+    omega (arith, search-fits (iteration .before .loop .inv) (iteration .loop-test .taken) (ranked .rank2 .ensures))
 
 add-i-2 : tie.Need-add-i-2 Inv-loop μ-loop
 add-i-2 c = search needs
@@ -53,8 +53,8 @@ add-i-2 c = search needs
 add-read : tie.Need-add-read Inv-loop μ-loop
 add-read c =
     let ranked = c .before in
-    let turn = ranked .before .before .before in
-    omega (arith, search-fits (turn .before .loop .inv) (turn .loop-test .taken) (ranked .rank2 .ensures))
+    let iteration = ranked .before .before .before in
+    omega (arith, search-fits (iteration .before .loop .inv) (iteration .loop-test .taken) (ranked .rank2 .ensures))
 
 add-j-2 : tie.Need-add-j-2 Inv-loop μ-loop
 add-j-2 c = search needs
@@ -65,9 +65,9 @@ loop-less c = search needs
 loop-again : tie.Need-loop-again Inv-loop μ-loop
 loop-again c =
     let ranked = c .before in
-    let turn = ranked .before .before .before in
-    let s = turn .before .loop .inv in
-    let h = turn .loop-test .taken in
+    let iteration = ranked .before .before .before in
+    let s = iteration .before .loop .inv in
+    let h = iteration .loop-test .taken in
     let b = ranked .rank2 .ensures in
     ⊎-elim
     (λ w. rw (w .1, w .2, b) (pair-same s h (w .0 .taken)))

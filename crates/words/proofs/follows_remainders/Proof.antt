@@ -20,8 +20,8 @@ loop-holds c = (search needs, walked-start _ _ _ (search needs))
 
 returns : tie.Need-returns Inv-loop μ-loop
 returns c =
-    let turn = c .before .before in
-    walked-zero (turn .before .loop .inv .1) (turn .loop-test .taken) (ltb-true _ _ (c .if2 .taken)) (c .before .if1 .taken)
+    let iteration = c .before .before in
+    walked-zero (iteration .before .loop .inv .1) (iteration .loop-test .taken) (ltb-true _ _ (c .if2 .taken)) (c .before .if1 .taken)
 
 next-remainder-requires : tie.Need-next-remainder-requires Inv-loop μ-loop
 next-remainder-requires c κs = search needs
@@ -31,8 +31,8 @@ shared-slice-read-if3 c = search needs
 
 returns-2 : tie.Need-returns-2 Inv-loop μ-loop
 returns-2 c =
-    let turn = c .before .before .before .before in
-    walked-misfit (turn .before .loop .inv .1) _ (turn .loop-test .taken) (c .before .before .next-remainder .ensures) (c .if3 .taken)
+    let iteration = c .before .before .before .before in
+    walked-misfit (iteration .before .loop .inv .1) _ (iteration .loop-test .taken) (c .before .before .next-remainder .ensures) (c .if3 .taken)
 
 add-i : tie.Need-add-i Inv-loop μ-loop
 add-i c = search needs
@@ -42,11 +42,11 @@ loop-less c = search needs
 
 loop-again : tie.Need-loop-again Inv-loop μ-loop
 loop-again c =
-    let turn = c .before .before .before .before in
+    let iteration = c .before .before .before .before in
     let gave = c .before .before .next-remainder .ensures in (
       search needs,
-      walked-next (turn .before .loop .inv .1) (search needs) gave
-          (λ p z. ⊎-elim (λ w. omega (arith, ltb-false 0 (turn .before .loop .i) (w .1 .left))) (λ w. w .left z) (c .before .before .before .if1 .came))
+      walked-next (iteration .before .loop .inv .1) (search needs) gave
+          (λ p z. ⊎-elim (λ w. omega (arith, ltb-false 0 (iteration .before .loop .i) (w .1 .left))) (λ w. w .left z) (c .before .before .before .if1 .came))
           (c .if3 .left),
     )
 

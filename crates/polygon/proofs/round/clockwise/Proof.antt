@@ -7,7 +7,7 @@ use mir.Syntax.{w16, w64}
 use mir.Val.{toZ, ofZ}
 use mir.ValLaws.{toZ-ofZ}
 use Rattle.base.proofs.Sizes.{read-back, fits-size, size-difference}
-use Rattle.turning.specs.Round.{cross, positive}
+use Rattle.directions.specs.Round.{cross, positive}
 use Rattle.polygon.proofs.round.clockwise.Statement.{statement}
 use Rattle.polygon.proofs.round.clockwise.Tie as tie
 

@@ -3,7 +3,7 @@ use borrow.Author.Needs.{needs}
 use mathlib.Core.Path.{_≡_, sym, ap, _∙_}
 use mir.Syntax.{w64}
 use mir.Val.{toZ, ofZ}
-use Rattle.turning.specs.Round.{positive, isNil, firstHalf}
+use Rattle.directions.specs.Round.{positive, isNil, firstHalf}
 use Rattle.polygon.proofs.Integers.{widened}
 use Rattle.polygon.proofs.round.first_half.Statement.{statement}
 use Rattle.polygon.proofs.round.first_half.Tie as tie
@@ -14,8 +14,8 @@ cols-read c = widened (c .before .fits .dx) (c .widen .ok) (c .widen .ensures)
 cols-positive : (c : tie.After-positive) → c .positive .result ≡ positive (c .before .before .args .dx)
 cols-positive c = c .positive .ensures ∙ ap positive (cols-read (c .before))
 
-cols-nil : (c : tie.After-is-nil) → c .is-nil .result ≡ isNil (c .before .before .before .before .args .dx)
-cols-nil c = c .is-nil .ensures ∙ ap isNil (cols-read (c .before .before .before))
+cols-nil : (c : tie.After-is-zero) → c .is-zero .result ≡ isNil (c .before .before .before .before .args .dx)
+cols-nil c = c .is-zero .ensures ∙ ap isNil (cols-read (c .before .before .before))
 
 rows-positive : (c : tie.After-positive2) → c .positive2 .result ≡ positive (c .before .before .before .before .before .before .before .args .dy)
 rows-positive c =
@@ -29,8 +29,8 @@ widen-requires c κs = search needs
 positive-requires : tie.Need-positive-requires
 positive-requires c κs = search needs
 
-is-nil-requires : tie.Need-is-nil-requires
-is-nil-requires c κs = search needs
+is-zero-requires : tie.Need-is-zero-requires
+is-zero-requires c κs = search needs
 
 widen-requires-2 : tie.Need-widen-requires-2
 widen-requires-2 c κs = search needs
@@ -61,7 +61,7 @@ first-half-spec =
     (tie.spec
     widen-requires
     positive-requires
-    is-nil-requires
+    is-zero-requires
     widen-requires-2
     positive-requires-2
     returns

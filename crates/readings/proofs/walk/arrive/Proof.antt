@@ -1,8 +1,8 @@
 -- Coordinate by coordinate.
 use mir.Syntax.{w16}
 use mir.ValLaws.{toZ-ofZ}
-use Rattle.turning.proofs.OnChart.{on-parts}
-use Rattle.readings.specs.Walk.{arrived}
+use Rattle.directions.proofs.OnChart.{on-parts}
+use Rattle.readings.specs.parts.Walk.{arrived}
 use Rattle.readings.proofs.Numbers.{good-both}
 use Rattle.readings.proofs.walk.arrive.Statement.{statement}
 use Rattle.readings.proofs.walk.arrive.Tie as tie

@@ -1,7 +1,7 @@
 -- The first corner cell is arrived at with nothing met.
 use mir.Syntax.{w16}
 use mir.ValLaws.{toZ-ofZ}
-use Rattle.readings.specs.Walk.{begun}
+use Rattle.readings.specs.parts.Walk.{begun}
 use Rattle.readings.proofs.walk.begin.Statement.{statement}
 use Rattle.readings.proofs.walk.begin.Tie as tie
 

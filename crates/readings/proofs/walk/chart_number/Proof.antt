@@ -2,7 +2,7 @@
 use borrow.Author.Needs.{needs}
 use mir.Syntax.{w32}
 use mir.ValLaws.{toZ-ofZ}
-use Rattle.turning.specs.CornerHull.{chartNumber}
+use Rattle.directions.specs.CornerHull.{chartNumber}
 use Rattle.readings.proofs.walk.chart_number.Statement.{statement}
 use Rattle.readings.proofs.walk.chart_number.Tie as tie
 

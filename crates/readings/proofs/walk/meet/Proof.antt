@@ -4,7 +4,7 @@ use mathlib.Core.Path.{sym, subst}
 use lib.Dec.{T}
 use mir.Syntax.{w16}
 use mir.ValLaws.{toZ-ofZ}
-use Rattle.readings.specs.Walk.{met}
+use Rattle.readings.specs.parts.Walk.{met}
 use Rattle.readings.proofs.Numbers.{good-exact, cell-of, cell-size, small-le, le-small}
 use Rattle.readings.proofs.walk.meet.Statement.{statement}
 use Rattle.readings.proofs.walk.meet.Tie as tie

@@ -8,11 +8,11 @@ use lib.Ieee.{Float, fin, binary32, ofBits, neg, le, lt}
 use mir.Syntax.{w16, w32}
 use mir.Val.{SFits, toZ, ofZ}
 use mir.ValLaws.{toZ-ofZ}
-use Rattle.turning.specs.CornerHull.{onChart}
-use Rattle.turning.proofs.OnChart.{on-parts}
+use Rattle.directions.specs.CornerHull.{onChart}
+use Rattle.directions.proofs.OnChart.{on-parts}
 use Rattle.readings.specs.Sides.{computedSide}
 use Rattle.readings.specs.Located.{far, near}
-use Rattle.readings.specs.Walk.{edgeOf, stepped, passed}
+use Rattle.readings.specs.parts.Walk.{edgeOf, stepped, passed}
 use Rattle.readings.proofs.Numbers.{cell-fits}
 use Rattle.readings.proofs.walk.pass.Statement.{statement}
 use Rattle.readings.proofs.walk.pass.Tie as tie

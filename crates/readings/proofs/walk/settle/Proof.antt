@@ -1,5 +1,5 @@
 -- The tests of the definition, in its order.
-use Rattle.readings.specs.Walk.{settled}
+use Rattle.readings.specs.parts.Walk.{settled}
 use Rattle.readings.proofs.walk.settle.Statement.{statement}
 use Rattle.readings.proofs.walk.settle.Tie as tie
 

@@ -7,8 +7,8 @@ use borrow.Author.Needs.{needs}
 use Rattle.chart.specs.declared.Point.{Point}
 use Rattle.chart.specs.Outline.{outline}
 use Rattle.lattice.proofs.Staying.{start-on-chart}
-use Rattle.survey.specs.Numbers.{colNumber, rowNumber, offChart}
-use Rattle.survey.specs.Walks.{Begun, WalkedAs}
+use Rattle.survey.specs.parts.Numbers.{colNumber, rowNumber, offChart}
+use Rattle.survey.specs.parts.Walks.{Begun, WalkedAs}
 use Rattle.survey.proofs.AlongLaws.{Along, along-start, along-meets, along-leaves, along-next, along-round}
 use Rattle.survey.proofs.walk.along.Statement.{statement}
 use Rattle.survey.proofs.walk.along.Tie as tie
@@ -45,12 +45,12 @@ mark-requires c κs = search needs
 returns : tie.Need-returns Inv-loop μ-loop
 unfolding WalkedAs
 returns c =
-    let turn = c .before .before .before in
-    let at = turn .before in
+    let iteration = c .before .before .before in
+    let at = iteration .before in
     let rows = at .before in
     let cols = rows .before in
     let start = cols .before .before .before in
-    along-meets _ (start .pre) (at .loop .inv .1 (start .args .s) (cols .col-number .ensures) (rows .row-number .ensures) (start .pre)) (turn .loop-test .taken) (sym (c .before .mark .ensures .0) ∙ c .if1 .taken)
+    along-meets _ (start .pre) (at .loop .inv .1 (start .args .s) (cols .col-number .ensures) (rows .row-number .ensures) (start .pre)) (iteration .loop-test .taken) (sym (c .before .mark .ensures .0) ∙ c .if1 .taken)
 
 lower-requires : tie.Need-lower-requires Inv-loop μ-loop
 lower-requires c κs = search needs
@@ -86,12 +86,12 @@ returns-2 : tie.Need-returns-2 Inv-loop μ-loop
 unfolding WalkedAs
 returns-2 c =
     let sum = c .before .before .before .before in
-    let turn = sum .before .before .before .before .before .before .before .before .before .before in
-    let at = turn .before in
+    let iteration = sum .before .before .before .before .before .before .before .before .before .before in
+    let at = iteration .before in
     let rows = at .before in
     let cols = rows .before in
     let start = cols .before .before .before in
-    along-leaves _ (start .pre) (at .loop .inv .1 (start .args .s) (cols .col-number .ensures) (rows .row-number .ensures) (start .pre)) (turn .loop-test .taken) (sum .before .col-stride .ensures)
+    along-leaves _ (start .pre) (at .loop .inv .1 (start .args .s) (cols .col-number .ensures) (rows .row-number .ensures) (start .pre)) (iteration .loop-test .taken) (sum .before .col-stride .ensures)
     (sym (ap offChart (sum .wrapping-add-u32 .ensures)) ∙ sym (c .before .is-off-chart .ensures) ∙ c .if2 .taken)
 
 add-i : tie.Need-add-i Inv-loop μ-loop
@@ -109,11 +109,11 @@ loop-again c =
     let north = east .before in
     let west = north .before in
     let mark = west .before .before in
-    let turn = mark .before .before in (
+    let iteration = mark .before .before in (
       omega (arith, row .wrapping-add-u322 .ensures),
       λ s e f b.
           rw (row .wrapping-add-u322 .ensures, col .wrapping-add-u32 .ensures, west .lower .ensures, north .lower2 .ensures, east .higher .ensures, south .higher2 .ensures, mark .mark .ensures .1)
-          (along-next _ b (turn .before .loop .inv .1 s e f b) (turn .loop-test .taken) (col .before .col-stride .ensures) (sym (mark .mark .ensures .0) ∙ west .before .if1 .left) (row .before .row-stride .ensures)
+          (along-next _ b (iteration .before .loop .inv .1 s e f b) (iteration .loop-test .taken) (col .before .col-stride .ensures) (sym (mark .mark .ensures .0) ∙ west .before .if1 .left) (row .before .row-stride .ensures)
           (sym (ap offChart (col .wrapping-add-u32 .ensures)) ∙ sym (c .before .is-off-chart .ensures) ∙ c .if2 .left)),
     )
 

@@ -3,7 +3,7 @@ use Prim.Native.Nat.{_%_}
 use native.Mathlib.Omega.{arith}
 use mathlib.Core.Path.{refl}
 use Rattle.lattice.proofs.Letters.{clause, last-clause}
-use Rattle.survey.specs.Numbers.{colStride}
+use Rattle.survey.specs.parts.Numbers.{colStride}
 use Rattle.survey.proofs.walk.col_stride.Statement.{statement}
 use Rattle.survey.proofs.walk.col_stride.Tie as tie
 

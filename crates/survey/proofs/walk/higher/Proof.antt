@@ -1,6 +1,6 @@
 -- The test is that of the definition.
 use borrow.Author.Tests.{lt-ltb, le-ltb}
-use Rattle.survey.specs.Numbers.{higherOf}
+use Rattle.survey.specs.parts.Numbers.{higherOf}
 use Rattle.survey.proofs.walk.higher.Statement.{statement}
 use Rattle.survey.proofs.walk.higher.Tie as tie
 

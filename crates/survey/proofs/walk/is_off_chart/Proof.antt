@@ -1,6 +1,6 @@
 -- The two tests are those of the definition.
 use mathlib.Core.Path.{refl}
-use Rattle.survey.specs.Numbers.{offChart}
+use Rattle.survey.specs.parts.Numbers.{offChart}
 use Rattle.survey.proofs.walk.is_off_chart.Statement.{statement}
 use Rattle.survey.proofs.walk.is_off_chart.Tie as tie
 

@@ -1,6 +1,6 @@
 -- The test is that of the definition.
 use borrow.Author.Tests.{lt-ltb, le-ltb}
-use Rattle.survey.specs.Numbers.{lowerOf}
+use Rattle.survey.specs.parts.Numbers.{lowerOf}
 use Rattle.survey.proofs.walk.lower.Statement.{statement}
 use Rattle.survey.proofs.walk.lower.Tie as tie
 

@@ -3,7 +3,7 @@ use Prim.Native.Nat.{_%_}
 use native.Mathlib.Omega.{arith}
 use mathlib.Core.Path.{refl}
 use Rattle.lattice.proofs.Letters.{clause, last-clause}
-use Rattle.survey.specs.Numbers.{rowStride}
+use Rattle.survey.specs.parts.Numbers.{rowStride}
 use Rattle.survey.proofs.walk.row_stride.Statement.{statement}
 use Rattle.survey.proofs.walk.row_stride.Tie as tie
 

@@ -3,7 +3,7 @@ use Prim.Native.Nat.{_-_}
 use mathlib.Core.Path.{sym, ap, _∙_}
 use lib.ListN.{length}
 use borrow.Author.Needs.{needs}
-use Rattle.survey.specs.Numbers.{offChart}
+use Rattle.survey.specs.parts.Numbers.{offChart}
 use Rattle.survey.proofs.WalkLaws.{Further, further-next, further-leaves, further-end}
 use Rattle.survey.proofs.walk.walk_on.Statement.{statement}
 use Rattle.survey.proofs.walk.walk_on.Tie as tie
@@ -32,8 +32,8 @@ is-off-chart-requires c κs = search needs
 returns : tie.Need-returns Inv-loop μ-loop
 returns c =
     let added = c .before .before in
-    let turn = added .before .before .before in
-    further-leaves (turn .before .loop .inv) (turn .loop-test .taken) (added .before .col-stride .ensures) (sym (ap offChart (added .wrapping-add-u32 .ensures)) ∙ sym (c .before .is-off-chart .ensures) ∙ c .if1 .taken)
+    let iteration = added .before .before .before in
+    further-leaves (iteration .before .loop .inv) (iteration .loop-test .taken) (added .before .col-stride .ensures) (sym (ap offChart (added .wrapping-add-u32 .ensures)) ∙ sym (c .before .is-off-chart .ensures) ∙ c .if1 .taken)
 
 add-i : tie.Need-add-i Inv-loop μ-loop
 add-i c = search needs
@@ -44,9 +44,9 @@ loop-less c = search needs
 loop-again : tie.Need-loop-again Inv-loop μ-loop
 loop-again c =
     let added = c .before .before in
-    let turn = added .before .before .before in
+    let iteration = added .before .before .before in
     rw (added .wrapping-add-u32 .ensures)
-    (further-next (turn .before .loop .inv) (turn .loop-test .taken) (added .before .col-stride .ensures) (sym (ap offChart (added .wrapping-add-u32 .ensures)) ∙ sym (c .before .is-off-chart .ensures) ∙ c .if1 .left))
+    (further-next (iteration .before .loop .inv) (iteration .loop-test .taken) (added .before .col-stride .ensures) (sym (ap offChart (added .wrapping-add-u32 .ensures)) ∙ sym (c .before .is-off-chart .ensures) ∙ c .if1 .left))
 
 returns-2 : tie.Need-returns-2 Inv-loop μ-loop
 returns-2 c = further-end (c .before .loop .inv) (c .loop-test .left)

@@ -1,0 +1,31 @@
+-- What is still to be written where a piece is begun: the letters of its edges to come, and then the pieces after it.
+use Prim.Native.Nat.{ℕ, zero, suc, _+_, _-_}
+use mathlib.Core.List.{List, [], _∷_, _++_}
+use lib.IntN.{ℤ}
+use Rattle.words.specs.Counted.{listed, countedLetter, edgesWord}
+use Rattle.convexity.specs.Frame.{frameOf}
+use Rattle.convexity.specs.parts.InFrame.{spell}
+use Rattle.convexity.specs.FromEdges.{quadrantOf, runIn, riseIn, sizesIn}
+
+-- The letters of the edges of quadrant k
+unfoldable pub edgeLetters : ℕ → List ℤ → List ℕ
+edgeLetters k es = spell (frameOf k) (edgesWord (sizesIn k es))
+
+-- In piece k, which n pieces follow
+unfoldable pub rest : ℕ → ℕ → List ℤ → List ℕ
+rest zero k es = edgeLetters k es
+rest (suc n) k es = edgeLetters k es ++ (frameOf (suc k) .later ∷ rest n (suc k) es)
+
+-- The first letters of the n pieces after piece k
+unfoldable pub firsts : ℕ → ℕ → List ℕ
+firsts k zero = []
+firsts k (suc n) = frameOf (suc k) .later ∷ firsts (suc k) n
+
+-- The letters of one edge of piece k
+unfoldable pub letters : ℕ → ℕ → ℕ → List ℕ
+letters k run rise = spell (frameOf k) (listed (countedLetter rise (run + rise)) (run + rise))
+
+-- What one edge writes where piece p was begun last
+unfoldable pub stepLetters : ℕ → ℤ → ℤ → List ℕ
+stepLetters p dx dy =
+    firsts p (quadrantOf dx dy - p) ++ letters (quadrantOf dx dy) (runIn (quadrantOf dx dy) dx dy) (riseIn (quadrantOf dx dy) dx dy)

@@ -1,0 +1,78 @@
+// The direction of an edge: its quadrant, and how many letters it has (contract 3.4 and 3.12).
+ghost use mathlib.Core.Path.{_≡_};
+ghost use Prim.Native.Nat.{_≤_};
+ghost use lib.IntN.{natAbs, negℤ};
+ghost use Rattle.convexity.specs.Frame.{frameOf};
+ghost use Rattle.convexity.specs.FromEdges.{quadrantOf, runIn};
+ghost use Rattle.directions.specs.Round.{positive};
+
+// A number without its sign.
+pub(crate) fn size(d: i16) -> usize
+    ensures { λ r. ⌜ (r ≡ natAbs d) × (r ≤ 32768) ⌝ }
+{
+    if d < 0 {
+        (0 - (d as i64)) as usize
+    } else {
+        d as usize
+    }
+}
+
+fn above(d: i16) -> bool
+    ensures { λ r. ⌜ r ≡ positive d ⌝ }
+{
+    0 < d
+}
+
+fn below(d: i16) -> bool
+    ensures { λ r. ⌜ r ≡ positive (negℤ d) ⌝ }
+{
+    d < 0
+}
+
+// The quadrant, counted from 0: from up to right, from right to down, from down to left, from left to up, the first direction of each
+// included and the last excluded. 4 for (0, 0).
+pub(crate) fn quadrant(dx: i16, dy: i16) -> usize
+    ensures { λ r. ⌜ r ≡ quadrantOf dx dy ⌝ }
+{
+    if above(dx) {
+        return if above(dy) { 0 } else { 1 };
+    }
+    if below(dx) {
+        return if below(dy) { 2 } else { 3 };
+    }
+    if above(dy) {
+        return 0;
+    }
+    if below(dy) { 2 } else { 4 }
+}
+
+// How many earlier letters of piece k an edge of that piece has. Its later ones are those that it has as earlier ones of the next piece.
+pub(crate) fn run(k: usize, dx: i16, dy: i16) -> usize
+    ensures { λ r. ⌜ (r ≡ runIn k dx dy) × (r ≤ 32768) ⌝ }
+{
+    if k % 2 == 0 { size(dx) } else { size(dy) }
+}
+
+// The earlier letter of piece k, counted from 0; any number above 3 stands for the last piece.
+pub(crate) fn earlier(k: usize) -> u8
+    ensures { λ r. ⌜ r ≡ frameOf k .earlier ⌝ }
+{
+    match k {
+        0 => 0,
+        1 => 3,
+        2 => 2,
+        _ => 1,
+    }
+}
+
+// The later letter.
+pub(crate) fn later(k: usize) -> u8
+    ensures { λ r. ⌜ r ≡ frameOf k .later ⌝ }
+{
+    match k {
+        0 => 1,
+        1 => 0,
+        2 => 3,
+        _ => 2,
+    }
+}

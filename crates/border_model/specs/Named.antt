@@ -1,0 +1,31 @@
+-- What the answer of a border call says about all outlines (contract 6.3).
+use mathlib.Core.Path.{_≡_}
+use mathlib.Core.List.{List}
+use lib.ListN.{length, take}
+use lib.IntN.{ℤ}
+use Prim.Native.Nat.{ℕ}
+use Rattle.chart.specs.declared.Point.{Point}
+use Rattle.chart.specs.declared.Fields.{Fields}
+use Rattle.chart.specs.Outline.{Outline, outline}
+use Rattle.convexity.specs.Clockwise.{border}
+use Rattle.border_model.specs.declared.Traced.{Traced}
+use Rattle.border_model.specs.Traced.{tracedOf, tracedFields, lettersAfter}
+use Rattle.border_model.specs.Outlined.{TakenAs, HasOutline}
+
+-- Letters that are the border of an anchor and edges: begun at the anchor's corner they are an outline taken with this anchor and these edges, and of every
+-- outline so taken they are its own letters, clockwise from W
+pub record BorderOf (a : Point) (es : List ℤ) (w : List ℕ) : Type 0 where
+  pub taken : TakenAs (outline a w) a es
+  pub own : (o : Outline) → TakenAs o a es → border o ≡ outline a w
+
+-- 17 says that no outline is so taken, and 18 that one is; number 0 has the letters first in the list, as many as its place says
+pub record BorderNamed (a : Point) (es : List ℤ) (f : Fields) (after : List ℕ) : Type 0 where
+  pub none : f .number ≡ 17 → ¬ (HasOutline a es)
+  pub some : f .number ≡ 18 → HasOutline a es
+  pub written : f .number ≡ 0 → BorderOf a es (take (f .place) after)
+
+-- All that a border call promises of its answer t and of the lent list
+pub record Answers (a : Point) (es : List ℤ) (before after : List ℕ) (t : Traced) : Type 0 where
+  pub answer : t ≡ tracedOf a es (length before)
+  pub letters : after ≡ lettersAfter a es before
+  pub named : BorderNamed a es (tracedFields t) after

@@ -1,0 +1,17 @@
+// An answer written out: its number and its fields (contract 4).
+use crate::Traced;
+use chart::Fields;
+use chart::reply;
+ghost use mathlib.Core.Path.{_≡_};
+ghost use Rattle.border_model.specs.Traced.{tracedFields};
+
+pub fn of_traced(t: Traced) -> Fields
+    ensures { λ f. ⌜ f ≡ tracedFields t ⌝ }
+{
+    match t {
+        Traced::Written { letters } => reply::placed(0, letters),
+        Traced::Refused(why) => reply::of_refusal(why),
+        Traced::NoOutline => reply::numbered(17),
+        Traced::NoRoom => reply::numbered(18),
+    }
+}

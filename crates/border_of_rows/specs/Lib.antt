@@ -1,0 +1,2 @@
+-- Letters written from a place of a list on.
+pub mod parts

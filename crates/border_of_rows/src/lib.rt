@@ -1,0 +1,77 @@
+// The letters round a block of rows, written clockwise from the left end of one of them.
+ghost use Prim.Native.Nat.{_+_, _-_, _≤_, _<_};
+ghost use mathlib.Core.Path.{_≡_};
+ghost use mathlib.Core.List.{_++_};
+ghost use lib.ListN.{length, drop};
+ghost use Rattle.chart.specs.Limits.{side};
+ghost use Rattle.rows.specs.parts.Rows.{rows};
+ghost use Rattle.completion.specs.Runs.{across as acrossOf};
+ghost use Rattle.completion.specs.parts.Written.{toRow, descent, writtenFrom};
+ghost use Rattle.border_of_rows.specs.parts.Wrote.{Wrote};
+
+// Writes the rights or the lefts from column `a` to column `b`, and says where they end. One letter is the common case, so there is one loop for both.
+fn across(out: &mut [u8], at: usize, a: u16, b: u16) -> usize
+    requires { ⌜ at + length (acrossOf a b) ≤ length (now out) ⌝ }
+    ensures { λ r. ⌜ (r ≡ at + length (acrossOf a b)) × Wrote (now (out .entry)) at (acrossOf a b) (now (out .exit)) ⌝ }
+{
+    let mut k = at;
+    let mut x = a;
+    while x != b {
+        if x < b {
+            out[k] = 0;
+            x += 1;
+        } else {
+            out[k] = 2;
+            x -= 1;
+        }
+        k += 1;
+    }
+    k
+}
+
+// Writes the letters up the left ends from row `y` to row `e`.
+fn rise(lo: &[u16; 256], y: usize, e: usize, out: &mut [u8], at: usize) -> usize
+    requires { ⌜ (y ≤ e) × (e < 256) × (at + length (toRow (rows (now lo)) y (e - y)) ≤ length (now out)) ⌝ }
+    ensures { λ r. ⌜ (r ≡ at + length (toRow (rows (now (lo .entry))) y (e - y))) × Wrote (now (out .entry)) at (toRow (rows (now (lo .entry))) y (e - y)) (now (out .exit)) ⌝ }
+{
+    let mut k = at;
+    let mut i = y;
+    while i < e {
+        out[k] = 1;
+        k = across(out, k + 1, lo[i], lo[i + 1]);
+        i += 1;
+    }
+    k
+}
+
+// Writes the letters down the right ends from row `e` to row `y`.
+fn fall(hi: &[u16; 256], y: usize, e: usize, out: &mut [u8], at: usize) -> usize
+    requires { ⌜ (y ≤ e) × (e < 256) × (at + length (descent (rows (now hi)) y (e - y)) ≤ length (now out)) ⌝ }
+    ensures { λ r. ⌜ (r ≡ at + length (descent (rows (now (hi .entry))) y (e - y))) × Wrote (now (out .entry)) at (descent (rows (now (hi .entry))) y (e - y)) (now (out .exit)) ⌝ }
+{
+    out[at] = 3;
+    let mut k = at + 1;
+    let mut i = e;
+    while y < i {
+        k = across(out, k, hi[i], hi[i - 1]);
+        out[k] = 3;
+        k += 1;
+        i -= 1;
+    }
+    k
+}
+
+// Writes the letters round rows `b` to `t - 1`, clockwise from the left end of row `m`, to the front of a list.
+pub fn round(lo: &[u16; 256], hi: &[u16; 256], b: usize, t: usize, m: usize, out: &mut [u8])
+    requires { ⌜ (b ≤ m) × (m < t) × (t ≤ side) ⌝ }
+    requires { ⌜ length (writtenFrom (rows (now lo)) (rows (now hi)) b t m) ≤ length (now out) ⌝ }
+    ensures { λ _. ⌜ now (out .exit) ≡ writtenFrom (rows (now (lo .entry))) (rows (now (hi .entry))) b t m ++ drop (length (writtenFrom (rows (now (lo .entry))) (rows (now (hi .entry))) b t m)) (now (out .entry)) ⌝ }
+{
+    let top = t - 1;
+    let up = rise(lo, m, top, out, 0);
+    out[up] = 1;
+    let over = across(out, up + 1, lo[top], hi[top]);
+    let down = fall(hi, b, top, out, over);
+    let back = across(out, down, hi[b], lo[b]);
+    rise(lo, b, m, out, back);
+}

@@ -1,0 +1,135 @@
+-- A walk along the edges tells of each row what its corner cells and edges tell: what the lists hold and what is still to come are the whole.
+use Prim.Native.Nat.{ℕ, _+_, _≤_, _<_, min, max}
+use native.Mathlib.Omega.{arith}
+use mathlib.Core.Path.{_≡_, refl, sym, ap, _∙_}
+use mathlib.Core.List.{List, [], _∷_}
+use lib.ListN.{length, drop, getD, length-drop, replicate, length-replicate, getD-replicate}
+use lib.IntN.{ℤ, pos}
+use borrow.Author.Tests.{eq-eqb, ne-eqb}
+use Rattle.base.specs.Same.{sameℤ}
+use Rattle.chart.specs.Limits.{side}
+use Rattle.chart.specs.declared.Point.{Point}
+use Rattle.polygon.proofs.Spans.{drop-two}
+use Rattle.nesting.specs.Cells.{polygon, Fit}
+use Rattle.nesting.specs.Rows.{startAt, endAfter}
+use Rattle.sweep.specs.parts.Sweep.{between, cornerFrom, cornerTo, riseFrom, fallTo, sweptFrom, sweptTo, rowFrom, rowTo}
+use Rattle.sweep.proofs.Items.{swept-from-below}
+use Rattle.comparison.specs.parts.Step.{steppedTo}
+use Rattle.comparison.specs.parts.Rows.{firstAt, endAt, inRows, metFrom, metTo, risenFrom, fallenTo, AllBelow, Lowered, Raised, Swept}
+use Rattle.comparison.proofs.Columns.{rise-is, side-is}
+use Rattle.comparison.proofs.Steps.{Standing, standing-start, Further, standing-further}
+use Rattle.comparison.proofs.Lists.{lowered-below}
+
+-- ---- a corner cell
+
+module _ (p : Point) where
+  pub met-here : metFrom p (p .row) ≡ min (p .col) side
+  unfolding metFrom cornerFrom sameℤ startAt
+  met-here = rw (eq-eqb (p .row) (p .row) refl)
+
+  pub met-else : (r : ℕ) → (r ≡ p .row → ⊥) → metFrom p r ≡ side
+  unfolding metFrom cornerFrom sameℤ
+  met-else r h = rw (ne-eqb (p .row) r (λ e. h (sym e)))
+
+  pub to-here : metTo p (p .row) ≡ min (p .col + 1) side
+  unfolding metTo cornerTo sameℤ endAfter
+  to-here = rw (eq-eqb (p .row) (p .row) refl) (omega arith)
+
+  pub to-else : (r : ℕ) → (r ≡ p .row → ⊥) → metTo p r ≡ 0
+  unfolding metTo cornerTo sameℤ
+  to-else r h = rw (ne-eqb (p .row) r (λ e. h (sym e)))
+
+-- ---- an edge
+
+module _ {es : List ℤ} {i : ℕ} {p q : Point} (f : Further es i p q) where
+  abbrev dx : ℤ
+  dx = getD es i (pos 0)
+
+  abbrev dy : ℤ
+  dy = getD es (i + 1) (pos 0)
+
+  rise-told : (r : ℕ) → riseFrom dx dy (pos (p .col)) (pos (p .row)) r ≡ risenFrom p q r
+  unfolding riseFrom inRows between firstAt
+  rise-told r =
+      rw (
+        f .isRow,
+        side-is dx dy (p .col) (p .row) (q .col) (q .row) r (f .isCol) (f .isRow),
+        rise-is dx dy (p .col) (p .row) (q .col) (q .row) r (f .isCol) (f .isRow),
+      ) refl
+
+  fall-told : (r : ℕ) → fallTo dx dy (pos (p .col)) (pos (p .row)) r ≡ fallenTo p q r
+  unfolding fallTo inRows between endAt
+  fall-told r =
+      rw (
+        f .isRow,
+        side-is dx dy (p .col) (p .row) (q .col) (q .row) r (f .isCol) (f .isRow),
+        rise-is dx dy (p .col) (p .row) (q .col) (q .row) r (f .isCol) (f .isRow),
+      ) refl
+
+  -- The walk from p is the corner cell, the edge, and the walk from q
+  from-next : (r : ℕ) → i + 1 < length es
+      → sweptFrom (drop i es) (pos (p .col)) (pos (p .row)) r ≡ min (min (metFrom p r) (risenFrom p q r)) (sweptFrom (drop (i + 2) es) (pos (q .col)) (pos (q .row)) r)
+  unfolding sweptFrom metFrom
+  from-next r h = rw (drop-two es i h, rise-told r, f .isCol, f .isRow) refl
+
+  to-next : (r : ℕ) → i + 1 < length es
+      → sweptTo (drop i es) (pos (p .col)) (pos (p .row)) r ≡ max (max (metTo p r) (fallenTo p q r)) (sweptTo (drop (i + 2) es) (pos (q .col)) (pos (q .row)) r)
+  unfolding sweptTo metTo
+  to-next r h = rw (drop-two es i h, fall-told r, f .isCol, f .isRow) refl
+
+-- What is left of the walk at its end is a corner cell
+from-last : (es : List ℤ) (p : Point) (r : ℕ) → length es < 2 → sweptFrom es (pos (p .col)) (pos (p .row)) r ≡ metFrom p r
+unfolding sweptFrom metFrom
+from-last [] p r h = refl
+from-last (dx ∷ []) p r h = refl
+from-last (dx ∷ dy ∷ es) p r h = absurd (omega arith)
+
+to-last : (es : List ℤ) (p : Point) (r : ℕ) → length es < 2 → sweptTo es (pos (p .col)) (pos (p .row)) r ≡ metTo p r
+unfolding sweptTo metTo
+to-last [] p r h = refl
+to-last (dx ∷ []) p r h = refl
+to-last (dx ∷ dy ∷ es) p r h = absurd (omega arith)
+
+-- ---- the loop over the edges
+
+pub record Sweeping (es : List ℤ) (a : Point) (i : ℕ) (p : Point) (first end : List ℕ) : Type 0 where
+  pub stands : Standing es i p
+  pub below : AllBelow first
+  pub wide : length end ≡ 256
+  pub from : (r : ℕ) → r < side → min (getD first r 0) (sweptFrom (drop i es) (pos (p .col)) (pos (p .row)) r) ≡ rowFrom (polygon a es) r
+  pub to : (r : ℕ) → r < side → max (getD end r 0) (sweptTo (drop i es) (pos (p .col)) (pos (p .row)) r) ≡ rowTo (polygon a es) r
+
+pub sweeping-start : (es : List ℤ) (a : Point) (first end : List ℕ) → Fit (polygon a es) → first ≡ replicate 256 side → end ≡ replicate 256 0 → Sweeping es a 0 a first end
+unfolding rowFrom rowTo
+sweeping-start es a first end fit e f =
+    record {
+      stands = standing-start es a (fit .placed);
+      below = record { long = ap length e ∙ length-replicate 256 side; at = λ r l. omega (arith, ap (λ (k : List ℕ). getD k r 0) e, getD-replicate {A = ℕ} 256 r side 0 (omega arith)) };
+      wide = ap length f ∙ length-replicate {A = ℕ} 256 0;
+      from = λ r l.
+          omega (arith, ap (λ (k : List ℕ). getD k r 0) e, getD-replicate {A = ℕ} 256 r side 0 (omega arith), swept-from-below es (pos (a .col)) (pos (a .row)) r);
+      to = λ r l. omega (arith, ap (λ (k : List ℕ). getD k r 0) f, getD-replicate {A = ℕ} 256 r 0 0 (omega arith));
+    }
+
+module _ {es : List ℤ} {a : Point} {i : ℕ} {p : Point} {first end : List ℕ} (w : Sweeping es a i p first end) where
+  pub sweeping-next : {met risen reached fallen : List ℕ} → i + 1 < length es →
+      let q = steppedTo p (getD es i (pos 0)) (getD es (i + 1) (pos 0)) in
+      Lowered (metFrom p) first met → Raised (metTo p) end reached → Lowered (risenFrom p q) met risen → Raised (fallenTo p q) reached fallen
+      → Sweeping es a (i + 2) q risen fallen
+  sweeping-next h m n s t =
+      let f = standing-further (w .stands) h in
+      record {
+        stands = f .stands;
+        below = lowered-below (lowered-below (w .below) m) s;
+        wide = t .long ∙ n .long ∙ w .wide;
+        from = λ r l. omega (arith, s .at r l, m .at r l, from-next f r h, w .from r l);
+        to = λ r l. omega (arith, t .at r l, n .at r l, to-next f r h, w .to r l);
+      }
+
+  pub sweeping-end : {met reached : List ℕ} → length es ≤ i + 1 → Lowered (metFrom p) first met → Raised (metTo p) end reached → Swept (polygon a es) met reached
+  sweeping-end h m n =
+      let short : length (drop i es) < 2 = simp length-drop (omega arith) in
+      record {
+        from = λ r l. omega (arith, m .at r l, from-last (drop i es) p r short, w .from r l);
+        to = λ r l. omega (arith, n .at r l, to-last (drop i es) p r short, w .to r l);
+      }

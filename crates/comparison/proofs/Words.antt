@@ -1,0 +1,116 @@
+-- The words of a comparison name the statement that holds: past the refusals by the theorem of the five statements, and a refusal has no word.
+use Prim.Native.Nat.{ℕ, _<_}
+use native.Mathlib.Omega.{arith}
+use mathlib.Core.Path.{_≡_, refl, sym, ap, _∙_}
+use mathlib.Core.Bool.{cond}
+use mathlib.Core.List.{List, []}
+use lib.Dec.{eqb}
+use lib.IntN.{ℤ}
+use denote.Ref.{RefT}
+use Rattle.chart.specs.declared.Point.{Point}
+use Rattle.chart.specs.declared.Fields.{Fields}
+use Rattle.chart.specs.declared.Nesting.{Nesting}
+use Rattle.chart.specs.declared.Nesting.the-variants.{Equal, FirstWithin, SecondWithin, Apart, Crossing}
+use Rattle.chart.specs.declared.Comparison.{Comparison}
+use Rattle.chart.specs.declared.Comparison.the-variants.{Found, Refused}
+use Rattle.chart.specs.declared.Refusal.{Refusal}
+use Rattle.chart.specs.declared.Refusal.the-variants.{Count, Start, Letter, Leaves, Unclosed, Touches, BackStep, Dent, Room, List as BadList, Cell, Directions}
+use Rattle.chart.specs.Fields.{placed, refusalFields, nestingFields, comparisonFields}
+use Rattle.nesting.specs.Cells.{polygon}
+use Rattle.nesting.specs.Answer.{nesting}
+use Rattle.nesting.proofs.Answer.{answer-iff}
+use Rattle.comparison.specs.declared.Checked.{Checked}
+use Rattle.comparison.specs.declared.Checked.the-variants.{Fit, Unfit}
+use Rattle.comparison.specs.declared.Handed.{Handed}
+use Rattle.comparison.specs.declared.Handed.the-variants.{First, Second, Neither}
+use Rattle.comparison.specs.Compared.{checkedOf, decided, comparisonOf, CellsNamed, handedWith, handedBy, HandedBack}
+use Rattle.comparison.proofs.Cases.{fit-passes}
+
+-- A refusal has a number
+pub refusal-number : (f : Refusal) → 0 < refusalFields f .number
+refusal-number Count = omega arith
+refusal-number Start = omega arith
+refusal-number (Letter p) = omega arith
+refusal-number (Leaves p) = omega arith
+refusal-number Unclosed = omega arith
+refusal-number (Touches p) = omega arith
+refusal-number (BackStep k p) = omega arith
+refusal-number (Dent k p l x) = omega arith
+refusal-number (Room e) = omega arith
+refusal-number BadList = omega arith
+refusal-number Cell = omega arith
+refusal-number Directions = omega arith
+
+-- Each word is one answer's
+word-above : (v : Nesting) → 0 < nestingFields v .word
+word-above Equal = omega arith
+word-above FirstWithin = omega arith
+word-above SecondWithin = omega arith
+word-above Apart = omega arith
+word-above Crossing = omega arith
+
+worded : ℕ → Nesting
+worded n = cond (eqb n 11) Equal (cond (eqb n 12) FirstWithin (cond (eqb n 13) SecondWithin (cond (eqb n 14) Apart Crossing)))
+
+worded-is : (v : Nesting) → worded (nestingFields v .word) ≡ v
+unfolding worded
+worded-is Equal = refl
+worded-is FirstWithin = refl
+worded-is SecondWithin = refl
+worded-is Apart = refl
+worded-is Crossing = refl
+
+pub word-once : (v w : Nesting) → nestingFields v .word ≡ nestingFields w .word → v ≡ w
+word-once v w e = sym (worded-is v) ∙ ap worded e ∙ worded-is w
+
+module _ (a : Point) (es : List ℤ) (b : Point) (fs : List ℤ) where
+  unnamed : (n : ℕ) (f : Refusal) → CellsNamed (polygon a es) (polygon b fs) (placed (refusalFields f .number) n)
+  unnamed n f = record { says = λ v e. absurd (omega (arith, word-above v)); only = λ e. absurd (omega (arith, refusal-number f)) }
+
+  named :
+      (s t : Checked) → s ≡ checkedOf a es → t ≡ checkedOf b fs
+      → CellsNamed (polygon a es) (polygon b fs) (comparisonFields (decided s t (nesting (polygon a es) (polygon b fs))))
+  unfolding decided
+  named (Unfit f) t p q = unnamed 1 f
+  named Fit (Unfit f) p q = unnamed 2 f
+  named Fit Fit p q =
+      let iff = answer-iff (polygon a es) (polygon b fs) (fit-passes a es p) (fit-passes b fs q) in
+      record { says = λ v e. iff v .1 (word-once (nesting (polygon a es) (polygon b fs)) v e); only = λ e v h. ap nestingFields (iff v .0 h) }
+
+  cells-named : CellsNamed (polygon a es) (polygon b fs) (comparisonFields (comparisonOf a es b fs))
+  unfolding comparisonOf
+  cells-named = named (checkedOf a es) (checkedOf b fs) refl refl
+
+  -- So does whatever is that answer
+  pub answer-named :
+      (c : Comparison) → c ≡ comparisonOf a es b fs → (c ≡ comparisonOf a es b fs) × CellsNamed (polygon a es) (polygon b fs) (comparisonFields c)
+  answer-named c e = (e, rw e cells-named)
+
+-- The piece of a reply names the list that goes with the answer
+abbrev pub pieceBy : Handed → ℕ
+pieceBy First = 1
+pieceBy Second = 2
+pieceBy Neither = 0
+
+with-piece : (v : Nesting) → nestingFields v .piece ≡ pieceBy (handedWith v)
+unfolding handedWith
+with-piece Equal = refl
+with-piece FirstWithin = refl
+with-piece SecondWithin = refl
+with-piece Apart = refl
+with-piece Crossing = refl
+
+pub handed-piece : (c : Comparison) → comparisonFields c .piece ≡ pieceBy (handedBy c)
+unfolding handedBy
+handed-piece (Found v) = with-piece v
+handed-piece (Refused n f) = refl
+
+module _ (f : Fields) (first second : RefT (List ℤ)) where
+  pub handed-one : f .piece ≡ 1 → HandedBack f first first second
+  handed-one e = record { one = λ h. refl; two = λ h. absurd (omega arith); neither = λ h. absurd (omega arith) }
+
+  pub handed-two : f .piece ≡ 2 → HandedBack f second first second
+  handed-two e = record { one = λ h. absurd (omega arith); two = λ h. refl; neither = λ h. absurd (omega arith) }
+
+  pub handed-neither : (list : RefT (List ℤ)) → f .piece ≡ 0 → list .ptr ≡ first .ptr → list .now ≡ [] → HandedBack f list first second
+  handed-neither list e p q = record { one = λ h. absurd (omega arith); two = λ h. absurd (omega arith); neither = λ h. (p, q) }

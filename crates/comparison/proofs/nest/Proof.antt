@@ -1,0 +1,28 @@
+-- Equal lists have equal hulls, and for others the tests of the rows decide.
+use mathlib.Core.Path.{sym, _∙_}
+use borrow.Author.Needs.{needs}
+use Rattle.comparison.proofs.RowTests.{nests-same, nests-by-rows}
+use Rattle.comparison.proofs.nest.Statement.{statement}
+use Rattle.comparison.proofs.nest.Tie as tie
+
+same-lists-requires : tie.Need-same-lists-requires
+same-lists-requires c κs = search needs
+
+returns : tie.Need-returns
+returns c = nests-same _ _ _ _ (c .before .before .pre .0) (sym (c .before .same-lists .ensures) ∙ c .if1 .taken)
+
+test-rows-requires : tie.Need-test-rows-requires
+test-rows-requires c κs = search needs
+
+by-rows-requires : tie.Need-by-rows-requires
+by-rows-requires c κs = search needs
+
+returns-2 : tie.Need-returns-2
+returns-2 c =
+    let t = c .before in
+    let s = t .before .before .before in
+    c .by-rows .ensures ∙ nests-by-rows (s .pre .0) (s .pre .1) _ (t .test-rows .ensures)
+
+pub nest-spec : {M : Type 1} → statement M
+nest-spec =
+    tie.close (tie.spec same-lists-requires returns test-rows-requires by-rows-requires returns-2)

@@ -1,0 +1,45 @@
+-- One number is raised past the corner cell's column, in the row that it tells of.
+use native.Mathlib.Omega.{arith}
+use borrow.Author.Needs.{needs}
+use Rattle.comparison.specs.parts.Rows.{metTo}
+use Rattle.comparison.proofs.Lists.{high-one}
+use Rattle.comparison.proofs.Sweeps.{to-here, to-else}
+use Rattle.comparison.proofs.rows.corner_end.Statement.{statement}
+use Rattle.comparison.proofs.rows.corner_end.Tie as tie
+
+cast-row : tie.Need-cast-row
+cast-row c = search needs
+
+element-copy-out-higher : tie.Need-element-copy-out-higher
+element-copy-out-higher c = search needs
+
+cast-higher : tie.Need-cast-higher
+cast-higher c = search needs
+
+add-higher : tie.Need-add-higher
+add-higher c = search needs
+
+higher-requires : tie.Need-higher-requires
+higher-requires c κs = search needs
+
+element-write-end : tie.Need-element-write-end
+element-write-end c = search needs
+
+returns : tie.Need-returns
+returns c =
+    let s = c .before .before .before .before in
+    let at = s .args .at in
+    rw (c .higher .ensures)
+    (high-one (metTo at) (s .args .end .now) (at .row) _ (omega (arith, s .pre .1, s .pre .2)) (to-here at) (to-else at))
+
+pub corner-end-spec : {M : Type 1} → statement M
+corner-end-spec =
+    tie.close
+    (tie.spec
+    cast-row
+    element-copy-out-higher
+    cast-higher
+    add-higher
+    higher-requires
+    element-write-end
+    returns)

@@ -1,0 +1,82 @@
+-- The rows passed are raised to the edge's end in each, and the others are as they were.
+use Prim.Native.Nat.{ℕ, _+_, _-_, _≤_, _<_, min, max}
+use native.Mathlib.Omega.{arith}
+use mathlib.Core.Path.{_≡_, sym, ap}
+use lib.ListN.{length}
+use borrow.Author.Needs.{needs}
+use Rattle.chart.specs.Limits.{side}
+use Rattle.comparison.specs.parts.Rows.{endAt, inRows, Raised}
+use Rattle.comparison.proofs.Lists.{high-start, high-next, high-end}
+use Rattle.comparison.proofs.rows.fall.Statement.{statement}
+use Rattle.comparison.proofs.rows.fall.Tie as tie
+
+abbrev Inv-loop : tie.InvT-loop
+Inv-loop p q end₀ row₀ end row = (q .row < row) × (row ≤ max (q .row + 1) (p .row)) × (length end₀ ≡ 256) × Raised (inRows (q .row) row (λ n. min (endAt p q n) side) 0) end₀ end
+
+abbrev μ-loop : tie.MeasureT-loop
+μ-loop p q end₀ row₀ end row = p .row - row
+
+cast-row : tie.Need-cast-row Inv-loop μ-loop
+cast-row c = search needs
+
+add-row : tie.Need-add-row Inv-loop μ-loop
+add-row c = search needs
+
+loop-holds : tie.Need-loop-holds Inv-loop μ-loop
+loop-holds c = let s = c .before in (omega arith, omega arith, s .pre .4, high-start (s .args .q .row) _ (s .args .end .now))
+
+cast-if1 : tie.Need-cast-if1 Inv-loop μ-loop
+cast-if1 c = search needs
+
+element-copy-out-higher : tie.Need-element-copy-out-higher Inv-loop μ-loop
+element-copy-out-higher c = search needs
+
+cast-end-at : tie.Need-cast-end-at Inv-loop μ-loop
+cast-end-at c = search needs
+
+end-at-requires : tie.Need-end-at-requires Inv-loop μ-loop
+end-at-requires c κs = search needs
+
+higher-requires : tie.Need-higher-requires Inv-loop μ-loop
+higher-requires c κs = search needs
+
+element-write-end : tie.Need-element-write-end Inv-loop μ-loop
+element-write-end c = search needs
+
+add-row-2 : tie.Need-add-row-2 Inv-loop μ-loop
+add-row-2 c = search needs
+
+loop-less : tie.Need-loop-less Inv-loop μ-loop
+loop-less c = omega arith
+
+loop-again : tie.Need-loop-again Inv-loop μ-loop
+loop-again c =
+    let t = c .before .before .before .before .before in
+    let v = t .loop .inv in
+    let s = t .before .before in
+    (omega (arith, v .0), omega (arith, v .1), v .2, rw (c .higher .ensures) (high-next (s .args .q .row) (λ n. min (endAt (s .args .p) (s .args .q) n) side) (s .args .end .now) (min (c .before .end-at .result) side) (v .3) (v .0) (omega (arith, v .2, v .3 .long)) (ap (λ (k : ℕ). min k side) (sym (c .before .end-at .ensures)))))
+
+returns : tie.Need-returns Inv-loop μ-loop
+returns c =
+    let v = c .before .before .loop .inv in
+    high-end _ _ _ (v .3) (omega (arith, c .if1 .left)) (v .1)
+
+pub fall-spec : {M : Type 1} → statement M
+fall-spec =
+    tie.close
+    (tie.spec
+    Inv-loop
+    μ-loop
+    cast-row
+    add-row
+    loop-holds
+    cast-if1
+    element-copy-out-higher
+    cast-end-at
+    end-at-requires
+    higher-requires
+    element-write-end
+    add-row-2
+    loop-less
+    loop-again
+    returns)

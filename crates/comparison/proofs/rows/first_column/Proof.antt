@@ -1,0 +1,47 @@
+-- Each return is a case of the definition: an edge that does not rise bounds no column from below, nor does one with column 0 on its inner side.
+use Prim.Native.Nat.{_-_}
+use native.Mathlib.Omega.{arith}
+use Rattle.comparison.proofs.Columns.{first-level, first-inner, first-outer, quotient-small}
+use borrow.Author.Needs.{needs}
+use Rattle.comparison.proofs.rows.first_column.Statement.{statement}
+use Rattle.comparison.proofs.rows.first_column.Tie as tie
+
+returns : tie.Need-returns
+returns c = let s = c .before .args in first-level (s .y) (s .v) (s .plus) (s .minus) (omega arith)
+
+returns-2 : tie.Need-returns-2
+returns-2 c = let s = c .before .before .args in first-inner (s .y) (s .v) (s .plus) (s .minus) (omega arith)
+
+sub-result : tie.Need-sub-result
+sub-result c = search needs
+
+sub-result-2 : tie.Need-sub-result-2
+sub-result-2 c = search needs
+
+sub-result-3 : tie.Need-sub-result-3
+sub-result-3 c = search needs
+
+div-result : tie.Need-div-result
+div-result c = search needs
+
+add-result : tie.Need-add-result
+add-result c =
+    let s = c .before .before in
+    let m = s .args .minus - s .args .plus - 1 in
+    record { fits = omega (arith, quotient-small m (s .args .v - s .args .y) (s .args .minus) (omega arith), s .fits .minus .fits) }
+
+returns-3 : tie.Need-returns-3
+returns-3 c = let s = c .before .before .args in first-outer (s .y) (s .v) (s .plus) (s .minus) (omega arith) (omega arith)
+
+pub first-column-spec : {M : Type 1} → statement M
+first-column-spec =
+    tie.close
+    (tie.spec
+    returns
+    returns-2
+    sub-result
+    sub-result-2
+    sub-result-3
+    div-result
+    add-result
+    returns-3)

@@ -1,0 +1,159 @@
+-- The loop's invariant: what the lists tell of the part walked, and what is left of the walk, are the whole.
+use Prim.Native.Nat.{_+_, _-_, _<_}
+use native.Mathlib.Omega.{arith}
+use mathlib.Core.Path.{_≡_, _∙_}
+use mathlib.Core.List.{List}
+use lib.ListN.{length, getD}
+use lib.IntN.{ℤ, pos}
+use mir.Syntax.{w16}
+use mir.Val.{SFits}
+use mir.ValLaws.{toZ-ofZ}
+use borrow.Author.Needs.{needs}
+use Rattle.chart.specs.Limits.{side}
+use Rattle.comparison.specs.parts.Step.{steppedTo}
+use Rattle.comparison.proofs.Steps.{standing-here, standing-further}
+use Rattle.comparison.proofs.Lists.{lowered-below}
+use Rattle.comparison.proofs.Sweeps.{Sweeping, sweeping-start, sweeping-next, sweeping-end}
+use Rattle.comparison.proofs.rows.sweep.Statement.{statement}
+use Rattle.comparison.proofs.rows.sweep.Tie as tie
+
+abbrev Inv-loop : tie.InvT-loop
+Inv-loop edges first₀ end₀ at₀ i₀ first end at i = Sweeping edges at₀ i at first end
+
+abbrev μ-loop : tie.MeasureT-loop
+μ-loop edges first₀ end₀ at₀ i₀ first end at i = length edges - i
+
+-- A turn's edge, and what its numbers lead to
+abbrev Iteration : Type 0
+Iteration = tie.In-loop Inv-loop μ-loop
+
+abbrev list : Iteration → List ℤ
+list t = t .before .before .args .edges .now
+
+abbrev stepX : Iteration → ℤ
+stepX t = getD (list t) (t .before .loop .i) (pos 0)
+
+abbrev stepY : Iteration → ℤ
+stepY t = getD (list t) (t .before .loop .i + 1) (pos 0)
+
+fits-x : (c : tie.After-further-arg Inv-loop μ-loop) → SFits w16 (stepX (c .before .before .before .before .before))
+fits-x c = record { sfits = c .further-arg .given }
+
+fits-y : (c : tie.After-further-arg2 Inv-loop μ-loop) → SFits w16 (stepY (c .before .before .before .before .before .before))
+fits-y c = record { sfits = c .further-arg2 .given }
+
+stepped-is :
+    (c : tie.After-further Inv-loop μ-loop) →
+    let t = c .before .before .before .before .before .before .before in
+    c .further .result ≡ steppedTo (t .before .loop .at) (stepX t) (stepY t)
+stepped-is c = simp (toZ-ofZ w16 _ (fits-x (c .before .before)), toZ-ofZ w16 _ (fits-y (c .before))) at (c .further .ensures)
+
+-- Both ends of the edge are on the chart
+ends :
+    (c : tie.After-further Inv-loop μ-loop) →
+    let at = c .before .before .before .before .before .before .before .before .loop .at in
+    (at .col < side) × (at .row < side) × (c .further .result .col < side) × (c .further .result .row < side)
+ends c =
+    let t = c .before .before .before .before .before .before .before in
+    let s = t .before .loop .inv .stands in
+    let a = standing-here s in
+    let b = standing-here (standing-further s (omega arith) .stands) in
+    (a .0, a .1, rw (stepped-is c) (b .0), rw (stepped-is c) (b .1))
+
+loop-holds : tie.Need-loop-holds Inv-loop μ-loop
+loop-holds c = sweeping-start _ _ _ _ (c .pre .0) (c .pre .1) (c .pre .2)
+
+add-loop : tie.Need-add-loop Inv-loop μ-loop
+add-loop c = omega arith
+
+corner-first-requires : tie.Need-corner-first-requires Inv-loop μ-loop
+corner-first-requires c κs = let w = c .before .before .loop .inv in let a = standing-here (w .stands) in (a .0, a .1, w .below)
+
+corner-end-requires : tie.Need-corner-end-requires Inv-loop μ-loop
+corner-end-requires c κs = let w = c .before .before .before .before .loop .inv in let a = standing-here (w .stands) in (a .0, a .1, w .wide)
+
+mul-further : tie.Need-mul-further Inv-loop μ-loop
+mul-further c = omega arith
+
+shared-slice-copy-out-further : tie.Need-shared-slice-copy-out-further Inv-loop μ-loop
+shared-slice-copy-out-further c = omega arith
+
+add-further : tie.Need-add-further Inv-loop μ-loop
+add-further c = omega arith
+
+mul-further-2 : tie.Need-mul-further-2 Inv-loop μ-loop
+mul-further-2 c = omega arith
+
+shared-slice-copy-out-further-2 : tie.Need-shared-slice-copy-out-further-2 Inv-loop μ-loop
+shared-slice-copy-out-further-2 c = omega arith
+
+further-requires : tie.Need-further-requires Inv-loop μ-loop
+further-requires c κs = search needs
+
+rise-requires : tie.Need-rise-requires Inv-loop μ-loop
+rise-requires c κs =
+    let f = c .before in
+    let met = f .before .before .before .before .before in
+    let e = ends f in
+    (e .0, e .1, e .2, e .3, lowered-below (met .before .before .before .loop .inv .below) (met .corner-first .ensures))
+
+fall-requires : tie.Need-fall-requires Inv-loop μ-loop
+fall-requires c κs =
+    let f = c .before .before .before in
+    let reached = f .before .before .before in
+    let e = ends f in
+    (e .0, e .1, e .2, e .3, reached .corner-end .ensures .long ∙ reached .before .before .before .before .before .loop .inv .wide)
+
+add-i : tie.Need-add-i Inv-loop μ-loop
+add-i c = omega arith
+
+loop-less : tie.Need-loop-less Inv-loop μ-loop
+loop-less c = omega arith
+
+loop-again : tie.Need-loop-again Inv-loop μ-loop
+loop-again c =
+    let risen = c .before .before in
+    let f = risen .before .before in
+    let reached = f .before .before .before in
+    let met = reached .before .before in
+    let t = met .before .before in
+    let r = rw (stepped-is f) at (risen .rise .ensures) in
+    let l = rw (stepped-is f) at (c .fall .ensures) in
+    rw (stepped-is f) (sweeping-next (t .before .loop .inv) (omega arith) (met .corner-first .ensures) (reached .corner-end .ensures) r l)
+
+corner-first-requires-2 : tie.Need-corner-first-requires-2 Inv-loop μ-loop
+corner-first-requires-2 c κs = let w = c .before .before .loop .inv in let a = standing-here (w .stands) in (a .0, a .1, w .below)
+
+corner-end-requires-2 : tie.Need-corner-end-requires-2 Inv-loop μ-loop
+corner-end-requires-2 c κs = let w = c .before .before .before .before .loop .inv in let a = standing-here (w .stands) in (a .0, a .1, w .wide)
+
+returns : tie.Need-returns Inv-loop μ-loop
+returns c =
+    let met = c .before .before in
+    let left = met .before .before in
+    sweeping-end (left .before .loop .inv) (omega (arith, left .loop-test .left)) (met .corner-first2 .ensures) (c .corner-end2 .ensures)
+
+pub sweep-spec : {M : Type 1} → statement M
+sweep-spec =
+    tie.close
+    (tie.spec
+    Inv-loop
+    μ-loop
+    loop-holds
+    add-loop
+    corner-first-requires
+    corner-end-requires
+    mul-further
+    shared-slice-copy-out-further
+    add-further
+    mul-further-2
+    shared-slice-copy-out-further-2
+    further-requires
+    rise-requires
+    fall-requires
+    add-i
+    loop-less
+    loop-again
+    corner-first-requires-2
+    corner-end-requires-2
+    returns)

@@ -1,0 +1,24 @@
+-- Two walks fill the lists, whose tests are those of the polygons.
+use mathlib.Core.Path.{_∙_}
+use borrow.Author.Needs.{needs}
+use Rattle.comparison.proofs.RowTests.{compared-swept}
+use Rattle.comparison.proofs.rows.test_rows.Statement.{statement}
+use Rattle.comparison.proofs.rows.test_rows.Tie as tie
+
+sweep-requires : tie.Need-sweep-requires
+sweep-requires c κs = search needs
+
+sweep-requires-2 : tie.Need-sweep-requires-2
+sweep-requires-2 c κs = search needs
+
+compare-rows-requires : tie.Need-compare-rows-requires
+compare-rows-requires c κs = search needs
+
+returns : tie.Need-returns
+returns c =
+    let two = c .before .before .before .before .before in
+    let one = two .before .before .before in
+    c .compare-rows .ensures ∙ compared-swept _ _ _ _ _ _ (one .sweep .ensures) (two .sweep2 .ensures)
+
+pub test-rows-spec : {M : Type 1} → statement M
+test-rows-spec = tie.close (tie.spec sweep-requires sweep-requires-2 compare-rows-requires returns)

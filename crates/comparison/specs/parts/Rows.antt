@@ -1,0 +1,76 @@
+-- The rows of a walk in two lists of numbers, the first columns and the ends: what one corner cell and one edge tell, what lists hold after a walk, and what two
+-- such pairs of lists tell.
+use Prim.Native.Nat.{ℕ, _+_, _*_, _≤_, _<_, min, max}
+use mathlib.Core.Path.{_≡_}
+use mathlib.Core.Bool.{cond, not, _&&_}
+use mathlib.Core.List.{List}
+use lib.Dec.{ltb}
+use lib.IntN.{pos, _-ℤ_}
+use lib.ListN.{length, getD}
+use Rattle.base.specs.Below.{every}
+use Rattle.chart.specs.Limits.{side}
+use Rattle.chart.specs.declared.Point.{Point}
+use Rattle.nesting.specs.Cells.{Polygon}
+use Rattle.nesting.specs.Rows.{edgeFrom, edgeTo}
+use Rattle.sweep.specs.parts.Sweep.{cornerFrom, cornerTo, rowFrom, rowTo}
+use Rattle.sweep.specs.parts.Tests.{runWithin, runsMeet, rowsWithin, rowsApart}
+use Rattle.comparison.specs.declared.rows.Tests.{Tests}
+
+-- The first column of row r on the inner side of the edge from p to q, and the end, by the edge's side value at column 0
+unfoldable pub firstAt : Point → Point → ℕ → ℕ
+firstAt p q r = edgeFrom (pos (q .row) -ℤ pos (p .row)) (pos (q .col * p .row + p .col * r) -ℤ pos (q .row * p .col + q .col * r))
+
+unfoldable pub endAt : Point → Point → ℕ → ℕ
+endAt p q r = edgeTo (pos (q .row) -ℤ pos (p .row)) (pos (q .col * p .row + p .col * r) -ℤ pos (q .row * p .col + q .col * r))
+
+-- What is told of the rows strictly between a and b, and else d
+unfoldable pub inRows : ℕ → ℕ → (ℕ → ℕ) → ℕ → ℕ → ℕ
+inRows a b f d r = cond (ltb a r && ltb r b) (f r) d
+
+-- What a corner cell tells of row r
+unfoldable pub metFrom : Point → ℕ → ℕ
+metFrom p r = cornerFrom (pos (p .col)) (pos (p .row)) r
+
+unfoldable pub metTo : Point → ℕ → ℕ
+metTo p r = cornerTo (pos (p .col)) (pos (p .row)) r
+
+-- What an edge tells that rises through row r, and one that falls
+abbrev pub risenFrom : Point → Point → ℕ → ℕ
+risenFrom p q r = inRows (p .row) (q .row) (λ n. min (firstAt p q n) side) side r
+
+abbrev pub fallenTo : Point → Point → ℕ → ℕ
+fallenTo p q r = inRows (q .row) (p .row) (λ n. min (endAt p q n) side) 0 r
+
+-- A number for each row of the chart, and one more, of which none is past the end of the longest run
+pub record AllBelow (l : List ℕ) : Type 0 where
+  pub long : length l ≡ 256
+  pub at : (r : ℕ) → r < side → getD l r 0 ≤ side
+
+-- Each number is the lesser, or the greater, of what it was and what is told of its row
+pub record Lowered (f : ℕ → ℕ) (before after : List ℕ) : Type 0 where
+  pub long : length after ≡ length before
+  pub at : (r : ℕ) → r < side → getD after r 0 ≡ min (getD before r 0) (f r)
+
+pub record Raised (f : ℕ → ℕ) (before after : List ℕ) : Type 0 where
+  pub long : length after ≡ length before
+  pub at : (r : ℕ) → r < side → getD after r 0 ≡ max (getD before r 0) (f r)
+
+-- The first columns and the ends of a polygon's rows
+pub record Swept (p : Polygon) (first end : List ℕ) : Type 0 where
+  pub from : (r : ℕ) → r < side → getD first r 0 ≡ rowFrom p r
+  pub to : (r : ℕ) → r < side → getD end r 0 ≡ rowTo p r
+
+-- The tests of two polygons, and of two pairs of lists
+unfoldable pub testsOf : Polygon → Polygon → Tests
+testsOf p q = record { inward = rowsWithin p q; outward = rowsWithin q p; apart = rowsApart p q }
+
+unfoldable pub comparedTo : List ℕ → List ℕ → List ℕ → List ℕ → ℕ → Tests
+comparedTo f e g h n =
+    record {
+      inward = every (λ r. runWithin (getD f r 0) (getD e r 0) (getD g r 0) (getD h r 0)) n;
+      outward = every (λ r. runWithin (getD g r 0) (getD h r 0) (getD f r 0) (getD e r 0)) n;
+      apart = every (λ r. not (runsMeet (getD f r 0) (getD e r 0) (getD g r 0) (getD h r 0))) n;
+    }
+
+abbrev pub compared : List ℕ → List ℕ → List ℕ → List ℕ → Tests
+compared f e g h = comparedTo f e g h side

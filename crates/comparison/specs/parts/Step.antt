@@ -1,0 +1,16 @@
+-- A step on the chart: where it leads, or the first number that is none of the chart's.
+use Prim.Native.Nat.{ℕ}
+use mathlib.Core.Bool.{cond}
+use lib.IntN.{ℤ, pos, _+ℤ_}
+use Rattle.chart.specs.Limits.{side}
+use Rattle.chart.specs.declared.Point.{Point}
+use Rattle.directions.specs.CornerHull.{chartNumber}
+use Rattle.nesting.specs.Rows.{startAt}
+
+-- A column or a row of the chart as it is, and any other number as the first that is none
+unfoldable pub kept : ℤ → ℕ
+kept z = cond (chartNumber z) (startAt z) side
+
+-- The corner cell at the end of an edge
+unfoldable pub steppedTo : Point → ℤ → ℤ → Point
+steppedTo a dx dy = record { col = kept (pos (a .col) +ℤ dx); row = kept (pos (a .row) +ℤ dy) }

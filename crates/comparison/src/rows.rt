@@ -1,0 +1,214 @@
+// The rows of a polygon by one walk along its edges, and two polygons compared row by row.
+use crate::step;
+use chart::Point;
+use chart::SIDE;
+ghost use mathlib.Core.Path.{_≡_};
+ghost use Prim.Native.Nat.{_≤_, _<_, _*_, min, max};
+ghost use lib.IntN.{pos, _-ℤ_};
+ghost use lib.ListN.{length, replicate};
+ghost use Rattle.chart.specs.Limits.{side};
+ghost use Rattle.nesting.specs.Cells.{polygon, Fit};
+ghost use Rattle.nesting.specs.Rows.{edgeFrom, edgeTo};
+ghost use Rattle.comparison.specs.parts.Rows.{firstAt, endAt, metFrom, metTo, risenFrom, fallenTo, AllBelow, Lowered, Raised, Swept, testsOf, compared};
+
+// One number for each row of the chart, and one more.
+pub(crate) const ROWS: usize = 256;
+
+// The end of the longest run.
+const END: u32 = SIDE as u32;
+
+// The first column of a row that has none.
+const NO_COLUMN: u8 = SIDE as u8;
+
+fn lesser(a: u32, b: u32) -> u32
+    ensures { λ r. ⌜ r ≡ min a b ⌝ }
+{
+    if a < b { a } else { b }
+}
+
+fn greater(a: u32, b: u32) -> u32
+    ensures { λ r. ⌜ r ≡ max a b ⌝ }
+{
+    if a < b { b } else { a }
+}
+
+// The first column on the inner side of an edge from row y to row v, whose side value at column 0 is plus - minus.
+fn first_column(y: u32, v: u32, plus: u32, minus: u32) -> u32
+    ensures { λ r. ⌜ r ≡ edgeFrom (pos v -ℤ pos y) (pos plus -ℤ pos minus) ⌝ }
+{
+    if v <= y {
+        return 0;
+    }
+    if minus <= plus {
+        return 0;
+    }
+    (minus - plus - 1) / (v - y) + 1
+}
+
+// The column after the last one.
+fn end_column(y: u32, v: u32, plus: u32, minus: u32) -> u32
+    requires { ⌜ plus < 2 * 65536 ⌝ }
+    ensures { λ r. ⌜ r ≡ edgeTo (pos v -ℤ pos y) (pos plus -ℤ pos minus) ⌝ }
+{
+    if y < v {
+        return END;
+    }
+    if plus < minus {
+        return 0;
+    }
+    if y == v {
+        return END;
+    }
+    (plus - minus) / (y - v) + 1
+}
+
+// The first column of a row on the inner side of the edge from p to q.
+fn first_at(p: Point, q: Point, row: u32) -> u32
+    requires { ⌜ (p .col < side) × (p .row < side) × (q .col < side) × (q .row < side) × (row < side) ⌝ }
+    ensures { λ r. ⌜ r ≡ firstAt p q row ⌝ }
+{
+    let x = p.col as u32;
+    let y = p.row as u32;
+    let u = q.col as u32;
+    let v = q.row as u32;
+    first_column(y, v, u * y + x * row, v * x + u * row)
+}
+
+// The end there.
+fn end_at(p: Point, q: Point, row: u32) -> u32
+    requires { ⌜ (p .col < side) × (p .row < side) × (q .col < side) × (q .row < side) × (row < side) ⌝ }
+    ensures { λ r. ⌜ r ≡ endAt p q row ⌝ }
+{
+    let x = p.col as u32;
+    let y = p.row as u32;
+    let u = q.col as u32;
+    let v = q.row as u32;
+    end_column(y, v, u * y + x * row, v * x + u * row)
+}
+
+// The lesser of a byte and a number.
+fn lower(a: u8, b: u32) -> u8
+    ensures { λ r. ⌜ r ≡ min a b ⌝ }
+{
+    lesser(a as u32, b) as u8
+}
+
+// The greater of a byte and a number, which counts as no more than the end of the longest run.
+fn higher(a: u8, b: u32) -> u8
+    ensures { λ r. ⌜ r ≡ max a (min b side) ⌝ }
+{
+    greater(a as u32, lesser(b, END)) as u8
+}
+
+// A corner cell's own column is one of its row.
+fn corner_first(at: Point, first: &mut [u8; ROWS])
+    requires { ⌜ (at .col < side) × (at .row < side) × AllBelow (now first) ⌝ }
+    ensures { λ _. ⌜ Lowered (metFrom at) (now (first .entry)) (now (first .exit)) ⌝ }
+{
+    let row = at.row as usize;
+    first[row] = lower(first[row], at.col as u32);
+}
+
+fn corner_end(at: Point, end: &mut [u8; ROWS])
+    requires { ⌜ (at .col < side) × (at .row < side) × (length (now end) ≡ 256) ⌝ }
+    ensures { λ _. ⌜ Raised (metTo at) (now (end .entry)) (now (end .exit)) ⌝ }
+{
+    let row = at.row as usize;
+    end[row] = higher(end[row], at.col as u32 + 1);
+}
+
+// An edge that rises from p to q bounds the rows between them on the left.
+fn rise(p: Point, q: Point, first: &mut [u8; ROWS])
+    requires { ⌜ (p .col < side) × (p .row < side) × (q .col < side) × (q .row < side) × AllBelow (now first) ⌝ }
+    ensures { λ _. ⌜ Lowered (risenFrom p q) (now (first .entry)) (now (first .exit)) ⌝ }
+{
+    let mut row = p.row as usize + 1;
+    while row < q.row as usize {
+        first[row] = lower(first[row], first_at(p, q, row as u32));
+        row += 1;
+    }
+}
+
+// An edge that falls bounds them on the right.
+fn fall(p: Point, q: Point, end: &mut [u8; ROWS])
+    requires { ⌜ (p .col < side) × (p .row < side) × (q .col < side) × (q .row < side) × (length (now end) ≡ 256) ⌝ }
+    ensures { λ _. ⌜ Raised (fallenTo p q) (now (end .entry)) (now (end .exit)) ⌝ }
+{
+    let mut row = q.row as usize + 1;
+    while row < p.row as usize {
+        end[row] = higher(end[row], end_at(p, q, row as u32));
+        row += 1;
+    }
+}
+
+// The first column and the end of every row, by one walk, in lists of no columns.
+fn sweep(anchor: Point, edges: &[i16], first: &mut [u8; ROWS], end: &mut [u8; ROWS])
+    requires { ⌜ Fit (polygon anchor (now edges)) × (now first ≡ replicate 256 side) × (now end ≡ replicate 256 0) ⌝ }
+    ensures { λ _. ⌜ Swept (polygon anchor (now (edges .entry))) (now (first .exit)) (now (end .exit)) ⌝ }
+{
+    let mut at = anchor;
+    let mut i = 0;
+    while i + 1 < edges.len() {
+        corner_first(at, first);
+        corner_end(at, end);
+        let next = step::further(at, edges[i], edges[i + 1]);
+        rise(at, next, first);
+        fall(at, next, end);
+        at = next;
+        i += 2;
+    }
+    corner_first(at, first);
+    corner_end(at, end);
+}
+
+// What the rows tell: every run of the first polygon lies within the second's, and the other way round; no row has a common column.
+pub(crate) struct Tests {
+    pub inward: bool,
+    pub outward: bool,
+    pub apart: bool,
+}
+
+// The rows of two polygons compared, each given by the first columns and the ends: a run that is empty lies within every other, and has no column in common
+// with any.
+fn compare_rows<'a>(
+    first: &'a [u8; ROWS],
+    end: &'a [u8; ROWS],
+    other_first: &'a [u8; ROWS],
+    other_end: &'a [u8; ROWS],
+) -> Tests
+    ensures { λ r. ⌜ r ≡ compared (now (first .entry)) (now (end .entry)) (now («other_first» .entry)) (now («other_end» .entry)) ⌝ }
+{
+    let mut inward = true;
+    let mut outward = true;
+    let mut apart = true;
+    let mut row = 0;
+    while row < SIDE as usize {
+        let a = first[row];
+        let b = end[row];
+        let c = other_first[row];
+        let d = other_end[row];
+        inward = inward & ((b <= a) | ((c <= a) & (b <= d)));
+        outward = outward & ((d <= c) | ((a <= c) & (d <= b)));
+        apart = apart & ((b <= a) | (d <= c) | (b <= c) | (d <= a));
+        row += 1;
+    }
+    Tests {
+        inward,
+        outward,
+        apart,
+    }
+}
+
+// The tests of two polygons, in time linear in their edges and rows.
+pub(crate) fn test_rows(anchor: Point, edges: &[i16], other: Point, others: &[i16]) -> Tests
+    requires { ⌜ Fit (polygon anchor (now edges)) × Fit (polygon other (now others)) ⌝ }
+    ensures { λ r. ⌜ r ≡ testsOf (polygon anchor (now (edges .entry))) (polygon other (now (others .entry))) ⌝ }
+{
+    let mut first = [NO_COLUMN; ROWS];
+    let mut end = [0u8; ROWS];
+    let mut other_first = [NO_COLUMN; ROWS];
+    let mut other_end = [0u8; ROWS];
+    sweep(anchor, edges, &mut first, &mut end);
+    sweep(other, others, &mut other_first, &mut other_end);
+    compare_rows(&first, &end, &other_first, &other_end)
+}

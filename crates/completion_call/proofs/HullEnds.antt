@@ -1,0 +1,237 @@
+-- The numbers that the code finds are the ends of the hull's rows, so the letters written round them are the completion's border.
+use Prim.Native.Nat.{ℕ, zero, suc, pred, _+_, _-_, _*_, _≤_, _<_}
+use mathlib.Core.Path.{_≡_, refl, sym, ap, _∙_}
+use mathlib.Core.List.{List}
+use native.Mathlib.Decide.{decLt}
+use native.Mathlib.Omega.{arith}
+use Rattle.chart.specs.Limits.{side, longest}
+use Rattle.chart.specs.Outline.{Outline, outline}
+use Rattle.lattice.specs.Chart.{size}
+use Rattle.lattice.specs.Refusals.{Simple}
+use Rattle.lattice.proofs.WalkLaws.{point, walked}
+use Rattle.rows.specs.parts.Rows.{rows}
+use Rattle.rows.proofs.Rows.{Rows}
+use Rattle.convexity.specs.Clockwise.{border, block}
+use Rattle.completion.specs.parts.Written.{ascent, descent, toRow, writtenFrom}
+use Rattle.completion.specs.HullRows.{hullLeft, hullRight}
+use Rattle.completion.specs.Complete.{firstCell, pastCell, firstRow, pastRow, hullOutline, complete}
+use Rattle.completion.proofs.Count.{Least}
+use Rattle.completion.proofs.Climb.{lowest-row}
+use Rattle.completion.proofs.HullRows.{hull-rows}
+use Rattle.completion.proofs.BlockEnds.{block-joined, rows-fit, ends as block-ends}
+use Rattle.completion.proofs.Extent.{hull-letters, length-border}
+use Rattle.completion.proofs.Sides.{first-side, last-side, lowest-corner, highest-corner}
+use Rattle.completion.proofs.Theorem.{complete-simple, complete-shorter, complete-border, left, right}
+use Rattle.witness.proofs.Steps.{left-same}
+use Rattle.row_sides.specs.parts.Passed.{Passed}
+use Rattle.hull_rows.specs.parts.Ends.{LeftEnds, Lowest}
+
+-- The ends of the hull's rows b to t - 1, from which the border of the completion is written, from the left end of row m on, and its count n of letters
+pub record HullOf (o : Outline) (begins ends : List ℕ) (b t m n : ℕ) : Type 0 where
+  pub low : b ≤ m
+  pub high : m < t
+  pub fits : t ≤ side
+  pub round : border (complete o) ≡ outline (record { col = rows begins m; row = m }) (writtenFrom (rows begins) (rows ends) b t m)
+  pub count : n ≡ size (border (complete o))
+  pub short : n ≤ longest
+
+-- Rows that begin alike begin alike in the hull, also a single one
+hull-same : (f g : ℕ → ℕ) (b t : ℕ) → ((r : ℕ) → r < t → f r ≡ g r) → (r : ℕ) → b ≤ r → r < t → hullLeft f b t r ≡ hullLeft g b t r
+hull-same f g b t same r h l =
+    elim (decLt (suc b) t) [
+      | yes two ↦ left-same f g b t same two r h l
+      | no one ↦ let e : r ≡ b = omega arith in rw e (lowest-row f b t (omega arith) ∙ same b (omega arith) ∙ sym (lowest-row g b t (omega arith)))
+    ]
+
+-- ---- the letters round rows with the same ends
+
+ascent-same : (f g : ℕ → ℕ) (y k : ℕ) → ((r : ℕ) → y ≤ r → r ≤ y + k → f r ≡ g r) → ascent f y k ≡ ascent g y k
+unfolding ascent
+ascent-same f g y zero same = refl
+ascent-same f g y (suc k) same =
+    rw (same y (omega arith) (omega arith), same (suc y) (omega arith) (omega arith), ascent-same f g (suc y) k (λ r h l. same r (omega arith) (omega arith))) refl
+
+descent-same : (f g : ℕ → ℕ) (y k : ℕ) → ((r : ℕ) → y ≤ r → r ≤ y + k → f r ≡ g r) → descent f y k ≡ descent g y k
+unfolding descent
+descent-same f g y zero same = refl
+descent-same f g y (suc k) same =
+    rw (same y (omega arith) (omega arith), same (suc y) (omega arith) (omega arith), descent-same f g (suc y) k (λ r h l. same r (omega arith) (omega arith))) refl
+
+rise-same : (f g : ℕ → ℕ) (y k : ℕ) → ((r : ℕ) → y ≤ r → r ≤ y + k → f r ≡ g r) → toRow f y k ≡ toRow g y k
+unfolding toRow
+rise-same f g y zero same = refl
+rise-same f g y (suc k) same =
+    rw (same y (omega arith) (omega arith), same (suc y) (omega arith) (omega arith), rise-same f g (suc y) k (λ r h l. same r (omega arith) (omega arith))) refl
+
+written-same :
+    (lo lo′ hi hi′ : ℕ → ℕ) (b t m : ℕ) → b ≤ m → m < t → ((r : ℕ) → b ≤ r → r < t → lo r ≡ lo′ r) → ((r : ℕ) → b ≤ r → r < t → hi r ≡ hi′ r)
+    → writtenFrom lo hi b t m ≡ writtenFrom lo′ hi′ b t m
+unfolding writtenFrom
+written-same lo lo′ hi hi′ b t m h l p q =
+    rw (
+      ascent-same lo lo′ m (t - suc m) (λ r u v. p r (omega arith) (omega arith)),
+      p (pred t) (omega arith) (omega arith),
+      q (pred t) (omega arith) (omega arith),
+      descent-same hi hi′ b (t - suc b) (λ r u v. q r (omega arith) (omega arith)),
+      q b (omega arith) (omega arith),
+      p b (omega arith) (omega arith),
+      rise-same lo lo′ b (m - b) (λ r u v. p r (omega arith) (omega arith)),
+    ) refl
+
+-- ---- an outline
+
+module _ (o : Outline) (h : Simple o) where
+  abbrev lo : ℕ → ℕ
+  lo = firstCell (block o)
+
+  -- The last cells, seen from the right
+  abbrev mirror : ℕ → ℕ
+  mirror s = side - pastCell (block o) s
+
+  block-rows : Rows (firstCell (block o)) (pastCell (block o)) (firstRow (block o)) (pastRow (block o))
+  block-rows = block-ends (block o) (block-joined o h) .rows
+
+  -- The rows of the code's two climbs
+  pub record Sided (begins over ends : ℕ → ℕ) (b t : ℕ) : Type 0 where
+    pub low : b ≡ firstRow (block o)
+    pub high : t ≡ pastRow (block o)
+    pub lefts : (r : ℕ) → b ≤ r → r < t → begins r ≡ hullLeft lo b t r
+    pub overs : (r : ℕ) → b ≤ r → r < t → over r ≡ hullLeft mirror b t r
+    pub rights : (r : ℕ) → b ≤ r → r < t → ends r ≡ side - over r
+
+  module _ (begins over ends : ℕ → ℕ) (b t : ℕ) (s : Sided begins over ends b t) where
+    pub sided-below : b < t
+    sided-below = omega (arith, s .low, s .high, block-rows .below)
+
+    pub sided-fits : t ≤ side
+    sided-fits = omega (arith, s .high, rows-fit (block o) (block-joined o h))
+
+    left-is : (r : ℕ) → b ≤ r → r < t → begins r ≡ left o h r
+    left-is r k l = s .lefts r k l ∙ (λ i. hullLeft lo (s .low i) (s .high i) r)
+
+    over-is : (r : ℕ) → b ≤ r → r < t → over r ≡ hullLeft mirror (firstRow (block o)) (pastRow (block o)) r
+    over-is r k l = s .overs r k l ∙ (λ i. hullLeft mirror (s .low i) (s .high i) r)
+
+    right-is : (r : ℕ) → b ≤ r → r < t → ends r ≡ right o h r
+    unfolding hullRight
+    right-is r k l = s .rights r k l ∙ ap (λ (n : ℕ). side - n) (over-is r k l)
+
+    -- The row m is that of W
+    module _ (m : ℕ) (w : Lowest begins b t m) where
+      sided-border : border (complete o) ≡ outline (point (begins m) m) (writtenFrom begins ends b t m)
+      sided-border =
+          complete-border o h m (omega (arith, s .low, w .low)) (omega (arith, s .high, w .high))
+          (λ r k l.
+          omega (
+            arith,
+            left-is m (w .low) (w .high),
+            left-is r (omega (arith, s .low)) (omega (arith, s .high)),
+            w .least r (omega (arith, s .low)) (omega (arith, s .high)),
+          ))
+          (λ r k l.
+          omega (
+            arith,
+            left-is m (w .low) (w .high),
+            left-is r (omega (arith, s .low)) (omega (arith, w .high)),
+            w .lowest r (omega (arith, s .low)) l,
+          ))
+          ∙ sym (λ i. outline (point (left-is m (w .low) (w .high) i) m) (writtenFrom (left o h) (right o h) (s .low i) (s .high i) m))
+          ∙ ap (outline (point (begins m) m)) (sym (written-same begins (left o h) ends (right o h) b t m (w .low) (w .high) left-is right-is))
+
+      -- The row n is that of E
+      module _ (n : ℕ) (e : Lowest over b t n) where
+        full : left o h n < right o h n
+        full = hull-rows lo (pastCell (block o)) (firstRow (block o)) (pastRow (block o)) block-rows .full n (omega (arith, s .low, e .low)) (omega (arith, s .high, e .high))
+
+        pub sided-gap : begins m ≤ ends n
+        sided-gap =
+            omega (arith, full, left-is n (e .low) (e .high), right-is n (e .low) (e .high), w .least n (e .low) (e .high))
+
+        west : Least (left o h) (firstRow (block o)) (pastRow (block o))
+        west =
+            record {
+              at = m;
+              low = omega (arith, s .low, w .low);
+              high = omega (arith, s .high, w .high);
+              least = λ r k l.
+                  omega (
+                    arith,
+                    left-is m (w .low) (w .high),
+                    left-is r (omega (arith, s .low)) (omega (arith, s .high)),
+                    w .least r (omega (arith, s .low)) (omega (arith, s .high)),
+                  );
+            }
+
+        east : Least (hullLeft mirror (firstRow (block o)) (pastRow (block o))) (firstRow (block o)) (pastRow (block o))
+        east =
+            record {
+              at = n;
+              low = omega (arith, s .low, e .low);
+              high = omega (arith, s .high, e .high);
+              least = λ r k l.
+                  omega (
+                    arith,
+                    over-is n (e .low) (e .high),
+                    over-is r (omega (arith, s .low)) (omega (arith, s .high)),
+                    e .least r (omega (arith, s .low)) (omega (arith, s .high)),
+                  );
+            }
+
+        sized : size (complete o) + 2 * left o h m ≡ 2 * (pastRow (block o) - firstRow (block o)) + 2 * right o h n
+        unfolding complete hullOutline west east
+        sized = hull-letters lo (pastCell (block o)) (firstRow (block o)) (pastRow (block o)) block-rows west east
+
+        pub sided-count : 2 * (t - b) + 2 * (ends n - begins m) ≡ size (border (complete o))
+        sided-count =
+            counted (size (complete o)) (left o h m) (right o h n) (begins m) (ends n) (left-is m (w .low) (w .high)) (right-is n (e .low) (e .high)) sided-gap sized
+            ∙ sym (length-border (complete o) (complete-simple o h))
+          where
+            counted :
+                (z l r x y : ℕ) → x ≡ l → y ≡ r → x ≤ y → z + 2 * l ≡ 2 * (pastRow (block o) - firstRow (block o)) + 2 * r
+                → 2 * (t - b) + 2 * (y - x) ≡ z
+            counted z l r x y p q g k = omega (arith, s .low, s .high)
+
+        pub sided-short : size (border (complete o)) ≤ longest
+        sided-short = omega (arith, length-border (complete o) (complete-simple o h), complete-shorter o h, walked o h .short)
+
+-- ---- the arrays
+
+module _ (o : Outline) (h : Simple o) (lo en hi : List ℕ) (low high b t : ℕ) (p : Passed o lo en hi low high) (d : b ≡ low) (e : t ≡ high) where
+  is-low : b ≡ firstRow (block o)
+  is-low = d ∙ p .lowest ∙ lowest-corner o h
+
+  is-high : t ≡ pastRow (block o)
+  is-high = e ∙ p .highest ∙ highest-corner o h
+
+  pub array-below : (b < t) × (t ≤ side)
+  array-below =
+      (omega (arith, is-low, is-high, block-rows o h .below), omega (arith, is-high, rows-fit (block o) (block-joined o h)))
+
+  pub sides :
+      (mirrored begins over ends : List ℕ) → LeftEnds (rows lo) (rows begins) b t → ((k : ℕ) → k < 256 → rows mirrored k ≡ side - rows hi k) → LeftEnds (rows mirrored) (rows over) b t
+      → ((k : ℕ) → k < 256 → rows ends k ≡ side - rows over k) → Sided o h (rows begins) (rows over) (rows ends) b t
+  sides mirrored begins over ends l m n k =
+      record {
+        low = is-low;
+        high = is-high;
+        lefts = λ r u v. l .ends r u v ∙ hull-same (rows lo) (firstCell (block o)) b t (λ z x. p .first z (omega (arith, array-below)) ∙ first-side o h z) r u v;
+        overs = λ r u v.
+            n .ends r u v
+            ∙ hull-same (rows mirrored) (λ z. side - pastCell (block o) z) b t
+            (λ z x. m z (omega (arith, array-below)) ∙ ap (λ (c : ℕ). side - c) (p .last z (omega (arith, array-below)) ∙ last-side o h z)) r u v;
+        rights = λ r u v. k r (omega (arith, array-below));
+      }
+
+pub hull-of :
+    (o : Outline) (h : Simple o) (begins over ends : List ℕ) (b t m n x : ℕ) → Sided o h (rows begins) (rows over) (rows ends) b t → Lowest (rows begins) b t m
+    → Lowest (rows over) b t n → x ≡ 2 * (t - b) + 2 * (rows ends n - rows begins m) → HullOf o begins ends b t m x
+hull-of o h begins over ends b t m n x s w e k =
+    let c = sided-count o h (rows begins) (rows over) (rows ends) b t s m w n e in
+    record {
+      low = w .low;
+      high = w .high;
+      fits = sided-fits o h (rows begins) (rows over) (rows ends) b t s;
+      round = sided-border o h (rows begins) (rows over) (rows ends) b t s m w;
+      count = k ∙ c;
+      short = omega (arith, k, c, sided-short o h (rows begins) (rows over) (rows ends) b t s m w n e);
+    }

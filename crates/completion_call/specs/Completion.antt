@@ -1,0 +1,44 @@
+-- A completion: the first of refusals 1 to 6 that applies, 18, or the border of the outline round the hull (contract 6.6).
+use Prim.Native.Nat.{ℕ}
+use mathlib.Core.Bool.{cond}
+use mathlib.Core.List.{List, _++_}
+use lib.ListN.{length, drop}
+use lib.Dec.{ltb}
+use Rattle.chart.specs.declared.Fields.{Fields}
+use Rattle.chart.specs.Outline.{Outline}
+use Rattle.chart.specs.Fields.{numbered, accepted, no-word, refusalFields}
+use Rattle.lattice.specs.Chart.{size}
+use Rattle.survey.specs.declared.Surveyed.{Surveyed}
+use Rattle.survey.specs.declared.Surveyed.the-variants.{Passed, Refused as Stopped}
+use Rattle.survey.specs.Survey.{surveyOf}
+use Rattle.convexity.specs.Clockwise.{border}
+use Rattle.completion.specs.Complete.{complete as completionOf}
+use Rattle.completion_call.specs.declared.Completed.{Completed}
+use Rattle.completion_call.specs.declared.Completed.the-variants.{Written, Refused, NoRoom}
+
+-- 18, or the count of letters of v and the corner at which they start, in a lent list of n
+unfoldable pub lettersIn : ℕ → Outline → Completed
+lettersIn n v = cond (ltb n (size v)) NoRoom (Written (size v) (v .start))
+
+-- What 1 to 6 say, or else what is said further on
+unfoldable pub afterSurvey : Surveyed → Completed → Completed
+afterSurvey (Passed c) d = d
+afterSurvey (Stopped f) d = Refused f
+
+unfoldable pub completedOf : Outline → ℕ → Completed
+completedOf o n = afterSurvey (surveyOf o) (lettersIn n (border (completionOf o)))
+
+-- The answer written out
+unfoldable pub completedFields : Completed → Fields
+completedFields (Written n s) = accepted no-word n s
+completedFields (Refused f) = refusalFields f
+completedFields NoRoom = numbered 18
+
+-- The lent list afterwards: the letters stand first in it and the rest is unaltered; where the call is refused, all of it is
+unfoldable pub writtenAfter : Completed → List ℕ → List ℕ → List ℕ
+writtenAfter (Written n s) w buffer = w ++ drop (length w) buffer
+writtenAfter (Refused f) w buffer = buffer
+writtenAfter NoRoom w buffer = buffer
+
+unfoldable pub completionAfter : Outline → List ℕ → List ℕ
+completionAfter o buffer = writtenAfter (completedOf o (length buffer)) (border (completionOf o) .letters) buffer

@@ -1,0 +1,16 @@
+// An answer written out: its number and its fields (contract 4).
+use crate::Completed;
+use chart::Fields;
+use chart::reply;
+ghost use mathlib.Core.Path.{_≡_};
+ghost use Rattle.completion_call.specs.Completion.{completedFields};
+
+pub fn of_completed(c: Completed) -> Fields
+    ensures { λ f. ⌜ f ≡ completedFields c ⌝ }
+{
+    match c {
+        Completed::Written { letters, start } => reply::accepted(0, letters, start),
+        Completed::Refused(why) => reply::of_refusal(why),
+        Completed::NoRoom => reply::numbered(18),
+    }
+}

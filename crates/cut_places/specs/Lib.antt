@@ -1,0 +1,2 @@
+-- The way in which a border is read, and its cut places.
+pub mod parts

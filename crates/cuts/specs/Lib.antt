@@ -1,2 +1,0 @@
--- The way in which a border is read, and its cut places.
-pub mod Cuts

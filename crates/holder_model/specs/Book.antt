@@ -1,0 +1,192 @@
+-- The plain book: what the holder means, kept from the calls alone (contract 8).
+use Prim.Native.Nat.{ℕ}
+use mathlib.Core.Bool.{Bool, false, cond, Bool·beq}
+use mathlib.Core.Option.{Option, none, some}
+use mathlib.Core.List.{List, [], _∷_, _++_}
+use lib.ListN.{length}
+use lib.Dec.{leb, ltb}
+use Rattle.base.specs.Below.{every}
+use Rattle.base.specs.Put.{put}
+use Rattle.chart.specs.Limits.{side, longest}
+use Rattle.chart.specs.Outline.{Outline}
+use Rattle.chart.specs.declared.Point.{Point}
+use Rattle.chart.specs.declared.Refusal.the-variants.{Start, Letter, Cell}
+use Rattle.chart.specs.declared.Verdict.{Verdict}
+use Rattle.chart.specs.declared.Verdict.the-variants.{Taken, Refused}
+use Rattle.lattice.specs.Refusals.{badStart}
+use Rattle.convexity.specs.Clockwise.{border, block}
+use Rattle.convexity.specs.Pieces.{edges}
+use Rattle.spans.specs.Spans.{rowSpan, spanReply}
+use Rattle.verdict.specs.Verdict.{verdictOf}
+use Rattle.polygon.specs.Loose.{badCell}
+use Rattle.readings.specs.Located.{locatedOf}
+use Rattle.readings.specs.Replies.{locatedReply}
+use Rattle.drawing.specs.Drawing.{strokeAt}
+use Rattle.drawing.specs.Points.{drawnReply}
+use Rattle.calls.specs.Calls.{badParty, badPlace}
+use Rattle.calls.specs.declared.Call.{Call}
+use Rattle.calls.specs.declared.Action.{Action}
+use Rattle.calls.specs.declared.Action.the-variants.{Begin, Add, Drop, Clear, Close, Ask}
+use Rattle.calls.specs.declared.Question.{Question}
+use Rattle.calls.specs.declared.Question.the-variants.{Cell as OfCell, Row as OfRow, Reading as OfReading, Piece as OfPiece}
+use Rattle.calls.specs.declared.Reading.{Reading}
+use Rattle.calls.specs.declared.Reply.{Reply}
+use Rattle.calls.specs.declared.Reply.the-variants.{Done, Inside, Outside, Taken as WasTaken, Same, Refused as WasRefused, NothingAtWork, NoDraft, DraftOpen, DraftFull, NoParty, NoPlace}
+
+-- ---- the entries
+
+-- A party's page: its draft, and the outline at each place. Any of them may be none
+pub record PartyModel : Type 0 where
+  pub draft : Option Outline
+  pub works : ℕ → Option Outline
+
+abbrev pub putDraft : PartyModel → Option Outline → PartyModel
+putDraft g d = record { draft = d; works = g .works }
+
+abbrev pub putWork : PartyModel → ℕ → Option Outline → PartyModel
+putWork g k w = record { draft = g .draft; works = put (g .works) k w }
+
+-- A page for each party
+abbrev pub Book : Type 0
+Book = ℕ → PartyModel
+
+abbrev pub drafted : Book → ℕ → Option Outline
+drafted b p = b p .draft
+
+abbrev pub atWork : Book → ℕ → ℕ → Option Outline
+atWork b p k = b p .works k
+
+-- All are none at first
+unfoldable pub fresh : Book
+fresh p = record { draft = none; works = λ k. none }
+
+-- ---- what a call does to a draft: its reply, and the draft afterwards
+
+pub record OnDraft : Type 0 where
+  pub reply : Reply
+  pub draft : Option Outline
+
+-- Begin (contract 7.3). 14 and 2 are asked in this order; what is opened has no letters yet
+unfoldable pub begins : Point → Option Outline → OnDraft
+begins s (some d) = record { reply = DraftOpen; draft = some d }
+begins s none =
+    cond (badStart s) (record { reply = WasRefused Start; draft = none })
+    (record { reply = Done; draft = some (record { start = s; letters = [] }) })
+
+-- Add (contract 7.4). 13, 15 and 3 are asked in this order; the place of 3 is where the letter would have stood
+unfoldable pub adds : ℕ → Option Outline → OnDraft
+adds a none = record { reply = NoDraft; draft = none }
+adds a (some d) =
+    cond (leb longest (length (d .letters))) (record { reply = DraftFull; draft = some d })
+    (cond (ltb 3 a) (record { reply = WasRefused (Letter (length (d .letters))); draft = some d })
+    (record { reply = Done; draft = some (record { start = d .start; letters = d .letters ++ (a ∷ []) }) }))
+
+-- Drop (contract 7.5)
+unfoldable pub drops : Option Outline → OnDraft
+drops none = record { reply = NoDraft; draft = none }
+drops (some d) = record { reply = Done; draft = none }
+
+-- ---- what a close does to a work: its reply, and the work afterwards. The draft is over either way
+
+pub record OnWork : Type 0 where
+  pub reply : Reply
+  pub work : Option Outline
+
+-- Two outlines enclose the same cells of the chart
+unfoldable pub sameBlock : Outline → Outline → Bool
+sameBlock o v = every (λ r. every (λ c. Bool·beq (block o c r) (block v c r)) side) side
+
+-- The outline encloses the same cells as the one at work
+unfoldable pub equalsWork : Outline → Option Outline → Bool
+equalsWork o none = false
+equalsWork o (some v) = sameBlock o v
+
+-- The reply, by what 1 to 9 say of the draft and whether it is the block at work
+unfoldable pub closedReply : Bool → Verdict → Reply
+closedReply same (Refused f) = WasRefused f
+closedReply same (Taken n a) = cond same (Same n a) (WasTaken n a)
+
+-- A refusal leaves what is at work, and a draft that is taken replaces it
+unfoldable pub workAfter : Option Outline → Outline → Verdict → Option Outline
+workAfter w d (Refused f) = w
+workAfter w d (Taken n a) = some d
+
+-- Close (contract 7.7). What 1 to 9 say of the draft decides
+unfoldable pub closes : Option Outline → Option Outline → OnWork
+closes none w = record { reply = NoDraft; work = w }
+closes (some d) w = record { reply = closedReply (equalsWork d w) (verdictOf d); work = workAfter w d (verdictOf d) }
+
+-- ---- what a call asks of a work
+
+-- Query (contract 7.8). 12 and 11 are asked in this order; then the enclosed cells decide
+unfoldable pub asked : Point → Option Outline → Reply
+asked x none = NothingAtWork
+asked x (some o) = cond (badCell x) (WasRefused Cell) (cond (block o (x .col) (x .row)) Inside Outside)
+
+-- Row (contract 7.9). 12 and 11 are asked in this order; then the first and the last enclosed column, by a search of the row's cells
+unfoldable pub askedRow : ℕ → Option Outline → Reply
+askedRow r none = NothingAtWork
+askedRow r (some o) = cond (leb side r) (WasRefused Cell) (spanReply (rowSpan (block o) r))
+
+-- Reading (contract 7.10). 12 is asked first; then the outline's anchor and edges answer, with 11 among their answers
+unfoldable pub askedReading : Reading → Option Outline → Reply
+askedReading x none = NothingAtWork
+askedReading x (some o) = locatedReply (locatedOf (border o .start) (edges (border o)) x)
+
+-- Piece (contract 7.11). 12 is asked first; then the drawing of the outline's anchor and edges is looked at
+unfoldable pub askedPiece : ℕ → Option Outline → Reply
+askedPiece n none = NothingAtWork
+askedPiece n (some o) = drawnReply (strokeAt (border o .start) (edges (border o)) n)
+
+unfoldable pub asks : Question → Option Outline → Reply
+asks (OfCell x) w = asked x w
+asks (OfRow r) w = askedRow r w
+asks (OfReading x) w = askedReading x w
+asks (OfPiece n) w = askedPiece n w
+
+-- ---- the calls of a party
+
+-- A reply, and the page after it
+pub record OnParty : Type 0 where
+  pub reply : Reply
+  pub page : PartyModel
+
+abbrev pub drafting : PartyModel → OnDraft → OnParty
+drafting g a = record { reply = a .reply; page = putDraft g (a .draft) }
+
+abbrev pub closing : PartyModel → ℕ → OnWork → OnParty
+closing g k a = record { reply = a .reply; page = putWork (putDraft g none) k (a .work) }
+
+-- Contract 7.3 to 7.11; a clear is 7.6. Where a place is named 20 comes first, and a close that it turns back ends the draft
+unfoldable pub acts : PartyModel → Action → OnParty
+acts g (Begin s) = drafting g (begins s (g .draft))
+acts g (Add a) = drafting g (adds a (g .draft))
+acts g Drop = drafting g (drops (g .draft))
+acts g (Clear k) = cond (badPlace k) (record { reply = NoPlace; page = g }) (record { reply = Done; page = putWork g k none })
+acts g (Close k) = cond (badPlace k) (record { reply = NoPlace; page = putDraft g none }) (closing g k (closes (g .draft) (g .works k)))
+acts g (Ask k q) = record { reply = cond (badPlace k) NoPlace (asks q (g .works k)); page = g }
+
+-- ---- the calls
+
+-- The reply of a call, and the book after it
+pub record Answer : Type 0 where
+  pub reply : Reply
+  pub next : Book
+
+-- 19 comes first (contract 7.2); else the party's page alone is read and turned
+unfoldable pub answer : Book → Call → Answer
+answer b c =
+    cond (badParty (c .party)) (record { reply = NoParty; next = b })
+    (record { reply = acts (b (c .party)) (c .action) .reply; next = put b (c .party) (acts (b (c .party)) (c .action) .page) })
+
+-- The replies of a list of calls, each call given the book that the last one left, and the book after them all
+unfoldable pub repliesFrom : Book → List Call → List Reply
+repliesFrom b [] = []
+repliesFrom b (c ∷ cs) = answer b c .reply ∷ repliesFrom (answer b c .next) cs
+
+unfoldable pub replies : List Call → List Reply
+replies cs = repliesFrom fresh cs
+
+unfoldable pub bookAfter : Book → List Call → Book
+bookAfter b [] = b
+bookAfter b (c ∷ cs) = bookAfter (answer b c .next) cs

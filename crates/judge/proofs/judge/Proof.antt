@@ -1,0 +1,48 @@
+-- The survey stops the outline, or it passes 1 to 6 and its reading is judged.
+use mathlib.Core.Path.{sym, _∙_}
+use borrow.Author.Needs.{needs}
+use Rattle.survey.proofs.SurveyLaws.{survey-simple, survey-corners}
+use Rattle.judge.proofs.JudgedLaws.{stopped-said, passed-said, said-edges}
+use Rattle.judge.proofs.judge.Statement.{statement}
+use Rattle.judge.proofs.judge.Tie as tie
+
+survey-requires : tie.Need-survey-requires
+survey-requires c κs = search needs
+
+enum-known-surveyed : tie.Need-enum-known-surveyed
+enum-known-surveyed c = search needs
+
+enum-known-surveyed-2 : tie.Need-enum-known-surveyed-2
+enum-known-surveyed-2 c = search needs
+
+read-requires : tie.Need-read-requires
+read-requires c κs =
+    let told = c .before .before in
+    let passed = sym (told .before .before .survey .ensures) ∙ told .surveyed2 .given .1 in
+    (survey-simple _ passed, survey-corners _ passed)
+
+returns : tie.Need-returns
+returns c =
+    let s = stopped-said _ (sym (c .before .before .before .survey .ensures) ∙ c .before .surveyed .given .1) _ in
+    (s .verdict, said-edges _ s)
+
+same-length : tie.Need-same-length
+same-length c = search needs
+
+returns-2 : tie.Need-returns-2
+returns-2 c =
+    let told = c .before .before .before .before in
+    let s = passed-said _ (sym (told .before .before .survey .ensures) ∙ told .surveyed2 .given .1) (c .before .read .ensures) in
+    (s .verdict, said-edges _ s)
+
+pub judge-spec : {M : Type 1} → statement M
+judge-spec =
+    tie.close
+    (tie.spec
+    survey-requires
+    enum-known-surveyed
+    enum-known-surveyed-2
+    read-requires
+    returns
+    same-length
+    returns-2)

@@ -1,0 +1,46 @@
+-- As a judgement with a list: the survey stops the outline, or it passes 1 to 6 and its reading is judged.
+use mathlib.Core.Path.{sym, _∙_}
+use mathlib.Core.List.{[]}
+use borrow.Author.Needs.{needs}
+use Rattle.survey.proofs.SurveyLaws.{survey-simple, survey-corners}
+use Rattle.judge.proofs.JudgedLaws.{stopped-said, passed-said}
+use Rattle.judge.proofs.verdict_of.Statement.{statement}
+use Rattle.judge.proofs.verdict_of.Tie as tie
+
+survey-requires : tie.Need-survey-requires
+survey-requires c κs = search needs
+
+enum-known-surveyed : tie.Need-enum-known-surveyed
+enum-known-surveyed c = search needs
+
+enum-known-surveyed-2 : tie.Need-enum-known-surveyed-2
+enum-known-surveyed-2 c = search needs
+
+slice-aggregate-read : tie.Need-slice-aggregate-read
+slice-aggregate-read c = search needs
+
+read-requires : tie.Need-read-requires
+read-requires c κs =
+    let told = c .before .before in
+    let passed = sym (told .before .before .survey .ensures) ∙ told .surveyed2 .given .1 in
+    (survey-simple _ passed, survey-corners _ passed)
+
+returns : tie.Need-returns
+returns c = stopped-said _ (sym (c .before .before .before .survey .ensures) ∙ c .before .surveyed .given .1) [] .verdict
+
+returns-2 : tie.Need-returns-2
+returns-2 c =
+    let told = c .before .before .before .before in
+    passed-said _ (sym (told .before .before .survey .ensures) ∙ told .surveyed2 .given .1) (c .before .read .ensures) .verdict
+
+pub verdict-of-spec : {M : Type 1} → statement M
+verdict-of-spec =
+    tie.close
+    (tie.spec
+    survey-requires
+    enum-known-surveyed
+    enum-known-surveyed-2
+    slice-aggregate-read
+    read-requires
+    returns
+    returns-2)

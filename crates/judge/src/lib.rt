@@ -1,0 +1,180 @@
+// The border of an outline, cut in four and read as edges: refusals 8 and 9 behind the survey's 1 to 6.
+use crate::back_steps::BackStep;
+use crate::dents::Factored;
+use crate::once_round::Round;
+use chart::LONGEST;
+use chart::MOST_NUMBERS;
+use chart::Point;
+use chart::Refusal;
+use chart::Verdict;
+use survey::Corners;
+use survey::Surveyed;
+ghost use Prim.Native.Nat.{_*_, _≤_, _<_};
+ghost use mathlib.Core.Path.{_≡_};
+ghost use mathlib.Core.Bool.{false};
+ghost use mathlib.Core.List.{_++_};
+ghost use lib.ListN.{length, take, drop};
+ghost use lib.Dec.{ltb};
+ghost use Rattle.chart.specs.Limits.{longest};
+ghost use Rattle.chart.specs.Outline.{outline};
+ghost use Rattle.lattice.specs.Refusals.{Simple};
+ghost use Rattle.convexity.specs.Pieces.{backStepPiece};
+ghost use Rattle.survey.specs.Survey.{cornersOf};
+ghost use Rattle.verdict.specs.Verdict.{verdictOf, edgesAfter};
+ghost use Rattle.judge.specs.parts.Round.{RoundOf, dentAs};
+ghost use Rattle.judge.specs.Judged.{Written, SaidOfRound, SaidOfBorder, judgedOf};
+
+mod back_steps;
+mod dents;
+mod edge;
+mod frame;
+mod once_round;
+
+// Copies the first n numbers of a list to the lent one.
+fn copy_edges(list: &[i16], n: usize, buffer: &mut [i16])
+    requires { ⌜ (n ≤ length (now list)) × (n ≤ length (now buffer)) ⌝ }
+    ensures { λ _. ⌜ now (buffer .exit) ≡ take n (now (list .entry)) ++ drop n (now (buffer .entry)) ⌝ }
+{
+    let mut i = 0;
+    while i < n {
+        let number = list[i];
+        buffer[i] = number;
+        i += 1;
+    }
+}
+
+// Lends the first n numbers of a list where there is room for them.
+fn write_edges(list: &[i16], n: usize, buffer: &mut [i16])
+    requires { ⌜ n ≤ length (now list) ⌝ }
+    ensures { λ _. ⌜ Written (take n (now (list .entry))) n (now (buffer .entry)) (now (buffer .exit)) ⌝ }
+{
+    if n <= buffer.len() {
+        copy_edges(list, n, buffer);
+    }
+}
+
+// 9: the dent of `length` letters that stands `at` letters from W on in a piece, counted from 0.
+fn dent(round: Round, letters: &[u8], piece: usize, at: usize, length: usize) -> Refusal
+    requires { ⌜ RoundOf round (outline (round .west) (now letters)) ⌝ }
+    requires { ⌜ (piece < 4) × (at ≤ 4 * longest) × (length ≤ 4 * longest) ⌝ }
+    ensures { λ r. ⌜ r ≡ dentAs (round .forward) (round .place) (outline (round .west) (now (letters .entry))) piece at length ⌝ }
+{
+    let place = once_round::sent(letters.len(), round.place, round.forward, at);
+    Refusal::Dent {
+        piece: (piece + 1) as u16,
+        place: place as u16,
+        length: length as u16,
+        cell: rows::missing_cell(round.west, letters, round.bottom, round.top),
+    }
+}
+
+// 9, of a turn without back-steps, or the edges.
+fn edges(round: Round, letters: &[u8], buffer: &mut [i16]) -> Verdict
+    requires { ⌜ RoundOf round (outline (round .west) (now letters)) ⌝ }
+    requires { ⌜ ltb (backStepPiece (outline (round .west) (now letters))) 4 ≡ false ⌝ }
+    ensures { λ r. ⌜ SaidOfRound (round .forward) (round .place) (outline (round .west) (now (letters .entry))) (now (buffer .entry)) (now (buffer .exit)) r ⌝ }
+{
+    let mut numbers = [0i16; MOST_NUMBERS];
+    let factored = dents::read(round, letters, &mut numbers);
+    let anchor = round.west;
+    match factored {
+        Factored::Dent { piece, at, length } => {
+            Verdict::Refused(dent(round, letters, piece, at, length))
+        }
+        Factored::Edges { edges } => {
+            write_edges(&numbers, 2 * edges, buffer);
+            Verdict::Taken {
+                edges: edges as u16,
+                anchor,
+            }
+        }
+    }
+}
+
+// 8 and 9, of a clockwise turn, or the edges.
+fn pieces(round: Round, letters: &[u8], buffer: &mut [i16]) -> Verdict
+    requires { ⌜ RoundOf round (outline (round .west) (now letters)) ⌝ }
+    ensures { λ r. ⌜ SaidOfRound (round .forward) (round .place) (outline (round .west) (now (letters .entry))) (now (buffer .entry)) (now (buffer .exit)) r ⌝ }
+{
+    let found = back_steps::first(round, letters);
+    match found {
+        BackStep::At { piece, at } => {
+            let place = once_round::sent(letters.len(), round.place, round.forward, at);
+            Verdict::Refused(Refusal::BackStep {
+                piece: (piece + 1) as u16,
+                place: place as u16,
+            })
+        }
+        BackStep::None => edges(round, letters, buffer),
+    }
+}
+
+// 8 and 9, of an outline that passes 1 to 6, with its corners, or the edges: its letters are read once round from W on into a buffer, clockwise.
+fn read(start: Point, letters: &[u8], found: Corners, buffer: &mut [i16]) -> Verdict
+    requires { ⌜ Simple (outline start (now letters)) ⌝ }
+    requires { ⌜ found ≡ cornersOf (outline start (now letters)) ⌝ }
+    ensures { λ r. ⌜ SaidOfBorder (outline start (now (letters .entry))) (now (buffer .entry)) (now (buffer .exit)) r ⌝ }
+{
+    let count = letters.len();
+    let cuts = cut_places::cut_places(letters, found);
+    let forward = cuts.forward;
+    let at = cuts.at;
+    let west = found.corner;
+    let place = once_round::read_place(count, found.west, forward);
+    let mut ring = [0u8; LONGEST];
+    once_round::fill_round(letters, found.west, forward, &mut ring);
+    let round = Round {
+        forward,
+        place,
+        west,
+        bottom: found.bottom,
+        top: found.top,
+        at,
+    };
+    pieces(round, &ring[..count], buffer)
+}
+
+// The first of refusals 1 to 9 that applies, or the edges (contract 5 and 3.12), which stand first in a lent list with room for them. The list is
+// unaltered where there is none, and where the outline is refused.
+pub fn judge(start: Point, letters: &[u8], buffer: &mut [i16]) -> Verdict
+    ensures { λ r. ⌜ r ≡ verdictOf (outline start (now (letters .entry))) ⌝ }
+    ensures { λ r. ⌜ now (buffer .exit) ≡ edgesAfter (outline start (now (letters .entry))) (now (buffer .entry)) ⌝ }
+{
+    let surveyed = survey::survey(start, letters);
+    match surveyed {
+        Surveyed::Refused(why) => Verdict::Refused(why),
+        Surveyed::Passed(found) => read(start, letters, found, buffer),
+    }
+}
+
+// The judgement alone, where no edges are asked for.
+pub fn verdict_of(start: Point, letters: &[u8]) -> Verdict
+    ensures { λ r. ⌜ r ≡ verdictOf (outline start (now (letters .entry))) ⌝ }
+{
+    let surveyed = survey::survey(start, letters);
+    match surveyed {
+        Surveyed::Refused(why) => Verdict::Refused(why),
+        Surveyed::Passed(found) => {
+            let mut none = [0i16; 0];
+            read(start, letters, found, &mut none)
+        }
+    }
+}
+
+// What is said of an outline by refusals 1 to 9, and its edges, two numbers an edge and then zeros: all zeros where it is refused.
+pub struct Judged {
+    pub verdict: Verdict,
+    pub numbers: [i16; MOST_NUMBERS],
+}
+
+// The judgement as a value.
+pub fn judgement(start: Point, letters: &[u8]) -> Judged
+    ensures { λ r. ⌜ r ≡ judgedOf (outline start (now (letters .entry))) ⌝ }
+{
+    let mut list = [0i16; MOST_NUMBERS];
+    let verdict = judge(start, letters, &mut list);
+    Judged {
+        verdict,
+        numbers: list,
+    }
+}

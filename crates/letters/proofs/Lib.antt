@@ -1,7 +1,0 @@
--- Directions by the machine's tests; what is still to be written, one edge further.
-pub mod Directions
-pub mod Remainders
-pub mod Writing
-pub mod RestLaws
-pub mod Building
-pub mod TraceLaws

@@ -1,3 +1,0 @@
--- What is still to be written, and what writing does to a list.
-pub mod Rest
-pub mod Wrote

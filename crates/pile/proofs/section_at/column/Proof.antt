@@ -1,0 +1,77 @@
+-- Every layer passed has its run; at the end the lists are those of the definition.
+use Prim.Native.Nat.{ℕ, _-_, _≤_}
+use native.Mathlib.Omega.{arith}
+use mathlib.Core.Path.{_≡_}
+use lib.ListN.{length-replicate}
+use borrow.Author.Needs.{needs}
+use Rattle.spans.proofs.Tables.{Filled, filled-start, filled-next, filled-end}
+use Rattle.sections.specs.Sections.{layers}
+use Rattle.pile.specs.Pile.{layerAt, lowestRow, afterHighest, columnSection}
+use Rattle.pile.proofs.CutLaws.{section-eq}
+use Rattle.pile.proofs.section_at.column.Statement.{statement}
+use Rattle.pile.proofs.section_at.column.Tie as tie
+
+abbrev Inv-loop : tie.InvT-loop
+Inv-loop col ls lo₀ past₀ l₀ lo past l =
+    (l ≤ layers) × Filled (λ k. lowestRow (layerAt ls k) col) layers lo l × Filled (λ k. afterHighest (layerAt ls k) col) layers past l
+
+abbrev μ-loop : tie.MeasureT-loop
+μ-loop col ls lo₀ past₀ l₀ lo past l = layers - l
+
+loop-holds : tie.Need-loop-holds Inv-loop μ-loop
+loop-holds c = (omega arith, filled-start _ layers _ (length-replicate {A = ℕ} 16 0), filled-start _ layers _ (length-replicate {A = ℕ} 16 0))
+
+mul-spans : tie.Need-mul-spans Inv-loop μ-loop
+mul-spans c = search needs
+
+array-copy-out-spans : tie.Need-array-copy-out-spans Inv-loop μ-loop
+array-copy-out-spans c = omega arith
+
+lowest-requires : tie.Need-lowest-requires Inv-loop μ-loop
+lowest-requires c κs = tt
+
+array-write-lo : tie.Need-array-write-lo Inv-loop μ-loop
+array-write-lo c = omega arith
+
+after-highest-requires : tie.Need-after-highest-requires Inv-loop μ-loop
+after-highest-requires c κs = tt
+
+array-write-past : tie.Need-array-write-past Inv-loop μ-loop
+array-write-past c = omega arith
+
+add-l : tie.Need-add-l Inv-loop μ-loop
+add-l c = omega arith
+
+loop-less : tie.Need-loop-less Inv-loop μ-loop
+loop-less c = omega arith
+
+loop-again : tie.Need-loop-again Inv-loop μ-loop
+unfolding lowestRow afterHighest
+loop-again c =
+    let at = c .before .before .before .before .before .before .before .before .before .before .loop in
+    (omega arith, filled-next (at .inv .1) (omega arith) _ (c .before .before .before .lowest .ensures), filled-next (at .inv .2) (omega arith) _ (c .after-highest .ensures))
+
+returns : tie.Need-returns Inv-loop μ-loop
+unfolding columnSection
+returns c =
+    let at = c .before .loop in
+    let end : at .l ≡ layers = omega arith in
+    section-eq (filled-end _ layers (at .lo) (rw end at (at .inv .1))) (filled-end _ layers (at .past) (rw end at (at .inv .2)))
+
+pub column-spec : {M : Type 1} → statement M
+column-spec =
+    tie.close
+    (tie.spec
+    Inv-loop
+    μ-loop
+    loop-holds
+    mul-spans
+    array-copy-out-spans
+    lowest-requires
+    array-write-lo
+    after-highest-requires
+    array-write-past
+    add-l
+    loop-less
+    loop-again
+    returns)

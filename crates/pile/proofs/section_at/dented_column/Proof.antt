@@ -1,0 +1,76 @@
+-- No section passed is dented; the first that is ends the search.
+use Prim.Native.Nat.{_-_, _≤_}
+use native.Mathlib.Omega.{arith}
+use mathlib.Core.Path.{_≡_, refl, sym, ap, _∙_}
+use mathlib.Core.Bool.{not}
+use Rattle.base.specs.Below.{first}
+use Rattle.base.proofs.BelowLaws.{first-step, first-stop}
+use Rattle.chart.specs.Limits.{side}
+use Rattle.sections.specs.Sections.{numbers, clear}
+use Rattle.pile.specs.Pile.{columnClear, dentedColumn}
+use Rattle.pile.proofs.section_at.dented_column.Statement.{statement}
+use Rattle.pile.proofs.section_at.dented_column.Tie as tie
+
+abbrev Inv-loop : tie.InvT-loop
+Inv-loop ls col₀ col = (col ≤ side) × (first (λ k. not (columnClear ls k)) col ≡ col)
+
+abbrev μ-loop : tie.MeasureT-loop
+μ-loop ls col₀ col = side - col
+
+loop-holds : tie.Need-loop-holds Inv-loop μ-loop
+unfolding first
+loop-holds c = (omega arith, refl)
+
+column-requires : tie.Need-column-requires Inv-loop μ-loop
+column-requires c κs = tt
+
+is-clear-requires : tie.Need-is-clear-requires Inv-loop μ-loop
+is-clear-requires c κs = tt
+
+-- What the test of this section said
+said : (c : tie.After-is-clear Inv-loop μ-loop) → c .is-clear .result ≡ columnClear (c .before .before .before .before .args .layers) (c .before .before .before .loop .col)
+unfolding columnClear
+said c = c .is-clear .ensures ∙ ap (λ s. clear (numbers (s .lo)) (numbers (s .past))) (c .before .column .ensures)
+
+cast-result : tie.Need-cast-result Inv-loop μ-loop
+cast-result c = omega arith
+
+returns : tie.Need-returns Inv-loop μ-loop
+unfolding dentedColumn
+returns c =
+    let at = c .before .before .before .before .loop in
+    sym (first-stop _ side (at .col) (at .inv .1) (ap not (sym (said (c .before))) ∙ c .if1 .taken) (omega arith))
+
+add-col : tie.Need-add-col Inv-loop μ-loop
+add-col c = omega arith
+
+loop-less : tie.Need-loop-less Inv-loop μ-loop
+loop-less c = omega arith
+
+loop-again : tie.Need-loop-again Inv-loop μ-loop
+loop-again c =
+    let at = c .before .before .before .before .loop in
+    (omega arith, first-step _ (at .col) (at .inv .1) (ap not (sym (said (c .before))) ∙ c .if1 .left))
+
+returns-2 : tie.Need-returns-2 Inv-loop μ-loop
+unfolding dentedColumn
+returns-2 c =
+    let at = c .before .loop in
+    let end : at .col ≡ side = omega arith in
+    sym (rw end at (at .inv .1))
+
+pub dented-column-spec : {M : Type 1} → statement M
+dented-column-spec =
+    tie.close
+    (tie.spec
+    Inv-loop
+    μ-loop
+    loop-holds
+    column-requires
+    is-clear-requires
+    cast-result
+    returns
+    add-col
+    loop-less
+    loop-again
+    returns-2)

@@ -1,0 +1,23 @@
+-- The two tests of the definition.
+use borrow.Author.Tests.{le-leb, lt-leb}
+use Rattle.pile.specs.Pile.{inRow}
+use borrow.Author.Needs.{needs}
+use Rattle.pile.proofs.section_at.holds.Statement.{statement}
+use Rattle.pile.proofs.section_at.holds.Tie as tie
+
+element-copy-out-if1 : tie.Need-element-copy-out-if1
+element-copy-out-if1 c = search needs
+
+element-copy-out-result : tie.Need-element-copy-out-result
+element-copy-out-result c = search needs
+
+returns : tie.Need-returns
+unfolding inRow
+returns c = rw (le-leb _ _ (c .before .if1 .taken))
+
+returns-2 : tie.Need-returns-2
+unfolding inRow
+returns-2 c = rw (lt-leb _ _ (c .if1 .left))
+
+pub holds-spec : {M : Type 1} → statement M
+holds-spec = tie.close (tie.spec element-copy-out-if1 element-copy-out-result returns returns-2)

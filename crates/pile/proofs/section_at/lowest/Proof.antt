@@ -1,0 +1,63 @@
+-- No row passed has the column; the first that has ends the search.
+use Prim.Native.Nat.{_-_, _≤_}
+use native.Mathlib.Omega.{arith}
+use mathlib.Core.Path.{_≡_, refl, sym, _∙_}
+use Rattle.base.specs.Below.{first}
+use Rattle.base.proofs.BelowLaws.{first-step, first-stop}
+use Rattle.chart.specs.Limits.{side}
+use Rattle.pile.specs.Pile.{inRow}
+use Rattle.pile.proofs.section_at.lowest.Statement.{statement}
+use Rattle.pile.proofs.section_at.lowest.Tie as tie
+
+abbrev Inv-loop : tie.InvT-loop
+Inv-loop begins ends col r₀ r = (r ≤ side) × (first (λ k. inRow begins ends col k) r ≡ r)
+
+abbrev μ-loop : tie.MeasureT-loop
+μ-loop begins ends col r₀ r = side - r
+
+loop-holds : tie.Need-loop-holds Inv-loop μ-loop
+unfolding first
+loop-holds c = (omega arith, refl)
+
+holds-requires : tie.Need-holds-requires Inv-loop μ-loop
+holds-requires c κs = omega arith
+
+cast-result : tie.Need-cast-result Inv-loop μ-loop
+cast-result c = omega arith
+
+returns : tie.Need-returns Inv-loop μ-loop
+returns c =
+    let at = c .before .before .before .loop in
+    sym (first-stop _ side (at .r) (at .inv .1) (sym (c .before .holds .ensures) ∙ c .if1 .taken) (omega arith))
+
+add-r : tie.Need-add-r Inv-loop μ-loop
+add-r c = omega arith
+
+loop-less : tie.Need-loop-less Inv-loop μ-loop
+loop-less c = omega arith
+
+loop-again : tie.Need-loop-again Inv-loop μ-loop
+loop-again c =
+    let at = c .before .before .before .loop in
+    (omega arith, first-step _ (at .r) (at .inv .1) (sym (c .before .holds .ensures) ∙ c .if1 .left))
+
+returns-2 : tie.Need-returns-2 Inv-loop μ-loop
+returns-2 c =
+    let at = c .before .loop in
+    let end : at .r ≡ side = omega arith in
+    sym (rw end at (at .inv .1))
+
+pub lowest-spec : {M : Type 1} → statement M
+lowest-spec =
+    tie.close
+    (tie.spec
+    Inv-loop
+    μ-loop
+    loop-holds
+    holds-requires
+    cast-result
+    returns
+    add-r
+    loop-less
+    loop-again
+    returns-2)

@@ -1,2 +1,0 @@
--- Letters written from a place of a list on.
-pub mod Wrote

@@ -1,0 +1,57 @@
+// The calls of a script on a holder by value, each given the holder that the last one returned.
+use crate::lines::same;
+use calls::written::of_reply;
+use chart::reply;
+use chart::reply::NUMBERS;
+use holder::Holder;
+use wire::BYTES;
+use wire::Decoded;
+use wire::received;
+ghost use Prim.Native.Nat.{_+_, _*_, _≤_, _<_};
+ghost use lib.ListN.{length};
+
+// The next holder, and whether the reply is the one that stands in the list.
+struct Step {
+    holder: Holder,
+    same: bool,
+}
+
+fn answer(holder: Holder, call: &[u8], expected: &[u16]) -> Step {
+    let decoded = received(call, NUMBERS);
+    let Decoded::Call(made) = decoded else {
+        return Step {
+            holder,
+            same: false,
+        };
+    };
+    let answered = holder.answer(made);
+    let said = answered.reply;
+    let mut numbers = [0u16; NUMBERS];
+    reply::write(of_reply(said), &mut numbers[..]);
+    let alike = same(&numbers[..], expected);
+    let next = answered.holder;
+    Step {
+        holder: next,
+        same: alike,
+    }
+}
+
+// How many of the replies are others than those by value.
+pub(crate) fn differing(script: &[u8], replies: &[u16], count: usize) -> usize
+    requires { ⌜ (11 * count ≤ length (now script)) × (7 * count ≤ length (now replies)) ⌝ }
+{
+    let mut holder = holder::fresh();
+    let mut others = 0;
+    let mut i = 0;
+    while i < count {
+        let at = BYTES * i;
+        let to = NUMBERS * i;
+        let stepped = answer(holder, &script[at..at + BYTES], &replies[to..to + NUMBERS]);
+        if !stepped.same {
+            others += 1;
+        }
+        holder = stepped.holder;
+        i += 1;
+    }
+    others
+}

@@ -1,0 +1,28 @@
+-- Three fields, one behind the other.
+use Rattle.text_lines.specs.Text.{lineText}
+use Rattle.text_lines.proofs.WrittenLaws.{wrote-behind}
+use borrow.Author.Needs.{needs}
+use Rattle.text_lines.proofs.put_line.Statement.{statement}
+use Rattle.text_lines.proofs.put_line.Tie as tie
+
+put-field-requires : tie.Need-put-field-requires
+put-field-requires c κs = search needs
+
+put-field-requires-2 : tie.Need-put-field-requires-2
+put-field-requires-2 c κs = search needs
+
+put-field-requires-3 : tie.Need-put-field-requires-3
+put-field-requires-3 c κs = search needs
+
+same-length : tie.Need-same-length
+same-length c = search needs
+
+returns : tie.Need-returns
+unfolding lineText
+returns c =
+    wrote-behind (c .before .before .before .before .before .before .before .before .before .before .put-field .ensures) (wrote-behind (c .before .before .before .before .before .before .put-field2 .ensures) (c .before .before .put-field3 .ensures))
+
+pub put-line-spec : {M : Type 1} → statement M
+put-line-spec =
+    tie.close
+    (tie.spec put-field-requires put-field-requires-2 put-field-requires-3 same-length returns)

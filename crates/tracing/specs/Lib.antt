@@ -1,6 +1,0 @@
--- The outlines that have an anchor and edges, what a border call answers, and what its answer says.
-pub mod Outlined
-pub mod Traced
-pub mod Named
-pub mod Ordered
-pub mod Specimens

@@ -1,4 +1,0 @@
--- The order of directions; refusal 16; cells of the chart, the corner cells of a walk of edges, and their hull.
-pub mod Round
-pub mod Turning
-pub mod CornerHull

@@ -1,0 +1,194 @@
+-- The pass over the rows: the edges in hand span the row in hand, and no row before it has a gap.
+use Prim.Native.Nat.{ℕ, suc, pred, _+_, _-_, _≤_, _<_}
+use mathlib.Core.Path.{_≡_, refl, sym, ap, _∙_, subst}
+use mathlib.Core.Bool.{Bool, true, false, true≢false, cond}
+use mathlib.Core.Logic.{inl, inr}
+use native.Mathlib.Decide.{decLt}
+use native.Mathlib.Omega.{arith}
+use lib.Dec.{leb, ltb}
+use borrow.Author.Tests.{le-leb, lt-ltb, le-ltb}
+use Rattle.base.specs.Below.{first}
+use Rattle.base.proofs.BelowLaws.{below-suc, first-is, first-none}
+use Rattle.chart.specs.Limits.{side}
+use Rattle.chart.specs.declared.Point.{Point}
+use Rattle.lattice.proofs.WalkLaws.{point, point-eq}
+use Rattle.rows.specs.Search.{crossing}
+use Rattle.rows.proofs.Side.{furthest-furthest}
+use Rattle.completion.specs.HullRows.{nextRow, hullLeft, hullRight}
+use Rattle.witness.specs.Three.{Three, lowerEnd, upperEnd, firstIn, lastIn, fromLeft, fromRight, fromRow, threeFor}
+use Rattle.witness.specs.Gap.{openColumn, hasGap, lowestRow, lowestOpen}
+use Rattle.witness.proofs.Three.{Spans}
+use Rattle.witness.proofs.Steps.{row-spans, row-first, row-next, lower-same, upper-same, left-same}
+use Rattle.witness_search.specs.parts.Answers.{threeBy, Shows, Answers}
+
+-- ---- a column before the hull's right end
+
+pub gap-sums : (c x w : ℕ) → w ≡ c → w < 255 → ltb x (255 - w) ≡ ltb c (side - x)
+gap-sums c x w e l =
+    elim (decLt x (255 - w)) [
+      | yes h ↦ lt-ltb x (255 - w) h ∙ sym (lt-ltb c (side - x) (omega arith))
+      | no h ↦ le-ltb x (255 - w) (omega arith) ∙ sym (le-ltb c (side - x) (omega arith))
+    ]
+
+pub gap-past : (c x : ℕ) → 255 ≤ c → false ≡ ltb c (side - x)
+gap-past c x l = sym (le-ltb c (side - x) (omega arith))
+
+-- ---- the three cells
+
+abbrev pub At : Point → ℕ → ℕ → Type 0
+At p c r = (p .col ≡ c) × (p .row ≡ r)
+
+is-at : (p : Point) (c r : ℕ) → At p c r → p ≡ point c r
+is-at p c r h = point-eq p (point c r) (h .0) (h .1)
+
+module _ (lo hi : ℕ → ℕ) (i j k n c r : ℕ) (x a b d : Point) where
+  cells : (p q u : Point) → a ≡ p → b ≡ q → d ≡ u → _≡_ {A = Three} (record { a = p; b = q; d = u }) (record { a = a; b = b; d = d })
+  cells p q u e f g z = record { a = sym e z; b = sym f z; d = sym g z }
+
+  pub shows-left : c < lo r → At x c r → At a (lo i) i → At b (lo j) j → At d (lo r) r → Shows lo hi i j k n c r true x a b d
+  unfolding threeBy firstIn lastIn
+  shows-left l e f g h =
+      record {
+        is-found = refl;
+        is-cell = is-at x c r e;
+        three = rw (lt-ltb c (lo r) l) (cells (point (lo i) i) (point (lo j) j) (point (lo r) r) (is-at a (lo i) i f) (is-at b (lo j) j g) (is-at d (lo r) r h));
+      }
+
+  pub shows-row : lo r ≤ c → c < hi r → (p : ℕ) → p ≡ pred (hi r) → At x c r → At a (lo r) r → At b p r → At d p r → Shows lo hi i j k n c r true x a b d
+  unfolding threeBy firstIn lastIn
+  shows-row l m p q e f g h =
+      record {
+        is-found = refl;
+        is-cell = is-at x c r e;
+        three =
+            rw (le-ltb c (lo r) l, lt-ltb c (hi r) m)
+            (cells (point (lo r) r) (point (pred (hi r)) r) (point (pred (hi r)) r) (is-at a (lo r) r f) (is-at b (pred (hi r)) r (g .0 ∙ q, g .1)) (is-at d (pred (hi r)) r (h .0 ∙ q, h .1)));
+      }
+
+  pub shows-right : lo r ≤ c → hi r ≤ c → (p q u : ℕ) → p ≡ pred (hi k) → q ≡ pred (hi n) → u ≡ pred (hi r) → At x c r → At a p k → At b q n → At d u r → Shows lo hi i j k n c r true x a b d
+  unfolding threeBy firstIn lastIn
+  shows-right l m p q u s t v e f g h =
+      record {
+        is-found = refl;
+        is-cell = is-at x c r e;
+        three =
+            rw (le-ltb c (lo r) l, le-ltb c (hi r) m)
+            (cells (point (pred (hi k)) k) (point (pred (hi n)) n) (point (pred (hi r)) r) (is-at a (pred (hi k)) k (f .0 ∙ s, f .1)) (is-at b (pred (hi n)) n (g .0 ∙ t, g .1)) (is-at d (pred (hi r)) r (h .0 ∙ v, h .1)));
+      }
+
+-- ---- an edge in hand
+
+module _ (f : ℕ → ℕ) (b t : ℕ) (two : suc b < t) where
+  -- From the row i of the edge of the row below, that of row r is found
+  pub record On (i r : ℕ) : Type 0 where
+    pub low : b ≤ i
+    pub high : suc i < t
+    pub row : r < t → cond (leb r (nextRow f t i)) i (nextRow f t i) ≡ lowerEnd f b t r
+
+  on-start : On b b
+  on-start = record { low = omega arith; high = two; row = λ l. rw (le-leb b (nextRow f t b) (omega (arith, furthest-furthest f b t two .above))) (sym (row-first f b t two)) }
+
+  on-next : (r i : ℕ) → b ≤ r → r < t → i ≡ lowerEnd f b t r → On i (r + 1)
+  on-next r i h l e =
+      let s = row-spans f b t two r h l in
+      let d : r + 1 ≡ suc r = omega arith in
+      subst (λ (z : ℕ). On z (r + 1)) (sym e)
+      (record { low = s .from; high = omega (arith, s .rises, s .below); row = λ k. rw d (sym (row-next f b t two r h (omega arith))) })
+
+  pub on-edge : (i r q e : ℕ) → On i r → r < t → q ≡ nextRow f t i → e ≡ cond (leb r q) i q → e ≡ lowerEnd f b t r
+  on-edge i r q e o l d g = g ∙ ap (λ (z : ℕ). cond (leb r z) i z) d ∙ o .row l
+
+  pub edge-within : (r i : ℕ) → b ≤ r → r < t → i ≡ lowerEnd f b t r → (b ≤ i) × (suc i < t)
+  edge-within r i h l e = let s = row-spans f b t two r h l in (omega (arith, s .from), omega (arith, s .rises, s .below))
+
+  -- It spans the row, and crosses it where the hull begins
+  pub record Edge (r i j : ℕ) : Type 0 where
+    pub is-low : i ≡ lowerEnd f b t r
+    pub is-high : j ≡ nextRow f t (lowerEnd f b t r)
+    pub rises : i < j
+    pub above : i ≤ r
+    pub under : r ≤ j
+    pub below : j < t
+    pub starts : b ≤ i
+
+  pub edge-of : (r i j : ℕ) → b ≤ r → r < t → i ≡ lowerEnd f b t r → j ≡ nextRow f t i → Edge r i j
+  edge-of r i j h l e d =
+      let s = row-spans f b t two r h l in
+      let g : j ≡ nextRow f t (lowerEnd f b t r) = d ∙ ap (nextRow f t) e in
+      record {
+        is-low = e;
+        is-high = g;
+        rises = omega (arith, s .rises);
+        above = omega (arith, s .above);
+        under = omega (arith, s .under);
+        below = omega (arith, s .below);
+        starts = omega (arith, s .from);
+      }
+
+  pub edge-crosses : (r i j x : ℕ) → b ≤ r → r < t → Edge r i j → x ≡ crossing f i j r → x ≡ hullLeft f b t r
+  edge-crosses r i j x h l g e = e ∙ (λ z. crossing f (g .is-low z) (g .is-high z) r) ∙ sym (row-spans f b t two r h l .crosses)
+
+-- ---- the search
+
+module _ (lo en hi m : ℕ → ℕ) (b t : ℕ) (two : suc b < t) (mirrors : (s : ℕ) → s < t → m s ≡ side - hi s) where
+  pub record Searching (i k r : ℕ) : Type 0 where
+    pub low : b ≤ r
+    pub high : r ≤ t
+    pub left : On lo b t two i r
+    pub right : On m b t two k r
+    pub clear : (s : ℕ) → b ≤ s → s < r → hasGap lo en hi b t s ≡ false
+
+  pub searching-start : Searching b b b
+  searching-start = record { low = omega arith; high = omega arith; left = on-start lo b t two; right = on-start m b t two; clear = λ s h l. absurd (omega arith) }
+
+  module _ (r : ℕ) (h : b ≤ r) (l : r < t) (i j k n : ℕ) (left : Edge lo b t two r i j) (right : Edge m b t two r k n) (u x c : ℕ) (crosses : u ≡ crossing lo i j r) (crosses′ : x ≡ crossing m k n r) (is-column : c ≡ cond (ltb u (lo r)) u (en r)) where
+    abbrev mirrored : ℕ → ℕ
+    mirrored s = side - hi s
+
+    opened : c ≡ openColumn lo en hi b t r
+    unfolding openColumn
+    opened = is-column ∙ ap (λ (z : ℕ). cond (ltb z (lo r)) z (en r)) (edge-crosses lo b t two r i j u h l left crosses)
+
+    gap-is : (g : Bool) → g ≡ ltb c (side - x) → g ≡ hasGap lo en hi b t r
+    unfolding hasGap hullRight
+    gap-is g e = e ∙ (λ z. ltb (opened z) (side - (edge-crosses m b t two r k n x h l right crosses′ ∙ left-same m mirrored b t mirrors two r h l) z))
+
+    pub searching-next : ((s : ℕ) → b ≤ s → s < r → hasGap lo en hi b t s ≡ false) → ltb c (side - x) ≡ false → Searching i k (r + 1)
+    searching-next clear g =
+        record {
+          low = omega arith;
+          high = omega arith;
+          left = on-next lo b t two r i h l (left .is-low);
+          right = on-next m b t two r k h l (right .is-low);
+          clear = λ s a z. elim (below-suc s r (omega arith)) [ inl e ↦ rw e (sym (gap-is _ refl) ∙ g) | inr q ↦ clear s a q ];
+        }
+
+    lowest-row : ((s : ℕ) → b ≤ s → s < r → hasGap lo en hi b t s ≡ false) → ltb c (side - x) ≡ true → lowestRow lo en hi b t ≡ r
+    unfolding lowestRow
+    lowest-row clear g =
+        let d : b + (r - b) ≡ r = omega arith in
+        ap (λ (z : ℕ). b + z) (first-is (λ z. hasGap lo en hi b t (b + z)) (t - b) (r - b) (omega arith) (λ z q. clear (b + z) (omega arith) (omega arith)) (ap (hasGap lo en hi b t) d ∙ sym (gap-is _ refl) ∙ g)) ∙ d
+
+    same-three : threeBy lo hi i j k n c r ≡ threeFor lo hi b t (point c r)
+    unfolding threeBy threeFor fromLeft fromRight fromRow firstIn lastIn upperEnd
+    same-three =
+        let p = right .is-low ∙ lower-same m mirrored b t mirrors two r h l in
+        let q = right .is-high ∙ upper-same m mirrored b t mirrors two r h l in
+        λ z. threeBy lo hi (left .is-low z) (left .is-high z) (p z) (q z) c r
+
+    pub answers-found : (found : Bool) (cell p q v : Point) → ((s : ℕ) → b ≤ s → s < r → hasGap lo en hi b t s ≡ false) → ltb c (side - x) ≡ true → Shows lo hi i j k n c r found cell p q v → Answers lo en hi b t found cell p q v
+    unfolding lowestOpen
+    answers-found found cell p q v clear g s =
+        let e = lowest-row clear g in
+        record {
+          none = λ z. absurd (true≢false (sym (s .is-found) ∙ z));
+          some = λ z. omega arith;
+          lowest = λ z. s .is-cell ∙ point-eq (point c r) (point (openColumn lo en hi b t (lowestRow lo en hi b t)) (lowestRow lo en hi b t)) (opened ∙ ap (openColumn lo en hi b t) (sym e)) (sym e);
+          three = λ z. ap (threeFor lo hi b t) (s .is-cell) ∙ sym same-three ∙ s .three;
+        }
+
+  pub answers-none : (i k r : ℕ) → t ≤ r → Searching i k r → (cell p q v : Point) → Answers lo en hi b t false cell p q v
+  unfolding lowestRow
+  answers-none i k r l s cell p q v =
+      let e = first-none (λ z. hasGap lo en hi b t (b + z)) (t - b) (λ z a. s .clear (b + z) (omega arith) (omega arith)) in
+      record { none = λ z. omega arith; some = λ z. absurd (true≢false (sym z)); lowest = λ z. absurd (true≢false (sym z)); three = λ z. absurd (true≢false (sym z)) }

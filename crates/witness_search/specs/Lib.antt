@@ -1,0 +1,2 @@
+-- What the pass over the rows answers.
+pub mod parts
