@@ -1,4 +1,4 @@
--- Tests of the members of a list: every one passes, and some one passes.
+-- Tests of the members of a list: whether all pass, and whether some pass.
 use mathlib.Core.Bool.{Bool, true, false, _&&_, _||_}
 use mathlib.Core.List.{List, [], _∷_}
 

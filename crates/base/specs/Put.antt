@@ -1,4 +1,4 @@
--- A function of numbers with its value at one number replaced.
+-- A function of natural numbers with its value replaced at one number.
 use Prim.Native.Nat.{ℕ}
 use mathlib.Core.Bool.{cond}
 use lib.Dec.{eqb}

@@ -1,4 +1,4 @@
--- Whether two integers, and two lists of integers, are the same.
+-- Equality tests of two integers and of two lists of integers.
 use mathlib.Core.Bool.{Bool, true, false, _&&_}
 use mathlib.Core.List.{List, [], _∷_}
 use lib.Dec.{eqb}

@@ -1,1 +1,1 @@
-// General laws, theory alone: numbers below a bound, and sizes of integers.
+// General laws, theory only: numbers below a bound, sizes of integers, lists.

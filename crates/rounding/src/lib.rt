@@ -1,1 +1,2 @@
-// Rounding of floats, theory alone: how far an operation's result lies from the exact one, in whole numbers of the format's smallest value.
+// Rounding of floats, theory only: how far the result of an operation lies from the
+// exact one, in units of the format's smallest positive value.

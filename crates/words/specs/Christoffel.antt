@@ -9,20 +9,20 @@ use lib.Dec.{ltb, eqb}
 use Rattle.base.specs.Below.{every}
 use Rattle.words.specs.Word.{Word, laters}
 
--- k and n have no common divisor but 1
+-- k and n have no common divisor except 1
 unfoldable pub Coprime : ℕ → ℕ → Type 0
 Coprime k n = (d a b : ℕ) → d * a ≡ k → d * b ≡ n → d ≤ 1
 
--- Letter i, from 1 to n, is the earlier one exactly if the remainder of i·k by n is larger than that of (i − 1)·k
+-- Letter i, from 1 to n, is the earlier one exactly if i·k mod n is larger than (i − 1)·k mod n
 unfoldable pub Remainders : Word → ℕ → ℕ → Type 0
 Remainders w k n = (i : ℕ) → 1 ≤ i → i ≤ n → (getD w (i - 1) false ≡ false) ↔ ((i - 1) * k % n < i * k % n)
 
--- A single letter, or a longer word whose count of later letters and length have no common divisor, and that follows the remainders of that count
+-- A single letter; or a longer word whose count k of later letters is coprime to its length, and whose letters follow the remainders of k
 pub data Christoffel : Word → Type 0 where
   single : (a : Bool) → Christoffel (a ∷ [])
   longer : {w : Word} → 1 < length w → Coprime (laters w) (length w) → Remainders w (laters w) (length w) → Christoffel w
 
--- The same, computed (proofs/Christoffel.antt: `christoffel-iff`)
+-- The same as a test (proofs/Christoffel.antt: `christoffel-iff`)
 unfoldable pub coprime : ℕ → ℕ → Bool
 coprime k n = every (λ i. not (eqb (k % (i + 2)) 0 && eqb (n % (i + 2)) 0)) (n - 1)
 

@@ -1,4 +1,5 @@
--- Words over two ordered letters, in the order of contract 3.7 to 3.10: letters and order, Lyndon words and factors, Christoffel words, also from their counts; then what the searches answer.
+-- Words over two ordered letters (contract 3.7 to 3.10): letters and order, Lyndon words and factors, Christoffel words by remainders and
+-- by counts; then what the searches return.
 pub mod Word
 pub mod Lyndon
 pub mod Christoffel

@@ -1,4 +1,4 @@
--- Words over two ordered letters, their letters counted, and their order (contract 3.7).
+-- Words over two ordered letters, counts of their letters, and their order (contract 3.7).
 use Prim.Native.Nat.{ℕ, zero, suc}
 use mathlib.Core.Path.{_≡_}
 use mathlib.Core.Bool.{Bool, true, false}
@@ -9,7 +9,7 @@ use lib.Dec.{eqb}
 abbrev pub Word : Type 0
 Word = List Bool
 
--- A list of letters as a word: the letter given is the later one, any other the earlier
+-- A list of letters as a word: the given letter is the later one, any other is the earlier one
 unfoldable pub wordOf : ℕ → List ℕ → Word
 wordOf later letters = map (λ a. eqb a later) letters
 
@@ -24,13 +24,13 @@ laters [] = zero
 laters (false ∷ w) = laters w
 laters (true ∷ w) = suc (laters w)
 
--- u is a proper beginning of v
+-- u is a proper prefix of v
 pub record Begins (u v : Word) : Type 0 where
   pub next : Bool
   pub rest : Word
   pub whole : v ≡ u ++ next ∷ rest
 
--- At their first difference, after the letters of `same`, u has the earlier letter and v the later
+-- After the common prefix `same`, u goes on with the earlier letter and v with the later
 pub record Differs (u v : Word) : Type 0 where
   pub same : Word
   pub low : Word
@@ -38,12 +38,12 @@ pub record Differs (u v : Word) : Type 0 where
   pub left : u ≡ same ++ false ∷ low
   pub right : v ≡ same ++ true ∷ high
 
--- u is smaller than v: it ends before they differ, or has the earlier letter where they first do
+-- u is smaller than v: it is a proper prefix of v, or has the earlier letter where the two first differ
 pub data Less (u v : Word) : Type 0 where
   begins : Begins u v → Less u v
   differs : Differs u v → Less u v
 
--- The same order, computed (proofs/Order.antt: `less-iff`)
+-- The same order as a test (proofs/Order.antt: `less-iff`)
 unfoldable pub less : Word → Word → Bool
 less u [] = false
 less [] (b ∷ v) = true

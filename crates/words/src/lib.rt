@@ -8,7 +8,7 @@ ghost use Rattle.words.specs.Lyndon.{factorsOf};
 ghost use Rattle.words.specs.Christoffel.{coprime, remainders, christoffel};
 ghost use Rattle.words.specs.parts.Search.{rankOf, firstOf, judged};
 
-// The first factor of a word: the letters of one copy, how often it is repeated, and the later letters of one copy.
+// The first factor of a word: the length of one copy, the number of repeats, and the later letters of one copy.
 pub struct Found {
     pub length: usize,
     pub times: usize,
@@ -22,7 +22,7 @@ fn rank(letter: u8, later: u8) -> usize
     if letter == later { 1 } else { 0 }
 }
 
-// The first factor (contract 3.9) of what follows `from`, in one pass (Duval); all 0 where nothing follows.
+// The first factor (contract 3.9) of the letters from `from` on, in one pass (Duval). All fields are 0 if there are no letters.
 pub fn first_factor(w: &[u8], from: usize, later: u8) -> Found
     ensures { λ r. ⌜ r ≡ firstOf (factorsOf (wordOf later (drop from (now (w .entry))))) ⌝ }
 {
@@ -35,18 +35,18 @@ pub fn first_factor(w: &[u8], from: usize, later: u8) -> Found
     }
     let mut i = from;
     let mut j = from + 1;
-    // The later letters of all that was read, and those of one period of it.
+    // The later letters of everything read so far, and those of one period of it.
     let mut read = rank(w[from], later);
     let mut laters = read;
     while j < w.len() {
         let a = w[i];
         let letter = w[j];
         let b = rank(letter, later);
-        // The same letter, as nearly always, goes on with the same word.
+        // Nearly every letter equals the one a period before it and continues the period.
         if a == letter {
             i += 1;
         } else {
-            // A larger letter makes one Lyndon word of all that was read.
+            // A larger letter makes everything read so far one Lyndon word.
             if letter == later {
                 i = from;
                 laters = read + b;
@@ -70,7 +70,7 @@ pub fn first_factor(w: &[u8], from: usize, later: u8) -> Found
     }
 }
 
-// (rem + k) mod n, by sums within n.
+// (rem + k) mod n, with no sum above n.
 fn next_remainder(rem: usize, k: usize, n: usize) -> usize
     requires { ⌜ (rem < n) × (k ≤ n) ⌝ }
     ensures { λ r. ⌜ r ≡ (rem + k) % n ⌝ }
@@ -79,7 +79,7 @@ fn next_remainder(rem: usize, k: usize, n: usize) -> usize
     if rem < left { rem + k } else { rem - left }
 }
 
-// Whether the letters follow the remainders of i·k by the length (Brlek, Lachaud, Provençal and Reutenauer, over all letters).
+// Whether the letters follow the remainders of i·k by the length (Brlek, Lachaud, Provençal and Reutenauer, applied to every letter).
 fn follows_remainders(w: &[u8], k: usize, later: u8) -> bool
     requires { ⌜ (0 < length (now w)) × (k ≤ length (now w)) ⌝ }
     ensures { λ r. ⌜ r ≡ (coprime k (length (now (w .entry))) && remainders (wordOf later (now (w .entry))) k (length (now (w .entry)))) ⌝ }
@@ -87,12 +87,12 @@ fn follows_remainders(w: &[u8], k: usize, later: u8) -> bool
     let mut rem: usize = 0;
     let mut i = 0;
     while i < w.len() {
-        // k and the length share a divisor exactly if a remainder before the last is 0.
+        // k and the length have a common divisor exactly if a remainder before the last is 0.
         if rem == 0 && 0 < i {
             return false;
         }
         let next = next_remainder(rem, k, w.len());
-        // The letter is to be the earlier one exactly where the remainder grows.
+        // The letter must be the earlier one exactly if the remainder grows.
         if (w[i] == later) == (rem < next) {
             return false;
         }
@@ -102,7 +102,7 @@ fn follows_remainders(w: &[u8], k: usize, later: u8) -> bool
     true
 }
 
-// Whether `w`, k of its letters the later one, is a Christoffel word (contract 3.10): either single letter is one, the empty word is none.
+// Whether `w`, with k later letters, is a Christoffel word (contract 3.10). A single letter is one; the empty word is not.
 fn is_christoffel(w: &[u8], k: usize, later: u8) -> bool
     requires { ⌜ k ≡ laters (wordOf later (now w)) ⌝ }
     ensures { λ r. ⌜ r ≡ christoffel (wordOf later (now (w .entry))) ⌝ }
@@ -113,7 +113,7 @@ fn is_christoffel(w: &[u8], k: usize, later: u8) -> bool
     follows_remainders(w, k, later)
 }
 
-// A factor, with the count of later letters in one copy, and whether it is a Christoffel word.
+// A factor, the later letters of one copy, and whether it is a Christoffel word.
 pub struct JudgedFactor {
     pub length: usize,
     pub times: usize,
@@ -121,7 +121,7 @@ pub struct JudgedFactor {
     pub christoffel: bool,
 }
 
-// One step of a walk over all factors: the first one of what follows `at`. The next begins times · length further on.
+// One step of a loop over all factors: the first factor of the letters from `at` on. The next factor starts times · length letters later.
 pub fn factor_at(w: &[u8], at: usize, later: u8) -> JudgedFactor
     ensures { λ r. ⌜ r ≡ judged (factorsOf (wordOf later (drop at (now (w .entry))))) ⌝ }
 {
