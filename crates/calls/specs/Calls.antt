@@ -5,20 +5,20 @@ use lib.Dec.{leb}
 use Rattle.calls.specs.declared.Call.{Call}
 use Rattle.calls.specs.declared.Action.{Action}
 
--- How many parties there are, and at how many places each has outlines
+-- The number of parties, and of places for each party
 abbrev pub parties : ℕ
 parties = 2
 
 abbrev pub places : ℕ
 places = 4
 
--- 19 and 20 (contract 5)
+-- Refusals 19 and 20 (contract 5)
 abbrev pub badParty : ℕ → Bool
 badParty p = leb parties p
 
 abbrev pub badPlace : ℕ → Bool
 badPlace k = leb places k
 
--- The call of party p that does a
+-- Party p's call with action a
 abbrev pub by : ℕ → Action → Call
 by p a = record { party = p; action = a }

@@ -1,3 +1,3 @@
--- Calls, and replies written out.
+-- Calls, and their replies in seven fields.
 pub mod Calls
 pub mod Replies

@@ -1,4 +1,4 @@
--- A reply written out: the number, the word and the fields, for every case of `Reply` (contract 4 and 5).
+-- Every case of `Reply` in seven fields: number, word and the rest (contract 4 and 5).
 use Prim.Native.Nat.{ℕ}
 use Rattle.chart.specs.declared.Fields.{Fields}
 use Rattle.chart.specs.Fields.{numbered, said, accepted, refusalFields, no-word, inside, outside, undecided, taken, same}
@@ -8,7 +8,7 @@ use Rattle.calls.specs.declared.Piece.the-variants.{Move, Line, Close, N
 use Rattle.calls.specs.declared.Reply.{Reply}
 use Rattle.calls.specs.declared.Reply.the-variants.{Done, Inside, Outside, Undecided, Columns, None, Drawn, Taken, Same, Refused, NothingAtWork, NoDraft, DraftOpen, DraftFull, NoParty, NoPlace}
 
--- The words of a holder; "none" is also that of a witness call
+-- The words of a holder's replies; the witness call uses "none" too
 abbrev pub none : ℕ
 none = 5
 
@@ -24,14 +24,14 @@ line = 9
 abbrev pub close : ℕ
 close = 10
 
--- A piece in seven numbers: its word, and the cell at whose centre the point of a move or a line lies
+-- A piece in seven numbers: its word and, for a move or a line, the cell whose centre is the point (contract 7.11)
 unfoldable pub pieceFields : Piece → Point → Fields
 pieceFields (Move x y) c = accepted move 0 c
 pieceFields (Line x y) c = accepted line 0 c
 pieceFields Close c = said close
 pieceFields NoPiece c = said none
 
--- The first column stands in the reply's column, and the last in its row
+-- For a row, the first column is the reply's column and the last is the reply's row (contract 7.9)
 unfoldable pub replyFields : Reply → Fields
 replyFields Done = said no-word
 replyFields Inside = said inside
@@ -50,7 +50,7 @@ replyFields DraftFull = numbered 15
 replyFields NoParty = numbered 19
 replyFields NoPlace = numbered 20
 
--- The piece that a reply gives: none but that of a piece call gives one
+-- The piece in a reply to a piece call. Any other reply has none
 unfoldable pub pieceIn : Reply → Piece
 pieceIn (Drawn p c) = p
 pieceIn Done = NoPiece

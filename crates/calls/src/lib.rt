@@ -1,21 +1,21 @@
-// The calls on a holder, and what they answer.
+// The calls on a holder, and their answers.
 use chart::Point;
 use chart::Refusal;
 
 pub mod written;
 
-// There are this many parties, knee and ankle, and each keeps outlines at this many places.
+// The number of parties (0 the knee, 1 the ankle), and of places for each party.
 pub const PARTIES: usize = 2;
 
 pub const PLACES: usize = 4;
 
-// A call: whose it is, and what is to be done.
+// A call: its party and its action.
 pub struct Call {
     pub party: u8,
     pub action: Action,
 }
 
-// What a call does for its party, with its argument (contract 7).
+// What a call does, with its argument (contract 7).
 pub enum Action {
     Begin { start: Point },
     Add { letter: u8 },
@@ -25,62 +25,62 @@ pub enum Action {
     Ask { place: u8, question: Question },
 }
 
-// What is asked of the outline at work at a place.
+// A question about the outline at work at a place.
 pub enum Question {
-    // Query: does it enclose the cell?
+    // Query: does the outline enclose the cell?
     Cell(Point),
-    // Row: which columns of it does it enclose?
+    // Row: which columns of the row does it enclose?
     Row(u16),
-    // Reading: does the pair of floats lie inside its edges?
+    // Reading: is the pair of floats inside its edges?
     Reading(Reading),
-    // Piece: what has its drawing at this position?
+    // Piece: which path command does its drawing have at this position?
     Piece(u16),
 }
 
-// Angle and load in chart units: a cell's centre is at its whole column and row.
+// An angle and a load in chart units: the centre of the cell (c, r) is at c and r.
 pub struct Reading {
     pub angle: f32,
     pub load: f32,
 }
 
-// One piece of a drawing, as the tablet's canvas takes it. Its point is a cell's centre: column and row, each raised by one half.
+// One path command of a drawing (contract 3.22). Its point is a cell's column and row, each raised by one half.
 pub enum Piece {
     Move(f32, f32),
     Line(f32, f32),
     Close,
-    // Past the last piece.
+    // The position is past the last path command.
     None,
 }
 
-// What a call answers.
+// The answer of a call.
 pub enum Reply {
     // Begin, add, drop or clear was done.
     Done,
     Inside,
     Outside,
-    // Reading: too near an edge to tell.
+    // Reading: too near an edge to decide.
     Undecided,
     // Row: the first and the last enclosed column.
     Columns { first: u16, last: u16 },
-    // Row: no enclosed cell.
+    // Row: no cell of the row is enclosed.
     None,
-    // Piece, and the cell at whose centre the point of a move or a line lies.
+    // Piece: the path command and, for a move or a line, the cell whose centre is its point.
     Drawn { piece: Piece, cell: Point },
-    // A close took the draft: the count of edges, and the anchor.
+    // Close: the draft is taken. The count of edges, and the anchor.
     Taken { edges: u16, anchor: Point },
     Same { edges: u16, anchor: Point },
     // Refusals 1 to 11.
     Refused(Refusal),
     // 12. Nothing is at work at the place.
     NothingAtWork,
-    // 13. No draft to add to, to close or to drop.
+    // 13. There is no draft to add to, to close or to drop.
     NoDraft,
-    // 14. One draft is open already.
+    // 14. A draft is open already.
     DraftOpen,
-    // 15. Add with as many letters in the draft as it may have.
+    // 15. The draft has 612 letters already.
     DraftFull,
-    // 19. A party above 1.
+    // 19. The party is above 1.
     NoParty,
-    // 20. A place above 3.
+    // 20. The place is above 3.
     NoPlace,
 }

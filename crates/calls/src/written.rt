@@ -1,4 +1,4 @@
-// A reply written out: its number, its word and its fields (contract 4).
+// Replies in seven fields: number, word and the rest (contract 4).
 use crate::Piece;
 use crate::Reply;
 use chart::Fields;
@@ -7,7 +7,7 @@ use chart::reply;
 ghost use mathlib.Core.Path.{_≡_};
 ghost use Rattle.calls.specs.Replies.{pieceIn, pieceFields, replyFields};
 
-// The piece that a reply gives: none but that of a piece call gives one.
+// The piece in a reply to a piece call. Any other reply has none.
 pub fn piece_in(r: Reply) -> Piece
     ensures { λ p. ⌜ p ≡ pieceIn r ⌝ }
 {
@@ -18,7 +18,7 @@ pub fn piece_in(r: Reply) -> Piece
     }
 }
 
-// A piece in seven numbers: its word, and the cell of a move or a line.
+// A piece in seven numbers: its word and, for a move or a line, the cell.
 fn of_piece(piece: Piece, cell: Point) -> Fields
     ensures { λ f. ⌜ f ≡ pieceFields piece cell ⌝ }
 {

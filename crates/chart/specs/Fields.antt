@@ -1,4 +1,4 @@
--- A reply written out: its number, its word and its fields, for every answer of a test, of a loose query and of a comparison (contract 4 and 5).
+-- Replies in seven fields: number, word and the rest, for every answer of a test, a loose query and a comparison (contract 4 and 5).
 use Prim.Native.Nat.{ℕ}
 use mathlib.Core.Bool.{cond}
 use mathlib.Core.List.{List, [], _∷_, _++_}
@@ -17,7 +17,7 @@ use Rattle.chart.specs.declared.Nesting.the-variants.{Equal, FirstWithin
 use Rattle.chart.specs.declared.Comparison.{Comparison}
 use Rattle.chart.specs.declared.Comparison.the-variants.{Found, Refused as TurnedBack}
 
--- The words of a reply
+-- The words of a reply (contract 4.3)
 abbrev pub no-word : ℕ
 no-word = 0
 
@@ -51,14 +51,14 @@ no-common = 14
 abbrev pub crossing : ℕ
 crossing = 15
 
--- A number alone; a number with a place
+-- A reply with a number only; with a number and a place
 abbrev pub numbered : ℕ → Fields
 numbered n = record { number = n; word = no-word; place = 0; piece = 0; length = 0; col = 0; row = 0 }
 
 abbrev pub placed : ℕ → ℕ → Fields
 placed n p = record { number = n; word = no-word; place = p; piece = 0; length = 0; col = 0; row = 0 }
 
--- A word alone; an outline taken, with a word, the count of its edges and its anchor
+-- A reply with a word only; a taken outline with a word, the count of edges and the anchor
 abbrev pub said : ℕ → Fields
 said v = record { number = 0; word = v; place = 0; piece = 0; length = 0; col = 0; row = 0 }
 
@@ -88,7 +88,7 @@ positionFields Inside = said inside
 positionFields Outside = said outside
 positionFields (Rejected f) = refusalFields f
 
--- A word, and whose list is handed back: the first, the second, or neither
+-- A word, and which list a comparison returns: 1, 2, or 0 for neither (contract 6.4)
 abbrev pub handing : ℕ → ℕ → Fields
 handing v whose = record { number = 0; word = v; place = 0; piece = whose; length = 0; col = 0; row = 0 }
 
@@ -107,11 +107,11 @@ comparisonFields (TurnedBack list f) = placed (refusalFields f .number) list
 unfoldable pub numbersOf : Fields → List ℕ
 numbersOf f = f .number ∷ f .word ∷ f .place ∷ f .piece ∷ f .length ∷ f .col ∷ f .row ∷ []
 
--- The reply whose seven numbers stand first in a list
+-- The reply in the first seven numbers of a list
 unfoldable pub fieldsOf : List ℕ → Fields
 fieldsOf l =
     record { number = getD l 0 0; word = getD l 1 0; place = getD l 2 0; piece = getD l 3 0; length = getD l 4 0; col = getD l 5 0; row = getD l 6 0 }
 
--- A lent list after a reply: the seven numbers stand first and the rest is unaltered; where there is no room for seven, all of it is
+-- A buffer after a reply is written to it: the seven numbers, then the old content. A buffer with room for fewer than seven is unchanged
 unfoldable pub replyAfter : Fields → List ℕ → List ℕ
 replyAfter f buffer = cond (leb 7 (length buffer)) (numbersOf f ++ drop 7 buffer) buffer

@@ -1,4 +1,4 @@
--- Limits, outlines, and replies written out.
+-- Limits, outlines, and replies in seven fields.
 pub mod Limits
 pub mod Outline
 pub mod Fields

@@ -1,4 +1,4 @@
--- Whether two replies written out are the same, for tables that the checker computes.
+-- Equality of two replies as a test, for tables that the checker computes.
 use mathlib.Core.Bool.{Bool, _&&_}
 use lib.Dec.{eqb}
 use Rattle.chart.specs.declared.Fields.{Fields}

@@ -1,4 +1,4 @@
-// The chart, its limits, and what the calls answer.
+// The chart, its limits, and the answers of the calls.
 pub mod reply;
 
 // A corner of the chart, or the cell whose lower left corner it is.
@@ -8,27 +8,27 @@ pub struct Point {
     pub row: u16,
 }
 
-// The chart has this many columns and rows of cells.
+// The number of columns and of rows of cells.
 pub const SIDE: u16 = 255;
 
-// An outline has at least and at most this many letters.
+// The least and the largest number of letters of an outline.
 pub const SHORTEST: usize = 4;
 
 pub const LONGEST: usize = 612;
 
-// Room for the edges of every outline that is taken: two numbers for each of 100.
+// Room for the edges of every taken outline: two numbers for each of 100 edges.
 pub const MOST_NUMBERS: usize = 200;
 
-// The longest list of a loose query.
+// The longest list of edges that a loose query accepts, in numbers.
 pub const LONGEST_LIST: usize = 2032;
 
-// Why an input is turned back, each refusal with the fields that it names (contract 5). There is no refusal 7.
+// Why an input is refused, with the fields that the refusal names (contract 5). There is no refusal 7.
 pub enum Refusal {
     // 1. Fewer than 4 or more than 612 letters.
     Count,
     // 2. The start corner is off the chart.
     Start,
-    // 3. A letter above 3.
+    // 3. A letter is above 3.
     Letter {
         place: u16,
     },
@@ -36,51 +36,51 @@ pub enum Refusal {
     Leaves {
         place: u16,
     },
-    // 5. The walk does not come back to its start.
+    // 5. The walk does not end where it started.
     Unclosed,
     // 6. A letter before the last leads to a corner where the walk has been.
     Touches {
         place: u16,
     },
-    // 8. A letter that is none of its piece's two.
+    // 8. A letter is neither of its piece's two.
     BackStep {
         piece: u16,
         place: u16,
     },
-    // 9. A factor that is no Christoffel word, and the lowest missing cell.
+    // 9. A factor is not a Christoffel word; the cell is the lowest missing one.
     Dent {
         piece: u16,
         place: u16,
         length: u16,
         cell: Point,
     },
-    // 10, of a test. The lent list is shorter than two numbers an edge.
+    // 10, of a test. The buffer has fewer than two numbers for each edge.
     Room {
         edges: u16,
     },
-    // 10, of a loose query. The list is odd or too long.
+    // 10, of a list of edges. Its count of numbers is odd or too large.
     List,
-    // 11. A cell number above 254.
+    // 11. A cell number is above 254.
     Cell,
-    // 16. The edges do not lead once round clockwise.
+    // 16. An edge is zero, the edges do not sum to zero, or directions do not increase strictly clockwise from up.
     Directions,
 }
 
-// What is said of an outline.
+// The verdict on an outline.
 pub enum Verdict {
     // The count of edges, and the anchor.
     Taken { edges: u16, anchor: Point },
     Refused(Refusal),
 }
 
-// What a loose query answers.
+// The answer of a loose query.
 pub enum Position {
     Inside,
     Outside,
     Refused(Refusal),
 }
 
-// How the cells of one hull lie to those of another.
+// How the cells of two hulls lie (contract 6.4).
 pub enum Nesting {
     Equal,
     FirstWithin,
@@ -89,13 +89,13 @@ pub enum Nesting {
     Crossing,
 }
 
-// What a comparison of two lists answers. A refusal says of which list it is: 1 or 2.
+// The answer of a comparison. A refusal names its list, 1 or 2.
 pub enum Comparison {
     Found(Nesting),
     Refused { list: u16, refusal: Refusal },
 }
 
-// A reply written out: the number, the word (0 none, 1 inside, 2 outside, 3 taken, 4 same, 11 to 15 of a comparison) and the fields.
+// A reply in seven fields (contract 4.1). Words: 0 none, 1 inside, 2 outside, 3 taken, 4 same, 11 to 15 of a comparison.
 pub struct Fields {
     pub number: u16,
     pub word: u16,

@@ -1,4 +1,4 @@
-// An answer written out: its number, its word and its fields (contract 4).
+// Answers as replies in seven fields: number, word and the rest (contract 4).
 use crate::Comparison;
 use crate::Fields;
 use crate::Nesting;
@@ -11,17 +11,17 @@ ghost use lib.ListN.{length};
 ghost use lib.Dec.{leb};
 ghost use Rattle.chart.specs.Fields.{numbered as numberedOf, placed as placedOf, said as saidOf, accepted as acceptedOf, refusalFields, verdictFields, positionFields, handing as handingOf, nestingFields, comparisonFields, replyAfter};
 
-// How many numbers a reply is.
+// The count of numbers in a reply.
 pub const NUMBERS: usize = 7;
 
-// A number alone.
+// A reply with a number only.
 pub fn numbered(number: u16) -> Fields
     ensures { λ r. ⌜ r ≡ numberedOf number ⌝ }
 {
     placed(number, 0)
 }
 
-// A number with a place.
+// A reply with a number and a place.
 pub fn placed(number: u16, place: u16) -> Fields
     ensures { λ r. ⌜ r ≡ placedOf number place ⌝ }
 {
@@ -36,14 +36,14 @@ pub fn placed(number: u16, place: u16) -> Fields
     }
 }
 
-// A word alone.
+// A reply with a word only.
 pub fn said(word: u16) -> Fields
     ensures { λ r. ⌜ r ≡ saidOf word ⌝ }
 {
     accepted(word, 0, Point { col: 0, row: 0 })
 }
 
-// An outline taken, with a word: the count of edges, and the anchor.
+// A taken outline with a word: the count of edges, and the anchor.
 pub fn accepted(word: u16, edges: u16, anchor: Point) -> Fields
     ensures { λ r. ⌜ r ≡ acceptedOf word edges anchor ⌝ }
 {
@@ -117,7 +117,7 @@ pub fn of_position(p: Position) -> Fields
     }
 }
 
-// A word, and whose list is handed back: the first, the second, or neither.
+// A word, and which list a comparison returns: 1, 2, or 0 for neither.
 fn handing(word: u16, whose: u16) -> Fields
     ensures { λ r. ⌜ r ≡ handingOf word whose ⌝ }
 {
@@ -153,7 +153,7 @@ pub fn of_comparison(c: Comparison) -> Fields
     }
 }
 
-// Writes a reply's seven numbers to the front of a lent list, and says whether it has room for them.
+// Writes a reply's seven numbers to the front of a buffer. Returns whether it has room for them.
 pub fn write(f: Fields, list: &mut [u16]) -> bool
     ensures room { λ r. ⌜ r ≡ leb 7 (length (now (list .entry))) ⌝ }
     ensures list { λ r. ⌜ now (list .exit) ≡ replyAfter f (now (list .entry)) ⌝ }
