@@ -7,7 +7,7 @@ use Rattle.chart.specs.Outline.{Outline}
 use Rattle.convexity.specs.Clockwise.{border}
 use Rattle.convexity.specs.Pieces.{Reaches, dentPiece, edges}
 
--- The outline reaches the dent test and is not dented; its anchor is a, the cell at W, and its edges are es
+-- The outline passes refusals 1 to 8 and is not dented; a, the cell at W, is its anchor, and es are its edges
 pub record HasEdges (o : Outline) (a : Point) (es : List ℤ) : Type 0 where
   pub reaches : Reaches o
   pub smooth : dentPiece (border o) ≡ 4

@@ -1,4 +1,5 @@
--- W, N, E and S in plain words (contract 3.1): each is a corner that the walk leaves, the furthest on one side, and on that side the furthest in one direction.
+-- W, N, E and S in plain words (contract 3.1). Each is a corner that the walk leaves: extreme on one side and, among the corners of that
+-- side, extreme in one direction.
 use Prim.Native.Nat.{ℕ, _≤_, _<_}
 use mathlib.Core.Path.{_≡_}
 use Rattle.chart.specs.declared.Point.{Point}
@@ -6,7 +7,7 @@ use Rattle.chart.specs.Outline.{Outline}
 use Rattle.lattice.specs.Chart.{cornerAt, size}
 use Rattle.convexity.specs.Cut.{cornerPlace}
 
--- The walk leaves the corner p, by the letter at some place
+-- The walk leaves the corner p, with the letter at some place
 pub record OnWalk (o : Outline) (p : Point) : Type 0 where
   pub place : ℕ
   pub below : place < size o
@@ -36,13 +37,13 @@ pub record IsSouth (o : Outline) (p : Point) : Type 0 where
   pub lowest : (j : ℕ) → j < size o → p .row ≤ cornerAt o j .row
   pub rightmost : (j : ℕ) → j < size o → cornerAt o j .row ≡ p .row → cornerAt o j .col ≤ p .col
 
--- The letter at place i leaves a corner of which P holds, and no other letter does
+-- The letter at place i leaves a corner for which P holds, and no other letter does
 pub record OnlyAt (o : Outline) (P : Point → Type 0) (i : ℕ) : Type 0 where
   pub below : i < size o
   pub here : P (cornerAt o i)
   pub only : (j : ℕ) → j < size o → P (cornerAt o j) → j ≡ i
 
--- The places at which the border is cut are those of W, N, E and S
+-- The border is cut at the places of W, N, E and S
 pub record FourCorners (o : Outline) : Type 0 where
   pub west : OnlyAt o (IsWest o) (cornerPlace o 0)
   pub north : OnlyAt o (IsNorth o) (cornerPlace o 1)

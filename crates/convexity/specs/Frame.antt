@@ -1,10 +1,10 @@
--- The four pieces' ordered letters, with their steps (contract 3.4).
+-- The ordered letters of the four pieces, with their steps (contract 3.4).
 use Prim.Native.Nat.{ℕ, zero, suc, _-_}
 use lib.IntN.{ℤ, pos, negsuc}
 use Rattle.chart.specs.Limits.{side}
 use Rattle.chart.specs.declared.Point.{Point}
 
--- A piece's two letters, the earlier and the later, each with its step in columns and in rows
+-- The two letters of a piece, each with its step in columns and in rows
 pub record Frame : Type 0 where
   pub earlier : ℕ
   pub later : ℕ
@@ -20,14 +20,14 @@ frameOf (suc zero) = record { earlier = 3; later = 0; earlier-cols = pos 0; earl
 frameOf (suc (suc zero)) = record { earlier = 2; later = 3; earlier-cols = negsuc 0; earlier-rows = pos 0; later-cols = pos 0; later-rows = negsuc 0 }
 frameOf (suc (suc (suc k))) = record { earlier = 1; later = 2; earlier-cols = pos 0; earlier-rows = pos 1; later-cols = negsuc 0; later-rows = pos 0 }
 
--- The piece after piece k. The first comes after the last
+-- The piece after piece k, cyclically
 abbrev pub next : ℕ → ℕ
 next zero = 1
 next (suc zero) = 2
 next (suc (suc zero)) = 3
 next (suc (suc (suc k))) = 0
 
--- How far along a letter's direction a corner lies, counted from the chart's border
+-- How far a corner lies along a letter's direction, counted from the chart's border
 unfoldable pub along : ℕ → Point → ℕ
 along zero p = p .col
 along (suc zero) p = p .row

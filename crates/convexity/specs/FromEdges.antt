@@ -1,5 +1,5 @@
--- The letters of a taken outline from W on, written back from its flat list of edges (contract 3.4 and 3.12, read backwards). Pieces are
--- counted from 0 here, and so are the quadrants.
+-- The border of a taken outline, computed from its flat list of edges (the converse of
+-- contract 3.4 and 3.12). Pieces and quadrants are counted from 0 here.
 use Prim.Native.Nat.{ℕ, zero, suc, _+_}
 use mathlib.Core.Bool.{true, cond}
 use mathlib.Core.List.{List, [], _∷_, _++_}
@@ -9,7 +9,8 @@ use Rattle.words.specs.Counted.{edgesWord}
 use Rattle.convexity.specs.Frame.{frameOf}
 use Rattle.convexity.specs.parts.InFrame.{spell}
 
--- The quadrant in which a direction lies: 0 from up, inclusive, to right, exclusive; 1 from right to down; 2 from down to left; 3 from left to up. For (0, 0): 4
+-- The quadrant of a direction: 0 from up, included, to right, excluded; 1 from right to
+-- down; 2 from down to left; 3 from left to up. It is 4 for (0, 0)
 unfoldable pub quadrantOf : ℤ → ℤ → ℕ
 quadrantOf (pos zero) (pos zero) = 4
 quadrantOf (pos zero) (pos (suc b)) = 0
@@ -20,7 +21,8 @@ quadrantOf (pos (suc a)) (negsuc b) = 1
 quadrantOf (negsuc a) (pos b) = 3
 quadrantOf (negsuc a) (negsuc b) = 2
 
--- How many earlier letters of frame k an edge of quadrant k has. The later letters of a frame are the earlier ones of the next, the other way
+-- The number of earlier letters of frame k in an edge of quadrant k. The later letters are counted as the earlier letters of the next
+-- frame: the two lie along the same axis
 unfoldable pub runIn : ℕ → ℤ → ℤ → ℕ
 runIn zero dx dy = natAbs dx
 runIn (suc zero) dx dy = natAbs dy
@@ -29,21 +31,21 @@ runIn (suc (suc k)) dx dy = runIn k dx dy
 unfoldable pub riseIn : ℕ → ℤ → ℤ → ℕ
 riseIn k dx dy = runIn (suc k) dx dy
 
--- The edges of quadrant k, in their order, each as its run and its rise in frame k
+-- The edges of quadrant k in their order, each as its run and its rise in frame k
 unfoldable pub sizesIn : ℕ → List ℤ → List (ℕ × ℕ)
 sizesIn k [] = []
 sizesIn k (dx ∷ []) = []
 sizesIn k (dx ∷ dy ∷ es) = cond (eqb (quadrantOf dx dy) k) ((runIn k dx dy, riseIn k dx dy) ∷ sizesIn k es) (sizesIn k es)
 
--- The letters of piece k: its later letter, then those of its edges
+-- The letters of piece k: its later letter, then the letters of its edges
 unfoldable pub pieceFrom : ℕ → List ℤ → List ℕ
 pieceFrom k es = spell (frameOf k) (true ∷ edgesWord (sizesIn k es))
 
--- The letters of the outline, clockwise from W: 1, the letters of quadrant 0, then 0, quadrant 1, then 3, quadrant 2, then 2, quadrant 3
+-- The letters of the border: 1, the letters of quadrant 0; 0, quadrant 1; 3, quadrant 2; 2, quadrant 3
 unfoldable pub lettersFrom : List ℤ → List ℕ
 lettersFrom es = pieceFrom 0 es ++ (pieceFrom 1 es ++ (pieceFrom 2 es ++ pieceFrom 3 es))
 
--- The columns and rows of all edges, added up without their signs
+-- The sum of the absolute column and row steps of all edges
 unfoldable pub stepCount : List ℤ → ℕ
 stepCount [] = 0
 stepCount (dx ∷ []) = 0

@@ -1,4 +1,4 @@
--- The rule by which edges answer for a cell: side values and extremes (contract 3.14 and 3.15).
+-- When a cell is inside a list of edges: side values and extremes (contract 3.14 and 3.15).
 use mathlib.Core.Bool.{Bool, true, false, cond, _&&_}
 use mathlib.Core.List.{List, [], _∷_}
 use lib.IntN.{ℤ, pos, negsuc, _+ℤ_, _-ℤ_, _*ℤ_}
@@ -15,11 +15,11 @@ minℤ a b = cond (leZ a b) a b
 unfoldable pub maxℤ : ℤ → ℤ → ℤ
 maxℤ a b = cond (leZ a b) b a
 
--- The side value of a cell for an edge (dx, dy) that leaves (x, y)
+-- The side value at a cell of an edge (dx, dy) that starts at (x, y)
 unfoldable pub sideValue : ℤ → ℤ → ℤ → ℤ → ℤ → ℤ → ℤ
 sideValue dx dy x y c r = dy *ℤ (c -ℤ x) -ℤ dx *ℤ (r -ℤ y)
 
--- No side value of the walk from (x, y) is below 0
+-- No side value of the edges from (x, y) on is below 0
 unfoldable pub noneOutside : List ℤ → ℤ → ℤ → ℤ → ℤ → Bool
 noneOutside [] x y c r = true
 noneOutside (dx ∷ []) x y c r = true
@@ -41,7 +41,7 @@ unfoldable pub total : List ℤ → ℤ
 total [] = pos 0
 total (d ∷ ds) = d +ℤ total ds
 
--- The lowest and the highest number that steps from x meet, x and the last one included
+-- The lowest and the highest number on the way from x along the steps, with both ends
 unfoldable pub lowestMet : List ℤ → ℤ → ℤ
 lowestMet [] x = x
 lowestMet (d ∷ ds) x = minℤ x (lowestMet ds (x +ℤ d))
@@ -53,10 +53,10 @@ highestMet (d ∷ ds) x = maxℤ x (highestMet ds (x +ℤ d))
 unfoldable pub within : List ℤ → ℤ → ℤ → Bool
 within ds x c = leZ (lowestMet ds x) c && leZ c (highestMet ds x)
 
--- The rule of the edges es from (x, y) for (c, r), on the chart or off it
+-- (c, r), on the chart or off it, is inside the edges es from (x, y)
 unfoldable pub insideAt : List ℤ → ℤ → ℤ → ℤ → ℤ → Bool
 insideAt es x y c r = within (colSteps es) x c && within (rowSteps es) y r && noneOutside es x y c r
 
--- The rule for an anchor a, edges es and a cell x
+-- The cell x is inside the anchor a and the edges es
 unfoldable pub insideEdges : Point → List ℤ → Point → Bool
 insideEdges a es x = insideAt es (pos (a .col)) (pos (a .row)) (pos (x .col)) (pos (x .row))

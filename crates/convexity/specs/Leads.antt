@@ -1,4 +1,4 @@
--- The border walked on and round again, and where its pieces lead (contract 3.3).
+-- The border read cyclically, and where its pieces lead (contract 3.3).
 use Prim.Native.Nat.{ℕ, suc, _+_, _≤_, _<_}
 use mathlib.Core.Path.{_≡_}
 use lib.ListN.{length, take}
@@ -10,23 +10,23 @@ use Rattle.convexity.specs.Clockwise.{border}
 use Rattle.convexity.specs.Pieces.{rounds, piece}
 use Rattle.convexity.specs.Corners.{IsWest, IsNorth, IsEast, IsSouth}
 
--- The corner that i letters lead to, from W on and round again
+-- The corner after i letters from W, read cyclically
 unfoldable pub cornerRound : Outline → ℕ → Point
 cornerRound o i = walk (o .start) (take i (rounds (o .letters)))
 
--- Piece k of a turn o, counted from 0, leads from the corner p to the corner q
+-- Piece k of a border o, counted from 0, leads from the corner p to the corner q
 pub record Leads (o : Outline) (k : ℕ) (p q : Point) : Type 0 where
-  -- it has the letters between two cut places, one or more
+  -- it has one or more letters, those between two cut places
   pub some : cut o k < cut o (suc k)
   pub count : cut o k + length (piece o k) ≡ cut o (suc k)
   -- they lead from p to q
   pub from : cornerRound o (cut o k) ≡ p
   pub to : walk p (piece o k) ≡ q
-  -- and q is met at their end, and nowhere on the way
+  -- q is met at their end and not before
   pub met : cornerRound o (cut o (suc k)) ≡ q
   pub first : (i : ℕ) → cut o k ≤ i → i < cut o (suc k) → cornerRound o i ≡ q → ⊥
 
--- W, N, E and S of an outline, and the pieces of its border from each to the next
+-- W, N, E and S of an outline; each piece of its border leads from one to the next
 pub record PiecesLead (o : Outline) : Type 0 where
   pub w : Point
   pub n : Point

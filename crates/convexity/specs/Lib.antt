@@ -1,5 +1,5 @@
--- From the border to the edges: frames, the cut, the reading, pieces, factors, dents and edges, the rule of the edges, their directions;
--- back from the edges; the shape without back-steps; two outlines compared; where the pieces lead.
+-- From the border to the edges: frames, cut places, the clockwise form, pieces, factors, dents and edges, the inside of a list of edges,
+-- directions; from the edges back to the border; the shape without back-steps; two outlines compared; where the pieces lead.
 pub mod Frame
 pub mod Cut
 pub mod Corners

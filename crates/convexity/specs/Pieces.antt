@@ -1,4 +1,4 @@
--- The four pieces of a turn, their back-steps, factors, dents and edges (contract 3.3 to 3.13). Pieces are counted from 0 here.
+-- The four pieces of a border, their back-steps, factors, dents and edges (contract 3.3 to 3.13). Pieces are counted from 0 here.
 use Prim.Native.Nat.{ℕ, suc, _+_, _-_, _*_, _<_}
 use mathlib.Core.Path.{_≡_}
 use mathlib.Core.Bool.{Bool, true, false, not, _||_}
@@ -17,19 +17,19 @@ use Rattle.lattice.specs.Refusals.{Simple}
 use Rattle.convexity.specs.Cut.{cut}
 use Rattle.convexity.specs.Clockwise.{border}
 
--- The letters from W on, as often round as four pieces can reach
+-- The letters from W, repeated as often as four pieces can need
 unfoldable pub rounds : List ℕ → List ℕ
 rounds t = t ++ (t ++ (t ++ t))
 
--- Piece k, counted from 0: what is read between cut k and the next
+-- Piece k, counted from 0: the letters between cut k and the next
 unfoldable pub piece : Outline → ℕ → List ℕ
 piece o k = take (cut o (suc k) - cut o k) (drop (cut o k) (rounds (o .letters)))
 
--- A letter that is none of the piece's two
+-- The letter is neither of the piece's two (contract 3.5)
 unfoldable pub isBackStep : Frame → ℕ → Bool
 isBackStep f a = not (eqb a (f .earlier) || eqb a (f .later))
 
--- How many letters of piece k stand before its first back-step: all of them where it has none
+-- The number of letters of piece k before its first back-step: all of them if it has none
 unfoldable pub backStepAt : Outline → ℕ → ℕ
 backStepAt o k = first (λ i. isBackStep (frameOf k) (getD (piece o k) i 0)) (length (piece o k))
 
@@ -37,14 +37,14 @@ backStepAt o k = first (λ i. isBackStep (frameOf k) (getD (piece o k) i 0)) (le
 unfoldable pub backStepPiece : Outline → ℕ
 backStepPiece o = first (λ k. ltb (backStepAt o k) (length (piece o k))) 4
 
--- The word of a piece, without its first letter, and the word's factors
+-- The word of a piece, which leaves out the piece's first letter (contract 3.6), and the word's factors
 unfoldable pub word : Outline → ℕ → Word
 word o k = wordOf (frameOf k .later) (drop 1 (piece o k))
 
 unfoldable pub factors : Outline → ℕ → List Factor
 factors o k = factorsOf (word o k)
 
--- How many letters stand before the first factor that is no Christoffel word, and how long that factor is: 0 where there is none
+-- The number of letters before the first factor that is not a Christoffel word, and the length of that factor: 0 if there is none
 unfoldable pub dentAt : List Factor → ℕ
 dentAt [] = 0
 dentAt (f ∷ fs) = elim (christoffel (f .word)) [ true ↦ f .times * length (f .word) + dentAt fs | false ↦ 0 ]
@@ -57,14 +57,14 @@ dentLength (f ∷ fs) = elim (christoffel (f .word)) [ true ↦ dentLength fs | 
 unfoldable pub dentPiece : Outline → ℕ
 dentPiece o = first (λ k. ltb 0 (dentLength (factors o k))) 4
 
--- One edge for each factor with its repeats, columns then rows
+-- One edge for each factor with its repeats, columns then rows (contract 3.12)
 unfoldable pub edgesOf : Frame → List Factor → List ℤ
 edgesOf f [] = []
 edgesOf f (g ∷ gs) =
     (pos (g .times * earliers (g .word)) *ℤ f .earlier-cols +ℤ pos (g .times * laters (g .word)) *ℤ f .later-cols) ∷
     (pos (g .times * earliers (g .word)) *ℤ f .earlier-rows +ℤ pos (g .times * laters (g .word)) *ℤ f .later-rows) ∷ edgesOf f gs
 
--- The edges through pieces 1 to 4, and how many they are
+-- The edges of pieces 1 to 4 in this order, and their count
 unfoldable pub edges : Outline → List ℤ
 edges o =
     edgesOf (frameOf 0) (factors o 0) ++
@@ -73,13 +73,14 @@ edges o =
 unfoldable pub edgeCount : Outline → ℕ
 edgeCount o = length (factors o 0) + (length (factors o 1) + (length (factors o 2) + length (factors o 3)))
 
--- The anchor of a set of cells: the lowest one of the leftmost column that has any (contract 3.13). A block's is the cell at W (proofs/AsSent.antt: `west-anchor`)
+-- The anchor of a set of cells: the lowest cell of the leftmost column that has one (contract 3.13). For a block it is the cell at W
+-- (proofs/AsSent.antt: `west-anchor`)
 pub record IsAnchor (marked : ℕ → ℕ → Bool) (a : Point) : Type 0 where
   pub enclosed : marked (a .col) (a .row) ≡ true
   pub leftmost : (c r : ℕ) → c < a .col → marked c r ≡ false
   pub lowest : (r : ℕ) → r < a .row → marked (a .col) r ≡ false
 
--- The outline reaches the dent test: none of 1 to 8 applies to it
+-- None of 1 to 8 applies to the outline, so it is checked for dents
 pub record Reaches (o : Outline) : Type 0 where
   pub simple : Simple o
   pub straight : ltb (backStepPiece (border o)) 4 ≡ false

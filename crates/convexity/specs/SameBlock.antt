@@ -1,4 +1,4 @@
--- Two outlines compared: by the cells that they enclose, and by their anchors and edges (contract 7.7).
+-- Two outlines compared by the cells that they enclose, and by their anchors and edges (contract 7.7).
 use Prim.Native.Nat.{ℕ}
 use mathlib.Core.Path.{_≡_}
 use Rattle.chart.specs.Outline.{Outline}

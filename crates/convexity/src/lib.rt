@@ -1,1 +1,2 @@
-// The convexity theorem, theory alone: the edges answer for the block, and a dent is a missing cell.
+// The convexity theorem, theory only: the edges decide which cells are in the block,
+// and an outline is dented exactly if a cell is missing.

@@ -1,4 +1,5 @@
--- The cells that a closed walk encloses, by ups and downs (contract 2.4). An outline's are those of its clockwise reading (`block`, convexity/specs/Reading).
+-- The cells that a closed walk encloses, by counting ups and downs (contract 2.4). For an outline they are counted along its clockwise
+-- form (`block`, convexity/specs/Clockwise).
 use Prim.Native.Nat.{ℕ, suc, _+_}
 use mathlib.Core.Bool.{Bool, true, false, _&&_}
 use mathlib.Core.List.{List, [], _∷_}
@@ -27,6 +28,6 @@ unfoldable pub downs : Point → List ℕ → ℕ → ℕ → ℕ
 downs p [] c r = 0
 downs p (a ∷ w) c r = count (downAlong p a r && leb (p .col) c) + downs (step p a) w c r
 
--- The cell (c, r) is enclosed if the ups are one more than the downs
+-- The cell (c, r) is enclosed if the ups outnumber the downs by exactly one
 unfoldable pub encloses : Outline → ℕ → ℕ → Bool
 encloses o c r = eqb (ups (o .start) (o .letters) c r) (downs (o .start) (o .letters) c r + 1)

@@ -1,4 +1,4 @@
--- What a walk is and encloses: steps and corners, refusals 1 to 6 and what they leave, enclosed cells, the hull.
+-- What a walk is and what it encloses: steps and corners, refusals 1 to 6, walks that pass them, enclosed cells, the hull.
 pub mod Chart
 pub mod Refusals
 pub mod Walked

@@ -1,4 +1,4 @@
--- What an outline past refusals 1 to 6 is: a closed walk on the chart that meets no corner twice (contract 2 and 3 are about these).
+-- What refusals 1 to 6 leave: closed walks on the chart that meet no corner twice (contract 2 and 3 are about these).
 use Prim.Native.Nat.{ℕ, _≤_, _<_}
 use mathlib.Core.Path.{_≡_}
 use mathlib.Core.Bool.{false}
@@ -6,11 +6,11 @@ use Rattle.chart.specs.Limits.{side, longest, shortest}
 use Rattle.chart.specs.Outline.{Outline}
 use Rattle.lattice.specs.Chart.{leaves, cornerAt, size, Closed, letterAt}
 
--- No letter leaves the chart
+-- No letter steps off the chart
 abbrev pub NeverLeaves : Outline → Type 0
 NeverLeaves o = (i : ℕ) → i < size o → leaves (cornerAt o i) (letterAt o i) ≡ false
 
--- Facts that hold of the letters and corners of an outline past refusals 1 to 6
+-- Facts about the letters and corners of an outline that passes refusals 1 to 6
 pub record Walked (o : Outline) : Type 0 where
   pub long : shortest ≤ size o
   pub short : size o ≤ longest

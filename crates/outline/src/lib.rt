@@ -9,7 +9,7 @@ ghost use Rattle.chart.specs.Fields.{verdictFields};
 ghost use Rattle.verdict.specs.Verdict.{withRoom, testOf, testFields, edgesAfter};
 ghost use Rattle.verdict.specs.Named.{CellNamed};
 
-// 10: a taken outline needs room for two numbers an edge.
+// 10: a taken outline needs room for two numbers for each edge.
 fn with_room(room: usize, verdict: Verdict) -> Verdict
     ensures { λ r. ⌜ r ≡ withRoom room verdict ⌝ }
 {
@@ -24,7 +24,7 @@ fn with_room(room: usize, verdict: Verdict) -> Verdict
     }
 }
 
-// Tests an outline. The lent list has the edges first where it is taken, and is left as it was where it is refused.
+// Tests an outline. If it is taken, its edges stand first in the buffer. If it is refused, the buffer is unchanged.
 pub fn test(start: Point, letters: &[u8], edges: &mut [i16]) -> Verdict
     ensures verdict { λ r. ⌜ r ≡ testOf (outline start (now (letters .entry))) (length (now (edges .entry))) ⌝ }
     ensures reply { λ r. ⌜ verdictFields r ≡ testFields (outline start (now (letters .entry))) (length (now (edges .entry))) ⌝ }

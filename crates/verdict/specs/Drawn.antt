@@ -1,4 +1,4 @@
--- Replies that agree in all but the place: an index counts the letters in the order in which they were sent, so it depends on how a block was drawn.
+-- Replies that agree in everything except the place. A place is an index in the list as sent, so it depends on how a block was drawn.
 use mathlib.Core.Path.{_≡_}
 use Rattle.chart.specs.declared.Fields.{Fields}
 
@@ -9,5 +9,5 @@ pub record SameButPlace (f g : Fields) : Type 0 where
   pub length : f .length ≡ g .length
   pub col : f .col ≡ g .col
   pub row : f .row ≡ g .row
-  -- the place of a taking is the count of edges
+  -- the place of a taken outline is its count of edges
   pub edges : f .number ≡ 0 → f .place ≡ g .place

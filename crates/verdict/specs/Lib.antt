@@ -1,4 +1,4 @@
--- The verdict, dented outlines, the cell that a reply names, the rule of the published words, the specimens.
+-- The verdict, dented outlines, the cell in a reply, the rule in terms of factors and Christoffel words, the specimens.
 pub mod Verdict
 pub mod Dents
 pub mod Named

@@ -1,4 +1,4 @@
--- What the cell of a reply is (contract 8.4): the anchor where an outline is taken, and the lowest missing cell where it is refused by 9.
+-- The cell in a reply (contract 8.4): the anchor if the outline is taken, the lowest missing cell if it is refused by 9.
 use mathlib.Core.Path.{_≡_}
 use Rattle.chart.specs.declared.Point.{Point}
 use Rattle.chart.specs.declared.Fields.{Fields}

@@ -1,6 +1,7 @@
--- The published rule, in definitions alone: an outline that meets none of 1 to 8 is taken exactly if every factor of every piece is a Christoffel word, and
--- else 9 names the first factor that is none (contract 3.9 to 3.11, and 5.2). Factors here are any falling Lyndon words that write the piece's word, and
--- Christoffel words are those of the definition by remainders; no computed list and no test stands in between. Pieces are counted from 0.
+-- The published rule in definitions only: an outline that meets none of 1 to 8 is taken exactly if every factor of every piece is a
+-- Christoffel word. Otherwise 9 names the first factor that is not one (contract 3.9 to 3.11, and 5.2). Factors here are any strictly
+-- decreasing Lyndon words that spell the piece's word. Christoffel words are defined by remainders. No computed list and no test stands
+-- in between. Pieces are counted from 0.
 use Prim.Native.Nat.{ℕ, _+_, _<_}
 use mathlib.Core.Path.{_≡_}
 use mathlib.Core.Logic.{_↔_}
@@ -20,7 +21,7 @@ use Rattle.convexity.specs.Clockwise.{border, block, placeSent}
 use Rattle.convexity.specs.Pieces.{word, edgesOf, edges, IsAnchor}
 use Rattle.verdict.specs.Verdict.{verdictOf}
 
--- The word of piece k on the reading from W, and the cut place at which the piece begins (contract 3.3 and 3.6)
+-- The word of piece k of the border, and the cut place where the piece begins (contract 3.3 and 3.6)
 abbrev pub pieceWord : Outline → ℕ → Word
 pieceWord o k = word (border o) k
 
@@ -32,14 +33,14 @@ pub data AllChristoffel : List Factor → Type 0 where
   none : AllChristoffel []
   more : {f : Factor} {fs : List Factor} → Christoffel (f .word) → AllChristoffel fs → AllChristoffel (f ∷ fs)
 
--- Piece k has factors, and none of them is a dent (contract 3.11)
+-- Piece k has a factorisation without a dent (contract 3.11)
 pub record Smooth (o : Outline) (k : ℕ) : Type 0 where
   pub factors : List Factor
   pub factoring : Factoring (pieceWord o k) factors
   pub christoffel : AllChristoffel factors
 
--- The fields of 9 (contract 5.2): in piece k the factor `dent` is no Christoffel word, and all factors before it, in this piece and in the earlier ones, are. Its first
--- copy begins behind the piece's first letter, which its word leaves out, and behind what the factors before it write
+-- The fields of 9 (contract 5.2). In piece k the factor `dent` is not a Christoffel word, and all factors before it, in this piece and in
+-- earlier ones, are. Its first copy starts after the piece's first letter, which is not in the word, and after the factors before it
 pub record FirstDent (o : Outline) (p i l : ℕ) (x : Point) : Type 0 where
   pub k : ℕ
   pub below : k < 4
@@ -55,16 +56,16 @@ pub record FirstDent (o : Outline) (p i l : ℕ) (x : Point) : Type 0 where
   pub copy : l ≡ length (dent .word)
   pub cell : LowestMissing (block o) x
 
--- The factors of the four pieces
+-- The factorisations of the four pieces
 abbrev pub FactorsOf : Outline → (ℕ → List Factor) → Type 0
 FactorsOf o fs = (k : ℕ) → k < 4 → Factoring (pieceWord o k) (fs k)
 
--- What holds of every outline that meets none of 1 to 8 (proofs/Rule.antt: `by-the-rule`)
+-- What holds for every outline that meets none of 1 to 8 (proofs/Rule.antt: `by-the-rule`)
 pub record ByTheRule (o : Outline) : Type 0 where
-  -- each piece has factors, in one way and in no other (contract 3.9)
+  -- each piece has exactly one factorisation (contract 3.9)
   pub factored : (k : ℕ) → (fs : List Factor) × Factoring (pieceWord o k) fs
   pub one-way : (k : ℕ) (fs gs : List Factor) → Factoring (pieceWord o k) fs → Factoring (pieceWord o k) gs → fs ≡ gs
-  -- taken, or refused by 9 with these fields
+  -- it is taken, or refused by 9 with these fields
   pub taken : ((n : ℕ) × (a : Point) × (verdictOf o ≡ Taken n a)) ↔ ((k : ℕ) → k < 4 → Smooth o k)
   pub nine : (p i l : ℕ) (x : Point) → (verdictOf o ≡ Refused (Dent p i l x)) ↔ FirstDent o p i l x
   -- the fields of a taken outline, and its edges, one for each factor (contract 3.12, 3.13 and 6.1)

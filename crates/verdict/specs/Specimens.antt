@@ -1,4 +1,5 @@
--- The specimen outlines as one table (contract 9), and the test that a row passes. All rows are proved together (proofs/Specimens.antt).
+-- The specimen outlines as one table (contract 9), and the test that each row
+-- passes. All rows are proved together (proofs/Specimens.antt).
 use Prim.Native.Nat.{ℕ}
 use mathlib.Core.Path.{_≡_}
 use mathlib.Core.Bool.{Bool, _&&_}
@@ -13,28 +14,28 @@ use Rattle.chart.specs.Same.{sameFields}
 use Rattle.chart.specs.Fields.{numbered, placed, accepted, no-word}
 use Rattle.verdict.specs.Verdict.{testFields, edgesAfter}
 
--- An outline, what the test replies of it, and the edges that it writes
+-- An outline, the test's reply, and the edges that the test writes
 pub record Specimen : Type 0 where
   pub outline : Outline
   pub fields : Fields
   pub edges : List ℤ
 
--- A list lent for sixteen edges
+-- A buffer for sixteen edges
 unfoldable pub buffer : List ℤ
 buffer = replicate 32 (pos 99)
 
--- The test replies the row's fields, and the lent list then has the row's edges first and is otherwise unaltered
+-- The test replies the row's fields and writes the row's edges to the front of the buffer; the rest of the buffer is unchanged
 unfoldable pub right : Specimen → Bool
 right h =
     sameFields (testFields (h .outline) (length buffer)) (h .fields) &&
     sameℤs (edgesAfter (h .outline) buffer) (h .edges ++ drop (length (h .edges)) buffer)
 
--- What a row says: the test replies its fields, and the lent list has its edges first and the rest unaltered
+-- The same as a statement: the reply has the row's fields, and the buffer has the row's edges first and is otherwise unchanged
 pub record Holds (h : Specimen) : Type 0 where
   pub replied : testFields (h .outline) (length buffer) ≡ h .fields
   pub written : edgesAfter (h .outline) buffer ≡ h .edges ++ drop (length (h .edges)) buffer
 
--- A start; an outline taken; one refused
+-- A start; a taken outline; a refused one
 unfoldable pub at : ℕ → ℕ → Point
 at c r = record { col = c; row = r }
 
@@ -44,8 +45,8 @@ yes-with s w n c r es = record { outline = record { start = s; letters = w }; fi
 no-with : Point → List ℕ → Fields → Specimen
 no-with s w f = record { outline = record { start = s; letters = w }; fields = f; edges = [] }
 
--- H1 to H12 in their order; the start above 255 with letters above 3; a walk that leaves the chart and does not close; a dent that only a
--- palindrome test would pass, the factor 001101; H3, H4, H6 and H7 drawn backward
+-- H1 to H12 in order; a start above 255 with letters above 3; a walk that leaves the chart and does not close; a dent, the factor 001101,
+-- that a palindrome test alone would accept; H3, H4, H6 and H7 drawn backward
 unfoldable pub specimens : List Specimen
 unfolding at yes-with no-with
 specimens =

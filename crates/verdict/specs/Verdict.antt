@@ -1,4 +1,5 @@
--- What is said of an outline: the first of refusals 1 to 9 that applies, or taken (contract 5); and the test, which asks for room on top (contract 6.1).
+-- The verdict on an outline: the first of refusals 1 to 9 that applies, or taken
+-- (contract 5). A test checks for room as well (contract 6.1).
 use Prim.Native.Nat.{ℕ, suc, _+_, _*_}
 use mathlib.Core.Bool.{cond}
 use mathlib.Core.List.{List, _++_}
@@ -22,19 +23,19 @@ use Rattle.convexity.specs.Cut.{cornerPlace, cut}
 use Rattle.convexity.specs.Clockwise.{border, placeSent}
 use Rattle.convexity.specs.Pieces.{backStepAt, backStepPiece, factors, dentAt, dentLength, dentPiece, edges, edgeCount}
 
--- 8, in piece k of a turn t from W: the first letter that is none of the piece's two
+-- 8, in piece k of a border t: the first letter that is neither of the piece's two
 unfoldable pub backStepIn : (ℕ → ℕ) → Outline → ℕ → Refusal
 backStepIn place t k = BackStep (suc k) (place (cut t k + backStepAt t k))
 
--- The cell that 9 names, found between the rows of S and N. It is the lowest missing one (proofs/Cells.antt)
+-- The cell that 9 names, searched between the rows of S and N. It is the lowest missing one (proofs/Cells.antt)
 unfoldable pub cellFound : Outline → Point
 cellFound t = missingCell t (cornerAt t (cornerPlace t 3) .row) (cornerAt t (cornerPlace t 1) .row)
 
--- 9, in piece k: the first factor that is no Christoffel word, by its first letter and its length
+-- 9, in piece k: place and length of the first factor that is not a Christoffel word
 unfoldable pub dentIn : (ℕ → ℕ) → Outline → ℕ → Refusal
 dentIn place t k = Dent (suc k) (place (cut t k + 1 + dentAt (factors t k))) (dentLength (factors t k)) (cellFound t)
 
--- 8 and 9 of a turn from W, or taken: the count of edges, and the anchor, which is the cell at W
+-- 8 and 9 of a border; or taken, with the count of edges and the anchor, which is the cell at W
 unfoldable pub roundVerdict : (ℕ → ℕ) → Outline → Verdict
 roundVerdict place t =
     cond (ltb (backStepPiece t) 4) (Refused (backStepIn place t (backStepPiece t)))
@@ -44,29 +45,29 @@ roundVerdict place t =
 unfoldable pub borderVerdict : Outline → Verdict
 borderVerdict o = roundVerdict (placeSent o) (border o)
 
--- What 1 to 6 say, or else what is said further on
+-- The refusal of 1 to 6 if there is one, otherwise the given verdict
 unfoldable pub afterSurvey : Surveyed → Verdict → Verdict
 afterSurvey (Passed c) v = v
 afterSurvey (Stopped f) v = Refused f
 
--- 1 to 9, or taken: what a close asks, in the holder and in the plain book
+-- 1 to 9, or taken: what a close checks, in the holder and in the plain book
 unfoldable pub verdictOf : Outline → Verdict
 verdictOf o = afterSurvey (surveyOf o) (borderVerdict o)
 
--- 10: a taken outline needs room for two numbers an edge in a lent list of m
+-- 10: a taken outline needs two numbers for each edge in a buffer of m
 unfoldable pub withRoom : ℕ → Verdict → Verdict
 withRoom m (Refused f) = Refused f
 withRoom m (Taken n a) = cond (ltb m (2 * n)) (Refused (Room n)) (Taken n a)
 
--- 1 to 10, or taken: what a test asks
+-- 1 to 10, or taken: what a test checks
 unfoldable pub testOf : Outline → ℕ → Verdict
 testOf o m = withRoom m (verdictOf o)
 
--- The reply of a test, written out
+-- The reply of a test in seven fields
 unfoldable pub testFields : Outline → ℕ → Fields
 testFields o m = verdictFields (testOf o m)
 
--- A lent list afterwards: the edges stand first in it and the rest is unaltered; where the outline is refused, all of it is
+-- The buffer afterwards: the edges first and the rest unchanged; all of it unchanged if the outline is refused
 unfoldable pub bufferAfter : Verdict → List ℤ → List ℤ → List ℤ
 bufferAfter (Taken n a) es buffer = es ++ drop (length es) buffer
 bufferAfter (Refused f) es buffer = buffer

@@ -1,1 +1,1 @@
-// What is said of an outline, theory alone: the verdict, and that it is the rule of the published words and of the hull.
+// The verdict on an outline, theory only. It agrees with the published rule of factors and with the hull.

@@ -1,5 +1,5 @@
--- A piece in its own frame, where a point has two natural numbers: how far it lies along the earlier letter, and how far along the later. Proofs
--- speak of the four pieces in these terms.
+-- A piece in its own frame. There a point has two natural coordinates: how far it lies along the earlier letter, and how far along the
+-- later. The proofs treat all four pieces in these coordinates.
 use Prim.Native.Nat.{ℕ, zero, suc, _+_, _-_, _≤_}
 use mathlib.Core.Bool.{true, false}
 use mathlib.Core.List.{List, [], _∷_}
@@ -18,15 +18,15 @@ spell f [] = []
 spell f (false ∷ w) = f .earlier ∷ spell f w
 spell f (true ∷ w) = f .later ∷ spell f w
 
--- How far along a letter's direction a cell lies, counted from the chart's border. The first cell of a piece lies as far along both of its
--- letters as the corner at which the piece starts
+-- How far a cell lies along a letter's direction, counted from the chart's border. The first cell of a piece has the same two coordinates
+-- as the corner where the piece starts
 unfoldable pub cellAlong : ℕ → Point → ℕ
 cellAlong zero x = x .col
 cellAlong (suc zero) x = x .row
 cellAlong (suc (suc zero)) x = side - 1 - x .col
 cellAlong (suc (suc (suc a))) x = side - 1 - x .row
 
--- The corner at which piece k starts, and how far it lies along the piece's earlier letter and along its later one
+-- The corner where piece k starts, and its two coordinates in the piece's frame
 unfoldable pub startOf : Outline → ℕ → Point
 startOf o k = cornerAt o (cut o k)
 
@@ -36,14 +36,15 @@ startE o k = along (frameOf k .earlier) (startOf o k)
 unfoldable pub startL : Outline → ℕ → ℕ
 startL o k = along (frameOf k .later) (startOf o k)
 
--- A cell in frame k
+-- The coordinates of a cell in frame k
 unfoldable pub cellE : ℕ → Point → ℕ
 cellE k x = cellAlong (frameOf k .earlier) x
 
 unfoldable pub cellL : ℕ → Point → ℕ
 cellL k x = cellAlong (frameOf k .later) x
 
--- (P, Q) is under the path of a word that starts at (vp, vq): some prefix ends at or left of it, at or above it
+-- (P, Q) is under the path of a word that starts at (vp, vq): some prefix of the word ends no further along the earlier letter than P,
+-- and no less far along the later one than Q
 pub record UnderFrom (w : Word) (vp vq P Q : ℕ) : Type 0 where
   pub upto : ℕ
   pub within : upto ≤ length w
