@@ -1,4 +1,4 @@
--- The corner cells that a walk of edges meets, on the chart and off it, and their hull (contract 3.17).
+-- The corner cells of an anchor and a list of edges, on the chart or off it, and their hull (contract 3.17).
 use Prim.Native.Nat.{ℕ, _+_, _-_, _<_}
 use mathlib.Core.Path.{_≡_}
 use mathlib.Core.Bool.{Bool, _&&_}
@@ -16,18 +16,18 @@ chartNumber z = leZ (pos 0) z && leZ z (pos (side - 1))
 unfoldable pub onChart : ℤ → ℤ → Bool
 onChart u v = chartNumber u && chartNumber v
 
--- The walk of the edges from (x, y) meets (u, v): its start, or the end of an edge
+-- The edges from (x, y) on meet (u, v): it is their start or the end of an edge
 pub data Met : List ℤ → ℤ → ℤ → ℤ → ℤ → Type 0 where
   start : {es : List ℤ} {x y : ℤ} → Met es x y x y
   after : {es : List ℤ} {dx dy x y u v : ℤ} → Met es (x +ℤ dx) (y +ℤ dy) u v → Met (dx ∷ dy ∷ es) x y u v
 
--- A corner cell of the walk
+-- A corner cell
 pub record Corner (es : List ℤ) (x y : ℤ) : Type 0 where
   pub col : ℤ
   pub row : ℤ
   pub met : Met es x y col row
 
--- (c, r) is a mean of three corner cells, which need not be different, with natural weights that are not all 0
+-- (c, r) is a mean of three corner cells, which need not differ. The weights are natural and not all zero
 pub record InCornerHull (es : List ℤ) (x y c r : ℤ) : Type 0 where
   pub p : Corner es x y
   pub q : Corner es x y
@@ -39,6 +39,6 @@ pub record InCornerHull (es : List ℤ) (x y c r : ℤ) : Type 0 where
   pub cols : pos (i + j + k) *ℤ c ≡ pos i *ℤ p .col +ℤ pos j *ℤ q .col +ℤ pos k *ℤ t .col
   pub rows : pos (i + j + k) *ℤ r ≡ pos i *ℤ p .row +ℤ pos j *ℤ q .row +ℤ pos k *ℤ t .row
 
--- The cell x lies in the hull of the corner cells of an anchor a and edges es
+-- The cell x lies in the hull of the corner cells of the anchor a and the edges es
 abbrev pub CornersHold : Point → List ℤ → Point → Type 0
 CornersHold a es x = InCornerHull es (pos (a .col)) (pos (a .row)) (pos (x .col)) (pos (x .row))

@@ -1,32 +1,32 @@
--- Refusal 16: which lists of edges do not lead once round clockwise (contract 5). Two numbers an edge, columns then rows; an odd number at the end is no edge.
+-- Refusal 16 (contract 5). An edge has two numbers in the list, columns then rows; a single number at the end is not an edge.
 use mathlib.Core.Bool.{Bool, true, false, not, _&&_, _||_}
 use mathlib.Core.List.{List, [], _∷_}
 use lib.IntN.{ℤ}
 use Rattle.convexity.specs.Inside.{colSteps, rowSteps, total}
 use Rattle.directions.specs.Round.{isNil, precedes}
 
--- Some edge is nil
+-- Some edge is zero
 unfoldable pub someZero : List ℤ → Bool
 someZero [] = false
 someZero (dx ∷ []) = false
 someZero (dx ∷ dy ∷ es) = (isNil dx && isNil dy) || someZero es
 
--- The edges sum to nil, in columns and in rows
+-- The edges sum to zero, in columns and in rows
 unfoldable pub sumsToZero : List ℤ → Bool
 sumsToZero es = isNil (total (colSteps es)) && isNil (total (rowSteps es))
 
--- An edge comes sooner than the first of a list, where the list has one
+-- The direction of an edge comes before that of the first edge of a list, if the list has one
 unfoldable pub precedesFirst : ℤ → ℤ → List ℤ → Bool
 precedesFirst dx dy [] = true
 precedesFirst dx dy (ex ∷ []) = true
 precedesFirst dx dy (ex ∷ ey ∷ es) = precedes dx dy ex ey
 
--- The directions rise strictly: each edge comes sooner than the next
+-- Directions increase strictly: each comes before the next
 unfoldable pub rising : List ℤ → Bool
 rising [] = true
 rising (dx ∷ []) = true
 rising (dx ∷ dy ∷ es) = precedesFirst dx dy es && rising es
 
--- 16
+-- 16: an edge is zero, the edges do not sum to zero, or directions do not increase strictly
 unfoldable pub badDirections : List ℤ → Bool
 badDirections es = someZero es || (not (sumsToZero es) || not (rising es))

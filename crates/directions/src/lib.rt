@@ -1,1 +1,2 @@
-// Edges that turn once round, theory alone: the order of directions, refusal 16, and that such edges answer for the hull of their corner cells.
+// Edges whose directions increase clockwise, theory only: the order of directions, refusal
+// 16, and the hull of the corner cells, which these edges bound.

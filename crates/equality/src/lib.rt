@@ -1,4 +1,4 @@
-// Whether points, and lists of numbers, are the same.
+// Equality of points and of lists of numbers.
 use chart::Point;
 ghost use mathlib.Core.Path.{_≡_};
 ghost use Rattle.base.specs.Same.{sameℤ, sameℤs};

@@ -1,4 +1,5 @@
--- The answer for two polygons by three tests: corners of one inside the other, both ways, and rows whose runs meet; and with the two exchanged.
+-- The answer for two polygons by three tests: the corner cells of each lie inside the other, and intervals of columns meet in some row.
+-- Then the answer with the two exchanged.
 use mathlib.Core.Bool.{Bool, true, false}
 use lib.IntN.{pos}
 use Rattle.chart.specs.declared.Nesting.{Nesting}
@@ -7,7 +8,7 @@ use Rattle.nesting.specs.Cells.{Polygon}
 use Rattle.nesting.specs.Corners.{cornersInside}
 use Rattle.nesting.specs.Rows.{rowsMeet}
 
--- The first is within the second, the second within the first, they have a common cell
+-- The answer from three facts: the first is within the second; the second is within the first; they have a common cell
 unfoldable pub byTests : Bool → Bool → Bool → Nesting
 byTests true true m = Equal
 byTests true false m = FirstWithin
@@ -22,7 +23,7 @@ liesWithin p q = cornersInside (p .edges) (pos (p .anchor .col)) (pos (p .anchor
 unfoldable pub nesting : Polygon → Polygon → Nesting
 nesting p q = byTests (liesWithin p q) (liesWithin q p) (rowsMeet p q)
 
--- The answer with the polygons exchanged: first and second within change places, and the other three stay
+-- The answer with the polygons exchanged: the two "within" change places, the other three stay
 unfoldable pub exchanged : Nesting → Nesting
 exchanged Equal = Equal
 exchanged FirstWithin = SecondWithin

@@ -1,4 +1,5 @@
--- What the five words of a comparison say of two sets of cells: those in two hulls, and those that two outlines enclose (contract 6.4).
+-- What the five words of a comparison say about two sets of cells: those of two
+-- hulls, and those that two outlines enclose (contract 6.4).
 use mathlib.Core.Path.{_≡_}
 use mathlib.Core.Bool.{true, false}
 use mathlib.Core.List.{List}
@@ -20,34 +21,34 @@ pub record Polygon : Type 0 where
 abbrev pub polygon : Point → List ℤ → Polygon
 polygon a es = record { anchor = a; edges = es }
 
--- What is asked of a polygon: its edges pass refusal 16, and its walk stays on the chart
+-- What a polygon must satisfy: its edges pass refusal 16, and its corner cells are on the chart
 pub record Fit (p : Polygon) : Type 0 where
   pub passes : badDirections (p .edges) ≡ false
   pub placed : cornersOnChart (p .edges) (pos (p .anchor .col)) (pos (p .anchor .row)) ≡ true
 
--- The hull of the corner cells holds a cell
+-- The cell lies in the hull of the corner cells
 abbrev pub Holds : Polygon → Point → Type 0
 Holds p x = CornersHold (p .anchor) (p .edges) x
 
 -- ---- two sets of cells
 
--- Every cell of the first is one of the second
+-- Every cell of the first is in the second
 abbrev pub Within : (Point → Type 0) → (Point → Type 0) → Type 0
 Within P Q = (x : Point) → P x → Q x
 
--- A cell of the first that is none of the second
+-- A cell of the first that is not in the second
 pub record Beyond (P Q : Point → Type 0) : Type 0 where
   pub cell : Point
   pub inFirst : P cell
   pub notSecond : Q cell → ⊥
 
--- A cell of both
+-- A cell in both
 pub record Common (P Q : Point → Type 0) : Type 0 where
   pub cell : Point
   pub inFirst : P cell
   pub inSecond : Q cell
 
--- What an answer says of two sets of cells
+-- What an answer says about two sets of cells
 abbrev pub SaysOf : (Point → Type 0) → (Point → Type 0) → Nesting → Type 0
 SaysOf P Q Equal = Within P Q × Within Q P
 SaysOf P Q FirstWithin = Within P Q × Beyond Q P
@@ -55,7 +56,7 @@ SaysOf P Q SecondWithin = Within Q P × Beyond P Q
 SaysOf P Q Apart = Common P Q → ⊥
 SaysOf P Q Crossing = Common P Q × Beyond P Q × Beyond Q P
 
--- Of the cells in two hulls
+-- What it says about the cells in two hulls
 abbrev pub Says : Polygon → Polygon → Nesting → Type 0
 Says p q v = SaysOf (Holds p) (Holds q) v
 

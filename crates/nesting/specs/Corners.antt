@@ -1,20 +1,20 @@
--- Tests over the corner cells of a walk of edges: all on the chart; all inside another polygon.
+-- Tests of the corner cells of a list of edges: all on the chart; all inside another polygon.
 use mathlib.Core.Bool.{Bool, _&&_}
 use mathlib.Core.List.{List, [], _∷_}
 use lib.IntN.{ℤ, _+ℤ_}
 use Rattle.convexity.specs.Inside.{insideAt}
 use Rattle.directions.specs.CornerHull.{onChart}
 
--- Every corner cell met by the walk from (x, y) passes a test
+-- Every corner cell of the edges es from (x, y) passes a test
 unfoldable pub everyCorner : (ℤ → ℤ → Bool) → List ℤ → ℤ → ℤ → Bool
 everyCorner f [] x y = f x y
 everyCorner f (dx ∷ []) x y = f x y
 everyCorner f (dx ∷ dy ∷ es) x y = f x y && everyCorner f es (x +ℤ dx) (y +ℤ dy)
 
--- The walk of es from (x, y) stays on the chart
+-- All of them are on the chart
 unfoldable pub cornersOnChart : List ℤ → ℤ → ℤ → Bool
 cornersOnChart es x y = everyCorner onChart es x y
 
--- Every corner cell of the walk of es from (x, y) is inside the polygon of fs from (a, b)
+-- All of them are inside the polygon of the edges fs from (a, b)
 unfoldable pub cornersInside : List ℤ → ℤ → ℤ → List ℤ → ℤ → ℤ → Bool
 cornersInside es x y fs a b = everyCorner (insideAt fs a b) es x y

@@ -1,4 +1,5 @@
--- Polygons, and what is said of the cells of two; tests over the corner cells; the columns of a row; the answer by these tests; specimens.
+-- Polygons, and what is said about the cells of two; tests of the corner cells; the
+-- columns of a row; the answer by these tests; specimens.
 pub mod Cells
 pub mod Corners
 pub mod Rows

@@ -1,5 +1,5 @@
--- The cells of a row that are inside are a run of columns: from a first column, included, to an end, excluded. Each edge (dx, dy) that leaves (x, y) bounds
--- the run by its dy and its side value b at column 0 of the row, since the side value at column c is dy·c + b.
+-- The inside cells of a row form an interval of columns: from a first column, included, to an end, excluded. Each edge (dx, dy) from (x,
+-- y) bounds it by dy and by its side value b at column 0 of the row, since the side value at column c is dy·c + b.
 use Prim.Native.Nat.{ℕ, zero, suc, _/_, min, max}
 use mathlib.Core.Bool.{Bool, cond}
 use mathlib.Core.List.{List, [], _∷_}
@@ -17,7 +17,7 @@ edgeFrom (pos (suc n)) (pos b) = 0
 edgeFrom (pos (suc n)) (negsuc b) = suc (b / suc n)
 edgeFrom (negsuc n) b = 0
 
--- The column after the last c with dy·c + b ≥ 0, if dy < 0. If dy = 0, all of the row or nothing of it
+-- The column after the last c with dy·c + b ≥ 0, if dy < 0. If dy = 0, the end of the row, or 0 if no column qualifies
 unfoldable pub edgeTo : ℤ → ℤ → ℕ
 edgeTo (pos zero) (pos b) = side
 edgeTo (pos zero) (negsuc b) = 0
@@ -25,7 +25,7 @@ edgeTo (pos (suc n)) b = side
 edgeTo (negsuc n) (pos b) = suc (b / suc n)
 edgeTo (negsuc n) (negsuc b) = 0
 
--- All edges of the walk from (x, y)
+-- The bounds by all edges from (x, y) on
 unfoldable pub edgesFrom : List ℤ → ℤ → ℤ → ℤ → ℕ
 edgesFrom [] x y r = 0
 edgesFrom (dx ∷ []) x y r = 0
@@ -36,7 +36,7 @@ edgesTo [] x y r = side
 edgesTo (dx ∷ []) x y r = side
 edgesTo (dx ∷ dy ∷ es) x y r = min (edgeTo dy (sideValue dx dy x y (pos 0) r)) (edgesTo es (x +ℤ dx) (y +ℤ dy) r)
 
--- The first natural number at z or after it; the first after z
+-- The smallest natural number not below z; the smallest above z
 unfoldable pub startAt : ℤ → ℕ
 startAt (pos n) = n
 startAt (negsuc n) = 0
@@ -45,7 +45,7 @@ unfoldable pub endAfter : ℤ → ℕ
 endAfter (pos n) = suc n
 endAfter (negsuc n) = 0
 
--- The run of row r, between the extremes of the walk
+-- The interval of row r, within the extremes of the corner cells
 unfoldable pub runFrom : Polygon → ℕ → ℕ
 runFrom p r =
     max (startAt (lowestMet (colSteps (p .edges)) (pos (p .anchor .col)))) (edgesFrom (p .edges) (pos (p .anchor .col)) (pos (p .anchor .row)) (pos r))
@@ -56,10 +56,10 @@ runTo p r =
     (min (endAfter (highestMet (colSteps (p .edges)) (pos (p .anchor .col)))) (edgesTo (p .edges) (pos (p .anchor .col)) (pos (p .anchor .row)) (pos r)))
     0
 
--- The runs of two polygons meet in row r
+-- The intervals of two polygons in row r have a common column
 unfoldable pub rowMeets : Polygon → Polygon → ℕ → Bool
 rowMeets p q r = ltb (max (runFrom p r) (runFrom q r)) (min (runTo p r) (runTo q r))
 
--- They meet in some row of the chart
+-- They have one in some row of the chart
 unfoldable pub rowsMeet : Polygon → Polygon → Bool
 rowsMeet p q = some (rowMeets p q) side

@@ -15,7 +15,7 @@ pub record Pair : Type 0 where
 from : ℕ → ℕ → List ℤ → Polygon
 from c r es = record { anchor = record { col = c; row = r }; edges = es }
 
--- A square of nine cells, and the triangle of three in its corner
+-- A square of nine cells, and the triangle of three cells in its corner
 square : List ℤ
 square = pos 0 ∷ pos 2 ∷ pos 2 ∷ pos 0 ∷ pos 0 ∷ negsuc 1 ∷ negsuc 1 ∷ pos 0 ∷ []
 
@@ -25,8 +25,8 @@ triangle = pos 0 ∷ pos 1 ∷ pos 1 ∷ negsuc 0 ∷ negsuc 0 ∷ pos 0 ∷ []
 pair : Polygon → Polygon → Nesting → Pair
 pair p q v = record { first = p; second = q; answer = v }
 
--- The square with itself, and with a cell of its border; segments that cross between cells, and in a cell that is no corner of either; triangles side by
--- side, and with one corner in common; the last cell of the chart
+-- The square with itself, and with a cell of its border; segments that cross between cells, and in a cell that is a corner cell of
+-- neither; triangles side by side, and with a common corner cell; the last cell of the chart
 unfoldable pub pairs : List Pair
 unfolding from square triangle pair
 pairs =

@@ -1,1 +1,1 @@
-// Two polygons of edges compared, theory alone: equal, one within the other, no common cell, or crossing.
+// Comparison of two polygons, theory only: equal, one within the other, no common cell, or crossing.

@@ -1,4 +1,4 @@
--- The loose query, the walk of one coordinate, one edge and the next, specimens.
+-- The loose query, one coordinate along a list of edges, two edges in a row, specimens.
 pub mod Loose
 pub mod Specimens
 pub mod parts

@@ -1,4 +1,4 @@
--- The loose query: refusals 10, 11 and 16, then the rule of the edges (contract 6.2).
+-- The loose query: refusals 10, 11 and 16, then inside or outside (contract 6.2).
 use Prim.Native.Nat.{_%_}
 use mathlib.Core.Path.{_≡_}
 use mathlib.Core.Bool.{Bool, false, cond, _||_}
@@ -17,19 +17,19 @@ use Rattle.chart.specs.declared.Refusal.the-variants.{List as BadList, Cell, Di
 use Rattle.chart.specs.declared.Position.{Position}
 use Rattle.chart.specs.declared.Position.the-variants.{Inside, Outside, Refused}
 
--- The rule of the edges for every list: no cell is inside one that is too long
+-- Whether a cell is inside, for every list: no cell is inside a list that is too long
 unfoldable pub insideList : Point → List ℤ → Point → Bool
 insideList a es x = cond (ltb longestList (length es)) false (insideEdges a es x)
 
--- 10, of a loose query: an odd count of numbers, or too many
+-- 10, of a loose query: the count of numbers is odd or too large
 unfoldable pub badList : List ℤ → Bool
 badList es = eqb (length es % 2) 1 || ltb longestList (length es)
 
--- 11: a number of the cell is none of the chart's
+-- 11: a number of the cell is above 254
 unfoldable pub badCell : Point → Bool
 badCell x = leb side (x .col) || leb side (x .row)
 
--- 16, of every list: one that is too long does not pass
+-- 16, for every list: a list that is too long is refused
 unfoldable pub badDirectionsList : List ℤ → Bool
 badDirectionsList es = ltb longestList (length es) || badDirections es
 
@@ -40,7 +40,7 @@ looseOf a es x =
     (cond (badDirections es) (Refused Directions)
     (cond (insideEdges a es x) Inside Outside)))
 
--- What the words of a reply say: "inside" that the corner cells' hull holds the cell, "outside" that it does not
+-- What the word of a reply says: "inside" that the cell lies in the hull of the corner cells, "outside" that it does not
 pub record HullNamed (a : Point) (es : List ℤ) (x : Point) (f : Fields) : Type 0 where
   pub within : f .word ≡ inside → CornersHold a es x
   pub beyond : f .word ≡ outside → CornersHold a es x → ⊥

@@ -1,4 +1,5 @@
--- Loose queries with the edges of the specimens H2 and H3 and others, and their refusals (contract 9). All rows are proved together (proofs/Specimens.antt).
+-- Loose queries with the edges of specimens H2, H3 and others, and refused ones
+-- (contract 9). All rows are proved together (proofs/Specimens.antt).
 use Prim.Native.Nat.{ℕ}
 use mathlib.Core.Bool.{Bool}
 use mathlib.Core.List.{List, [], _∷_}
@@ -25,7 +26,8 @@ answered h = sameFields (positionFields (looseOf (h .anchor) (h .edges) (h .cell
 ask : Point → List ℤ → Point → Fields → Query
 ask a es x f = record { anchor = a; edges = es; cell = x; fields = f }
 
--- H2's edges in the block, beside it and far across the chart; H3's in its corner; no edges; refusals 10 and 11 in their order
+-- H2's edges with a cell in the block, beside it and far across the chart; H3's with
+-- its corner; no edges; refusals 10 and 11 in their order
 unfoldable pub queries : List Query
 unfolding at ask
 queries =
@@ -40,7 +42,7 @@ queries =
     ask (at 255 0) [] (at 0 0) (numbered 11) ∷
     ask (at 0 0) [] (at 0 255) (numbered 11) ∷ []
 
--- What passes refusal 16: up as the first direction; a half turn; a hull with rows below the chart
+-- Lists that pass 16: one with up as its first direction; a half turn; a hull with rows below the chart
 unfoldable pub passing : List Query
 unfolding at ask
 passing =
@@ -51,8 +53,8 @@ passing =
     ask (at 0 0) (pos 2 ∷ negsuc 0 ∷ negsuc 0 ∷ negsuc 0 ∷ negsuc 0 ∷ pos 2 ∷ []) (at 0 0) (said inside) ∷
     ask (at 0 0) (pos 2 ∷ negsuc 0 ∷ negsuc 0 ∷ negsuc 0 ∷ negsuc 0 ∷ pos 2 ∷ []) (at 1 0) (said outside) ∷ []
 
--- What it turns back: a nil edge among others and alone; edges that do not sum to nil; anticlockwise edges; one direction twice; up after left; a half turn
--- begun at its other end; two rounds. 10 and 11 come before it
+-- Lists that 16 refuses: a zero edge, among others and alone; edges that do not sum to zero; anticlockwise edges; one direction twice; up
+-- after left; a half turn that starts with its other edge; two full turns. Refusals 10 and 11 come first
 unfoldable pub turnedBack : List Query
 unfolding at ask
 turnedBack =

@@ -1,3 +1,3 @@
--- What the functions of the crate promise each other: nothing here needs to be believed.
+-- Promises between the functions of the crate. Nothing here needs to be believed.
 pub mod Span
 pub mod Turns

@@ -1,4 +1,4 @@
-// An anchor and a list of edges as a polygon: which cells lie inside, and the loose query.
+// An anchor and a list of edges as a polygon: which cells are inside, and the loose query.
 use chart::LONGEST_LIST;
 use chart::Point;
 use chart::Position;
@@ -17,14 +17,14 @@ ghost use Rattle.polygon.specs.Loose.{insideList, badList, badCell, badD
 mod round;
 mod signed;
 
-// One coordinate of a walk of edges: where it stands, and the lowest and the highest number met so far.
+// One coordinate along a list of edges: the current number, and the lowest and the highest so far.
 struct Span {
     at: i64,
     low: i64,
     high: i64,
 }
 
-// The walk at its start.
+// The coordinate at the start.
 fn begin(x: u16) -> Span
     ensures { λ r. ⌜ r ≡ begun (pos x) ⌝ }
 {
@@ -36,7 +36,7 @@ fn begin(x: u16) -> Span
     }
 }
 
-// The walk one step further.
+// The coordinate after one more step.
 fn step(s: Span, d: i16) -> Span
     requires { ⌜ natAbs (s .at) ≤ 2 ^ 27 ⌝ }
     ensures { λ r. ⌜ r ≡ stepped s d ⌝ }
@@ -49,7 +49,7 @@ fn step(s: Span, d: i16) -> Span
     }
 }
 
-// The lowest number met is at most c, and the highest at least c.
+// c lies between the lowest and the highest number.
 fn spanned(s: Span, c: u16) -> bool
     ensures { λ r. ⌜ r ≡ spans s (pos c) ⌝ }
 {
@@ -57,7 +57,7 @@ fn spanned(s: Span, c: u16) -> bool
     signed::at_most(s.low, z) && signed::at_most(z, s.high)
 }
 
-// A step in one coordinate times the cell's distance in the other: one of a side value's two products.
+// A step in one coordinate times the cell's distance in the other: one of the two products of a side value.
 fn moment(d: i16, s: Span, c: u16) -> i64
     requires { ⌜ natAbs (s .at) ≤ 2 ^ 27 ⌝ }
     ensures { λ r. ⌜ (r ≡ d *ℤ (pos c -ℤ s .at)) × (natAbs r ≤ 2 ^ 43) ⌝ }
@@ -65,7 +65,7 @@ fn moment(d: i16, s: Span, c: u16) -> i64
     signed::product(signed::widen(d), signed::difference(signed::whole(c), s.at))
 }
 
-// The side value is not negative: the cell is not outside the edge (dx, dy) that leaves where the walk stands.
+// The side value of the edge (dx, dy) at the cell is not negative. The edge starts where the walk stands.
 fn beside(dx: i16, dy: i16, cols: Span, rows: Span, cell: Point) -> bool
     requires { ⌜ (natAbs (cols .at) ≤ 2 ^ 27) × (natAbs (rows .at) ≤ 2 ^ 27) ⌝ }
     ensures { λ b. ⌜ b ≡ notNegative (sideValue dx dy (cols .at) (rows .at) (pos (cell .col)) (pos (cell .row))) ⌝ }
@@ -75,7 +75,7 @@ fn beside(dx: i16, dy: i16, cols: Span, rows: Span, cell: Point) -> bool
     signed::at_most(up, across)
 }
 
-// The rule of the edges (contract 3.15): side values, and the walk's extremes. No cell is inside a list that is too long.
+// Whether a cell is inside (contract 3.15): side values and extremes. No cell is inside a list that is too long.
 pub fn inside(anchor: Point, edges: &[i16], cell: Point) -> bool
     ensures { λ b. ⌜ b ≡ insideList anchor (now (edges .entry)) cell ⌝ }
 {
@@ -98,14 +98,14 @@ pub fn inside(anchor: Point, edges: &[i16], cell: Point) -> bool
     spanned(cols, cell.col) && spanned(rows, cell.row)
 }
 
-// 10, of a loose query: an odd count of numbers, or too many.
+// 10, of a loose query: the count of numbers is odd or too large.
 pub fn bad_list(edges: &[i16]) -> bool
     ensures { λ b. ⌜ b ≡ badList (now (edges .entry)) ⌝ }
 {
     edges.len() % 2 == 1 || LONGEST_LIST < edges.len()
 }
 
-// The edge at i is not nil, and comes sooner than the next one, where there is one.
+// The edge at i is not zero, and its direction comes before that of the next one, if there is one.
 fn turns_on(edges: &[i16], i: usize) -> bool
     requires { ⌜ i + 1 < length (now edges) ⌝ }
     ensures { λ b. ⌜ b ≡ turnsOn (drop i (now (edges .entry))) ⌝ }
@@ -124,7 +124,7 @@ fn turns_on(edges: &[i16], i: usize) -> bool
     round::precedes(dx, dy, ex, ey)
 }
 
-// 16: the edges do not lead once round clockwise. No list that is too long does.
+// 16: an edge is zero, the edges do not sum to zero, or directions do not increase strictly. A list that is too long is refused.
 pub fn bad_directions(edges: &[i16]) -> bool
     ensures { λ b. ⌜ b ≡ badDirectionsList (now (edges .entry)) ⌝ }
 {
@@ -147,14 +147,14 @@ pub fn bad_directions(edges: &[i16]) -> bool
     !signed::is_zero(across) || !signed::is_zero(up)
 }
 
-// 11: a number that is none of a cell's.
+// 11: a number of the cell is above 254.
 pub fn bad_cell(x: Point) -> bool
     ensures { λ b. ⌜ b ≡ badCell x ⌝ }
 {
     SIDE <= x.col || SIDE <= x.row
 }
 
-// The loose query: 10, 11 and 16, then the rule of the edges, which says what lies in the hull of the corner cells.
+// The loose query: checks 10, 11 and 16, then says whether the cell lies in the hull of the corner cells.
 pub fn loose_query(anchor: Point, edges: &[i16], cell: Point) -> Position
     ensures answer { λ p. ⌜ p ≡ looseOf anchor (now (edges .entry)) cell ⌝ }
     ensures hull { λ p. ⌜ HullNamed anchor (now (edges .entry)) cell (positionFields p) ⌝ }

@@ -1,17 +1,17 @@
-// The order of directions, clockwise round from up (contract 3.16).
+// The order of directions, clockwise from up (contract 3.16).
 use crate::signed;
 ghost use mathlib.Core.Path.{_≡_};
 ghost use mathlib.Core.Bool.{_&&_};
 ghost use Rattle.directions.specs.Round.{cross, positive, isNil, firstHalf, precedes as precedesOf};
 
-// (dx, dy) is no direction.
+// (dx, dy) is zero and has no direction.
 pub(crate) fn zero_step(dx: i16, dy: i16) -> bool
     ensures { λ b. ⌜ b ≡ (isNil dx && isNil dy) ⌝ }
 {
     signed::is_zero(signed::widen(dx)) && signed::is_zero(signed::widen(dy))
 }
 
-// The half round from up, included, to down, excluded.
+// The first half turn: from up, included, to down, excluded.
 fn first_half(dx: i16, dy: i16) -> bool
     ensures { λ b. ⌜ b ≡ firstHalf dx dy ⌝ }
 {
@@ -19,7 +19,7 @@ fn first_half(dx: i16, dy: i16) -> bool
     signed::positive(across) || (signed::is_zero(across) && signed::positive(signed::widen(dy)))
 }
 
-// The cross product is above 0: (ex, ey) lies clockwise of (dx, dy) by less than half a round.
+// The cross product is above 0: (ex, ey) lies clockwise of (dx, dy) by less than half a turn.
 fn clockwise(dx: i16, dy: i16, ex: i16, ey: i16) -> bool
     ensures { λ b. ⌜ b ≡ positive (cross dx dy ex ey) ⌝ }
 {
@@ -28,7 +28,7 @@ fn clockwise(dx: i16, dy: i16, ex: i16, ey: i16) -> bool
     signed::positive(signed::difference(there, back))
 }
 
-// The round meets (dx, dy) sooner than (ex, ey).
+// (dx, dy) comes before (ex, ey).
 pub(crate) fn precedes(dx: i16, dy: i16, ex: i16, ey: i16) -> bool
     ensures { λ b. ⌜ b ≡ precedesOf dx dy ex ey ⌝ }
 {

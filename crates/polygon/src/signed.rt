@@ -1,4 +1,4 @@
-// Signed arithmetic with promises in whole numbers. Callers give the bounds; nothing wraps.
+// Signed arithmetic with promises in whole numbers. Callers prove the bounds, so nothing wraps.
 ghost use mathlib.Core.Path.{_≡_};
 ghost use Prim.Native.Nat.{_^_, _≤_};
 ghost use lib.IntN.{pos, natAbs, _+ℤ_, _-ℤ_, _*ℤ_};
@@ -27,7 +27,7 @@ fn sum(a: i64, b: i64) -> i64
     a + b
 }
 
-// A sum of steps, one step further: no sum of 1,016 numbers of 16 bits is larger than 2^27.
+// A sum of steps, with one more step. A sum of 1,016 numbers of 16 bits is at most 2^27 in size.
 pub(crate) fn further(a: i64, d: i16) -> i64
     requires { ⌜ natAbs a ≤ 2 ^ 27 ⌝ }
     ensures { λ r. ⌜ r ≡ a +ℤ d ⌝ }

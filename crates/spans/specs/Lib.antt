@@ -1,2 +1,2 @@
--- The columns that an outline encloses in each row, as they are kept and by a search.
+-- The columns that an outline encloses in each row: by a search, and as a table.
 pub mod Spans

@@ -1,5 +1,5 @@
--- The first and the last column that an outline encloses in a row: by a search of the enclosed cells, and as they are kept, a number for each row. That the two agree is
--- a theorem (proofs/Exact.antt).
+-- The columns that an outline encloses in a row, in two forms: by a search of the enclosed cells, and as a table with two numbers for
+-- each row. The two agree (proofs/Exact.antt).
 use Prim.Native.Nat.{ℕ, zero, suc, _-_, _≤_}
 use mathlib.Core.Path.{_≡_}
 use mathlib.Core.Logic.{_↔_}
@@ -20,7 +20,7 @@ use Rattle.spans.specs.declared.Spans.{Spans}
 
 -- ---- by a search
 
--- The last number below n of which f holds, where there is one
+-- The last number below n for which f holds, if there is one
 unfoldable pub lastBelow : (ℕ → Bool) → ℕ → ℕ
 lastBelow f n = n - 1 - first (λ k. f (n - 1 - k)) n
 
@@ -28,12 +28,12 @@ lastBelow f n = n - 1 - first (λ k. f (n - 1 - k)) n
 unfoldable pub rowSpan : (ℕ → ℕ → Bool) → ℕ → Span
 rowSpan marked r = cond (some (λ c. marked c r) side) (Columns (first (λ c. marked c r) side) (lastBelow (λ c. marked c r) side)) None
 
--- It is exact: every column from the first to the last is marked, and no other
+-- Exact: every column from the first to the last is marked, and no other
 unfoldable pub SpanExact : (ℕ → ℕ → Bool) → ℕ → Span → Type 0
 SpanExact marked r None = (c : ℕ) → marked c r ≡ false
 SpanExact marked r (Columns a b) = (c : ℕ) → (marked c r ≡ true) ↔ ((a ≤ c) × (c ≤ b))
 
--- ---- as they are kept
+-- ---- as a table
 
 unfoldable pub lesser : ℕ → ℕ → ℕ
 lesser a b = cond (leb a b) a b
@@ -41,42 +41,42 @@ lesser a b = cond (leb a b) a b
 unfoldable pub greater : ℕ → ℕ → ℕ
 greater a b = cond (leb a b) b a
 
--- f i, f (i + 1) and so on, n numbers
+-- n numbers: f i, f (i + 1) and so on
 unfoldable pub table : (ℕ → ℕ) → ℕ → ℕ → List ℕ
 table f i zero = []
 table f i (suc n) = f i ∷ table f (suc i) n
 
--- The columns of the outline's up and of its down along row r, whichever is left of the other
+-- The columns where the outline runs up and down along row r: the smaller one, and the larger
 unfoldable pub leftSide : Outline → ℕ → ℕ
 leftSide o r = lesser (keptUp o r) (keptDown o r)
 
 unfoldable pub rightSide : Outline → ℕ → ℕ
 rightSide o r = greater (keptUp o r) (keptDown o r)
 
--- Row by row from the left side to the right side; and no row with a cell
+-- The table of an outline: each row from its left side to its right side. The table in which no row has a cell
 unfoldable pub spansOf : Outline → Spans
 spansOf o = record { first = table (leftSide o) 0 side; past = table (rightSide o) 0 side }
 
 unfoldable pub noSpans : Spans
 noSpans = record { first = replicate side 0; past = replicate side 0 }
 
--- The cell (c, r) is in them
+-- The cell (c, r) is in the table
 unfoldable pub inSpans : Spans → ℕ → ℕ → Bool
 inSpans s c r = ltb r side && (leb (rows (s .first) r) c && ltb c (rows (s .past) r))
 
--- What they have of row r
+-- The interval of columns from a to b, b excluded; the table's interval for row r
 unfoldable pub spanFrom : ℕ → ℕ → Span
 spanFrom a b = cond (ltb a b) (Columns a (b - 1)) None
 
 unfoldable pub spanAt : Spans → ℕ → Span
 spanAt s r = cond (leb side r) None (spanFrom (rows (s .first) r) (rows (s .past) r))
 
--- They describe marked cells: these are in them and no other, and what they have of each row is exact
+-- The table describes a set of marked cells: it has these cells and no other, and its interval for each row is exact
 pub record Describes (s : Spans) (marked : ℕ → ℕ → Bool) : Type 0 where
   pub cells : (c r : ℕ) → inSpans s c r ≡ marked c r
   pub exact : (r : ℕ) → SpanExact marked r (spanAt s r)
 
--- As a reply (contract 7.9)
+-- An interval as a reply (contract 7.9)
 unfoldable pub spanReply : Span → Reply
 spanReply None = NoColumns
 spanReply (Columns a b) = ColumnsReply a b

@@ -1,4 +1,4 @@
-// The first and the last column that an outline encloses in each row.
+// The interval of columns that an outline encloses in each row.
 use calls::Reply;
 use chart::Point;
 use chart::SIDE;
@@ -10,16 +10,17 @@ ghost use Rattle.chart.specs.Limits.{side};
 ghost use Rattle.chart.specs.Outline.{outline};
 ghost use Rattle.spans.specs.Spans.{lesser as lesserOf, greater as greaterOf, noSpans, spansOf, inSpans, spanAt, spanReply};
 
-// The chart has this many rows of cells.
+// The number of rows of cells on the chart.
 pub const ROWS: usize = 255;
 
-// What is enclosed of a row: every column from the first to the last and no other, or none.
+// The enclosed columns of a row: every column from the first to the last and no other, or none.
 pub enum Span {
     None,
     Columns { first: u16, last: u16 },
 }
 
-// The rows of an outline: row `r` from column `first[r]` up to but not including column `past[r]`; none where these are the same. Zeros: no row has a cell.
+// The rows of an outline: row `r` goes from column `first[r]`, included, to column `past[r]`,
+// excluded, and is empty if they are equal. All zeros: no row has a cell.
 #[repr(C)]
 pub struct Spans {
     pub first: [u8; ROWS],
@@ -42,7 +43,7 @@ fn greater(a: u16, b: u16) -> u8
     if a <= b { b as u8 } else { a as u8 }
 }
 
-// No row has a cell.
+// The table in which no row has a cell.
 pub fn no_spans() -> Spans
     ensures { λ r. ⌜ r ≡ noSpans ⌝ }
 {
@@ -52,7 +53,7 @@ pub fn no_spans() -> Spans
     }
 }
 
-// Each row from one vertical side of the outline along it to the other, whichever way the outline runs.
+// Each row goes from one vertical side of the outline to the other, in whichever direction the outline runs.
 pub fn spans_of(start: Point, letters: &[u8]) -> Spans
     ensures { λ r. ⌜ r ≡ spansOf (outline start (now (letters .entry))) ⌝ }
 {
@@ -92,7 +93,7 @@ pub fn span_at(spans: Spans, row: u16) -> Span
     }
 }
 
-// A row as a call's reply.
+// The columns of a row as the reply of a call.
 pub fn reply(span: Span) -> Reply
     ensures { λ r. ⌜ r ≡ spanReply span ⌝ }
 {
@@ -102,7 +103,7 @@ pub fn reply(span: Span) -> Reply
     }
 }
 
-// Whether a cell is among the columns of its row.
+// Whether a cell is in the interval of its row.
 pub fn within(spans: Spans, cell: Point) -> bool
     ensures { λ r. ⌜ r ≡ inSpans spans (cell .col) (cell .row) ⌝ }
 {

@@ -1,2 +1,2 @@
--- The columns of each row by one walk along the edges; two polygons compared row by row.
+-- The columns of each row by one pass along the edges; two polygons compared row by row.
 pub mod parts

@@ -1,1 +1,1 @@
-// The rows of a polygon by one walk along its edges, theory alone: the columns of each row, and two polygons compared by them.
+// The rows of a polygon by one pass along its edges, theory only: the columns of each row, and two polygons compared by them.

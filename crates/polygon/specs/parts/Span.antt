@@ -1,4 +1,4 @@
--- One coordinate of a walk of edges, step by step: where the walk stands, and the lowest and the highest number met so far.
+-- One coordinate along a list of edges: the current number, and the lowest and the highest so far.
 use mathlib.Core.Bool.{Bool, _&&_}
 use lib.IntN.{ℤ, _+ℤ_}
 use lib.Signed.{leZ}

@@ -1,5 +1,6 @@
--- The columns of a row by one walk along the edges: a corner cell has its own column; an edge that rises has, in each row between its ends, the first
--- column on its inner side, and one that falls has the end there. The row's run goes from the least of the one to the greatest of the other.
+-- The columns of each row by one pass along the edges. A corner cell gives its own column. An edge that goes up gives, in each row
+-- strictly between its ends, the first column on its inner side. An edge that goes down gives the end, excluded. The row's interval goes
+-- from the least first column to the greatest end.
 use Prim.Native.Nat.{ℕ, min, max}
 use mathlib.Core.Bool.{Bool, cond, _&&_}
 use mathlib.Core.List.{List, [], _∷_}
@@ -15,21 +16,21 @@ use Rattle.nesting.specs.Rows.{edgeFrom, edgeTo, startAt, endAfter}
 unfoldable pub between : ℤ → ℤ → ℕ → Bool
 between y v r = ltZ y (pos r) && ltZ (pos r) v
 
--- A corner cell (x, y)
+-- What a corner cell (x, y) gives in row r
 unfoldable pub cornerFrom : ℤ → ℤ → ℕ → ℕ
 cornerFrom x y r = cond (sameℤ y (pos r)) (min (startAt x) side) side
 
 unfoldable pub cornerTo : ℤ → ℤ → ℕ → ℕ
 cornerTo x y r = cond (sameℤ y (pos r)) (min (endAfter x) side) 0
 
--- An edge (dx, dy) that leaves (x, y)
+-- What an edge (dx, dy) from (x, y) gives in row r
 unfoldable pub riseFrom : ℤ → ℤ → ℤ → ℤ → ℕ → ℕ
 riseFrom dx dy x y r = cond (between y (y +ℤ dy) r) (min (edgeFrom dy (sideValue dx dy x y (pos 0) (pos r))) side) side
 
 unfoldable pub fallTo : ℤ → ℤ → ℤ → ℤ → ℕ → ℕ
 fallTo dx dy x y r = cond (between (y +ℤ dy) y r) (min (edgeTo dy (sideValue dx dy x y (pos 0) (pos r))) side) 0
 
--- All of the walk of es from (x, y)
+-- The least, and the greatest, along the edges es from (x, y)
 unfoldable pub sweptFrom : List ℤ → ℤ → ℤ → ℕ → ℕ
 sweptFrom [] x y r = cornerFrom x y r
 sweptFrom (dx ∷ []) x y r = cornerFrom x y r
@@ -40,7 +41,7 @@ sweptTo [] x y r = cornerTo x y r
 sweptTo (dx ∷ []) x y r = cornerTo x y r
 sweptTo (dx ∷ dy ∷ es) x y r = max (max (cornerTo x y r) (fallTo dx dy x y r)) (sweptTo es (x +ℤ dx) (y +ℤ dy) r)
 
--- The run of a polygon's row
+-- The interval of columns of a polygon's row
 unfoldable pub rowFrom : Polygon → ℕ → ℕ
 rowFrom p r = sweptFrom (p .edges) (pos (p .anchor .col)) (pos (p .anchor .row)) r
 
