@@ -1,4 +1,4 @@
--- The checker computes the definition on single words.
+-- The checker computes the definition on single words, so these rows hold by computation.
 use mathlib.Core.Path.{_≡_, refl}
 use mathlib.Core.Bool.{true, false}
 use mathlib.Core.List.{[], _∷_}
@@ -11,7 +11,7 @@ pub follows : christoffel (false ∷ false ∷ true ∷ false ∷ true ∷ []) �
 unfolding christoffel coprime remainders laters every
 follows = refl
 
--- 001101 is a palindrome between its end letters, and none
+-- 001101 is a palindrome between its end letters, but not a Christoffel word
 pub palindrome-none : christoffel (false ∷ false ∷ true ∷ true ∷ false ∷ true ∷ []) ≡ false
 unfolding christoffel coprime remainders laters every
 palindrome-none = refl

@@ -1,4 +1,5 @@
--- A Christoffel word's prefix of i letters has floor(i·k/n) later letters: the remainder grows by k where the floor stays, and falls by n − k where it grows.
+-- A Christoffel word's prefix of i letters has floor(i·k/n) later letters: the remainder grows
+-- by k if the floor stays, and falls by n − k if the floor grows.
 use Prim.Native.Nat.{ℕ, zero, suc, _+_, _-_, _*_, _/_, _%_, _≤_, _<_}
 use mathlib.Core.Path.{_≡_, refl, sym, _∙_, subst}
 use mathlib.Core.Logic.{_↔_}
@@ -59,7 +60,7 @@ coprime-iff k n pos = (to, from)
         both-fail (k % (i + 2)) (n % (i + 2)) λ p q.
         omega (arith, h (i + 2) (k / (i + 2)) (n / (i + 2)) (divided k (i + 2) p) (divided n (i + 2) q))
 
--- The remainders, with the letters counted from 0
+-- The remainders, with letters counted from 0
 pub record Letters (w : Word) (k n : ℕ) : Type 0 where
   pub letter : (i : ℕ) → i < n → (getD w i false ≡ false) ↔ (i * k % n < suc i * k % n)
 
@@ -136,13 +137,13 @@ christoffel-iff (a ∷ b ∷ w) = (to, from)
     from : Christoffel (a ∷ b ∷ w) → (coprime k n && remainders v k n) ≡ true
     from (longer l c r) = rw (coprime-iff k n (omega arith) .1 c, remainders-iff v k n .1 r)
 
--- Prefix by prefix, the later letters are counted by the floor of the chord
+-- The later letters of each prefix are counted by the floor
 pub record Floors (w : Word) : Type 0 where
   pub some : 0 < length w
   pub coprime : Coprime (laters w) (length w)
   pub count : (i : ℕ) → i ≤ length w → laters (take i w) ≡ i * laters w / length w
 
--- A number that shares no divisor with n, and is at most n, lies strictly between 0 and n
+-- If k is coprime to n and at most n, it lies strictly between 0 and n
 pub coprime-pos : (k n : ℕ) → 1 < n → Coprime k n → 0 < k
 unfolding Coprime
 coprime-pos zero n l c = absurd (omega (arith, c n 0 1 (mul-zero n) (mul-one n)))
@@ -152,11 +153,11 @@ pub coprime-lt : (k n : ℕ) → 1 < n → k ≤ n → Coprime k n → k < n
 unfolding Coprime
 coprime-lt k n l h c = elim (decLt k n) [ yes s ↦ s | no s ↦ let e : n ≡ k = omega arith in absurd (omega (arith, c n 1 1 (mul-one n ∙ e) (mul-one n))) ]
 
--- Numbers of remainder below n are ordered only if their quotients are
+-- If remainders are below n, order of numbers implies order of quotients
 quotient-le : (q r p s n : ℕ) → r + q * n ≤ s + p * n → s < n → q ≤ p
 quotient-le q r p s n e l = elim (decLe q p) [ yes h ↦ h | no h ↦ absurd (omega (arith, mul-le-mul-right {m = suc p} {n = q} n (omega arith))) ]
 
--- One step of k along the chord of n: the floor stays exactly where the remainder grows, and else grows by one
+-- One step of k modulo n: the floor stays exactly if the remainder grows, and otherwise grows by one
 module _ (k n x : ℕ) (pos : 0 < k) (small : k < n) where
   step : x % n + x / n * n + k ≡ (x + k) % n + (x + k) / n * n
   step = omega (arith, mod-add-div' x n, mod-add-div' (x + k) n)
@@ -190,7 +191,7 @@ module _ (k n x : ℕ) (pos : 0 < k) (small : k < n) where
   floor-next true h =
       elim (decLt (x % n) ((x + k) % n)) [ yes l ↦ no-false (sym (h .1 l)) | no l ↦ omega (arith, floor-grows (omega arith)) ]
 
--- The letters between two prefixes follow the remainders exactly where the counts follow the floors
+-- The letters follow the remainders exactly if the counts of the prefixes follow the floors
 floors-of-letters : (w : Word) → 1 < length w → Coprime (laters w) (length w) → Letters w (laters w) (length w) → (i : ℕ) → i ≤ length w →
     laters (take i w) ≡ i * laters w / length w
 unfolding laters

@@ -1,4 +1,4 @@
--- A number that divides a product, and shares no divisor with one factor, divides the other: by Euclid's descent to n mod k.
+-- A number that divides a product and is coprime to one factor divides the other: by Euclid's descent to n mod k.
 use Prim.Native.Nat.{ℕ, zero, suc, _+_, _*_, _/_, _%_, _≤_, _<_}
 use mathlib.Core.Path.{_≡_, refl, sym, ap, _∙_}
 use native.Mathlib.Nat.{mul-zero, mul-one, mul-add, mul-assoc, mod-add-div, mod-lt, le-dest, le-of-mul-le-mul-right, eq-of-mul-eq-mul-right}
@@ -28,7 +28,7 @@ divided-down k n i q r s whole pos e =
 divided-up : (k n i q t : ℕ) → 0 < k → i * k ≡ q * n → q ≡ t * k → i ≡ t * n
 divided-up k n i q t pos e f = eq-of-mul-eq-mul-right k pos i (t * n) (omega (arith, ap (λ (x : ℕ). x * n) f))
 
--- The descent, with a bound on k
+-- The descent, by induction on a bound of k
 descent : (bound k n i q : ℕ) → k ≤ bound → Coprime k n → i * k ≡ q * n → (t : ℕ) × (i ≡ t * n)
 descent zero zero n i q l c e = (i, rw (coprime-zero n c) (omega arith))
 descent zero (suc k) n i q l c e = absurd (omega arith)
@@ -43,7 +43,7 @@ descent (suc bound) (suc k) n i q l c e =
 pub coprime-divides : (k n i q : ℕ) → Coprime k n → i * k ≡ q * n → (t : ℕ) × (i ≡ t * n)
 coprime-divides k n i q = descent k k n i q (omega arith)
 
--- A positive number below n, times k, is no multiple of n
+-- A positive number below n, times k, is not a multiple of n
 pub coprime-no-multiple : (k n i q : ℕ) → Coprime k n → 0 < i → i < n → i * k ≡ q * n → ⊥
 coprime-no-multiple k n i q c pos l e = go (coprime-divides k n i q c e .0) (coprime-divides k n i q c e .1)
   where

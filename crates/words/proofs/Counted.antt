@@ -1,5 +1,5 @@
--- A Christoffel word is fixed by its two counts, since its letters are remainders of them; a factor with its repeats is fixed by its run and its rise,
--- since the repeats are their greatest common divisor.
+-- A Christoffel word is determined by its two counts, since its letters follow from their remainders; a factor with its repeats is
+-- determined by its run and its rise, since the number of repeats is their greatest common divisor.
 use Prim.Native.Nat.{ℕ, zero, suc, _+_, _*_, _/_, _%_, _≤_, _<_}
 use mathlib.Core.Path.{_≡_, refl, sym, ap, _∙_}
 use mathlib.Core.Logic.{_↔_}
@@ -21,7 +21,7 @@ use Rattle.words.proofs.Counts.{earliers-laters, earliers-copies, later
 use Rattle.words.proofs.Coprime.{coprime-divides}
 use Rattle.words.proofs.Christoffel.{factor-le, Letters, remainders-letters, coprime-pos, coprime-lt, floor-next, christoffel-floors}
 
--- ---- words listed letter by letter
+-- ---- words given letter by letter
 
 pub length-listed : (f : ℕ → Bool) (n : ℕ) → length (listed f n) ≡ n
 unfolding listed
@@ -34,7 +34,7 @@ letter-listed f zero i h = absurd (omega arith)
 letter-listed f (suc n) zero h = refl
 letter-listed f (suc n) (suc i) h = letter-listed (λ j. f (suc j)) n i (omega arith)
 
--- A word is listed by its letters
+-- A word is the list of its letters
 pub listed-of : (w : Word) (f : ℕ → Bool) → ((i : ℕ) → i < length w → getD w i false ≡ f i) → w ≡ listed f (length w)
 unfolding listed
 listed-of [] f h = refl
@@ -43,9 +43,9 @@ listed-of (a ∷ w) f h =
     let r : w ≡ listed (λ i. f (suc i)) (length w) = listed-of w (λ i. f (suc i)) (λ i l. h (suc i) (omega arith)) in
     λ i. e i ∷ r i
 
--- ---- a Christoffel word is fixed by its two counts
+-- ---- a Christoffel word is determined by its two counts
 
--- What a remainder says of a letter, and the letter that it fixes
+-- What a remainder says about a letter, and the letter that it determines
 pub countedLetter-iff : (k n i : ℕ) → (countedLetter k n i ≡ false) ↔ (i * k % n < suc i * k % n)
 unfolding countedLetter
 countedLetter-iff k n i = go (ltb (i * k % n) (suc i * k % n)) refl
@@ -59,7 +59,7 @@ same-letter false b h k = sym (k .1 (h .0 refl))
 same-letter true false h k = h .1 (k .0 refl)
 same-letter true true h k = refl
 
--- A longer word is the listed one
+-- A word of two or more letters is listed by remainders
 christoffelWord-longer : (a b : ℕ) → 1 < a + b → christoffelWord a b ≡ listed (countedLetter b (a + b)) (a + b)
 unfolding christoffelWord
 christoffelWord-longer a b h = rw (ne-eqb (a + b) 1 (λ e. omega arith))
@@ -78,7 +78,7 @@ christoffel-counted w (longer l c r) =
 
 -- ---- the word of two coprime counts is a Christoffel word with those counts
 
--- Numbers that share no divisor: one of them and their sum share none
+-- If two numbers are coprime, each is coprime to their sum
 pub coprime-sum : (a b : ℕ) → Coprime a b → Coprime b (a + b)
 unfolding Coprime
 coprime-sum a b c d x y p q =
@@ -87,12 +87,12 @@ coprime-sum a b c d x y p q =
       | no h ↦ let m : y ≤ x = omega arith in c d 0 x (omega (arith, mul-zero d, mul-le-mul-left d m)) p
     ]
 
--- The two counts of a Christoffel word share no divisor
+-- The two counts of a Christoffel word are coprime
 pub coprime-counts : (w : Word) → Christoffel w → Coprime (earliers w) (laters w)
 unfolding Coprime
 coprime-counts w h d x y p q = christoffel-floors w .0 h .coprime d y (x + y) q (omega (arith, mul-add d x y, earliers-laters w))
 
--- Its prefixes are counted by floors, so in all it has k later letters
+-- Its prefixes are counted by floors, so the whole word has k later letters
 module _ (k n : ℕ) (pos : 0 < k) (small : k < n) where
   abbrev made : Word
   made = listed (countedLetter k n) n
@@ -181,7 +181,7 @@ upTo-divides a b (suc n) h = go (dividesBoth a b (suc n)) refl (upTo-divides a b
     go true e ih l = e
     go false e ih l = ih l
 
--- No common divisor is larger, and it is one itself
+-- It is a common divisor, and no common divisor is larger
 pub common-greatest : (a b d x y : ℕ) → 0 < a + b → d * x ≡ a → d * y ≡ b → d ≤ common a b
 unfolding common
 common-greatest a b d x y some p q =
@@ -197,7 +197,7 @@ common-divides-both a b = upTo-divides a b (a + b)
 pub common-divides : (a b : ℕ) → 0 < a + b → (common a b * (a / common a b) ≡ a) × (common a b * (b / common a b) ≡ b)
 common-divides a b some = both-divided a b (common a b) (common-divides-both a b (common-pos a b some))
 
--- Divided by it, two numbers share no divisor
+-- Divided by it, two numbers are coprime
 pub common-coprime : (a b : ℕ) → 0 < a + b → Coprime (a / common a b) (b / common a b)
 unfolding Coprime
 common-coprime a b some d x y p q =
@@ -207,7 +207,7 @@ common-coprime a b some d x y p q =
     let upward : g * d * y ≡ b = omega (arith, ap (λ (m : ℕ). g * m) q) in
     le-of-mul-le-mul-left {k = g} (omega (arith, mul-one g, common-greatest a b (g * d) x y some across upward)) (common-pos a b some)
 
--- ---- a factor with its repeats is fixed by its run and its rise
+-- ---- a factor with its repeats is determined by its run and its rise
 
 coprime-zero-right : (e : ℕ) → Coprime e 0 → e ≡ 1
 unfolding Coprime
@@ -220,7 +220,7 @@ coprime-some zero zero c = absurd (omega (arith, c 2 0 0 refl refl))
 coprime-some zero (suc l) c = omega arith
 coprime-some (suc e) l c = omega arith
 
--- A number that divides t·e and t·l divides t, where e and l share no divisor
+-- A number that divides t·e and t·l divides t if e and l are coprime
 divides-times : (g x y t e l : ℕ) → 0 < t → Coprime e l → g * x ≡ t * e → g * y ≡ t * l → g ≤ t
 divides-times zero x y t e l pos c p q = omega arith
 divides-times (suc g) x y t e zero pos c p q = factor-le (suc g) x t (p ∙ ap (λ (m : ℕ). t * m) (coprime-zero-right e c) ∙ mul-one t) pos
@@ -264,7 +264,7 @@ edge-counts run rise some =
 pub edge-length : (run rise : ℕ) → 0 < run + rise → length (edgeWord run rise) ≡ run + rise
 edge-length run rise some = omega (arith, earliers-laters (edgeWord run rise), edge-counts run rise some)
 
--- ---- an edge that rises is written in one pass, without its divisor: the remainders of its whole length repeat
+-- ---- an edge can be written in one pass without its divisor, because the remainders of its whole length repeat
 
 listed-same : (f h : ℕ → Bool) (n : ℕ) → ((i : ℕ) → f i ≡ h i) → listed f n ≡ listed h n
 listed-same f h n e = λ j. listed (λ i. e i j) n
@@ -278,7 +278,7 @@ listed-add (suc m) n f =
     (listed-add m n (λ i. f (suc i))
     ∙ ap (λ (w : Word). listed (λ i. f (suc i)) m ++ w) (listed-same (λ i. f (suc (m + i))) (λ i. f (suc m + i)) n (λ i. rw suc-add))))
 
--- Copies of a word whose letters repeat
+-- Copies of a word whose letters are periodic
 copies-listed : (g n : ℕ) (f : ℕ → Bool) → ((i : ℕ) → f (n + i) ≡ f i) → copies g (listed f n) ≡ listed f (g * n)
 unfolding copies listed
 copies-listed zero n f again = rw zero-mul
@@ -339,7 +339,7 @@ edge-listed run rise pos =
     factor-pos g zero n h e = absurd (omega (arith, mul-zero g))
     factor-pos g (suc b) n h e = omega arith
 
--- ---- one letter, and one list, further
+-- ---- one more letter, and one more list
 
 pub listed-next : (n : ℕ) (f : ℕ → Bool) → listed f (suc n) ≡ listed f n ++ (f n ∷ [])
 unfolding listed

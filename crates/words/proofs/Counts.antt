@@ -1,4 +1,4 @@
--- Counts of letters add up along a word: by induction on the word, letter by letter.
+-- Counts of letters add up along a word, by induction on the word.
 use Prim.Native.Nat.{ℕ, zero, suc, _+_, _*_, _≤_, _<_}
 use mathlib.Core.Path.{_≡_, refl, sym, ap, _∙_}
 use mathlib.Core.Bool.{Bool, true, false}
@@ -60,32 +60,32 @@ earliers-take-le i w = omega (arith, earliers-take-drop i w)
 pub laters-take-le : (i : ℕ) (w : Word) → laters (take i w) ≤ laters w
 laters-take-le i w = omega (arith, laters-take-drop i w)
 
--- The letters of the prefix of i letters are i
+-- The prefix of i letters has i letters
 pub counts-take : (i : ℕ) (w : Word) → i ≤ length w → earliers (take i w) + laters (take i w) ≡ i
 counts-take i w h = earliers-laters (take i w) ∙ length-take-le i w h
 
--- A longer prefix is a shorter one and the letters after it
+-- A longer prefix is a shorter one followed by more letters
 pub earliers-take-add : (i j : ℕ) (w : Word) → earliers (take (i + j) w) ≡ earliers (take i w) + earliers (take j (drop i w))
 earliers-take-add i j w = ap earliers (take-add i j w) ∙ earliers-append (take i w) (take j (drop i w))
 
 pub laters-take-add : (i j : ℕ) (w : Word) → laters (take (i + j) w) ≡ laters (take i w) + laters (take j (drop i w))
 laters-take-add i j w = ap laters (take-add i j w) ∙ laters-append (take i w) (take j (drop i w))
 
--- A longer prefix has no fewer of either letter
+-- A longer prefix has at least as many of either letter
 pub earliers-take-mono : (i j : ℕ) (w : Word) → i ≤ j → earliers (take i w) ≤ earliers (take j w)
 earliers-take-mono i j w h = let (k, e) = le-dest h in rw (← e) (omega (arith, earliers-take-add i k w))
 
 pub laters-take-mono : (i j : ℕ) (w : Word) → i ≤ j → laters (take i w) ≤ laters (take j w)
 laters-take-mono i j w h = let (k, e) = le-dest h in rw (← e) (omega (arith, laters-take-add i k w))
 
--- The next prefix has one letter more: letter i
+-- The next prefix has one more letter: letter i
 pub earliers-take-suc : (i : ℕ) (w : Word) → i < length w → earliers (take (suc i) w) ≡ earliers (take i w) + earliers (getD w i false ∷ [])
 earliers-take-suc i w h = ap earliers (take-suc w i false h) ∙ earliers-append (take i w) (getD w i false ∷ [])
 
 pub laters-take-suc : (i : ℕ) (w : Word) → i < length w → laters (take (suc i) w) ≡ laters (take i w) + laters (getD w i false ∷ [])
 laters-take-suc i w h = ap laters (take-suc w i false h) ∙ laters-append (take i w) (getD w i false ∷ [])
 
--- The same where the letter is known
+-- The same if the letter is known
 pub earliers-next-earlier : (i : ℕ) (w : Word) → i < length w → getD w i false ≡ false → earliers (take (suc i) w) ≡ suc (earliers (take i w))
 unfolding earliers
 earliers-next-earlier i w h e = omega (arith, rw e at (earliers-take-suc i w h))
@@ -102,7 +102,7 @@ pub laters-next-later : (i : ℕ) (w : Word) → i < length w → getD w i false
 unfolding laters
 laters-next-later i w h e = omega (arith, rw e at (laters-take-suc i w h))
 
--- The counts of two prefixes say the letter between them
+-- The counts of two adjacent prefixes determine the letter between them
 pub letter-earlier : (i : ℕ) (w : Word) → i < length w → laters (take (suc i) w) ≤ laters (take i w) → getD w i false ≡ false
 letter-earlier i w h l = go (getD w i false) refl
   where

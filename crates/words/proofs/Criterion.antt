@@ -1,5 +1,5 @@
--- The dent criterion: a Lyndon word of two or more letters is a Christoffel word exactly if no earlier letter in it stands at a point whose upper
--- neighbour is on or under the chord. Both sides are the counts by floors.
+-- The dent criterion: a Lyndon word of two or more letters is a Christoffel word exactly if none of its earlier letters leaves a point
+-- whose upper neighbour is on or under the chord. Both sides say that prefixes are counted by floors.
 use Prim.Native.Nat.{_<_}
 use native.Mathlib.Nat.{not-suc-le-zero}
 use native.Mathlib.Omega.{arith}

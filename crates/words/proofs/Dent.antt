@@ -1,4 +1,5 @@
--- A word below all its ends is Christoffel unless a lattice point straight above it lies under its chord: each end of such a word begins by rising no less than the word.
+-- A word that is smaller than all its proper suffixes is a Christoffel word unless a lattice point straight above its path lies on or
+-- under its chord: each such suffix first rises no less than the word does.
 use Prim.Native.Nat.{ℕ, zero, suc, _+_, _*_, _/_, _≤_, _<_}
 use native.Mathlib.Nat.{add-zero, le-dest, le-refl, mul-le-mul-left, mul-le-mul-right, div-eq-of-lt-le, lt-of-not-le, lt-div-mul-add, lt-of-mul-lt-mul-left}
 use native.Mathlib.Decide.{decLe}
@@ -13,18 +14,19 @@ use Rattle.words.specs.Word.{Word, earliers, laters, Differs}
 use Rattle.words.specs.Christoffel.{Coprime}
 use Rattle.words.proofs.Counts.{earliers-append, laters-append, earliers-laters, counts-take}
 
--- The lattice point straight above a path point, whose next letter is the earlier one, is on or under the chord
+-- A point of the path, left by an earlier letter, whose upper neighbour is on or under the chord
 pub record Above (w : Word) : Type 0 where
   pub before : Word
   pub after : Word
   pub split : w ≡ before ++ false ∷ after
   pub over : (laters before + 1) * earliers w ≤ earliers before * laters w
 
--- Lyndon, by first differences: a word is smaller than each of its proper ends, and none is a beginning of it
+-- Lyndon, by first differences: the word is smaller than each of its proper suffixes, and none of them is a prefix of it
 abbrev pub ByDiff : Word → Type 0
 ByDiff w = (u v : Word) → w ≡ u ++ v → 0 < length u → 0 < length v → Differs w v
 
--- Where no point above the word is under the chord, a beginning on or over the chord that goes on by x and a rise, as an end of the word does, ends strictly over it
+-- If no point above the path is under the chord: a prefix on or over the chord that is followed by x and a later letter, as a suffix of
+-- the word is, ends strictly over the chord
 higher : (w : Word) → (Above w → ⊥) → (u x y : Word) → w ≡ x ++ false ∷ y → earliers u * laters w ≤ laters u * earliers w
     → earliers (u ++ (x ++ true ∷ [])) * laters w < laters (u ++ (x ++ true ∷ [])) * earliers w
 unfolding earliers laters
@@ -35,14 +37,14 @@ higher w flat u x y e h =
 rejoin : (w u v x z : Word) → w ≡ u ++ v → v ≡ x ++ true ∷ z → w ≡ u ++ (x ++ true ∷ []) ++ z
 rejoin w u v x z e r = simp append-assoc (cc)
 
--- The whole word is on the chord
+-- The whole word ends on the chord
 whole-on-chord : (w u z : Word) → w ≡ u ++ z → length z ≤ 0 → earliers u * laters w ≡ laters u * earliers w
 whole-on-chord w u z e h =
     let p : earliers w ≡ earliers u = omega (arith, ap earliers e, earliers-append u z, earliers-laters z) in
     let q : laters w ≡ laters u = omega (arith, ap laters e, laters-append u z, earliers-laters z) in
     rw (p, q) (omega arith)
 
--- So it would go on to the whole word
+-- So a prefix over the chord would continue to the whole word
 never-over : (w : Word) → ByDiff w → (Above w → ⊥) → (n : ℕ) (u v : Word) → length v ≤ n → w ≡ u ++ v → 0 < length u → 0 < length v
     → earliers u * laters w ≤ laters u * earliers w → ⊥
 never-over w lyn flat zero u v hn e hu hv h = omega arith
@@ -59,12 +61,12 @@ never-over w lyn flat (suc n) u v hn e hu hv h =
           (omega arith)
     ]
 
--- Every proper beginning that is not empty lies strictly under the chord
+-- Every proper prefix that is not empty ends strictly under the chord
 pub strictly-under : (w : Word) → ByDiff w → (Above w → ⊥) → (u v : Word) → w ≡ u ++ v → 0 < length u → 0 < length v
     → laters u * earliers w < earliers u * laters w
 strictly-under w lyn flat u v e hu hv = lt-of-not-le (never-over w lyn flat (length v) u v (le-refl _) e hu hv)
 
--- A word that has an earlier letter has a last one
+-- A word with an earlier letter has a last one
 record LastEarlier (u : Word) : Type 0 where
   before : Word
   after : Word
@@ -84,7 +86,8 @@ last-earlier (false ∷ u) h =
     ]
 last-earlier (true ∷ u) h = later-on true (last-earlier u h)
 
--- Where the point one up and one left of a beginning is on or under the chord, so is the point straight above its last earlier letter
+-- If the point one up and one left of a prefix's end is on or under the chord, so is
+-- the point straight above the prefix's last earlier letter
 above-of-left : (w u v : Word) → w ≡ u ++ v → 0 < length w → (laters u + 1) * earliers w + laters w ≤ earliers u * laters w → Above w
 unfolding earliers laters
 above-of-left w u v e n h =
@@ -121,7 +124,7 @@ module _ (e l i A B n : ℕ) (here : e + l ≡ i) (whole : A + B ≡ n) where
       let h′ : (e + l) * B < (l + 1) * (A + B) = rw (here, whole) h in
       omega arith
 
--- b letters of n have a of the B later ones, by a common divisor, so no floor is strictly below
+-- By a common divisor, b of the n letters have exactly a of the B later ones, so no floor is strictly below
 exact-floor : (d a b l B n : ℕ) → d * a ≡ B → d * b ≡ n → l * n < b * B → b * B < (l + 1) * n → ⊥
 exact-floor d a b l B n p q low high =
     let low′ : l * (d * b) < b * (d * a) = rw (p, q) low in
@@ -164,7 +167,7 @@ module _ (w : Word) (lyn : ByDiff w) (flat : Above w → ⊥) (long : 1 < length
   dent-floor : (i : ℕ) → i ≤ length w → laters (take i w) ≡ i * laters w / length w
   dent-floor i h = sym (div-eq-of-lt-le (length w) (floor-low i h) (floor-high i h))
 
-  -- A common divisor above 1 would put a proper beginning onto the chord
+  -- A common divisor above 1 would put the end of a proper prefix on the chord
   dent-coprime : Coprime (laters w) (length w)
   unfolding Coprime
   dent-coprime d a b p q =
@@ -180,7 +183,7 @@ module _ (w : Word) (lyn : ByDiff w) (flat : Above w → ⊥) (long : 1 < length
   pub dent-floors : Coprime (laters w) (length w) × ((i : ℕ) → i ≤ length w → laters (take i w) ≡ i * laters w / length w)
   dent-floors = (dent-coprime, dent-floor)
 
--- The beginning that ends with the earlier letter after `before` would have one later letter more
+-- The prefix that ends with the earlier letter after `before` would have one more later letter
 pub floors-no-above : (w : Word) → 0 < length w → ((i : ℕ) → i ≤ length w → laters (take i w) ≡ i * laters w / length w) → Above w → ⊥
 unfolding earliers laters
 floors-no-above w some floor a =
@@ -197,7 +200,7 @@ floors-no-above w some floor a =
     let left′ : (earliers (a .before) + 1) * laters w < (laters (a .before) + 1) * earliers w + laters w = rw (← e, ← l) left in
     omega (arith, a .over)
 
--- The search for a point above that is under the chord from (0, 0) to (A, B), by the letters of w from a path point (p, q) on
+-- A point above the path and under the chord from (0, 0) to (A, B), searched by the letters of w from a point (p, q) of the path on
 AboveFrom : ℕ → ℕ → ℕ → ℕ → Word → Type 0
 AboveFrom A B p q [] = ⊥
 AboveFrom A B p q (false ∷ w) = ((q + 1) * A ≤ p * B) ⊎ AboveFrom A B (p + 1) q w
@@ -235,7 +238,7 @@ pub above-dec : (w : Word) → Above w ⊎ (Above w → ⊥)
 unfolding earliers laters
 above-dec w = ⊎-map (above-found w [] w refl) (λ n a. n (of-above w a)) (above-from-dec (earliers w) (laters w) 0 0 w)
 
--- Natural weights that put (p, q + 1) into the triangle of (p, q), (A, B) and (0, 0)
+-- Natural weights by which (p, q + 1) lies in the triangle of (p, q), (A, B) and (0, 0)
 pub record Triangle (p q A B : ℕ) : Type 0 where
   pub near : ℕ
   pub far : ℕ
@@ -244,7 +247,7 @@ pub record Triangle (p q A B : ℕ) : Type 0 where
   pub across : (near + far + start) * p ≡ near * p + far * A
   pub up : (near + far + start) * (q + 1) ≡ near * q + far * B
 
--- The weights are D - A, p and A - p, where D = p * B - q * A: they add up to D
+-- The weights are D - A, p and A - p, where D = p * B - q * A. Their sum is D
 pub above-triangle : (w : Word) (a : Above w) → Triangle (earliers (a .before)) (laters (a .before)) (earliers w) (laters w)
 unfolding earliers
 above-triangle w a = weights _ _ _ _ (omega (arith, ap earliers (a .split), earliers-append (a .before) (false ∷ a .after))) (a .over)

@@ -1,4 +1,5 @@
--- Duval's search reads on from copies of a Lyndon word p and a proper beginning q of it: a larger letter makes one longer Lyndon word, an equal one keeps the shape, a smaller one or the end settles the factor.
+-- Duval's search has read copies of a Lyndon word p and a proper prefix q of it. A larger letter makes everything one longer Lyndon word,
+-- an equal one keeps this form, and a smaller one or the end determines the factor.
 use Prim.Native.Nat.{ℕ, zero, suc, _+_, _<_}
 use native.Mathlib.Omega.{arith}
 use native.Mathlib.Nat.{zero-add, suc-add}
@@ -27,7 +28,7 @@ copies-add (suc j) k p = rw suc-add (append-assoc p (copies j p) (copies k p) �
 
 -- ---- (a) a larger letter
 
--- A beginning of a Lyndon word, with the later letter where the word has the earlier, is a Lyndon word
+-- A prefix of a Lyndon word, followed by the later letter where the word has the earlier, is a Lyndon word
 pub lyndon-raise : {p : Word} (q y : Word) → Lyndon p → p ≡ q ++ false ∷ y → Lyndon (q ++ true ∷ [])
 lyndon-raise {p} q y l e =
     lyndon-differences (q ++ true ∷ []) .1
@@ -36,7 +37,7 @@ lyndon-raise {p} q y l e =
       lower = λ u v f hu hv. cut u v hu hv (cuts q (true ∷ []) u v f);
     })
   where
-    -- t ++ false ∷ y is an end of p
+    -- t ++ false ∷ y is a suffix of p
     below : (u t : Word) → 0 < length u → q ≡ u ++ t → Differs p (t ++ false ∷ y)
     below u t hu f =
         lyndon-lower l u (t ++ false ∷ y) (e ∙ ap (λ (w : Word). w ++ false ∷ y) f ∙ append-assoc u t (false ∷ y)) hu (omega (arith, length-append t (false ∷ y)))
@@ -65,7 +66,7 @@ lyndon-raise {p} q y l e =
     cut u v hu hv (beyond [] f g) = subst (λ (w : Word). Differs (q ++ true ∷ []) w) g (go u [] hu (sym (append-nil u ∙ f ∙ append-nil q)) (compared q []))
     cut u v hu hv (beyond (a ∷ t) f g) = absurd (omega (arith, length-cut (a ∷ t) v g))
 
--- What a copy of p leads to: Lyndon and larger than p
+-- Copies of p followed by a larger Lyndon word: a Lyndon word larger than p
 lyndon-copies : (m : ℕ) {p g : Word} → Lyndon p → Lyndon g → Less p g → Lyndon (copies m p ++ g) × Less p (copies m p ++ g)
 unfolding copies
 lyndon-copies zero lp lg h = (lg, h)
@@ -79,7 +80,7 @@ lyndon-larger m {p} q y l e =
 
 -- ---- (b) the same letter
 
--- Either q with its next letter is still a proper beginning of p, or it is p, and there is one copy more
+-- Either q with its next letter is still a proper prefix of p, or it is p, and there is one more copy
 pub step-same : (m : ℕ) {p : Word} (q : Word) (b : Bool) (y : Word) → p ≡ q ++ b ∷ y → Begins (q ++ b ∷ []) p ⊎ ((q ++ b ∷ [] ≡ p) × (copies m p ++ (q ++ b ∷ []) ≡ copies (suc m) p))
 step-same m {p} q b [] e = inr (sym e, ap (λ (w : Word). copies m p ++ w) (sym e) ∙ copies-append m p)
 step-same m q b (c ∷ y) e = inl (record { next = c; rest = y; whole = e ∙ sym (append-assoc q (b ∷ []) (c ∷ y)) })

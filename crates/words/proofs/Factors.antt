@@ -1,4 +1,5 @@
--- Every word has exactly one falling factoring: Lyndon words in rising order join to a Lyndon word, and the first factor is the largest Lyndon beginning of the word.
+-- Every word has exactly one factorisation: increasing Lyndon words join to one Lyndon
+-- word, and the first factor is the largest Lyndon prefix.
 use Prim.Native.Nat.{ℕ, zero, suc, _<_}
 use native.Mathlib.Omega.{arith}
 use mathlib.Core.Path.{_≡_, refl, sym, ap, _∙_, subst}
@@ -13,11 +14,11 @@ use Rattle.words.proofs.Lyndon.{lyndon-differences, lyndon-single, leng
 
 -- ---- joining Lyndon words
 
--- The end of a Lyndon word differs from it
+-- A proper suffix of a Lyndon word differs from it at some letter
 pub lyndon-lower : {w : Word} → Lyndon w → (u v : Word) → w ≡ u ++ v → 0 < length u → 0 < length v → Differs w v
 lyndon-lower {w} l = lyndon-differences w .0 l .lower
 
--- A Lyndon word put before a larger one makes that one smaller
+-- A Lyndon word followed by a larger one is smaller than the larger one
 pub differs-join : {u v : Word} → Lyndon u → Lyndon v → Less u v → Differs (u ++ v) v
 differs-join {u} {v} lu lv (begins b) =
     let d : Differs v (b .next ∷ b .rest) = lyndon-lower lv u (b .next ∷ b .rest) (b .whole) (lu .some) (omega arith) in
@@ -37,13 +38,13 @@ lyndon-join {u} {v} lu lv l =
     go x y hx hy (beyond [] e f) = subst (λ (w : Word). Differs (u ++ v) w) f (differs-join lu lv l)
     go x y hx hy (beyond (a ∷ t) e f) = differs-trans (differs-join lu lv l) (lyndon-lower lv (a ∷ t) y f (omega arith) hy)
 
--- A Lyndon word swallows all copies of a larger one
+-- A Lyndon word absorbs all copies of a larger one
 pub lyndon-join-copies : (k : ℕ) {u v : Word} → Lyndon u → Lyndon v → Less u v → Lyndon (u ++ copies k v)
 unfolding copies
 lyndon-join-copies zero {u} {v} lu lv l = rw append-nil lu
 lyndon-join-copies (suc k) {u} {v} lu lv l = rw (← append-assoc u v (copies k v)) (lyndon-join-copies k (lyndon-join lu lv l) lv (differs (differs-join lu lv l)))
 
--- ---- there is a falling factoring
+-- ---- a factorisation exists
 
 push-less : (s : Word) (f : Factor) (fs : List Factor) → less s (f .word) ≡ true → push s (f ∷ fs) ≡ push (s ++ copies (f .times) (f .word)) fs
 unfolding push
@@ -73,11 +74,11 @@ falling-more : {f : Factor} {fs : List Factor} → Falling (f ∷ fs) → Fallin
 falling-more {f} (last p) = last (proper-suc (f .times) (p .lyndon))
 falling-more {f} (then p l h) = then (proper-suc (f .times) (p .lyndon)) l h
 
--- What is neither smaller nor the same is larger
+-- A word that is neither smaller nor equal is larger
 larger-of-tests : (u v : Word) → less u v ≡ false → same u v ≡ false → Less v u
 larger-of-tests u v e d = ⊎-elim (λ l. absurd (false≢true (sym e ∙ less-iff u v .1 l))) (⊎-elim (λ p. absurd (false≢true (sym d ∙ same-iff u v .1 p))) (λ l. l)) (compare-words u v)
 
--- A Lyndon word put in front of a falling factoring
+-- A Lyndon word in front of a factorisation
 pub factoring-push : (fs : List Factor) (s : Word) → Lyndon s → Falling fs → Factoring (s ++ written fs) (push s fs)
 unfolding push written copies
 factoring-push [] s l h = record { falling = last (proper-suc 0 l); whole = simp append-nil }
@@ -110,7 +111,7 @@ factors-exist (a ∷ w) =
 
 -- ---- there is only one
 
--- u is v or smaller
+-- u is smaller than v or equal to it
 abbrev pub AtMost : Word → Word → Type 0
 AtMost u v = (u ≡ v) ⊎ Less u v
 
@@ -131,7 +132,7 @@ at-most-antisymm (inl e) m = e
 at-most-antisymm (inr l) (inl e) = sym e
 at-most-antisymm (inr l) (inr k) = absurd (less-asymm l k)
 
--- The word g ends in a part that is at most h
+-- The word g has a suffix that is at most h
 record Ends (g h : Word) : Type 0 where
   before : Word
   part : Word
@@ -163,7 +164,8 @@ unfolding written
 ends-falling {f} (last p) h m = ends-copies (f .times) (f .word) [] h m (λ g t e some. absurd (omega (arith, length-cut g t e)))
 ends-falling {f} (then {g = f′} {fs} p l k) h m = ends-copies (f .times) (f .word) (written (f′ ∷ fs)) h m (ends-falling k h (inr (less-of-less-of-at-most l m)))
 
--- The first factor is the largest Lyndon beginning: a longer one would end in a part that is at most the first factor, and larger than itself
+-- The first factor is the largest Lyndon prefix: a longer one would have a suffix that
+-- is at most the first factor, and so smaller than itself
 pub first-largest : {f : Factor} {fs : List Factor} → Falling (f ∷ fs) → (g t : Word) → Lyndon g → written (f ∷ fs) ≡ g ++ t → AtMost g (f .word)
 first-largest {f} {fs} h g t l e = let i : Ends g (f .word) = ends-falling h (f .word) (inl refl) g t e (l .some) in go (i .before) (i .part) (i .whole) (i .some) (i .small)
   where
@@ -171,7 +173,7 @@ first-largest {f} {fs} h g t l e = let i : Ends g (f .word) = ends-falling h (f 
     go [] s d some m = at-most-trans (inl d) m
     go (a ∷ x) s d some m = inr (less-of-less-of-at-most (differs (lyndon-lower l (a ∷ x) s d (omega arith) some)) m)
 
--- What is written begins with the first factor
+-- The word starts with its first factor
 pub written-first : {f : Factor} {fs : List Factor} → Falling (f ∷ fs) → (t : Word) × (written (f ∷ fs) ≡ f .word ++ t)
 unfolding written copies
 written-first {f} {fs} h = go (f .times) (falling-head h .repeated)
@@ -180,13 +182,13 @@ written-first {f} {fs} h = go (f .times) (falling-head h .repeated)
     go zero some = absurd (omega arith)
     go (suc k) some = (copies k (f .word) ++ written fs, append-assoc (f .word) (copies k (f .word)) (written fs))
 
--- Behind its copies the first factor does not come once more
+-- After its copies the first factor does not occur once more
 not-once-more : {f : Factor} {fs : List Factor} → Falling (f ∷ fs) → (t : Word) → written fs ≡ f .word ++ t → ⊥
 unfolding written
 not-once-more {f} (last p) t e = omega (arith, length-cut (f .word) t e, p .lyndon .some)
 not-once-more {f} (then p l h) t e = less-irrefl _ (less-of-less-of-at-most l (first-largest h (f .word) t (p .lyndon) e))
 
--- Copies that end on both sides are equally many
+-- If neither rest starts with p, the number of copies of p before it is determined
 copies-unique :
     (k m : ℕ) (p r s : Word)
     → ((t : Word) → r ≡ p ++ t → ⊥)
@@ -203,7 +205,7 @@ copies-unique (suc k) (suc m) p r s hr hs e =
     in
     (ap suc (i .0), i .1)
 
--- Of two factorings of one word the first factor of the one is at most that of the other
+-- Of two factorisations of a word, each first factor is at most the other
 first-at-most : {f g : Factor} {fs gs : List Factor} → Falling (f ∷ fs) → Falling (g ∷ gs) → written (f ∷ fs) ≡ written (g ∷ gs) → AtMost (g .word) (f .word)
 first-at-most {f} {g} hf hg e = let w = written-first hg in first-largest hf (g .word) (w .0) (falling-head hg .lyndon) (e ∙ w .1)
 
@@ -230,13 +232,13 @@ factors-unique w fs gs f g = falling-unique fs gs (f .falling) (g .falling) (f .
 pub factors-of : (w : Word) (fs : List Factor) → Factoring w fs → factorsOf w ≡ fs
 factors-of w fs f = factors-unique w (factorsOf w) fs (factors-exist w) f
 
--- ---- the first factor, found
+-- ---- the first factor is what the search finds
 
--- Why the search for copies of p stops before r: r is a proper beginning of p, or has the earlier letter where p has the later. That is: r is smaller
+-- Why the search for copies of p stops at r: r is a proper prefix of p, or has the earlier letter where p has the later. So r is smaller
 abbrev pub Stops : Word → Word → Type 0
 Stops p r = Less r p
 
--- Then the first factor of r, a beginning of r, is smaller than p too
+-- Then the first factor of r, a prefix of r, is smaller than p too
 falling-before : {p : Word} {k : ℕ} (fs : List Factor) → Lyndon p → 0 < k → Stops p (written fs) → Falling fs → Falling (record { word = p; times = k } ∷ fs)
 falling-before [] l some s h = last (record { lyndon = l; repeated = some })
 falling-before (f ∷ fs) l some s h =

@@ -1,4 +1,5 @@
--- Duval's search, letter by letter: what was read stays some copies of a Lyndon word and a proper beginning of it, and where the search stops these copies are the first factor. The first j - i letters are one copy, so their later letters are its own.
+-- Duval's search, letter by letter: the letters read are always copies of a Lyndon word and a proper prefix of it, and at the stop these
+-- copies are the first factor. The first j - i letters are one copy, so their later letters are counted for it.
 use Prim.Native.Nat.{ℕ, zero, suc, _+_, _-_, _*_, _/_, _≤_, _<_}
 use native.Mathlib.Nat.{div-eq-of-lt-le}
 use native.Mathlib.Omega.{arith}
@@ -19,7 +20,7 @@ use Rattle.words.proofs.Factors.{Stops, factors-first}
 use Rattle.words.proofs.Counts.{length-copies, laters-take-suc}
 use Rattle.words.proofs.Duval.{copies-append, lyndon-larger, step-same, stops-at-end, stops-at-smaller}
 
--- j letters of w are read: `times` copies of a Lyndon word and a proper beginning of it. Letter i is the one that comes next in that word
+-- j letters of w are read: `times` copies of a Lyndon word and a proper prefix of it. Letter i is the next letter in that word
 pub record Read (w : Word) (i j : ℕ) : Type 0 where
   pub word : Word
   pub times : ℕ
@@ -33,7 +34,7 @@ pub record Read (w : Word) (i j : ℕ) : Type 0 where
   pub gap : i + length word ≡ j
   pub within : j ≤ length w
 
--- A word with a letter has a first one
+-- A word that is not empty has a first letter
 first-letter : (p : Word) → 0 < length p → (a : Bool) × (u : Word) × (p ≡ [] ++ a ∷ u)
 first-letter [] h = absurd (omega arith)
 first-letter (a ∷ u) h = (a, u, refl)
@@ -63,7 +64,7 @@ read-start [] h = absurd (omega arith)
 read-start (a ∷ w) h = read-copies (a ∷ []) 1 (lyndon-single a) (omega arith) refl (omega arith) (omega arith)
 
 module _ {w : Word} {i j : ℕ} (r : Read w i j) where
-  -- What was read, and what follows
+  -- The letters read, and the rest
   read-whole : w ≡ copies (r .times) (r .word) ++ (r .begun ++ drop j w)
   read-whole =
       sym (take-append-drop j w) ∙ ap (λ (u : Word). u ++ drop j w) (r .front) ∙ append-assoc (copies (r .times) (r .word)) (r .begun) (drop j w)
@@ -80,7 +81,7 @@ module _ {w : Word} {i j : ℕ} (r : Read w i j) where
   begun-lt : length (r .begun) < length (r .word)
   begun-lt = omega (arith, length-cut (r .begun) (r .next ∷ r .rest) (r .proper))
 
--- One copy back from the end stands the letter that comes next
+-- The next letter of the word is the letter one copy before the end
 letter-back :
     (m : ℕ) {p : Word} (q : Word) (b : Bool) (y t : Word) (i : ℕ)
     → 0 < m
@@ -98,7 +99,7 @@ letter-back (suc k) {p} q b y t i h e g = ap (λ (u : Word). getD u i false) cut
     here : length (copies k p ++ q) ≡ i
     here = omega (arith, length-append (copies k p) q, length-copies k p)
 
--- Copies begin with one
+-- Several copies start with one
 copies-first : (m : ℕ) (p t : Word) → 0 < m → (u : Word) × (copies m p ++ t ≡ p ++ u)
 unfolding copies
 copies-first zero p t h = absurd (omega arith)
@@ -110,14 +111,14 @@ module _ {w : Word} {i j : ℕ} (r : Read w i j) where
       ap (λ (u : Word). getD u i false) (read-whole r)
       ∙ letter-back (r .times) (r .begun) (r .next) (r .rest) (r .begun ++ drop j w) i (r .some) (r .proper) (omega (arith, r .gap, read-length r))
 
-  -- Letter j read too
+  -- With letter j read too
   read-more : j < length w → take (suc j) w ≡ copies (r .times) (r .word) ++ (r .begun ++ getD w j false ∷ [])
   read-more h =
       take-suc w j false h
       ∙ ap (λ (u : Word). u ++ getD w j false ∷ []) (r .front)
       ∙ append-assoc (copies (r .times) (r .word)) (r .begun) (getD w j false ∷ [])
 
-  -- The same letter: the search reads on in the same word
+  -- The same letter: the search continues in the same word
   pub read-same : j < length w → getD w i false ≡ getD w j false → Read w (suc i) (suc j)
   read-same h e = ⊎-elim on whole (step-same (r .times) (r .begun) (r .next) (r .rest) (r .proper))
     where
@@ -143,7 +144,7 @@ module _ {w : Word} {i j : ℕ} (r : Read w i j) where
       whole : (r .begun ++ r .next ∷ [] ≡ r .word) × (copies (r .times) (r .word) ++ (r .begun ++ r .next ∷ []) ≡ copies (suc (r .times)) (r .word)) → Read w (suc i) (suc j)
       whole s = read-copies (r .word) (suc (r .times)) (r .lyndon) (omega arith) (front ∙ s .1) (omega (arith, r .gap)) h
 
-  -- A larger letter: all that was read is one Lyndon word
+  -- A larger letter: everything read is one Lyndon word
   pub read-larger : j < length w → getD w i false ≡ false → getD w j false ≡ true → Read w 0 (suc j)
   unfolding copies
   read-larger h e f =
@@ -153,14 +154,14 @@ module _ {w : Word} {i j : ℕ} (r : Read w i j) where
       let p : take (suc j) w ≡ copies (r .times) (r .word) ++ (r .begun ++ true ∷ []) = rw f at (read-more h) in
       read-copies (take (suc j) w) 1 (rw p l) (omega arith) (sym (append-nil (take (suc j) w))) (omega (arith, length-take-le (suc j) w h)) h
 
-  -- One period is the beginning of j - i letters
+  -- One period is the prefix of j - i letters
   read-period : take (j - i) w ≡ r .word
   read-period =
       let p : j - i ≡ length (r .word) = omega (arith, r .gap) in
       let c = copies-first (r .times) (r .word) (r .begun ++ drop j w) (r .some) in
       rw p (ap (λ (u : Word). take (length (r .word)) u) (read-whole r ∙ c .1) ∙ take-append-seam (r .word) (c .0))
 
-  -- Where the search stops, the copies are the first factor
+  -- At the stop the copies are the first factor
   found :
       Stops (r .word) (r .begun ++ drop j w)
       → firstOf (factorsOf w) ≡ record { length = j - i; times = j / (j - i); laters = laters (take (j - i) w) }
@@ -185,9 +186,9 @@ module _ {w : Word} {i j : ℕ} (r : Read w i j) where
   found-at-smaller h e f =
       found (rw (drop-cons w j false h, f) (stops-at-smaller (r .begun) (r .rest) (drop (suc j) w) (rw (← e, read-letter) (r .proper))))
 
--- ---- in a list of letters, from a place on
+-- ---- in a list of letters, from an index on
 
--- i and j are places of the list; of all letters read `all` are the later one, and `one` of those of one period
+-- i and j are indices of the list; `all` of the letters read are the later one, and `one` of those in one period
 pub record Search (l : List ℕ) (from later i j all one : ℕ) : Type 0 where
   pub start : from ≤ i
   pub ahead : i < j
@@ -197,7 +198,7 @@ pub record Search (l : List ℕ) (from later i j all one : ℕ) : Type 0 where
   pub period : one ≡ laters (take (j - i) (wordOf later (drop from l)))
   pub read : Read (wordOf later (drop from l)) (i - from) (j - from)
 
--- The two ranks tell the letters
+-- The two ranks tell the letters apart
 rank-lt : (a b : Bool) → rank a < rank b → (a ≡ false) × (b ≡ true)
 rank-lt false false h = absurd (omega arith)
 rank-lt false true h = (refl, refl)
@@ -220,7 +221,7 @@ rank-le : (a : Bool) → rank a ≤ 1
 rank-le false = omega arith
 rank-le true = omega arith
 
--- The word that follows a place: its length, and its letters
+-- The word from an index on: its length, and its letters
 length-after : (l : List ℕ) (from later : ℕ) → length (wordOf later (drop from l)) ≡ length l - from
 length-after l from later = length-wordOf later (drop from l) ∙ length-drop from l
 
@@ -230,7 +231,7 @@ letter-after l from later i p h =
     letter-wordOf later (drop from l) (i - from) (omega (arith, length-drop from l))
     ∙ rw (getD-drop from l (i - from) 0, e)
 
--- A letter read adds its rank to the count
+-- Reading a letter adds its rank to the count
 laters-one : (a : Bool) → laters (a ∷ []) ≡ rank a
 unfolding laters
 laters-one false = refl
@@ -281,7 +282,7 @@ module _ {l : List ℕ} {from later i j all one : ℕ} (s : Search l from later 
   inside : j < length l → j - from < length (wordOf later (drop from l))
   inside h = omega (arith, s .start, s .ahead, length-after l from later)
 
-  -- Letter j counted too
+  -- With letter j counted too
   more : j < length l → all + rankOf (getD l j 0) later ≡ laters (take (j + 1 - from) (wordOf later (drop from l)))
   more h = omega (arith, s .whole, laters-after l from later j (omega (arith, s .start, s .ahead)) h)
 
@@ -325,7 +326,7 @@ module _ {l : List ℕ} {from later i j all one : ℕ} (s : Search l from later 
         read = read-at (omega (arith, s .start)) (omega (arith, s .start, s .ahead)) (read-same (s .read) (inside h) (here ∙ p ∙ sym (there h)));
       }
 
-  -- The answer, where the search stops
+  -- The answer when the search stops
   answer :
       firstOf (factorsOf (wordOf later (drop from l)))
       ≡ record {
@@ -348,7 +349,8 @@ module _ {l : List ℕ} {from later i j all one : ℕ} (s : Search l from later 
       let p = rank-lt (eqb (getD l j 0) later) (eqb (getD l i 0) later) k in
       answer (found-at-smaller (s .read) (inside h) (here ∙ p .1) (there h ∙ p .0))
 
-  -- The four pairs of letters, as the code tells them apart: the same letter, a later one after another, another after a later one, and two others
+  -- The four pairs of letters as the code distinguishes them: equal letters, a later one
+  -- after another, another after a later one, and two others
   pub pair-same : j < length l → getD l i 0 ≡ getD l j 0 → Search l from later (i + 1) (j + 1) (all + rankOf (getD l j 0) later) one
   pair-same h e = let f = ap (λ (a : ℕ). rankOf a later) e in search-same h (omega arith) (omega arith)
 
@@ -373,7 +375,7 @@ module _ {l : List ℕ} {from later i j all one : ℕ} (s : Search l from later 
       let b = rank-other (getD l j 0) later m in
       search-smaller h (omega arith)
 
--- Nothing follows the list's end
+-- After the list's end there are no letters
 pub search-none :
     (l : List ℕ) (from later : ℕ) → length l ≤ from → record { length = 0; times = 0; laters = 0 } ≡ firstOf (factorsOf (wordOf later (drop from l)))
 unfolding wordOf factorsOf firstOf

@@ -1,5 +1,5 @@
--- Computed words; the order, Lyndon words and their one factoring; counts of letters, Christoffel words, the dent criterion and words from
--- counts; the searches.
+-- Computed words; the order, Lyndon words and their unique factorisation; counts of letters, Christoffel words, the dent criterion and
+-- words from counts; the searches.
 pub mod Checked
 pub mod Order
 pub mod Lyndon

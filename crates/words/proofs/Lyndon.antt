@@ -1,4 +1,5 @@
--- A word is smaller than its rotations exactly if it differs from each of its ends: were an end also a beginning, the two rotations that it gives would each be smaller than the other.
+-- A word is smaller than its other rotations exactly if it differs from each of its proper suffixes: if a suffix were also a prefix, each
+-- of the two rotations that it gives would be smaller than the other.
 use Prim.Native.Nat.{ℕ, _+_, _<_}
 use native.Mathlib.Omega.{arith}
 use mathlib.Core.Path.{_≡_, sym, ap, _∙_, subst}
@@ -11,21 +12,21 @@ use Rattle.words.specs.Word.{Word, Less, differs, Differs}
 use Rattle.words.specs.Lyndon.{Lyndon, rotation}
 use Rattle.words.proofs.Order.{Compared, lower, higher, shorter, longer, compared, less-asymm, less-cancel, differs-append, differs-append-left, differs-append-right, differs-of-less}
 
--- Smaller than each of its proper ends
+-- Smaller than each of its proper suffixes
 pub record BySuffixes (w : Word) : Type 0 where
   pub some : 0 < length w
   pub smaller : (u v : Word) → w ≡ u ++ v → 0 < length u → 0 < length v → Less w v
 
--- The earlier letter at a first difference from each of its proper ends: no end is a beginning
+-- Each proper suffix first differs from the word where the word has the earlier letter: no suffix is a prefix
 pub record ByDifferences (w : Word) : Type 0 where
   pub some : 0 < length w
   pub lower : (u v : Word) → w ≡ u ++ v → 0 < length u → 0 < length v → Differs w v
 
--- The lengths of a cut word
+-- The lengths of the two parts of a word
 pub length-cut : {w : Word} (u v : Word) → w ≡ u ++ v → length w ≡ length u + length v
 length-cut u v e = ap length e ∙ length-append u v
 
--- The rotation that begins behind u
+-- The rotation that starts after u
 pub rotation-append : (u v : Word) → rotation (length u) (u ++ v) ≡ v ++ u
 unfolding rotation
 rotation-append u v = simp (take-append-seam, drop-append-seam)
@@ -61,7 +62,7 @@ lyndon-of-suffixes w b = record { some = b .some; least = λ i h k. differs (dif
         (b .smaller (take i w) (drop i w) (sym (take-append-drop i w)) (omega (arith, length-take-le i w (omega arith))) (omega (arith, length-drop i w)))
         (omega (arith, length-drop i w))
 
--- Smaller than every other rotation, and smaller than every proper end, are one
+-- Smaller than every other rotation, and smaller than every proper suffix, are equivalent
 pub lyndon-suffixes : (w : Word) → Lyndon w ↔ BySuffixes w
 lyndon-suffixes w = (λ l. suffixes-of-differences w (differences-of-lyndon w l), lyndon-of-suffixes w)
 

@@ -9,9 +9,9 @@ use lib.ListN.{length, length-append}
 use Rattle.words.specs.Word.{Word, Less, begins, differs, Differs, Begins, less}
 use Rattle.words.specs.Lyndon.{same}
 
--- ---- beginnings and first differences
+-- ---- prefixes and first differences
 
--- A first difference stays one behind a common beginning
+-- A first difference is kept after a common prefix
 pub differs-prepend : (x : Word) {u v : Word} → Differs u v → Differs (x ++ u) (x ++ v)
 differs-prepend x d =
     record {
@@ -34,7 +34,7 @@ pub less-prepend : (x : Word) {u v : Word} → Less u v → Less (x ++ u) (x ++ 
 less-prepend x (begins b) = begins (begins-prepend x b)
 less-prepend x (differs d) = differs (differs-prepend x d)
 
--- A first difference stays one whatever follows
+-- A first difference is kept whatever follows
 pub differs-append : {u v : Word} (a b : Word) → Differs u v → Differs (u ++ a) (v ++ b)
 differs-append a b d =
     record {
@@ -62,7 +62,7 @@ less-of-test (false ∷ u) (true ∷ v) e = differs (record { same = []; low = u
 less-of-test (true ∷ u) (false ∷ v) e = absurd (false≢true e)
 less-of-test (true ∷ u) (true ∷ v) e = less-prepend (true ∷ []) (less-of-test u v e)
 
--- A common beginning does not count
+-- A common prefix does not matter
 less-cancel-test : (x u v : Word) → less (x ++ u) (x ++ v) ≡ less u v
 unfolding less
 less-cancel-test [] u v = refl
@@ -113,7 +113,7 @@ less-cancel x u v = (λ l. less-of-test u v (sym (less-cancel-test x u v) ∙ te
 
 -- ---- how two words compare
 
--- Two words differ at a letter, or one is a beginning of the other
+-- Two words differ at a letter, or one is a prefix of the other
 pub data Compared (u v : Word) : Type 0 where
   lower : Differs u v → Compared u v
   higher : Differs v u → Compared u v
@@ -134,7 +134,7 @@ compared (false ∷ u) (true ∷ v) = lower (record { same = []; low = u; high =
 compared (true ∷ u) (false ∷ v) = higher (record { same = []; low = v; high = u; left = refl; right = refl })
 compared (true ∷ u) (true ∷ v) = compared-cons true (compared u v)
 
--- A beginning is equal or smaller
+-- A prefix is equal or smaller
 pub prefix-cases : {u v : Word} (t : Word) → v ≡ u ++ t → (u ≡ v) ⊎ Less u v
 prefix-cases {u} [] e = inl (sym (e ∙ append-nil u))
 prefix-cases (b ∷ t) e = inr (begins (record { next = b; rest = t; whole = e }))
@@ -152,7 +152,7 @@ compare-words u v = go (compared u v)
     go (shorter t e) = ⊎-elim (λ p. inr (inl p)) (λ l. inl l) (prefix-cases t e)
     go (longer t e) = ⊎-elim (λ p. inr (inl (sym p))) (λ l. inr (inr l)) (prefix-cases t e)
 
--- What is smaller and not shorter differs at a letter
+-- A word that is smaller and not shorter differs at a letter
 pub differs-of-less : {u v : Word} → Less u v → length v ≤ length u → Differs u v
 differs-of-less {u} (begins b) h = absurd (omega (arith, simp length-append at (ap length (b .whole))))
 differs-of-less (differs d) h = d
@@ -166,7 +166,7 @@ differs-trans {u} {v} {w} d e = go (compared u w)
     go (shorter t f) = absurd (less-asymm (differs e) (differs (subst (λ (x : Word). Differs x v) (sym f) (differs-append-left t d))))
     go (longer t f) = absurd (less-asymm (differs d) (differs (subst (λ (x : Word). Differs v x) (sym f) (differs-append-right t e))))
 
--- ---- sameness
+-- ---- equality
 
 same-refl : (u : Word) → same u u ≡ true
 unfolding same
@@ -187,9 +187,9 @@ eq-of-same (true ∷ u) (true ∷ v) e = ap {B = Word} (λ w. true ∷ w) (eq-of
 pub same-iff : (u v : Word) → (same u v ≡ true) ↔ (u ≡ v)
 same-iff u v = (eq-of-same u v, λ e. subst (λ (w : Word). same u w ≡ true) e (same-refl u))
 
--- ---- two ways to cut one word
+-- ---- two ways to split a word
 
--- Where u ++ v is also x ++ y: the second cut lies strictly inside u, or at its end or beyond it
+-- If u ++ v is x ++ y: the second split lies strictly inside u, or at its end or after it
 pub data Cuts (u v x y : Word) : Type 0 where
   inside : (a : Bool) (t : Word) → u ≡ x ++ a ∷ t → y ≡ a ∷ t ++ v → Cuts u v x y
   beyond : (t : Word) → x ≡ u ++ t → v ≡ t ++ y → Cuts u v x y

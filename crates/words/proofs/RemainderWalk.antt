@@ -1,4 +1,5 @@
--- The Christoffel test in one pass: the remainder of i·k is kept by steps of k, and k shares a divisor with n exactly if a remainder before the last is 0.
+-- The Christoffel test in one pass: the remainder of i·k is updated in steps of k, and k and n have a common divisor exactly if a
+-- remainder before the last is 0.
 use Prim.Native.Nat.{ℕ, zero, suc, _+_, _-_, _*_, _/_, _%_, _≤_, _<_}
 use native.Mathlib.Nat.{zero-mul, suc-mul, mul-zero, mul-assoc, mul-comm, zero-mod, mod-lt, mod-eq-of-lt, mod-eq-sub-mod, mod-add-mod, mul-mod-left, mod-add-div', mul-le-mul-right}
 use native.Mathlib.Numerals.{add-one}
@@ -28,7 +29,7 @@ remainder-above r k n h l m =
     let e : r - (n - k) ≡ r + k - n = omega arith in
     e ∙ sym (mod-eq-sub-mod {n = r + k} {m = n} (omega arith) ∙ mod-eq-of-lt (omega arith))
 
--- ---- a shared divisor
+-- ---- a common divisor
 
 -- A multiple of k below n·k that n divides
 not-coprime : (k n i : ℕ) → 0 < i → i < n → i * k % n ≡ 0 → coprime k n ≡ false
@@ -41,7 +42,7 @@ not-coprime k n i p l e = go (coprime k n) refl
         (coprime-no-multiple k n i (i * k / n) (coprime-iff k n (omega arith) .0 q) p l
         (omega (arith, mod-add-div' (i * k) n)))
 
--- With a divisor d of k and n, the n / d-th remainder is 0
+-- If d divides k and n, remainder n / d is 0
 coprime-of-remainders : (k n : ℕ) → 0 < n → ((i : ℕ) → 0 < i → i < n → i * k % n ≡ 0 → ⊥) → Coprime k n
 unfolding Coprime
 coprime-of-remainders k n pos h d a zero p q = absurd (omega (arith, mul-zero d))
@@ -56,13 +57,13 @@ coprime-of-remainders k n pos h d a (suc b) p q =
           absurd (h (suc b) (omega arith) (omega (arith, mul-le-mul-right (suc b) m)) (ap (λ (x : ℕ). x % n) e ∙ mul-mod-left a n))
     ]
 
--- ---- the walk
+-- ---- the pass over the letters
 
--- What the test asks of letter i
+-- The test of letter i
 abbrev fits : Word → ℕ → ℕ → ℕ → Bool
 fits w k n i = Bool·beq (not (getD w i false)) (ltb (i * k % n) (suc i * k % n))
 
--- i letters of the list are passed, and r is the remainder that they leave
+-- i letters of the list have passed, and r is the remainder after them
 pub record Walked (l : List ℕ) (later k i r : ℕ) : Type 0 where
   pub small : r < length l
   pub remainder : r ≡ i * k % length l
@@ -88,7 +89,7 @@ and-false : (a : Bool) → (a && false) ≡ false
 and-false false = refl
 and-false true = refl
 
--- One that fails is enough
+-- One failure is enough
 every-false : (f : ℕ → Bool) (n i : ℕ) → i < n → f i ≡ false → every f n ≡ false
 every-false f n i l e = go (every f n) refl
   where
@@ -120,7 +121,7 @@ module _ {l : List ℕ} {later k i r : ℕ} (s : Walked l later k i r) where
         apart = λ j m p q. elim (below-suc j i (omega arith)) [ inl d ↦ z (omega arith) (s .remainder ∙ rw d at q) | inr t ↦ s .apart j m t q ];
       }
 
-  -- A letter that does not fit
+  -- A letter that fails
   pub walked-misfit :
       (next : ℕ)
       → i < length l
@@ -135,7 +136,7 @@ module _ {l : List ℕ} {later k i r : ℕ} (s : Walked l later k i r) where
   pub walked-zero : i < length l → 0 < i → r ≡ 0 → false ≡ (coprime k (length l) && remainders (wordOf later l) k (length l))
   walked-zero h p e = rw (not-coprime k (length l) i p h (sym (s .remainder) ∙ e))
 
-  -- Every letter passed
+  -- Every letter has passed
   pub walked-end : 0 < length l → i ≡ length l → true ≡ (coprime k (length l) && remainders (wordOf later l) k (length l))
   unfolding remainders
   walked-end h e =

@@ -1,4 +1,5 @@
--- A Christoffel word is the lattice path nearest under its chord, since its prefixes are counted by floors; so larger words have larger slopes, and its rotations lie above it.
+-- A Christoffel word is the lattice path closest under its chord, since its prefixes are counted by floors; so larger words have larger
+-- slopes, and its rotations lie above it.
 use Prim.Native.Nat.{ℕ, zero, suc, _+_, _-_, _*_, _≤_, _<_}
 use mathlib.Core.Path.{_≡_, refl, sym, ap, _∙_}
 use mathlib.Core.Bool.{Bool, true, false}
@@ -15,7 +16,7 @@ use Rattle.words.proofs.Counts.{earliers-laters, laters-append, laters-
 use Rattle.words.proofs.Coprime.{coprime-no-multiple}
 use Rattle.words.proofs.Christoffel.{Floors, christoffel-floors}
 
--- The floors as inequalities: no prefix is above the chord, and one later letter more is
+-- The floors as inequalities: no prefix ends above the chord, and with one more later letter it would
 module _ (w : Word) (f : Floors w) (i : ℕ) (l : i ≤ length w) where
   pub floor-le : laters (take i w) * length w ≤ i * laters w
   floor-le = rw (f .count i l) (div-mul-le-self (i * laters w) (length w))
@@ -23,7 +24,7 @@ module _ (w : Word) (f : Floors w) (i : ℕ) (l : i ≤ length w) where
   pub floor-lt : i * laters w < laters (take i w) * length w + length w
   floor-lt = rw (f .count i l) (lt-div-mul-add {a = i * laters w} (f .some))
 
--- A proper prefix is strictly under the chord
+-- A proper prefix ends strictly under the chord
 pub floor-strict : (w : Word) → Floors w → (i : ℕ) → 0 < i → i < length w → laters (take i w) * length w < i * laters w
 floor-strict w f i pos less =
     elim (decLt (laters (take i w) * length w) (i * laters w)) [
@@ -32,7 +33,7 @@ floor-strict w f i pos less =
           absurd (coprime-no-multiple (laters w) (length w) i (laters (take i w)) (f .coprime) pos less (omega (arith, floor-le w f i (omega arith))))
     ]
 
--- The same in the two letters: the prefix has i letters, and the word n
+-- The same in terms of the two letters: the prefix has i letters and the word n
 module _ (w : Word) (c : Christoffel w) (i : ℕ) (l : i ≤ length w) where
   prefix : earliers (take i w) * laters w + laters (take i w) * laters w ≡ i * laters w
   prefix = omega (arith, ap (λ (x : ℕ). x * laters w) (counts-take i w l))
@@ -47,7 +48,7 @@ module _ (w : Word) (c : Christoffel w) (i : ℕ) (l : i ≤ length w) where
   pub near-chord : earliers (take i w) * laters w < (laters (take i w) + 1) * earliers w + laters w
   near-chord = omega (arith, prefix, whole, earliers-laters w, floor-lt w (christoffel-floors w .0 c) i l)
 
--- The slope is the same compared by the later letters among all
+-- Slopes can be compared by the share of later letters among all letters
 slope-of-lengths : (u v : Word) → laters v * length u < laters u * length v → laters v * earliers u < laters u * earliers v
 slope-of-lengths u v h =
     omega (
@@ -56,14 +57,14 @@ slope-of-lengths u v h =
       ap (λ (x : ℕ). laters u * x) (earliers-laters v),
     )
 
--- The prefix up to a letter, and that letter
+-- The prefix up to a letter, and with that letter
 count-at : (s t : Word) (a : Bool) (w : Word) → w ≡ s ++ a ∷ t → laters (take (length s + 1) w) ≡ laters s + laters (a ∷ [])
 count-at s t a w e = ap (λ (x : Word). laters (take (length s + 1) x)) e ∙ ap laters (take-append-add s (a ∷ t) 1) ∙ laters-append s (a ∷ [])
 
 length-at : (s t : Word) (a : Bool) (w : Word) → w ≡ s ++ a ∷ t → length s + 1 ≤ length w
 length-at s t a w e = omega (arith, ap length e, length-append s (a ∷ t))
 
--- Two slopes apart, with the point of i steps and b + 1 later letters between them
+-- Two slopes are separated by the point of i steps and b + 1 later letters
 between : (i b k n k′ n′ : ℕ) → (b + 1) * n ≤ i * k → i * k′ < b * n′ + n′ → 0 < n → k′ * n < k * n′
 between i b k n k′ n′ h h′ pos =
     lt-of-mul-lt-mul-left i (omega (arith, mul-le-mul-right n′ h, mul-lt-mul-of-pos-right {k = n} h′ pos))
@@ -108,7 +109,7 @@ less-cons a u v (differs d) =
       right = ap (λ (x : Word). a ∷ x) (d .right);
     })
 
--- A word whose prefixes have no more later letters, and one of them fewer, is smaller
+-- A word is smaller if none of its prefixes has more later letters, and one has fewer
 pub less-of-counts : (m : ℕ) (u v : Word) → ((j : ℕ) → j ≤ m → laters (take j u) ≤ laters (take j v)) → laters (take m u) < laters (take m v) → Less u v
 unfolding laters
 less-of-counts zero u v h l = absurd (omega arith)
@@ -120,7 +121,7 @@ less-of-counts (suc m) (false ∷ u) (false ∷ v) h l = less-cons false u v (le
 less-of-counts (suc m) (true ∷ u) (true ∷ v) h l =
     less-cons true u v (less-of-counts m u v (λ j p. omega (arith, h (suc j) (omega arith))) (omega arith))
 
--- The rotation that begins at letter i is counted by differences of floors, which are no smaller than the floors
+-- The rotation that starts at letter i is counted by differences of floors, which are at least the floors
 module _ (w : Word) (f : Floors w) (i : ℕ) where
   turned : (j : ℕ) → i + j ≤ length w → laters (take i w) + laters (take j (rotation i w)) ≡ laters (take (i + j) w)
   unfolding rotation

@@ -1,4 +1,5 @@
--- A walk over the factors, one after the other: the rest of the factors are the factors of the rest, because a falling list of Lyndon words is the factoring of what it writes.
+-- A loop over the factors: the remaining factors are the factors of the rest of the word, because decreasing Lyndon words are the
+-- factorisation of the word that they spell.
 use Prim.Native.Nat.{ℕ, _+_, _*_, _≤_, _<_}
 use native.Mathlib.Nat.{mul-le-mul-right}
 use native.Mathlib.Omega.{arith}
@@ -19,7 +20,7 @@ use Rattle.words.proofs.Factors.{factors-exist, factors-of, falling-hea
 
 -- ---- in a word
 
--- A word with a letter has a first factor
+-- A word that is not empty has a first factor
 pub record Head (w : Word) : Type 0 where
   pub first : Factor
   pub others : List Factor
@@ -37,7 +38,7 @@ module _ (w : Word) (f : Factor) (fs : List Factor) (e : factorsOf w ≡ f ∷ f
   factoring : Factoring w (f ∷ fs)
   factoring = rw e at (factors-exist w)
 
-  -- A Lyndon word, repeated at least once
+  -- It is a Lyndon word, repeated at least once
   pub first-proper : Proper f
   first-proper = falling-head (factoring .falling)
 
@@ -47,7 +48,7 @@ module _ (w : Word) (f : Factor) (fs : List Factor) (e : factorsOf w ≡ f ∷ f
   pub first-repeated : 0 < f .times
   first-repeated = first-proper .repeated
 
-  -- The copies, and what follows
+  -- Its copies, and the rest
   whole : w ≡ copies (f .times) (f .word) ++ written fs
   unfolding written
   whole = sym (factoring .whole)
@@ -60,12 +61,12 @@ module _ (w : Word) (f : Factor) (fs : List Factor) (e : factorsOf w ≡ f ∷ f
   pub first-within : f .times * length (f .word) ≤ length w
   first-within = omega (arith, ap length whole, length-append (copies (f .times) (f .word)) (written fs), length-copies (f .times) (f .word))
 
-  -- The other factors are those of what follows
+  -- The other factors are those of the rest
   pub factors-rest : fs ≡ factorsOf (drop (f .times * length (f .word)) w)
   factors-rest =
       sym (ap factorsOf after ∙ factors-of (written fs) fs (record { falling = falling-tail (factoring .falling); whole = refl }))
 
-  -- One copy is a beginning of the word
+  -- One copy is a prefix of the word
   pub first-word : f .word ≡ take (length (f .word)) w
   first-word =
       let t = written-first (factoring .falling) in
@@ -74,9 +75,9 @@ module _ (w : Word) (f : Factor) (fs : List Factor) (e : factorsOf w ≡ f ∷ f
   pub first-length : length (f .word) ≤ length w
   first-length = let t = written-first (factoring .falling) in omega (arith, ap length (sym (factoring .whole) ∙ t .1), length-append (f .word) (t .0))
 
--- ---- in a list of letters, from a place on
+-- ---- in a list of letters, from an index on
 
--- What a judged factor says of the walk: the factor that it judges, and where the next one begins
+-- One step of the loop: the factor that is judged, and where the next one starts
 pub record Step (l : List ℕ) (at later : ℕ) (r : JudgedFactor) : Type 0 where
   pub first : Factor
   pub read : r ≡ judge first
@@ -114,12 +115,12 @@ step-at l at later h e =
     let d = factors-head (wordOf later (drop at l)) (omega (arith, length-wordOf later (drop at l), length-drop at l)) in
     subst (λ (r : JudgedFactor). Step l at later r) (sym (e ∙ ap judged (d .factors))) (step-of l at later (d .first) (d .others) h (d .factors))
 
--- At the end of the list nothing follows
+-- At the end of the list there is no factor
 pub judged-none : (l : List ℕ) (at later : ℕ) → length l ≤ at → record { length = 0; times = 0; laters = 0; christoffel = false } ≡ judged (factorsOf (wordOf later (drop at l)))
 unfolding wordOf factorsOf judged
 judged-none l at later h = rw (drop-of-length-le l h)
 
--- The search finds what is judged
+-- The search finds the factor that is judged
 first-judged : (fs : List Factor) → firstOf fs ≡ record { length = judged fs .length; times = judged fs .times; laters = judged fs .laters }
 unfolding firstOf judged
 first-judged [] = refl
@@ -145,7 +146,7 @@ module _ (l : List ℕ) (at later : ℕ) (h : at < length l) {r : Found} (e : r 
   pub found-counted : r .laters ≡ laters (wordOf later (take (r .length) (drop at l)))
   found-counted = rw (found, ← step .copy, step .read)
 
-  -- One copy, tested, is the rest of the judgement
+  -- The test of one copy completes the judgement
   pub found-judged :
       record {
         length = r .length;

@@ -1,4 +1,4 @@
--- A list of letters and the word that it spells go together letter by letter: by induction on the list.
+-- A list of letters and the word that it spells agree letter by letter, by induction on the list.
 use Prim.Native.Nat.{ℕ, zero, suc, _≤_, _<_}
 use mathlib.Core.Path.{_≡_, refl}
 use mathlib.Core.Bool.{false}

@@ -1,4 +1,4 @@
--- The search finds the length, the repeats and the count; one copy is the part of the list that is tested.
+-- The search finds the length, the repeats and the count; the tested part of the list is one copy.
 use native.Mathlib.Nat.{add-sub-cancel-left}
 use native.Mathlib.Omega.{arith}
 use borrow.Author.Needs.{needs}

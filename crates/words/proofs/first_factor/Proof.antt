@@ -1,4 +1,4 @@
--- The loop keeps the shape of what was read and its two counts; each way out of it settles the first factor.
+-- The invariant is the form of the letters read, with its two counts; each exit of the loop determines the first factor.
 use Prim.Native.Nat.{_-_}
 use native.Mathlib.Omega.{arith}
 use borrow.Author.Needs.{needs}

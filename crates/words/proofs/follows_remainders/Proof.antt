@@ -1,4 +1,4 @@
--- The loop keeps the remainder of the letters passed; a letter that does not fit, or an early 0, settles the answer.
+-- The invariant is the remainder after the letters passed; a letter that fails, or an early 0, decides the answer.
 use Prim.Native.Nat.{_≤_, _-_}
 use native.Mathlib.Omega.{arith}
 use borrow.Author.Needs.{needs}

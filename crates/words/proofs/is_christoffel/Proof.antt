@@ -1,4 +1,4 @@
--- A longer word is tested by its remainders, at its own count of later letters.
+-- A word of two or more letters is tested by the remainders of its own count of later letters.
 use mathlib.Core.Path.{_∙_}
 use borrow.Author.Needs.{needs}
 use Rattle.words.proofs.WordOf.{laters-wordOf-le}

@@ -1,4 +1,4 @@
--- Below n the sum is its own remainder; from n on, n less is.
+-- A sum below n is its own remainder; otherwise subtract n.
 use borrow.Author.Needs.{needs}
 use Rattle.words.proofs.RemainderWalk.{remainder-below, remainder-above}
 use Rattle.words.proofs.next_remainder.Statement.{statement}

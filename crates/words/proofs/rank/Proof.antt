@@ -1,4 +1,4 @@
--- The branch's test is the definition's.
+-- The code makes the definition's test.
 use borrow.Author.Tests.{eq-eqb, ne-eqb}
 use Rattle.words.proofs.rank.Statement.{statement}
 use Rattle.words.proofs.rank.Tie as tie
