@@ -1,4 +1,4 @@
--- Laws of the tests below a bound, each by induction on the bound: the last number passes or fails, and the rest is the shorter bound.
+-- Laws of the tests below a bound, by induction on the bound: the last number passes or fails, and the smaller bound covers the others.
 use Prim.Native.Nat.{ℕ, zero, suc, _+_, _≤_, _<_}
 use mathlib.Core.Path.{_≡_, refl, sym, _∙_}
 use mathlib.Core.Bool.{Bool, true, false, true≢false, _&&_, _||_}
@@ -10,7 +10,7 @@ use lib.Dec.{ltb}
 use borrow.Author.Tests.{ltb-true, ltb-false}
 use Rattle.base.specs.Below.{every, further, first, some}
 
--- A number below n + 1 is n, or is below n
+-- A number below n + 1 is n or below n
 pub below-suc : (i n : ℕ) → i < suc n → (i ≡ n) ⊎ (i < n)
 below-suc i n h = eq-or-lt-of-le (le-of-suc-le-suc h)
 
@@ -31,7 +31,7 @@ pub not-held : (b : Bool) → (b ≡ true → ⊥) → b ≡ false
 not-held true h = absurd (h refl)
 not-held false h = refl
 
--- Two tests that say the same are equal
+-- Two tests of the same statement are equal
 pub same-test : {P : Type 0} (a b : Bool) → (a ≡ true) ↔ P → (b ≡ true) ↔ P → a ≡ b
 same-test true b e f = sym (f .1 (e .0 refl))
 same-test false true e f = e .1 (f .0 refl)
@@ -60,7 +60,7 @@ every-fails f (suc n) h = go (every f n) refl (every-fails f n)
     go true e rest = (n, omega arith, cc)
     go false e rest = let r = rest e in (r .0, omega (arith, r .1), r .2)
 
--- What the first is, and that only one number is it
+-- What the first number is; it is unique
 record First (f : ℕ → Bool) (n m : ℕ) : Type 0 where
   le : m ≤ n
   found : m < n → f m ≡ true
@@ -131,11 +131,11 @@ first-none f n h = first-eq f n n (record { le = omega arith; found = λ l. absu
 pub first-is : (f : ℕ → Bool) (n i : ℕ) → i < n → ((j : ℕ) → j < i → f j ≡ false) → f i ≡ true → first f n ≡ i
 first-is f n i l h e = first-eq f n i (record { le = omega arith; found = λ l. e; before = h })
 
--- No number below i passes
+-- If the first number is not below i, no number below i passes
 pub first-none-at : (f : ℕ → Bool) (i : ℕ) → first f i ≡ i → (j : ℕ) → j < i → f j ≡ false
 first-none-at f i e j l = first-before f i j (omega arith)
 
--- A loop goes one step further, stops, or has stopped
+-- A search loop goes one step further, stops, or has stopped
 pub first-step : (f : ℕ → Bool) (i : ℕ) → first f i ≡ i → f i ≡ false → first f (i + 1) ≡ i + 1
 first-step f i e q =
     first-none f (i + 1) (λ j l. elim (below-suc j i (omega arith)) [ inl d ↦ rw d q | inr l′ ↦ first-none-at f i e j l′ ])
@@ -143,7 +143,7 @@ first-step f i e q =
 pub first-stop : (f : ℕ → Bool) (n i : ℕ) → first f i ≡ i → f i ≡ true → i < n → first f n ≡ i
 first-stop f n i e q l = first-is f n i l (first-none-at f i e) q
 
--- A number below n that passes is one of some
+-- If a number below n passes, then some number passes
 pub some-of : (f : ℕ → Bool) (n i : ℕ) → i < n → f i ≡ true → some f n ≡ true
 unfolding some
 some-of f n i l e = go (ltb (first f n) n) refl

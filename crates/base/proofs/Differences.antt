@@ -1,4 +1,5 @@
--- Integers as differences of naturals: sums, products and orders of integers are those of their parts, which are linear in products of naturals.
+-- Integers as differences of naturals: sums, products and order of integers follow from
+-- those of the two naturals, where the goals are linear in products.
 use Prim.Native.Nat.{ℕ, zero, suc, _+_, _-_, _*_, _≤_}
 use native.Mathlib.Omega.{arith}
 use mathlib.Core.Path.{_≡_, refl, ap}
@@ -47,7 +48,7 @@ is-add {x = negsuc m} {y = negsuc n} h k = record { eq = omega arith }
 pub is-minus : {x y : ℤ} {a b c d : ℕ} → Is x a b → Is y c d → Is (x -ℤ y) (a + d) (b + c)
 is-minus h k = is-add h (is-neg k)
 
--- The product of the parts
+-- A product, from the parts of its factors
 is-mul-self : (x y : ℤ) → Is (x *ℤ y) (up x * up y + down x * down y) (up x * down y + down x * up y)
 is-mul-self (pos m) (pos n) = record { eq = omega arith }
 is-mul-self (pos m) (negsuc n) = record { eq = omega (arith, is-neg (is-self (pos (m * suc n))) .eq) }

@@ -1,4 +1,5 @@
--- Laws of the tests of a list's members, each by induction on the list: the first member passes or fails, and the rest is the shorter list.
+-- Laws of the tests of a list's members, by induction on the list: the first member
+-- passes or fails, and the shorter list covers the others.
 use mathlib.Core.Path.{_≡_, refl, sym, ap, _∙_}
 use mathlib.Core.Logic.{_⊎_, ⊎-elim}
 use mathlib.Core.Bool.{Bool, true, false, _||_, and-eq-true-iff, true≢false}

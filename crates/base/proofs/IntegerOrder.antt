@@ -1,4 +1,4 @@
--- The order of integers, by their parts above and below 0: a is at most b exactly if a's upper part with b's lower one is at most b's upper part with a's lower one.
+-- An integer is a difference of two naturals, its part above 0 and its part below 0; so a ≤ b is a comparison of two sums of such parts.
 use Prim.Native.Nat.{ℕ, suc, _+_, _≤_, _<_}
 use native.Mathlib.Decide.{decLe}
 use native.Mathlib.Omega.{arith}
@@ -10,7 +10,7 @@ use lib.IntN.{ℤ, pos, negsuc}
 use lib.Signed.{leZ}
 use borrow.Author.Tests.{leb-true, leb-false, le-leb, lt-leb}
 
--- An integer is its part above 0 less its part below 0
+-- The part of an integer above 0, and the part below 0: the integer is their difference
 abbrev pub up : ℤ → ℕ
 up (pos n) = n
 up (negsuc n) = 0
@@ -32,7 +32,7 @@ le-parts (pos a) (negsuc b) = sym (lt-leb (a + suc b) (0 + 0) (omega arith))
 le-parts (negsuc a) (pos b) = sym (le-leb (0 + 0) (b + suc a) (omega arith))
 le-parts (negsuc a) (negsuc b) = same-test b a (0 + suc b) (0 + suc a) (λ l. omega arith) (λ l. omega arith)
 
--- a is at most b, in naturals
+-- a is at most b, as a comparison of naturals
 abbrev pub AtMost : ℤ → ℤ → Type 0
 AtMost a b = up a + down b ≤ up b + down a
 

@@ -1,4 +1,4 @@
--- Laws of sums, differences and products of integers: each is a comparison of two differences of naturals.
+-- Laws of sums, differences and products of integers: each becomes an equation of naturals, once the integers are written as differences.
 use native.Mathlib.Omega.{arith}
 use mathlib.Core.Path.{_≡_}
 use lib.IntN.{ℤ, negℤ, _+ℤ_, _-ℤ_, _*ℤ_}
@@ -32,7 +32,7 @@ sum-minus a b c a′ b′ c′ =
     is-unique (is-minus (is-add (is-add (is-self a) (is-self b)) (is-self c)) (is-add (is-add (is-self a′) (is-self b′)) (is-self c′)))
     (is-add (is-add (is-minus (is-self a) (is-self a′)) (is-minus (is-self b) (is-self b′))) (is-minus (is-self c) (is-self c′))) (omega arith)
 
--- A part that two differences share
+-- Two differences with a common part
 pub minus-shared-end : (a b c : ℤ) → (a -ℤ c) -ℤ (b -ℤ c) ≡ a -ℤ b
 minus-shared-end a b c =
     is-unique (is-minus (is-minus (is-self a) (is-self c)) (is-minus (is-self b) (is-self c))) (is-minus (is-self a) (is-self b)) (omega arith)
@@ -41,7 +41,7 @@ pub minus-shared-start : (a b c : ℤ) → (a -ℤ b) -ℤ (a -ℤ c) ≡ c -ℤ
 minus-shared-start a b c =
     is-unique (is-minus (is-minus (is-self a) (is-self b)) (is-minus (is-self a) (is-self c))) (is-minus (is-self c) (is-self b)) (omega arith)
 
--- A step and a difference in either order; a difference added back, and turned
+-- A step before or after a difference; a difference added back; a difference reversed
 pub minus-step : (u d x : ℤ) → (u +ℤ d) -ℤ x ≡ (u -ℤ x) +ℤ d
 minus-step u d x = is-unique (is-minus (is-add (is-self u) (is-self d)) (is-self x)) (is-add (is-minus (is-self u) (is-self x)) (is-self d)) (omega arith)
 

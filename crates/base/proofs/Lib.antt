@@ -1,5 +1,5 @@
--- Laws of the tests below a bound, of a list's members and of two lists; functions with one value replaced; prefixes of lists; sizes and order of integers, integers as differences of naturals, and the laws of
--- their sums and products; weighted means; weights of lists without repeats.
+-- Laws of the tests below a bound, of a list's members and of two lists; functions with one value replaced; prefixes of lists; integers:
+-- sizes, order, differences of naturals, sums and products; weighted means; weights of lists without repeats.
 pub mod BelowLaws
 pub mod EachLaws
 pub mod PutLaws

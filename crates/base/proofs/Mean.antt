@@ -1,4 +1,5 @@
--- A mean of three numbers with natural weights: what is done alike to the three is done to the mean, since the weights distribute over it.
+-- A mean of three numbers with natural weights: a linear map of the three numbers maps
+-- the mean in the same way, since the weights distribute.
 use Prim.Native.Nat.{ℕ, _+_, _*_, _≤_, _<_}
 use native.Mathlib.Nat.{mul-le-mul-left, le-of-mul-le-mul-left}
 use native.Mathlib.Omega.{arith}
@@ -20,12 +21,12 @@ mean-times i a b c x u v w h = omega (arith, ap (λ n. i * n) h)
 pub mean-add : (a b c x u v w y u′ v′ w′ : ℕ) → Mean a b c x u v w → Mean a b c y u′ v′ w′ → Mean a b c (x + y) (u + u′) (v + v′) (w + w′)
 mean-add a b c x u v w y u′ v′ w′ h h′ = omega arith
 
--- Counted from the other end of a stretch k
+-- Counted from the other end of a distance k
 pub mean-mirror : (k a b c x u v w x′ u′ v′ w′ : ℕ) → x + x′ ≡ k → u + u′ ≡ k → v + v′ ≡ k → w + w′ ≡ k → Mean a b c x u v w → Mean a b c x′ u′ v′ w′
 mean-mirror k a b c x u v w x′ u′ v′ w′ d e f g h =
     omega (arith, ap (λ n. (a + b + c) * n) d, ap (λ n. a * n) e, ap (λ n. b * n) f, ap (λ n. c * n) g)
 
--- Means with the same weights compare as what they are means of
+-- Means with the same weights are ordered as their numbers are
 pub mean-le :
     (a b c x u v w y u′ v′ w′ : ℕ) → 0 < a + b + c → Mean a b c x u v w → Mean a b c y u′ v′ w′ → u ≤ u′ → v ≤ v′ → w ≤ w′ → x ≤ y
 mean-le a b c x u v w y u′ v′ w′ p h h′ i j k =

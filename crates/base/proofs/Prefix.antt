@@ -1,4 +1,4 @@
--- The first so many of a list, no more than it has, are that many: the smaller of the two counts is no more than the list's.
+-- The first n members of a list that has at least n are exactly n, since the smaller of n and the list's length is n.
 use Prim.Native.Nat.{ℕ, min}
 use native.Mathlib.Omega.{arith}
 use mathlib.Core.Path.{_≡_, sym}

@@ -1,4 +1,4 @@
--- A replaced value stands at its number and nowhere else, because the test of two numbers says whether they are equal.
+-- A replaced value stands at its number and nowhere else, because the test of two numbers decides whether they are equal.
 use Prim.Native.Nat.{ℕ}
 use mathlib.Core.Path.{_≡_, refl}
 use borrow.Author.Tests.{eq-eqb, ne-eqb}

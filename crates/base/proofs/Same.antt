@@ -1,4 +1,4 @@
--- The test of two lists passes exactly if they are equal: number by number, and both end together.
+-- The test of two lists passes exactly if they are equal: it compares number by number, and both lists must end together.
 use Prim.Native.Nat.{ℕ, _+_, _<_}
 use native.Mathlib.Numerals.{add-one}
 use native.Mathlib.Omega.{arith}
@@ -46,7 +46,7 @@ same-ℤs-self (a ∷ es) = and-eq-true-iff (sameℤ a a) (sameℤs es es) .1 (s
 pub same-ℤs-iff : (es fs : List ℤ) → (sameℤs es fs ≡ true) ↔ (es ≡ fs)
 same-ℤs-iff es fs = (same-ℤs es fs, λ e. subst (λ (l : List ℤ). sameℤs es l ≡ true) e (same-ℤs-self es))
 
--- ---- from a place on: the numbers there, and the rest
+-- ---- from an index on: the numbers there, and the rest
 
 pub same-longer : (es fs : List ℤ) → (length es ≡ length fs → ⊥) → sameℤs es fs ≡ false
 same-longer es fs h = not-held (sameℤs es fs) (λ e. h (ap length (same-ℤs es fs e)))
@@ -68,7 +68,7 @@ same-end es fs i h e =
     let k : i ≡ length fs = h ∙ e in
     ap (λ (n : ℕ). sameℤs (drop n es) (drop i fs)) h ∙ rw (drop-length es, k, drop-length fs)
 
--- ---- signed numbers of a machine, which are held by their bits
+-- ---- signed machine numbers, which are given by their bits
 
 pub same-bits : (w : Width) (a b : ℤ) → SFits w a → SFits w b → eqb (ofZ w a) (ofZ w b) ≡ sameℤ a b
 same-bits w a b f g =

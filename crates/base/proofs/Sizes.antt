@@ -1,4 +1,5 @@
--- Sizes of integers, by their signs: sums, differences and products are no larger than those of their parts, and what is small enough fits a machine's width.
+-- Sizes of integers, by cases of their signs: a sum, difference or product is no larger than its parts allow, and a number that is small
+-- enough fits a machine's width.
 use Prim.Native.Nat.{ℕ, zero, suc, _+_, _-_, _*_, _^_, _≤_, _<_}
 use native.Mathlib.Nat.{mul-le-mul}
 use native.Mathlib.Omega.{arith}
@@ -43,7 +44,7 @@ size-product (negsuc a) (negsuc b) = refl
 pub size-product-le : (a b : ℤ) {m n : ℕ} → natAbs a ≤ m → natAbs b ≤ n → natAbs (a *ℤ b) ≤ m * n
 size-product-le a b h k = rw (size-product a b) (mul-le-mul h k)
 
--- The size of a - b is how far a and b lie apart
+-- The size of a - b is the distance between a and b
 pub size-parts : {z : ℤ} {a b : ℕ} → Is z a b → (a ≤ b + natAbs z) × (b ≤ a + natAbs z)
 size-parts {z = pos n} h = omega arith
 size-parts {z = negsuc n} h = omega arith
@@ -52,7 +53,7 @@ pub size-at-most : {z : ℤ} {a b : ℕ} (k : ℕ) → Is z a b → a ≤ b + k 
 size-at-most {z = pos n} k h l m = omega arith
 size-at-most {z = negsuc n} k h l m = omega arith
 
--- By way of a third number
+-- The triangle inequality
 pub size-triangle : (a b c : ℤ) → natAbs (a -ℤ c) ≤ natAbs (a -ℤ b) + natAbs (b -ℤ c)
 size-triangle a b c =
     let e : a -ℤ c ≡ (a -ℤ b) +ℤ (b -ℤ c) =
@@ -64,7 +65,7 @@ size-back a b =
     let e : a ≡ (a -ℤ b) +ℤ b = is-unique (is-self a) (is-add (is-minus (is-self a) (is-self b)) (is-self b)) (omega arith) in
     omega (arith, size-sum (a -ℤ b) b, ap natAbs e)
 
--- Two differences, and two products by one number, lie as far apart as their parts
+-- Two differences, and two products with a common factor, are no further apart than their parts allow
 pub size-differences : (a b c d : ℤ) → natAbs ((a -ℤ b) -ℤ (c -ℤ d)) ≤ natAbs (a -ℤ c) + natAbs (b -ℤ d)
 size-differences a b c d =
     let e : (a -ℤ b) -ℤ (c -ℤ d) ≡ (a -ℤ c) -ℤ (b -ℤ d) =
@@ -85,7 +86,7 @@ mag-size (negsuc a) = omega arith
 pub fits-size : (w : Width) (a : ℤ) → natAbs a < 2 ^ hbits w → SFits w a
 fits-size w a h = record { sfits = omega (arith, mag-size a) }
 
--- What a machine reads back from a number's bits is the number
+-- A number that fits is what the machine reads from its bits
 pub read-back : (a : ℤ) → mag a < 2 ^ 63 → toZ w64 (ofZ w64 a) ≡ a
 read-back a h = toZ-ofZ w64 a (record { sfits = h })
 

@@ -1,4 +1,5 @@
--- A list without repeats weighs at most a grid that holds each of its members with a weight: take the members one by one, and take each such member out of the grid.
+-- A list without repeats weighs at most as much as a grid that contains each of its members of
+-- positive weight: remove these members from the grid one by one.
 use Prim.Native.Nat.{ℕ, _+_, _≤_, _<_}
 use native.Mathlib.Decide.{decLt}
 use native.Mathlib.Omega.{arith}
@@ -11,7 +12,7 @@ unfoldable pub sumOf : {A : Type 0} → (A → ℕ) → List A → ℕ
 sumOf f [] = 0
 sumOf f (a ∷ l) = f a + sumOf f l
 
--- No member is met again further on
+-- No member occurs twice
 pub data Distinct {A : Type 0} : List A → Type 0 where
   none : Distinct []
   more : {a : A} {l : List A} → (List·Memᴰ a l → ⊥) → Distinct l → Distinct (a ∷ l)
@@ -26,7 +27,7 @@ mapped f (a ∷ l) m =
     ]
 
 module _ {A : Type 0} where
-  -- A grid without the member at one place
+  -- A grid with the member at one place removed
   without : {a : A} {g : List A} → List·Memᴰ a g → List A
   without (List·Memᴰ·head {xs = xs} e) = xs
   without (List·Memᴰ·tail {x = x} m) = x ∷ without m

@@ -1,4 +1,4 @@
--- Whole numbers in units are multiples of one number above 0, which keeps differences, products and order.
+-- Whole numbers in units are multiples of one positive number, so multiplication by it keeps differences, products and order.
 use Prim.Native.Nat.{ℕ, _<_}
 use native.Mathlib.Nat.{mul-le-mul-right, le-of-mul-le-mul-right}
 use native.Mathlib.Omega.{arith}
@@ -12,7 +12,7 @@ use Rattle.base.proofs.IntegerOrder.{at-most-iff}
 use Rattle.base.proofs.Differences.{is-self, is-unique, is-add, is-minus, is-mul, le-iff}
 use Rattle.rounding.specs.Units.{inUnits}
 
--- ---- multiples of any number above 0
+-- ---- multiples of a positive number
 
 module _ (u : ℕ) where
   times-plus : (a b : ℤ) → (a +ℤ b) *ℤ pos u ≡ a *ℤ pos u +ℤ b *ℤ pos u

@@ -1,5 +1,5 @@
--- The operations over the integers: what they give lies near the exact value, since rounding moves that by at most half of the place below the digits that the
--- format keeps.
+-- The result of an operation lies near the exact value, since rounding moves that value by at
+-- most half a unit in the last digit kept. Here over the integers.
 use Prim.Native.Nat.{ℕ, suc, _+_, _*_, _^_, _≤_, _<_}
 use native.Mathlib.Nat.{two-pow-succ}
 use native.Mathlib.Omega.{arith}
@@ -14,7 +14,7 @@ use Rattle.rounding.specs.Units.{negative, units, value, inUnits}
 use Rattle.rounding.proofs.Values.{above, below, Exact, value-is, exact-of, above-is, below-is, whole-value}
 use Rattle.rounding.proofs.Operations.{Rounds, sub-rounds, mul-rounds, ofInt-pos, ofInt-neg}
 
--- The finite x lies at most e units from the value z
+-- The float x is finite and at most e units from the value z
 pub record Near (f : Format) (x : Float) (z : ℤ) (e : ℕ) : Type 0 where
   pub exact : Exact f x
   pub near : natAbs (value f x -ℤ z) ≤ e
@@ -42,7 +42,7 @@ sub-near f x y t p q fine h =
     let d = is-minus (value-is f x) (value-is f y) in
     near-of f (sub f x y) t d (sub-rounds f x y (suc t) p q fine (omega (arith, size-parts d)) (omega (arith, size-parts d)))
 
--- A whole number z of no more digits than the format keeps
+-- A whole number z with no more digits than the format keeps
 record Whole (f : Format) (z : ℤ) : Type 0 where
   sign : Bool
   has : HasValue (ofInt f z) sign (natAbs z) 1
@@ -52,7 +52,7 @@ whole : (f : Format) (z : ℤ) → natAbs z < 2 ^ prec f → Whole f z
 whole f (pos n) h = record { sign = false; has = ofInt-pos f n h; is = is-self (pos n) }
 whole f (negsuc n) h = record { sign = true; has = ofInt-neg f n h; is = is-self (negsuc n) }
 
--- It is a float, exactly
+-- Such a number is a float exactly
 pub whole-exact : (f : Format) (z : ℤ) → natAbs z < 2 ^ prec f → Exact f (ofInt f z)
 whole-exact f z h =
     let w = whole f z h in
@@ -72,7 +72,7 @@ whole-is f z h =
     parts true n u a b p q = omega arith
     parts false n u a b p q = omega arith
 
--- A product by it of fewer than 2 ^ (prec + 1 + t) units moves by at most 2 ^ t
+-- A product by such a number, of fewer than 2 ^ (prec + 1 + t) units, moves by at most 2 ^ t
 pub mul-near :
     (f : Format) (z : ℤ) (y : Float) (t : ℕ) → natAbs z < 2 ^ prec f → Exact f y → prec f + suc t ≤ low f + emax f → natAbs (z *ℤ value f y) < 2 ^ (prec f + suc t)
     → Near f (mul f (ofInt f z) y) (z *ℤ value f y) (2 ^ t)

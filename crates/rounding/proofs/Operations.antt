@@ -1,4 +1,5 @@
--- A difference and a product by a whole number, written as one fraction and rounded once, lie within half a place of the exact value; a whole number of few digits is a float.
+-- A difference, and a product by a whole number, is one fraction that is rounded once, so it lies within half a place of the exact value;
+-- a whole number of few digits is a float.
 use Prim.Native.Nat.{ℕ, suc, _+_, _-_, _*_, _^_, _≤_, _<_}
 use native.Mathlib.Nat.{le-of-lt, lt-of-lt-of-le, mul-le-mul-right, mul-lt-mul-of-pos-right, le-of-mul-le-mul-right, mul-pos, mul-one}
 use native.Mathlib.Omega.{arith}
@@ -15,7 +16,8 @@ use Rattle.rounding.specs.Units.{negative, units}
 use Rattle.rounding.proofs.Round.{Rounded, round-near}
 use Rattle.rounding.proofs.Values.{above, below, Exact, exact-of, above-is, below-is, over-left, over-right}
 
--- The finite x lies within half of 2 ^ t units of the exact value a - b. Both sides are doubled, so that the half is a whole number
+-- The float x is finite and within half of 2 ^ t units of the exact value a - b.
+-- Both sides are doubled, so that the half is a whole number
 pub record Rounds (f : Format) (x : Float) (a b t : ℕ) : Type 0 where
   pub exact : Exact f x
   pub over : (above f x + b) * 2 ≤ (a + below f x) * 2 + 2 ^ t
@@ -57,7 +59,7 @@ rounds-as f x a b c d t e n = record { exact = n .exact; over = omega arith; und
 
 -- ---- sums and differences
 
--- The difference of two fractions with one divisor c, the first not the smaller
+-- The difference of two fractions with the same divisor c, where the first is not smaller
 difference : (a b d v w z c u : ℕ) → a ≡ b + d → v ≡ w + z → a * u ≡ v * c → b * u ≡ w * c → d * u ≡ z * c
 difference a b d v w z c u p q x y = omega (arith, ap (λ (n : ℕ). n * u) p, ap (λ (n : ℕ). n * c) q)
 
@@ -102,7 +104,7 @@ sum-rounds f true a false b c v w t C fine p q h k = go (ltb a b) (ltb b a) (ltb
         rounds-as f (round f false (a - b) c) v w (0 + w) (v + 0) t (omega (arith, in-order f a b c v w C p q (n tt), in-order f b a c w v C q p (g tt)))
         (round-difference f false a b c v w t C fine p q (g tt) (omega arith))
 
--- x - y, where it is less than 2 ^ (prec + t) units either way
+-- x - y, if its size is below 2 ^ (prec + t) units
 pub sub-rounds :
     (f : Format) (x y : Float) (t : ℕ) → Exact f x → Exact f y → prec f + t ≤ low f + emax f
     → above f x + below f y < below f x + above f y + 2 ^ (prec f + t) → below f x + above f y < above f x + below f y + 2 ^ (prec f + t)
@@ -128,7 +130,7 @@ sub-rounds f (fin s m e) (fin true n d) t p q fine h k =
 product : (a n d b u w g : ℕ) → a * 1 ≡ n * d → b * u ≡ w * g → a * b * u ≡ n * w * (d * g)
 product a n d b u w g p q = omega (arith, ap (λ (z : ℕ). z * (b * u)) p, ap (λ (z : ℕ). n * d * z) q)
 
--- n * w with the sign of a product: n has the sign s, and w the sign r
+-- n * w with the sign of the product: n has the sign s, and w the sign r
 product-rounds :
     (f : Format) (z : Float) (s r : Bool) (n w t : ℕ) → Rounds f z (cond (unlike s r) 0 (n * w)) (cond (unlike s r) (n * w) 0) t
     → Rounds f z (n * cond s (cond r w 0) (cond r 0 w)) (n * cond s (cond r 0 w) (cond r w 0)) t
@@ -141,7 +143,7 @@ magnitude : (r : Bool) (n w p : ℕ) → n * (cond r 0 w + cond r w 0) < p → n
 magnitude true n w p h = omega arith
 magnitude false n w p h = omega arith
 
--- x * y for an x that is the whole number n with the sign s, where the product is less than 2 ^ (prec + t) units either way
+-- x * y, where x is the whole number n with the sign s, if the size of the product is below 2 ^ (prec + t) units
 pub mul-rounds :
     (f : Format) (x y : Float) (s : Bool) (n t : ℕ) → HasValue x s n 1 → Exact f y → prec f + t ≤ low f + emax f → n * (above f y + below f y) < 2 ^ (prec f + t)
     → Rounds f (mul f x y) (n * cond s (below f y) (above f y)) (n * cond s (above f y) (below f y)) t

@@ -1,4 +1,4 @@
--- Two finite floats compare as their values do: both are fractions of one divisor, which scales the units too.
+-- Two finite floats compare as their values do: both are fractions with the same divisor, and so are the units.
 use Prim.Native.Nat.{ℕ, _+_, _*_, _^_, _≤_, _<_}
 use native.Mathlib.Nat.{eq-or-lt-of-le, mul-pos, mul-le-mul-right, le-of-mul-le-mul-right}
 use native.Mathlib.Omega.{arith}
@@ -17,7 +17,7 @@ use Rattle.base.proofs.Differences.{le-iff as at-most}
 use Rattle.rounding.specs.Units.{negative, units, value}
 use Rattle.rounding.proofs.Values.{above, below, Exact, value-is, over-left, over-right}
 
--- ---- the tests say what they should
+-- ---- the tests decide the order
 
 or-split : (a b : Bool) → T (a || b) → T a ⊎ T b
 or-split true b t = inl tt
@@ -34,7 +34,7 @@ or-right false b t = t
 eqb-of : (a b : ℕ) → a ≡ b → T (eqb a b)
 eqb-of a b e = eq→eqb e
 
--- ±a < ±b, where s and t say which of the two are negative
+-- ±a < ±b, where s and t tell whether a and b are negative
 below-iff : (s t : Bool) (a b : ℕ) → T (Ieee.below s a t b) ↔ (cond s 0 a + cond t b 0 < cond t 0 b + cond s a 0)
 below-iff false false a b = ((λ h. omega (arith, ltb→lt a b h)), λ h. lt→ltb a b (omega arith))
 below-iff false true a b = ((λ h. absurd h), λ h. absurd (omega arith))

@@ -1,5 +1,5 @@
--- A rounded fraction lies within half a place of the fraction, since it is the nearest of the multiples of a place. Everything is in units of the format's smallest value, and
--- multiplied by the fraction's divisor.
+-- A rounded fraction lies within half a place of the fraction, since it is the nearest multiple of the place. Everything is in units of
+-- the format's smallest positive value and multiplied by the fraction's divisor.
 use Prim.Native.Nat.{ℕ, zero, suc, _+_, _-_, _*_, _/_, _%_, _^_, _≤_, _<_, compare, Ordering, Ordering·lt, Ordering·eq, Ordering·gt}
 use native.Mathlib.Nat.{le-trans, le-of-eq, lt-of-le-of-lt, mul-le-mul, mul-le-mul-left, mul-pos, div-add-mod', mod-lt, div-div-eq-div-mul, div-lt-iff-lt-mul}
 use native.Mathlib.Omega.{arith}
@@ -16,9 +16,9 @@ use lib.Ieee.Nearest.{closest}
 use lib.Ieee.Order.{drop, kept}
 use lib.Ieee.Scale.{grid}
 
--- ---- a fraction a / b to the nearest whole number
+-- ---- the nearest whole number to a fraction a / b
 
--- What `compare` says
+-- What `compare` decides
 abbrev Cmp : Ordering → ℕ → ℕ → Type 0
 Cmp Ordering·lt a b = a < b
 Cmp Ordering·eq a b = a ≡ b
@@ -32,7 +32,7 @@ cmp a b = go (compare a b) (leb→le a b) (nleb→lt a b) (eqb→eq a b) (λ (e 
     go Ordering·eq h k e n = e tt
     go Ordering·gt h k e n = k tt
 
--- The number q is at most half of b away from a, counted in b-ths
+-- The number q is at most half of b from a, counted in b-ths
 abbrev Half : ℕ → ℕ → ℕ → Type 0
 Half q a b = (q * b * 2 ≤ a * 2 + b) × (a * 2 ≤ q * b * 2 + b)
 
@@ -51,7 +51,7 @@ closest-half a b h = nearest-half (a / b) (a % b) a b (compare (a % b * 2) b) (c
 
 -- ---- `round`
 
--- num / den rounded, where it is below 2 ^ (prec + t) units: it is finite, and it is `grid` units, at most half of 2 ^ t away.
+-- num / den rounded, where it is below 2 ^ (prec + t) units: the result is finite and is `grid` units, at most half of 2 ^ t away.
 pub record Rounded (f : Format) (s : Bool) (num den t : ℕ) : Type 0 where
   pub value : HasValue (round f s num den) s (grid f num den) (2 ^ low f)
   pub over : grid f num den * den * 2 ≤ num * 2 ^ low f * 2 + den * 2 ^ t
@@ -66,7 +66,7 @@ kept-le p n den =
     let u = den * 2 ^ k in
     le-trans (nearest-le (n / u) (compare (n % u * 2) u)) (subst (λ (x : ℕ). x < 2 ^ p) (div-div-eq-div-mul n den (2 ^ k)) (kept-lt p (n / den)))
 
--- q places of 2 ^ k, seen in units
+-- q places of 2 ^ k, in units
 spread : (q den n k t : ℕ) → Half q n (den * 2 ^ k) → 2 ^ k ≤ 2 ^ t → (q * 2 ^ k * den * 2 ≤ n * 2 + den * 2 ^ t) × (n * 2 ≤ q * 2 ^ k * den * 2 + den * 2 ^ t)
 spread q den n k t h l =
     let w : den * 2 ^ k ≤ den * 2 ^ t = mul-le-mul-left den l in

@@ -1,4 +1,5 @@
--- A finite float that its format holds is a whole number of units, since the format's smallest value divides it; and a fraction that it equals gives its sign and its units.
+-- A finite float of a format is a whole number of units, since the format's smallest positive value divides it; and a fraction equal to
+-- it determines its sign and units.
 use Prim.Native.Nat.{ℕ, zero, suc, _+_, _-_, _*_, _%_, _^_, _≤_}
 use native.Mathlib.Nat.{not-le-of-lt, mul-one, mul-div-cancel}
 use native.Mathlib.Omega.{arith}
@@ -15,7 +16,7 @@ use lib.Ieee.Scale.{finite}
 use Rattle.base.proofs.Differences.{Is, is-self, is-neg}
 use Rattle.rounding.specs.Units.{negative, units, value}
 
--- A value is its units above 0 less its units below 0: one of the two is 0
+-- The units above 0 and the units below 0: the value is their difference, and one of the two is 0
 unfoldable pub above : Format → Float → ℕ
 above f x = cond (negative x) 0 (units f x)
 
@@ -30,7 +31,7 @@ value-is f x = go (negative x) (units f x)
     go true w = is-neg (is-self (pos w))
     go false w = is-self (pos w)
 
--- x is finite, and its units are the whole of it: the division cuts nothing off
+-- x is finite and exactly its units: the division has no remainder
 pub record Exact (f : Format) (x : Float) : Type 0 where
   pub is : HasValue x (negative x) (units f x) (2 ^ low f)
 
@@ -39,7 +40,7 @@ exact-finite f nan h = absurd (h .is)
 exact-finite f (inf s) h = absurd (h .is)
 exact-finite f (fin s m e) h = tt
 
--- ---- the sign and the units of a value that is known as a fraction of 2 ^ low
+-- ---- the sign and the units of a value that is given as a fraction of 2 ^ low
 
 pub sign-is : (f : Format) (x : Float) (s : Bool) (w : ℕ) → HasValue x s w (2 ^ low f) → negative x ≡ s
 unfolding negative
@@ -64,7 +65,7 @@ pub below-is : (f : Format) (x : Float) (s : Bool) (w : ℕ) → HasValue x s w 
 unfolding below
 below-is f x s w h = rw (sign-is f x s w h, units-is f x s w h)
 
--- A whole number of ones is that many times 2 ^ low units
+-- The whole number n is n * 2 ^ low units
 pub whole-value : (f : Format) (x : Float) (s : Bool) (n : ℕ) → HasValue x s n 1 → HasValue x s (n * 2 ^ low f) (2 ^ low f)
 whole-value f nan s n h = absurd h
 whole-value f (inf t) s n h = absurd h
@@ -73,7 +74,7 @@ whole-value f (fin t m e) s n h = (h .0, scale (m * up e) n (down e) (2 ^ low f)
     scale : (a n d u : ℕ) → a * 1 ≡ n * d → a * u ≡ n * u * d
     scale a n d u e = omega (arith, ap (λ (z : ℕ). z * u) e)
 
--- ---- a value that its format holds
+-- ---- a value of the format
 
 pow-le : (a b : ℕ) → 2 ^ a ≤ 2 ^ b → a ≤ b
 pow-le a b h = elim (decLe a b) [ yes l ↦ l | no l ↦ absurd (not-le-of-lt (pow-lt {i = b} {j = a} (omega arith)) h) ]
@@ -103,7 +104,7 @@ fits-exact f (fin s (suc m) e) n h =
     part : (a u k d : ℕ) → u ≡ k * d → a * u ≡ a * k * d
     part a u k d e = omega (arith, ap (λ (z : ℕ). a * z) e)
 
--- ---- a fraction a / d that is v units, over a divisor d * g that it shares with another
+-- ---- a fraction a / d of v units, over a common divisor d * g
 
 pub over-left : (a u v d g : ℕ) → a * u ≡ v * d → a * g * u ≡ v * (d * g)
 over-left a u v d g e = omega (arith, ap (λ (z : ℕ). z * g) e)
