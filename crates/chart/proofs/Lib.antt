@@ -1,3 +1,3 @@
--- A lent list after a reply; tables of replies.
+-- A buffer after a reply; tables of replies.
 pub mod ReplyLaws
 pub mod Tables

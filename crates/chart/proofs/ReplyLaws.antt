@@ -1,4 +1,5 @@
--- A list with room for a reply has the seven numbers first and then what stood behind them, and any other is as it was: the test of the room decides.
+-- A buffer with room for a reply has the seven numbers first and then its old content,
+-- and a shorter one is unchanged: the test of the room decides.
 use Prim.Native.Nat.{ℕ, _≤_, _<_}
 use native.Mathlib.Omega.{arith}
 use mathlib.Core.Path.{_≡_, refl, ap, _∙_}
@@ -16,7 +17,7 @@ pub replyAfter-short : (f : Fields) (l : List ℕ) → length l < 7 → replyAft
 unfolding replyAfter
 replyAfter-short f l short = rw (lt-leb 7 (length l) short)
 
--- The reply is read back from the list
+-- Reading the buffer gives the reply back
 pub fields-written : (f : Fields) (l : List ℕ) → 7 ≤ length l → fieldsOf (replyAfter f l) ≡ f
 unfolding fieldsOf numbersOf
 fields-written f l room = rw (replyAfter-room f l room)
@@ -25,7 +26,7 @@ pub read-back : (f : Fields) → fieldsOf (numbersOf f) ≡ f
 unfolding fieldsOf numbersOf
 read-back f = refl
 
--- Seven numbers are all of a reply list
+-- A buffer of seven numbers is the reply
 pub seven-written : (f : Fields) (l : List ℕ) → length l ≡ 7 → replyAfter f l ≡ numbersOf f
 seven-written f l e =
     let all : length l ≤ 7 = omega (arith, e) in

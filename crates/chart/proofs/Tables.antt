@@ -1,4 +1,4 @@
--- A test of replies passes only for equal ones: field by field.
+-- The test of two replies passes only if they are equal, since it compares every field.
 use Prim.Native.Nat.{ℕ}
 use mathlib.Core.Path.{_≡_}
 use mathlib.Core.Bool.{Bool, true, _&&_, and-eq-true-iff}

@@ -1,6 +1,6 @@
--- What holds of the hull of any set of cells: a cell of the set is in it, as a triangle that is one point; equal sets have the same hull and the same
--- missing cells; only one missing cell is the lowest. Then the simplest outlines: the border of one cell encloses that cell, and the same border run
--- anticlockwise encloses nothing.
+-- Laws of the hull of any set of cells. A cell of the set is in the hull, as a triangle that is one point. Equal sets have the same hull
+-- and the same missing cells. Only one missing cell is the lowest. Then the simplest outlines: the border of one cell encloses that cell,
+-- and anticlockwise it encloses nothing.
 use Prim.Native.Nat.{ℕ}
 use native.Mathlib.Omega.{arith}
 use mathlib.Core.Path.{_≡_, refl, sym, _∙_}
@@ -25,7 +25,7 @@ enclosed-in-hull marked x e =
       triangle = record { a = 1; b = 0; c = 0; some = omega arith; cols = omega arith; rows = omega arith };
     }
 
--- Equal markings have the same hull and the same missing cells
+-- Equal sets have the same hull and the same missing cells
 module _ {f g : ℕ → ℕ → Bool} (same : (c r : ℕ) → f c r ≡ g c r) where
   pub hull-same : {x : Point} → InHull f x → InHull g x
   hull-same h =
@@ -57,7 +57,7 @@ lowest-unique {marked} {x} {y} h k = ⊎-elim (λ e. e) (λ a. ⊎-elim sym (λ 
     both (inr a) (inl b) = omega arith
     both (inr a) (inr b) = omega arith
 
--- H1, its cell and the cell beside it
+-- H1: its cell, and the cell beside it
 pub one-cell : encloses (outline (record { col = 0; row = 0 }) (1 ∷ 0 ∷ 3 ∷ 2 ∷ [])) 0 0 ≡ true
 unfolding encloses ups downs count upAlong downAlong step
 one-cell = refl

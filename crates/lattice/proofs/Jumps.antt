@@ -1,6 +1,6 @@
--- How ups less downs changes from a cell to the next: across a vertical side by definition, across a horizontal one because a closed walk enters the
--- corners {column up to x, row R} as often as it leaves them; and each side is used at most once because the corners are distinct.
--- The pair (C, R) stands for the cell (C - 1, R - 1), so that C = 0 or R = 0 is off the chart.
+-- How ups minus downs changes from a cell to its neighbour. Across a vertical side it changes by definition. Across a horizontal side it
+-- changes because a closed walk enters the corners {column up to x, row R} as often as it leaves them. Each side is used at most once
+-- because the corners are distinct. The pair (C, R) stands for the cell (C - 1, R - 1), so C = 0 or R = 0 is off the chart.
 use Prim.Native.Nat.{ℕ, zero, suc, _+_, _-_, _≤_, _<_}
 use mathlib.Core.Path.{_≡_, refl, sym, ap, _∙_, subst}
 use mathlib.Core.Bool.{Bool, true, false, _&&_}
@@ -22,7 +22,7 @@ use Rattle.lattice.specs.Walked.{Walked, NeverLeaves}
 use Rattle.lattice.proofs.WalkLaws.{point, point-eq, step-right, step-up, step-left, step-down, corner-zero, corner-suc, corner-all}
 use Rattle.lattice.proofs.WalkLaws.{corner-injective}
 
--- How many letters, of those that begin at p, pass a test of the corner that they leave and of themselves
+-- The number of letters, starting at p, that pass a test of themselves and of the corner that they leave
 unfoldable pub tally : (Point → ℕ → Bool) → Point → List ℕ → ℕ
 tally f p [] = 0
 tally f p (a ∷ w) = count (f p a) + tally f (step p a) w
@@ -44,11 +44,11 @@ upsTo o C R = tally (rises C R) (o .start) (o .letters)
 unfoldable pub downsTo : Outline → ℕ → ℕ → ℕ
 downsTo o C R = tally (falls C R) (o .start) (o .letters)
 
--- How many letters a leave the corner q
+-- The number of letters a that leave the corner q
 unfoldable pub lettersAt : Outline → ℕ → Point → ℕ
 lettersAt o a q = tally (letterFrom a q) (o .start) (o .letters)
 
--- Those along one side: the vertical side of column x that reaches row R from below, the horizontal side from (x, y) to (x + 1, y)
+-- The letters along one side: the vertical side of column x whose upper end is in row R, the horizontal side from (x, y) to (x + 1, y)
 unfoldable pub upsAt : Outline → ℕ → ℕ → ℕ
 upsAt o x R = tally (λ p a. eqb a 1 && eqb (suc (p .row)) R && eqb (p .col) x) (o .start) (o .letters)
 
@@ -61,7 +61,7 @@ rightsAt o x y = lettersAt o 0 (point x y)
 unfoldable pub leftsAt : Outline → ℕ → ℕ → ℕ
 leftsAt o x y = lettersAt o 2 (point (suc x) y)
 
--- Laws of tallies, each by induction on the letters
+-- Laws of tallies, by induction on the letters
 
 pub tally-same : (f g : Point → ℕ → Bool) → ((p : Point) (a : ℕ) → f p a ≡ g p a) → (p : Point) (w : List ℕ) → tally f p w ≡ tally g p w
 unfolding tally
@@ -81,7 +81,7 @@ unfolding tally walk
 tally-append f p [] v = omega arith
 tally-append f p (a ∷ u) v = omega (arith, tally-append f (step p a) u v)
 
--- No place passes, some place passes, at most one does
+-- If no place passes; if some place passes; if at most one does
 pub tally-none : (f : Point → ℕ → Bool) (p : Point) (w : List ℕ) → ((i : ℕ) → i < length w → f (cornerAt (outline p w) i) (getD w i 0) ≡ false) → tally f p w ≡ 0
 unfolding tally cornerAt walk count
 tally-none f p [] h = refl
@@ -120,7 +120,7 @@ tally-once f p (a ∷ w) h = go (f p a) refl (tally-once f (step p a) w (λ i j 
         ])
     go false e rest = rw e (omega arith)
 
--- The counts of the enclosed cells are these, at the cell's shifted column and row
+-- The counts for enclosed cells are these tallies, at the shifted column and row
 pub ups-to : (s : Point) (w : List ℕ) (c r : ℕ) → ups s w c r ≡ upsTo (outline s w) (suc c) (suc r)
 unfolding ups upsTo tally rises upAlong
 ups-to s [] c r = refl
@@ -131,7 +131,7 @@ unfolding downs downsTo tally falls downAlong
 downs-to s [] c r = refl
 downs-to s (a ∷ w) c r = rw (leb·suc-suc, downs-to (step s a) w c r)
 
--- A column below C + 1 is below C, or is C
+-- A column below C + 1 is below C or is C
 count-below : (c C : ℕ) → count (ltb c (suc C)) ≡ count (ltb c C) + count (eqb c C)
 unfolding count
 count-below c C =
@@ -153,7 +153,7 @@ and-false : (a b : Bool) → b ≡ false → (a && b) ≡ false
 and-false true b e = e
 and-false false b e = refl
 
--- What a test of three parts says
+-- A test of three parts
 tested : (a k y R : ℕ) (t : Bool) → (eqb a k && eqb y R && t) ≡ true → (a ≡ k) × (y ≡ R) × (t ≡ true)
 tested a k y R t e =
     let d = and-left (eqb a k && eqb y R) t e in (
@@ -200,7 +200,7 @@ module _ (o : Outline) where
 
 -- Across a horizontal side
 
--- The corner is in the band {column up to x, row R}; what enters the band, and what leaves it
+-- The corner is in the band {column up to x, row R}; the letters that enter the band, and those that leave it
 inBand : ℕ → ℕ → Point → ℕ
 inBand x R p = count (eqb (p .row) R && ltb (p .col) (suc x))
 
@@ -225,7 +225,7 @@ module _ (x R : ℕ) where
   band-down c zero h = let z : _≡_ {A = ℕ} 0 1 = cc in absurd (omega arith)
   band-down c (suc r) h = let e : suc r - 1 ≡ r = omega arith in rw (e, eqb·suc-suc r R) (omega arith)
 
-  -- One letter enters the band, or leaves it, or does neither
+  -- One letter enters the band, leaves it, or does neither
   band-step : (p : Point) (a : ℕ) → leaves p a ≡ false → Passes p a
   unfolding upsTo downsTo leftsAt rightsAt lettersAt tally rises falls letterFrom step inBand count
   band-step p zero h = rw (add-one (p .col), leb·suc-suc (suc (p .col)) x) (omega (arith, count-split (eqb (p .row) R) (p .col) x))
@@ -247,7 +247,7 @@ pub jump-horizontal :
     → upsTo o (suc x) (suc R) + downsTo o (suc x) R + rightsAt o x R ≡ downsTo o (suc x) (suc R) + upsTo o (suc x) R + leftsAt o x R
 jump-horizontal o h c x R = omega (arith, band-walk x R (o .start) (o .letters) h, ap (inBand x R) c)
 
--- Letters that leave one corner: a count of at least 1 is a place
+-- Letters that leave one corner: a count of at least 1 gives a place
 
 letter-from : (a : ℕ) (q p : Point) (b : ℕ) → letterFrom a q p b ≡ true → (b ≡ a) × (p ≡ q)
 unfolding letterFrom
@@ -278,7 +278,7 @@ module _ (o : Outline) where
   letters-some i l =
       tally-some (letterFrom (letterAt o i) (cornerAt o i)) (o .start) (o .letters) i l (from-letter (letterAt o i) (cornerAt o i) (cornerAt o i) (letterAt o i) refl refl)
 
-  -- Ups along a side leave its lower end
+  -- An up along a side leaves the side's lower end
   pub ups-at-letters : (x y : ℕ) → upsAt o x (suc y) ≡ lettersAt o 1 (point x y)
   unfolding upsAt lettersAt letterFrom
   ups-at-letters x y = tally-same _ (letterFrom 1 (point x y)) (λ p a. rw eqb·suc-suc) (o .start) (o .letters)
@@ -286,7 +286,7 @@ module _ (o : Outline) where
   pub ups-at-zero : (x : ℕ) → upsAt o x 0 ≡ 0
   ups-at-zero x = omega (arith, ups-jump-vertical o x 0, ups-row-zero o (suc x))
 
--- A side with a count is used by a letter at some place; a side that no letter uses has none
+-- A side with a count is used by the letter at some place; a side that no letter uses has count 0
 
 module _ (o : Outline) where
   pub ups-found : (x R : ℕ) → 1 ≤ upsAt o x R → (i : ℕ) × (i < size o) × (letterAt o i ≡ 1) × (cornerAt o i ≡ point x (R - 1)) × (0 < R)
@@ -317,10 +317,10 @@ module _ (o : Outline) where
   unfolding leftsAt
   lefts-none x y = letters-none o 2 (point (suc x) y)
 
--- Each side is used at most once: two letters along it, one way or both, would meet a corner twice
+-- Each side is used at most once: two letters along it, in the same direction or in both, would meet a corner twice
 
 module _ (o : Outline) (t : Walked o) where
-  -- The place at whose corner the letter at place i arrives: the next, or the first after the last
+  -- The place whose letter leaves the corner where letter i arrives: the next place, or the first after the last
   pub next : (i : ℕ) → i < size o → (j : ℕ) × (j < size o) × (cornerAt o (suc i) ≡ cornerAt o j) × ((suc i ≡ j) ⊎ (suc i ≡ size o + j))
   next i l =
       elim (decLt (suc i) (size o)) [
@@ -363,11 +363,11 @@ module _ (o : Outline) (t : Walked o) where
       tally-once (letterFrom a q) (o .start) (o .letters) (λ i j l m e f.
       t .distinct i j l m (letter-from a q (cornerAt o i) (letterAt o i) e .1 ∙ sym (letter-from a q (cornerAt o j) (letterAt o j) f .1)))
 
-  -- The letter at place i is the only one of its kind to leave its corner
+  -- The letter at place i is the only one of its kind that leaves its corner
   pub letters-one : (i : ℕ) → i < size o → lettersAt o (letterAt o i) (cornerAt o i) ≡ 1
   letters-one i l = omega (arith, letters-some o i l, letters-once (letterAt o i) (cornerAt o i))
 
-  -- A side from p to q is used by one letter, or by none
+  -- A side from p to q is used by at most one letter
   pub side-once : (a b : ℕ) (p q : Point) → step p a ≡ q → step q b ≡ p → lettersAt o a p + lettersAt o b q ≤ 1
   side-once a b p q e f =
       elim (decLe 1 (lettersAt o a p)) [

@@ -1,4 +1,4 @@
--- A function of a letter by four clauses, the last of which is for all from 3 on: what it is at a letter of which only that is known.
+-- A function of a letter has four cases, of which the last covers all letters from 3 on: its value follows from the case that holds.
 use Prim.Native.Nat.{ℕ, zero, suc, _≤_}
 use native.Mathlib.Omega.{arith}
 use mathlib.Core.Path.{_≡_, sym, ap}

@@ -1,4 +1,5 @@
--- Functions of a letter; walks and their rotations; jumps across sides; the right hand; walks that stay on the chart; the simplest outlines.
+-- Functions of a letter; walks and their rotations; jumps across sides; cells to the right
+-- of a walk; walks that stay on the chart; the simplest outlines.
 pub mod Letters
 pub mod WalkLaws
 pub mod Jumps

@@ -1,5 +1,6 @@
--- All cells on the right hand of a walk past refusals 1 to 6 have as many ups less downs: at each corner those of the letter in and of the letter out
--- are one cell, or are joined across sides that no letter uses. To the left of a letter it is one less, and at the lowest corner of the first column it is 0.
+-- All cells to the right of a walk that passes refusals 1 to 6 have the same ups minus downs: at each corner the cells right of the
+-- letter in and of the letter out are the same, or are joined across sides that no letter uses. To the left of a letter the number is one
+-- less, and left of the lowest corner of the first column it is 0.
 use Prim.Native.Nat.{ℕ, zero, suc, _+_, _-_, _%_, _≤_, _<_}
 use mathlib.Core.Path.{_≡_, refl, sym, ap, _∙_, subst}
 use mathlib.Core.Bool.{Bool, false}
@@ -18,8 +19,8 @@ use Rattle.lattice.proofs.WalkLaws.{point, point-eq, step-right, step-u
 use Rattle.lattice.proofs.WalkLaws.{corner-injective, walk-append}
 use Rattle.lattice.proofs.Jumps.{tally, rises, falls, tally-append, upsTo, downsTo, lettersAt, upsAt, downsAt, rightsAt, leftsAt, ups-to, downs-to, ups-jump-vertical, downs-jump-vertical, ups-column-zero, downs-column-zero, jump-horizontal, letters-none, letters-one, ups-at-letters, ups-found, downs-found, rights-found, lefts-found, next, arrival-injective, no-return}
 
--- The four cells around a corner, counterclockwise: cell k lies between the sides that the letters k and k + 1 run along.
--- So it is to the left of the letter k and to the right of the letter k + 1
+-- The four cells around a corner, anticlockwise: cell k lies between the sides along which letters k and k + 1 leave. So it is to the
+-- left of letter k and to the right of letter k + 1
 unfoldable pub leftOf : Point → ℕ → Point
 leftOf p zero = point (suc (p .col)) (suc (p .row))
 leftOf p (suc zero) = point (p .col) (suc (p .row))
@@ -48,7 +49,7 @@ right-of-turn : (p : Point) (a : ℕ) → a < 4 → (b : ℕ) → b ≡ quarterT
 unfolding rightOf leftOf
 right-of-turn p a l b e = ap (rightOf p) e ∙ letter-cases (λ a. rightOf p (quarterTurn a) ≡ leftOf p a) refl refl refl refl a l
 
--- To the right of a letter as seen from the corner where it arrives
+-- The cell to the right of a letter, named from the corner where the letter arrives
 right-arriving : (p : Point) (a : ℕ) → a < 4 → leaves p a ≡ false → rightOf p a ≡ leftOf (step p a) (opposite a)
 unfolding rightOf leftOf leaves step
 right-arriving p =
@@ -67,11 +68,12 @@ step-back p =
     (λ e. let h = eqb-false (p .col) 0 e in point-eq (point (p .col - 1 + 1) (p .row)) p (omega arith) refl)
     (λ e. let h = eqb-false (p .row) 0 e in point-eq (point (p .col) (p .row - 1 + 1)) p refl (omega arith))
 
--- The cell inside a left turn after the letter a that leaves p: it would be on the right hand if the walk went straight on
+-- The cell in the corner of a left turn after the letter a, which leaves p: it would be
+-- to the right of the next letter if the walk went straight on
 unfoldable pub cornerOf : Point → ℕ → Point
 cornerOf p a = rightOf (step p a) a
 
--- How many letters arrive at q along the side that the letter k would leave it by
+-- The number of letters that arrive at q along the side by which letter k would leave it
 rightsInto : Outline → ℕ → ℕ → ℕ
 rightsInto o zero y = 0
 rightsInto o (suc x) y = rightsAt o x y
@@ -83,7 +85,7 @@ backs o q (suc (suc zero)) = rightsInto o (q .col) (q .row)
 backs o q (suc (suc (suc zero))) = upsAt o (q .col) (q .row)
 backs o q (suc (suc (suc (suc a)))) = 0
 
--- Two cells have the same level: as many ups less downs; and one has a level one above the other's
+-- Two cells have the same level if their ups minus downs are equal; one cell is one level above another
 abbrev pub SameLevel : Outline → Point → Point → Type 0
 SameLevel o p q = upsTo o (p .col) (p .row) + downsTo o (q .col) (q .row) ≡ downsTo o (p .col) (p .row) + upsTo o (q .col) (q .row)
 
@@ -91,7 +93,7 @@ abbrev pub OneAbove : Outline → Point → Point → Type 0
 OneAbove o p q = upsTo o (p .col) (p .row) + downsTo o (q .col) (q .row) ≡ downsTo o (p .col) (p .row) + upsTo o (q .col) (q .row) + 1
 
 module _ (o : Outline) (h : NeverLeaves o) (c : Closed o) where
-  -- Across the side by which the letter k leaves the corner q
+  -- Across the side by which letter k leaves the corner q
   abbrev Jump : Point → ℕ → Type 0
   Jump q k =
       upsTo o (rightOf q k .col) (rightOf q k .row) + downsTo o (leftOf q k .col) (leftOf q k .row) + backs o q k
@@ -116,7 +118,7 @@ module _ (o : Outline) (h : NeverLeaves o) (c : Closed o) where
       (jump-left (q .col) (q .row))
       (omega (arith, ups-jump-vertical o (q .col) (q .row), downs-jump-vertical o (q .col) (q .row)))
 
--- A letter that arrives at q along the side that the letter k would leave it by
+-- A letter that arrives at q along the side by which letter k would leave it
 record Back (o : Outline) (q : Point) (k i : ℕ) : Type 0 where
   below : i < size o
   letter : letterAt o i ≡ opposite k
@@ -162,7 +164,7 @@ module _ (o : Outline) (t : Walked o) where
   abbrev letter : ℕ → ℕ
   letter i = letterAt o i
 
-  -- The letter at place i arrives at the corner from which the letter at place j leaves: the sides of two other directions are used by none
+  -- The letter at place i arrives at the corner that the letter at place j leaves: no letter uses the other two sides there
   module _ (i j : ℕ) (l : i < size o) (m : j < size o) (e : cornerAt o (suc i) ≡ cornerAt o j) where
     back-other : (k : ℕ) → k < 4 → k ≢ opposite (letter i) → backs o (corner j) k ≡ 0
     back-other k b n =
@@ -183,7 +185,7 @@ module _ (o : Outline) (t : Walked o) where
     across : (k : ℕ) → k < 4 → k ≢ letter j → k ≢ opposite (letter i) → SameLevel o (rightOf (corner j) k) (leftOf (corner j) k)
     across k b n m′ = omega (arith, jump o (t .stays) (t .closed) (corner j) k b, back-other k b m′, letter-other k n)
 
-    -- No letter takes back the one before it
+    -- No letter is the opposite of the one before it
     pub no-back : letterAt o j ≢ opposite (letterAt o i)
     no-back f =
         no-return o t i j l m e
@@ -192,7 +194,7 @@ module _ (o : Outline) (t : Walked o) where
         ∙ ap (λ (q : Point). step q (opposite (letter i))) (sym e ∙ corner-suc o i l)
         ∙ step-back (corner i) (letter i) (t .letter i l) (t .stays i l))
 
-    -- The cells on the right hand of the two letters are the same, or are two or three around the corner, with no side between them that is used
+    -- The cells to the right of the two letters are the same, or are two or three cells around the corner with no used side between them
     right-seen : rightOf (corner i) (letter i) ≡ leftOf (corner j) (opposite (letter i))
     right-seen =
         right-arriving (corner i) (letter i) (t .letter i l) (t .stays i l)
@@ -231,7 +233,7 @@ module _ (o : Outline) (t : Walked o) where
   from-start zero l = omega arith
   from-start (suc i) l = omega (arith, from-start i (omega arith), right-hand-next i (suc i) (omega arith) l refl)
 
-  -- The cells on the right hand have one level
+  -- All cells to the right of the walk have one level
   pub right-hand : (i j : ℕ) → i < size o → j < size o → SameLevel o (rightOf (cornerAt o i) (letterAt o i)) (rightOf (cornerAt o j) (letterAt o j))
   right-hand i j l m = omega (arith, from-start i l, from-start j m)
 
@@ -249,7 +251,7 @@ module _ (o : Outline) (t : Walked o) where
             | no a ↦ omega arith
           ]
 
-  -- The cell inside a left turn has that level too. Here j is the place after i, or the first where i is the last
+  -- The cell in the corner of a left turn has that level too. Place j comes after place i, cyclically
   pub left-turn :
       (i j : ℕ) → i < size o → j < size o → cornerAt o (suc i) ≡ cornerAt o j → letterAt o j ≡ quarterTurn (letterAt o i)
       → SameLevel o (rightOf (cornerAt o i) (letterAt o i)) (cornerOf (cornerAt o i) (letterAt o i))
@@ -258,14 +260,14 @@ module _ (o : Outline) (t : Walked o) where
       let a : letter i < 4 = t .letter i l in
       rw (sym (corner-suc o i l) ∙ e) (straight i j l m e (omega arith))
 
--- A corner of the least column, and among those of the least row
+-- A corner of the leftmost column, and the lowest of that column
 pub record Lowest (o : Outline) (k : ℕ) : Type 0 where
   pub below : k < size o
   pub least-col : (i : ℕ) → i < size o → cornerAt o k .col ≤ cornerAt o i .col
   pub least-row : (i : ℕ) → i < size o → cornerAt o i .col ≡ cornerAt o k .col → cornerAt o k .row ≤ cornerAt o i .row
 
 module _ (o : Outline) (t : Walked o) where
-  -- The place before k, or the last where k is the first
+  -- The place before k, cyclically
   pub place-before : (k : ℕ) → k < size o → (j : ℕ) × (j < size o) × (cornerAt o (suc j) ≡ cornerAt o k) × ((suc j ≡ k) ⊎ (suc j ≡ size o + k))
   place-before zero l =
       let n : suc (size o - 1) ≡ size o = omega arith in (
@@ -276,7 +278,7 @@ module _ (o : Outline) (t : Walked o) where
       )
   place-before (suc k) l = (k, omega arith, refl, inl refl)
 
--- A letter that does not go left or straight down is 0 or 1; one that does not come from the left or from straight below is 2 or 3
+-- A letter that goes neither left nor down is 0 or 1; one that comes neither from the left nor from below is 2 or 3
 leaving-step :
     (p : Point) (a : ℕ) → a < 4 → leaves p a ≡ false → p .col ≤ step p a .col → (step p a .col ≡ p .col → p .row ≤ step p a .row) → (a ≡ 0) ⊎ (a ≡ 1)
 unfolding leaves step
@@ -312,7 +314,7 @@ module _ (o : Outline) (t : Walked o) (k : ℕ) (m : Lowest o k) where
       (subst (λ (p : Point). p .col ≤ cornerAt o j .col) d (m .least-col j l))
       (subst (λ (p : Point). cornerAt o j .col ≡ p .col → p .row ≤ cornerAt o j .row) d (m .least-row j l))
 
-  -- The letter before: at the place j before k, or at the last where k is the first
+  -- The letter before place k, cyclically, is at place j
   pub arriving-up : (j : ℕ) → j < size o → cornerAt o (suc j) ≡ cornerAt o k → letterAt o k ≡ 1 → letterAt o j ≡ 2
   arriving-up j l e f =
       elim (arriving j l e) [ inl g ↦ g | inr g ↦ absurd (no-back o t j k l (m .below) e (f ∙ ap opposite (sym g))) ]
@@ -321,7 +323,7 @@ module _ (o : Outline) (t : Walked o) (k : ℕ) (m : Lowest o k) where
   arriving-right j l e f =
       elim (arriving j l e) [ inl g ↦ absurd (no-back o t j k l (m .below) e (f ∙ ap opposite (sym g))) | inr g ↦ g ]
 
-  -- Nothing is counted left of the least column
+  -- Left of the leftmost column nothing is counted
   ups-left : (C R : ℕ) → C ≤ cornerAt o k .col → upsTo o C R ≡ 0
   ups-left zero R l = ups-column-zero o R
   ups-left (suc C) R l = omega (arith, ups-jump-vertical o C R, ups-left C R (omega arith), none)
@@ -345,7 +347,8 @@ module _ (o : Outline) (t : Walked o) (k : ℕ) (m : Lowest o k) where
           ]
 
   module _ (up : letterAt o k ≡ 1) where
-    -- Of a walk that leaves its lowest corner upwards, the cells on the right hand have level 1, and those on the left hand level 0
+    -- If a walk leaves its lowest corner of the leftmost column upward, the cells to its
+    -- right have level 1, and those to its left have level 0
     pub clockwise-right :
         (i : ℕ) → i < size o
         → upsTo o (rightOf (cornerAt o i) (letterAt o i) .col) (rightOf (cornerAt o i) (letterAt o i) .row)
@@ -373,7 +376,8 @@ module _ (o : Outline) (t : Walked o) (k : ℕ) (m : Lowest o k) where
         ≡ downsTo o (cornerOf (cornerAt o i) (letterAt o i) .col) (cornerOf (cornerAt o i) (letterAt o i) .row) + 1
     clockwise-left-turn i j l b e f = omega (arith, clockwise-right i l, left-turn o t i j l b e f)
 
-    -- Every cell has level 0 or 1: along a row it changes only at a vertical side, and next to one it is that of a right or a left hand
+    -- Every cell has level 0 or 1: along a row the level changes only at a vertical side, and
+    -- next to such a side it is that of a cell right or left of the walk
     pub level : (C R : ℕ) → (upsTo o C R ≡ downsTo o C R) ⊎ (upsTo o C R ≡ downsTo o C R + 1)
     unfolding rightOf leftOf
     level zero R = inl (ups-column-zero o R ∙ sym (downs-column-zero o R))
@@ -396,7 +400,7 @@ module _ (o : Outline) (t : Walked o) (k : ℕ) (m : Lowest o k) where
               ]
         ]
 
--- Counts over a closed walk do not depend on where it begins
+-- Counts over a closed walk do not depend on its start
 
 pub tally-rotation : (f : Point → ℕ → Bool) (o : Outline) (k : ℕ) → Closed o → tally f (cornerAt o k) (rotated k o .letters) ≡ tally f (o .start) (o .letters)
 unfolding cornerAt

@@ -1,4 +1,4 @@
--- What a walk that stays on the chart meets at each letter: the number that the letter changes is within its bounds.
+-- If a walk stays on the chart, the coordinate that a letter changes is not at its bound: otherwise the letter would leave.
 use Prim.Native.Nat.{ℕ, _-_, _<_}
 use mathlib.Core.Path.{_≡_}
 use mathlib.Core.Bool.{false}
@@ -12,7 +12,7 @@ use Rattle.lattice.specs.Refusals.{badStart, leavingPlace, Stays}
 use Rattle.lattice.specs.Walked.{NeverLeaves}
 use Rattle.lattice.proofs.WalkLaws.{or-left, or-right, first-absent, OnChart}
 
--- What a letter that stays on the chart says of the number that it changes
+-- The coordinate that a letter changes, if the letter stays on the chart
 pub stays-right : (p : Point) (a : ℕ) → leaves p a ≡ false → a ≡ 0 → p .col < side
 unfolding leaves
 stays-right p a e h = leb-false side (p .col) (rw h at e)

@@ -1,2 +1,2 @@
--- The test by what is said of the outline.
+-- The test in terms of the verdict.
 pub mod TestLaws

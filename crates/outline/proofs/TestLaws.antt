@@ -1,4 +1,4 @@
--- What is said of the outline, with room asked for on top, is the test's answer.
+-- The answer of the test is the verdict, with refusal 10 if the buffer is too short for a taken outline's edges.
 use Prim.Native.Nat.{ℕ, _*_, _≤_, _<_}
 use mathlib.Core.Path.{_≡_, ap, _∙_}
 use borrow.Author.Tests.{lt-ltb, le-ltb}

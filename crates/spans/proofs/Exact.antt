@@ -1,5 +1,5 @@
--- The spans are exact: along each row the border has one up and, right of it, one down, or none of either. The outline as sent runs along the same sides, the same way or the
--- other, so its two columns are the same two; and what lies between them is enclosed.
+-- The table is exact: along each row the border has one up and, right of it, one down, or neither. The outline as sent runs along the
+-- same sides in either direction, so its two columns are the same, and the cells between them are the enclosed ones.
 use Prim.Native.Nat.{ℕ, _-_, _≤_, _<_}
 use native.Mathlib.Decide.{decLe, decLt}
 use native.Mathlib.Omega.{arith}
@@ -34,19 +34,19 @@ use Rattle.spans.specs.declared.Span.the-variants.{None, Columns}
 use Rattle.spans.proofs.Tables.{table-at, table-past, up-le, down-le}
 use Rattle.spans.proofs.Sides.{column-none, column-once}
 
--- The ups along row r, counted up to a column, and the downs
+-- The ups along row r up to a column, and the downs
 record Counts (o : Outline) (r : ℕ) (u d : ℕ → ℕ) : Type 0 where
   up : (c : ℕ) → ups (o .start) (o .letters) c r ≡ u c
   down : (c : ℕ) → downs (o .start) (o .letters) c r ≡ d c
 
--- None; and one, counted from column m on
+-- No side; and one side, counted from column m on
 abbrev off : ℕ → ℕ
 off c = 0
 
 abbrev from : ℕ → ℕ → ℕ
 from m c = count (leb m c)
 
--- The counts of a turn are those of the walk
+-- The counts from W on are those of the walk
 from-w-ups : (o : Outline) → Simple o → (c r : ℕ) → ups (fromW o .start) (fromW o .letters) c r ≡ ups (o .start) (o .letters) c r
 unfolding fromW
 from-w-ups o h c r = ups-rotation o (westPlace o) (walked o h .closed) c r
@@ -55,7 +55,7 @@ from-w-downs : (o : Outline) → Simple o → (c r : ℕ) → downs (fromW o .st
 unfolding fromW
 from-w-downs o h c r = downs-rotation o (westPlace o) (walked o h .closed) c r
 
--- The column of an up that is counted once, or of none; so of a down
+-- The column of an up that is counted once, or no up; the same for downs
 module _ (o : Outline) (r : ℕ) (u d : ℕ → ℕ) (t : Counts o r u d) where
   up-once : (m : ℕ) → ((c : ℕ) → u c ≡ from m c) → upColumn (o .start) (o .letters) r 0 ≡ m
   unfolding upColumn
@@ -81,7 +81,7 @@ module _ (o : Outline) (r : ℕ) (u d : ℕ → ℕ) (t : Counts o r u d) where
       column-none downAlong r downColumn (λ p d. refl) (λ p a v d. refl) (o .letters) (o .start) 0 0
       (λ c l. sym (downs-tally (o .start) (o .letters) c r) ∙ t .down c ∙ e c)
 
--- The border's counts are those of the outline as sent, or change places
+-- The border's counts are those of the outline as sent, or the two are exchanged
 as-sent : (o : Outline) → Simple o → (r : ℕ) (u d : ℕ → ℕ) → Counts (border o) r u d → Counts o r u d ⊎ Counts o r d u
 as-sent o h r u d t = go (clockwise (fromW o)) refl
   where
@@ -120,7 +120,7 @@ greater-le a b n h k = go (leb a b)
     go true = k
     go false = h
 
--- The two columns of a row, whichever way the outline runs
+-- The two columns of a row, in whichever direction the outline runs
 record Between (o : Outline) (r m n : ℕ) : Type 0 where
   left : leftSide o r ≡ m
   right : rightSide o r ≡ n
@@ -147,9 +147,9 @@ module _ (o : Outline) (h : Simple o) (r : ℕ) where
       rw (lesser-left 0 0 (omega arith), greater-right 0 0 (omega arith)) at
       (sides-of 0 0 (up-off o r off off v (λ c. refl)) (down-off o r off off v (λ c. refl)))
 
--- ---- the spans
+-- ---- the table
 
--- What is kept of a row of the chart, and that no other row is kept
+-- The table's numbers for a row of the chart; other rows have none
 kept-first : (o : Outline) (r : ℕ) → r < side → rows (spansOf o .first) r ≡ leftSide o r
 unfolding spansOf
 kept-first o r l = table-at (leftSide o) 0 side r l ∙ ap (leftSide o) (omega arith)
@@ -162,7 +162,7 @@ right-le : (o : Outline) (r : ℕ) → rightSide o r ≤ side
 unfolding rightSide
 right-le o r = greater-le _ _ side (up-le o r) (down-le o r)
 
--- No row goes past the chart
+-- No interval goes beyond the chart
 pub past-le : (o : Outline) (r : ℕ) → rows (spansOf o .past) r ≤ side
 unfolding spansOf
 past-le o r =
@@ -174,7 +174,7 @@ run a b c = (
   λ h. rw (le-leb a c (h .0), lt-ltb c b (h .1)),
 )
 
--- ---- the search in a row whose marked columns are one run
+-- ---- a search in a row whose marked columns are one interval
 
 found-columns : (marked : ℕ → ℕ → Bool) (r a b : ℕ) → a < side → first (λ c. marked c r) side ≡ a → lastBelow (λ c. marked c r) side ≡ b → rowSpan marked r ≡ Columns a b
 unfolding rowSpan some
@@ -228,7 +228,7 @@ module _ (o : Outline) (h : Reaches o) where
   enclosed : (c r : ℕ) → (block o c r ≡ true) ↔ (encloses t c r ≡ true)
   enclosed c r = (λ e. block-from-w o (h .simple) c r ∙ e, λ e. sym (block-from-w o (h .simple) c r) ∙ e)
 
-  -- A cell of row r is enclosed exactly between the row's two sides
+  -- A cell of row r is enclosed exactly if it is between the row's two sides
   row-exact : (c r : ℕ) → (block o c r ≡ true) ↔ ((leftSide o r ≤ c) × (c < rightSide o r))
   row-exact c r =
       elim (decLe (bottom t) r) [
@@ -254,7 +254,7 @@ module _ (o : Outline) (h : Reaches o) where
   off-chart : (c r : ℕ) → side ≤ r → block o c r ≡ false
   off-chart c r l = not-held (block o c r) (λ e. omega (arith, enclosed-on-chart t (clear-of o h) c r (enclosed c r .0 e)))
 
-  -- The cells in the spans are those that the outline encloses
+  -- The cells in the table are those that the outline encloses
   pub spans-exact : (c r : ℕ) → inSpans (spansOf o) c r ≡ block o c r
   unfolding inSpans
   spans-exact c r =
@@ -265,7 +265,7 @@ module _ (o : Outline) (h : Reaches o) where
         | no l ↦ rw (le-ltb r side (omega arith), off-chart c r (omega arith))
       ]
 
-  -- What is kept of a row is what a search of its cells finds
+  -- The table's interval for a row is what a search of its cells finds
   pub spans-search : (r : ℕ) → spanAt (spansOf o) r ≡ rowSpan (block o) r
   unfolding spanAt
   spans-search r =
@@ -274,7 +274,7 @@ module _ (o : Outline) (h : Reaches o) where
         | no l ↦ rw (le-leb side r (omega arith)) (sym (none-span (block o) r (λ c. off-chart c r (omega arith))))
       ]
 
-  -- And it is exact
+  -- It is exact
   pub row-span-exact : (r : ℕ) → SpanExact (block o) r (rowSpan (block o) r)
   row-span-exact r = rw (run-span (block o) r _ _ (right-le o r) (λ c. row-exact c r)) (run-exact (block o) r _ _ (λ c. row-exact c r))
 

@@ -1,4 +1,4 @@
--- A column counted once; the sides along a row; that the spans are exact.
+-- A column counted once; the sides along a row; the table is exact.
 pub mod Tables
 pub mod Sides
 pub mod Exact

@@ -1,4 +1,4 @@
--- A list of the values of a function has one of them at each place.
+-- A list of a function's values has the value for i at index i, by induction on the count.
 use Prim.Native.Nat.{ℕ, zero, suc, _+_, _%_, _<_, _≤_}
 use native.Mathlib.Omega.{arith}
 use mathlib.Core.Path.{_≡_, refl, sym, ap, _∙_}
@@ -32,7 +32,7 @@ table-past f i zero k h = refl
 table-past f i (suc n) zero h = absurd (omega arith)
 table-past f i (suc n) (suc k) h = table-past f (suc i) n k (omega arith)
 
--- Of the n numbers of l the first k are the values of f
+-- The first k of the n numbers of l are values of f
 pub record Filled (f : ℕ → ℕ) (n : ℕ) (l : List ℕ) (k : ℕ) : Type 0 where
   pub sized : length l ≡ n
   pub filled : (m : ℕ) → m < k → getD l m 0 ≡ f m
@@ -56,11 +56,11 @@ filled-end f n l t =
     ext-getD 0 l (table f 0 n) (t .sized ∙ sym (length-table f 0 n))
     (λ i h. t .filled i (omega (arith, t .sized)) ∙ sym (table-at f 0 n i (omega (arith, t .sized)) ∙ ap f (omega arith)))
 
--- The same of a function with the same values
+-- The same for a function with the same values
 pub filled-same : {f g : ℕ → ℕ} {n : ℕ} {l : List ℕ} {k : ℕ} → ((m : ℕ) → m < k → f m ≡ g m) → Filled f n l k → Filled g n l k
 filled-same h t = record { sized = t .sized; filled = λ m l. t .filled m l ∙ h m l }
 
--- A column that is kept is one of the chart's
+-- A kept column is a corner column of the chart
 kept-column-le : (along : Point → ℕ → ℕ → Bool) (w : List ℕ) (n r d : ℕ) → d ≤ side → keptColumn along n w r d ≤ side
 unfolding keptColumn
 kept-column-le along [] n r d h = h

@@ -1,4 +1,4 @@
--- The machine compares bits, and two numbers that fit have the same bits exactly if they are the same.
+-- The machine compares bits, and two numbers that fit have the same bits exactly if they are equal.
 use mir.Syntax.{w16}
 use Rattle.base.proofs.Same.{same-bits}
 use Rattle.equality.proofs.same_number.Statement.{statement}

@@ -1,4 +1,4 @@
--- The lists are the same if what is left of each from `i` on is: that is the invariant, and each turn takes one number off both.
+-- The invariant: the lists are equal exactly if their rests from `i` on are. Each iteration takes one number off both rests.
 use Prim.Native.Nat.{_≤_, _-_}
 use native.Mathlib.Omega.{arith}
 use mathlib.Core.Path.{_≡_, refl, sym, _∙_}
@@ -41,7 +41,7 @@ shared-slice-copy-out-same-number-2 c = search needs
 same-number-requires : tie.Need-same-number-requires Inv-loop μ-loop
 same-number-requires c κs = search needs
 
--- What the comparison says of the numbers at `i`
+-- What the comparison of the numbers at `i` decides
 module _ (c : tie.After-same-number Inv-loop μ-loop) where
   abbrev at : tie.At-loop Inv-loop μ-loop
   at = c .before .before .before .before

@@ -1,4 +1,4 @@
--- The judgement lends the edges, and its verdict asks for room.
+-- The judgement has written the edges and returned the verdict; what is left to check is the room.
 use borrow.Author.Needs.{needs}
 use Rattle.outline.proofs.TestLaws.{tested, tested-fields, tested-cell}
 use Rattle.outline.proofs.test.Statement.{statement}

@@ -1,4 +1,4 @@
--- A refusal stands, and a taken outline asks for room: each return cites its law.
+-- A refusal stays, and a taken outline is checked for room: each return cites its law.
 use borrow.Author.Needs.{needs}
 use Rattle.outline.proofs.TestLaws.{room-refused, room-short, room-enough}
 use Rattle.outline.proofs.with_room.Statement.{statement}

@@ -1,4 +1,4 @@
--- The test of the definition; a corner column fits in a byte.
+-- The code makes the definition's test, and a corner column fits in a byte.
 use borrow.Author.Needs.{needs}
 use borrow.Author.Tests.{le-leb, lt-leb}
 use Rattle.spans.specs.Spans.{lesser}

@@ -1,4 +1,4 @@
--- Zeros, as in the definition.
+-- The code and the definition both give zeros.
 use mathlib.Core.Path.{refl}
 use Rattle.spans.specs.Spans.{noSpans}
 use Rattle.spans.proofs.no_spans.Statement.{statement}

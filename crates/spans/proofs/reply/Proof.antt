@@ -1,4 +1,4 @@
--- Each arm is its clause.
+-- Each arm is its clause of the definition.
 use Rattle.spans.specs.Spans.{spanReply}
 use borrow.Author.Needs.{needs}
 use Rattle.spans.proofs.reply.Statement.{statement}

@@ -1,4 +1,4 @@
--- Every row passed has its two columns; at the end the lists are those of the definition, place by place.
+-- The invariant: every row done has its two columns. At the end the lists agree with the definition at each index.
 use Prim.Native.Nat.{ℕ, _-_, _<_, _≤_}
 use native.Mathlib.Omega.{arith}
 use mathlib.Core.Path.{_≡_}
@@ -14,7 +14,7 @@ use Rattle.spans.proofs.Tables.{Filled, filled-start, filled-next, fill
 use Rattle.spans.proofs.spans_of.Statement.{statement}
 use Rattle.spans.proofs.spans_of.Tie as tie
 
--- The columns of a row are the chart's
+-- The columns of a row are corner columns of the chart
 columns-le : {o : Outline} {up down : List ℕ} → RowEnds o up down → (k : ℕ) → k < 256 → (rows up k ≤ side) × (rows down k ≤ side)
 columns-le {o} ends k h = (rw (ends .lo-up k h) (up-le o k), rw (ends .hi-down k h) (down-le o k))
 

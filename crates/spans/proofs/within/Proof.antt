@@ -1,4 +1,4 @@
--- The tests of the definition, in its order.
+-- The code makes the definition's tests in its order.
 use borrow.Author.Needs.{needs}
 use borrow.Author.Tests.{le-leb, lt-leb, lt-ltb, le-ltb}
 use Rattle.spans.specs.Spans.{inSpans}

@@ -1,4 +1,4 @@
--- A drawn piece is its own reply's; the other arm has every other reply, as their numbers in the enum tell.
+-- The arm of a drawn piece returns that piece; the other arm covers all other replies, which the numbers of the enum tell apart.
 use Prim.Native.Nat.{ℕ}
 use mathlib.Core.Path.{_≡_, refl}
 use mathlib.Core.List.{List, [], _∷_}
@@ -13,7 +13,7 @@ use borrow.Author.Needs.{needs}
 use Rattle.calls.proofs.written.piece_in.Statement.{statement}
 use Rattle.calls.proofs.written.piece_in.Tie as tie
 
--- The numbers of all replies but a drawn piece
+-- The numbers of all replies except a drawn piece
 abbrev others : List ℕ
 others = 0 ∷ 1 ∷ 2 ∷ 3 ∷ 4 ∷ 5 ∷ 7 ∷ 8 ∷ 9 ∷ 10 ∷ 11 ∷ 12 ∷ 13 ∷ 14 ∷ 15 ∷ []
 

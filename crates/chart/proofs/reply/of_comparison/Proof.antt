@@ -1,4 +1,4 @@
--- Each arm writes the fields that the definition gives for its case, and a refusal its number with the list of which it is.
+-- Each arm returns the fields that the definition gives for its case; a refusal has its number and its list.
 use mathlib.Core.Path.{sym, ap, _∙_}
 use Rattle.chart.specs.declared.Fields.{Fields}
 use Rattle.chart.specs.Fields.{placed, comparisonFields}

@@ -1,4 +1,4 @@
--- Each arm writes the fields that the definition gives for its case.
+-- Each arm returns the fields that the definition gives for its case.
 use borrow.Author.Needs.{needs}
 use Rattle.chart.proofs.reply.of_nesting.Statement.{statement}
 use Rattle.chart.proofs.reply.of_nesting.Tie as tie

@@ -1,4 +1,4 @@
--- Each arm writes the fields that the definition gives for its case.
+-- Each arm returns the fields that the definition gives for its case.
 use mathlib.Core.Path.{sym, ap}
 use Rattle.chart.specs.Fields.{refusalFields}
 use borrow.Author.Needs.{needs}

@@ -1,4 +1,4 @@
--- Seven stores from the front on leave the seven numbers and then what stood behind them.
+-- Seven stores at the front leave the seven numbers and then the old content.
 use native.Mathlib.Omega.{arith}
 use mathlib.Core.Path.{sym, _∙_}
 use lib.ListN.{length-set}
