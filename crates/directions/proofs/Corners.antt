@@ -1,5 +1,6 @@
--- Every corner is on the inner side of every edge. Seen from one edge, the side values of the corners rise and then fall, both along the edges before it and along
--- those after it; they are 0 at the edge, and not below 0 at the anchor, where the walk begins and ends.
+-- Every corner cell is on the inner side of every edge. For one edge, the side values of the corner cells first increase and then
+-- decrease, along the edges after it and along those before it. They are 0 at the edge, and at least 0 at the anchor, where the walk
+-- starts and ends.
 use Prim.Native.Nat.{_+_, _≤_, _<_}
 use native.Mathlib.Decide.{decLe}
 use native.Mathlib.Omega.{arith}
@@ -13,9 +14,9 @@ use Rattle.base.proofs.Differences.{Is}
 use Rattle.directions.proofs.Cross.{side-step, side-start, cross-self, cross-swap}
 use Rattle.directions.proofs.Directions.{Above, Least0, Most0, Forward, Backward, Sooner, halves, forwards, backwards, both-ways, falls-after, falls-before}
 
--- ---- lists of edges whose directions turn clockwise
+-- ---- lists of edges with directions in clockwise order
 
--- An edge that is not nil
+-- An edge that is not zero
 pub data Facing (dx dy : ℤ) : Type 0 where
   ahead : Forward dx dy → Facing dx dy
   back : Backward dx dy → Facing dx dy
@@ -26,19 +27,19 @@ pub data AllAfter (dx dy : ℤ) : List ℤ → Type 0 where
   odd : {d : ℤ} → AllAfter dx dy (d ∷ [])
   next : {ex ey : ℤ} {es : List ℤ} → Sooner dx dy ex ey → AllAfter dx dy es → AllAfter dx dy (ex ∷ ey ∷ es)
 
--- Every edge comes before all those after it
+-- Every edge comes before all later ones
 pub data Rising : List ℤ → Type 0 where
   none : Rising []
   odd : {d : ℤ} → Rising (d ∷ [])
   next : {dx dy : ℤ} {es : List ℤ} → Facing dx dy → AllAfter dx dy es → Rising es → Rising (dx ∷ dy ∷ es)
 
--- The walk of the edges from (x, y) ends at (u, v)
+-- The edges from (x, y) on end at (u, v)
 pub data Ends : List ℤ → ℤ → ℤ → ℤ → ℤ → Type 0 where
   none : {x y : ℤ} → Ends [] x y x y
   odd : {d x y : ℤ} → Ends (d ∷ []) x y x y
   next : {es : List ℤ} {dx dy x y u v : ℤ} → Ends es (x +ℤ dx) (y +ℤ dy) u v → Ends (dx ∷ dy ∷ es) x y u v
 
--- On the walk of the edges from (x, y), the edge (ex, ey) leaves (p, q), and the edges after it are fs
+-- Among the edges from (x, y) on, the edge (ex, ey) starts at (p, q), and the edges after it are fs
 pub data Leaves : List ℤ → ℤ → ℤ → ℤ → ℤ → ℤ → ℤ → List ℤ → Type 0 where
   first : {es : List ℤ} {ex ey x y : ℤ} → Leaves (ex ∷ ey ∷ es) x y ex ey x y es
   later : {es fs : List ℤ} {dx dy x y ex ey p q : ℤ} → Leaves es (x +ℤ dx) (y +ℤ dy) ex ey p q fs → Leaves (dx ∷ dy ∷ es) x y ex ey p q fs
@@ -51,18 +52,18 @@ leaves-facing : {es fs : List ℤ} {x y ex ey p q : ℤ} → Rising es → Leave
 leaves-facing (next f a r) first = f
 leaves-facing (next f a r) (later l) = leaves-facing r l
 
--- ---- what one edge sees
+-- ---- side values of one edge
 
 module _ (ex ey p q : ℤ) where
-  -- The side value of (u, v) for the edge (ex, ey) that leaves (p, q)
+  -- The side value at (u, v) of the edge (ex, ey) that starts at (p, q)
   abbrev Side : ℤ → ℤ → ℤ
   Side u v = sideValue ex ey p q u v
 
-  -- The cross product with another edge: by so much the side value grows along that edge
+  -- The cross product with another edge: the side value grows by this along that edge
   abbrev With : ℤ → ℤ → ℤ
   With dx dy = cross ex ey dx dy
 
-  -- After the edge: from an edge on whose cross product is not above 0, the side values fall to that of the end
+  -- After the edge: once a cross product is not above 0, side values decrease to that of the end
   after-down :
       {es : List ℤ} {x y u v s t fx fy : ℤ} → Sooner ex ey fx fy → Most0 (With fx fy) → AllAfter fx fy es → Ends es x y s t → Least0 (Side s t)
       → Met es x y u v → Least0 (Side u v)
@@ -72,7 +73,7 @@ module _ (ex ey p q : ℤ) where
       omega (arith, side-step ex ey p q x y gx gy .eq, falls-after b h l, after-down b l a w i start)
   after-down b l (next h a) (next w) i (after m) = after-down b l a w i m
 
-  -- After the edge: the side values rise and then fall, so none is below both that of the start and that of the end
+  -- After the edge: side values increase and then decrease, so none is below both the start's and the end's
   after-edge :
       {es : List ℤ} {x y u v s t : ℤ} → AllAfter ex ey es → Rising es → Ends es x y s t → Least0 (Side s t) → Least0 (Side x y)
       → Met es x y u v → Least0 (Side u v)
@@ -94,7 +95,7 @@ module _ (ex ey p q : ℤ) where
       → Met es (p +ℤ ex) (q +ℤ ey) u v → Least0 (Side u v)
   from-edge a r w i m = after-edge a r w i (omega (arith, edge-end .eq)) m
 
-  -- Sooner the edge: from an edge on whose cross product is not above 0, the side values fall to 0, that of the edge
+  -- Before the edge: once a cross product is not above 0, side values decrease to 0, the edge's own
   before-down :
       {es fs : List ℤ} {x y u v s t fx fy : ℤ} → Most0 (With fx fy) → AllAfter fx fy es → Rising es → Leaves es x y ex ey p q fs
       → Ends es x y s t → Least0 (Side s t) → Met es x y u v → Least0 (Side u v)
@@ -104,7 +105,7 @@ module _ (ex ey p q : ℤ) where
       omega (arith, side-step ex ey p q x y gx gy .eq, falls-before h (leaves-after a g) l, before-down l c r g w i start)
   before-down l (next h c) (next f a r) (later g) (next w) i (after m) = before-down l c r g w i m
 
-  -- The whole walk: up and then down to the edge, and from it up and then down to the end
+  -- The whole walk: side values go up and then down to the edge, and from it up and then down to the end
   round :
       {es fs : List ℤ} {x y u v s t : ℤ} → Rising es → Leaves es x y ex ey p q fs
       → Ends es x y s t → Least0 (Side s t) → Least0 (Side x y) → Met es x y u v → Least0 (Side u v)
@@ -116,7 +117,7 @@ module _ (ex ey p q : ℤ) where
         | no k ↦ before-down (omega arith) a r g w i m
       ]
 
-  -- A forward edge: the walk comes down to it from the anchor
+  -- A forward edge: side values decrease from the anchor to it
   ahead-step : {dx dy : ℤ} → Forward ex ey → Sooner dx dy ex ey → up (With dx dy) < down (With dx dy)
   ahead-step e (halves d b) = absurd (both-ways e b)
   ahead-step {dx} {dy} e (forwards d f h) = omega (arith, cross-swap dx dy ex ey .eq)
@@ -127,7 +128,7 @@ module _ (ex ey p q : ℤ) where
   ahead-anchor {x = x} {y = y} e (next {dx = gx} {dy = gy} f a r) (later g) =
       omega (arith, side-step ex ey p q x y gx gy .eq, ahead-step e (leaves-after a g), ahead-anchor e r g)
 
-  -- A backward edge: the walk goes up from it to the end
+  -- A backward edge: side values increase from it to the end
   back-step : {dx dy : ℤ} → Backward ex ey → Sooner ex ey dx dy → Above (With dx dy)
   back-step e (halves f d) = absurd (both-ways f e)
   back-step e (forwards f d h) = absurd (both-ways f e)
@@ -141,7 +142,7 @@ module _ (ex ey p q : ℤ) where
   back-end {x = x} {y = y} e (next {ex = gx} {ey = gy} b a) (next w) =
       omega (arith, side-step ex ey p q x y gx gy .eq, back-step e b, back-end e a w)
 
-  -- What is left of the walk when it comes to the edge
+  -- The rest of the walk after the edge
   pub leaves-end : {es fs : List ℤ} {x y s t : ℤ} → Leaves es x y ex ey p q fs → Ends es x y s t → Ends fs (p +ℤ ex) (q +ℤ ey) s t
   leaves-end first (next w) = w
   leaves-end (later g) (next w) = leaves-end g w
@@ -171,7 +172,7 @@ module _ (ex ey p q : ℤ) where
       go (ahead e) = omega (arith, side-step ex ey p q x y dx dy .eq, ahead-step e (leaves-after a g), ahead-anchor e r g)
       go (back e) = rest e (leaves-rest g r) (leaves-end g w)
 
--- Every corner is on the inner side of every edge
+-- Every corner cell is on the inner side of every edge
 pub inner-side :
     {es fs : List ℤ} {x y u v ex ey p q : ℤ} → Rising es → Ends es x y x y → Met es x y u v → Leaves es x y ex ey p q fs → Least0 (sideValue ex ey p q u v)
 inner-side {ex = ex} {ey = ey} {p = p} {q = q} r w m g =

@@ -1,4 +1,5 @@
--- Cross products and side values as differences of naturals: both are linear in the second vector, so a step further adds its own cross product.
+-- Cross products and side values as differences of naturals: both are linear in the
+-- second vector, so one more step adds its own cross product.
 use Prim.Native.Nat.{ℕ, _+_, _*_}
 use native.Mathlib.Omega.{arith}
 use mathlib.Core.Path.{_≡_, refl}
@@ -14,7 +15,7 @@ pub is-cross :
 unfolding cross
 is-cross h k l m = is-minus (is-mul k l) (is-mul h m)
 
--- A side value is the cross product of the edge with the way to the cell
+-- A side value is the cross product of the edge with the vector to the cell
 pub side-cross : (dx dy x y c r : ℤ) → sideValue dx dy x y c r ≡ cross dx dy (c -ℤ x) (r -ℤ y)
 unfolding sideValue cross
 side-cross dx dy x y c r = refl
@@ -25,7 +26,7 @@ further u f x =
     let b = is-minus (is-self u) (is-self x) in
     record { eq = omega (arith, a .eq, b .eq) }
 
--- One step (fx, fy) further the side value is larger by the cross product
+-- After one more step (fx, fy) the side value is larger by the cross product
 pub side-step :
     (ex ey x y u v fx fy : ℤ)
     → Is (sideValue ex ey x y (u +ℤ fx) (v +ℤ fy)) (up (sideValue ex ey x y u v) + up (cross ex ey fx fy))
@@ -36,7 +37,7 @@ side-step ex ey x y u v fx fy =
     let c = is-cross (is-self ex) (is-self ey) (is-self fx) (is-self fy) in
     rw (side-cross ex ey x y (u +ℤ fx) (v +ℤ fy), side-cross ex ey x y u v) (record { eq = omega (arith, a .eq, b .eq, c .eq) })
 
--- The corner that an edge leaves is on its line
+-- The corner cell where an edge starts is on its line
 pub nil-difference : (x : ℤ) → Is (x -ℤ x) 0 0
 nil-difference x = record { eq = omega (arith, is-minus (is-self x) (is-self x) .eq) }
 
@@ -53,7 +54,7 @@ cross-swap dx dy ex ey =
     let b = is-cross (is-self dx) (is-self dy) (is-self ex) (is-self ey) in
     record { eq = omega (arith, a .eq, b .eq) }
 
--- The opposite of the second, of the first, or of both
+-- With the second vector negated, the first, or both
 pub cross-back : (dx dy ex ey : ℤ) → Is (cross dx dy (negℤ ex) (negℤ ey)) (down (cross dx dy ex ey)) (up (cross dx dy ex ey))
 cross-back dx dy ex ey =
     let a = is-cross (is-self dx) (is-self dy) (is-neg (is-self ex)) (is-neg (is-self ey)) in
@@ -69,7 +70,7 @@ cross-front dx dy ex ey =
 pub cross-opposites : (dx dy ex ey : ℤ) → Is (cross (negℤ dx) (negℤ dy) (negℤ ex) (negℤ ey)) (up (cross dx dy ex ey)) (down (cross dx dy ex ey))
 cross-opposites dx dy ex ey = record { eq = omega (arith, cross-back (negℤ dx) (negℤ dy) ex ey .eq, cross-front dx dy ex ey .eq) }
 
--- The cross product grows by that of a step in its first vector too
+-- The cross product is additive in its first vector too
 pub cross-step :
     (ax ay dx dy px py : ℤ)
     → Is (cross (ax +ℤ dx) (ay +ℤ dy) px py) (up (cross ax ay px py) + up (cross dx dy px py)) (down (cross ax ay px py) + down (cross dx dy px py))

@@ -1,5 +1,5 @@
--- The order of directions: clockwise from up. A direction is forward (from up to just short of down) or backward; among the forward ones the order
--- is that of the cross product's sign, which is transitive there, and a backward one is the opposite of a forward one.
+-- The order of directions, clockwise from up. A direction is forward (from up to just short of down) or backward. Among forward ones the
+-- sign of the cross product gives the order and is transitive; a backward direction is the opposite of a forward one.
 use Prim.Native.Nat.{ℕ, zero, suc, _+_, _*_, _≤_, _<_}
 use native.Mathlib.Nat.{mul-le-mul-right, mul-lt-mul-of-pos-right, lt-of-mul-lt-mul-left}
 use native.Mathlib.Omega.{arith}
@@ -32,7 +32,7 @@ pub opposite : {dx dy : ℤ} → Backward dx dy → Forward (negℤ dx) (negℤ 
 opposite across = across
 opposite downward = upward
 
--- With columns a, c, p in naturals and rows b - b′, d - d′, q - q′: three falling slopes
+-- With columns a, c, p as naturals and rows b - b′, d - d′, q - q′: three decreasing slopes
 slopes :
     (a b b′ c d d′ p q q′ : ℕ) → 0 < c → 0 < a → b′ * c + a * d ≤ b * c + a * d′ → d′ * p + c * q < d * p + c * q′ → b′ * p + a * q < b * p + a * q′
 slopes a b b′ c d d′ p q q′ hc ha h k =
@@ -41,7 +41,7 @@ slopes a b b′ c d d′ p q q′ hc ha h k =
 flat-cross : (a : ℕ) (dy : ℤ) (c : ℕ) (ey : ℤ) → Is (cross (pos a) dy (pos c) ey) (up dy * c + a * down ey) (down dy * c + a * up ey)
 flat-cross a dy c ey = record { eq = omega (arith, is-cross (is-self (pos a)) (is-self dy) (is-self (pos c)) (is-self ey) .eq) }
 
--- Among the forward directions the order is transitive, also where the first two may be the same
+-- Among forward directions the order is transitive, also if the first two are equal
 pub chain :
     {dx dy ex ey fx fy : ℤ} → Forward dx dy → Forward ex ey → Forward fx fy → Least0 (cross dx dy ex ey) → Above (cross ex ey fx fy) → Above (cross dx dy fx fy)
 chain {dy = dy} {ey = ey} {fy = fy} (across {n = a}) (across {n = c}) (across {n = p}) h k =
@@ -60,9 +60,9 @@ chain {dy = dy} {ey = ey} {fy = fy} upward (across {n = c}) upward h k = absurd 
 chain {dy = dy} {ey = ey} {fy = fy} upward upward (across {n = p}) h k = omega (arith, flat-cross 0 dy (suc p) fy .eq)
 chain {dy = dy} {ey = ey} {fy = fy} upward upward upward h k = absurd (omega (arith, flat-cross 0 ey 0 fy .eq))
 
--- ---- the whole round
+-- ---- all directions
 
--- (dx, dy) comes before (ex, ey) in the round from up
+-- (dx, dy) comes before (ex, ey) in the order from up
 pub data Sooner (dx dy ex ey : ℤ) : Type 0 where
   halves : Forward dx dy → Backward ex ey → Sooner dx dy ex ey
   forwards : Forward dx dy → Forward ex ey → Above (cross dx dy ex ey) → Sooner dx dy ex ey
@@ -93,7 +93,7 @@ precedes-trans (backwards d e h) (halves e′ f) = absurd (both-ways e′ e)
 precedes-trans (backwards d e h) (forwards e′ f k) = absurd (both-ways e′ e)
 precedes-trans (backwards d e h) (backwards e′ f k) = backwards d f (backs-chain d e f h k)
 
--- Seen from one edge, the cross products with those after it fall below 0 once and stay there
+-- For one edge, the cross products with later edges become negative once and stay so
 pub falls-after :
     {ex ey fx fy gx gy : ℤ} → Sooner ex ey fx fy → Sooner fx fy gx gy → Most0 (cross ex ey fx fy) → Most0 (cross ex ey gx gy)
 falls-after (forwards e f h) k l = absurd (omega arith)
@@ -107,7 +107,7 @@ falls-after {ex} {ey} {fx} {fy} {gx} {gy} (halves e f) (backwards f′ g k) l =
       chain e (opposite f) (opposite g) (omega (arith, cross-back ex ey fx fy .eq)) (omega (arith, cross-opposites fx fy gx gy .eq)),
     )
 
--- and so do those with the edges before it
+-- and so do those with earlier edges
 pub falls-before :
     {ex ey fx fy gx gy : ℤ} → Sooner fx fy gx gy → Sooner gx gy ex ey → Most0 (cross ex ey fx fy) → Most0 (cross ex ey gx gy)
 falls-before {ex} {ey} {fx} {fy} {gx} {gy} h (forwards g e k) l = omega (arith, cross-swap gx gy ex ey .eq)

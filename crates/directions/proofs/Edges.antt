@@ -1,4 +1,5 @@
--- The edges of a list that passes refusal 16, by their numbers: none is nil, and each comes sooner than every later one, so that no two share a direction.
+-- The edges of a list that passes refusal 16, by index: none is zero, and each comes
+-- before every later one, so no two have the same direction.
 use Prim.Native.Nat.{ℕ, zero, suc, _+_, _*_, _<_}
 use native.Mathlib.Omega.{arith}
 use mathlib.Core.Path.{_≡_}
@@ -14,7 +15,7 @@ use Rattle.directions.proofs.Corners.{Facing, AllAfter, Rising}
 use Rattle.directions.proofs.Passing.{facing-not-nil, passes-iff}
 use Rattle.directions.proofs.Round.{NotNil, precedes-not-same}
 
--- Edge i has both its numbers in the list
+-- Both numbers of edge i are in the list
 abbrev pub Listed : List ℤ → ℕ → Type 0
 Listed es i = 2 * i + 1 < length es
 

@@ -1,4 +1,4 @@
--- The fan of triangles from the anchor: of three weights that are side values, the mean of a triangle's corners is the cell.
+-- The fan of triangles from the anchor: with three side values as weights, the mean of a triangle's corners is the cell.
 use Prim.Native.Nat.{ℕ, _+_, _*_}
 use native.Mathlib.Omega.{arith}
 use mathlib.Core.Path.{_≡_, refl, ap}
@@ -27,7 +27,7 @@ cramer-row :
 unfolding cross
 cramer-row ax ay dx dy px py = simp (minus-times, times-assoc, *ℤ-comm, times-left, minus-shared-start)
 
--- An integer that is not below 0 has no part below 0, and one that is not above 0 no part above it
+-- An integer that is not below 0 has no negative part, and one that is not above 0 has no positive part
 pub least-down : (z : ℤ) → Least0 z → down z ≡ 0
 least-down (pos n) h = refl
 least-down (negsuc n) h = absurd (omega arith)
@@ -36,7 +36,7 @@ most-up : (z : ℤ) → Most0 z → up z ≡ 0
 most-up (pos n) h = omega arith
 most-up (negsuc n) h = refl
 
--- The way from the anchor to the cell is a mean of nothing, the way to a corner, and the way to the next corner
+-- The vector from the anchor to the cell is a mean of zero, the vector to a corner cell and the vector to the next one
 fan-mean :
     {w i j k : ℕ} {b e f : ℤ} (p d a : ℤ) → w ≡ i + j + k → Is b w 0 → Is f k 0 → Is e 0 (j + k) → b *ℤ p ≡ f *ℤ d -ℤ e *ℤ a
     → Meanℤ w i j k p (pos 0) a (a +ℤ d)
@@ -45,7 +45,7 @@ fan-mean {w} {i} {j} {k} p d a s hb hf he eq =
     let m = ap (λ (n : ℕ). k * n) (is-add (is-self a) (is-self d) .eq) in
     mean-of (omega (arith, l, m))
 
--- From ways that begin at the anchor to cells
+-- From vectors that start at the anchor to cells
 pub shift-back : {w i j k : ℕ} (x c u d : ℤ) → w ≡ i + j + k → Meanℤ w i j k (c -ℤ x) (pos 0) (u -ℤ x) ((u -ℤ x) +ℤ d) → Meanℤ w i j k c x u (u +ℤ d)
 shift-back x c u d e h =
     let back : (z : ℤ) → (z -ℤ x) -ℤ negℤ x ≡ z =
@@ -54,12 +54,12 @@ shift-back x c u d e h =
     rw (back c, nil, back u, ← (minus-step u d x), back (u +ℤ d)) at (mean-minus h (mean-same (negℤ x) e))
 
 module _ (x y c r : ℤ) where
-  -- Above 0 where the cell is clockwise of the corner (u, v), both seen from the anchor
+  -- Above 0 if the cell lies clockwise of the corner cell (u, v), seen from the anchor
   unfoldable pub Seen : ℤ → ℤ → ℤ
   Seen u v = cross (u -ℤ x) (v -ℤ y) (c -ℤ x) (r -ℤ y)
 
   module _ (u v dx dy : ℤ) where
-    -- The edge with the way to the cell
+    -- The cross product of the edge with the vector to the cell
     abbrev ToCell : ℤ
     ToCell = cross dx dy (c -ℤ x) (r -ℤ y)
 
@@ -70,19 +70,19 @@ module _ (x y c r : ℤ) where
     cell-step : Is (sideValue dx dy u v c r) (up (sideValue dx dy u v x y) + up ToCell) (down (sideValue dx dy u v x y) + down ToCell)
     cell-step = rw (there-and-back x c, there-and-back y r) at (side-step dx dy u v x y (c -ℤ x) (r -ℤ y))
 
-    -- The three weights sum to the anchor's side value
+    -- The sum of the three weights is the anchor's side value
     pub fan-sum :
         Is (sideValue dx dy u v x y) (up (sideValue dx dy u v c r) + down (Seen (u +ℤ dx) (v +ℤ dy)) + up (Seen u v))
         (down (sideValue dx dy u v c r) + up (Seen (u +ℤ dx) (v +ℤ dy)) + down (Seen u v))
     fan-sum = record { eq = omega (arith, seen-step .eq, cell-step .eq) }
 
-    -- Twice the triangle's area is the anchor's side value
+    -- The anchor's side value is twice the triangle's area
     area : Is (cross (u -ℤ x) (v -ℤ y) dx dy) (up (sideValue dx dy u v x y)) (down (sideValue dx dy u v x y))
     area =
         rw (side-cross dx dy u v x y, opposite-way x u, opposite-way y v)
         (record { eq = omega (arith, cross-back dx dy (u -ℤ x) (v -ℤ y) .eq, cross-swap dx dy (u -ℤ x) (v -ℤ y) .eq) })
 
-    -- The cell is in the triangle of the anchor, the corner (u, v) and the next one
+    -- The cell is in the triangle of the anchor, the corner cell (u, v) and the next one
     pub triangle :
         {es : List ℤ} → Met es x y u v → Met es x y (u +ℤ dx) (v +ℤ dy) → Least0 (sideValue dx dy u v c r) → Most0 (Seen (u +ℤ dx) (v +ℤ dy)) → Least0 (Seen u v)
         → Above (sideValue dx dy u v x y) → InCornerHull es x y c r

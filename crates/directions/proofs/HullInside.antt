@@ -1,4 +1,4 @@
--- What lies in the hull of the corners is inside.
+-- A cell in the hull of the corner cells is inside, since every corner cell is and a mean keeps the inequalities.
 use Prim.Native.Nat.{_+_}
 use mathlib.Core.Path.{_≡_, refl}
 use mathlib.Core.Bool.{true, false, and-eq-true-iff}

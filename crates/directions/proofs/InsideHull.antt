@@ -1,5 +1,5 @@
--- What is inside lies in the hull of the corners. With three edges or more: along the fan of triangles from the anchor, the first corner that has the cell on its
--- other side closes the triangle that holds the cell.
+-- A cell inside lies in the hull of the corner cells. With three or more edges: follow the fan of triangles from the anchor. The first
+-- corner cell that has the cell on its other side closes the triangle that contains the cell.
 use native.Mathlib.Decide.{decLe}
 use native.Mathlib.Omega.{arith}
 use mathlib.Core.Path.{_≡_, refl}
@@ -28,7 +28,7 @@ leaves-met-next : {es fs : List ℤ} {x y ex ey u v : ℤ} → Leaves es x y ex 
 leaves-met-next first = Met.after Met.start
 leaves-met-next (later l) = Met.after (leaves-met-next l)
 
--- The last edge comes back to the anchor, so its corner does not have the cell strictly clockwise
+-- The last edge returns to the anchor, so the cell is not strictly clockwise of its start
 pub last :
     (x y c r ex ey u v : ℤ) → u +ℤ ex ≡ x → v +ℤ ey ≡ y → Least0 (sideValue ex ey u v c r) → Above (Seen x y c r u v) → ⊥
 last x y c r ex ey u v p q s a =
@@ -43,7 +43,7 @@ pub odd-ends : {d x y u v : ℤ} → Ends (d ∷ []) x y u v → (x ≡ u) × (y
 odd-ends Ends.odd = (refl, refl)
 
 module _ {es : List ℤ} {x y c r dx dy : ℤ} (g : Passed (dx ∷ dy ∷ es) x y) (h : Inner (dx ∷ dy ∷ es) x y c r) where
-  -- One triangle: it holds the cell, or the next corner has the cell strictly clockwise
+  -- One triangle: it contains the cell, or the cell is strictly clockwise of the next corner cell
   one :
       {fs : List ℤ} {ex ey u v gx gy : ℤ} → Leaves es (x +ℤ dx) (y +ℤ dy) ex ey u v (gx ∷ gy ∷ fs) → Least0 (Seen x y c r u v)
       → (Above (Seen x y c r (u +ℤ ex) (v +ℤ ey)) → InCornerHull (dx ∷ dy ∷ es) x y c r) → InCornerHull (dx ∷ dy ∷ es) x y c r
@@ -63,7 +63,7 @@ module _ {es : List ℤ} {x y c r dx dy : ℤ} (g : Passed (dx ∷ dy ∷ es) x 
       absurd (last x y c r ex ey u v (e .0) (e .1) (h .side ex ey u v (d ∷ []) (later l)) a)
   fan (gx ∷ gy ∷ fs) l a = one l (omega arith) (λ b. fan fs (leaves-next l) b)
 
--- Three edges or more
+-- Three or more edges
 pub inside-many :
     {es : List ℤ} {x y c r dx dy ex ey gx gy : ℤ} → Passed (dx ∷ dy ∷ ex ∷ ey ∷ gx ∷ gy ∷ es) x y → Inner (dx ∷ dy ∷ ex ∷ ey ∷ gx ∷ gy ∷ es) x y c r
     → InCornerHull (dx ∷ dy ∷ ex ∷ ey ∷ gx ∷ gy ∷ es) x y c r

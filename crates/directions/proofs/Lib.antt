@@ -1,6 +1,6 @@
--- Cross products; the order of directions; every corner is on the inner side of every edge; what passes refusal 16; means, and what lies in the hull is
--- inside; the fan of triangles, and what is inside lies in the hull; fewer than three edges; the claim; the order's laws; the edges one by one; those of taken
--- outlines, and their corner cells; the numbers of the chart.
+-- Cross products; the order of directions; every corner cell is on the inner side of every edge; lists that pass refusal 16; means, and
+-- the hull is inside; the fan of triangles, and the inside is in the hull; fewer than three edges; the theorem; laws of the order; edges
+-- by index; the edges of taken outlines and their corner cells; the numbers of the chart.
 pub mod Cross
 pub mod Directions
 pub mod Corners

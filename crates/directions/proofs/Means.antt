@@ -1,4 +1,5 @@
--- Weighted means of three integers, and a mean of corners is inside: side values and the bounds of columns and rows are means too.
+-- Weighted means of three integers. A mean of corner cells is inside: its side values are
+-- means of side values, and means respect bounds of columns and rows.
 use Prim.Native.Nat.{ℕ, _+_, _*_, _<_}
 use native.Mathlib.Nat.{mul-le-mul-right, le-of-mul-le-mul-right}
 use native.Mathlib.Omega.{arith}
@@ -20,7 +21,7 @@ use Rattle.directions.proofs.Directions.{Least0}
 pub record Meanℤ (w i j k : ℕ) (z p q t : ℤ) : Type 0 where
   pub is : pos w *ℤ z ≡ pos i *ℤ p +ℤ pos j *ℤ q +ℤ pos k *ℤ t
 
--- in naturals
+-- As naturals
 weighs : (i j k : ℕ) (p q t : ℤ) → Is (pos i *ℤ p +ℤ pos j *ℤ q +ℤ pos k *ℤ t) (i * up p + j * up q + k * up t) (i * down p + j * down q + k * down t)
 weighs i j k p q t =
     record {
@@ -45,7 +46,7 @@ module _ {w i j k : ℕ} where
   pub mean-times : (e : ℤ) {z p q t : ℤ} → Meanℤ w i j k z p q t → Meanℤ w i j k (e *ℤ z) (e *ℤ p) (e *ℤ q) (e *ℤ t)
   mean-times e h = record { is = simp (times-left, h .is, times-sum) }
 
-  -- A mean of numbers that are not below 0 is not
+  -- A mean of numbers that are not below 0 is not below 0
   pub mean-least : {z p q t : ℤ} → 0 < w → Meanℤ w i j k z p q t → Least0 p → Least0 q → Least0 t → Least0 z
   mean-least g h l m n =
       le-of-mul-le-mul-right {k = w} (omega (arith, mean-eq h, mul-le-mul-right i l, mul-le-mul-right j m, mul-le-mul-right k n)) g
@@ -75,7 +76,7 @@ max-high a b = go (leZ a b) refl
     go true e = omega (arith, at-most-iff a b .0 e)
     go false e = omega (arith, not-at-most a b e)
 
--- Steps from x meet u
+-- Steps from x lead to u
 pub data Reach : List ℤ → ℤ → ℤ → Type 0 where
   start : {ds : List ℤ} {x : ℤ} → Reach ds x x
   after : {ds : List ℤ} {d x u : ℤ} → Reach ds (x +ℤ d) u → Reach (d ∷ ds) x u
@@ -102,7 +103,7 @@ highest-most [] Reach.start = omega arith
 highest-most (d ∷ ds) {x = x} Reach.start = max-high x (highestMet ds (x +ℤ d)) .0
 highest-most (d ∷ ds) {x = x} (Reach.after m) = omega (arith, max-high x (highestMet ds (x +ℤ d)) .1, highest-most ds m)
 
--- What bounds every number met bounds what is within
+-- A bound of all numbers met is a bound of the extremes
 lowest-bound : (ds : List ℤ) (a x : ℤ) → ((u : ℤ) → Reach ds x u → AtMost a u) → AtMost a (lowestMet ds x)
 unfolding lowestMet minℤ
 lowest-bound [] a x h = h x Reach.start
@@ -133,7 +134,7 @@ between ds a b x c h e =
       highest-bound ds b x (λ u m. h u m .1),
     )
 
--- A mean of numbers met is within the bounds
+-- A mean of numbers met lies between the extremes
 low-minus : (a b : ℤ) → AtMost a b → Least0 (b -ℤ a)
 low-minus a b h = omega (arith, is-minus (is-self b) (is-self a) .eq)
 

@@ -1,4 +1,4 @@
--- A number at least 0 is natural, and one at most 254 is below 255: so the numbers of the chart are the natural numbers below 255.
+-- The numbers of the chart are the naturals below 255: an integer at least 0 is natural, and at most 254 is below 255.
 use Prim.Native.Nat.{ℕ, _-_, _<_}
 use native.Mathlib.Decide.{decLt}
 use native.Mathlib.Omega.{arith}
@@ -19,7 +19,7 @@ unfolding chartNumber
 number (pos n) e = (n, refl, omega (arith, at-most-iff (pos n) (pos (side - 1)) .0 (and-eq-true-iff (leZ (pos 0) (pos n)) (leZ (pos n) (pos (side - 1))) .0 e .1)))
 number (negsuc n) e = absurd (omega (arith, at-most-iff (pos 0) (negsuc n) .0 (and-eq-true-iff (leZ (pos 0) (negsuc n)) (leZ (negsuc n) (pos (side - 1))) .0 e .0)))
 
--- One of them fits 16 bits without a sign
+-- Such a number fits in 16 bits without a sign
 pub number-fits : (z : ℤ) → chartNumber z ≡ true → T (nonNeg z) × Fits w16 (natAbs z)
 number-fits z e = let h = number z e in rw (h .1) (tt, record { fits = omega (arith, h .2) })
 
@@ -35,7 +35,7 @@ number-is n =
 pub number-on : (n : ℕ) → n < side → chartNumber (pos n) ≡ true
 number-on n h = rw (number-is n, lt-leb side n h)
 
--- A cell of the chart has two of them
+-- A cell of the chart has two such numbers
 pub on-parts : (u v : ℤ) → onChart u v ≡ true → (chartNumber u ≡ true) × (chartNumber v ≡ true)
 unfolding onChart
 on-parts u v e = and-eq-true-iff (chartNumber u) (chartNumber v) .0 e

@@ -1,4 +1,5 @@
--- What passes refusal 16: directions that rise from each edge to all after it, and a walk that ends where it began. And what the rule of the edges says of each edge.
+-- A list passes refusal 16 exactly if each direction comes before all later ones and the walk ends where it started, since the order is
+-- transitive. Then the rule of the edges, edge by edge.
 use Prim.Native.Nat.{zero, suc}
 use native.Mathlib.Omega.{arith}
 use mathlib.Core.Path.{_≡_, refl, ap}
@@ -70,14 +71,14 @@ of-precedes (halves d e) = rw (forward-first d, backward-first e)
 of-precedes (forwards d e h) = rw (forward-first d, forward-first e) (above-positive _ h)
 of-precedes (backwards d e h) = rw (backward-first d, backward-first e) (above-positive _ h)
 
--- ---- no edge is nil, and the directions rise
+-- ---- no edge is zero, and directions increase
 
 all-after : {dx dy ex ey : ℤ} {es : List ℤ} → Sooner dx dy ex ey → AllAfter ex ey es → AllAfter dx dy es
 all-after b AllAfter.none = AllAfter.none
 all-after b AllAfter.odd = AllAfter.odd
 all-after b (AllAfter.next c a) = AllAfter.next (precedes-trans b c) (all-after b a)
 
--- What comes sooner than the first of a rising list comes sooner than all of it
+-- An edge that comes before the first of an increasing list comes before all of it
 after-first : {dx dy : ℤ} {es : List ℤ} → Facing dx dy → Rising es → precedesFirst dx dy es ≡ true → AllAfter dx dy es
 unfolding precedesFirst
 after-first f Rising.none s = AllAfter.none
@@ -153,12 +154,12 @@ returns-sum es x y w =
 
 -- ---- refusal 16
 
--- The edges pass: their directions rise, and the walk from (x, y) comes back to it
+-- The list passes: directions increase, and the edges from (x, y) on return to it
 pub record Passed (es : List ℤ) (x y : ℤ) : Type 0 where
   pub rises : Rising es
   pub returns : Ends es x y x y
 
--- The test says what is meant
+-- The test decides this
 pub passes-iff : (es : List ℤ) (x y : ℤ) → (badDirections es ≡ false) ↔ Passed es x y
 unfolding badDirections
 passes-iff es x y = (
@@ -175,7 +176,7 @@ passes-iff es x y = (
 
 -- ---- the rule, edge by edge
 
--- (c, r) is on the inner side of every edge of the walk
+-- (c, r) is on the inner side of every edge
 pub record Inner (es : List ℤ) (x y c r : ℤ) : Type 0 where
   pub side : (ex ey p q : ℤ) (fs : List ℤ) → Leaves es x y ex ey p q fs → Least0 (sideValue ex ey p q c r)
 
@@ -204,7 +205,7 @@ inner es x y c r n = record { side = λ ex ey p q fs l. go n l }
     go n (first {es = es} {ex = ex} {ey = ey} {x = x} {y = y}) = outside-both ex ey es x y c r n .0
     go n (later {es = es} {dx = dx} {dy = dy} {x = x} {y = y} l) = go (outside-both dx dy es x y c r n .1) l
 
--- Every corner passes the rule of the side values
+-- Every corner cell is on the inner side of every edge
 pub corner-inner : {es : List ℤ} {x y u v : ℤ} → Passed es x y → Met es x y u v → Inner es x y u v
 corner-inner h m = record { side = λ ex ey p q fs l. inner-side (h .rises) (h .returns) m l }
 

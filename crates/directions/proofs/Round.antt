@@ -1,5 +1,5 @@
--- The order of directions is strict, transitive and, up to direction, total, and begins at up: two directions of one half are parallel and forward exactly
--- where their cross product is nil, and a direction of the other half is the opposite of one.
+-- The order of directions is strict, transitive, total up to direction, and starts at up: two directions of one half have the same
+-- direction exactly if their cross product is zero, and a direction of one half is the opposite of one of the other.
 use Prim.Native.Nat.{ℕ, zero, suc, _+_, _*_, _<_}
 use native.Mathlib.Decide.{decLt}
 use native.Mathlib.Omega.{arith}
@@ -17,9 +17,9 @@ use Rattle.directions.proofs.Directions.{Above, Forward, Backward, Soon
 use Rattle.directions.proofs.Corners.{Facing, ahead, back}
 use Rattle.directions.proofs.Passing.{facing, positive-above, precedes-of, of-precedes}
 
--- ---- the same direction, in naturals
+-- ---- the same direction, as naturals
 
--- The cross product is nil, and the scalar product is above 0
+-- The cross product is zero, and the scalar product is above 0
 abbrev Flat : ℤ → ℤ → ℤ → ℤ → Type 0
 Flat dx dy ex ey =
     up dy * up ex + down dy * down ex + (up dx * down ey + down dx * up ey) ≡ up dy * down ex + down dy * up ex + (up dx * up ey + down dx * down ey)
@@ -52,7 +52,7 @@ module _ (dx dy ex ey : ℤ) where
 
 -- ---- two directions of one half
 
--- Parallel directions of the first half point the same way
+-- Parallel directions of the first half are the same
 across-along : (m n : ℕ) (dy ey : ℤ) → Flat (pos (suc m)) dy (pos (suc n)) ey → Along (pos (suc m)) dy (pos (suc n)) ey
 across-along m n (pos b) (pos d) f = omega arith
 across-along m n (pos b) (negsuc d) f = absurd (omega arith)
@@ -65,7 +65,7 @@ flat-along (Forward.across {n = m} {dy = dy}) (Forward.upward {n = n}) f = absur
 flat-along (Forward.upward {n = m}) (Forward.across {n = n} {dy = ey}) f = absurd (omega arith)
 flat-along (Forward.upward {n = m}) (Forward.upward {n = n}) f = omega arith
 
--- The opposite exchanges the parts
+-- Negation exchanges the positive and the negative part
 up-neg : (z : ℤ) → up (negℤ z) ≡ down z
 up-neg (pos zero) = refl
 up-neg (pos (suc n)) = refl
@@ -76,18 +76,18 @@ down-neg (pos zero) = refl
 down-neg (pos (suc n)) = refl
 down-neg (negsuc n) = refl
 
--- Parallel directions of different halves point opposite ways
+-- Parallel directions of different halves are opposite
 flat-against : {dx dy ex ey : ℤ} → Forward dx dy → Backward ex ey → Flat dx dy ex ey → Along dx dy ex ey → ⊥
 flat-against {dx} {dy} {ex} {ey} d e f h = omega (arith, simp (up-neg, down-neg) at (flat-along d (opposite e) (simp (up-neg, down-neg) (omega arith))))
 
--- Parallel directions of the second half point the same way
+-- Parallel directions of the second half are the same
 flat-along-back : {dx dy ex ey : ℤ} → Backward dx dy → Backward ex ey → Flat dx dy ex ey → Along dx dy ex ey
 flat-along-back {dx} {dy} {ex} {ey} d e f =
     omega (arith, simp (up-neg, down-neg) at (flat-along (opposite d) (opposite e) (simp (up-neg, down-neg) (omega arith))))
 
 -- ---- the laws
 
--- Two directions of one half: one comes sooner, or they are the same
+-- Of two directions of one half, one comes first, or they are the same
 one-half :
     {dx dy ex ey : ℤ} → (Above (cross dx dy ex ey) → Sooner dx dy ex ey) → (Above (cross ex ey dx dy) → Sooner ex ey dx dy)
     → (Flat dx dy ex ey → Along dx dy ex ey) → Sooner dx dy ex ey ⊎ (Sooner ex ey dx dy ⊎ SameDirection dx dy ex ey)
@@ -114,11 +114,11 @@ precedes-not-same {dx} {dy} {ex} {ey} (halves d e) same = let s = same-parts dx 
 precedes-not-same {dx} {dy} {ex} {ey} (forwards d e h) same = omega (arith, crossed dx dy ex ey .eq, same-parts dx dy ex ey same .0)
 precedes-not-same {dx} {dy} {ex} {ey} (backwards d e h) same = omega (arith, crossed dx dy ex ey .eq, same-parts dx dy ex ey same .0)
 
--- (dx, dy) is not nil
+-- (dx, dy) is not zero
 abbrev pub NotNil : ℤ → ℤ → Type 0
 NotNil dx dy = (isNil dx && isNil dy) ≡ false
 
--- Strict: what comes sooner is no same direction
+-- Strict: if one comes before the other, they are not the same direction
 pub strict : (dx dy ex ey : ℤ) → NotNil dx dy → NotNil ex ey → precedes dx dy ex ey ≡ true → SameDirection dx dy ex ey → ⊥
 strict dx dy ex ey d e s = precedes-not-same (precedes-of (facing dx dy d) (facing ex ey e) s)
 
@@ -133,7 +133,7 @@ pub total-round :
     (dx dy ex ey : ℤ) → NotNil dx dy → NotNil ex ey → (precedes dx dy ex ey ≡ true) ⊎ ((precedes ex ey dx dy ≡ true) ⊎ SameDirection dx dy ex ey)
 total-round dx dy ex ey d e = ⊎-map of-precedes (⊎-map of-precedes (λ s. s)) (either-precedes (facing dx dy d) (facing ex ey e))
 
--- Nothing comes sooner than up
+-- Nothing comes before up
 not-clockwise : (m : ℕ) (dy : ℤ) (n : ℕ) → positive (cross (pos m) dy (pos 0) (pos (suc n))) ≡ false
 not-clockwise m dy n = not-held _ (λ e. omega (arith, positive-above _ e, crossed (pos m) dy (pos 0) (pos (suc n)) .eq))
 

@@ -1,4 +1,4 @@
--- Fewer than three edges: the anchor alone, or a segment. Here the bounds of columns and rows matter.
+-- Fewer than three edges are the anchor alone or a segment, and there the extremes of columns and rows bound the cell along the line.
 use Prim.Native.Nat.{ℕ, zero, suc, _+_, _-_, _*_, _≤_, _<_}
 use native.Mathlib.Omega.{arith}
 use mathlib.Core.Path.{_≡_, refl, ap}
@@ -54,7 +54,7 @@ inside-one x y c r dx dy p q h k =
 
 -- ---- a segment
 
--- The way to the cell is k parts of w of the way to the next corner
+-- The vector to the cell is k/w of the vector to the next corner cell
 segment :
     {es : List ℤ} (x y c r dx dy : ℤ) (w i k : ℕ) → 0 < w → w ≡ i + 0 + k
     → w * up (c -ℤ x) + k * down dx ≡ k * up dx + w * down (c -ℤ x) → w * up (r -ℤ y) + k * down dy ≡ k * up dy + w * down (r -ℤ y)
@@ -86,7 +86,7 @@ two-reached p l Reach.start = omega arith
 two-reached p l (Reach.after Reach.start) = omega arith
 two-reached p l (Reach.after (Reach.after Reach.start)) = omega (arith, ap up p, ap down p)
 
--- Along an axis on which the edge does not go back, the cell is from 0 to the whole edge far
+-- In a coordinate in which the edge does not decrease, the cell's distance is from 0 to that of the whole edge
 far : (x c d e : ℤ) → x +ℤ d +ℤ e ≡ x → Least0 d → within (d ∷ e ∷ []) x c ≡ true → Least0 (c -ℤ x) × (up (c -ℤ x) + down d ≤ up d + down (c -ℤ x))
 far x c d e p l h =
     let s = is-add (is-self x) (is-self d) .eq in
@@ -103,11 +103,11 @@ module _
       let m : Least0 (cross dx dy (c -ℤ x) (r -ℤ y)) = rw (side-cross dx dy x y c r) at s in
       record { eq = omega (arith, seen-step x y c r x y dx dy .eq, seen-anchor x y c r .eq) }
 
-  -- Both edges cannot be of one half
+  -- The two edges cannot be in one half
   not-turned : Above (cross dx dy ex ey) → ⊥
   not-turned a = omega (arith, is-cross (is-self dx) (is-self dy) (way-back x dx ex p) (way-back y dy ey q) .eq)
 
--- An edge to the right of the anchor: counted in its columns
+-- An edge to the right of the anchor: count its columns
 across-segment :
     {es : List ℤ} (x y c r dy : ℤ) (n : ℕ) → Least0 (c -ℤ x) → up (c -ℤ x) ≤ suc n + down (c -ℤ x) → Is (cross (pos (suc n)) dy (c -ℤ x) (r -ℤ y)) 0 0
     → InCornerHull (pos (suc n) ∷ dy ∷ es) x y c r
@@ -118,7 +118,7 @@ across-segment x y c r dy n l h o =
     let g = is-cross (is-self (pos (suc n))) (is-self dy) f (is-self (r -ℤ y)) .eq in
     segment x y c r (pos (suc n)) dy (suc n) (suc n - k) k (omega arith) (omega arith) (omega (arith, ap (λ (m : ℕ). n * m) z)) (omega (arith, g, o .eq))
 
--- An edge straight up: counted in its rows
+-- An edge straight up: count its rows
 upward-segment :
     {es : List ℤ} (x y c r : ℤ) (n : ℕ) → Is (c -ℤ x) 0 0 → Least0 (r -ℤ y) → up (r -ℤ y) ≤ suc n + down (r -ℤ y)
     → InCornerHull (pos zero ∷ pos (suc n) ∷ es) x y c r

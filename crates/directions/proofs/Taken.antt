@@ -1,5 +1,5 @@
--- A taken outline's edges pass refusal 16: pieces 1 and 2 lie in the first half of the round and 3 and 4 in the second, each before the next; within a
--- piece the slopes fall; and the edges sum to nil.
+-- The edges of a taken outline pass refusal 16: pieces 1 and 2 lie in the first half of the directions and 3 and 4 in the second, each
+-- before the next; within a piece slopes decrease; and the edges sum to zero.
 use Prim.Native.Nat.{ℕ, zero, suc, _+_, _*_, _<_}
 use native.Mathlib.Nat.{mul-pos}
 use native.Mathlib.Omega.{arith}
@@ -44,7 +44,7 @@ backward-of (pos zero) (negsuc n) h k = Backward.downward
 backward-of (pos (suc m)) dy h k = absurd (omega arith)
 backward-of (negsuc m) dy h k = Backward.across
 
--- Frames 0 and 1 are of the first half, frames 2 and 3 of the second
+-- Frames 0 and 1 are in the first half, frames 2 and 3 in the second
 abbrev Half : ℕ → ℤ → ℤ → Type 0
 Half zero dx dy = Forward dx dy
 Half (suc zero) dx dy = Forward dx dy
@@ -67,7 +67,7 @@ is-cross-both :
     → Is (cross dx dy ex ey) (b * c + b′ * c′ + (a * d′ + a′ * d)) (b * c′ + b′ * c + (a * d + a′ * d′))
 is-cross-both h g = is-cross (h .0) (h .1) (g .0) (g .1)
 
--- In one frame a falling slope turns clockwise
+-- In one frame, a smaller slope lies clockwise
 slope-cross : (k : ℕ) {e l e′ l′ : ℕ} {dx dy ex ey : ℤ} → Lies k 0 e l dx dy → Lies k 0 e′ l′ ex ey → l′ * e < l * e′ → Above (cross dx dy ex ey)
 unfolding Counted
 slope-cross zero h g s = omega (arith, is-cross-both (h .counted) (g .counted) .eq)
@@ -120,7 +120,7 @@ turning-rises (Increasing.more {k = k} a p r) =
     let t = turning-rises r in
     (or-false-iff _ _ .1 (facing-not-nil (frame-facing k p), t .0), and-eq-true-iff _ _ .1 (turning-first p r, t .1))
 
--- A turn past 1 to 8 without a dent
+-- A border that passes 1 to 8 and has no dent
 module _ (o : Outline) (straight : NoBackStep o) (smooth : dentPiece o ≡ 4) where
   sums : sumsToZero (edges o) ≡ true
   unfolding sumsToZero isNil
@@ -144,7 +144,7 @@ module _ (o : Outline) (h : Reaches o) (smooth : dentPiece (border o) ≡ 4) whe
   pub edge-not-zero : (i : ℕ) → i < edgeCount (border o) → NotNil (edgeCols (edges (border o)) i) (edgeRows (edges (border o)) i)
   edge-not-zero i l = passed-not-nil (edges (border o)) taken-passes i (edge-listed i l)
 
-  -- No two edges share a direction
+  -- No two edges have the same direction
   pub directions-distinct :
       (i j : ℕ) → i < j → j < edgeCount (border o)
       → SameDirection (edgeCols (edges (border o)) i) (edgeRows (edges (border o)) i) (edgeCols (edges (border o)) j) (edgeRows (edges (border o)) j) → ⊥

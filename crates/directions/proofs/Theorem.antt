@@ -1,4 +1,5 @@
--- For edges that pass, a cell is inside exactly if it lies in the hull of the corner cells.
+-- For edges that pass refusal 16, a cell is inside exactly if it lies in the hull of the corner
+-- cells: one direction by means, the other by the fan of triangles.
 use mathlib.Core.Path.{_≡_}
 use mathlib.Core.Logic.{_↔_}
 use mathlib.Core.Bool.{true, false, _&&_, and-eq-true-iff}
@@ -47,11 +48,11 @@ inside-hull x y es c r a h =
     let l = and-eq-true-iff (within (colSteps es) x c) (within (rowSteps es) y r) .0 (k .0) in
     inner-hull es x y c r (passes-iff es x y .0 a) (inner es x y c r (k .1)) (l .0) (l .1)
 
--- The claim: inside exactly if in the hull. First for anchors and cells anywhere
+-- The theorem for anchors and cells anywhere
 pub inside-at-iff-hull : (x y : ℤ) (es : List ℤ) (c r : ℤ) → badDirections es ≡ false → (insideAt es x y c r ≡ true) ↔ InCornerHull es x y c r
 inside-at-iff-hull x y es c r a = (inside-hull x y es c r a, hull-inside x y es c r a)
 
--- Then for an anchor and a cell of the chart
+-- The theorem for an anchor and a cell of the chart
 pub inside-iff-hull : (a : Point) (es : List ℤ) (x : Point) → badDirections es ≡ false → (insideEdges a es x ≡ true) ↔ CornersHold a es x
 unfolding insideEdges
 inside-iff-hull a es x b = inside-at-iff-hull (pos (a .col)) (pos (a .row)) es (pos (x .col)) (pos (x .row)) b

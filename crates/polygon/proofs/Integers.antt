@@ -1,4 +1,4 @@
--- The order of integers by their parts: what a least or a highest number is at most, and that a machine's test against 0 is the definition's.
+-- The order of integers by their positive and negative parts: what minima and maxima are at most, and machine tests against 0.
 use Prim.Native.Nat.{zero, suc, _-_, _^_, _<_}
 use native.Mathlib.Omega.{arith}
 use mathlib.Core.Path.{_≡_, refl, ap, _∙_}
@@ -22,7 +22,7 @@ unfolding notNegative
 not-negative-machine (pos a) = le-leb 0 a (omega arith)
 not-negative-machine (negsuc a) = refl
 
--- A difference is not negative exactly if the number taken away is at most the other
+-- A difference is not negative exactly if the subtrahend is at most the minuend
 pub at-most-difference : (a b : ℤ) → leZ b a ≡ notNegative (a -ℤ b)
 at-most-difference a b =
     let iff = le-iff (is-self (pos 0)) (is-minus (is-self a) (is-self b)) in
@@ -40,7 +40,7 @@ nil-machine (pos zero) f = refl
 nil-machine (pos (suc n)) f = ne-eqb (suc n) 0 (omega arith)
 nil-machine (negsuc n) f = ne-eqb (18446744073709551616 - suc n) 0 (omega (arith, f .sfits))
 
--- A number of 16 bits, made one of 64, is read back as it is
+-- A 16-bit number widened to 64 bits keeps its value
 pub widened : {d z : ℤ} → SFits w16 d → mag z < 2 ^ 63 → z ≡ toZ w16 (ofZ w16 d) → toZ w64 (ofZ w64 z) ≡ d
 widened {d} {z} f ok e = read-back z ok ∙ e ∙ toZ-ofZ w16 d f
 
@@ -67,7 +67,7 @@ pub max-by : (a b : ℤ) {t : Bool} → leZ a b ≡ t → maxℤ a b ≡ cond t 
 unfolding maxℤ
 max-by a b e = ap (λ (t : Bool). cond t b a) e
 
--- The lower of two numbers is at most c where one of them is
+-- The smaller of two numbers is at most c if one of them is
 pub min-at-most : (a b c : ℤ) → leZ (minℤ a b) c ≡ (leZ a c || leZ b c)
 unfolding minℤ
 min-at-most a b c = go (leZ a b) refl
@@ -76,7 +76,7 @@ min-at-most a b c = go (leZ a b) refl
     go true e = or-first _ _ (le-trans a b c e)
     go false e = or-second _ _ (le-trans b a c (le-total a b e))
 
--- The higher of two numbers is at least c where one of them is
+-- The larger of two numbers is at least c if one of them is
 pub max-at-least : (a b c : ℤ) → leZ c (maxℤ a b) ≡ (leZ c a || leZ c b)
 unfolding maxℤ
 max-at-least a b c = go (leZ a b) refl

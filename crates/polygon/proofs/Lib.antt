@@ -1,4 +1,5 @@
--- Integers by their signs; the walk of edges, step by step; refusal 16, edge by edge; the loose query by its cases, and what its words say; the lists of taken outlines; cells of the chart; specimens.
+-- Integers by their signs; edges step by step; refusal 16, edge by edge; the loose query by cases, and what its words say; the lists of
+-- taken outlines; cells of the chart; specimens.
 pub mod Integers
 pub mod Spans
 pub mod Turns

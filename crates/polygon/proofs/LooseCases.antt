@@ -1,4 +1,4 @@
--- A loose query by its cases: the first refusal that applies, and else the rule of the edges. Each case is a clause of the definition.
+-- A loose query gives the first refusal that applies, and otherwise inside or outside. Each case is a clause of the definition.
 use Prim.Native.Nat.{_≤_, _<_, _%_}
 use mathlib.Core.Path.{_≡_}
 use mathlib.Core.Bool.{true, false, cond}
@@ -16,7 +16,7 @@ use Rattle.chart.specs.declared.Position.the-variants.{Inside, Outside, Refused
 use Rattle.directions.specs.Increasing.{badDirections}
 use Rattle.polygon.specs.Loose.{insideList, badList, badCell, badDirectionsList, looseOf}
 
--- A list that refusal 10 lets pass is no longer than the longest
+-- A list that passes refusal 10 is not too long
 pub short-list : (es : List ℤ) → badList es ≡ false → length es ≤ longestList
 unfolding badList
 short-list es e = ltb-false _ _ (or-false-iff (eqb (length es % 2) 1) (ltb longestList (length es)) .0 e .1)
@@ -31,7 +31,7 @@ unfolding badDirectionsList
 turning-short es h = rw (le-ltb longestList (length es) h)
 
 module _ (a : Point) (es : List ℤ) (x : Point) where
-  -- The rule of the edges, by the length of the list
+  -- Inside or outside, by the length of the list
   pub inside-long : longestList < length es → false ≡ insideList a es x
   unfolding insideList
   inside-long h = rw (lt-ltb longestList (length es) h)

@@ -1,4 +1,5 @@
--- With a list that passes, the words of a loose query speak of the hull of the corner cells, by the theorem of the edges that turn once round.
+-- For a list that passes 16, the words of a loose query are about the hull of the corner
+-- cells, by the theorem for edges with increasing directions.
 use Prim.Native.Nat.{ℕ}
 use native.Mathlib.Omega.{arith}
 use mathlib.Core.Path.{_≡_, refl, sym, ap, _∙_}
@@ -39,11 +40,11 @@ module _ (a : Point) (es : List ℤ) (x : Point) where
   unfolding looseOf
   hull-named = named (badList es) (badCell a || badCell x) (badDirections es) (insideEdges a es x) refl refl
 
-  -- So does whatever is that answer
+  -- The same for whatever equals that answer
   pub answer-named : (p : Position) → p ≡ looseOf a es x → (p ≡ looseOf a es x) × HullNamed a es x (positionFields p)
   answer-named p e = (e, rw e hull-named)
 
--- A loose query is turned back by 16 only where the list does not pass
+-- A loose query is refused by 16 only if the list does not pass it
 turned-back : (a : Point) (es : List ℤ) (x : Point) → looseOf a es x ≡ Refused Directions → badDirections es ≡ true
 unfolding looseOf
 turned-back a es x = go (badList es) (badCell a || badCell x) (badDirections es) (insideEdges a es x)
@@ -60,6 +61,6 @@ turned-back a es x = go (badList es) (badCell a || badCell x) (badDirections es)
     go false false false true e = absurd (omega (arith, ap number e))
     go false false false false e = absurd (omega (arith, ap number e))
 
--- So it never is with the edges of a taken outline
+-- So it is never refused by 16 for the edges of a taken outline
 pub taken-passed : (o : Outline) → Reaches o → dentPiece (border o) ≡ 4 → (a x : Point) → looseOf a (edges (border o)) x ≡ Refused Directions → ⊥
 taken-passed o h smooth a x e = true≢false (sym (turned-back a (edges (border o)) x e) ∙ taken-passes o h smooth)

@@ -1,4 +1,4 @@
--- 11 refuses a cell exactly where it is none of the chart: its numbers are natural, so each is one of the chart's unless it is too large.
+-- 11 refuses a cell exactly if it is not on the chart: its numbers are natural, so each is on the chart unless it is too large.
 use mathlib.Core.Path.{_≡_, refl}
 use mathlib.Core.Bool.{Bool, true, false, not, _&&_, _||_}
 use lib.Dec.{leb}

@@ -1,5 +1,5 @@
--- A walk of edges, step by step, ends with the rule of the edges: a lowest number is at most c where one of the numbers met is, so what was met
--- so far and what is yet to be met may be tested apart.
+-- The loop over the edges ends with the rule of the edges: an extreme is at most c if one of the numbers is, so the numbers met so far
+-- and those still to come can be tested separately.
 use Prim.Native.Nat.{ℕ, suc, _+_, _*_, _≤_, _<_}
 use native.Mathlib.Numerals.{add-one}
 use native.Mathlib.Omega.{arith}
@@ -20,12 +20,13 @@ use Rattle.polygon.proofs.Integers.{min-at-most, max-at-least}
 
 -- ---- one coordinate
 
--- The test passes at one of the numbers that steps from x lead to
+-- The test passes for one of the numbers that steps from x lead to
 unfoldable pub meets : (ℤ → Bool) → List ℤ → ℤ → Bool
 meets f [] x = false
 meets f (d ∷ ds) x = f (x +ℤ d) || meets f ds (x +ℤ d)
 
--- A test that the lower of two numbers passes where one of them does, and so with the higher: the extreme number passes it where some number met does
+-- If the smaller of two numbers passes a test whenever one of them does, the lowest number met
+-- passes it exactly if some number met does. The same for the highest
 pub lowest-meets : (f : ℤ → Bool) → ((a b : ℤ) → f (minℤ a b) ≡ (f a || f b)) → (ds : List ℤ) (x : ℤ) → f (lowestMet ds x) ≡ (f x || meets f ds x)
 unfolding meets lowestMet
 lowest-meets f h [] x = sym (or-false _)
@@ -36,7 +37,7 @@ unfolding meets highestMet
 highest-meets f h [] x = sym (or-false _)
 highest-meets f h (d ∷ ds) x = h x (highestMet ds (x +ℤ d)) ∙ ap (λ (b : Bool). f x || b) (highest-meets f h ds (x +ℤ d))
 
--- c is within what was met and what is yet to be met
+-- c is between the extremes of the numbers met so far and those still to come
 withinFrom : Span → List ℤ → ℤ → Bool
 withinFrom p ds c = (leZ (p .low) c || meets (λ z. leZ z c) ds (p .at)) && (leZ c (p .high) || meets (leZ c) ds (p .at))
 
@@ -54,7 +55,7 @@ within-end p c = simp or-false
 
 -- ---- both coordinates
 
--- What the walk answers of the edges that are left, where it stands at p and q
+-- The loop's answer for the remaining edges when it stands at p and q
 unfoldable pub insideFrom : List ℤ → Span → Span → ℤ → ℤ → Bool
 insideFrom [] p q c r = spans p c && spans q r
 insideFrom (dx ∷ []) p q c r = spans p c && spans q r
@@ -76,7 +77,7 @@ inside-from-is (dx ∷ dy ∷ es) p q c r =
     (noneOutside es (p .at +ℤ dx) (q .at +ℤ dy) c r)
     ∙ rw (within-stepped p dx (colSteps es) c, within-stepped q dy (rowSteps es) r)
 
--- The rule of the edges is what the walk answers from the anchor
+-- The rule of the edges is the loop's answer from the anchor on
 pub inside-from-anchor :
     (a : Point) (es : List ℤ) (x : Point)
     → insideEdges a es x ≡ insideFrom es (begun (pos (a .col))) (begun (pos (a .row))) (pos (x .col)) (pos (x .row))
@@ -84,14 +85,14 @@ unfolding insideEdges insideAt begun
 inside-from-anchor a es x =
     simp within-begun (sym (inside-from-is es (begun (pos (a .col))) (begun (pos (a .row))) (pos (x .col)) (pos (x .row))))
 
--- ---- a turn of the loop
+-- ---- one iteration of the loop
 
 pub drop-two : (es : List ℤ) (i : ℕ) → i + 1 < length es → drop i es ≡ getD es i (pos 0) ∷ getD es (i + 1) (pos 0) ∷ drop (i + 2) es
 drop-two es i h =
     let e : i + 2 ≡ suc (suc i) = omega arith in
     rw (e, add-one i, drop-cons es i (pos 0) (omega arith), drop-cons es (suc i) (pos 0) (omega arith))
 
--- One edge further
+-- One more edge
 inside-from-edge :
     (es : List ℤ) (i : ℕ) (p q : Span) (c r : ℤ)
     → i + 1 < length es
@@ -107,11 +108,11 @@ inside-from-short [] p q c r h = refl
 inside-from-short (dx ∷ []) p q c r h = refl
 inside-from-short (dx ∷ dy ∷ es) p q c r h = absurd (omega arith)
 
--- No edge is left
+-- No edges remain
 inside-from-end : (es : List ℤ) (i : ℕ) (p q : Span) (c r : ℤ) → length es ≤ i + 1 → insideFrom (drop i es) p q c r ≡ (spans p c && spans q r)
 inside-from-end es i p q c r h = inside-from-short (drop i es) p q c r (simp length-drop (omega arith))
 
--- Of the edges es the walk has passed those before i: so far no side value was negative, and each number passed led no further than 2^15
+-- The loop has passed the edges before i of es: no side value was negative, and each number changed a coordinate by at most 2^15
 pub record Walked (es : List ℤ) (c r : ℤ) (p₀ q₀ p q : Span) (i : ℕ) : Type 0 where
   pub short : length es ≤ longestList
   pub passed : i ≤ length es
@@ -146,7 +147,7 @@ pub walked-outside :
     → insideFrom es p₀ q₀ c r ≡ false
 walked-outside {es} {c} {r} {p = p} {q = q} {i = i} w h e = w .left ∙ inside-from-edge es i p q c r h ∙ rw e
 
--- No edge is left: the extremes decide
+-- No edges remain: the extremes decide
 pub walked-end :
     {es : List ℤ} {c r : ℤ} {p₀ q₀ p q : Span} {i : ℕ}
     → Walked es c r p₀ q₀ p q i

@@ -1,4 +1,4 @@
--- The checker computes the answer of every row of the table, and one law turns that into what a row says.
+-- The checker computes the answer of every row of the table, and one law turns the computed test into the row's statement.
 use mathlib.Core.Path.{_≡_, refl}
 use mathlib.Core.Bool.{true}
 use mathlib.Core.List.{_++_, List·Memᴰ}
@@ -17,7 +17,7 @@ queried : all answered (queries ++ (passing ++ turnedBack)) ≡ true
 unfolding all answered sameFields queries passing turnedBack notNegative minℤ maxℤ sideValue noneOutside colSteps rowSteps total lowestMet highestMet within insideAt insideEdges cross positive isNil firstHalf precedes someZero sumsToZero precedesFirst rising badDirections badList badCell looseOf
 queried = refl
 
--- The loose queries of H2's and H3's edges, of lists that pass refusal 16 and of lists that do not
+-- The loose queries with the edges of H2 and H3, with lists that pass refusal 16 and with lists that do not
 pub queries-hold : (h : Query) → List·Memᴰ h (queries ++ (passing ++ turnedBack)) → positionFields (looseOf (h .anchor) (h .edges) (h .cell)) ≡ h .fields
 unfolding answered
 queries-hold h m = same-fields _ _ (all-at answered (queries ++ (passing ++ turnedBack)) queried h m)

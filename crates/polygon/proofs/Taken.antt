@@ -1,4 +1,5 @@
--- The list and the anchor of a taken outline meet neither 10 nor 11: it has two numbers for each of at most 100 edges, and its anchor is an enclosed cell.
+-- The list and the anchor of a taken outline meet neither 10 nor 11: it has two numbers for
+-- each of at most 100 edges, and its anchor is an enclosed cell.
 use Prim.Native.Nat.{ℕ, _*_, _<_, _%_}
 use native.Mathlib.Nat.{mul-mod-right}
 use native.Mathlib.Decide.{decLt}
@@ -35,7 +36,7 @@ module _ {o : Outline} {a : Point} {es : List ℤ} (h : HasEdges o a es) where
       or-false-iff (eqb (length es % 2) 1) (ltb longestList (length es)) .1
       (ne-eqb (length es % 2) 1 (λ e. omega arith), le-ltb longestList (length es) (omega (arith, listed-size, edges-fit o (h .reaches) (h .smooth))))
 
-  -- The anchor is a cell of the block, and so one of the chart
+  -- The anchor is a cell of the block, so it is on the chart
   on-chart : (a .col < side) × (a .row < side)
   on-chart =
       let in-block = border-anchor h .enclosed in

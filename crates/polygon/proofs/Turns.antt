@@ -1,4 +1,5 @@
--- Refusal 16 on a walk, edge by edge: what was passed turned on, and the sums so far take in what the rest adds.
+-- Refusal 16 in one loop: every edge passed is not zero and comes before the next,
+-- and the sums so far are completed by the remaining edges.
 use Prim.Native.Nat.{ℕ, _+_, _*_, _≤_, _<_}
 use native.Mathlib.Omega.{arith}
 use mathlib.Core.Path.{_≡_, refl, sym, ap, _∙_}
@@ -14,13 +15,13 @@ use Rattle.directions.specs.Increasing.{someZero, sumsToZero, precedesFirst, ri
 use Rattle.polygon.specs.parts.Turns.{turnsOn}
 use Rattle.polygon.proofs.Spans.{drop-two}
 
--- Every edge that is left turns on, and with what was passed they sum to nil
+-- Every remaining edge is not zero and comes before the next, and together with the sums so far they sum to zero
 pub turnsFrom : List ℤ → ℤ → ℤ → Bool
 turnsFrom [] x y = isNil x && isNil y
 turnsFrom (dx ∷ []) x y = isNil x && isNil y
 turnsFrom (dx ∷ dy ∷ es) x y = turnsOn (dx ∷ dy ∷ es) && turnsFrom es (x +ℤ dx) (y +ℤ dy)
 
--- Nil edges, sums and order taken edge by edge, and each of them for all edges
+-- Zero edges, sums and order tested edge by edge, or each for all edges
 regroup : (n s m c r : Bool) → ((not n && s) && ((not m && c) && r)) ≡ ((not (n || m) && c) && (s && r))
 regroup true s m c r = refl
 regroup false true m c r = refl
@@ -46,7 +47,7 @@ bad-turns-from : (es : List ℤ) → badDirections es ≡ not (turnsFrom es (pos
 unfolding badDirections sumsToZero
 bad-turns-from es = not-all (someZero es) (sumsToZero es) (rising es) ∙ sym (ap not (turns-from-is es (pos 0) (pos 0)) ∙ simp +ℤ-idl)
 
--- ---- one edge and the next
+-- ---- two edges in a row
 
 precedes-than-none : (dx dy : ℤ) (es : List ℤ) → length es < 2 → precedesFirst dx dy es ≡ true
 unfolding precedesFirst
@@ -70,7 +71,7 @@ module _ (es : List ℤ) (i : ℕ) (h : i + 1 < length es) where
     unfolding turnsOn
     turns-on-last l = rw (drop-two es i h, e) (precedes-than-none _ _ (drop (i + 2) es) (simp length-drop (omega arith)))
 
--- ---- a turn of the loop
+-- ---- one iteration of the loop
 
 turns-edge :
     (es : List ℤ) (i : ℕ) (x y : ℤ) → i + 1 < length es
@@ -84,7 +85,7 @@ turns-short [] x y h = refl
 turns-short (dx ∷ []) x y h = refl
 turns-short (dx ∷ dy ∷ es) x y h = absurd (omega arith)
 
--- Of the edges es the walk has passed those before i, which all turned on and sum to (x, y)
+-- The loop has passed the edges before i of es: each was in order, and they sum to (x, y)
 pub record Turned (es : List ℤ) (x y : ℤ) (i : ℕ) : Type 0 where
   pub short : length es ≤ longestList
   pub passed : i ≤ length es
@@ -109,10 +110,10 @@ turned-edge {es} {x} {y} {i} t h k l e =
       left = t .left ∙ ap not (turns-edge es i x y h) ∙ rw e;
     }
 
--- An edge that does not turn on
+-- An edge that is zero or does not come before the next
 pub turned-off : {es : List ℤ} {x y : ℤ} {i : ℕ} → Turned es x y i → i + 1 < length es → turnsOn (drop i es) ≡ false → badDirections es ≡ true
 turned-off {es} {x} {y} {i} t h e = t .left ∙ ap not (turns-edge es i x y h) ∙ rw e
 
--- No edge is left: the sums decide
+-- No edges remain: the sums decide
 pub turned-end : {es : List ℤ} {x y : ℤ} {i : ℕ} → Turned es x y i → length es ≤ i + 1 → badDirections es ≡ not (isNil x && isNil y)
 turned-end {es} {x} {y} {i} t h = t .left ∙ ap not (turns-short (drop i es) x y (simp length-drop (omega arith)))

@@ -1,4 +1,4 @@
--- The two tests of the definition, in its order.
+-- The code makes the definition's two tests in its order.
 use borrow.Author.Tests.{le-leb, lt-leb}
 use Rattle.polygon.specs.Loose.{badCell}
 use Rattle.polygon.proofs.bad_cell.Statement.{statement}

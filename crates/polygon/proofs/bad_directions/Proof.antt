@@ -1,4 +1,4 @@
--- The loop's invariant: what refusal 16 says of the edges that are left, with the sums so far, is what it says of all.
+-- The invariant: refusal 16 for the remaining edges, with the sums so far, is refusal 16 for all.
 use borrow.Author.Needs.{needs}
 use borrow.Author.Tests.{not-true, not-false}
 use Prim.Native.Nat.{_+_, _-_}
@@ -25,7 +25,7 @@ Inv-loop edges across₀ up₀ i₀ across up i = Turned edges (toZ w64 across) 
 abbrev μ-loop : tie.MeasureT-loop
 μ-loop edges across₀ up₀ i₀ across up i = length edges - i
 
--- A turn's edge
+-- The edge of an iteration
 abbrev Iteration : Type 0
 Iteration = tie.In-loop Inv-loop μ-loop
 
@@ -44,7 +44,7 @@ fits-x c = record { sfits = c .dx .given }
 fits-y : (c : tie.After-dy Inv-loop μ-loop) → SFits w16 (stepY (c .before .before .before .before))
 fits-y c = record { sfits = c .dy .given }
 
--- The sums one edge further
+-- The sums after one more edge
 cols-are :
     (c : tie.After-further Inv-loop μ-loop) →
     let t = c .before .before .before .before .before in
@@ -57,7 +57,7 @@ rows-are :
     toZ w64 (ofZ w64 (c .further2 .result)) ≡ toZ w64 (t .before .loop .up) +ℤ stepY t
 rows-are c = read-back _ (c .further2 .ok) ∙ simp (toZ-ofZ w16 _ (fits-y (c .before .before))) at (c .further2 .ensures)
 
--- Past the length the definition is refusal 16, which the sums decide at the end
+-- For a list that is not too long the definition is refusal 16, which the sums decide at the end
 decided :
     (c : tie.After-is-zero Inv-loop μ-loop) →
     let l = c .before .before in

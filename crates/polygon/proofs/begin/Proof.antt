@@ -1,4 +1,4 @@
--- The number met first is the lowest and the highest.
+-- The first number met is both the lowest and the highest.
 use borrow.Author.Needs.{needs}
 use Rattle.polygon.specs.parts.Span.{begun}
 use Rattle.base.proofs.Sizes.{read-back}

@@ -1,4 +1,4 @@
--- The side value is the difference of the two moments, and not negative exactly if the one taken away is at most the other.
+-- The side value is the difference of two products, and is not negative exactly if the second is at most the first.
 use borrow.Author.Needs.{needs}
 use mathlib.Core.Path.{_≡_, _∙_}
 use lib.IntN.{ℤ, pos, _-ℤ_, _*ℤ_}
@@ -11,7 +11,7 @@ use Rattle.polygon.proofs.Integers.{at-most-difference}
 use Rattle.polygon.proofs.beside.Statement.{statement}
 use Rattle.polygon.proofs.beside.Tie as tie
 
--- The two moments, and that they are read back as they are
+-- The two products; the machine keeps their values
 abbrev across : tie.After-moment → ℤ
 across c = let s = c .before .args in s .dy *ℤ (pos (s .cell .col) -ℤ s .cols .at)
 

@@ -1,4 +1,4 @@
--- The loop's invariant: what the walk answers of the edges that are left is what it answers of all.
+-- The invariant: the loop's answer for the remaining edges is its answer for all.
 use Prim.Native.Nat.{_+_, _-_}
 use native.Mathlib.Omega.{arith}
 use mathlib.Core.Path.{_≡_, refl, sym, _∙_}
@@ -25,7 +25,7 @@ Inv-loop edges cell cols₀ rows₀ i₀ cols rows i = Walked edges (pos (cell .
 abbrev μ-loop : tie.MeasureT-loop
 μ-loop edges cell cols₀ rows₀ i₀ cols rows i = length edges - i
 
--- A turn's edge, where the walk stands, and the cell
+-- The edge of an iteration, the current coordinates, and the cell
 abbrev Iteration : Type 0
 Iteration = tie.In-loop Inv-loop μ-loop
 
@@ -43,7 +43,7 @@ side t =
     let x = t .before .before .before .before .before .args .cell in
     sideValue (stepX t) (stepY t) (t .before .loop .cols .at) (t .before .loop .rows .at) (pos (x .col)) (pos (x .row))
 
--- The two numbers fit 16 bits, and are read back as they are
+-- The two numbers fit in 16 bits, so the machine keeps their values
 fits-x : (c : tie.After-dx Inv-loop μ-loop) → SFits w16 (stepX (c .before))
 fits-x c = record { sfits = c .dx .given }
 
@@ -65,7 +65,7 @@ rows-are :
     c .step2 .result ≡ stepped (t .before .loop .rows) (stepY t)
 rows-are c = simp (toZ-ofZ w16 _ (fits-y (c .before .before .before .before))) at (c .step2 .ensures)
 
--- The rule of the edges is what the walk answers of them all
+-- The rule of the edges is the loop's answer for all of them
 rule : (c : tie.After-begin2 Inv-loop μ-loop) →
     let s = c .before .before .before .args in
     insideList (s .anchor) (s .edges .now) (s .cell)

@@ -1,4 +1,4 @@
--- Each return is a case of the definition, by the tests that led there.
+-- Each return is a case of the definition, by the tests before it.
 use borrow.Author.Needs.{needs}
 use mathlib.Core.Path.{_≡_, sym, ap, _∙_}
 use mathlib.Core.Logic.{⊎-elim}
@@ -59,7 +59,7 @@ returns-3 c =
 inside-requires : tie.Need-inside-requires
 inside-requires c κs = search needs
 
--- Past the refusals the edges decide
+-- After the refusals the edges decide
 decided :
     (c : tie.After-inside) →
     let s = c .before .before .before .before .before .before .before .before .before .args in

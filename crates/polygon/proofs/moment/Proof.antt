@@ -1,4 +1,4 @@
--- 15 bits times 28 bits fit, and what a call gives is read back as it is.
+-- A product of 15 bits and 28 bits fits, so the machine keeps its value.
 use borrow.Author.Needs.{needs}
 use Prim.Native.Nat.{_≤_, _*_}
 use native.Mathlib.Omega.{arith}
@@ -11,7 +11,7 @@ use Rattle.base.proofs.Sizes.{read-back, fits-size, size-difference, size-produ
 use Rattle.polygon.proofs.moment.Statement.{statement}
 use Rattle.polygon.proofs.moment.Tie as tie
 
--- The step, the cell's number and where the walk stands are read back as they are
+-- The machine keeps the values of the step, the cell's number and the current coordinate
 step-read : (c : tie.After-widen) → toZ w64 (ofZ w64 (c .widen .result)) ≡ c .before .args .d
 step-read c = read-back (c .widen .result) (c .widen .ok) ∙ c .widen .ensures ∙ toZ-ofZ w16 (c .before .args .d) (c .before .fits .d)
 

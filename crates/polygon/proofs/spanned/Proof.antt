@@ -1,4 +1,4 @@
--- The two tests of the definition, in its order.
+-- The code makes the definition's two tests in its order.
 use borrow.Author.Needs.{needs}
 use mathlib.Core.Path.{_≡_, _∙_, sym}
 use lib.IntN.{pos}
@@ -10,7 +10,7 @@ use Rattle.base.proofs.Sizes.{read-back}
 use Rattle.polygon.proofs.spanned.Statement.{statement}
 use Rattle.polygon.proofs.spanned.Tie as tie
 
--- The cell's number is read back as it is, and so are the two ends
+-- The machine keeps the values of the cell's number and of the two extremes
 cell-read : (c : tie.After-whole) → toZ w64 (ofZ w64 (c .whole .result)) ≡ pos (c .before .args .c)
 cell-read c = read-back (c .whole .result) (c .whole .ok) ∙ c .whole .ensures
 

@@ -1,4 +1,4 @@
--- The walk's next number, and the lowest and the highest with it, are those of the definition.
+-- The next number, and the lowest and the highest with it, are those of the definition.
 use borrow.Author.Needs.{needs}
 use mathlib.Core.Path.{_≡_}
 use lib.IntN.{_+ℤ_}

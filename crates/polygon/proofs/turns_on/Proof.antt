@@ -1,4 +1,4 @@
--- Each return is a case of the definition: a nil edge, the last edge, an edge and the next.
+-- Each return is a case of the definition: a zero edge, the last edge, an edge and the next.
 use borrow.Author.Needs.{needs}
 use Prim.Native.Nat.{_+_}
 use mathlib.Core.Path.{_≡_, sym, _∙_}

@@ -11,7 +11,7 @@ use Rattle.directions.specs.Round.{cross, positive}
 use Rattle.polygon.proofs.round.clockwise.Statement.{statement}
 use Rattle.polygon.proofs.round.clockwise.Tie as tie
 
--- The two products are read back as they are
+-- The machine keeps the values of the two products
 there-read : (c : tie.After-times) → toZ w64 (ofZ w64 (c .times .result)) ≡ c .before .args .dy *ℤ c .before .args .ex
 there-read c =
     read-back (c .times .result) (c .times .ok) ∙ simp (toZ-ofZ w16 _ (c .before .fits .dy), toZ-ofZ w16 _ (c .before .fits .ex)) at (c .times .ensures .0)

@@ -1,4 +1,4 @@
--- The three tests of the definition, in its order.
+-- The code makes the definition's three tests in its order.
 use borrow.Author.Needs.{needs}
 use mathlib.Core.Path.{_≡_, sym, ap, _∙_}
 use mir.Syntax.{w64}

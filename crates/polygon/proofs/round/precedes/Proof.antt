@@ -1,4 +1,4 @@
--- The tests of the definition, in its order.
+-- The code makes the definition's tests in its order.
 use borrow.Author.Needs.{needs}
 use borrow.Author.Tests.{not-true, not-false}
 use mathlib.Core.Path.{_≡_, sym, _∙_}
@@ -8,7 +8,7 @@ use Rattle.directions.specs.Round.{firstHalf, precedes}
 use Rattle.polygon.proofs.round.precedes.Statement.{statement}
 use Rattle.polygon.proofs.round.precedes.Tie as tie
 
--- The half of the first, and of the second where it is asked
+-- The half of the first direction, and that of the second where it is tested
 first-is : (c : tie.After-first-half) → c .first-half .result ≡ firstHalf (c .before .args .dx) (c .before .args .dy)
 first-is c = simp (toZ-ofZ w16 _ (c .before .fits .dx), toZ-ofZ w16 _ (c .before .fits .dy)) at (c .first-half .ensures)
 

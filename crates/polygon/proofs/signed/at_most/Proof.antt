@@ -1,4 +1,4 @@
--- The machine's order is that of the integers that it reads back.
+-- The machine's order is the order of the integers that its bits stand for.
 use mir.Syntax.{w64}
 use mir.ValLaws.{toZ-ofZ}
 use Rattle.polygon.proofs.signed.at_most.Statement.{statement}

@@ -1,4 +1,4 @@
--- A sum of 29 bits fits, and what a call gives is read back as it is.
+-- A sum of 29 bits fits, so the machine keeps its value.
 use native.Mathlib.Omega.{arith}
 use borrow.Author.Needs.{needs}
 use mathlib.Core.Path.{_≡_, _∙_}

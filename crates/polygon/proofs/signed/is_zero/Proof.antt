@@ -1,4 +1,4 @@
--- A machine's test for 0 is the definition's, for only 0 has no bit.
+-- The machine's test for 0 is the definition's, since only 0 has no bit set.
 use Rattle.polygon.proofs.Integers.{nil-machine}
 use Rattle.polygon.proofs.signed.is_zero.Statement.{statement}
 use Rattle.polygon.proofs.signed.is_zero.Tie as tie

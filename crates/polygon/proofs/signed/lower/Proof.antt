@@ -1,4 +1,4 @@
--- By the test that the definition makes.
+-- The code makes the definition's test.
 use borrow.Author.Needs.{needs}
 use mathlib.Core.Path.{_≡_, sym, _∙_}
 use mir.Syntax.{w64}

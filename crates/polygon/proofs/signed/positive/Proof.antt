@@ -1,4 +1,4 @@
--- A machine's test against 0 is the definition's.
+-- The machine's test against 0 is the definition's.
 use mir.Syntax.{w64}
 use mir.ValLaws.{toZ-ofZ}
 use Rattle.polygon.proofs.Integers.{positive-machine}

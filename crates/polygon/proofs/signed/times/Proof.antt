@@ -1,4 +1,4 @@
--- A product of 30 bits fits, and its factors are read back as they are.
+-- A product of 30 bits fits, and the machine keeps the values of its factors.
 use borrow.Author.Needs.{needs}
 use Prim.Native.Nat.{_*_, _≤_}
 use native.Mathlib.Omega.{arith}

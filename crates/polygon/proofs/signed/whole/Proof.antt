@@ -1,4 +1,4 @@
--- An unsigned number of 16 bits is no negative one of 64.
+-- An unsigned 16-bit number is not negative as a 64-bit one.
 use borrow.Author.Needs.{needs}
 use lib.IntN.{pos}
 use mir.Syntax.{w64}

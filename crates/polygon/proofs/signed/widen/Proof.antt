@@ -1,4 +1,4 @@
--- What fits 16 bits fits 64.
+-- A number that fits in 16 bits fits in 64.
 use mir.Syntax.{w16, w64}
 use mir.ValLaws.{toZ-ofZ}
 use mir.Facts.{sfits-widen}
