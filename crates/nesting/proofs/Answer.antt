@@ -1,4 +1,4 @@
--- Of two polygons that pass exactly one of the five statements holds, and the answer names it: each test decides its statement.
+-- For two polygons that pass, exactly one of the five statements holds, and the answer names it: each test decides its own statement.
 use mathlib.Core.Path.{_≡_, refl, sym, _∙_}
 use mathlib.Core.Logic.{_↔_}
 use mathlib.Core.Bool.{Bool, true, false, true≢false}
@@ -12,7 +12,7 @@ use Rattle.nesting.specs.Answer.{byTests, liesWithin, nesting}
 use Rattle.nesting.proofs.Within.{corner-hull, within-iff-test, test-beyond}
 use Rattle.nesting.proofs.Meet.{meet-iff-test}
 
--- Within and beyond exclude one another
+-- "Within" and "beyond" exclude each other
 not-both : (P Q : Point → Type 0) → Within P Q → Beyond P Q → ⊥
 not-both P Q w h = h .notSecond (w (h .cell) (h .inFirst))
 
@@ -23,14 +23,14 @@ module _ (p q : Polygon) (one : Fit p) (two : Fit q) where
   abbrev Q : Point → Type 0
   Q = Holds q
 
-  -- What is within has a common cell, its anchor
+  -- A polygon within the other has a common cell with it, its anchor
   first-common : Within P Q → Common P Q
   first-common w = record { cell = p .anchor; inFirst = corner-hull Met.start; inSecond = w (p .anchor) (corner-hull Met.start) }
 
   second-common : Within Q P → Common P Q
   second-common w = record { cell = q .anchor; inFirst = w (q .anchor) (corner-hull Met.start); inSecond = corner-hull Met.start }
 
-  -- The statement that the tests name holds
+  -- The statement named by the tests holds
   tests-say : (s t m : Bool) → liesWithin p q ≡ s → liesWithin q p ≡ t → rowsMeet p q ≡ m → Says p q (byTests s t m)
   unfolding byTests
   tests-say true true m a b c = (within-iff-test p q one two .0 a, within-iff-test q p two one .0 b)
@@ -43,7 +43,7 @@ module _ (p q : Polygon) (one : Fit p) (two : Fit q) where
   unfolding nesting
   answer-says = tests-say _ _ _ refl refl refl
 
-  -- No two of the five hold
+  -- No two of the five statements hold
   pub says-once : (v w : Nesting) → Says p q v → Says p q w → v ≡ w
   says-once Equal Equal h k = refl
   says-once Equal FirstWithin h k = absurd (not-both Q P (h .1) (k .1))
@@ -71,6 +71,6 @@ module _ (p q : Polygon) (one : Fit p) (two : Fit q) where
   says-once Crossing Apart h k = absurd (k (h .0))
   says-once Crossing Crossing h k = refl
 
-  -- The claim: of the five statements the one that the answer names holds, and no other
+  -- The theorem: the statement that the answer names holds, and no other
   pub answer-iff : (v : Nesting) → Says p q v ↔ (nesting p q ≡ v)
   answer-iff v = ((λ h. says-once _ v answer-says h), λ e. rw e at answer-says)

@@ -1,4 +1,5 @@
--- Of a taken outline the hull of the corner cells holds exactly the enclosed cells: on the chart the edges answer for them, and neither has a cell off it.
+-- For a taken outline, the cells in the hull of the corner cells are the enclosed cells: on the
+-- chart the edges decide both, and neither has a cell off the chart.
 use Prim.Native.Nat.{_<_}
 use native.Mathlib.Decide.{decLt}
 use native.Mathlib.Omega.{arith}
@@ -45,7 +46,7 @@ module _ {P P′ Q Q′ : Point → Type 0} where
 back : {P P′ : Point → Type 0} → ((x : Point) → P x ↔ P′ x) → (x : Point) → P′ x ↔ P x
 back p x = (p x .1, p x .0)
 
--- An answer says the same of them
+-- An answer says the same about them
 module _ {P P′ Q Q′ : Point → Type 0} (p : (x : Point) → P x ↔ P′ x) (q : (x : Point) → Q x ↔ Q′ x) where
   pub says-same : (v : Nesting) → SaysOf P Q v → SaysOf P′ Q′ v
   says-same Equal h = (within-same p q (h .0), within-same q p (h .1))
@@ -96,11 +97,11 @@ module _ {o : Outline} {a : Point} {es : List ℤ} (h : HasEdges o a es) where
     λ k. let l = enclosed-below x k in on-chart-iff x (l .0) (l .1) .1 k,
   )
 
-  -- The hull of its corner cells holds exactly the cells that it encloses
+  -- The cells in the hull of its corner cells are the cells that it encloses
   pub hull-iff-enclosed : (x : Point) → Holds (polygon a es) x ↔ Encloses o x
   hull-iff-enclosed x = rw (← h .anchor, ← h .edged) (own-iff x)
 
--- Of two taken outlines the answer names the one statement about the enclosed cells that holds
+-- For two taken outlines, the answer names the one statement about the enclosed cells that holds
 module _ {o v : Outline} {a b : Point} {es fs : List ℤ} (h : HasEdges o a es) (k : HasEdges v b fs) where
   pub blocks-iff : (n : Nesting) → SaysOf (Encloses o) (Encloses v) n ↔ (nesting (polygon a es) (polygon b fs) ≡ n)
   blocks-iff n =

@@ -1,4 +1,4 @@
--- A test over the corner cells says what is meant: every corner met by the walk passes it, or some corner fails it.
+-- A test of all corner cells passes exactly if each passes, and otherwise some corner cell fails it: by induction on the edges.
 use Prim.Native.Nat.{ℕ, _<_}
 use mathlib.Core.Path.{_≡_, refl}
 use mathlib.Core.Bool.{Bool, true, false, _&&_, and-eq-true-iff}
@@ -23,7 +23,7 @@ met-every f (dx ∷ []) x y h = h x y Met.start
 met-every f (dx ∷ dy ∷ es) x y h =
     and-eq-true-iff (f x y) _ .1 (h x y Met.start, met-every f es (x +ℤ dx) (y +ℤ dy) (λ u v m. h u v (Met.after m)))
 
--- A corner that fails a test
+-- A corner cell that fails a test
 pub record Fails (f : ℤ → ℤ → Bool) (es : List ℤ) (x y : ℤ) : Type 0 where
   pub col : ℤ
   pub row : ℤ

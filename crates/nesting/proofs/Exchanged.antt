@@ -1,4 +1,4 @@
--- With the polygons exchanged the same two tests and the same rows decide, and the words for within change places.
+-- With the polygons exchanged, the same two tests and the same rows decide, and the two "within" change places.
 use native.Mathlib.Nat.{min-comm, max-comm}
 use mathlib.Core.Path.{_≡_, refl, ap, _∙_}
 use mathlib.Core.Bool.{Bool, true, false}

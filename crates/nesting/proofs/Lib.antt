@@ -1,4 +1,5 @@
--- Tests over corner cells; a mean of cells inside is inside; one polygon within another by its corners; the run of a row; common cells by rows; the answer, about the cells of taken outlines, and with the polygons exchanged; specimens.
+-- Tests of corner cells; a mean of inside cells is inside; one polygon within another by its corner cells; the interval of a row; common
+-- cells by rows; the answer, also for the cells of taken outlines and with the polygons exchanged; specimens.
 pub mod CornerTests
 pub mod Means
 pub mod Within

@@ -1,4 +1,5 @@
--- A mean of three cells inside a polygon is inside it: so are its side values, and what bounds its columns and rows.
+-- A mean of three cells inside a polygon is inside it: its side values are means of
+-- theirs, and a mean respects the bounds of columns and rows.
 use Prim.Native.Nat.{ℕ, _+_, _<_}
 use mathlib.Core.Path.{_≡_}
 use mathlib.Core.Bool.{true, _&&_, and-eq-true-iff}
@@ -10,7 +11,7 @@ use Rattle.convexity.specs.Inside.{colSteps, rowSteps, lowestMet, highestMet, n
 use Rattle.directions.proofs.Passing.{Inner, inner, none-outside}
 use Rattle.directions.proofs.Means.{Meanℤ, mean-least, mean-side, mean-low, mean-high}
 
--- Inside, taken apart
+-- The parts of "inside"
 pub inside-parts :
     (es : List ℤ) (x y c r : ℤ) → insideAt es x y c r ≡ true
     → (within (colSteps es) x c ≡ true) × (within (rowSteps es) y r ≡ true) × (noneOutside es x y c r ≡ true)

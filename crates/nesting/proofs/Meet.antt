@@ -1,4 +1,5 @@
--- Two polygons have a common cell exactly if their runs meet in some row of the chart: every cell of a polygon that stays on the chart is on the chart.
+-- Two polygons have a common cell exactly if their intervals meet in some row of the chart:
+-- every cell of a polygon with corner cells on the chart is on the chart.
 use Prim.Native.Nat.{ℕ, _<_, min, max, _-_}
 use native.Mathlib.Omega.{arith}
 use mathlib.Core.Path.{_≡_, refl}
@@ -35,9 +36,9 @@ module _ (p : Polygon) (fit : Fit p) where
       let t = corner-low (h .t .met) in
       omega (arith, mean-high (h .some) refl (pos (side - 1)) cols (p .0) (q .0) (t .0), mean-high (h .some) refl (pos (side - 1)) rows (p .1) (q .1) (t .1))
 
--- ---- the claim
+-- ---- the theorem
 
--- A row of the chart in which the runs meet
+-- A row of the chart in which the intervals meet
 pub record MeetingRow (p q : Polygon) : Type 0 where
   pub row : ℕ
   pub below : row < side

@@ -1,4 +1,4 @@
--- The cells of a row that are inside are a run of columns: along a row a side value is linear, so that each edge bounds the columns on one side.
+-- The inside cells of a row form an interval of columns: along a row a side value is linear, so each edge bounds the columns on one side.
 use Prim.Native.Nat.{ℕ, zero, suc, _+_, _*_, _≤_, _<_, min, max}
 use native.Mathlib.Nat.{le-div-iff-mul-le, div-lt-iff-lt-mul}
 use native.Mathlib.Omega.{arith}
@@ -17,11 +17,11 @@ use Rattle.nesting.specs.Cells.{Polygon}
 use Rattle.nesting.specs.Rows.{edgeFrom, edgeTo, edgesFrom, edgesTo, startAt, endAfter, runFrom, runTo}
 use Rattle.nesting.proofs.Means.{inside-parts, inside-of-parts, within-parts, within-of}
 
--- c is in the run from lo, included, to hi, excluded
+-- c is in the interval from lo, included, to hi, excluded
 abbrev pub In : ℕ → ℕ → ℕ → Type 0
 In lo hi c = (lo ≤ c) × (c < hi)
 
--- The side value at column c is dy·c and the side value at column 0
+-- The side value at column c is dy·c plus the side value at column 0
 pub side-column :
     (dx dy x y r : ℤ) (c : ℕ)
     → Is (sideValue dx dy x y (pos c) r) (up (sideValue dx dy x y (pos 0) r) + up dy * c) (down (sideValue dx dy x y (pos 0) r) + down dy * c)
@@ -123,11 +123,11 @@ module _ (p : Polygon) (r c : ℕ) where
           inside-of-parts es x y (pos c) (pos r) (within-of (colSteps es) x (pos c) s t) e (in-edges es x y (pos r) c (omega arith))
       go false e m = absurd (omega arith)
 
-  -- The claim, for whatever edges
+  -- The theorem, for any edges
   pub row-run : c < side → (insideAt es x y (pos c) (pos r) ≡ true) ↔ In (runFrom p r) (runTo p r) c
   row-run l = (inside-run l, run-inside)
 
--- A run ends at column 255 or before
+-- An interval ends at column 255 or before
 pub run-below : (p : Polygon) (r : ℕ) → runTo p r ≤ side
 unfolding runTo
 run-below p r = go (within (rowSteps (p .edges)) (pos (p .anchor .row)) (pos r))

@@ -1,4 +1,4 @@
--- The checker computes the answer of every row of the table.
+-- The checker computes the answer of every row of the table, so each row holds by computation.
 use mathlib.Core.Path.{_≡_, refl}
 use mathlib.Core.List.{map}
 use Rattle.base.specs.Below.{further, first, some}

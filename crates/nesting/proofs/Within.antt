@@ -1,4 +1,5 @@
--- Every cell of the first polygon is one of the second exactly if every corner cell of the first is: a cell inside is a mean of corner cells.
+-- Every cell of the first polygon is in the second exactly if every corner cell of
+-- the first is: an inside cell is a mean of corner cells.
 use Prim.Native.Nat.{ℕ}
 use native.Mathlib.Omega.{arith}
 use mathlib.Core.Path.{_≡_, refl, sym, _∙_}
@@ -16,7 +17,7 @@ use Rattle.nesting.specs.Answer.{liesWithin}
 use Rattle.nesting.proofs.CornerTests.{every-met, met-every, Fails, some-fails, Place, place}
 use Rattle.nesting.proofs.Means.{mean-inside}
 
--- A corner cell is a mean of corner cells, and inside
+-- A corner cell is a mean of corner cells, and is inside
 alone : (z : ℤ) → Meanℤ 1 1 0 0 z z z z
 alone z = mean-of (omega arith)
 
@@ -25,7 +26,7 @@ corner-hull {es} {x} {y} {u} {v} m =
     let p : Corner es x y = record { col = u; row = v; met = m } in
     record { p = p; q = p; t = p; i = 1; j = 0; k = 0; some = omega arith; cols = alone u .is; rows = alone v .is }
 
--- What is inside the first is a mean of its corner cells, and so inside whatever polygon holds them
+-- A cell inside the first polygon is a mean of its corner cells, so it is inside any polygon that contains them
 corners-hold :
     (es : List ℤ) (x y : ℤ) (fs : List ℤ) (a b c r : ℤ) → ((u v : ℤ) → Met es x y u v → insideAt fs a b u v ≡ true) → InCornerHull es x y c r
     → insideAt fs a b c r ≡ true
@@ -33,7 +34,7 @@ corners-hold es x y fs a b c r h m =
     mean-inside (m .some) refl fs a b c r (m .p .col) (m .p .row) (m .q .col) (m .q .row) (m .t .col) (m .t .row) (record { is = m .cols })
     (record { is = m .rows }) (h _ _ (m .p .met)) (h _ _ (m .q .met)) (h _ _ (m .t .met))
 
--- A polygon that passes holds a cell exactly if the cell is inside
+-- For a polygon that passes, a cell is in the hull exactly if it is inside
 pub holds-iff : (p : Polygon) → Fit p → (c r : ℕ) → (insideAt (p .edges) (pos (p .anchor .col)) (pos (p .anchor .row)) (pos c) (pos r) ≡ true) ↔ Holds p (record { col = c; row = r })
 holds-iff p fit c r = inside-at-iff-hull (pos (p .anchor .col)) (pos (p .anchor .row)) (p .edges) (pos c) (pos r) (fit .passes)
 
@@ -41,12 +42,12 @@ holds-iff p fit c r = inside-at-iff-hull (pos (p .anchor .col)) (pos (p .anchor 
 abbrev pub MetBy : Polygon → ℤ → ℤ → Type 0
 MetBy p u v = Met (p .edges) (pos (p .anchor .col)) (pos (p .anchor .row)) u v
 
--- The natural numbers of one
+-- The natural coordinates of a corner cell
 pub corner-place : (p : Polygon) → Fit p → {u v : ℤ} → MetBy p u v → Place u v
 unfolding cornersOnChart
 corner-place p fit {u} {v} m = place u v (every-met _ m (fit .placed))
 
--- A cell of the chart by its natural numbers: met, and inside
+-- A cell of the chart by its natural coordinates: it is a corner cell, and it is inside
 pub met-place : (p : Polygon) {u v : ℤ} (s : Place u v) → MetBy p u v → MetBy p (pos (s .col)) (pos (s .row))
 met-place p s m = rw (s .isCol, s .isRow) at m
 
@@ -57,7 +58,7 @@ pub inside-place :
 inside-place q s = rw (s .isCol, s .isRow)
 
 module _ (p q : Polygon) (one : Fit p) (two : Fit q) where
-  -- The second's test
+  -- The test of the second polygon
   abbrev test : ℤ → ℤ → Bool
   test u v = insideAt (q .edges) (pos (q .anchor .col)) (pos (q .anchor .row)) u v
 
@@ -69,7 +70,7 @@ module _ (p q : Polygon) (one : Fit p) (two : Fit q) where
   corner-within : ((u v : ℤ) → MetBy p u v → test u v ≡ true) → Within (Holds p) (Holds q)
   corner-within h x k = holds-iff q two (x .col) (x .row) .0 (corners-hold _ _ _ _ _ _ _ _ h k)
 
-  -- The claim
+  -- The theorem
   pub within-iff-corners : Within (Holds p) (Holds q) ↔ ((u v : ℤ) → MetBy p u v → test u v ≡ true)
   within-iff-corners = (within-corner, corner-within)
 

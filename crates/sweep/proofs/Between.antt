@@ -1,5 +1,6 @@
--- A cell between two points of its row, each on a chord between two corner cells, is inside: an edge that does not fall has both ends of the left chord on its
--- inner side, and so its point and what is right of it; an edge that falls, those of the right chord.
+-- A cell between two points of its row, each on a chord between two corner cells, is inside. An edge that does not go down has both ends
+-- of the left chord on its inner side, so also the chord's point and what is right of it. For an edge that goes down the same holds with
+-- the right chord.
 use Prim.Native.Nat.{ℕ, _+_, _*_, _≤_, _<_}
 use native.Mathlib.Nat.{mul-le-mul-left}
 use native.Mathlib.Decide.{decLe}
@@ -43,7 +44,8 @@ module _ (p : Polygon) (fit : Fit p) where
 
 -- ---- chords
 
--- The point of row r that divides the way between two corner cells as t to m: m + t times its column is m times the one's and t times the other's
+-- The point of row r that divides the chord between two corner cells as t to m: m + t
+-- times its column is m times one column plus t times the other
 pub record Chord (p : Polygon) (r : ℕ) : Type 0 where
   pub x : ℕ
   pub y : ℕ
@@ -63,7 +65,7 @@ NotLeft k c = k .m * k .x + k .t * k .u ≤ (k .m + k .t) * c
 abbrev pub NotRight : {p : Polygon} {r : ℕ} → Chord p r → ℕ → Type 0
 NotRight k c = (k .m + k .t) * c ≤ k .m * k .x + k .t * k .u
 
--- A mean is not above both numbers, nor below both
+-- A mean is at least the smaller number and at most the larger
 not-above : (m t x u c : ℕ) → 0 < m + t → m * x + t * u ≤ (m + t) * c → (x ≤ c) ⊎ (u ≤ c)
 not-above m t x u c some l =
     elim (decLe x c) [

@@ -1,4 +1,5 @@
--- A linear test that two points pass, their mean passes, and so does what lies beside it where the test grows. A side value is such a test of cells.
+-- If two points pass a linear test, so does their mean, and so does a point beside it on the
+-- side where the test grows. A side value is such a test of cells.
 use Prim.Native.Nat.{ℕ, _+_, _-_, _*_, _≤_, _<_}
 use native.Mathlib.Nat.{mul-add, add-mul, mul-suc, suc-mul, mul-assoc, mul-comm, mul-left-comm, mul-le-mul-left, le-of-mul-le-mul-left}
 use native.Mathlib.Omega.{arith}
@@ -24,7 +25,7 @@ module _ (a a′ b b′ g g′ x y u v m t n r z : ℕ) (n-is : m + t ≡ n) (ro
   mean h k =
       rw (← rows, ← cols, ← n-is) (simp ring (omega (arith, simp ring at (mul-le-mul-left m h), simp ring at (mul-le-mul-left t k))))
 
-  -- Where the test grows with the column, and the column is at least that of the mean; where it falls, and the column is at most that
+  -- The test grows with the column, and the column is at least the mean's; or it falls, and the column is at most the mean's
   pub grows : (c : ℕ) → 0 < n → a′ ≤ a → z ≤ n * c → Passes a a′ b b′ g g′ x y → Passes a a′ b b′ g g′ u v → Passes a a′ b b′ g g′ c r
   grows c some up l h k =
       let d = a - a′ in
@@ -41,7 +42,7 @@ module _ (a a′ b b′ g g′ x y u v m t n r z : ℕ) (n-is : m + t ≡ n) (ro
 
 -- ---- an edge between cells of the chart
 
--- The edge (ex, ey) that leaves (p, q) leads from one cell to another
+-- The edge (ex, ey) from (p, q) leads from one cell of the chart to another
 pub record Natural (ex ey p q : ℤ) : Type 0 where
   pub x : ℕ
   pub y : ℕ
@@ -67,6 +68,6 @@ module _ {ex ey p q : ℤ} (n : Natural ex ey p q) where
       let s = is-cross is-ex is-ey (way c p (n .x) (n .isX)) (way r q (n .y) (n .isY)) in
       rw (side-cross ex ey p q (pos c) (pos r)) (record { eq = omega (arith, s .eq) })
 
-  -- A cell is on its inner side by a linear test
+  -- A cell is on its inner side exactly if it passes a linear test
   pub side-passes : (c r : ℕ) → Least0 (sideValue ex ey p q (pos c) (pos r)) ↔ Passes (n .v) (n .y) (n .x) (n .u) (n .u * n .y) (n .v * n .x) c r
   side-passes c r = ((λ h. omega (arith, side-is c r .eq)), λ h. omega (arith, side-is c r .eq))

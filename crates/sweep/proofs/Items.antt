@@ -1,4 +1,5 @@
--- The least column of the walk in a row is that of a corner cell or of an edge that rises through it, and the greatest that of a corner cell or of one that falls.
+-- The least first column in a row comes from a corner cell or from an edge that goes up through the row, and the greatest end from a
+-- corner cell or from an edge that goes down: a minimum is one of its terms.
 use Prim.Native.Nat.{ℕ, _≤_, _<_, min}
 use native.Mathlib.Decide.{decLe, decLt}
 use native.Mathlib.Omega.{arith}
@@ -15,7 +16,7 @@ use Rattle.directions.proofs.Corners.{Leaves, first, later}
 use Rattle.nesting.specs.Rows.{edgeFrom, edgeTo, startAt, endAfter}
 use Rattle.sweep.specs.parts.Sweep.{between, cornerFrom, cornerTo, riseFrom, fallTo, sweptFrom, sweptTo}
 
--- What has its column at c or before it, and what has its end after c
+-- A corner cell or edge whose first column is at most c; one whose end is after c
 pub data FromItem (es : List ℤ) (x y : ℤ) (r c : ℕ) : Type 0 where
   corner : {u v : ℤ} → Met es x y u v → v ≡ pos r → startAt u ≤ c → FromItem es x y r c
   edge :
@@ -149,7 +150,7 @@ module _ (r c : ℕ) (l : c < side) where
   item-to es x y (ToItem.corner m e h) = omega (arith, to-corner m e)
   item-to es x y (ToItem.edge m e h) = omega (arith, to-edge m e)
 
--- No column and no end is past the chart
+-- No first column and no end is beyond the chart
 both-below : (s : Bool) (n k : ℕ) → k ≤ side → cond s (min n side) k ≤ side
 both-below true n k h = omega arith
 both-below false n k h = h

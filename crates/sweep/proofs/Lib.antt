@@ -1,4 +1,5 @@
--- A test of rows that turns along an edge; points on chords, and what lies between two; the walk's least and greatest columns; the run of a row; the tests.
+-- A test of rows that changes along an edge; points on chords, and the cells between two; the least first column and the greatest end;
+-- the interval of a row; the tests.
 pub mod Through
 pub mod Chords
 pub mod Between

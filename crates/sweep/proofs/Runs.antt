@@ -1,5 +1,6 @@
--- The run of a row has exactly the cells inside. Its first column and its end come from points on chords, and what lies between these is inside; and every row
--- that the walk reaches has an edge that rises through it and one that falls, or is all of the walk.
+-- The interval of a row has exactly the inside cells. Its first column and its end come from points on chords, and the cells between
+-- these are inside. Every row that the edges reach has an edge that goes up through it and one that goes down, or all corner cells are in
+-- that row.
 use Prim.Native.Nat.{ℕ, zero, suc, _+_, _-_, _*_, _≤_, _<_}
 use native.Mathlib.Nat.{le-of-mul-le-mul-left}
 use native.Mathlib.Decide.{decLt}
@@ -46,7 +47,7 @@ module _ (x y u v r t m c : ℕ) where
   down-right : r ≡ v + m → y ≡ v + m + t → Passes v y x u (u * y) (v * x) c r → (m + t) * c ≤ m * x + t * u
   down-right e f h = let k = rw (e, f) at h in omega (arith, k)
 
--- ---- an edge that rises has no end, and one that falls no first column
+-- ---- an edge that goes up has no end, and one that goes down has no first column
 
 rising-end : (d b : ℤ) → down d < up d → edgeTo d b ≡ side
 unfolding edgeTo
@@ -115,7 +116,7 @@ module _ (p : Polygon) (fit : Fit p) (r c : ℕ) (l : c < side) where
   abbrev Y : ℤ
   Y = pos (p .anchor .row)
 
-  -- The side value of the cell by its columns
+  -- The side value at the cell, by its columns
   column-side : (ex ey a b : ℤ) →
       let s = sideValue ex ey a b (pos 0) (pos r) in
       (down s + down ey * c ≤ up s + up ey * c) ↔ Least0 (sideValue ex ey a b (pos c) (pos r))
@@ -197,9 +198,9 @@ module _ (p : Polygon) (fit : Fit p) (r c : ℕ) (l : c < side) where
       let right = right-chord (to-item r c l es X Y (h .1)) in
       chords-inside p fit c (left .0) (right .0) (left .1) (right .1)
 
-  -- ---- what is at the cell or left of it, and what at the cell or right of it, in a row that the walk reaches
+  -- ---- a corner cell or edge at the cell or left of it, and one at the cell or right of it, in a row that the edges reach
 
-  -- An edge that rises through the row, or to it, or from it
+  -- An edge that goes up through the row, to it or from it
   rising-item : {ex ey a b : ℤ} {fs : List ℤ} (d : EdgeOf p ex ey a b fs) (n : Natural ex ey a b) → n .y ≤ r → r ≤ n .v → n .y < n .v
       → Least0 (sideValue ex ey a b (pos c) (pos r)) → FromItem es X Y r c
   unfolding startAt
@@ -278,7 +279,7 @@ module _ (p : Polygon) (fit : Fit p) (r c : ℕ) (l : c < side) where
     inner-here : Inner es X Y (pos c) (pos r)
     inner-here = inner es X Y (pos c) (pos r) (inside-parts es X Y (pos c) (pos r) e .2)
 
-    -- An edge leads up to row k, which is r or the next one, from below it
+    -- An edge goes up to row k, which is r or the next row, from below it
     rises-to : (k : ℕ) → leZ (pos k) bottom ≡ false → leZ (pos k) top ≡ true → r ≤ k → k ≤ r + 1 → FromItem es X Y r c
     rises-to k f t low high =
         let w = turns (λ v. leZ (pos k) v) (passed .returns) (lowest .1) f (highest .1) t in
@@ -289,7 +290,7 @@ module _ (p : Polygon) (fit : Fit p) (r c : ℕ) (l : c < side) where
         let above : k ≤ n .v = omega (arith, b, ap up (n .isV), ap down (n .isV)) in
         rising-item (w .leaves) n (omega arith) (omega arith) (omega arith) (inner-here .side _ _ _ _ _ (w .leaves))
 
-    -- An edge leads down to row k, which is r or the one before it, from above it
+    -- An edge goes down to row k, which is r or the row before, from above it
     falls-to : (k : ℕ) → leZ top (pos k) ≡ false → leZ bottom (pos k) ≡ true → k ≤ r → r ≤ k + 1 → ToItem es X Y r c
     falls-to k f t low high =
         let w = turns (λ v. leZ v (pos k)) (passed .returns) (highest .1) f (lowest .1) t in
@@ -300,7 +301,7 @@ module _ (p : Polygon) (fit : Fit p) (r c : ℕ) (l : c < side) where
         let below : n .v ≤ k = omega (arith, b, ap up (n .isV), ap down (n .isV)) in
         falling-item (w .leaves) n (omega arith) (omega arith) (omega arith) (inner-here .side _ _ _ _ _ (w .leaves))
 
-    -- Where the walk has one row only, every corner cell is in it
+    -- If the edges reach one row only, every corner cell is in it
     flat : {u v : ℤ} → MetBy p u v → AtMost (pos r) bottom → AtMost top (pos r) → v ≡ pos r
     flat {u} {v} m low high =
         let s = corner-place p fit m in
@@ -346,7 +347,7 @@ module _ (p : Polygon) (fit : Fit p) (r c : ℕ) (l : c < side) where
     unfolding rowFrom rowTo
     inside-run = (item-from r c l es X Y left-item, item-to r c l es X Y right-item)
 
-  -- The claim: the run of a row has exactly the cells of the hull
+  -- The theorem: the interval of a row has exactly the cells of the hull
   pub run-holds : In (rowFrom p r) (rowTo p r) c ↔ Holds p (record { col = c; row = r })
   run-holds =
       let iff = holds-iff p fit c r in

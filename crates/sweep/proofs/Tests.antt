@@ -1,5 +1,5 @@
--- Two polygons compared by the runs of their rows: a hull lies within another exactly if each run lies within the other's, and two have a common cell exactly
--- if two runs of a row have a common column. So these tests decide the answer.
+-- Two polygons compared by intervals: a hull lies within another exactly if in each row its interval lies within the other's, and they
+-- have a common cell exactly if two intervals of a row have a common column. So these tests decide the answer.
 use Prim.Native.Nat.{ℕ, _<_, _-_, min, max}
 use native.Mathlib.Decide.{decLe}
 use native.Mathlib.Omega.{arith}
@@ -22,7 +22,7 @@ use Rattle.sweep.specs.parts.Sweep.{rowFrom, rowTo}
 use Rattle.sweep.specs.parts.Tests.{runWithin, runsMeet, rowsWithin, rowsApart}
 use Rattle.sweep.proofs.Runs.{run-holds, run-below}
 
--- ---- two runs
+-- ---- two intervals
 
 within-says : (a b c d : ℕ) → runWithin a b c d ≡ true → (n : ℕ) → In a b n → In c d n
 unfolding runWithin
@@ -34,7 +34,7 @@ within-says a b c d e n h = go (leb b a) refl e
         let m = and-eq-true-iff (leb c a) (leb b d) .0 k in
         omega (arith, leb-true c a (m .0), leb-true b d (m .1))
 
--- The first and the last column of a run that is not empty lie in the other
+-- The first and the last column of an interval that is not empty lie in the other
 says-within : (a b c d : ℕ) → (a < b → In c d a × In c d (b - 1)) → runWithin a b c d ≡ true
 unfolding runWithin
 says-within a b c d h =
@@ -60,11 +60,11 @@ module _ (p q : Polygon) (one : Fit p) (two : Fit q) where
       let k = every-at _ side e (x .row) (l .1) in
       run-holds q two (x .row) (x .col) (l .0) .0 (within-says _ _ _ _ k (x .col) (run-holds p one (x .row) (x .col) (l .0) .1 h))
 
-  -- The test of corner cells, by rows
+  -- The test of corner cells equals the test by rows
   pub within-by-rows : liesWithin p q ≡ rowsWithin p q
   within-by-rows = same-test (liesWithin p q) (rowsWithin p q) (within-iff-test p q one two) (runs-within, within-runs)
 
-  -- What two runs of a row share
+  -- The common columns of two intervals of a row
   abbrev lo : ℕ → ℕ
   lo r = max (rowFrom p r) (rowFrom q r)
 
@@ -109,15 +109,15 @@ module _ (p q : Polygon) (one : Fit p) (two : Fit q) where
           absurd (true≢false (sym (m .2) ∙ not-true _ (every-at (λ r. not (meets r)) side e (m .0) (m .1))))
       go false e = refl
 
-  -- The test of rows, by the runs of the walk
+  -- The test of rows equals the test by the intervals of the pass
   pub apart-by-rows : rowsMeet p q ≡ not (rowsApart p q)
   apart-by-rows = same-test (rowsMeet p q) (not (rowsApart p q)) (meet-iff-test p q one two) (runs-common, common-runs)
 
--- The answer by the runs of the walks
+-- The answer by these intervals
 pub nesting-by-rows : (p q : Polygon) → Fit p → Fit q → byTests (rowsWithin p q) (rowsWithin q p) (not (rowsApart p q)) ≡ nesting p q
 unfolding nesting
 nesting-by-rows p q one two = rw (within-by-rows p q one two, within-by-rows q p two one, apart-by-rows p q one two) refl
 
--- A polygon and itself
+-- A polygon compared with itself
 pub nesting-self : (p : Polygon) → Fit p → Equal ≡ nesting p p
 nesting-self p fit = sym (answer-iff p p fit fit Equal .0 ((λ x h. h), λ x h. h))

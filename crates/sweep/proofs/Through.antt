@@ -1,4 +1,5 @@
--- Along a closed walk a test of rows that fails at one corner cell and holds at another turns from false to true along some edge.
+-- Along a closed walk, a test of rows that fails at one corner cell and holds at another
+-- changes from false to true along some edge, since the walk returns.
 use mathlib.Core.Path.{_≡_, refl, sym, _∙_}
 use mathlib.Core.Bool.{Bool, true, false, true≢false}
 use mathlib.Core.List.{List, _∷_}
@@ -6,7 +7,7 @@ use lib.IntN.{ℤ, _+ℤ_}
 use Rattle.directions.specs.CornerHull.{Met, start, after}
 use Rattle.directions.proofs.Corners.{Ends, Leaves, first, later}
 
--- An edge along which the test turns true
+-- An edge along which the test becomes true
 pub record Turns (P : ℤ → Bool) (es : List ℤ) (x y : ℤ) : Type 0 where
   pub ex : ℤ
   pub ey : ℤ
@@ -29,12 +30,12 @@ module _ (P : ℤ → Bool) where
       go true e = record { ex = dx; ey = dy; p = x; q = y; fs = es; leaves = first; before = f; after = e }
       go false e = turns-later (more e)
 
-  -- From the start to a corner where it holds
+  -- From the start to a corner cell where it holds
   turns-to : {es : List ℤ} {x y u v : ℤ} → P y ≡ false → Met es x y u v → P v ≡ true → Turns P es x y
   turns-to f start t = absurd (true≢false (sym t ∙ f))
   turns-to f (after m) t = turns-next f (λ e. turns-to e m t)
 
-  -- From the start, or from any corner where it fails, to the end
+  -- From the start, or from any corner cell where it fails, to the end
   turns-end : {es : List ℤ} {x y s t : ℤ} → P y ≡ false → Ends es x y s t → P t ≡ true → Turns P es x y
   turns-end f Ends.none t = absurd (true≢false (sym t ∙ f))
   turns-end f Ends.odd t = absurd (true≢false (sym t ∙ f))
@@ -44,7 +45,7 @@ module _ (P : ℤ → Bool) where
   turns-from start f w t = turns-end f w t
   turns-from (after m) f (Ends.next w) t = turns-later (turns-from m f w t)
 
-  -- The claim
+  -- The theorem
   pub turns : {es : List ℤ} {x y u v s t : ℤ} → Ends es x y x y → Met es x y u v → P v ≡ false → Met es x y s t → P t ≡ true → Turns P es x y
   turns {es} {x} {y} w l f h t = go (P y) refl
     where
