@@ -1,5 +1,5 @@
--- The convexity theorem for an outline as sent, whichever way it was drawn: its reading is a clockwise outline past refusals 1 to 6, and the turn of the reading
--- from W has the same enclosed cells, because the counts of a closed walk do not depend on where it begins.
+-- The convexity theorem for an outline as sent, drawn in either direction: its clockwise form passes refusals 1 to 6, and its border
+-- encloses the same cells, because the counts of a closed walk do not depend on its start.
 use Prim.Native.Nat.{ℕ, _<_}
 use mathlib.Core.Path.{_≡_, _∙_, sym, ap, subst₂}
 use mathlib.Core.Logic.{_↔_}
@@ -27,13 +27,13 @@ use Rattle.convexity.proofs.Clockwise.{simple-form, clockwise-form}
 use Rattle.convexity.proofs.Theorem.{edges-answer, dent-iff-missing, search-finds}
 
 module _ (o : Outline) where
-  -- The same cells, from W on
+  -- Started at W, the walk encloses the same cells
   pub encloses-from-w : Simple o → (c r : ℕ) → encloses (fromW o) c r ≡ encloses o c r
   unfolding fromW
   encloses-from-w h c r = encloses-rotation o (westPlace o) (walked o h .closed) c r
 
 module _ (o : Outline) where
-  -- The block is what the reading from W on encloses
+  -- The block is what the border encloses
   pub block-from-w : Simple o → (c r : ℕ) → encloses (border o) c r ≡ block o c r
   block-from-w h = encloses-from-w (clockwiseForm o) (simple-form o h)
 
@@ -49,12 +49,12 @@ module _ (o : Outline) where
     abbrev t : Outline
     t = border o
 
-    -- E1: the edges answer for the block
+    -- E1: the edges decide which cells are in the block
     pub edges-answer-sent : dentPiece t ≡ 4 → (x : Point) → x .col < side → x .row < side
         → insideEdges (t .start) (edges t) x ≡ block o (x .col) (x .row)
     edges-answer-sent smooth x c r = edges-answer t (clear-of h) smooth x c r ∙ block-from-w (h .simple) (x .col) (x .row)
 
-    -- E2: an outline that reaches the dent test is dented exactly when some cell is in the hull of its enclosed cells and not enclosed
+    -- E2: an outline that passes refusals 1 to 8 is dented exactly if a cell is missing
     pub dented-iff-missing : (dentPiece t < 4) ↔ ((x : Point) × Missing (block o) x)
     dented-iff-missing =
         let e = dent-iff-missing t (clear-of h) in (
@@ -62,7 +62,7 @@ module _ (o : Outline) where
           λ m. e .1 (m .0, missing-same (λ c r. sym (block-from-w (h .simple) c r)) (m .1)),
         )
 
-    -- E3: and the cell that the search names is the lowest such cell, leftmost in its row
+    -- E3: the cell found by the search is the lowest missing one
     pub named-lowest : dentPiece t < 4
         → LowestMissing (block o) (missingCell t (cornerAt t (cornerPlace t 3) .row) (cornerAt t (cornerPlace t 1) .row))
     unfolding cutCorner

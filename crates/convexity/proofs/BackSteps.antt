@@ -1,6 +1,7 @@
--- A turn that leaves W upwards and has a back-step has a missing cell (refusal 8 turns back no outline that has none). Where a letter that goes back stands
--- between a lowest and a highest corner, its line is crossed twice by the letter on; so without a missing cell all lefts stand between E and W, all rights
--- between W and E, all ups between S and N and all downs between N and S; and W, N, E and S come in this order.
+-- A walk that leaves W upward and has a back-step has a missing cell, so refusal 8 never refuses a convex block. If an opposite letter
+-- stands between a lowest and a highest corner, the forward letter crosses its line twice. So without a missing cell all lefts stand
+-- between E and W, all rights between W and E, all ups between S and N and all downs between N and S; and W, N, E and S come in this
+-- order.
 use Prim.Native.Nat.{ℕ, zero, suc, _+_, _-_, _≤_, _<_}
 use native.Mathlib.Nat.{add-zero, add-suc}
 use native.Mathlib.Decide.{decLt, ℕ-discrete}
@@ -34,9 +35,9 @@ use Rattle.convexity.proofs.Clockwise.{simple-form, clockwise-form}
 use Rattle.convexity.proofs.AsSent.{block-from-w, dented-iff-missing}
 use Rattle.convexity.proofs.OneRun.{SomeMissing, twice, back-gap}
 
--- ---- a frame's later letter, on and back
+-- ---- a frame's later letter and its opposite. Line m of a frame has the corners that lie m along its later letter
 
--- A letter that leads past the line m is the later letter, and leaves that line
+-- A letter that leads beyond line m is the later letter, and leaves line m
 passes : (f : Frame) (a m : ℕ) (p q : Point) → Moved f a p q → along (f .later) p ≤ m → m < along (f .later) q
     → (a ≡ f .later) × (along (f .later) p ≡ m)
 passes f a m p q (earlier-on x y z) h k = absurd (omega arith)
@@ -44,7 +45,7 @@ passes f a m p q (later-on x y z) h k = (x, omega arith)
 passes f a m p q (earlier-back x y z) h k = absurd (omega arith)
 passes f a m p q (later-back x y z) h k = absurd (omega arith)
 
--- The letter back along the later one lowers the line by one, along the same earlier letter
+-- The opposite of the later letter leads one line back and keeps the other coordinate
 falls-by : (f : Frame) (a : ℕ) (p q : Point) → Apart f → Moved f a p q → a ≡ opposite (f .later)
     → (along (f .later) q + 1 ≡ along (f .later) p) × (along (f .earlier) q ≡ along (f .earlier) p)
 falls-by f a p q d (earlier-on x y z) e = absurd (omega arith)
@@ -52,7 +53,7 @@ falls-by f a p q d (later-on x y z) e = absurd (omega arith)
 falls-by f a p q d (earlier-back x y z) e = absurd (omega arith)
 falls-by f a p q d (later-back x y z) e = (z, y)
 
--- A letter that is none of its frame's goes back along one of them
+-- A letter that is neither of its frame's is the opposite of one of them
 back-step-not : (f : Frame) (a : ℕ) → isBackStep f a ≡ true → (a ≢ f .earlier) × (a ≢ f .later)
 unfolding isBackStep
 back-step-not f a e =
@@ -75,7 +76,7 @@ module _ (o : Outline) (h : WalkFromW o) (up : letterAt o 0 ≡ 1) where
   abbrev corner : ℕ → Point
   corner i = cornerAt o i
 
-  -- How far the corner at place i lies along the later letter of frame k
+  -- The line of the corner at place i, in frame k
   abbrev far : ℕ → ℕ → ℕ
   far k i = along (frameOf k .later) (cornerAt o i)
 
@@ -85,9 +86,9 @@ module _ (o : Outline) (h : WalkFromW o) (up : letterAt o 0 ≡ 1) where
   d : Walked o
   d = h .walked
 
-  -- ---- from line to line
+  -- ---- crossing lines
 
-  -- Between the places i and j the later letter of frame k leaves the line m
+  -- Between places i and j the later letter of frame k leaves line m
   record Crossed (k m i j : ℕ) : Type 0 where
     place : ℕ
     from : i ≤ place
@@ -95,7 +96,7 @@ module _ (o : Outline) (h : WalkFromW o) (up : letterAt o 0 ≡ 1) where
     letter : letterAt o place ≡ frameOf k .later
     line : far k place ≡ m
 
-  -- A walk from at most m to more than m leaves the line m
+  -- A walk from line m or before it to a line after m leaves line m
   cross-by : (k m i e : ℕ) → i + e ≤ size o → far k i ≤ m → m < far k (i + e) → Crossed k m i (i + e)
   cross-by k m i zero l a b = absurd (omega (arith, ap (far k) (add-zero i)))
   cross-by k m i (suc e) l a b =
@@ -117,7 +118,7 @@ module _ (o : Outline) (h : WalkFromW o) (up : letterAt o 0 ≡ 1) where
   letter-at : (k m i j : ℕ) → j ≤ size o → (c : Crossed k m i j) → At (frameOf k .later) (c .place)
   letter-at k m i j l c = (omega (arith, c .to), c .letter)
 
-  -- The same line left in two stretches, one after the other
+  -- The same line is left in two separate parts of the walk
   crossed-twice : (k m i j i′ j′ : ℕ) → j ≤ i′ → j′ ≤ size o → Crossed k m i j → Crossed k m i′ j′ → SomeMissing o
   crossed-twice k m i j i′ j′ l n c c′ =
       twice o h up k (c .place) (c′ .place) (letter-at k m i j (omega (arith, c′ .from, c′ .to)) c) (letter-at k m i′ j′ n c′)
@@ -127,7 +128,7 @@ module _ (o : Outline) (h : WalkFromW o) (up : letterAt o 0 ≡ 1) where
       → (far k (suc m) + 1 ≡ far k m) × (along (frameOf k .earlier) (corner (suc m)) ≡ along (frameOf k .earlier) (corner m))
   falls k m l e = falls-by (frameOf k) (letterAt o m) (corner m) (corner (suc m)) (apart k) (moves o d k m l) e
 
-  -- A letter back between a lowest corner and a highest one
+  -- An opposite letter between a lowest corner and a highest one
   back-between : (k i j m : ℕ) → i ≤ m → m < j → j ≤ size o → letterAt o m ≡ opposite (frameOf k .later)
       → ((q : ℕ) → q ≤ size o → far k i ≤ far k q) → ((q : ℕ) → q ≤ size o → far k q ≤ far k j) → SomeMissing o
   back-between k i j m a b l e low high =
@@ -136,16 +137,16 @@ module _ (o : Outline) (h : WalkFromW o) (up : letterAt o 0 ≡ 1) where
       (cross k (far k (suc m)) i m a (omega arith) (low (suc m) (omega arith)) (omega arith))
       (cross k (far k (suc m)) (suc m) j b l (omega arith) (omega (arith, high m (omega arith))))
 
-  -- ---- the corners of the pieces
+  -- ---- the first corners of the pieces
 
-  -- The place of W, N, E and S
+  -- The places of W, N, E and S
   abbrev place : ℕ → ℕ
   place k = cutCorner o k
 
   place-lt : (k : ℕ) → k < 4 → place k < size o
   place-lt k l = corner-first o h k l .below
 
-  -- What holds of the corner at every place holds at the end, which is W again
+  -- If P holds for the corner at every place, it also holds at the end, which is W again
   everywhere : (P : Point → Type 0) → ((i : ℕ) → i < size o → P (corner i)) → (i : ℕ) → i ≤ size o → P (corner i)
   everywhere P f i l =
       elim (decLt i (size o)) [
@@ -153,8 +154,8 @@ module _ (o : Outline) (h : WalkFromW o) (up : letterAt o 0 ≡ 1) where
         | no m ↦ subst P (sym (corner-round o d) ∙ ap corner (omega arith)) (f 0 (omega (arith, d .long)))
       ]
 
-  -- The corner of piece k lies least far along the earlier letter of its frame, which is the later one of the next; and so most far along the later one
-  -- of the frame before
+  -- The first corner of piece k lies least far along the earlier letter of its frame. That letter is the later one of the next frame, and
+  -- the opposite of the later one of the frame before, along which the corner lies furthest
   first-earlier : (k : ℕ) → k < 4 → (i : ℕ) → i ≤ size o → along (frameOf k .earlier) (corner (place k)) ≤ along (frameOf k .earlier) (corner i)
   first-earlier k l =
       everywhere (λ p. along (frameOf k .earlier) (corner (place k)) ≤ along (frameOf k .earlier) p) λ i m.
@@ -183,15 +184,16 @@ module _ (o : Outline) (h : WalkFromW o) (up : letterAt o 0 ≡ 1) where
   unfolding frameOf along step
   rises-first = ap (λ (p : Point). p .row) (corner-suc o 0 (omega (arith, d .long)) ∙ ap (step (corner 0)) up)
 
-  -- ---- where each letter may stand
+  -- ---- where each letter can stand
 
-  -- The later letter of a frame leads from the corner of the piece before it to that of the piece after it, so between them there is no letter back
+  -- The later letter of a frame leads from the first corner of the piece before to that of
+  -- the piece after, so its opposite does not stand between them
   no-back : (k : ℕ) → k < 4 → (j : ℕ) → j ≤ size o → far (next k) (place (next (next k))) ≤ far (next k) j → (m : ℕ) → place k ≤ m → m < j
       → letterAt o m ≡ opposite (frameOf (next k) .later) → SomeMissing o
   no-back k l j n g m a b e =
       back-between (next k) (place k) j m a b n e (least k l) (λ q v. omega (arith, most (next k) (next-lt k) q v))
 
-  -- Ups go from S to N past W, so a down there is met by two ups on one side of W, or by one on each
+  -- Ups lead from S to N past W, so a down there meets two ups on one side of W, or one on each side
   no-down-first : place 1 < place 3 → (m : ℕ) → m < place 1 → letterAt o m ≡ opposite (frameOf 0 .later) → SomeMissing o
   no-down-first v m l e =
       let r : ℕ = far 0 (suc m) in
@@ -222,7 +224,7 @@ module _ (o : Outline) (h : WalkFromW o) (up : letterAt o 0 ≡ 1) where
 
   -- ---- N comes before S, and E between them
 
-  -- Else the row of W, which the first letter leaves, would be left by another up between S and N
+  -- Otherwise the first letter and another up, between S and N, would both leave the row of W
   south-first : place 3 ≤ place 1 → SomeMissing o
   unfolding frameOf
   south-first l =
@@ -233,7 +235,8 @@ module _ (o : Outline) (h : WalkFromW o) (up : letterAt o 0 ≡ 1) where
       twice o h up 0 0 (c .place) (m, up) (letter-at 0 (far 0 0) (place 3) (place 1) (omega arith) c)
       (omega (arith, c .from, corner-after o h up 3 (omega arith) (omega arith))) (sym (c .line))
 
-  -- The corner of a piece that is reached by a letter back, while the letter on leads past its line elsewhere: that letter cannot be on the outer side
+  -- If the first corner of a piece is reached by an opposite letter, and the forward letter
+  -- crosses its line elsewhere, that letter cannot be on the outer side
   reached-back : (k : ℕ) → k < 4 → 0 < place k → (i j : ℕ) → i ≤ j → j ≤ size o → far k i ≤ far k (place k) → far k (place (next k)) ≤ far k j
       → letterAt o (place k - 1) ≡ opposite (frameOf k .later) → SomeMissing o
   reached-back k l z i j a b low high e =
@@ -245,7 +248,7 @@ module _ (o : Outline) (h : WalkFromW o) (up : letterAt o 0 ≡ 1) where
       back-gap o h up k (c .place) q (letter-at k (far k (place k)) i j b c) (m, e) (omega (arith, c .line))
       (omega (arith, first-earlier k l (c .place) (omega (arith, c .to))))
 
-  -- Else N would be reached by a left along the top row, with no right above it
+  -- Otherwise a left along the top row would reach N, with no right above it
   east-first : place 2 ≤ place 1 → SomeMissing o
   unfolding frameOf opposite
   east-first l =
@@ -261,7 +264,7 @@ module _ (o : Outline) (h : WalkFromW o) (up : letterAt o 0 ≡ 1) where
           reached-back 1 (omega arith) (corner-after o h up 1 (omega arith) (omega arith)) 0 (place 2) (omega arith) (omega arith)
           (omega (arith, ap (far 1) w, least 0 (omega arith) (place 1) (omega arith))) (omega arith) p
 
-  -- Else E would be reached by an up along the last column, with no down to its right
+  -- Otherwise an up along the last column would reach E, with no down to its right
   east-last : place 1 < place 3 → place 3 ≤ place 2 → SomeMissing o
   unfolding frameOf opposite
   east-last v l =
@@ -295,7 +298,7 @@ module _ (o : Outline) (h : WalkFromW o) (up : letterAt o 0 ≡ 1) where
     fits : (k : ℕ) → k < 4 → cut o (suc k) ≤ size o
     fits = cuts-fit o cuts rise (place-lt 3 (omega arith))
 
-    -- In each piece, the two letters that are not its own
+    -- Neither of the other two letters stands in a piece
     own-letters : (k : ℕ) → k < 4 → (i : ℕ) → cut o k ≤ i → i < cut o (suc k)
         → (letterAt o i ≡ opposite (frameOf k .earlier)) ⊎ (letterAt o i ≡ opposite (frameOf k .later)) → SomeMissing o
     unfolding frameOf
@@ -328,7 +331,7 @@ module _ (o : Outline) (h : WalkFromW o) (up : letterAt o 0 ≡ 1) where
         ltb-true (backStepAt o k) (length (piece o k)) (first-found (λ k. ltb (backStepAt o k) (length (piece o k))) 4 l) in
         back-step-here k l (backStepAt o k) m (first-found (λ i. isBackStep (frameOf k) (getD (piece o k) i 0)) (length (piece o k)) m)
 
-  -- A turn that leaves W upwards and has a back-step has a missing cell
+  -- A walk that leaves W upward and has a back-step has a missing cell
   pub back-step-missing : backStepPiece o < 4 → SomeMissing o
   back-step-missing l =
       elim (decLt (place 1) (place 2)) [
@@ -340,16 +343,16 @@ module _ (o : Outline) (h : WalkFromW o) (up : letterAt o 0 ≡ 1) where
         | no a ↦ east-first (omega arith)
       ]
 
--- ---- an outline as sent, past refusals 1 to 6
+-- ---- an outline as sent that passes refusals 1 to 6
 
 module _ (o : Outline) (h : Simple o) where
-  -- Every outline that refusal 8 turns back has a missing cell
+  -- Every outline that refusal 8 refuses has a missing cell
   pub back-step-missing-sent : backStepPiece (border o) < 4 → (x : Point) × Missing (block o) x
   back-step-missing-sent l =
       let (x, m) = back-step-missing (border o) (from-w-of (clockwiseForm o) (simple-form o h)) (leaves-upwards (border o) (clockwise-form o h)) l in
       (x, missing-same (block-from-w o h) m)
 
-  -- An outline with no missing cell has no back-step
+  -- An outline without a missing cell has no back-step
   pub full-straight : Convex (block o) → ltb (backStepPiece (border o)) 4 ≡ false
   full-straight full =
       elim (decLt (backStepPiece (border o)) 4) [
@@ -357,7 +360,7 @@ module _ (o : Outline) (h : Simple o) where
         | no l ↦ le-ltb (backStepPiece (border o)) 4 (omega arith)
       ]
 
-  -- So past refusals 1 to 6 an outline passes 8 and 9 exactly if no cell is missing
+  -- So an outline that passes refusals 1 to 6 passes 8 and 9 exactly if no cell is missing
   pub passes-iff-convex :
       ((backStepPiece (border o) ≡ 4) × (dentPiece (border o) ≡ 4)) ↔ Convex (block o)
   unfolding dentPiece

@@ -1,5 +1,5 @@
--- An anchor and a list of edges have a taken outline exactly if the letters written back from the list are one, begun at the anchor's corner: the letters
--- from W on are written back by the edges, and they are an outline of their own, whose W is its start.
+-- Some taken outline has a given anchor and edges exactly if the letters computed from the edges, started at the anchor's corner, are
+-- one: the edges of a taken outline give back its border, and a border is an outline whose W is its start.
 use Prim.Native.Nat.{ℕ, _≤_, _<_}
 use native.Mathlib.Omega.{arith}
 use mathlib.Core.Path.{_≡_, sym, ap, _∙_, subst}
@@ -26,7 +26,7 @@ use Rattle.convexity.proofs.Clockwise.{form-clockwise, simple-form, clo
 use Rattle.convexity.proofs.AsSent.{block-from-w, west-anchor}
 use Rattle.convexity.proofs.FromEdges.{sent-from-edges}
 
--- ---- a turn's W is its start
+-- ---- a border's W is its start
 
 module _ (o : Outline) (h : WalkFromW o) where
   pub west-start : westPlace o ≡ 0
@@ -45,7 +45,7 @@ module _ (o : Outline) (h : WalkFromW o) where
   unfolding fromW
   from-w-self = outline-eq (fromW o) o west-self (ap (λ (i : ℕ). rotation i (o .letters)) west-start ∙ append-nil (o .letters))
 
-  -- A clockwise turn is the turn of its reading
+  -- A clockwise walk from W is its own border
   form-self : clockwise o ≡ true → border o ≡ o
   form-self round = ap fromW (form-clockwise o (rw from-w-self round)) ∙ from-w-self
 
@@ -66,10 +66,10 @@ simple-from-w o h =
     let l : cornerPlace o 0 ≤ size o = omega (arith, cornerPlace-lt o 0 (omega (arith, d .long))) in
     rotated-simple o (cornerPlace o 0) l h
 
--- ---- the letters written back are the outline
+-- ---- the letters computed from the edges are the border
 
 module _ {o : Outline} {a : Point} {es : List ℤ} (h : HasEdges o a es) where
-  -- A taken outline's reading from W on is the anchor with the letters that its edges write
+  -- The border of a taken outline starts at the anchor and has the letters computed from its edges
   pub border-form : border o ≡ outline a (lettersFrom es)
   border-form = outline-eq (border o) (outline a (lettersFrom es)) (h .anchor) (sent-from-edges o (h .reaches) (h .smooth) ∙ ap lettersFrom (h .edged))
 
@@ -77,7 +77,7 @@ module _ {o : Outline} {a : Point} {es : List ℤ} (h : HasEdges o a es) where
   pub border-anchor : IsAnchor (block o) a
   border-anchor = subst (IsAnchor (block o)) (h .anchor) (west-anchor o (h .reaches))
 
-  -- And that outline has this anchor and these edges
+  -- The border has this anchor and these edges too
   pub border-has : HasEdges (outline a (lettersFrom es)) a es
   border-has =
       let r = h .reaches in
@@ -89,11 +89,12 @@ module _ {o : Outline} {a : Point} {es : List ℤ} (h : HasEdges o a es) where
   pub border-encloses : (c r : ℕ) → encloses (outline a (lettersFrom es)) c r ≡ block o c r
   border-encloses c r = ap (λ (v : Outline). encloses v c r) (sym border-form) ∙ block-from-w o (h .reaches .simple) c r
 
--- Refusal 17: some taken outline has this anchor and these edges exactly if the letters written back from the anchor's corner are one
+-- Refusal 17: some taken outline has this anchor and these edges exactly if the letters
+-- computed from the edges, started at the anchor's corner, are one
 pub border-iff : (a : Point) (es : List ℤ) → ((o : Outline) × HasEdges o a es) ↔ HasEdges (outline a (lettersFrom es)) a es
 border-iff a es = (λ h. border-has (h .1), λ h. (outline a (lettersFrom es), h))
 
--- Two taken outlines with the same anchor and edges have the same reading from W on, and enclose the same cells
+-- Two taken outlines with the same anchor and edges have the same border and enclose the same cells
 pub border-unique :
     {o o′ : Outline} {a : Point} {es : List ℤ} → HasEdges o a es → HasEdges o′ a es
     → (border o ≡ border o′) × ((c r : ℕ) → block o c r ≡ block o′ c r)

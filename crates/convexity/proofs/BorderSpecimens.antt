@@ -1,5 +1,5 @@
--- Letters written back from lists of edges, computed: one cell, the specimens H2 and H4, edges of many repeats, and two cells that
--- meet at a corner, whose letters meet that corner twice.
+-- The checker computes the letters of some lists of edges: one cell, specimens H2 and H4, edges with many repeats, and two cells that
+-- share only a corner, whose letters meet that corner twice.
 use mathlib.Core.Path.{_≡_, refl}
 use mathlib.Core.Bool.{Bool, true, false}
 use mathlib.Core.List.{[], _∷_}
@@ -10,12 +10,12 @@ use Rattle.convexity.specs.Frame
 use Rattle.convexity.specs.parts.InFrame
 use Rattle.convexity.specs.FromEdges
 
--- A name that opens the definitions, for the rows that follow
+-- A name to unfold all definitions at once in the rows below
 opened : Bool
 unfolding Lyndon.copies Counted.listed Counted.countedLetter Counted.christoffelWord Counted.dividesBoth Counted.commonUpTo Counted.common Counted.edgeWord Counted.edgesWord Frame.frameOf InFrame.spell FromEdges.quadrantOf FromEdges.runIn FromEdges.riseIn FromEdges.sizesIn FromEdges.pieceFrom FromEdges.lettersFrom
 opened = true
 
--- No edge: one cell
+-- No edges: one cell
 one-cell : FromEdges.lettersFrom [] ≡ 1 ∷ 0 ∷ 3 ∷ 2 ∷ []
 unfolding opened
 one-cell = refl
@@ -24,13 +24,13 @@ H2 : FromEdges.lettersFrom (pos 2 ∷ pos 0 ∷ negsuc 1 ∷ pos 0 ∷ []) ≡ 1
 unfolding opened
 H2 = refl
 
--- From W, where Specimens has the letters from another corner
+-- From W; in Specimens the same outline starts at another corner
 H4 : FromEdges.lettersFrom (pos 1 ∷ pos 1 ∷ pos 1 ∷ negsuc 0 ∷ negsuc 0 ∷ negsuc 0 ∷ negsuc 0 ∷ pos 1 ∷ [])
     ≡ 1 ∷ 0 ∷ 1 ∷ 0 ∷ 3 ∷ 0 ∷ 3 ∷ 2 ∷ 3 ∷ 2 ∷ 1 ∷ 2 ∷ []
 unfolding opened
 H4 = refl
 
--- (4, 2) is 001 twice
+-- (4, 2) is 001 repeated twice
 repeated : Counted.edgeWord 4 2 ≡ false ∷ false ∷ true ∷ false ∷ false ∷ true ∷ []
 unfolding opened
 repeated = refl

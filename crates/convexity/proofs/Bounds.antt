@@ -1,4 +1,4 @@
--- A list of edges is twice as long as there are factors: two numbers an edge.
+-- A list of edges is twice as long as the list of factors, since each factor gives two numbers.
 use Prim.Native.Nat.{_*_}
 use native.Mathlib.Omega.{arith}
 use mathlib.Core.Path.{_≡_, refl}

@@ -1,5 +1,5 @@
--- A walk backwards: the same corners from last to first, so refusals 1 to 6 and W are the same; the letter that leaves W is the opposite of the one that
--- came to it, so an outline that is not clockwise is clockwise backwards; and ups become downs.
+-- A walk backward has the same corners from last to first, so refusals 1 to 6 and W are the same. The letter that leaves W backward is
+-- the opposite of the one that arrived there, so an anticlockwise outline is clockwise backward; and ups become downs.
 use Prim.Native.Nat.{ℕ, zero, suc, _+_, _-_, _≤_, _<_}
 use native.Mathlib.Decide.{decLt}
 use native.Mathlib.Numerals.{add-one}
@@ -28,7 +28,7 @@ use Rattle.convexity.specs.Clockwise.{opposite, backward, clockwiseForm,
 use Rattle.convexity.proofs.Levels.{first-lowest, ups-tally, downs-tally}
 use Rattle.convexity.proofs.Extreme.{FirstAt, first-at-cornerPlace, first-shared, on-chart}
 
--- ---- one letter back
+-- ---- the opposite of one letter
 
 opposite-lt : (a : ℕ) → opposite a < 4
 unfolding opposite
@@ -68,14 +68,14 @@ stays-back p (suc (suc zero)) c l e = lt-leb side (p .col - 1) (omega (arith, c 
 stays-back p (suc (suc (suc zero))) c l e = lt-leb side (p .row - 1) (omega (arith, c .row, eqb-false (p .row) 0 e))
 stays-back p (suc (suc (suc (suc a)))) c l e = absurd (omega arith)
 
--- ---- the letters and corners of a walk backwards
+-- ---- letters and corners of a walk backward
 
 pub length-backward : (w : List ℕ) → length (backward w) ≡ length w
 unfolding backward
 length-backward [] = refl
 length-backward (a ∷ w) = omega (arith, length-append (backward w) (opposite a ∷ []), length-backward w)
 
--- Letter i backwards is the opposite of the letter that has i letters after it
+-- Letter i backward is the opposite of the letter that is followed by i letters
 pub letter-backward : (w : List ℕ) (i : ℕ) → i < length w → getD (backward w) i 0 ≡ opposite (getD w (length w - suc i) 0)
 unfolding backward
 letter-backward [] i l = absurd (omega arith)
@@ -104,7 +104,7 @@ module _ (o : Outline) (t : Walked o) where
   corner-round : cornerAt o (size o) ≡ o .start
   corner-round = corner-all o ∙ t .closed
 
-  -- After i letters backwards the walk is where it was before the last i letters
+  -- After i letters backward the walk is at the corner before the last i letters
   pub corner-backward : (i : ℕ) → i ≤ size o → cornerAt (reversed o) i ≡ cornerAt o (size o - i)
   corner-backward zero l = corner-zero (reversed o) ∙ sym corner-round ∙ ap (cornerAt o) (omega arith)
   corner-backward (suc i) l =
@@ -117,7 +117,7 @@ module _ (o : Outline) (t : Walked o) where
       ∙ (λ z. step (here z) (letter-backward (o .letters) i l z))
       ∙ step-back (cornerAt o m) a (t .letter m b) (t .stays m b)
 
-  -- The corner from which letter i backwards leaves, by the letter as sent
+  -- The corner that letter i leaves backward, in terms of the letter as sent
   leaving-backward : (i : ℕ) → i < size o → cornerAt (reversed o) i ≡ step (cornerAt o (size o - suc i)) (letterAt o (size o - suc i))
   leaving-backward i l =
       corner-backward i (omega arith) ∙ ap (cornerAt o) (omega arith) ∙ corner-suc o (size o - suc i) (omega arith)
@@ -153,7 +153,7 @@ module _ (o : Outline) (t : Walked o) where
           t .distinct (size o - j) (size o - suc i) (omega arith) (omega arith)
           (sym (corner-backward j (omega arith)) ∙ sym e ∙ corner-backward (suc i) (omega arith))
 
-  -- Backwards the walk leaves the same corners
+  -- The walk backward leaves the same corners
   pub backward-corners : SameCorners (reversed o) o
   backward-corners = record { there = λ j l. sent j (omega (arith, length-backward (o .letters))); back = back }
     where
@@ -191,14 +191,14 @@ module _ (o : Outline) (t : Walked o) where
   unfolding fromW westPlace
   west-same = first-shared (reversed o) o (walked-backward o t) t (backward-corners o t) 0
 
-  -- A corner of the walk backwards that is W stands at W's place there
+  -- A place where the walk backward leaves W is W's place there
   west-place-at : (i : ℕ) → i < size o → cornerAt (reversed o) i ≡ cornerAt o (westPlace o) → westPlace (reversed o) ≡ i
   unfolding fromW
   west-place-at i l e =
       let back = walked-backward o t in
       corner-injective (reversed o) back (westPlace (reversed o)) i (west-first (reversed o) back .below) (omega (arith, length-backward (o .letters))) (west-same ∙ sym e)
 
-  -- W is left backwards by the opposite of the letter at place j, which comes to it
+  -- Backward, W is left by the opposite of the letter at place j, which arrives at it
   leaving-back : (j : ℕ) → j < size o → cornerAt o (suc j) ≡ cornerAt o (westPlace o) → getD (fromW (reversed o) .letters) 0 0 ≡ opposite (letterAt o j)
   leaving-back j l e =
       let i : ℕ = size o - suc j in
@@ -206,7 +206,7 @@ module _ (o : Outline) (t : Walked o) where
       leaving-west (reversed o) (walked-backward o t) ∙ ap (λ (h : ℕ). getD (backward (o .letters)) h 0) place ∙ letter-backward (o .letters) i (omega arith)
       ∙ ap (λ (h : ℕ). opposite (letterAt o h)) (omega arith)
 
-  -- An outline that leaves W to the right comes to it from above, and leaves it upwards backwards
+  -- An outline that leaves W to the right arrives there from above, so backward it leaves W upward
   clockwise-back : clockwise (fromW o) ≡ false → clockwise (fromW (reversed o)) ≡ true
   unfolding clockwise opposite
   clockwise-back c =
@@ -221,7 +221,7 @@ module _ (o : Outline) (t : Walked o) where
             | inr a ↦ absurd (eqb-false (letterAt (fromW o) 0) 1 c (leaving-west o t ∙ a))
           ]
 
-  -- One that leaves W upwards comes to it from the right, and leaves it to the right backwards
+  -- An outline that leaves W upward arrives there from the right, so backward it leaves W to the right
   anticlockwise-back : clockwise (fromW o) ≡ true → clockwise (fromW (reversed o)) ≡ false
   unfolding clockwise opposite
   anticlockwise-back c =
@@ -233,7 +233,7 @@ module _ (o : Outline) (t : Walked o) where
 
 -- ---- counts
 
--- Up and down change places along the same side
+-- Up and down are exchanged along the same side
 up-back : (p : Point) (a c r : ℕ) → a < 4 → leaves p a ≡ false
     → (upAlong (step p a) (opposite a) r && leb (step p a .col) c) ≡ (downAlong p a r && leb (p .col) c)
 unfolding upAlong downAlong step opposite leaves
@@ -256,7 +256,7 @@ down-back p (suc (suc zero)) c r l e = refl
 down-back p (suc (suc (suc zero))) c r l e = refl
 down-back p (suc (suc (suc (suc a)))) c r l e = absurd (omega arith)
 
--- Letters that can be taken back, one by one: each is a letter and stays on the chart
+-- Each letter is below 4 and stays on the chart, so it can be reversed
 record Kept (o : Outline) : Type 0 where
   letter : (i : ℕ) → i < size o → letterAt o i < 4
   stays : NeverLeaves o
@@ -278,7 +278,7 @@ walk-back p (a ∷ w) k =
     ∙ ap (λ (q : Point). step q (opposite a)) (walk-back (step p a) w (kept-rest p a w k))
     ∙ step-back p a l e
 
--- A test of the letters backwards counts what its counterpart counts of the letters as sent
+-- A test counts the same letters backward as its counterpart does in the letters as sent
 tally-back :
     (f g : Point → ℕ → Bool) → ((p : Point) (a : ℕ) → a < 4 → leaves p a ≡ false → f (step p a) (opposite a) ≡ g p a)
     → (p : Point) (w : List ℕ) → Kept (outline p w) → tally f (walk p w) (backward w) ≡ tally g p w
@@ -300,7 +300,7 @@ tally-closed :
     → (o : Outline) → Kept o → Closed o → tally f (o .start) (backward (o .letters)) ≡ tally g (o .start) (o .letters)
 tally-closed f g same o k e = ap (λ (q : Point). tally f q (backward (o .letters))) (sym e) ∙ tally-back f g same (o .start) (o .letters) k
 
--- ---- the turn
+-- ---- the walk from W
 
 backward-append : (u v : List ℕ) → backward (u ++ v) ≡ backward v ++ backward u
 unfolding backward
@@ -314,7 +314,7 @@ backward-twice (a ∷ w) h =
     backward-append (backward w) (opposite a ∷ [])
     ∙ (λ z. opposite-twice a (h 0 (omega arith)) z ∷ backward-twice w (λ i l. h (suc i) (omega arith)) z)
 
--- A rotation backwards begins as far from the end
+-- A rotation of the letters backward starts equally far from the end
 rotation-backward : (w : List ℕ) (k : ℕ) → k ≤ length w → rotation (length w - k) (backward w) ≡ backward (rotation k w)
 rotation-backward w k h =
     let u : List ℕ = take k w in
@@ -324,7 +324,7 @@ rotation-backward w k h =
     rw (whole, drop-at (backward v) (backward u) (length w - k) n, take-at (backward v) (backward u) (length w - k) n) (sym (backward-append v u))
 
 module _ (o : Outline) (t : Walked o) where
-  -- The place of W backwards: as many letters stand before it as after W, and it is the first where W is the first
+  -- The place of W backward: the number of letters before it is that of the letters from W on; it is first if W is first
   pub west-place-first : westPlace o ≡ 0 → westPlace (reversed o) ≡ 0
   west-place-first e =
       west-place-at o t 0 (omega (arith, t .long)) (corner-zero (reversed o) ∙ sym (corner-zero o) ∙ ap (cornerAt o) (sym e))
@@ -335,7 +335,7 @@ module _ (o : Outline) (t : Walked o) where
       west-place-at o t (size o - westPlace o) (omega arith)
       (corner-backward o t (size o - westPlace o) (omega arith) ∙ ap (cornerAt o) (omega arith))
 
-  -- The turn backwards is the turn, backwards
+  -- Backward and then started at W is the same as started at W and then backward
   turn-back : fromW (reversed o) .letters ≡ backward (fromW o .letters)
   unfolding fromW
   turn-back =
@@ -349,24 +349,24 @@ module _ (o : Outline) (t : Walked o) where
             ∙ ap backward (sym (append-nil (o .letters)) ∙ ap (λ (i : ℕ). rotated i o .letters) (sym z))
       ]
 
--- ---- an outline past refusals 1 to 6
+-- ---- an outline that passes refusals 1 to 6
 
 module _ (o : Outline) (h : Simple o) where
   kept : Kept o
   kept = record { letter = walked o h .letter; stays = walked o h .stays }
 
-  -- It passes them backwards
+  -- Backward it passes them too
   pub simple-backward : Simple (reversed o)
   simple-backward = simple-of-walked (reversed o) (walked-backward o (walked o h))
 
-  -- It has the same W backwards
+  -- Backward it has the same W
   pub west-backward : west (reversed o) ≡ west o
   west-backward = west-same o (walked o h)
 
   pub from-w-backward : fromW (reversed o) ≡ reversed (fromW o)
   from-w-backward = outline-eq (fromW (reversed o)) (reversed (fromW o)) west-backward (turn-back o (walked o h))
 
-  -- So its letter i is the opposite of the turn's letter that has i letters after it
+  -- So letter i from W backward is the opposite of the letter from W that is followed by i letters
   pub letter-from-w-backward : (i : ℕ) → i < size o → letterAt (fromW (reversed o)) i ≡ opposite (letterAt (fromW o) (size o - suc i))
   unfolding fromW
   letter-from-w-backward i l =
@@ -374,7 +374,7 @@ module _ (o : Outline) (h : Simple o) where
       let n : size (fromW o) ≡ size o = length-rotation o k (omega (arith, west-first o (walked o h) .below)) in
       ap (λ (v : Outline). letterAt v i) from-w-backward ∙ letter-backward (fromW o .letters) i (omega arith) ∙ ap (λ (m : ℕ). opposite (letterAt (fromW o) (m - suc i))) n
 
-  -- It is clockwise either as it stands or backwards
+  -- It is clockwise either as sent or backward
   pub clockwise-backward : clockwise (fromW o) ≡ false → clockwise (fromW (reversed o)) ≡ true
   clockwise-backward = clockwise-back o (walked o h)
 
@@ -384,19 +384,19 @@ module _ (o : Outline) (h : Simple o) where
   pub backward-backward : backward (backward (o .letters)) ≡ o .letters
   backward-backward = backward-twice (o .letters) (walked o h .letter)
 
-  -- Ups and downs change places
+  -- Ups and downs are exchanged
   pub ups-backward : (c r : ℕ) → ups (o .start) (backward (o .letters)) c r ≡ downs (o .start) (o .letters) c r
   ups-backward c r = ups-tally (o .start) (backward (o .letters)) c r ∙ tally-closed _ _ (λ p a. up-back p a c r) o kept (walked o h .closed) ∙ sym (downs-tally (o .start) (o .letters) c r)
 
   pub downs-backward : (c r : ℕ) → downs (o .start) (backward (o .letters)) c r ≡ ups (o .start) (o .letters) c r
   downs-backward c r = downs-tally (o .start) (backward (o .letters)) c r ∙ tally-closed _ _ (λ p a. down-back p a c r) o kept (walked o h .closed) ∙ sym (ups-tally (o .start) (o .letters) c r)
 
-  -- Backwards it encloses the cells of which downs less ups is 1
+  -- Backward it encloses the cells with downs minus ups equal to 1
   pub encloses-backward : (c r : ℕ) → encloses (reversed o) c r ≡ eqb (downs (o .start) (o .letters) c r) (ups (o .start) (o .letters) c r + 1)
   unfolding encloses
   encloses-backward c r = rw (ups-backward c r, downs-backward c r)
 
--- ---- the reading
+-- ---- the clockwise form
 
 pub form-clockwise : (o : Outline) → clockwise (fromW o) ≡ true → clockwiseForm o ≡ o
 unfolding clockwiseForm
@@ -406,7 +406,7 @@ pub form-backward : (o : Outline) → clockwise (fromW o) ≡ false → clockwis
 unfolding clockwiseForm
 form-backward o e = rw e
 
--- What holds of the outline where it is clockwise, and of the reversed one where it is not, holds of the reading
+-- A statement about the clockwise form: prove it for the outline if that is clockwise, and for its reverse if it is not
 pub by-reading : (o : Outline) (P : Outline → Type 0) → (clockwise (fromW o) ≡ true → P o) → (clockwise (fromW o) ≡ false → P (reversed o)) → P (clockwiseForm o)
 by-reading o P on back = go (clockwise (fromW o)) refl
   where
@@ -418,7 +418,7 @@ pub length-form : (o : Outline) → size (clockwiseForm o) ≡ size o
 length-form o = by-reading o (λ v. size v ≡ size o) (λ e. refl) (λ e. length-backward (o .letters))
 
 module _ (o : Outline) (h : Simple o) where
-  -- The reading passes refusals 1 to 7, with the same W
+  -- The clockwise form passes refusals 1 to 6 and has the same W
   pub simple-form : Simple (clockwiseForm o)
   simple-form = by-reading o Simple (λ e. h) (λ e. simple-backward o h)
 
@@ -428,18 +428,18 @@ module _ (o : Outline) (h : Simple o) where
   pub clockwise-form : clockwise (border o) ≡ true
   clockwise-form = by-reading o (λ v. clockwise (fromW v) ≡ true) (λ e. e) (clockwise-backward o h)
 
-  -- Its turn is the turn, forward or backward
+  -- The border is the walk from W, forward or backward
   pub from-w-form : border o ≡ cond (clockwise (fromW o)) (fromW o) (reversed (fromW o))
   from-w-form =
       by-reading o (λ v. fromW v ≡ cond (clockwise (fromW o)) (fromW o) (reversed (fromW o))) (λ e. rw e) (λ e. rw e (from-w-backward o h))
 
-  -- Letters sent backwards have the same reading
+  -- The letters sent backward have the same clockwise form
   pub form-of-backward : clockwiseForm (reversed o) ≡ clockwiseForm o
   form-of-backward =
       by-reading o (λ v. clockwiseForm (reversed o) ≡ v)
       (λ e. form-backward (reversed o) (anticlockwise-backward o h e) ∙ ap (outline (o .start)) (backward-backward o h))
       (λ e. form-clockwise (reversed o) (clockwise-backward o h e))
 
-  -- The reading of a reading is that reading
+  -- The clockwise form of a clockwise form is itself
   pub form-form : clockwiseForm (clockwiseForm o) ≡ clockwiseForm o
   form-form = form-clockwise (clockwiseForm o) clockwise-form

@@ -1,6 +1,6 @@
--- W, N, E and S are the corners that the contract describes: the first corner of a frame is the least far along its earlier letter, then along its later one,
--- and in columns and rows this says left and low, high and left, right and high, low and right. Two such corners are as far along both letters, so they
--- are one, which a walk that meets no corner twice leaves once.
+-- W, N, E and S are the corners that the contract describes. The first corner of a frame is least along the frame's earlier letter, and
+-- then along its later one; in columns and rows this is left and low, high and left, right and high, low and right. Two such corners
+-- agree in both coordinates, so they are equal, and a walk that meets no corner twice leaves it once.
 use Prim.Native.Nat.{ℕ, _≤_, _<_}
 use native.Mathlib.Omega.{arith}
 use mathlib.Core.Path.{_≡_, refl, _∙_}
@@ -22,7 +22,8 @@ use Rattle.convexity.proofs.Clockwise.{backward-corners, walked-backwar
 module _ (o : Outline) where
   -- ---- one law for every frame
 
-  -- No corner of the walk is less far along the earlier letter of frame k than p, and none that is as far is less far along the later
+  -- No corner of the walk is less far along the earlier letter of frame k than p, and
+  -- none that is equally far is less far along the later
   pub record IsFirst (k : ℕ) (p : Point) : Type 0 where
     pub on-walk : OnWalk o p
     pub earlier : (j : ℕ) → j < size o → along (frameOf k .earlier) p ≤ along (frameOf k .earlier) (cornerAt o j)
@@ -144,7 +145,7 @@ module _ (o : Outline) where
     pub walk-corners : FourCorners o
     walk-corners = record { west = west-only; north = north-only; east = east-only; south = south-only }
 
--- ---- an outline that passes 1 to 6, and its reading from W
+-- ---- an outline that passes 1 to 6, and its border
 
 turned-corner : (o : Outline) → Walked o → (k : ℕ) → cornerAt (fromW o) (cornerPlace (fromW o) k) ≡ cornerAt o (cornerPlace o k)
 unfolding fromW westPlace
@@ -162,6 +163,6 @@ module _ (o : Outline) (simple : Simple o) where
   pub four-corners-form : FourCorners (border o)
   four-corners-form = walk-corners (border o) (from-w-of (clockwiseForm o) (simple-form o simple) .walked)
 
-  -- The reading from W on leaves the same corners, so its W, N, E and S are those of the outline
+  -- The border leaves the same corners, so its W, N, E and S are those of the outline
   pub corner-form : (k : ℕ) → cornerAt (border o) (cornerPlace (border o) k) ≡ cornerAt o (cornerPlace o k)
   corner-form k = turned-corner (clockwiseForm o) (walked (clockwiseForm o) (simple-form o simple)) k ∙ by-reading o (λ v. cornerAt v (cornerPlace v k) ≡ cornerAt o (cornerPlace o k)) (λ _. refl) (λ _. first-shared (reversed o) o (walked-backward o d) d (backward-corners o d) k)

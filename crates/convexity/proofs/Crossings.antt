@@ -1,6 +1,6 @@
--- Each line across the block is left at one place by the letter that leads across it. That letter is in two neighbouring pieces alone, the earlier letter of
--- the first and the later letter of the second: the first piece leads up to the line where the second starts, and the second leads on from there. The cells
--- of the line on the right hand of that place are those under the paths of both pieces.
+-- Each line across the block is left at exactly one place by the letter that leads across it. Only two neighbouring pieces have that
+-- letter: it is the earlier letter of the first and the later letter of the second. The first piece leads up to the line where the second
+-- starts, and the second leads on. The cells of the line to the right of that place are those under the paths of both pieces.
 use Prim.Native.Nat.{ℕ, suc, _+_, _-_, _≤_, _<_}
 use native.Mathlib.Nat.{lt-of-not-le}
 use native.Mathlib.Decide.{decLe, decLt}
@@ -28,7 +28,7 @@ use Rattle.convexity.proofs.Levels.{LetterAt}
 use Rattle.convexity.proofs.Shape.{shape, letterOf, CornerIn, place-lt, letter-in-piece, corner-in-piece, in-piece}
 use Rattle.convexity.proofs.UnderLaws.{under-from-start, under-from-end, under-from-row, under-from-column}
 
--- A count that never falls passes a number once
+-- A function that never decreases passes each value once
 rises-once : (f : ℕ → ℕ) → ((i j : ℕ) → i ≤ j → f i ≤ f j) → (i j : ℕ) → f i < f (suc i) → f j < f (suc j) → f i ≡ f j → i ≡ j
 rises-once f mono i j a b e =
     elim (decLt i j) [
@@ -41,19 +41,19 @@ module _ (o : Outline) where
   abbrev pub UnderPiece : ℕ → Point → Type 0
   UnderPiece k x = UnderFrom (word o k) (startE o k) (startL o k) (cellE k x) (cellL k x)
 
-  -- On which line across, and how far along it, the corner at place i lies, in the frame after frame k
+  -- The line of the corner at place i, and how far along the line it lies, in the frame after frame k
   abbrev pub line : ℕ → ℕ → ℕ
   line k i = along (frameOf (next k) .later) (cornerAt o i)
 
   abbrev pub depth : ℕ → ℕ → ℕ
   depth k i = along (frameOf (next k) .earlier) (cornerAt o i)
 
-  -- The letter across stands at place i: in piece k, or in the next
+  -- The crossing letter at place i is in piece k or in the next
   data Stands (k i : ℕ) : Type 0 where
     lower : (m : ℕ) → m < length (true ∷ word o k) → cut o k + m ≡ i → getD (true ∷ word o k) m false ≡ false → Stands k i
     upper : (m : ℕ) → m < length (true ∷ word o (next k)) → cut o (next k) + m ≡ i → getD (true ∷ word o (next k)) m false ≡ true → Stands k i
 
-  -- The one place at which the letter across leaves line m
+  -- The only place where the crossing letter leaves line m
   pub record Crossing (k m : ℕ) : Type 0 where
     pub place : ℕ
     pub letter : LetterAt (o .letters) (frameOf (next k) .later) place
@@ -61,7 +61,7 @@ module _ (o : Outline) where
     pub only : (i : ℕ) → LetterAt (o .letters) (frameOf (next k) .later) i → line k i ≡ m → i ≡ place
     pub under : (x : Point) → x .col < side → x .row < side → cellL (next k) x ≡ m → (depth k place ≤ cellE (next k) x) ↔ (UnderPiece k x × UnderPiece (next k) x)
 
-  -- Where a piece is split at a letter: that letter in the turn, and the corner that it leaves
+  -- If a piece is split at a letter: that letter on the border, and the corner that it leaves
   split-at : (c : NoBackStep o) (k : ℕ) → k < 4 → (x : Word) (b : Bool) (y : Word) → true ∷ word o k ≡ x ++ b ∷ y
       → LetterAt (o .letters) (letterOf (frameOf k) b) (cut o k + length x)
       × CornerIn k (cornerAt o (cut o k + length x)) (startE o k + earliers x) (startL o k + laters x)
@@ -101,7 +101,7 @@ module _ (o : Outline) where
     upper-line : (m : ℕ) → m < length (true ∷ word o (next k)) → line k (cut o (next k) + m) ≡ startL o (next k) + laters (take m (true ∷ word o (next k)))
     upper-line m n = corner-in-piece o c (next k) (next-lt k) m (omega arith) .up
 
-    -- Through piece k up to where the next one starts, and on through that to where it ends
+    -- The bounds within piece k, up to the start of the next one, and within the next, up to its end
     lower-bounds : (m : ℕ) → m < length (true ∷ word o k) → getD (true ∷ word o k) m false ≡ false
         → (startE o k ≤ line k (cut o k + m)) × (line k (cut o k + m) < startL o (next k))
     unfolding earliers
@@ -118,7 +118,7 @@ module _ (o : Outline) where
         let e = upper-line m n in
         (omega arith, omega (arith, laters-next-later m v n d, laters-take-le (suc m) v, formed .next-earlier (next k) (next-lt k)))
 
-    -- No other line is left by the letter across
+    -- The crossing letter leaves no other line
     pub line-bounds : (i : ℕ) → LetterAt (o .letters) (frameOf (next k) .later) i → (startE o k ≤ line k i) × (line k i + startE o (next (next k)) < side)
     line-bounds i l = go (stands i l)
       where

@@ -1,6 +1,6 @@
--- The cut places of any turn. As long as W, N, E and S come in this order the cut places are theirs, and the pieces are parts of the turn; for then a piece
--- leads on to the next corner, and the last one back to W. Each of these corners comes first in the order of its own frame, and a walk does not bend at a
--- corner that comes first in two.
+-- The cut places of any walk from W. While W, N, E and S come in this order, the cut places are their places and the pieces are parts of
+-- the walk, because each piece then leads on to the next corner and the last one back to W. Each of these corners is first in the order
+-- of its own frame, and the same two letters cannot meet at a corner that is first in two frames.
 use Prim.Native.Nat.{ℕ, zero, suc, _+_, _-_, _≤_, _<_}
 use native.Mathlib.Decide.{decLt}
 use native.Mathlib.Omega.{arith}
@@ -46,7 +46,7 @@ module _ (o : Outline) where
   unfolding cutCorner
   corner-west = refl
 
-  -- As long as the corners of the pieces come in their order, the cut places are theirs; and from the last the turn leads back to W
+  -- While the first corners of the pieces come in order, the cut places are their places; from the last one the walk leads back to W
   pub cut-on : (k : ℕ) → cut o k ≡ cutCorner o k → cutCorner o k ≤ cutCorner o (suc k) → cut o (suc k) ≡ cutCorner o (suc k)
   cut-on k e l = omega (arith, cut-step k, ahead-on (size o) (cutCorner o k) (cutCorner o (suc k)) l)
 
@@ -71,7 +71,7 @@ module _ (o : Outline) where
         let d = cut-round in
         below-four (λ k. cut o (suc k) ≤ size o) (omega arith) (omega arith) (omega arith) (omega arith) k h
 
-  -- Where they lie within the turn, the pieces are parts of it
+  -- If they lie within the walk, the pieces are parts of it
   module _ (fits : (k : ℕ) → k < 4 → cut o (suc k) ≤ size o) where
     pub piece-part : (k : ℕ) → k < 4 → piece o k ≡ take (cut o (suc k) - cut o k) (drop (cut o k) (o .letters))
     unfolding piece rounds
@@ -90,7 +90,7 @@ module _ (o : Outline) where
     piece-at k h i l =
         rw (piece-part k h) (getD-take (cut o (suc k) - cut o k) (drop (cut o k) (o .letters)) i 0 l ∙ getD-drop (cut o k) (o .letters) i 0)
 
--- ---- the corners of the pieces
+-- ---- the first corners of the pieces
 
 pub previous-zero : (n : ℕ) → previous n 0 ≡ n - 1
 unfolding previous
@@ -101,14 +101,14 @@ unfolding previous
 previous-pos n zero h = absurd (omega arith)
 previous-pos n (suc i) h = omega arith
 
--- No corner comes first in a frame and in the next one
+-- No corner is first in a frame and in the next one
 bends-differ : (f g : Frame) (a b : ℕ) → Apart f → Turns f g → Bend f a b → Bend g a b → ⊥
 bends-differ f g a b h t (by-later p q) (by-later p′ q′) = omega arith
 bends-differ f g a b h t (by-later p q) (by-earlier p′ q′) = omega arith
 bends-differ f g a b h t (by-earlier p q) (by-later p′ q′) = omega arith
 bends-differ f g a b h t (by-earlier p q) (by-earlier p′ q′) = omega arith
 
--- The corner to which a left comes and which an up leaves comes first in frame 0 alone
+-- A corner reached by a left and left by an up is first in frame 0 only
 west-only : (k : ℕ) → 0 < k → Bend (frameOf k) 2 1 → ⊥
 unfolding frameOf opposite
 west-only zero h b = omega arith

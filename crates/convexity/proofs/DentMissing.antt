@@ -1,5 +1,5 @@
--- A dented outline has a missing cell: the point straight above an earlier letter of a factor that is no Christoffel word lies in the triangle of three
--- path cells, all enclosed, and is not under the path of its piece.
+-- A dented outline has a missing cell: the point straight above an earlier letter of a factor that is not a Christoffel word lies in the
+-- triangle of three cells of the path, all enclosed, and is not under the path of its piece.
 use Prim.Native.Nat.{ℕ, zero, suc, _+_, _-_, _*_, _≤_, _<_}
 use native.Mathlib.Omega.{arith}
 use mathlib.Core.Path.{_≡_, refl, ap, subst}
@@ -33,7 +33,7 @@ use Rattle.convexity.proofs.PathCells.{cellOf, cellE-cellOf, cellL-cell
 
 -- ---- a piece with a dent
 
--- A factor with a point above it that is on or under its chord
+-- A factor, with a point above it that is on or under its chord
 record AboveFactor (fs : List Factor) : Type 0 where
   before : List Factor
   factor : Factor
@@ -42,7 +42,7 @@ record AboveFactor (fs : List Factor) : Type 0 where
   repeated : 0 < factor .times
   above : Above (factor .word)
 
--- A factor that is no Christoffel word is one
+-- A factor that is not a Christoffel word has such a point
 dent-factor : (fs : List Factor) → Falling fs → 0 < dentLength fs → AboveFactor fs
 unfolding dentLength
 dent-factor [] d h = absurd (omega arith)
@@ -86,7 +86,7 @@ module _ (a b c P P₁ P₂ P₃ Q Q₁ Q₂ Q₃ : ℕ) (some : 0 < a + b + c)
   Q-flipped : (a + b + c) * (side - 1 - Q) ≡ a * (side - 1 - Q₁) + b * (side - 1 - Q₂) + c * (side - 1 - Q₃)
   Q-flipped = mean-mirror (side - 1) a b c Q Q₁ Q₂ Q₃ _ _ _ _ (omega arith) (omega arith) (omega arith) (omega arith) up
 
-  -- A mean of points in a frame is that mean of the cells
+  -- A mean of points in a frame is the same mean of cells
   cell-triangle : (k : ℕ) → Hull.InTriangle (cellOf k P Q) (cellOf k P₁ Q₁) (cellOf k P₂ Q₂) (cellOf k P₃ Q₃)
   unfolding cellOf
   cell-triangle zero = record { a = a; b = b; c = c; some = some; cols = across; rows = up }
@@ -104,7 +104,7 @@ module _ (o : Outline) (straight : NoBackStep o) where
     abbrev v : InTriangle w (earliers (d .before)) (laters (d .before) + 1)
     v = d .hull
 
-    -- Where the point above the path lies in the frame, and the cell there
+    -- The point above the path in the frame's coordinates, and its cell
     abbrev P : ℕ
     P = startE o k + earliers (d .before)
 

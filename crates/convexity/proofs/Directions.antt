@@ -1,4 +1,5 @@
--- The edges turn one way: within a piece the slopes fall strictly, and the quadrants of the four pieces, up inclusive to across exclusive, follow one another.
+-- Directions of edges increase clockwise: within a piece slopes decrease strictly, and the quadrants of the four pieces, each from its
+-- later letter, included, to its earlier one, excluded, follow one another.
 use Prim.Native.Nat.{ℕ, suc, pred, _+_, _*_, _≤_, _<_}
 use native.Mathlib.Nat.{le-refl, le-trans, mul-pos, mul-le-mul-right, mul-lt-mul-of-pos-left, mul-lt-mul-of-pos-right, lt-of-mul-lt-mul-left, eq-zero-or-pos}
 use native.Mathlib.Omega.{arith}
@@ -26,14 +27,14 @@ use Rattle.convexity.proofs.Signed.{Lies, stepCols, stepRows, step-lies
 
 -- ---- the directions of the frames
 
--- (dx, dy) is e earlier letters and l later ones of frame k, at least one of them later
+-- (dx, dy) is e earlier letters and l later ones of frame k, with at least one later letter
 pub record Points (k e l : ℕ) (dx dy : ℤ) : Type 0 where
   pub small : k < 4
   pub upward : 0 < l
   pub lies : Lies k 0 e l dx dy
 
--- Past a bound: n frames are begun, and the last of them is passed as far as e across and l up. The direction e′ across and l′ up of frame
--- k is of a frame not begun, or less steep than the bound
+-- Beyond a bound: n frames have begun, and in the last of them the direction (e, l) is reached. The direction (e′, l′) of frame k is in a
+-- frame that has not begun, or is less steep than the bound
 pub data After (n e l k e′ l′ : ℕ) : Type 0 where
   later-frame : n ≤ k → After n e l k e′ l′
   same-frame : n ≡ suc k → l′ * e < l * e′ → After n e l k e′ l′
@@ -44,9 +45,9 @@ slope-trans e l a b c d h k =
     (λ z. lt-of-mul-lt-mul-left a (omega (arith, mul-lt-mul-of-pos-right {k = c} h z, mul-le-mul-right e k)))
     (eq-zero-or-pos c)
 
--- ---- lists of edges whose directions turn one way
+-- ---- lists of edges with increasing directions
 
--- Each edge of the list is past the one before it, and the first is past the bound
+-- Each edge of the list is beyond the one before it, and the first is beyond the bound
 pub data Increasing : ℕ → ℕ → ℕ → List ℤ → Type 0 where
   none : {n e l : ℕ} → Increasing n e l []
   more :
@@ -61,7 +62,7 @@ pub rows-next : (dx dy : ℤ) (es : List ℤ) (i : ℕ) → edgeRows (dx ∷ dy 
 unfolding edgeRows
 rows-next dx dy es i = let d : 2 * suc i + 1 ≡ suc (suc (2 * i + 1)) = omega arith in rw d
 
--- A bound that only says how many frames are begun
+-- A bound that only gives the number of frames begun
 turning-from : {n m e l : ℕ} {es : List ℤ} → n ≤ m → Increasing m 0 0 es → Increasing n e l es
 turning-from h none = none
 turning-from h (more (later-frame m) p r) = more (later-frame (le-trans h m)) p r
@@ -69,7 +70,7 @@ turning-from h (more (same-frame m s) p r) = absurd (omega arith)
 
 -- ---- the edges of one piece
 
--- Where the word has a last letter, it is the later one
+-- If the word has a last letter, it is the later one
 abbrev pub EndsLater : Word → Type 0
 EndsLater w = (x : Word) (b : Bool) → w ≡ x ++ (b ∷ []) → b ≡ true
 
@@ -80,7 +81,7 @@ ends-later-some w h ends =
     let whole : w ≡ take i w ++ (getD w i false ∷ []) = sym (take-length w) ∙ ap (λ (n : ℕ). take n w) (sym e) ∙ take-suc w i false (omega arith) in
     omega (arith, laters-next-later i w (omega arith) (ends (take i w) (getD w i false) whole), laters-take-le (suc i) w)
 
--- The last factor has a later letter, for the word ends with one; any other factor has one, for it is steeper than the next
+-- Every factor has a later letter: the last one because the word ends with it, any other because it is steeper than the next
 pub first-rises : (f : Factor) (fs : List Factor) → EdgesFall (f ∷ fs) → EndsLater (written (f ∷ fs)) → 0 < rise f
 unfolding EdgesFall Falls written
 first-rises f [] (edge, falls, rest) ends =
@@ -130,7 +131,7 @@ module _ (o : Outline) (straight : NoBackStep o) (smooth : dentPiece o ≡ 4) wh
   piece-turning k h rest =
       turning-piece k h rest (factors o k) (smooth-edges o smooth k h) (rw (factors-exist (word o k) .whole) (shape o straight .ends k h))
 
-  -- From up, inclusive, the directions turn clockwise to just short of up again
+  -- Directions increase clockwise from up, included, to just short of up again
   pub edges-turning : Increasing 0 0 0 (edges o)
   unfolding edges
   edges-turning =

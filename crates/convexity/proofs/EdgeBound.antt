@@ -1,5 +1,6 @@
--- At most 100 edges from 612 letters: the slopes of a piece fall strictly, so no two of its factors have the same counts in one copy, and few short
--- copies have counts that share no divisor. A copy weighs what its length lacks to 9; those of a piece weigh at most 75 together.
+-- 612 letters give at most 100 edges: slopes of a piece decrease strictly, so no two of its factors have copies with the same counts, and
+-- few short copies have coprime counts. The weight of a copy is what its length lacks to 9. The weights of a piece's copies sum to at
+-- most 75.
 use Prim.Native.Nat.{ℕ, zero, suc, _+_, _-_, _*_, _≤_, _<_}
 use native.Mathlib.Nat.{mul-zero, eq-or-lt-of-le, mul-le-mul-right}
 use native.Mathlib.Omega.{arith}
@@ -31,14 +32,14 @@ use Rattle.convexity.proofs.AsSent.{clear-of}
 
 -- ---- the grid of copies
 
--- One copy of a factor: so many earlier letters, and so many later ones
+-- One copy of a factor: the number of earlier letters, and of later ones
 abbrev Copy : Type 0
 Copy = ℕ × ℕ
 
 abbrev size : Copy → ℕ
 size c = c .0 + c .1
 
--- What the length lacks to 9; nothing where the counts share a divisor
+-- What the length lacks to 9; 0 if the counts have a common divisor
 unfoldable weight : Copy → ℕ
 weight c = cond (coprime (c .1) (size c)) (9 - size c) 0
 
@@ -47,7 +48,7 @@ unfoldable row : ℕ → ℕ → List Copy
 row e zero = []
 row e (suc m) = (e, suc m) ∷ row e m
 
--- Those with fewer than n earlier letters
+-- The copies with fewer than n earlier letters and 1 to m later ones
 unfoldable grid : ℕ → ℕ → List Copy
 grid zero m = []
 grid (suc n) m = row n m ++ grid n m
@@ -76,7 +77,7 @@ grid-weight : sumOf weight (grid 8 8) ≡ 75
 unfolding sumOf weight grid row coprime every
 grid-weight = refl
 
--- A copy with a later letter and a weight is in the grid
+-- A copy with a later letter and a positive weight is in the grid
 weighs-in-grid : (c : Copy) → 0 < c .1 → 0 < weight c → List·Memᴰ c (grid 8 8)
 unfolding weight
 weighs-in-grid c p h = go (coprime (c .1) (size c)) h
@@ -90,7 +91,7 @@ weighs-in-grid c p h = go (coprime (c .1) (size c)) h
 abbrev copy : Factor → Copy
 copy f = (earliers (f .word), laters (f .word))
 
--- Every factor further on is less steep, so its counts are others
+-- All later factors are less steep, so their counts differ
 steeper :
     (f : Factor) (fs : List Factor) → EdgesFall (f ∷ fs) → (g : Factor) → List·Memᴰ g fs
     → laters (g .word) * earliers (f .word) < laters (f .word) * earliers (g .word)
@@ -137,7 +138,7 @@ copies-weigh fs h ends =
     later : (c : Copy) → (f : Factor) × List·Memᴰ f fs × (c ≡ copy f) → 0 < c .1
     later c r = rw (r .2) (later-in fs h ends (r .0) (r .1))
 
--- One copy and its weight are at least 9, and a factor writes one copy or more
+-- The length and the weight of one copy sum to at least 9, and a factor has at least one copy
 factor-long : (f : Factor) → Proper f → Christoffel (f .word) → 9 ≤ length (copies (f .times) (f .word)) + weight (copy f)
 unfolding weight
 factor-long f p c =
@@ -182,16 +183,16 @@ module _ (o : Outline) (straight : NoBackStep o) where
         let weigh = copies-weigh fs (smooth-edges o smooth k h) (rw (e .whole) (shape o straight .ends k h)) in
         omega (arith, factors-long fs (e .falling) (smooth-piece o smooth k h), ap length (e .whole))
 
-    -- Nine letters an edge, but for 296
+    -- Nine times the number of edges is at most the number of letters plus 296
     pub edges-and-letters : 9 * edgeCount o ≤ length (o .letters) + 296
     unfolding edgeCount
     edges-and-letters =
         omega (arith, letters-of-words, piece-edges 0 (lit< tt), piece-edges 1 (lit< tt), piece-edges 2 (lit< tt), piece-edges 3 (lit< tt))
 
--- At most 100 edges, of the longest outlines too
+-- At most 100 edges, even for the longest outlines
 pub edges-at-most-100 : (o : Outline) → NoBackStep o → dentPiece o ≡ 4 → 2 * edgeCount o ≤ mostNumbers
 edges-at-most-100 o straight smooth = omega (arith, edges-and-letters o straight smooth, straight .walk .walked .short)
 
--- The same for an outline as sent: the holder has room for the edges of every outline that is taken
+-- The same for an outline as sent: the holder has room for the edges of every taken outline
 pub edges-fit : (o : Outline) → Reaches o → dentPiece (border o) ≡ 4 → 2 * edgeCount (border o) ≤ mostNumbers
 edges-fit o h smooth = edges-at-most-100 (border o) (clear-of o h) smooth

@@ -1,4 +1,5 @@
--- The first corner of a frame's order: no step from it or to it goes back, so the walk comes to it along one of the frame's letters and leaves it along the other.
+-- At the first corner in a frame's order no step leads to a smaller corner, so the walk arrives there along the opposite of one of the
+-- frame's letters and leaves along the other.
 use Prim.Native.Nat.{ℕ, zero, suc, _+_, _-_, _≤_, _<_}
 use native.Mathlib.Decide.{decLt}
 use native.Mathlib.Omega.{arith}
@@ -106,7 +107,7 @@ before-trans f p q r h k =
 
 -- ---- the first corner of a piece
 
--- The corner at place i comes first in frame k
+-- The corner at place i is first in frame k
 pub record FirstAt (o : Outline) (k i : ℕ) : Type 0 where
   pub below : i < size o
   pub none : (j : ℕ) → j < size o → before (frameOf k) (cornerAt o j) (cornerAt o i) ≡ false
@@ -125,7 +126,7 @@ cornerPlace-first o k i h =
 pub first-at-cornerPlace : (o : Outline) (k : ℕ) → 0 < size o → FirstAt o k (cornerPlace o k)
 first-at-cornerPlace o k h = record { below = cornerPlace-lt o k h; none = cornerPlace-first o k }
 
--- The letters from W on are a turn
+-- The outline started at W is a walk from W
 pub from-w-of : (o : Outline) → Simple o → WalkFromW (fromW o)
 unfolding fromW westPlace
 from-w-of o t =
@@ -143,7 +144,7 @@ from-w-of o t =
 pub on-chart : (o : Outline) → Walked o → (i : ℕ) → i ≤ size o → OnChart (cornerAt o i)
 on-chart o d i h = record { col = d .col-le i h; row = d .row-le i h }
 
--- The letter a leads from p to q, one on or one back along one of the frame's letters, and not along the other
+-- The letter a leads from p to q, one step forward or back along one of the frame's letters
 pub data Moved (f : Frame) (a : ℕ) (p q : Point) : Type 0 where
   earlier-on : a ≡ f .earlier → along (f .earlier) q ≡ along (f .earlier) p + 1 → along (f .later) q ≡ along (f .later) p → Moved f a p q
   later-on : a ≡ f .later → along (f .earlier) q ≡ along (f .earlier) p → along (f .later) q ≡ along (f .later) p + 1 → Moved f a p q
@@ -176,7 +177,7 @@ moved (suc (suc (suc k))) (suc (suc zero)) p h e c = later-on refl refl (omega (
 moved (suc (suc (suc k))) (suc (suc (suc zero))) p h e c = earlier-back refl (omega (arith, zero-no (p .row) e)) refl
 moved (suc (suc (suc k))) (suc (suc (suc (suc a)))) p h e c = absurd (omega arith)
 
--- Corners of the chart that lie as far along both letters of a frame are equal
+-- Corners of the chart with the same coordinates in a frame are equal
 pub along-injective : (k : ℕ) (p q : Point) → OnChart p → OnChart q → along (frameOf k .earlier) p ≡ along (frameOf k .earlier) q
     → along (frameOf k .later) p ≡ along (frameOf k .later) q → p ≡ q
 unfolding frameOf along
@@ -199,7 +200,7 @@ not-before-later f p q h e =
       | no l ↦ omega arith
     ]
 
--- Two corners neither of which comes before the other are one
+-- If neither of two corners comes before the other, they are equal
 pub first-unique : (k : ℕ) (p q : Point) → OnChart p → OnChart q → before (frameOf k) p q ≡ false → before (frameOf k) q p ≡ false → p ≡ q
 first-unique k p q c d g h =
     let e : along (frameOf k .earlier) p ≡ along (frameOf k .earlier) q =
@@ -218,7 +219,7 @@ first-shared o v t u same k =
     (subst (λ (p : Point). before (frameOf k) p (cornerAt v (cornerPlace v k)) ≡ false) e (g .none j m))
     (subst (λ (p : Point). before (frameOf k) p (cornerAt o (cornerPlace o k)) ≡ false) d (f .none i l))
 
--- How a walk may turn at the first corner of a frame: by the letter on which it comes, and the one on which it leaves
+-- How a walk can pass the first corner of a frame: the letter that arrives and the letter that leaves
 pub data Bend (f : Frame) (a b : ℕ) : Type 0 where
   by-later : a ≡ opposite (f .earlier) → b ≡ f .later → Bend f a b
   by-earlier : a ≡ opposite (f .later) → b ≡ f .earlier → Bend f a b
@@ -236,7 +237,7 @@ bend-of f a b p c q hp hq far (later-on x y z) (later-back x′ y′ z′) = abs
 bend-of f a b p c q hp hq far (earlier-back x y z) m = absurd (omega (arith, not-before-earlier f q c hq))
 bend-of f a b p c q hp hq far (later-back x y z) m = absurd (omega (arith, not-before-later f q c hq (omega arith)))
 
--- The place before place i of n, past the beginning to the end
+-- The place before place i of n, cyclically
 unfoldable pub previous : ℕ → ℕ → ℕ
 previous n zero = n - 1
 previous n (suc i) = i
@@ -258,7 +259,7 @@ module _ (o : Outline) (d : Walked o) where
   corner-previous zero = ap (cornerAt o) (omega (arith, d .long)) ∙ corner-round
   corner-previous (suc i) = refl
 
-  -- The place after place i, past the end to the beginning
+  -- The place after place i, cyclically
   record After (i j : ℕ) : Type 0 where
     below : j < size o
     corner : cornerAt o (suc i) ≡ cornerAt o j

@@ -1,4 +1,5 @@
--- A point is under a path of falling edges exactly when it is on the right side of each edge: path points hug their own edge, and falling slopes carry that to all others.
+-- A point is under a path of decreasing edges exactly if it is on the right side of each edge: the path stays within one step of its own
+-- edge, and decreasing slopes carry the inequality to all others.
 use Prim.Native.Nat.{ℕ, zero, suc, pred, _+_, _*_, _≤_, _<_}
 use native.Mathlib.Nat.{add-assoc, add-zero, le-dest, le-of-lt, le-refl, mul-le-mul-left, mul-le-mul-right, lt-of-not-le, mul-lt-mul-of-pos-left, le-of-mul-le-mul-left}
 use native.Mathlib.Decide.{decLe}
@@ -14,14 +15,14 @@ use Rattle.words.specs.Lyndon.{Factor, copies, written}
 use Rattle.words.proofs.Counts.{earliers-append, laters-append, earliers-laters, earliers-copies, laters-copies, earliers-take-drop, laters-take-drop, earliers-take-mono, laters-take-mono}
 use Rattle.words.proofs.Dent.{Above, Triangle, above-triangle}
 
--- Some path point of w is left of (p, q) and above it, or level with it
+-- Some point of the path of w is at or left of (p, q) and at or above it
 pub record Under (w : Word) (p q : ℕ) : Type 0 where
   pub upto : ℕ
   pub within : upto ≤ length w
   pub left : earliers (take upto w) ≤ p
   pub high : q ≤ laters (take upto w)
 
--- ---- a path point is a beginning of the word
+-- ---- a point of the path is the end of a prefix
 
 pub take-split : (w x y : Word) → w ≡ x ++ y → take (length x) w ≡ x
 take-split w x y e = ap (take (length x)) e ∙ take-append-seam x y
@@ -33,11 +34,11 @@ pub under-of-split : (w x y : Word) → w ≡ x ++ y → (p q : ℕ) → earlier
 under-of-split w x y e p q h k =
     record { upto = length x; within = split-within w x y e; left = rw (take-split w x y e) h; high = rw (take-split w x y e) k }
 
--- A letter's place in the word ends a longer beginning
+-- The prefix before a letter, made longer by that letter
 next-split : (w x : Word) (a : Bool) (y : Word) → w ≡ x ++ a ∷ y → w ≡ x ++ a ∷ [] ++ y
 next-split w x a y e = e ∙ sym (append-assoc x (a ∷ []) y)
 
--- A path point is up to x, or from the next letter on
+-- A point of the path is up to x, or from the next letter on
 before-or-after : (w x : Word) (a : Bool) (y : Word) → w ≡ x ++ a ∷ y → (i : ℕ)
     → (laters (take i w) ≤ laters x) ⊎ (earliers x + earliers (a ∷ []) ≤ earliers (take i w))
 before-or-after w x a y e i =
@@ -49,7 +50,7 @@ before-or-after w x a y e i =
           inr (rw (take-split w u y (next-split w x a y e), earliers-append) at (earliers-take-mono (length u) i w long))
     ]
 
--- Read along the column of an earlier letter: up to the path's height there
+-- In the column of an earlier letter: under the path is at most the path's height there
 pub columnwise : (w x y : Word) → w ≡ x ++ false ∷ y → (p q : ℕ) → earliers x ≡ p → Under w p q ↔ (q ≤ laters x)
 unfolding earliers
 columnwise w x y e p q h = (
@@ -57,7 +58,7 @@ columnwise w x y e p q h = (
   λ k. under-of-split w x (false ∷ y) e p q (omega arith) k,
 )
 
--- Read along the row of a later letter: from the path on
+-- In the row of a later letter: under the path is at the path or right of it
 pub rowwise : (w x y : Word) → w ≡ x ++ true ∷ y → (p q : ℕ) → laters x + 1 ≡ q → Under w p q ↔ (earliers x ≤ p)
 unfolding earliers laters
 rowwise w x y e p q h = (
@@ -68,7 +69,7 @@ rowwise w x y e p q h = (
 pub above-not-under : (w x y : Word) → w ≡ x ++ false ∷ y → Under w (earliers x) (laters x + 1) → ⊥
 above-not-under w x y e u = omega (arith, columnwise w x y e (earliers x) (laters x + 1) refl .0 u)
 
--- The (p + 1)-th earlier letter of w, with what stands before it and after it
+-- The (p + 1)-th earlier letter of w, with the parts before it and after it
 pub record EarlierAt (w : Word) (p : ℕ) : Type 0 where
   pub before : Word
   pub after : Word
@@ -105,7 +106,7 @@ later-at (true ∷ w) (suc (suc q)) h k =
     let r : LaterAt w (suc q) = later-at w (suc q) (omega arith) (omega arith) in
     record { before = true ∷ r .before; after = r .after; split = ap (λ (v : Word). true ∷ v) (r .split); count = omega (arith, r .count) }
 
--- The path point in the column of (p, q) is lower, and its next letter is the earlier one
+-- The point of the path in the column of (p, q) is lower, and the next letter is the earlier one
 pub record Over (w : Word) (p q : ℕ) : Type 0 where
   pub at : EarlierAt w p
   pub low : laters (at .before) < q
@@ -127,19 +128,20 @@ under-or-over w p q h =
 
 -- ---- edges
 
--- The edge of a factor: so far across, and so far up
+-- The edge of a factor: its run and its rise
 abbrev pub run : Factor → ℕ
 run f = f .times * earliers (f .word)
 
 abbrev pub rise : Factor → ℕ
 rise f = f .times * laters (f .word)
 
--- (p, q) is on the right side of every edge, or on it; the first edge leaves (vp, vq)
+-- (p, q) is on the right side of every edge, or on the edge; the first edge starts at (vp, vq)
 unfoldable pub Sides : List Factor → ℕ → ℕ → ℕ → ℕ → Type 0
 Sides [] vp vq p q = Unit
 Sides (f ∷ fs) vp vq p q = (run f * q + rise f * vp ≤ rise f * p + run f * vq) × Sides fs (vp + run f) (vq + rise f) p q
 
--- What is used of a Christoffel word: its path points are on or under the chord, and the point one up and one left of each is strictly over it
+-- What is used about a Christoffel word: the points of its path are on or under the chord,
+-- and the point one up and one left of each is strictly over it
 pub record RunsAlong (w : Word) : Type 0 where
   pub under : (i : ℕ) → i ≤ length w → laters (take i w) * earliers w ≤ earliers (take i w) * laters w
   pub left : (i : ℕ) → i ≤ length w → earliers (take i w) * laters w < (laters (take i w) + 1) * earliers w + laters w
@@ -160,7 +162,7 @@ EdgesFall (f ∷ fs) = Edge f × Falls f fs × EdgesFall fs
 
 -- ---- slopes
 
--- A vector (a, b) that is not 0 carries the order of slopes, l / e at most b / a at most d / c
+-- Slopes are transitive through a vector (a, b) that is not zero: l / e ≤ b / a and b / a ≤ d / c give l / e ≤ d / c
 slope-trans : (e l a b c d : ℕ) → 0 < a + b → l * a ≤ e * b → b * c ≤ a * d → l * c ≤ e * d
 slope-trans e l a b c d some h k =
     elim (decLe a 0) [
@@ -171,7 +173,7 @@ slope-trans e l a b c d some h k =
       | no z ↦ le-of-mul-le-mul-left {k = a} (omega (arith, mul-le-mul-right c h, mul-le-mul-left e k)) (lt-of-not-le z)
     ]
 
--- What holds of the beginnings of c, and of c followed by a beginning of r, holds of the beginnings of both
+-- If P holds for the prefixes of c, and for c followed by each prefix of r, it holds for the prefixes of c ++ r
 take-cases : (P : Word → Type 0) (c r : Word) → ((i : ℕ) → i ≤ length c → P (take i c)) → ((j : ℕ) → j ≤ length r → P (c ++ take j r))
     → (i : ℕ) → i ≤ length (c ++ r) → P (take i (c ++ r))
 take-cases P c r low high i h =
@@ -183,7 +185,7 @@ take-cases P c r low high i h =
           subst (λ (n : ℕ). P (take n (c ++ r))) e (rw take-append-add (high j fits))
     ]
 
--- No path point of w is over the line of slope b / a through its start
+-- No point of the path of w is over the line of slope b / a through its start
 Flat : ℕ → ℕ → Word → Type 0
 Flat a b w = (i : ℕ) → i ≤ length w → laters (take i w) * a ≤ earliers (take i w) * b
 
@@ -217,7 +219,7 @@ flat-after f (g ∷ gs) s h =
     flat-steeper _ _ _ _ (copies (g .times) (g .word) ++ written gs) some steeper
     (flat-append _ _ (copies (g .times) (g .word)) (written gs) (flat-copies _ _ (g .times) (g .word) (g⁺ .hugs .under)) (flat-after g gs (h .1) (h .2)))
 
--- The point one up and one left of each path point of w is over the line of slope b / a through its start
+-- The point one up and one left of each point of the path of w is over the line of slope b / a through its start
 Left : ℕ → ℕ → Word → Type 0
 Left a b w = (i : ℕ) → i ≤ length w → earliers (take i w) * b < (laters (take i w) + 1) * a + b
 
@@ -246,7 +248,7 @@ unfolding Falls NoSteeper
 no-steeper f [] x y some s h = tt
 no-steeper f (g ∷ gs) x y some s h = slope-trans _ _ (earliers (f .word)) (laters (f .word)) x y (omega (arith, earliers-laters (f .word))) (omega arith) h
 
--- A point from which a steep vector leads to the edges' start is on their right side
+-- A point from which a steep vector leads to the start of the edges is on their right side
 sides-before : (fs : List Factor) → EdgesFall fs → (p q x y : ℕ) → NoSteeper fs x y → Sides fs (p + x) (q + y) p q
 unfolding EdgesFall NoSteeper Sides
 sides-before [] h p q x y s = tt
@@ -256,7 +258,7 @@ sides-before (f ∷ fs) h p q x y s = (
       (no-steeper f fs (x + run f) (y + rise f) (h .0 .some) (h .1) (omega arith))),
 )
 
--- The path points of f's own copies
+-- The points on the path of f's own copies
 sides-own : (f : Factor) (fs : List Factor) → EdgesFall (f ∷ fs) → (vp vq i : ℕ) → i ≤ length (copies (f .times) (f .word))
     → Sides (f ∷ fs) vp vq (vp + earliers (take i (copies (f .times) (f .word)))) (vq + laters (take i (copies (f .times) (f .word))))
 unfolding EdgesFall Sides Flat
@@ -276,7 +278,7 @@ sides-own f fs h vp vq i m =
     let steep : laters w * x ≤ earliers w * y = omega (arith, ap (λ (n : ℕ). laters w * n) across, ap (λ (n : ℕ). earliers w * n) up) in
     (omega (arith, mul-le-mul-left k flat), rw (p, q) at (sides-before fs (h .2) (vp + e) (vq + l) x y (no-steeper f fs x y (h .0 .some) (h .1) steep)))
 
--- The path points after f's copies
+-- The points on the path after f's copies
 sides-after : (f : Factor) (fs : List Factor) → EdgesFall (f ∷ fs) → (vp vq j : ℕ) → j ≤ length (written fs)
     → Sides fs (vp + run f) (vq + rise f) (vp + run f + earliers (take j (written fs))) (vq + rise f + laters (take j (written fs)))
     → Sides (f ∷ fs) vp vq (vp + earliers (copies (f .times) (f .word) ++ take j (written fs))) (vq + laters (copies (f .times) (f .word) ++ take j (written fs)))
@@ -290,7 +292,7 @@ sides-after f fs h vp vq j m s =
     let q : vq + laters (copies k w ++ t) ≡ vq + rise f + laters t = omega (arith, laters-append (copies k w) t, laters-copies k w) in
     rw (p, q) (omega (arith, mul-le-mul-left k flat), s)
 
--- Every path point is on the right side of every edge
+-- Every point of the path is on the right side of every edge
 sides-path : (fs : List Factor) → EdgesFall fs → (vp vq i : ℕ) → i ≤ length (written fs)
     → Sides fs vp vq (vp + earliers (take i (written fs))) (vq + laters (take i (written fs)))
 unfolding EdgesFall Sides written
@@ -352,7 +354,7 @@ under-iff-sides fs h p q high = (
 
 -- ---- a dent in a piece
 
--- Natural weights that put (p, q) into the triangle of three path points of w
+-- Natural weights by which (p, q) lies in the triangle of three points of the path of w
 pub record InTriangle (w : Word) (p q : ℕ) : Type 0 where
   pub i : ℕ
   pub j : ℕ
@@ -367,14 +369,14 @@ pub record InTriangle (w : Word) (p q : ℕ) : Type 0 where
   pub across : (a + b + c) * p ≡ a * earliers (take i w) + b * earliers (take j w) + c * earliers (take k w)
   pub up : (a + b + c) * q ≡ a * laters (take i w) + b * laters (take j w) + c * laters (take k w)
 
--- An earlier letter of w, such that the point straight above its start is in the triangle of three path points
+-- An earlier letter of w such that the point straight above its start is in the triangle of three points of the path
 pub record Dented (w : Word) : Type 0 where
   pub before : Word
   pub after : Word
   pub split : w ≡ before ++ false ∷ after
   pub hull : InTriangle w (earliers before) (laters before + 1)
 
--- A dent of a part of a word, moved along by what stands before that part
+-- A dent of a part of a word, shifted by the letters before that part
 dent-shift : (w v u r : Word) → w ≡ v ++ (u ++ r) → Above u → Dented w
 dent-shift w v u r e d =
     let t : Triangle (earliers (d .before)) (laters (d .before)) (earliers u) (laters u) = above-triangle u d in
@@ -414,7 +416,7 @@ unfolding copies
 copies-pos zero w h = absurd (omega arith)
 copies-pos (suc k) w h = refl
 
--- If some factor's word has a point above it that is under its chord, the piece has a dent
+-- If some factor has a point above it that is under its chord, the piece has a dent
 pub dent-in-piece : (fs before : List Factor) (f : Factor) (after : List Factor) → fs ≡ before ++ f ∷ after → 0 < f .times → Above (f .word) → Dented (written fs)
 unfolding written
 dent-in-piece fs before f after e h a =

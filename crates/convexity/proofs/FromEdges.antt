@@ -1,5 +1,6 @@
--- An outline's edges write back its letters. Without a dent each factor with its repeats is the word of its run and its rise, so a piece is fixed by the
--- runs and rises of its edges; and an edge lies in its own piece's quadrant alone, so the flat list says which edges are whose.
+-- The edges of an outline determine its border. Without a dent each factor with its repeats is the word of its run and its rise, so the
+-- runs and rises of its edges determine a piece; and an edge lies only in its own piece's quadrant, so the flat list tells to which piece
+-- each edge belongs.
 use Prim.Native.Nat.{ℕ, zero, suc, _+_, _<_}
 use native.Mathlib.Omega.{arith}
 use mathlib.Core.Path.{_≡_, refl, sym, ap, _∙_}
@@ -32,7 +33,7 @@ use Rattle.convexity.proofs.AsSent.{clear-of}
 
 -- ---- a piece from the runs and rises of its edges
 
--- Without a dent a word is written by the runs and rises of its factors
+-- Without a dent a word is determined by the runs and rises of its factors
 pub written-sizes : (fs : List Factor) → Falling fs → dentLength fs ≡ 0 → written fs ≡ edgesWord (sizes fs)
 unfolding written edgesWord sizes
 written-sizes [] h e = refl
@@ -76,7 +77,7 @@ signed (suc zero) e l h = (is-pos (h .0), is-minus-pos (h .1))
 signed (suc (suc zero)) e l h = (is-minus-pos (h .0), is-minus-pos (h .1))
 signed (suc (suc (suc k))) e l h = (is-minus-pos (h .0), is-pos (h .1))
 
--- (dx, dy) lies in quadrant k, with its run and its rise
+-- (dx, dy) lies in quadrant k and has this run and this rise
 pub record Sits (k e l : ℕ) (dx dy : ℤ) : Type 0 where
   pub quadrant : quadrantOf dx dy ≡ k
   pub across : runIn k dx dy ≡ e
@@ -95,11 +96,11 @@ signed-sits (suc (suc (suc zero))) zero (suc l) h p = record { quadrant = refl; 
 signed-sits (suc (suc (suc zero))) (suc e) (suc l) h p = record { quadrant = refl; across = refl; upward = refl }
 signed-sits (suc (suc (suc (suc k)))) e (suc l) h p = absurd (omega arith)
 
--- An edge of piece k that rises lies in quadrant k, and so in no other
+-- An edge of piece k with a later letter lies in quadrant k and in no other
 pub step-sits : (k e l : ℕ) → k < 4 → 0 < l → Sits k e l (stepCols (frameOf k) e l) (stepRows (frameOf k) e l)
 step-sits k e l h p = let d = signed k e l (step-lies k e l .counted) in rw (d .0, d .1) (signed-sits k e l h p)
 
--- Conversely a direction of quadrant k is the step of its run and its rise in frame k, and it rises
+-- Conversely, a direction of quadrant k is the step of its run and its rise in frame k, and its rise is not zero
 quadrant-signed : (dx dy : ℤ) → quadrantOf dx dy < 4 → let k = quadrantOf dx dy in
     (0 < riseIn k dx dy) × (signedCols k (runIn k dx dy) (riseIn k dx dy) ≡ dx) × (signedRows k (runIn k dx dy) (riseIn k dx dy) ≡ dy)
 unfolding quadrantOf runIn riseIn
@@ -201,7 +202,7 @@ module _ (o : Outline) (straight : NoBackStep o) (smooth : dentPiece o ≡ 4) wh
       (append-nil _)
   edges-sizes (suc (suc (suc (suc k)))) h = absurd (omega arith)
 
-  -- So it writes back each piece, and the letters from W on
+  -- So it determines each piece, and the border
   pub piece-from-edges : (k : ℕ) → k < 4 → piece o k ≡ pieceFrom k (edges o)
   unfolding pieceFrom
   piece-from-edges k h =
@@ -213,7 +214,7 @@ module _ (o : Outline) (straight : NoBackStep o) (smooth : dentPiece o ≡ 4) wh
       shape o straight .whole
       ∙ rw (piece-from-edges 0 (lit< tt), piece-from-edges 1 (lit< tt), piece-from-edges 2 (lit< tt), piece-from-edges 3 (lit< tt))
 
--- Two turns with the same edges are the same letters
+-- Two borders with the same edges have the same letters
 pub from-w-unique : {o o′ : Outline} → NoBackStep o → NoBackStep o′ → dentPiece o ≡ 4 → dentPiece o′ ≡ 4 → edges o ≡ edges o′ → o .letters ≡ o′ .letters
 from-w-unique {o} {o′} h h′ e e′ same = from-w-from-edges o h e ∙ ap lettersFrom same ∙ sym (from-w-from-edges o′ h′ e′)
 
@@ -222,16 +223,16 @@ from-w-unique {o} {o′} h h′ e e′ same = from-w-from-edges o h e ∙ ap let
 pub sent-from-edges : (o : Outline) → Reaches o → dentPiece (border o) ≡ 4 → border o .letters ≡ lettersFrom (edges (border o))
 sent-from-edges o h smooth = from-w-from-edges (border o) (clear-of o h) smooth
 
--- ---- how many letters a list writes
+-- ---- the number of letters that a list gives
 
--- The letters of quadrant k, its first left out
+-- The number of letters of quadrant k, without the first
 abbrev count : ℕ → List ℤ → ℕ
 count k es = length (edgesWord (sizesIn k es))
 
 abbrev Counts : List ℤ → Type 0
 Counts es = count 0 es + count 1 es + count 2 es + count 3 es ≡ stepCount es
 
--- One edge more
+-- One more edge
 longer : (a b : ℕ) (l : List (ℕ × ℕ)) → 0 < a + b → length (edgesWord ((a, b) ∷ l)) ≡ a + b + length (edgesWord l)
 unfolding edgesWord
 longer a b l h = omega (arith, length-append (edgeWord a b) (edgesWord l), edge-length a b h)
@@ -257,7 +258,7 @@ length-piece : (k : ℕ) (es : List ℤ) → length (pieceFrom k es) ≡ suc (co
 unfolding pieceFrom
 length-piece k es = length-spell (frameOf k) (true ∷ edgesWord (sizesIn k es))
 
--- Any list writes four letters and one for each column and row of its edges
+-- Any list gives four letters and one for each column and row of its edges
 pub length-letters : (es : List ℤ) → length (lettersFrom es) ≡ 4 + stepCount es
 unfolding lettersFrom
 length-letters es =

@@ -1,5 +1,5 @@
--- The edges answer for a cell piece by piece: the walk of the edges passes through the first cells of the four pieces, which hold its extremes, and each
--- piece's side values are read in its own frame.
+-- Inside is decided piece by piece: the edges lead through the first cells of the four pieces, which have the extreme columns and rows,
+-- and the side values of each piece are the same in its own frame.
 use Prim.Native.Nat.{ℕ, zero, suc, _+_, _-_, _≤_, _<_}
 use native.Mathlib.Nat.{le-refl}
 use native.Mathlib.Omega.{arith}
@@ -29,9 +29,9 @@ use Rattle.base.proofs.IntegerOrder.{up, down, at-most-iff, not-at-most}
 use Rattle.base.proofs.Differences.{Is, is-self, is-add, is-unique, le-iff}
 use Rattle.convexity.proofs.Signed.{Counted, Lies, Placed, placed-cell, lies-next, stepCols, stepRows, step-lies, lies-step, reached, lies-end, lies-sides, none-outside-append, cols-append, rows-append, reached-append}
 
--- ---- the vertices of a walk
+-- ---- the vertices of a list of edges
 
--- Some vertex of the walk of es from (x, y) has P
+-- P holds for some vertex of the edges es from (x, y)
 unfoldable pub Meets : (ℤ → ℤ → Type 0) → List ℤ → ℤ → ℤ → Type 0
 Meets P [] x y = P x y
 Meets P (dx ∷ []) x y = P x y
@@ -62,15 +62,15 @@ or-assoc f = (
   ⊎-elim (⊎-map (λ a. a) λ c. f .1 (inl c)) λ d. inr (f .1 (inr d)),
 )
 
--- The test of the walk's extreme along the earlier letter of frame k: its lowest column is at most that of the cell x, its highest row at least that of x,
--- its highest column at least, its lowest row at most. With no edges it is a test of one vertex
+-- The test of the extreme along the earlier letter of frame k. For frames 0 to 3: the lowest column is at most that of the cell x, the
+-- highest row at least that of x, the highest column at least, the lowest row at most. Without edges it tests one vertex
 unfoldable spans : ℕ → Point → List ℤ → ℤ → ℤ → Bool
 spans zero x es v w = leZ (lowestMet (colSteps es) v) (pos (x .col))
 spans (suc zero) x es v w = leZ (pos (x .row)) (highestMet (rowSteps es) w)
 spans (suc (suc zero)) x es v w = leZ (pos (x .col)) (highestMet (colSteps es) v)
 spans (suc (suc (suc k))) x es v w = leZ (lowestMet (rowSteps es) w) (pos (x .row))
 
--- What an edge more adds by one vertex, the walk has where some vertex has it
+-- A property that each further edge extends by one vertex holds if it holds at some vertex
 meets-iff :
     (Q : List ℤ → ℤ → ℤ → Type 0) → ((d v w : ℤ) → Q (d ∷ []) v w ↔ Q [] v w)
     → ((d e : ℤ) (es : List ℤ) (v w : ℤ) → Q (d ∷ e ∷ es) v w ↔ (Q [] v w ⊎ Q es (v +ℤ d) (w +ℤ e)))
@@ -80,7 +80,7 @@ meets-iff Q one more [] v w = Iff·rfl
 meets-iff Q one more (d ∷ []) v w = one d v w
 meets-iff Q one more (d ∷ e ∷ es) v w = either (more d e es v w) (meets-iff Q one more es (v +ℤ d) (w +ℤ e))
 
--- The extreme of the walk passes where some vertex does
+-- The extreme passes exactly if some vertex does
 spans-iff : (k : ℕ) (x : Point) (es : List ℤ) (v w : ℤ) → (spans k x es v w ≡ true) ↔ Meets (λ a b. spans k x [] a b ≡ true) es v w
 unfolding spans lowestMet highestMet colSteps rowSteps
 spans-iff zero x = meets-iff (λ es v w. spans 0 x es v w ≡ true) (λ d v w. Iff·rfl) λ d e es v w. min-iff v (lowestMet (colSteps es) (v +ℤ d)) (pos (x .col))
@@ -102,7 +102,7 @@ meets-here P [] x y h = h
 meets-here P (dx ∷ []) x y h = h
 meets-here P (dx ∷ dy ∷ es) x y h = inl h
 
--- A vertex of a piece's edges and those after them is one of the piece's, or one of those after it
+-- A vertex of a piece's edges followed by others is one of the piece's, or one of the others
 meets-append :
     (P : ℤ → ℤ → Type 0) (f : Frame) (fs : List Factor) (es : List ℤ) (x y : ℤ)
     → Meets P (edgesOf f fs ++ es) x y ↔ (Meets P (edgesOf f fs) x y ⊎ Meets P es (reached (colSteps (edgesOf f fs)) x) (reached (rowSteps (edgesOf f fs)) y))
@@ -110,7 +110,7 @@ unfolding Meets edgesOf colSteps rowSteps reached
 meets-append P f [] es x y = (inr, ⊎-elim (meets-here P es x y) λ h. h)
 meets-append P f (g ∷ gs) es x y = or-assoc (meets-append P f gs es (x +ℤ stepCols f (run g) (rise g)) (y +ℤ stepRows f (run g) (rise g)))
 
--- A vertex on the way along a piece, from vp along the earlier letter and vq along the later, e and l letters far
+-- A vertex on the way along a piece that starts at vp along the earlier letter and vq along the later, after e and l letters
 pub record Passed (k o vp vq e l : ℕ) (v w : ℤ) : Type 0 where
   pub p : ℕ
   pub q : ℕ
@@ -123,7 +123,7 @@ pub record Passed (k o vp vq e l : ℕ) (v w : ℤ) : Type 0 where
 passed-start : {k o vp vq : ℕ} {x y : ℤ} (e l : ℕ) → Lies k o vp vq x y → Passed k o vp vq e l x y
 passed-start {vp = vp} {vq = vq} e l h = record { p = vp; q = vq; lies = h; p-from = le-refl vp; p-upto = omega arith; q-from = le-refl vq; q-upto = omega arith }
 
--- What follows from P at every vertex on the way along a piece follows where its edges meet one
+-- What P implies at every vertex along a piece holds if P holds at one of them
 meets-passed :
     (P : ℤ → ℤ → Type 0) (N : Type 0) (k : ℕ) (fs : List Factor) {o vp vq : ℕ} {x y : ℤ} → Lies k o vp vq x y
     → ((v w : ℤ) → Passed k o vp vq (earliers (written fs)) (laters (written fs)) v w → P v w → N) → Meets P (edgesOf (frameOf k) fs) x y → N
@@ -142,10 +142,10 @@ meets-passed P N k (g ∷ gs) {o = o} {vp = vp} {vq = vq} {x = x} {y = y} h f m 
         let l = laters-copies (g .times) (g .word) in
         record { p = i .p; q = i .q; lies = i .lies; p-from = omega arith; p-upto = omega arith; q-from = omega arith; q-upto = omega arith }
 
--- ---- the ring of the four pieces
+-- ---- the cycle of the four pieces
 
 module _ (o : Outline) where
-  -- The first cell of piece k on the walk of the edges
+  -- The first cell of piece k, reached along the edges
   unfoldable pub firstCol : ℕ → ℤ
   firstCol zero = pos (o .start .col)
   firstCol (suc k) = reached (colSteps (edgesOf (frameOf k) (factors o k))) (firstCol k)
@@ -178,7 +178,7 @@ module _ (o : Outline) where
   unfolding firstCol firstRow
   last-placed g = next-corner g 3 (omega arith) (rw whole-piece at (lies-end 3 (factors o 3) (first-placed g 3 (omega arith))))
 
-  -- Some vertex of piece k has P
+  -- P holds for some vertex of piece k
   abbrev MeetsPiece : (ℤ → ℤ → Type 0) → ℕ → Type 0
   MeetsPiece P k = Meets P (edgesOf (frameOf k) (factors o k)) (firstCol k) (firstRow k)
 
@@ -197,7 +197,7 @@ module _ (o : Outline) where
   RightSide x k = Sides (factors o k) (startE o k) (startL o k) (cellE k x) (cellL k x)
 
   module _ (g : Shape o) (x : Point) (x-col : x .col < side) (x-row : x .row < side) where
-    -- No vertex of piece j lies less far along the earlier letter of any frame than the first cell of that frame's piece
+    -- No vertex of piece j is less far along the earlier letter of any frame than the first cell of that frame's piece
     none-before :
         (j : ℕ) → j < 4 → {v w : ℤ} → Passed j (side - 1) (startE o j) (startL o j) (earliers (word o j)) (laters (word o j)) v w
         → (k : ℕ) → k < 4 → spans k x [] v w ≡ true → startE o k ≤ cellE k x
@@ -214,7 +214,7 @@ module _ (o : Outline) where
         (λ m. omega (arith, placed-spans (next (next j)) x x-col x-row across .0 m, g .next-later j h, g .next-earlier (next j) a))
         (λ m. omega (arith, placed-spans (next (next (next j))) x x-col x-row back .0 m, rw (next-round j h) at (g .next-later (next (next (next j))) (next-lt (next (next j))))))
 
-    -- So the walk's extreme along each frame's earlier letter is that of its piece's first cell
+    -- So the extreme along each frame's earlier letter is that of its piece's first cell
     extreme : (k : ℕ) → k < 4 → (spans k x (edges o) (pos (o .start .col)) (pos (o .start .row)) ≡ true) ↔ (startE o k ≤ cellE k x)
     extreme k l =
         Iff·trans (spans-iff k x (edges o) (pos (o .start .col)) (pos (o .start .row))) (
@@ -242,7 +242,7 @@ module _ (o : Outline) where
             → (noneOutside (edgesOf (frameOf k) (factors o k) ++ es) (firstCol k) (firstRow k) (pos (x .col)) (pos (x .row)) ≡ true) ↔ (RightSide x k × A)
         split k es l i = rw (none-outside-append (frameOf k) es) (Iff·trans (and-eq-true-iff _ _) (Iff·and (sides k l) i))
 
--- Columns, then rows, then side values: two facts of each piece
+-- Columns, then rows, then side values: two facts about each piece
 gather : (A B : ℕ → Type 0) → (((A 0 × A 2) × (A 3 × A 1)) × (B 0 × (B 1 × (B 2 × B 3)))) ↔ ((k : ℕ) → k < 4 → A k × B k)
 gather A B = (
   λ h. below-four (λ k. A k × B k) (h .0 .0 .0, h .1 .0) (h .0 .1 .1, h .1 .1 .0) (h .0 .0 .1, h .1 .1 .1 .0) (h .0 .1 .0, h .1 .1 .1 .1),
@@ -254,7 +254,7 @@ gather A B = (
       (((w .0, e .0), (o .0, n .0)), (w .1, (n .1, (e .1, o .1)))),
 )
 
--- The rule of a loose query, read in the four frames
+-- The rule of a loose query in the four frames
 pub inside-iff :
     (o : Outline) → Shape o → (x : Point) → x .col < side → x .row < side
     → (insideEdges (o .start) (edges o) x ≡ true)
@@ -287,7 +287,7 @@ module _ (o : Outline) where
   unfolding edges firstRow
   rows-reached = simp (rows-append, reached-append)
 
-  -- The walk of the edges ends at the anchor
+  -- The edges lead back to the anchor
   pub edges-return :
       Shape o → (reached (colSteps (edges o)) (pos (o .start .col)) ≡ pos (o .start .col)) × (reached (rowSteps (edges o)) (pos (o .start .row)) ≡ pos (o .start .row))
   unfolding Counted firstCol firstRow
@@ -296,11 +296,11 @@ module _ (o : Outline) where
       let stop = last-placed o h .counted in
       (cols-reached ∙ is-unique (stop .0) (start .0) refl, rows-reached ∙ is-unique (stop .1) (start .1) refl)
 
-  -- The edges sum to nil
+  -- The edges sum to zero
   pub edges-close : Shape o → (total (colSteps (edges o)) ≡ pos 0) × (total (rowSteps (edges o)) ≡ pos 0)
   edges-close h = (total-nil _ _ (edges-return h .0), total-nil _ _ (edges-return h .1))
 
--- ---- the walk of the edges stays on the chart
+-- ---- the vertices are on the chart
 
 -- (v, w) is a cell of the chart
 pub record IsCell (v w : ℤ) : Type 0 where
@@ -327,7 +327,7 @@ placed-is-cell k {p} {q} {v} {w} l m h = go k (h .counted)
     go (suc (suc zero)) c = cell (side - 1 - p) (side - 1 - q) (omega arith) (omega arith) (back l (c .0)) (back m (c .1))
     go (suc (suc (suc k))) c = cell (side - 1 - q) p (omega arith) l (back m (c .0)) (c .1)
 
--- A vertex of the walk is a cell of the chart
+-- A vertex is a cell of the chart
 pub vertex-is-cell :
     (o : Outline) → Shape o → (P : ℤ → ℤ → Type 0) → Meets P (edges o) (pos (o .start .col)) (pos (o .start .row)) → (v : ℤ) × (w : ℤ) × IsCell v w × P v w
 vertex-is-cell o g P m =

@@ -1,5 +1,5 @@
--- Walked on past its end a closed walk meets its corners again, in the same order. So each cut place, which lies as far on from the one
--- before it as its corner does, is where that corner is met next.
+-- Read cyclically, a closed walk meets its corners again in the same order. Each cut place is as far from the one before it as its corner
+-- is, so it is where that corner is met next.
 use Prim.Native.Nat.{ℕ, zero, suc, _+_, _-_, _≤_, _<_}
 use native.Mathlib.Decide.{decLe, decLt}
 use native.Mathlib.Omega.{arith}
@@ -29,9 +29,9 @@ use Rattle.convexity.proofs.Corners.{four-corners, corner-form}
 use Rattle.convexity.proofs.Border.{west-start}
 use Rattle.convexity.proofs.Ring.{next-lt, below-four}
 
--- ---- round and round
+-- ---- several times round
 
--- i letters behind q times n
+-- i letters after q rounds of n letters
 laps : ℕ → ℕ → ℕ → ℕ
 laps n zero i = i
 laps n (suc q) i = n + laps n q i
@@ -58,7 +58,7 @@ module _ (o : Outline) (c : Closed o) where
   abbrev w : List ℕ
   w = o .letters
 
-  -- Once round leads nowhere
+  -- One full round returns to the start
   once : (r : List ℕ) (i : ℕ) → walk (o .start) (take (size o + i) (w ++ r)) ≡ walk (o .start) (take i r)
   once r i =
       ap (walk (o .start)) (take-append-add w r i) ∙ walk-append (o .start) w (take i r) ∙ ap (λ (p : Point). walk p (take i r)) c
@@ -75,7 +75,7 @@ module _ (o : Outline) (c : Closed o) where
   round-corner (suc (suc (suc zero))) i h l = once (w ++ (w ++ w)) (size o + (size o + i)) ∙ once (w ++ w) (size o + i) ∙ once w i
   round-corner (suc (suc (suc (suc q)))) i h l = absurd (omega arith)
 
--- The letters come again as the corners do
+-- The letters repeat as the corners do
 round-letter : (w : List ℕ) (q i : ℕ) → q < 4 → i < length w → getD (rounds w) (laps (length w) q i) 0 ≡ getD w i 0
 unfolding rounds laps
 round-letter w zero i h l = List·getD-append w (w ++ (w ++ w)) 0 i l
@@ -86,7 +86,7 @@ round-letter w (suc (suc (suc zero))) i h l =
     getD-append-add w (w ++ (w ++ w)) (length w + (length w + i)) 0 ∙ getD-append-add w (w ++ w) (length w + i) 0 ∙ getD-append-add w w i 0
 round-letter w (suc (suc (suc (suc q)))) i h l = absurd (omega arith)
 
--- The letters between two places lead from the one corner to the other
+-- The letters between two places lead from one corner to the other
 part-leads : (o : Outline) (a b : ℕ) → a ≤ b → walk (cornerRound o a) (take (b - a) (drop a (rounds (o .letters)))) ≡ cornerRound o b
 unfolding cornerRound
 part-leads o a b h =
@@ -109,7 +109,7 @@ own-letter f a b (by-later p q) = go (eqb b (f .earlier))
     go false = rw (eq-eqb b (f .later) q)
 own-letter f a b (by-earlier p q) = rw (eq-eqb b (f .earlier) q)
 
--- ---- the pieces of a turn
+-- ---- the pieces of a walk from W
 
 module _ (o : Outline) (t : WalkFromW o) where
   abbrev d : Walked o
@@ -118,7 +118,7 @@ module _ (o : Outline) (t : WalkFromW o) where
   some-letter : 0 < size o
   some-letter = omega (arith, d .long)
 
-  -- The places of the corners between which the pieces run
+  -- The places of the first and last corners of the pieces
   from-place : (k : ℕ) → k < 4 → cutCorner o k ≡ cornerPlace o k
   unfolding cutCorner westPlace
   from-place = below-four (λ k. cutCorner o k ≡ cornerPlace o k) (sym (west-start o t)) refl refl refl
@@ -136,13 +136,13 @@ module _ (o : Outline) (t : WalkFromW o) where
   differ : (k : ℕ) → k < 4 → cutCorner o k ≡ cutCorner o (suc k) → ⊥
   differ k l e = corners-differ o t k l (e ∙ to-place k l ∙ sym (from-place (next k) (next-lt k)))
 
-  -- A cut place lies a few times round behind the place of its corner
+  -- A cut place is the place of its corner plus some full rounds
   record Lapped (k : ℕ) : Type 0 where
     times : ℕ
     few : times ≤ k - 1
     place : cut o k ≡ laps (size o) times (cutCorner o k)
 
-  -- The next corner stands further on in the list, or past its end
+  -- The next corner is further on in the list, or in the next round
   lapped-on : (k : ℕ) → Lapped k → cutCorner o k ≤ cutCorner o (suc k) → Lapped (suc k)
   lapped-on k h m =
       let a = cutCorner o k in
@@ -184,7 +184,7 @@ module _ (o : Outline) (t : WalkFromW o) where
           ]
 
   module _ (k : ℕ) (l : k < 4) where
-    -- From the place of the first corner, and to that of the last
+    -- The places of the first corner and of the last
     abbrev a : ℕ
     a = cutCorner o k
 
@@ -200,7 +200,7 @@ module _ (o : Outline) (t : WalkFromW o) where
     on-from : (i : ℕ) → cut o k + i ≡ laps (size o) (here .times) (a + i)
     on-from i = ap (λ (c : ℕ). c + i) (here .place) ∙ sym (laps-add (size o) (here .times) a i)
 
-    -- The corners on the way, up to the list's end and past it
+    -- The corners on the way, up to the list's end and after it
     before-end : (i : ℕ) → a + i ≤ size o → cornerRound o (cut o k + i) ≡ cornerAt o (a + i)
     before-end i h = ap (cornerRound o) (on-from i) ∙ round-corner o (d .closed) (here .times) (a + i) (omega (arith, here .few)) h
 
@@ -209,7 +209,7 @@ module _ (o : Outline) (t : WalkFromW o) where
         ap (cornerRound o) (on-from i ∙ ap (laps (size o) (here .times)) e ∙ laps-more (size o) (here .times) j)
         ∙ round-corner o (d .closed) (suc (here .times)) j (omega (arith, here .few)) h
 
-    -- None of them is the last one
+    -- None of them is the last corner
     first-met : (i : ℕ) → i < ahead (size o) a b → cornerRound o (cut o k + i) ≡ cornerAt o b → ⊥
     first-met i h e =
         let last = to-lt k l in
@@ -273,11 +273,11 @@ module _ (o : Outline) (t : WalkFromW o) where
         there : (i : ℕ) → cut o k ≤ i → cut o k + (i - cut o k) ≡ i
         there i h = omega arith
 
-    -- From each corner to the next, and from the last to W
+    -- Each piece leads from its corner to the next, and the last one leads to W
     pub leads-on : Leads o k (cornerAt o (cornerPlace o k)) (cornerAt o (cornerPlace o (next k)))
     leads-on = rw (from-place k l, to-place k l) at leads-between
 
-    -- The first letter leaves the piece's first corner, and from there no walk goes back along either of the piece's letters
+    -- The first letter leaves the piece's first corner, and from there no letter goes back along either of the piece's letters
     pub begins-on : isBackStep (frameOf k) (getD (piece o k) 0 0) ≡ false
     unfolding piece
     begins-on = rw first-letter (own-letter (frameOf k) _ _ (bend o d k a (corner-first o t k l)))
@@ -291,7 +291,7 @@ module _ (o : Outline) (t : WalkFromW o) where
             ∙ getD-drop (cut o k) (rounds (o .letters)) 0 0 ∙ ap (λ (i : ℕ). getD (rounds (o .letters)) i 0) start
             ∙ round-letter (o .letters) (here .times) a (omega (arith, here .few)) (from-lt k l)
 
--- ---- outlines past 1 to 6
+-- ---- outlines that pass 1 to 6
 
 module _ (o : Outline) (h : Simple o) where
   turning : WalkFromW (border o)
@@ -305,7 +305,7 @@ module _ (o : Outline) (h : Simple o) where
   pub first-letter-own : (k : ℕ) → k < 4 → isBackStep (frameOf k) (getD (piece (border o) k) 0 0) ≡ false
   first-letter-own k l = begins-on (border o) turning k l
 
-  -- In the contract's words (3.3): from W to N, on to E, on to S, on to W
+  -- As in contract 3.3: from W to N, on to E, on to S and back to W
   pub pieces-lead : PiecesLead o
   pieces-lead =
       let four = four-corners o h in

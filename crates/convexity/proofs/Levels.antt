@@ -1,5 +1,6 @@
--- A cell is enclosed exactly where its level, ups less downs, is 1. In a turn that leaves W upwards the cell on the right hand of every letter has level 1
--- and the one on its left hand level 0; so the cell at W is enclosed, and as no corner lies left of W or below it in its column, no cell there is.
+-- A cell is enclosed exactly if its level, ups minus downs, is 1. In a walk that leaves W upward, the cell to the right of every letter
+-- has level 1 and the cell to its left has level 0. So the cell at W is enclosed; and since no corner lies left of W or below it in its
+-- column, no cell there is.
 use Prim.Native.Nat.{ℕ, suc, _+_, _<_, _≤_}
 use native.Mathlib.Omega.{arith}
 use mathlib.Core.Path.{_≡_, refl, subst}
@@ -22,7 +23,7 @@ use Rattle.convexity.specs.Pieces.{IsAnchor}
 use Rattle.convexity.specs.Shape.{WalkFromW}
 use Rattle.convexity.proofs.Extreme.{FirstAt, not-before-earlier, not-before-later}
 
--- The corner that comes first in frame 0 is the lowest of the leftmost
+-- The first corner in frame 0 is the lowest of the leftmost column
 pub first-lowest : (o : Outline) (k : ℕ) → FirstAt o 0 k → Lowest o k
 unfolding frameOf along
 first-lowest o k f =
@@ -32,7 +33,7 @@ first-lowest o k f =
       least-row = λ i l. not-before-later (frameOf 0) (cornerAt o i) (cornerAt o k) (f .none i l);
     }
 
--- A clockwise turn leaves W upwards
+-- A clockwise walk from W leaves it upward
 pub leaves-upwards : (o : Outline) → clockwise o ≡ true → letterAt o 0 ≡ 1
 unfolding clockwise
 leaves-upwards o c = eqb-true (letterAt o 0) 1 c
@@ -48,15 +49,16 @@ unfolding downs tally
 downs-tally p [] c r = refl
 downs-tally p (a ∷ w) c r = rw (downs-tally (step p a) w c r)
 
--- What the test of a letter and of a row says
+-- What the test of a letter and a row says
 pub tested : (a k y r : ℕ) → (eqb a k && eqb y r) ≡ true → (a ≡ k) × (y ≡ r)
 tested a k y r e = (eqb-true a k (and-left (eqb a k) (eqb y r) e), eqb-true y r (and-right (eqb a k) (eqb y r) e))
 
--- The letter a stands at place i
+-- The letter at place i is a
 abbrev pub LetterAt : List ℕ → ℕ → ℕ → Type 0
 LetterAt t a i = (i < length t) × (getD t i 0 ≡ a)
 
--- The point p stands for the cell one to the left and one below it, as in the laws of the right hand. Its level is 1, or 0
+-- The point p stands for the cell one to its left and one below, as in the laws about
+-- cells to the right of a walk. The cell's level is 1, or 0
 abbrev pub In : Outline → Point → Type 0
 In o p = upsTo o (p .col) (p .row) ≡ downsTo o (p .col) (p .row) + 1
 
@@ -96,14 +98,14 @@ module _ (o : Outline) where
       go true e = let (i, l, a, b) = up-counted c r e in absurd (h i (l .0) a b)
 
   module _ (h : WalkFromW o) where
-    -- A turn begins at its lowest corner
+    -- A walk from W starts at its lowest corner of the leftmost column
     pub from-w-first : FirstAt o 0 0
     from-w-first = record { below = omega (arith, h .walked .long); none = λ i l. rw corner-zero (h .west i l) }
 
     pub from-w-lowest : Lowest o 0
     from-w-lowest = first-lowest o 0 from-w-first
 
-    -- No cell of a column left of W is enclosed, and none below the cell at W in its column
+    -- No cell of a column left of W is enclosed, and no cell below the one at W in its column
     pub left-of-anchor : (c r : ℕ) → c < o .start .col → encloses o c r ≡ false
     left-of-anchor c r k = open-of-no-ups c r (λ i l a b. omega (arith, rw corner-zero at (from-w-lowest .least-col i l)))
 
@@ -120,7 +122,7 @@ module _ (o : Outline) where
       pub left-out : (a i : ℕ) → LetterAt (o .letters) a i → Out o (leftOf (cornerAt o i) a)
       left-out a i e = subst (λ (b : ℕ). Out o (leftOf (cornerAt o i) b)) (e .1) (clockwise-left o (h .walked) 0 from-w-lowest up i (e .0))
 
-      -- The cell right of an up
+      -- The cell to the right of an up is enclosed
       pub up-marked : (i : ℕ) → LetterAt (o .letters) 1 i → encloses o (cornerAt o i .col) (cornerAt o i .row) ≡ true
       unfolding rightOf leftOf
       up-marked i e = level-enclosed (cornerAt o i) (right-in 1 i e)

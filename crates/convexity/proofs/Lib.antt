@@ -1,5 +1,5 @@
--- One piece in its frame; the four pieces in a ring; the theorem, the reading and the four corners; back-steps; the same block; the edges'
--- directions and their number; the letters from the edges; where the pieces lead.
+-- One piece in its frame; the four pieces in a cycle; the theorem, the clockwise form and the four corners; back-steps; the same block;
+-- directions of the edges and their number; the letters from the edges; where the pieces lead.
 pub mod Frame
 pub mod Ring
 pub mod Extreme

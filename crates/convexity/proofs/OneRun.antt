@@ -1,6 +1,6 @@
--- Where no cell is missing, the enclosed cells of a line are one run: between two of them there is none that is not. The cell on the right hand of a letter is
--- enclosed and the one on its left hand is not; so a line is left once by the letter across it, and the letter back lies on the far side of the run. Each law
--- says which cell is missing where it fails.
+-- If no cell is missing, the enclosed cells of a line form one interval. The cell to the right of a letter is enclosed and the cell to
+-- its left is not. So the crossing letter leaves a line once, and its opposite stands at the far end of the interval. Each law names the
+-- cell that is missing if it fails.
 use Prim.Native.Nat.{ℕ, zero, suc, _+_, _-_, _*_, _≤_, _<_}
 use native.Mathlib.Decide.{decLt}
 use native.Mathlib.Omega.{arith}
@@ -83,7 +83,7 @@ module _ (o : Outline) where
         | no l ↦ let e : p .row ≡ 0 = omega arith in absurd (omega (arith, ups-row-zero o (p .col), ap (upsTo o (p .col)) e))
       ]
 
-  -- One of level 0 between two of level 1 is missing
+  -- A point of level 0 between two of level 1 is missing
   gap : (p x q : Point) → InTriangle x p q q → In o p → Out o x → In o q → SomeMissing o
   gap p x q v i u j =
       let p′ = unshifted p (in-col p i) (in-row p i) in
@@ -107,7 +107,7 @@ module _ (o : Outline) where
         },
       )
 
-  -- ---- two letters across one line of a turn that leaves W upwards
+  -- ---- two letters across one line of a walk that leaves W upward
 
   module _ (h : WalkFromW o) (up : letterAt o 0 ≡ 1) where
     abbrev corner : ℕ → Point
@@ -132,7 +132,7 @@ module _ (o : Outline) where
         gap (rightOf (corner i) 2) (leftOf (corner j) 2) (rightOf (corner j) 2) (between-col _ _ _ (omega arith) (omega arith) (omega arith) (omega arith) (omega arith))
         (right-in o h up 2 i e) (left-out o h up 2 j f) (right-in o h up 2 j f)
 
-    -- At two places of one line, for corners at two places differ
+    -- The same for any two places of one line, since their corners differ
     pub twice : (k i j : ℕ) → LetterAt (o .letters) (frameOf k .later) i → LetterAt (o .letters) (frameOf k .later) j → i ≢ j
         → along (frameOf k .later) (corner i) ≡ along (frameOf k .later) (corner j) → SomeMissing o
     twice k i j e f n r =
@@ -147,7 +147,7 @@ module _ (o : Outline) where
               ]
         ]
 
-    -- The later letter, and the letter back across the same line that is not further along the earlier letter
+    -- The later letter, and its opposite across the same line, not further along the earlier letter
     pub back-gap : (k i j : ℕ) → LetterAt (o .letters) (frameOf k .later) i → LetterAt (o .letters) (opposite (frameOf k .later)) j
         → along (frameOf k .later) (corner i) + 1 ≡ along (frameOf k .later) (corner j) → along (frameOf k .earlier) (corner j) ≤ along (frameOf k .earlier) (corner i) → SomeMissing o
     unfolding frameOf along opposite rightOf leftOf

@@ -1,5 +1,5 @@
--- Every cell that a piece's word steps through is enclosed: it is on the right hand of the letter that arrives at its corner or of the one that leaves it,
--- or it lies inside a left turn.
+-- Every cell on the path of a piece's word is enclosed: it is to the right of the letter that arrives at its corner or of the one that
+-- leaves, or in the corner of a left turn.
 use Prim.Native.Nat.{ℕ, zero, suc, _+_, _-_, _≤_, _<_}
 use native.Mathlib.Decide.{decLt}
 use native.Mathlib.Omega.{arith}
@@ -28,7 +28,7 @@ use Rattle.convexity.proofs.Shape.{shape, letterOf, CornerIn, place-lt,
 
 -- ---- cells in a frame
 
--- The cell that lies P along the earlier letter of frame k and Q along the later one
+-- The cell at P along the earlier letter of frame k and Q along the later one
 unfoldable pub cellOf : ℕ → ℕ → ℕ → Point
 cellOf zero P Q = point P Q
 cellOf (suc zero) P Q = point Q (side - 1 - P)
@@ -65,7 +65,7 @@ row-cellOf (suc (suc (suc k))) P Q h l = h
 
 -- ---- cells beside a letter of a frame
 
--- The later letter that leaves (P, Q) has the cell (P, Q) on its right hand
+-- The later letter that leaves (P, Q) has the cell (P, Q) to its right
 pub right-later : (k : ℕ) (p : Point) (P Q : ℕ) → CornerIn k p P Q → P ≤ side - 1 → Q ≤ side - 1 → rightOf p (frameOf k .later) ≡ shifted (cellOf k P Q)
 unfolding frameOf along cellOf rightOf leftOf
 right-later zero p P Q c h l = point-eq (shifted p) (shifted (point P Q)) (ap suc (c .across)) (ap suc (c .up))
@@ -76,7 +76,8 @@ right-later (suc (suc zero)) p P Q c h l =
 right-later (suc (suc (suc k))) p P Q c h l =
     point-eq (point (p .col) (suc (p .row))) (shifted (point (side - 1 - Q) P)) (omega arith) (ap suc (c .across))
 
--- The earlier letter that leaves (P, Q + 1) has it there too; where an earlier letter arrives and the walk turns left, it is the cell inside that turn
+-- So has the earlier letter that leaves (P, Q + 1). Where an earlier letter arrives and
+-- the walk turns left, the cell is in the corner of that turn
 pub right-earlier : (k : ℕ) (p : Point) (P Q : ℕ) → CornerIn k p P (suc Q) → P ≤ side - 1 → Q ≤ side - 1 → rightOf p (frameOf k .earlier) ≡ shifted (cellOf k P Q)
 unfolding frameOf along cellOf rightOf leftOf
 right-earlier zero p P Q c h l = point-eq (point (suc (p .col)) (p .row)) (shifted (point P Q)) (ap suc (c .across)) (c .up)
@@ -94,7 +95,7 @@ left-turn-letters (suc zero) = refl
 left-turn-letters (suc (suc zero)) = refl
 left-turn-letters (suc (suc (suc k))) = refl
 
--- How far along the two letters of its frame the path of piece k is after i letters of its word, and the cell there
+-- The coordinates of piece k's path in its frame after i letters of its word, and the cell there
 abbrev pub pathE : Outline → ℕ → ℕ → ℕ
 pathE o k i = startE o k + earliers (take i (word o k))
 
@@ -105,7 +106,7 @@ abbrev pub pathCell : Outline → ℕ → ℕ → Point
 pathCell o k i = cellOf k (pathE o k i) (pathL o k i)
 
 module _ (o : Outline) (c : NoBackStep o) where
-  -- The frame bounds of a piece
+  -- The bounds of a piece in its frame
   pub across-le : (k : ℕ) → k < 4 → startE o k + earliers (word o k) ≤ side - 1
   across-le k h = omega (arith, shape o c .next-later k h, shape o c .next-earlier (next k) (next-lt k))
 
@@ -117,7 +118,7 @@ module _ (o : Outline) (c : NoBackStep o) where
     abbrev spelt : Word
     spelt = true ∷ word o k
 
-    -- The earlier letter is not the last of the piece
+    -- The last letter of the piece is not the earlier one
     not-last : (i : ℕ) → i ≤ length (word o k) → getD spelt i false ≡ false → i < length (word o k)
     not-last zero l e = let z : _≡_ {A = ℕ} 0 1 = cc in absurd (omega arith)
     not-last (suc i) l e =
@@ -143,7 +144,7 @@ module _ (o : Outline) (c : NoBackStep o) where
     unfolding earliers laters letterOf cornerOf
     path-enclosed i l = level-enclosed o (pathCell o k i) (arrives (getD spelt i false) refl)
       where
-        -- The place of the letter that arrives at the corner above the cell, and the place of the one that leaves it
+        -- The place of the letter that arrives at the corner above the cell, and of the one that leaves it
         a : ℕ
         a = cut o k + i
 

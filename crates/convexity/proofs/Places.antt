@@ -1,5 +1,5 @@
--- Where a letter of the reading stands in the list as sent. The turn begins at W and goes round, so its letter i is that many places past W's, modulo the count; and
--- the reading backward has its letters as far from the other end, each turned to its opposite.
+-- The place of a border's letter in the list as sent. The border starts at W, so its letter i is i places after W's, modulo the count;
+-- and read backward, letters are counted from the other end and are opposite.
 use Prim.Native.Nat.{ℕ, _+_, _-_, _≤_, _<_, _%_}
 use native.Mathlib.Nat.{mod-eq-of-lt, add-mod-left, add-mod-mod}
 use native.Mathlib.Omega.{arith}
@@ -15,13 +15,13 @@ use Rattle.convexity.specs.Cut.{fromW, westPlace, clockwise, around}
 use Rattle.convexity.specs.Clockwise.{opposite, clockwiseForm, readFrom, sentFrom, placeSent, ReadAs}
 use Rattle.convexity.proofs.Clockwise.{letter-backward, corner-backward, west-first, form-clockwise, form-backward, simple-form, length-form}
 
--- Past the end, a place goes on from the beginning
+-- After the end, a place continues from the start
 around-place : (n k i j : ℕ) → j < n → (k + i ≡ j) ⊎ (k + i ≡ n + j) → around n k i ≡ j
 unfolding around
 around-place n k i j l (inl e) = rw e (mod-eq-of-lt l)
 around-place n k i j l (inr e) = rw e (add-mod-left n j ∙ mod-eq-of-lt l)
 
--- Another time round leads to the same place
+-- One more round leads to the same place
 pub place-round : (o : Outline) (i : ℕ) → placeSent o (i % size o) ≡ placeSent o i
 unfolding placeSent sentFrom around
 place-round o i = ap (readFrom (clockwise (fromW o)) (size o)) (add-mod-mod (westPlace (clockwiseForm o)) i (size o))
@@ -36,7 +36,7 @@ module _ (o : Outline) (h : Simple o) where
   west-le : westPlace v ≤ size v
   west-le = omega (arith, west-first v d .below)
 
-  -- Letter i of the reading from W on is letter j of the reading
+  -- Letter i of the border is letter j of the clockwise form
   InReading : ℕ → ℕ → Type 0
   InReading i j = Turned v (westPlace v) west-le i j
 

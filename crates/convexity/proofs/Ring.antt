@@ -1,5 +1,6 @@
--- The four frames in a ring: each is the one before it, turned by a quarter. Its later letter is the earlier one of the frame before, and its earlier letter
--- goes back along the later one of the frame before. So one law about a piece and the next serves all four.
+-- The four frames form a cycle: each is the one before it turned by a quarter. Its later letter is the earlier letter of the frame
+-- before, and its earlier letter is the opposite of the later letter of the frame before. So one law about a piece and the next covers
+-- all four.
 use Prim.Native.Nat.{ℕ, zero, suc, _+_, _-_, _<_}
 use native.Mathlib.Omega.{arith}
 use mathlib.Core.Path.{_≡_, refl, sym, ap, _∙_}
@@ -29,7 +30,7 @@ next-round (suc zero) h = refl
 next-round (suc (suc zero)) h = refl
 next-round (suc (suc (suc k))) h = omega arith
 
--- What holds of each of the four
+-- A statement about each of the four
 pub below-four : (P : ℕ → Type 0) → P 0 → P 1 → P 2 → P 3 → (k : ℕ) → k < 4 → P k
 below-four P a b c d zero h = a
 below-four P a b c d (suc zero) h = b
@@ -37,11 +38,11 @@ below-four P a b c d (suc (suc zero)) h = c
 below-four P a b c d (suc (suc (suc zero))) h = d
 below-four P a b c d (suc (suc (suc (suc k)))) h = absurd (omega arith)
 
--- What holds along the turn, and from its last piece to its first, holds round the ring
+-- What holds from each piece to the next, and from the last to the first, holds around the cycle
 pub round-ring : (P : ℕ → ℕ → Type 0) → ((k : ℕ) → k < 3 → P k (suc k)) → P 3 0 → (k : ℕ) → k < 4 → P k (next k)
 round-ring P on last = below-four (λ k. P k (next k)) (on 0 (omega arith)) (on 1 (omega arith)) (on 2 (omega arith)) last
 
--- What holds of a piece and of the three after it, in the ring, holds of all four
+-- What holds for a piece and for the three after it, cyclically, holds for all four
 pub all-round : (P : ℕ → Type 0) (j : ℕ) → j < 4 → P j → P (next j) → P (next (next j)) → P (next (next (next j))) → (k : ℕ) → k < 4 → P k
 all-round P zero h a b c d = below-four P a b c d
 all-round P (suc zero) h a b c d = below-four P d a b c
@@ -49,7 +50,7 @@ all-round P (suc (suc zero)) h a b c d = below-four P c d a b
 all-round P (suc (suc (suc zero))) h a b c d = below-four P b c d a
 all-round P (suc (suc (suc (suc j)))) h a b c d = absurd (omega arith)
 
--- The four letters of a frame's directions, on and back, differ
+-- The two letters of a frame and their opposites are four different letters
 pub record Apart (f : Frame) : Type 0 where
   pub letters : f .earlier ≢ f .later
   pub earlier-earlier : opposite (f .earlier) ≢ f .earlier
@@ -78,7 +79,7 @@ turns (suc zero) = omega arith
 turns (suc (suc zero)) = omega arith
 turns (suc (suc (suc k))) = omega arith
 
--- A letter is the earlier one of one piece, and the later one of one
+-- Each letter is the earlier one of exactly one piece, and the later one of exactly one
 abbrev pieceOf : ℕ → ℕ
 pieceOf zero = 0
 pieceOf (suc zero) = 3
@@ -99,7 +100,7 @@ earlier-injective j k h l e = sym (piece-earlier j h) ∙ ap pieceOf e ∙ piece
 pub later-injective : (j k : ℕ) → j < 4 → k < 4 → frameOf j .later ≡ frameOf k .later → j ≡ k
 later-injective j k h l e = sym (piece-later j h) ∙ ap (λ (a : ℕ). next (pieceOf a)) e ∙ piece-later k l
 
--- A corner of the chart in a frame and in the next
+-- The coordinates of a corner of the chart in a frame and in the next
 pub along-next : (k : ℕ) (p : Point) → OnChart p → along (frameOf (next k) .earlier) p + along (frameOf k .later) p ≡ side
 unfolding frameOf along
 along-next zero p h = omega arith
@@ -107,7 +108,7 @@ along-next (suc zero) p h = omega arith
 along-next (suc (suc zero)) p h = omega arith
 along-next (suc (suc (suc k))) p h = omega arith
 
--- A cell of the chart in a frame and in the next
+-- The coordinates of a cell of the chart in a frame and in the next
 pub cell-turned : (k : ℕ) (x : Point) → cellL (next k) x ≡ cellE k x
 unfolding cellE cellL cellAlong frameOf
 cell-turned zero x = refl

@@ -1,5 +1,6 @@
--- Each row between the lowest corner and the highest is left by one up and by one down. The cells right of the up are those under the paths of the two pieces
--- with ups, and the cells left of the down those under the paths of the two pieces with downs: so a cell is enclosed exactly when it is under all four.
+-- Each row between the lowest corner and the highest is left by one up and by one down. The cells to the right of the up are those under
+-- the paths of the two pieces with ups, and the cells to the left of the down those under the paths of the two pieces with downs. So a
+-- cell is enclosed exactly if it is under all four.
 use Prim.Native.Nat.{ℕ, zero, suc, _+_, _-_, _≤_, _<_}
 use native.Mathlib.Omega.{arith}
 use mathlib.Core.Path.{_≡_, refl, _∙_}
@@ -27,9 +28,9 @@ use Rattle.convexity.proofs.Shape.{shape, cut-le}
 use Rattle.convexity.proofs.Crossings.{UnderPiece, Crossing, crossing, line-bounds}
 use Rattle.convexity.proofs.UnderLaws.{under-from-left}
 
--- ---- a test of letters that finds one
+-- ---- a test of letters that exactly one letter passes
 
--- Place u is the one place of a walk whose letter passes the test f
+-- Place u is the only place of a walk whose letter passes the test f
 record Finds (f : Point → ℕ → Bool) (o : Outline) (u : ℕ) : Type 0 where
   below : u < size o
   found : f (cornerAt o u) (letterAt o u) ≡ true
@@ -39,7 +40,7 @@ finds-next : (f : Point → ℕ → Bool) (p : Point) (a : ℕ) (w : List ℕ) (
 unfolding cornerAt walk
 finds-next f p a w u h = record { below = omega (arith, h .below); found = h .found; others = λ i l n. h .others (suc i) (omega arith) (λ e. n (omega arith)) }
 
--- How many letters pass, of those at corner columns up to c
+-- The number of letters that pass, at corner columns up to c
 tally-only : (f : Point → ℕ → Bool) (c : ℕ) (p : Point) (w : List ℕ) (u : ℕ) → Finds f (outline p w) u → tally (λ q a. f q a && leb (q .col) c) p w ≡ count (leb (cornerAt (outline p w) u .col) c)
 unfolding tally cornerAt walk count
 tally-only f c p [] u h = absurd (omega (arith, h .below))
@@ -49,7 +50,7 @@ tally-only f c p (a ∷ w) zero h =
     rw (h .found) (omega arith)
 tally-only f c p (a ∷ w) (suc u) h = rw (h .others 0 (omega arith) (λ e. omega arith)) (omega (arith, tally-only f c (step p a) w u (finds-next f p a w u h)))
 
--- The corner column of the last letter that passes, or d where there is none
+-- The corner column of the last letter that passes, or d if there is none
 lastColumn : (Point → ℕ → Bool) → Point → List ℕ → ℕ → ℕ
 lastColumn f p [] d = d
 lastColumn f p (a ∷ w) d = lastColumn f (step p a) w (cond (f p a) (p .col) d)
@@ -65,7 +66,7 @@ last-only f p [] d u h = absurd (omega (arith, h .below))
 last-only f p (a ∷ w) d zero h = rw (h .found) (last-none f (step p a) w (p .col) (λ i l. h .others (suc i) (omega arith) (λ e. omega arith)))
 last-only f p (a ∷ w) d (suc u) h = rw (h .others 0 (omega arith) (λ e. omega arith)) (last-only f (step p a) w d u (finds-next f p a w u h))
 
--- The two columns of a row are of this kind
+-- The two columns of a row are of this form
 up-column-last : (p : Point) (w : List ℕ) (r d : ℕ) → upColumn p w r d ≡ lastColumn (λ q a. upAlong q a r) p w d
 unfolding upColumn lastColumn
 up-column-last p [] r d = refl
@@ -81,7 +82,7 @@ finds-of : (f : Point → ℕ → Bool) (o : Outline) (u : ℕ) → u < size o �
 finds-of f o u l e only =
     record { below = l; found = e; others = λ i m n. not-held (f (cornerAt o i) (letterAt o i)) (λ d. n (only i m d)) }
 
--- The sum is 1 where the up is counted and the down is not
+-- Ups minus downs is 1 exactly if the up is counted and the down is not
 sum-iff : (m n c : ℕ) → (eqb (count (leb m c)) (count (leb n c) + 1) ≡ true) ↔ ((m ≤ c) × (c < n))
 unfolding count
 sum-iff m n c = go (leb m c) (leb n c) refl refl
@@ -92,7 +93,7 @@ sum-iff m n c = go (leb m c) (leb n c) refl refl
     go false true p q = (λ e. absurd (omega (arith, eqb-true 0 2 e)), λ (h, k). absurd (omega (arith, leb-false m c p)))
     go false false p q = (λ e. absurd (omega (arith, eqb-true 0 1 e)), λ (h, k). absurd (omega (arith, leb-false m c p)))
 
--- ---- the rows of a turn
+-- ---- the rows of a walk from W
 
 -- The rows of S and of N
 abbrev pub bottom : Outline → ℕ
@@ -110,7 +111,7 @@ module _ (o : Outline) (c : NoBackStep o) where
   unfolding startE startOf frameOf along
   top-start = omega (arith, c .walk .walked .row-le (cut o 1) (cut-le o c 0 (omega arith)))
 
-  -- An up leads across the rows, from piece 3 to piece 0, and so does a down, from piece 1 to piece 2
+  -- Ups lead across the rows from piece 3 to piece 0, and downs from piece 1 to piece 2
   module _ (r : ℕ) (low : bottom o ≤ r) (high : r < top o) where
     up : Crossing o 3 r
     up = crossing o c 3 (omega arith) r (omega (arith, bottom-start)) (omega (arith, top-start))
@@ -144,7 +145,7 @@ module _ (o : Outline) (c : NoBackStep o) where
     down-column : downColumn (o .start) (o .letters) r 0 ≡ downCol
     down-column = down-column-last (o .start) (o .letters) r 0 ∙ last-only (λ p a. downAlong p a r) (o .start) (o .letters) 0 (down .place) finds-down
 
-    -- The row's ups in corner columns 0 to c are one, or none where c is left of it; and so its downs
+    -- The row's ups in corner columns 0 to c: one, or none if c is left of it. The same for downs
     pub ups-row : (c : ℕ) → ups (o .start) (o .letters) c r ≡ count (leb (upColumn (o .start) (o .letters) r 0) c)
     ups-row c = rw up-column (ups-tally (o .start) (o .letters) c r ∙ tally-only (λ p a. upAlong p a r) c (o .start) (o .letters) (up .place) finds-up)
 
@@ -159,7 +160,7 @@ module _ (o : Outline) (c : NoBackStep o) where
     pub row-ends : (c : ℕ) → (encloses o c r ≡ true) ↔ ((upColumn (o .start) (o .letters) r 0 ≤ c) × (c < downColumn (o .start) (o .letters) r 0))
     row-ends c = rw (up-column, down-column) (ends c)
 
-    -- The cell right of the up is one of them
+    -- The cell to the right of the up is one of them
     pub row-convex : upColumn (o .start) (o .letters) r 0 < downColumn (o .start) (o .letters) r 0
     unfolding frameOf along
     row-convex = rw (up-column, down-column) (ends upCol .0 (rw (up .here) at (up-marked o (c .walk) (leaves-upwards o (c .clockwise)) (up .place) (up .letter))) .1)
@@ -167,7 +168,7 @@ module _ (o : Outline) (c : NoBackStep o) where
     pub row-fits : downColumn (o .start) (o .letters) r 0 ≤ side
     row-fits = rw down-column (c .walk .walked .col-le (down .place) (omega (arith, down .letter .0)))
 
-    -- Right of the up is under the paths of pieces 3 and 0, left of the down under those of pieces 1 and 2
+    -- Right of the up is under the paths of pieces 3 and 0, left of the down is under those of pieces 1 and 2
     row-under : (x : Point) → x .row ≡ r → x .col < side → (encloses o (x .col) r ≡ true) ↔ ((k : ℕ) → k < 4 → UnderPiece o k x)
     unfolding cellE cellL cellAlong frameOf along
     row-under x e l =
@@ -185,7 +186,7 @@ module _ (o : Outline) (c : NoBackStep o) where
   pub bottom-lt-top : bottom o < top o
   bottom-lt-top = omega (arith, bottom-start, top-start, shape o c .next-later 3 (omega arith), shape o c .next-earlier 0 (omega arith))
 
-  -- Outside the rows from S up to N there is no up and no down
+  -- Below S and above N there is no up and no down
   module _ (r : ℕ) (off : bottom o ≤ r → r < top o → ⊥) (c′ : ℕ) where
     pub ups-off : ups (o .start) (o .letters) c′ r ≡ 0
     unfolding upAlong frameOf along
@@ -218,7 +219,7 @@ module _ (o : Outline) (c : NoBackStep o) where
       let (low, high) = enclosed-row x r e in
       (omega (arith, row-ends r low high x .0 e, row-fits r low high), omega (arith, top-start))
 
-  -- A cell of the chart is enclosed exactly where it is under the paths of all four pieces
+  -- A cell of the chart is enclosed exactly if it is under the paths of all four pieces
   pub enclosed-iff : (x : Point) → x .col < side → x .row < side → (encloses o (x .col) (x .row) ≡ true) ↔ ((k : ℕ) → k < 4 → UnderPiece o k x)
   unfolding cellE cellAlong frameOf
   enclosed-iff x l m = (

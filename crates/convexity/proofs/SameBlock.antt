@@ -1,5 +1,5 @@
--- The cells fix the border: two clockwise outlines that enclose the same cells have the same W and the same letters from W on. A side is walked
--- where the level jumps, so each letter of the one outline leaves the same corner in the other, and a corner is left only once.
+-- The cells determine the border: two outlines that enclose the same cells have the same W and the same letters from W. A side is walked
+-- exactly where the level changes, so each letter of one outline leaves the same corner in the other, and each corner is left only once.
 use Prim.Native.Nat.{ℕ, zero, suc, _+_, _-_, _≤_, _<_}
 use native.Mathlib.Decide.{decLt}
 use native.Mathlib.Omega.{arith}
@@ -30,7 +30,7 @@ use Rattle.convexity.proofs.Levels.{enclosed-level, level-enclosed, lea
 use Rattle.convexity.proofs.AsSent.{block-from-w, edges-answer-sent}
 use Rattle.convexity.proofs.Clockwise.{simple-form, clockwise-form, from-w-form}
 
--- ---- a side is walked where the level jumps
+-- ---- a side is walked where the level changes
 
 -- The letter a leaves the corner q at some place
 abbrev pub Leaves : Outline → Point → ℕ → Type 0
@@ -39,7 +39,7 @@ Leaves o q a = (j : ℕ) × (j < size o) × (letterAt o j ≡ a) × (cornerAt o 
 left-from : (o : Outline) (x : ℕ) (q : Point) → suc x ≡ q .col → 1 ≤ leftsAt o x (q .row) → Leaves o q 2
 left-from o x q e h = let (j, m, f, d) = lefts-found o x (q .row) h in (j, m, f, d ∙ point-eq (point (suc x) (q .row)) q e refl)
 
--- Where the cell to the right of a letter is one level above the cell to its left, that letter is walked
+-- If the cell to the right of a letter is one level above the cell to its left, the walk has that letter
 pub side-walked : (o : Outline) → Walked o → (q : Point) (a : ℕ) → a < 4 → leaves q a ≡ false
     → OneAbove o (rightOf q a) (leftOf q a) → Leaves o q a
 unfolding rightOf leftOf leaves
@@ -59,7 +59,7 @@ side-walked o t q (suc (suc (suc (suc a)))) l e h = absurd (omega arith)
 
 -- ---- two walks with the same levels, from the same corner
 
--- Every cell has as many ups less downs in the one walk as in the other
+-- Every cell has the same ups minus downs in both walks
 abbrev pub SameLevels : Outline → Outline → Type 0
 SameLevels o o′ = (C R : ℕ) → upsTo o C R + downsTo o′ C R ≡ downsTo o C R + upsTo o′ C R
 
@@ -67,7 +67,7 @@ same-levels-sym : (o o′ : Outline) → SameLevels o o′ → SameLevels o′ o
 same-levels-sym o o′ h C R = omega (arith, h C R)
 
 module _ (o o′ : Outline) (start : o .start ≡ o′ .start) (t : Walked o) (t′ : Walked o′) (same : SameLevels o o′) where
-  -- A letter of the one is a letter of the other, and leaves the same corner there
+  -- A letter of one walk is a letter of the other, and leaves the same corner there
   letter-shared : (i : ℕ) → i < size o → Leaves o′ (cornerAt o i) (letterAt o i)
   letter-shared i l =
       let p = cornerAt o i in
@@ -80,7 +80,7 @@ module _ (o o′ : Outline) (start : o .start ≡ o′ .start) (t : Walked o) (t
         same (leftOf p a .col) (leftOf p a .row),
       ))
 
-  -- Where both stand at one corner at one place, both leave it by one letter
+  -- If both are at the same corner at the same place, both leave it by the same letter
   letter-same : (i : ℕ) → i < size o → i < size o′ → cornerAt o i ≡ cornerAt o′ i → letterAt o i ≡ letterAt o′ i
   letter-same i l m e =
       let (j, b, f, d) = letter-shared i l in
@@ -93,13 +93,13 @@ module _ (o o′ : Outline) (start : o .start ≡ o′ .start) (t : Walked o) (t
       let f = letter-same i l m e in
       corner-suc o i l ∙ (λ z. step (e z) (f z)) ∙ sym (corner-suc o′ i m)
 
-  -- The one is back at its start before the other meets it again
+  -- One cannot be longer: the shorter is back at its start, which the longer would meet twice
   not-shorter : size o < size o′ → ⊥
   not-shorter l =
       t′ .distinct 0 (size o) (omega (arith, t .long)) l
       (corner-zero o′ ∙ sym start ∙ sym (t .closed) ∙ sym (corner-all o) ∙ corner-same (size o) (omega arith) (omega arith))
 
--- Walks past refusals 1 to 6 with the same levels, from the same corner, are the same
+-- Walks that pass refusals 1 to 6, with the same levels and the same start, are equal
 pub same-walk : (o o′ : Outline) → o .start ≡ o′ .start → Walked o → Walked o′ → SameLevels o o′ → o ≡ o′
 same-walk o o′ e t t′ same =
     outline-eq o o′ e (ext-getD 0 (o .letters) (o′ .letters) sizes
@@ -116,9 +116,9 @@ same-walk o o′ e t t′ same =
               ]
         ]
 
--- ---- clockwise turns
+-- ---- clockwise walks from W
 
--- A turn that begins at W and leaves it upwards
+-- A walk from W that leaves it upward
 record UpTurn (o : Outline) : Type 0 where
   walk : WalkFromW o
   up : letterAt o 0 ≡ 1
@@ -128,7 +128,7 @@ abbrev SameEnclosed : Outline → Outline → Type 0
 SameEnclosed o o′ = (c r : ℕ) → encloses o c r ≡ encloses o′ c r
 
 module _ (o : Outline) (d : UpTurn o) where
-  -- No enclosed cell comes before it
+  -- No enclosed cell comes before the cell at W
   west-left : (c r : ℕ) → encloses o c r ≡ true → o .start .col ≤ c
   west-left c r e =
       elim (decLt c (o .start .col)) [
@@ -152,7 +152,7 @@ module _ (o o′ : Outline) (d : UpTurn o) (d′ : UpTurn o′) (same : SameEncl
       let c : o .start .col ≡ o′ .start .col = omega (arith, west-left o′ d′ (o .start .col) (o .start .row) here, west-left o d (o′ .start .col) (o′ .start .row) there) in
       point-eq (o .start) (o′ .start) c (omega (arith, west-low o d (o′ .start .col) (o′ .start .row) (sym c) there, west-low o′ d′ (o .start .col) (o .start .row) c here))
 
-  -- Levels are 0 and 1, and the cells tell which
+  -- Levels are 0 or 1, and the enclosed cells tell which
   same-levels : SameLevels o o′
   same-levels zero R = omega (arith, ups-column-zero o R, downs-column-zero o R, ups-column-zero o′ R, downs-column-zero o′ R)
   same-levels (suc c) zero =
@@ -202,7 +202,7 @@ module _ (o : Outline) (t : Walked o) where
       off : (i : ℕ) → leaves (cornerAt o i) (letterAt o i) ≡ false → letterAt o i ≡ 1 → cornerAt o i ≡ point x y → ⊥
       off i f e d = omega (arith, up-leaves x y (rw (e, d) at f))
 
-  -- Right of the chart the level does not change from row to row
+  -- Right of the chart the level is the same in every row
   level-past : (x : ℕ) → side ≤ x → (R : ℕ) → upsTo o (suc x) R ≡ downsTo o (suc x) R
   level-past x h zero = omega (arith, ups-row-zero o (suc x), downs-row-zero o (t .stays) (suc x))
   level-past x h (suc R) = omega (arith, jump-horizontal o (t .stays) (t .closed) x R, level-past x h R, no-right x R h, no-left x R h)
@@ -224,7 +224,7 @@ pub open-off : (o : Outline) → Simple o → (c r : ℕ) → (side ≤ c) ⊎ (
 open-off o h c r (inl a) = open-right (clockwiseForm o) (walked (clockwiseForm o) (simple-form o h)) c r a
 open-off o h c r (inr a) = open-above (clockwiseForm o) (walked (clockwiseForm o) (simple-form o h)) c r a
 
--- ---- outlines as sent, past refusals 1 to 6
+-- ---- outlines as sent that pass refusals 1 to 6
 
 up-turn : (o : Outline) → Simple o → UpTurn (border o)
 up-turn o h = record { walk = from-w-of (clockwiseForm o) (simple-form o h); up = leaves-upwards (border o) (clockwise-form o h) }
@@ -238,11 +238,12 @@ module _ (o o′ : Outline) (h : Simple o) (h′ : Simple o′) where
   cells-of-turns : border o ≡ border o′ → SameCells o o′
   cells-of-turns e c r = sym (block-from-w o h c r) ∙ ap (λ (v : Outline). encloses v c r) e ∙ block-from-w o′ h′ c r
 
-  -- Outlines mark the same block exactly if their readings have the same W and the same letters from there on, whichever way and from wherever they were drawn
+  -- Outlines enclose the same block exactly if their borders are equal, wherever they
+  -- were started and in whichever direction they were drawn
   pub same-from-w-iff : SameCells o o′ ↔ (border o ≡ border o′)
   same-from-w-iff = (turns-of-cells, cells-of-turns)
 
--- ---- outlines past the test: their edges
+-- ---- outlines that pass refusals 1 to 9: their edges
 
 module _ (o o′ : Outline) (h : Reaches o) (h′ : Reaches o′)
     (d : dentPiece (border o) ≡ 4) (d′ : dentPiece (border o′) ≡ 4) where
@@ -268,13 +269,13 @@ module _ (o o′ : Outline) (h : Reaches o) (h′ : Reaches o′)
         | no a ↦ open-past c r (inl (omega arith))
       ]
 
-  -- Outlines past the test enclose the same cells exactly if they have the same anchor and the same edges
+  -- They enclose the same cells exactly if they have the same anchor and the same edges
   pub same-cells-iff : SameCells o o′ ↔ SameEdges o o′
   same-cells-iff = (edges-of-cells, cells-of-edges)
 
--- ---- and from any corner
+-- ---- any start
 
--- The levels do not depend on the corner where the walk begins
+-- Levels do not depend on the corner where the walk starts
 ups-around : (o : Outline) (k : ℕ) → Closed o → (C R : ℕ) → upsTo (rotated k o) C R ≡ upsTo o C R
 unfolding upsTo
 ups-around o k e C R = tally-rotation (rises C R) o k e
@@ -308,7 +309,7 @@ module _ (o : Outline) (h : Simple o) (k : ℕ) (b : k ≤ size o) where
         downs-around o k (d .closed) C R,
       ))
 
-  -- Wherever the pen began, the reading from W on is the same, and so is the block
+  -- Wherever the outline was started, the border is the same, and so is the block
   pub form-rotation : border (rotated k o) ≡ border o
   form-rotation =
       from-w-form (rotated k o) (rotated-simple o k b h) ∙ ap (λ (v : Outline). cond (clockwise v) v (reversed v)) from-w-rotation

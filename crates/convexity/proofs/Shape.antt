@@ -1,5 +1,5 @@
--- Without back-steps the cut places rise, since a piece that ran past the end of the turn would hold a letter next to W that goes back in its frame; so
--- the turn is four words, and each starts where the one before it ends, in a frame turned by a quarter.
+-- Without back-steps the cut places increase: a piece that went beyond the end of the walk would contain a letter next to W that goes
+-- back in its frame. So the border is four words, and each starts where the one before it ends, in a frame turned by a quarter.
 use Prim.Native.Nat.{ℕ, zero, suc, _+_, _-_, _≤_, _<_}
 use native.Mathlib.Nat.{add-zero, add-suc}
 use native.Mathlib.Numerals.{one-add}
@@ -33,7 +33,7 @@ use Rattle.convexity.proofs.Levels.{leaves-upwards}
 use Rattle.convexity.proofs.Cuts.{ahead-round, cut-step, cut-zero, corner-west, cut-on, cut-round, cuts-rise, cuts-fit, piece-part, piece-length, piece-at, previous-zero, previous-pos, corner-first, corners-differ, coming-west, corner-after}
 use Rattle.convexity.proofs.Extreme.{FirstAt, on-chart, Moved, earlier-on, later-on, earlier-back, later-back, Bend, by-later, by-earlier, previous, corner-round, moves, bend}
 
--- A test of the first piece with a back-step finds none
+-- If the search for a piece with a back-step finds none, it returns 4
 pub straight-of : (o : Outline) → ltb (backStepPiece o) 4 ≡ false → backStepPiece o ≡ 4
 unfolding backStepPiece
 straight-of o e =
@@ -53,7 +53,7 @@ no-back-step-letter f a e = go (eqb a (f .earlier)) refl (not-false (eqb a (f .e
     go true p q = inl (eqb-true a (f .earlier) p)
     go false p q = inr (eqb-true a (f .later) q)
 
--- Of the first three frames none has both of these letters, a left and an up
+-- None of the first three frames has both left and up
 not-both : (k : ℕ) → k < 3 → LetterOf (frameOf k) 2 → LetterOf (frameOf k) 1 → ⊥
 unfolding frameOf
 not-both zero h l u = ⊎-elim (λ e. omega arith) (λ e. omega arith) l
@@ -61,7 +61,7 @@ not-both (suc zero) h l u = ⊎-elim (λ e. omega arith) (λ e. omega arith) l
 not-both (suc (suc zero)) h l u = ⊎-elim (λ e. omega arith) (λ e. omega arith) u
 not-both (suc (suc (suc k))) h l u = absurd (omega arith)
 
--- From one piece to the next the walk comes on the later letter of the one and leaves on the later letter of the other
+-- Between two pieces, the walk arrives by the later letter of the first and leaves by the later letter of the second
 junction : (f g : Frame) (a b : ℕ) → Apart f → Turns f g → LetterOf f a → Bend g a b → (a ≡ f .later) × (b ≡ g .later)
 junction f g a b h t o (by-later p q) = (omega arith, q)
 junction f g a b h t o (by-earlier p q) =
@@ -81,7 +81,7 @@ rounds-after : (t : List ℕ) (i : ℕ) → i < length t → getD (rounds t) (le
 unfolding rounds
 rounds-after t i h = getD-append-add t (t ++ (t ++ t)) i 0 ∙ List·getD-append t (t ++ t) 0 i h
 
--- A turn without back-steps: the letters walked from cut k to the next cut are of frame k
+-- Without back-steps the letters from cut k to the next cut are those of frame k
 of-piece : (o : Outline) → backStepPiece o ≡ 4 → (k : ℕ) → k < 4 → (i : ℕ) → cut o k ≤ i → i < cut o (suc k) → i < length (rounds (o .letters))
     → LetterOf (frameOf k) (getD (rounds (o .letters)) i 0)
 unfolding backStepPiece backStepAt piece
@@ -97,9 +97,9 @@ of-piece o e k h i a b c =
     getD-take (cut o (suc k) - cut o k) (drop (cut o k) r) m 0 (omega arith) ∙ getD-drop (cut o k) r m 0 ∙ ap (λ (j : ℕ). getD r j 0) (omega arith) in
     no-back-step-letter (frameOf k) (getD r i 0) (rw at at straight)
 
--- ---- a list of a frame's letters, as a word
+-- ---- a list of a frame's letters as a word
 
--- A word is spelled back
+-- Spelling the word gives the letters back
 spell-word : (f : Frame) → Apart f → (u : List ℕ) → ((i : ℕ) → i < length u → LetterOf f (getD u i 0)) → spell f (wordOf (f .later) u) ≡ u
 unfolding spell wordOf
 spell-word f h [] o = refl
@@ -139,13 +139,13 @@ getD-spell f (true ∷ w) zero h = refl
 getD-spell f (false ∷ w) (suc i) h = getD-spell f w i (omega arith)
 getD-spell f (true ∷ w) (suc i) h = getD-spell f w i (omega arith)
 
--- p is a corner of the chart, P along the earlier letter of frame k and Q along the later one
+-- p is a corner of the chart, at P along the earlier letter of frame k and Q along the later one
 pub record CornerIn (k : ℕ) (p : Point) (P Q : ℕ) : Type 0 where
   pub on-chart : OnChart p
   pub across : along (frameOf k .earlier) p ≡ P
   pub up : along (frameOf k .later) p ≡ Q
 
--- One letter of the frame further
+-- After one more letter of the frame
 corner-on : (k : ℕ) (b : Bool) (p q : Point) (P Q : ℕ) → OnChart q → CornerIn k p P Q → Moved (frameOf k) (letterOf (frameOf k) b) p q
     → CornerIn k q (P + earliers (b ∷ [])) (Q + laters (b ∷ []))
 unfolding letterOf earliers laters
@@ -165,9 +165,9 @@ module _ (o : Outline) (c : NoBackStep o) where
   up : letterAt o 0 ≡ 1
   up = leaves-upwards o (c .clockwise)
 
-  -- ---- the cut places rise
+  -- ---- the cut places increase
 
-  -- Else the piece would run on past the end of the turn, and hold the letter that comes to W and the one that leaves it
+  -- Otherwise the piece would go beyond the end of the walk, and contain the letter that arrives at W and the one that leaves it
   corner-rises : (k : ℕ) → k < 3 → cut o k ≡ cutCorner o k → cutCorner o k < cutCorner o (suc k)
   corner-rises k h e =
       let n : ℕ = size o in
@@ -209,7 +209,7 @@ module _ (o : Outline) (c : NoBackStep o) where
   cut-first : (k : ℕ) → k < 4 → FirstAt o k (cut o k)
   cut-first k h = rw (cut-corner k h) (corner-first o (c .walk) k h)
 
-  -- ---- the pieces are parts of the turn
+  -- ---- the pieces are parts of the border
 
   piece-rest : (k : ℕ) → k < 4 → drop (cut o k) (o .letters) ≡ piece o k ++ drop (cut o (suc k)) (o .letters)
   piece-rest k h =
@@ -338,7 +338,7 @@ module _ (o : Outline) (c : NoBackStep o) where
             | no a ↦ record { piece = n; small = l; offset = i - cut o n; within = omega (arith, word-length n l); place = omega arith }
           ]
 
-  -- ---- the ring
+  -- ---- the cycle
 
   -- The end of a piece
   piece-end : (k : ℕ) → k < 4 → CornerIn k (startOf o (suc k)) (startE o k + earliers (true ∷ word o k)) (startL o k + laters (true ∷ word o k))
@@ -365,7 +365,7 @@ module _ (o : Outline) (c : NoBackStep o) where
       let e = piece-end k h in
       rw (← start-next k h) (omega (arith, along-next k (startOf o (suc k)) (e .on-chart)))
 
--- Without back-steps a turn is four words in a ring
+-- Without back-steps a border is four words in a cycle
 pub shape : (o : Outline) → NoBackStep o → Shape o
 shape o c =
     record {

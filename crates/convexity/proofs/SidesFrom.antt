@@ -1,4 +1,5 @@
--- The side of every edge is the same wherever the path starts, since a shift cancels on both sides of each inequality; and each side is a half plane.
+-- On which side of an edge a point lies does not depend on where the path starts, since a
+-- shift cancels in each inequality; and each side is a half plane.
 use Prim.Native.Nat.{ℕ, _+_, _-_, _*_, _≤_, _<_}
 use native.Mathlib.Nat.{add-assoc, add-zero, le-refl}
 use native.Mathlib.Decide.{decLe}
@@ -12,7 +13,7 @@ use Rattle.base.proofs.Mean.{Mean, mean-line, mean-le}
 use Rattle.convexity.proofs.Frame.{Under, Sides, EdgesFall, run, rise, sides-mono, under-iff-sides}
 use Rattle.convexity.specs.parts.InFrame.{UnderFrom}
 
--- A point lower down stays on the right side of every edge
+-- A lower point stays on the right side of every edge
 pub sides-lower : (fs : List Factor) (vp vq p q q′ : ℕ) → q′ ≤ q → Sides fs vp vq p q → Sides fs vp vq p q′
 sides-lower fs vp vq p q q′ h = sides-mono fs vp vq p q p q′ (le-refl p) h
 
@@ -25,7 +26,7 @@ sides-shift (f ∷ fs) a b vp vq p q =
       λ s. (omega (arith, s .0), rw (add-assoc a vp (run f), add-assoc b vq (rise f)) (rest .1 (s .1))),
     )
 
--- Under a path from any start: count from the start. Where q is lower than the start the path's first point will do
+-- Under a path from any start: subtract the start. If q is below the start, the path's first point is enough
 pub underfrom-iff-sides :
     (fs : List Factor) → EdgesFall fs → (vp vq p q : ℕ) → vp ≤ p → q ≤ vq + laters (written fs) → UnderFrom (written fs) vp vq p q ↔ Sides fs vp vq p q
 unfolding earliers laters
@@ -52,7 +53,7 @@ underfrom-iff-sides fs h vp vq p q across up =
     first : ¬ (vq ≤ q) → UnderFrom (written fs) vp vq p q
     first k = record { upto = 0; within = omega arith; left = omega arith; high = omega arith }
 
--- A mean of three points on the right side of every edge is there too
+-- A mean of three points on the right side of every edge is on it too
 pub sides-mean :
     (fs : List Factor) (vp vq a b c p q p₁ q₁ p₂ q₂ p₃ q₃ : ℕ) → 0 < a + b + c → Mean a b c p p₁ p₂ p₃ → Mean a b c q q₁ q₂ q₃
     → Sides fs vp vq p₁ q₁ → Sides fs vp vq p₂ q₂ → Sides fs vp vq p₃ q₃ → Sides fs vp vq p q

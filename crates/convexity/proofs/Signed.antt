@@ -1,4 +1,5 @@
--- A side value is one and the same difference of naturals in all four frames: an integer is read as a difference, and only the table of the frames' places differs.
+-- A side value is the same difference of naturals in all four frames: integers become
+-- differences, and only the table of the frames' coordinates differs.
 use Prim.Native.Nat.{ℕ, zero, suc, _+_, _-_, _*_, _≤_, _<_}
 use native.Mathlib.Nat.{add-zero}
 use native.Mathlib.Omega.{arith}
@@ -32,7 +33,7 @@ is-add-both :
     {x y u v : ℤ} {a a′ b b′ c c′ d d′ : ℕ} → Is x a a′ × Is y b b′ → Is u c c′ × Is v d d′ → Is (x +ℤ u) (a + c) (a′ + c′) × Is (y +ℤ v) (b + d) (b′ + d′)
 is-add-both h k = (is-add (h .0) (k .0), is-add (h .1) (k .1))
 
--- The side value of a cell (c, r) for an edge (dx, dy) that leaves (x, y)
+-- The side value at a cell (c, r) of an edge (dx, dy) that starts at (x, y)
 side-not-negative :
     {dx dy x y c r : ℤ} {a a′ b b′ m m′ n n′ p p′ q q′ : ℕ} → Is dx a a′ × Is dy b b′ → Is x m m′ × Is y n n′ → Is c p p′ × Is r q q′
     → (notNegative (sideValue dx dy x y c r) ≡ true)
@@ -42,7 +43,7 @@ side-not-negative d v g = not-negative-iff (is-minus (is-mul (d .1) (is-minus (g
 
 -- ---- the four frames
 
--- In frame k, (x, y) is p along the earlier letter and q along the later; a letter that counts down counts from o
+-- In frame k, (x, y) is p along the earlier letter and q along the later; a coordinate that counts down counts from o
 unfoldable pub Counted : ℕ → ℕ → ℕ → ℕ → ℤ → ℤ → Type 0
 Counted zero o p q x y = Is x p 0 × Is y q 0
 Counted (suc zero) o p q x y = Is x q 0 × Is y o p
@@ -63,7 +64,8 @@ placed-cell (suc zero) x h l = record { counted = omega arith }
 placed-cell (suc (suc zero)) x h l = record { counted = omega arith }
 placed-cell (suc (suc (suc k))) x h l = record { counted = omega arith }
 
--- Turned by a quarter: across is up in the next frame, and up is across from the other end
+-- Turned by a quarter: along the earlier letter becomes along the later in the next frame,
+-- and along the later becomes along the earlier from the other end
 pub lies-next : (k : ℕ) {o p q q′ : ℕ} {x y : ℤ} → q + q′ ≡ o → Lies k o p q x y → Lies (next k) o q′ p x y
 unfolding Counted
 lies-next zero e h = record { counted = omega arith }
@@ -143,7 +145,7 @@ lies-sides k (f ∷ fs) h g =
     let d = step-lies k (run f) (rise f) in
     Iff·trans (and-eq-true-iff _ _) (Iff·and (side-iff k h d g) (lies-sides k fs (lies-step k h d) g))
 
--- ---- the edges of a piece and those after it: what follows begins where the piece ends
+-- ---- the edges of a piece and those after it, which start where the piece ends
 
 module _ (f : Frame) (es : List ℤ) where
   pub none-outside-append :

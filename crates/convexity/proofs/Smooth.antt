@@ -1,4 +1,5 @@
--- Where no piece is dented, every factor is a Christoffel word, so each piece's edges hug its path and fall in slope.
+-- If no piece is dented, every factor is a Christoffel word, so the edges of each
+-- piece stay close to its path and have decreasing slopes.
 use Prim.Native.Nat.{ℕ, _<_}
 use native.Mathlib.Nat.{not-suc-le-zero}
 use native.Mathlib.Omega.{arith}
@@ -18,7 +19,7 @@ use Rattle.chart.specs.Outline.{Outline}
 use Rattle.convexity.specs.Pieces.{word, factors, dentLength, dentPiece}
 use Rattle.convexity.proofs.Frame.{Edge, Falls, EdgesFall}
 
--- Without a dent the first factor is a Christoffel word, and there is no dent in the others
+-- Without a dent the first factor is a Christoffel word, and the others have no dent
 pub dent-first : (f : Factor) (fs : List Factor) → Proper f → dentLength (f ∷ fs) ≡ 0 → Christoffel (f .word) × (dentLength fs ≡ 0)
 unfolding dentLength
 dent-first f fs p e = go (christoffel (f .word)) refl e
@@ -49,7 +50,7 @@ pub smooth-piece : (o : Outline) → dentPiece o ≡ 4 → (k : ℕ) → k < 4 �
 unfolding dentPiece
 smooth-piece o e k l = omega (arith, ltb-false 0 (dentLength (factors o k)) (first-none-at (λ k. ltb 0 (dentLength (factors o k))) 4 e k l))
 
--- So the edges of each fall
+-- So the slopes of each piece's edges decrease
 pub smooth-edges : (o : Outline) → dentPiece o ≡ 4 → (k : ℕ) → k < 4 → EdgesFall (factors o k)
 unfolding factors
 smooth-edges o e k l = edges-fall (factors o k) (factors-exist (word o k) .falling) (smooth-piece o e k l)

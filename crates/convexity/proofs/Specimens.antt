@@ -1,5 +1,5 @@
--- The cut, the dents, the edges and their rule on the contract's specimens, H1 to H6, and on an outline with the factor 001101: the checker computes
--- every row, and the whole test's table stands in the crate outline.
+-- The checker computes W, the first dented piece, the edges and their rule on specimens H1, H2, H4, H5 and H6 and on an outline with the
+-- factor 001101. The table of the whole test is in verdict/specs/Specimens.
 use Prim.Native.Nat.{ℕ}
 use mathlib.Core.Path.{_≡_, refl}
 use mathlib.Core.Bool.{Bool, true, false}
@@ -18,7 +18,7 @@ use Rattle.convexity.specs.Clockwise
 use Rattle.convexity.specs.Pieces
 use Rattle.convexity.specs.Inside
 
--- W, the first dented piece (4 where there is none), and the edges
+-- W, the first dented piece (4 if there is none), and the edges
 pub record Cut-up : Type 0 where
   pub corner : Point
   pub dented : ℕ
@@ -29,7 +29,7 @@ cutUp o =
     let t = Cut.fromW (Clockwise.clockwiseForm o) in
     record { corner = t .start; dented = Pieces.dentPiece t; edges = Pieces.edges t }
 
--- A name that opens the definitions, for the rows that follow
+-- A name to unfold all definitions at once in the rows below
 opened : Bool
 unfolding cutUp Below.every Below.first Below.further Word.wordOf Word.earliers Word.laters Word.less Lyndon.copies Lyndon.same Lyndon.push Lyndon.factorsOf Christoffel.coprime Christoffel.remainders Christoffel.christoffel Chart.step Chart.walk Chart.cornerAt Frame.frameOf Frame.along Cut.before Cut.least Cut.cornerPlace Cut.westPlace Cut.fromW Cut.clockwise Clockwise.opposite Clockwise.backward Clockwise.clockwiseForm Cut.ahead Cut.cutCorner Cut.cut Pieces.rounds Pieces.piece Pieces.word Pieces.factors Pieces.dentLength Pieces.dentPiece Pieces.edgesOf Pieces.edges Inside.notNegative Inside.minℤ Inside.maxℤ Inside.sideValue Inside.noneOutside Inside.colSteps Inside.rowSteps Inside.lowestMet Inside.highestMet Inside.within Inside.insideAt Inside.insideEdges
 opened = true
@@ -55,7 +55,7 @@ H5 : cutUp (outline (at 0 0) (1 ∷ 1 ∷ 0 ∷ 3 ∷ 0 ∷ 3 ∷ 2 ∷ 2 ∷ []
 unfolding opened
 H5 = refl
 
--- H6 has a dent in piece 2, counted here from 0, and the factor 001101 is one in piece 1
+-- H6 has its dent in piece 1, counted from 0; the factor 001101 is a dent in piece 0
 H6 : cutUp (outline (at 0 0) (1 ∷ 1 ∷ 1 ∷ 0 ∷ 3 ∷ 3 ∷ 0 ∷ 0 ∷ 3 ∷ 2 ∷ 2 ∷ 2 ∷ [])) .dented ≡ 1
 unfolding opened
 H6 = refl

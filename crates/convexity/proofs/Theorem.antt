@@ -1,6 +1,6 @@
--- The convexity theorem. Enclosed is under four paths, inside is four rows of sides, and without a dent these are the same in each frame (E1). A mean of
--- cells keeps every side, so without a dent no hull cell is missing, and with one a point above a path is (E2). The rows' ends then lead to the
--- lowest missing cell (E3).
+-- The convexity theorem. Enclosed means under four paths, inside means on the right side of four lists of edges, and without a dent the
+-- two agree in each frame (E1). A mean of cells keeps every side, so without a dent no cell is missing; with one, a point above a path is
+-- missing (E2). The ends of the rows then give the lowest missing cell (E3).
 use Prim.Native.Nat.{ℕ, zero, suc, _+_, _-_, _*_, _≤_, _<_, suc-le-suc}
 use native.Mathlib.Omega.{arith}
 use native.Mathlib.Decide.{decLt}
@@ -58,11 +58,11 @@ module _ (o : Outline) (straight : NoBackStep o) where
   abbrev formed : Shape o
   formed = shape o straight
 
-  -- Within the next piece's extreme, a cell is no higher than this piece reaches
+  -- A cell within the next piece's extreme is no higher than this piece reaches
   high-next : (x : Point) → x .col < side → x .row < side → ((k : ℕ) → k < 4 → startE o k ≤ cellE k x) → (k : ℕ) → k < 4 → cellL k x ≤ startL o k + laters (word o k)
   high-next x c r within k h = omega (arith, cell-next k x c r, within (next k) (next-lt k), formed .next-earlier k h)
 
-  -- Without a dent, under the path of a piece is on the right side of its edges
+  -- Without a dent, under the path of a piece is the same as on the right side of its edges
   under-sides : dentPiece o ≡ 4 → (k : ℕ) → k < 4 → (P Q : ℕ) → startE o k ≤ P → Q ≤ startL o k + laters (word o k)
       → UnderFrom (word o k) (startE o k) (startL o k) P Q ↔ Sides (factors o k) (startE o k) (startL o k) P Q
   unfolding factors
@@ -89,7 +89,7 @@ module _ (o : Outline) (straight : NoBackStep o) where
         under-sides smooth k h (cellE k x) (cellL k x) (sides k h .0) (high-next x c r (λ j l. sides j l .0) k h) .1 (sides k h .1),
   )
 
-  -- E1: the edges answer for the block
+  -- E1: the edges decide which cells are in the block
   pub edges-answer : dentPiece o ≡ 4 → (x : Point) → x .col < side → x .row < side → insideEdges (o .start) (edges o) x ≡ encloses o (x .col) (x .row)
   unfolding UnderAll SidesAll
   edges-answer smooth x c r =
@@ -98,7 +98,7 @@ module _ (o : Outline) (straight : NoBackStep o) where
       same-test (insideEdges (o .start) (edges o) x) (encloses o (x .col) (x .row)) (inside-iff o formed x c r)
       (λ e. both .0 (enclosed .0 e), λ a. enclosed .1 (both .1 a))
 
-  -- A mean of cells within the extremes and on the right side of all edges is one too
+  -- A mean of cells within the extremes and on the right side of all edges is such a cell too
   sides-all-mean : {x p q u : Point} → InTriangle x p q u → CellOnChart x → CellOnChart p → CellOnChart q → CellOnChart u → SidesAll p → SidesAll q → SidesAll u → SidesAll x
   unfolding SidesAll cellE cellL
   sides-all-mean v xs ps qs us sp sq su k h =
@@ -115,7 +115,7 @@ module _ (o : Outline) (straight : NoBackStep o) where
       let on = enclosed-on-chart o straight (x .col) (x .row) e in
       (on, all-under-iff-sides smooth x (on .0) (on .1) .0 (enclosed-iff o straight x (on .0) (on .1) .0 e))
 
-  -- Without a dent every hull cell is enclosed: means keep the extremes and the sides
+  -- Without a dent every cell of the hull is enclosed: means keep the extremes and the sides
   smooth-convex : dentPiece o ≡ 4 → (x : Point) → InHull (encloses o) x → encloses o (x .col) (x .row) ≡ true
   unfolding CellOnChart UnderAll
   smooth-convex smooth x h =
@@ -132,7 +132,7 @@ module _ (o : Outline) (straight : NoBackStep o) where
   unfolding dentPiece
   dentPiece-le = first-le _ 4
 
-  -- E2: a dent is a missing cell
+  -- E2: there is a dent exactly if a cell is missing
   pub dent-iff-missing : (dentPiece o < 4) ↔ ((x : Point) × Missing (encloses o) x)
   dent-iff-missing = (
     dent-missing o straight,
@@ -155,7 +155,7 @@ module _ (o : Outline) (straight : NoBackStep o) where
   block-rows : Rows lo hi (bottom o) (top o)
   block-rows = record { below = bottom-lt-top o straight; full = row-convex o straight; fits = row-fits o straight }
 
-  -- Its cells are the enclosed ones
+  -- The cells of these rows are the enclosed ones
   enclosed-rows : (c r : ℕ) → encloses o c r ≡ inRows lo hi (bottom o) (top o) c r
   enclosed-rows c r = same-test (encloses o c r) (inRows lo hi (bottom o) (top o) c r) (there, back) (marked-within (point c r), within-marked (point c r))
     where

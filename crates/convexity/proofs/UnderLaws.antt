@@ -1,4 +1,5 @@
--- Under a path that starts at a corner is under the path, moved to that corner; and a path that rises first is the same path one higher.
+-- A point is under a path from a start exactly if, counted from the start, it is under
+-- the path; and a later letter in front raises the path by one.
 use Prim.Native.Nat.{ℕ, zero, suc, _+_, _-_, _≤_, _<_}
 use native.Mathlib.Omega.{arith}
 use mathlib.Core.Path.{_≡_}
@@ -19,7 +20,7 @@ module _ (w : Word) (vp vq P Q : ℕ) where
     λ (h, u). record { upto = u .upto; within = u .within; left = omega (arith, u .left); high = omega (arith, u .high) },
   )
 
-  -- The empty beginning, and the whole word
+  -- The empty prefix, and the whole word
   pub under-from-start : vp ≤ P → Q ≤ vq → UnderFrom w vp vq P Q
   unfolding earliers laters
   under-from-start h k = record { upto = 0; within = omega arith; left = omega arith; high = omega arith }
@@ -33,7 +34,7 @@ module _ (w : Word) (vp vq P Q : ℕ) where
   pub under-from-high : UnderFrom w vp vq P Q → Q ≤ vq + laters w
   under-from-high u = omega (arith, laters-take-le (u .upto) w)
 
-  -- A later letter put in front raises the path by one
+  -- A later letter in front raises the path by one
   pub under-from-rise : UnderFrom w vp vq P Q ↔ UnderFrom (true ∷ w) vp vq P (suc Q)
   unfolding earliers laters
   under-from-rise = (

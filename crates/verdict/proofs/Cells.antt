@@ -1,4 +1,4 @@
--- What a reader takes from a verdict: each answer's facts (VerdictLaws) meet the convexity theorem of the same outline.
+-- What a reply tells about the cells: the facts of each answer (VerdictLaws), combined with the convexity theorem for the same outline.
 use Prim.Native.Nat.{ℕ, _*_, _<_}
 use mathlib.Core.Path.{_≡_, refl, sym, _∙_, ap}
 use mathlib.Core.Logic.{⊎-elim, _↔_}
@@ -24,14 +24,14 @@ use Rattle.verdict.specs.Named.{cellOf, CellNamed}
 use Rattle.verdict.proofs.VerdictLaws.{pastEight, reaches-of, dented-or-not, TakenFacts, taken-facts, verdict-dented, verdict-taken, dented-of-nine, nine-of-dented, nine-iff-dented, roomy, test-refused, test-short, test-taken, edges-first}
 
 module _ (o : Outline) where
-  -- An outline that reaches the dent test is refused there exactly when some cell is in the hull of its enclosed cells and not enclosed
+  -- An outline that passes refusals 1 to 8 is refused by 9 exactly if a cell is missing
   pub nine-iff-missing : Reaches o → (verdictFields (verdictOf o) .number ≡ 9) ↔ ((x : Point) × Missing (block o) x)
   nine-iff-missing r =
       let nine = nine-iff-dented o in
       let dent = dented-iff-missing o r in
       (λ e. dent .0 (nine .0 e .dented), λ x. nine .1 (record { reaches = r; dented = dent .1 x }))
 
-  -- The cell of the reply: the lowest missing one where a dent is refused, and the anchor where the outline is taken
+  -- The cell in the reply: the lowest missing one if refused by 9, and the anchor if the outline is taken
   pub verdict-named : CellNamed o (verdictFields (verdictOf o))
   unfolding pastEight dentOf dentIn cellFound
   verdict-named = record { anchor = anchor; missing = missing }
@@ -49,7 +49,7 @@ module _ (o : Outline) where
           let d : Dented o = dented-of-nine o e in
           rw (verdict-dented o d) (named-lowest o (d .reaches) (d .dented))
 
-  -- So does the reply of a test: 10 names no cell
+  -- The same for the reply of a test: 10 names no cell
   pub test-named : (m : ℕ) → CellNamed o (testFields o m)
   unfolding testFields
   test-named m = go (verdictOf o) refl
@@ -65,7 +65,7 @@ module _ (o : Outline) where
             | no h ↦ same (test-taken o m n a e (omega arith) ∙ sym e)
           ]
 
-  -- A taken outline's anchor and edges, as they stand in the lent list, answer for its cells
+  -- The anchor and the edges in the buffer of a taken outline decide which cells are enclosed
   pub taken-answers : (buffer : List ℤ) (n : ℕ) (a : Point) → testOf o (length buffer) ≡ Taken n a → (x : Point) → x .col < side → x .row < side
       → insideEdges a (take (2 * n) (edgesAfter o buffer)) x ≡ block o (x .col) (x .row)
   taken-answers buffer n a e x i j =

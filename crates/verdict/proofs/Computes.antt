@@ -1,4 +1,4 @@
--- A name that opens every definition of the test at once, for the proofs that the checker computes: `unfolding computes`.
+-- A name to unfold every definition of the test at once, for the proofs that the checker computes: `unfolding computes`.
 use mathlib.Core.Bool.{Bool, true}
 use Rattle.base.specs.Below
 use Rattle.words.specs.Word

@@ -1,5 +1,5 @@
--- Back-steps are dents too: an outline past 1 to 6 is refused by 8 or 9 exactly if a cell is missing, because a back-step leaves a missing cell, and past 8 so does a
--- dent, and nothing else does.
+-- Back-steps are dents too: an outline that passes 1 to 6 is refused by 8 or 9 exactly if a cell is missing, because a back-step leaves a
+-- missing cell, and without one an outline has a missing cell exactly if it is dented.
 use Prim.Native.Nat.{ℕ, _*_, _≤_, _<_}
 use native.Mathlib.Omega.{arith}
 use native.Mathlib.Decide.{decLt}
@@ -23,18 +23,18 @@ use Rattle.verdict.specs.Dents.{Dented, dentOf}
 use Rattle.verdict.proofs.VerdictLaws.{pastEight, Early, simple-or-early, reaches-or-early, reaches-of, dented-or-not}
 use Rattle.verdict.proofs.VerdictLaws.{verdict-dented, verdict-taken, nine-of-dented, test-refused, test-short, test-taken}
 
--- The number of an answer
+-- The number of a verdict
 abbrev number : Verdict → ℕ
 number v = verdictFields v .number
 
 module _ (o : Outline) where
-  -- An outline that reaches the dent test is answered by 9 or taken
+  -- An outline that passes 1 to 8 is refused by 9 or taken
   not-eight : Reaches o → number (verdictOf o) ≡ 8 → ⊥
   not-eight r e =
       ⊎-elim (λ d. omega (arith, e, nine-of-dented o (record { reaches = r; dented = d })))
       (λ u. omega (arith, e, ap number (verdict-taken o r u))) (dented-or-not (border o))
 
-  -- Every outline that 8 refuses has a cell in the hull of its enclosed cells that is not enclosed (contract 8.5)
+  -- Every outline that 8 refuses has a missing cell (contract 8.5)
   pub eight-missing : number (verdictOf o) ≡ 8 → (x : Point) × Missing (block o) x
   eight-missing e = ⊎-elim stepped (λ s. absurd (omega (arith, e, s .early, ap number (s .answer)))) (simple-or-early o)
     where
@@ -45,7 +45,7 @@ module _ (o : Outline) where
             | no l ↦ absurd (not-eight (record { simple = h; straight = le-ltb (backStepPiece (border o)) 4 (omega arith) }) e)
           ]
 
-  -- An outline past 1 to 6 is taken exactly if no cell is missing
+  -- An outline that passes 1 to 6 is taken exactly if no cell is missing
   pub taken-iff-convex : Simple o → (number (verdictOf o) ≡ 0) ↔ Convex (block o)
   unfolding pastEight
   taken-iff-convex h = (λ e. passes-iff-convex o h .0 (passed e), taken)
@@ -64,7 +64,7 @@ module _ (o : Outline) where
 
   -- ---- the test
 
-  -- With any lent list, 8 says that a cell is missing: room is asked of a taken outline alone
+  -- With any buffer, 8 means that a cell is missing: room is checked only for a taken outline
   pub test-eight-missing : (m : ℕ) → testFields o m .number ≡ 8 → (x : Point) × Missing (block o) x
   unfolding testFields
   test-eight-missing m e = go (verdictOf o) refl
@@ -81,7 +81,7 @@ module _ (o : Outline) where
   abbrev IsTaken : Type 0
   IsTaken = verdictOf o ≡ Taken (edgeCount (border o)) (border o .start)
 
-  -- Whatever the outline, it is taken, or one of 1 to 9 is the answer
+  -- Every outline is taken, or refused by one of 1 to 9
   taken-or-early : IsTaken ⊎ Early 9 (verdictOf o)
   unfolding dentOf dentIn
   taken-or-early =
@@ -96,7 +96,7 @@ module _ (o : Outline) where
           ⊎-elim (λ l. inr (dented (record { reaches = r; dented = l }))) (λ u. inl (verdict-taken o r u)) (dented-or-not (border o))
 
   module _ (m : ℕ) (h : Simple o) where
-    -- The test's number with a list of m numbers: of a taken outline it asks for room alone
+    -- The number of the test with a buffer of m numbers: for a taken outline only room is checked
     with-room : IsTaken → 2 * edgeCount (border o) ≤ m → testFields o m .number ≡ 0
     unfolding testFields
     with-room e room = ap number (test-taken o m (edgeCount (border o)) (border o .start) e room)
@@ -105,7 +105,7 @@ module _ (o : Outline) where
     unfolding testFields
     without-room e l = ap number (test-short o m (edgeCount (border o)) (border o .start) e l)
 
-    -- One of 1 to 9 is said with every list, and only where a cell is missing
+    -- A refusal by 1 to 9 is the same for every buffer, and after 1 to 6 it means that a cell is missing
     early-number : (e : Early 9 (verdictOf o)) → testFields o m .number ≡ refusalFields (e .refusal) .number
     unfolding testFields
     early-number e = ap number (test-refused o m (e .refusal) (e .answer))
@@ -113,7 +113,7 @@ module _ (o : Outline) where
     not-full : Early 9 (verdictOf o) → Convex (block o) → ⊥
     not-full e full = omega (arith, e .some, ap number (e .answer), taken-iff-convex h .1 full)
 
-    -- With any lent list, the number is 0 or 10 exactly if no cell is missing
+    -- With any buffer, the number of an outline that passes 1 to 6 is 0 or 10 exactly if no cell is missing
     pub test-passes-iff-convex : ((testFields o m .number ≡ 0) ⊎ (testFields o m .number ≡ 10)) ↔ Convex (block o)
     test-passes-iff-convex = ⊎-elim taken refused taken-or-early
       where
@@ -132,7 +132,7 @@ module _ (o : Outline) where
           λ full. absurd (not-full e full),
         )
 
-    -- It is 0 exactly if moreover the list has two numbers for each edge
+    -- It is 0 exactly if moreover the buffer has two numbers for each edge
     pub test-taken-iff-convex : (testFields o m .number ≡ 0) ↔ (Convex (block o) × (2 * edgeCount (border o) ≤ m))
     test-taken-iff-convex = ⊎-elim taken refused taken-or-early
       where

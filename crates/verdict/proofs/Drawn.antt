@@ -1,5 +1,5 @@
--- A block gets one verdict from wherever and whichever way it is drawn: 8, 9 and a taking are read off the border, which is the block's own, and only the
--- places off the list as sent.
+-- A block gets the same verdict wherever its outline is started and in whichever direction it is drawn: 8, 9 and "taken" depend on the
+-- border, which the block determines, and only places depend on the list as sent.
 use Prim.Native.Nat.{ℕ}
 use native.Mathlib.Omega.{arith}
 use mathlib.Core.Path.{_≡_, refl, ap}
@@ -20,7 +20,7 @@ use Rattle.convexity.proofs.SameBlock.{same-from-w-iff}
 use Rattle.verdict.specs.Verdict.{backStepIn, dentIn, roundVerdict, borderVerdict, afterSurvey, verdictOf}
 use Rattle.verdict.specs.Drawn.{SameButPlace}
 
--- Only the places come from the list as sent
+-- Only the places depend on the list as sent
 said-alike : (p q : ℕ → ℕ) (t : Outline) → SameButPlace (verdictFields (roundVerdict p t)) (verdictFields (roundVerdict q t))
 unfolding roundVerdict backStepIn dentIn
 said-alike p q t = go (ltb (backStepPiece t) 4) (ltb (dentPiece t) 4)
@@ -34,7 +34,7 @@ said-alike p q t = go (ltb (backStepPiece t) 4) (ltb (dentPiece t) 4)
     go false true = record { number = refl; word = refl; piece = refl; length = refl; col = refl; row = refl; edges = λ z. absurd (omega arith) }
     go false false = record { number = refl; word = refl; piece = refl; length = refl; col = refl; row = refl; edges = λ z. refl }
 
--- Past 1 to 6 the border decides
+-- After 1 to 6 the border decides
 verdict-border : (o : Outline) → Simple o → verdictOf o ≡ roundVerdict (placeSent o) (border o)
 unfolding verdictOf afterSurvey borderVerdict
 verdict-border o h = rw (← survey-passed o h)
@@ -42,11 +42,11 @@ verdict-border o h = rw (← survey-passed o h)
 same-border-verdict : (o v : Outline) → Simple o → Simple v → border o ≡ border v → SameButPlace (verdictFields (verdictOf o)) (verdictFields (verdictOf v))
 same-border-verdict o v h k e = rw (verdict-border o h, verdict-border v k, e) (said-alike (placeSent o) (placeSent v) (border v))
 
--- Outlines past 1 to 6 of the same block get the same reply, places apart
+-- Outlines of the same block that pass 1 to 6 get the same reply, except for places
 pub same-block-verdict : (o v : Outline) → Simple o → Simple v → SameCells o v → SameButPlace (verdictFields (verdictOf o)) (verdictFields (verdictOf v))
 same-block-verdict o v h k same = same-border-verdict o v h k (same-from-w-iff o v h k .0 same)
 
--- So does an outline drawn backward, and taken it has the same anchor and the same edges
+-- So does an outline drawn backward; if taken, it has the same anchor and the same edges
 pub backward-border : (o : Outline) → Simple o → border (reversed o) ≡ border o
 backward-border o h = ap fromW (form-of-backward o h)
 

@@ -1,4 +1,5 @@
--- The specimens; the laws of a verdict, one a branch; what it says of the hull and of the cells, of the same block drawn otherwise, and of a full hull; the published rule.
+-- The specimens; the laws of a verdict, one for each branch; what it says about the hull and the cells, about the same block drawn
+-- differently, and about convex blocks; the published rule.
 pub mod Computes
 pub mod Specimens
 pub mod VerdictLaws

@@ -1,5 +1,5 @@
--- The verdict follows the published rule because a word has one falling factoring, so the computed factors are any factors, and the test for Christoffel words
--- passes exactly those; the first piece and the first factor that fail it are then the ones that 9 names.
+-- The verdict follows the published rule because a word has only one factorisation, so the computed factors are the factors, and the test
+-- for Christoffel words passes exactly those; so the first piece and the first factor that fail it are the ones that 9 names.
 use Prim.Native.Nat.{ℕ, _+_, _<_}
 use native.Mathlib.Numerals.{add-one}
 use native.Mathlib.Omega.{arith}
@@ -41,7 +41,7 @@ no-christoffel w h = not-held (christoffel w) (λ e. h (christoffel-iff w .0 e))
 not-christoffel : (w : Word) → christoffel w ≡ false → ¬ Christoffel w
 not-christoffel w e c = false≢true (sym e ∙ christoffel-iff w .1 c)
 
--- Christoffel words have no dent among them, and without one all are Christoffel words
+-- A list of Christoffel words has no dent, and a list without a dent has only Christoffel words
 dent-none : (fs : List Factor) → AllChristoffel fs → dentLength fs ≡ 0
 unfolding dentLength
 dent-none [] none = refl
@@ -52,7 +52,7 @@ all-christoffel [] d e = none
 all-christoffel (f ∷ fs) d e =
     let r = dent-first f fs (falling-head d) e in more (r .0) (all-christoffel fs (falling-tail d) (r .1))
 
--- A list of factors at its first dent
+-- A list of factors, split at its first dent
 record Split (fs : List Factor) : Type 0 where
   before : List Factor
   dent : Factor
@@ -92,9 +92,9 @@ module _ (f : Factor) (fs : List Factor) (d : ¬ Christoffel (f .word)) where
   dent-at (g ∷ before) (more c h) =
       rw (dentAt, christoffel-iff (g .word) .1 c, length-append, length-copies, dent-at before h)
 
--- ---- the pieces of a turn
+-- ---- the pieces of a border
 
--- Piece k of a turn has a dent
+-- Piece k of a border has a dent
 abbrev dentedAt : Outline → ℕ → Bool
 dentedAt o k = ltb 0 (dentLength (factors o k))
 
@@ -144,7 +144,7 @@ module _ (o : Outline) where
 
     -- ---- refused by 9
 
-    -- The fields of 9 with a dent in piece k
+    -- The fields of 9 for a dent in piece k
     dent-named : (k : ℕ) → dentPiece t ≡ k
         → dentOf o ≡ Dent (k + 1) (placeSent o (pieceCut o k + 1 + dentAt (factors t k))) (dentLength (factors t k)) (cellFound (border o))
     unfolding dentOf dentIn
@@ -212,7 +212,8 @@ module _ (o : Outline) where
               cell = subst (λ (y : Point). LowestMissing (block o) y) cell (cell-lowest d);
             }
 
-    -- An outline that meets none of 1 to 8 is refused by 9, with these fields, exactly if they are those of its first factor that is no Christoffel word
+    -- An outline that meets none of 1 to 8 is refused by 9 with these fields exactly if they
+    -- are those of its first factor that is not a Christoffel word
     pub nine-iff-first-dent : (p i l : ℕ) (x : Point) → (verdictOf o ≡ Refused (Dent p i l x)) ↔ FirstDent o p i l x
     nine-iff-first-dent p i l x = (first-dent-of-nine p i l x, nine-of-first-dent p i l x)
 
@@ -247,7 +248,7 @@ module _ (o : Outline) where
         factors-are 3 (fs 3) (h 3 (omega arith)),
       )
 
-  -- ---- the rule whole
+  -- ---- the whole rule
 
   pub by-the-rule : Reaches o → ByTheRule o
   by-the-rule r =

@@ -1,5 +1,5 @@
--- The rule on two specimens of contract 9, by computation: H6 has its first dent in piece 2, where the word 3300 is one factor and no Christoffel word; in H3 the
--- word of each piece is one factor, its earlier letter and then its later, which is a Christoffel word.
+-- The rule on two specimens of contract 9, by computation. H6 has its first dent in piece 2, where the word 3300 is one factor and not a
+-- Christoffel word. In H3 the word of each piece is one factor, its earlier letter and then its later one, which is a Christoffel word.
 use Prim.Native.Nat.{ℕ, zero, suc, _<_}
 use native.Mathlib.Omega.{arith}
 use mathlib.Core.Path.{refl}
@@ -36,7 +36,7 @@ h6-first-dent = nine-iff-first-dent h6 h6-reaches 2 4 4 (record { col = 1; row =
 abbrev pub h3 : Outline
 h3 = record { start = record { col = 0; row = 1 }; letters = 1 ∷ 0 ∷ 1 ∷ 0 ∷ 3 ∷ 0 ∷ 3 ∷ 2 ∷ 3 ∷ 2 ∷ 1 ∷ 2 ∷ [] }
 
--- Earlier, later
+-- The factor of an earlier letter and then a later one
 abbrev pub slanted : List Factor
 slanted = record { word = false ∷ true ∷ []; times = 1 } ∷ []
 

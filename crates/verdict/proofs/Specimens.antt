@@ -1,4 +1,4 @@
--- The checker computes the test of every row of the table, and one law turns that into what a row says.
+-- The checker computes the test of every row of the table, and one law turns the computed test into the row's statement.
 use mathlib.Core.Path.{_≡_, refl}
 use mathlib.Core.Bool.{true, and-eq-true-iff}
 use mathlib.Core.List.{_++_, List·Memᴰ}
@@ -26,6 +26,6 @@ computed : all right specimens ≡ true
 unfolding all right sameFields sameℤs sameℤ specimens at buffer computes
 computed = refl
 
--- H1 to H12, and the start above 255
+-- H1 to H12, and the other rows
 pub specimens-hold : (h : Specimen) → List·Memᴰ h specimens → Holds h
 specimens-hold h m = right-holds h (all-at right specimens computed h m)

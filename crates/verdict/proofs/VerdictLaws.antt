@@ -1,5 +1,5 @@
--- The first refusal that applies hides every later one, so an answer past number 8 tells that none of 1 to 8 applies, and then the answer is read off
--- the dent and the room.
+-- The first refusal that applies hides all later ones. So an answer other than 1 to 8 means
+-- that none of these applies, and then the dents and the room decide.
 use Prim.Native.Nat.{ℕ, _-_, _*_, _≤_, _<_}
 use native.Mathlib.Omega.{arith}
 use native.Mathlib.Decide.{decLt}
@@ -36,36 +36,36 @@ use Rattle.verdict.specs.Dents.{Dented, dentOf}
 
 -- ---- refusals 1 to 8
 
--- The answer's number is none of 1 to 8
+-- The number of the answer is none of 1 to 8
 unfoldable pub pastEight : Verdict → Bool
 pastEight v = eqb (verdictFields v .number) 0 || ltb 8 (verdictFields v .number)
 
--- A name that opens the numbers
+-- A name to unfold the numbers
 numbers : Bool
 unfolding pastEight
 numbers = true
 
--- One of the refusals up to n is the answer
+-- The answer is one of the refusals up to n
 pub record Early (n : ℕ) (v : Verdict) : Type 0 where
   pub refusal : Refusal
   pub some : 0 < refusalFields refusal .number
   pub early : refusalFields refusal .number ≤ n
   pub answer : v ≡ Refused refusal
 
--- One link of the chain of tests: it gives the answer, or it failed, and the answer is the rest's
+-- One link in the chain of tests: its refusal is the answer, or its test failed and the rest decides
 link : {R : Type 0} {n : ℕ} (b : Bool) (f : Refusal) (v : Verdict) → 0 < refusalFields f .number → refusalFields f .number ≤ n
     → (b ≡ false → R ⊎ Early n v) → R ⊎ Early n (cond b (Refused f) v)
 link true f v s e rest = inr (record { refusal = f; some = s; early = e; answer = refl })
 link false f v s e rest = rest refl
 
--- The same in the survey
+-- The same link in the survey
 survey-link : {R : Type 0} {n : ℕ} (b : Bool) (f : Refusal) (c : Surveyed) (v : Verdict) → 0 < refusalFields f .number → refusalFields f .number ≤ n
     → (b ≡ false → R ⊎ Early n (afterSurvey c v)) → R ⊎ Early n (afterSurvey (cond b (Stopped f) c) v)
 unfolding afterSurvey
 survey-link true f c v s e rest = inr (record { refusal = f; some = s; early = e; answer = refl })
 survey-link false f c v s e rest = rest refl
 
--- A turn has a piece with a dent, or none of its factors is other than a Christoffel word
+-- A border has a piece with a dent, or all its factors are Christoffel words
 pub dented-or-not : (o : Outline) → (dentPiece o < 4) ⊎ (dentPiece o ≡ 4)
 unfolding dentPiece
 dented-or-not o =
@@ -75,7 +75,7 @@ dented-or-not o =
     ]
 
 module _ (o : Outline) where
-  -- The pieces' edges, their count, and the first piece with a dent, all of the border
+  -- The count of edges, and the first piece with a dent, of the border
   abbrev count : ℕ
   count = edgeCount (border o)
 
@@ -107,7 +107,7 @@ module _ (o : Outline) where
           (link (ltb (backStepPiece (border o)) 4) (backStepIn (placeSent o) (border o) (backStepPiece (border o))) _ (lit< tt) (lit≤ tt) λ s.
           inl (record { simple = h; straight = s }))
 
-  -- An answer past number 8 is the answer of an outline to which none of 1 to 8 applies
+  -- If the answer is none of 1 to 8, none of these applies
   pub reaches-of : pastEight (verdictOf o) ≡ true → Reaches o
   unfolding pastEight
   reaches-of h = ⊎-elim (λ r. r) (λ e. absurd (early-not-past e)) reaches-or-early
@@ -119,7 +119,7 @@ module _ (o : Outline) where
           (sym h ∙ ap pastEight (e .answer)
           ∙ rw (ne-eqb n 0 (omega (arith, e .some)), le-ltb 8 n (e .early)))
 
-  -- Past 1 to 8 the dent decides
+  -- After 1 to 8 the dents decide
   verdict-past-eight : Reaches o → verdictOf o ≡ cond (ltb dent 4) (Refused (dentOf o)) (Taken count (border o .start))
   unfolding verdictOf borderVerdict roundVerdict dentOf afterSurvey
   verdict-past-eight r = rw (← survey-passed o (r .simple), r .straight)
@@ -131,7 +131,7 @@ module _ (o : Outline) where
       → verdictOf o ≡ Taken (edgeCount (border o)) (border o .start)
   verdict-taken r u = verdict-past-eight r ∙ rw u
 
-  -- What "taken" tells of an outline
+  -- What "taken" tells about an outline
   pub record TakenFacts (n : ℕ) (a : Point) : Type 0 where
     pub reaches : Reaches o
     pub undented : dentPiece (border o) ≡ 4
@@ -155,14 +155,14 @@ module _ (o : Outline) where
           let same : verdictOf o ≡ Taken (edgeCount (border o)) (border o .start) = verdict-taken reach u in
           record { reaches = reach; undented = u; count = cc; anchor = cc }
 
-  -- The holder has room for the edges of every outline that is taken
+  -- The holder has room for the edges of every taken outline
   pub taken-fits : (n : ℕ) (a : Point) → verdictOf o ≡ Taken n a → 2 * n ≤ mostNumbers
   taken-fits n a e =
       let f : TakenFacts n a = taken-facts n a e in
       let fit = edges-fit o (f .reaches) (f .undented) in
       omega (arith, f .count)
 
-  -- Number 9 is the answer exactly for a dented outline
+  -- The answer is 9 exactly if the outline is dented
   pub dented-of-nine : verdictFields (verdictOf o) .number ≡ 9 → Dented o
   unfolding numbers
   dented-of-nine nine = ⊎-elim (λ h. record { reaches = reach; dented = h }) undented (dented-or-not (border o))
@@ -195,7 +195,7 @@ module _ (o : Outline) where
   unfolding testOf withRoom
   test-taken m n a e h = rw (e, le-ltb m (2 * n) h)
 
-  -- A test that takes an outline, or names a dent, says what is said of the outline without regard to room
+  -- If a test takes an outline or names a dent, so does the verdict; a taken outline has room
   pub record Roomy (m n : ℕ) (a : Point) : Type 0 where
     pub said : verdictOf o ≡ Taken n a
     pub room : 2 * n ≤ m
@@ -215,7 +215,7 @@ module _ (o : Outline) where
                 record { said = cc; room = omega arith }
           ]
 
-  -- ---- the lent list afterwards
+  -- ---- the buffer afterwards
 
   pub edges-after : (buffer : List ℤ) (n : ℕ) (a : Point) → testOf o (length buffer) ≡ Taken n a →
       edgesAfter o buffer ≡ edges (border o) ++ drop (length (edges (border o))) buffer
