@@ -1,5 +1,4 @@
--- Integers as differences of naturals: sums, products and order of integers follow from
--- those of the two naturals, where the goals are linear in products.
+-- Integers as differences of naturals: sums, products and order of integers become statements about naturals that are linear in products.
 use Prim.Native.Nat.{ℕ, zero, suc, _+_, _-_, _*_, _≤_}
 use native.Mathlib.Omega.{arith}
 use mathlib.Core.Path.{_≡_, refl, ap}

@@ -1,7 +1,8 @@
--- A walk that leaves W upward and has a back-step has a missing cell, so refusal 8 never refuses a convex block. If an opposite letter
--- stands between a lowest and a highest corner, the forward letter crosses its line twice. So without a missing cell all lefts stand
--- between E and W, all rights between W and E, all ups between S and N and all downs between N and S; and W, N, E and S come in this
--- order.
+-- A walk that leaves W upward and has a back-step has a missing cell, because it crosses
+-- some line twice in one direction, or back on the wrong side.
+-- If an opposite letter stands between a lowest and a highest corner, the forward letter crosses its line twice. So without a missing
+-- cell all lefts stand between E and W, all rights between W and E, all ups between S and N and all downs between N and S; and W, N, E
+-- and S come in this order.
 use Prim.Native.Nat.{ℕ, zero, suc, _+_, _-_, _≤_, _<_}
 use native.Mathlib.Nat.{add-zero, add-suc}
 use native.Mathlib.Decide.{decLt, ℕ-discrete}

@@ -1,5 +1,5 @@
--- A walk backward has the same corners from last to first, so refusals 1 to 6 and W are the same. The letter that leaves W backward is
--- the opposite of the one that arrived there, so an anticlockwise outline is clockwise backward; and ups become downs.
+-- An anticlockwise outline is clockwise backward, since the letter that leaves W backward is the opposite of the one that arrived there.
+-- A walk backward has the same corners from last to first, so refusals 1 to 6 and W are the same; and ups become downs.
 use Prim.Native.Nat.{ℕ, zero, suc, _+_, _-_, _≤_, _<_}
 use native.Mathlib.Decide.{decLt}
 use native.Mathlib.Numerals.{add-one}

@@ -1,6 +1,7 @@
--- W, N, E and S are the corners that the contract describes. The first corner of a frame is least along the frame's earlier letter, and
--- then along its later one; in columns and rows this is left and low, high and left, right and high, low and right. Two such corners
--- agree in both coordinates, so they are equal, and a walk that meets no corner twice leaves it once.
+-- W, N, E and S are the corners of contract 3.1, since the order of each frame says in columns and rows what the contract says in words.
+-- The first corner of a frame is least along the frame's earlier letter, and then along its later one: left and low, high and left, right
+-- and high, low and right. Two such corners agree in both coordinates, so they are equal, and a walk that meets no corner twice leaves it
+-- once.
 use Prim.Native.Nat.{ℕ, _≤_, _<_}
 use native.Mathlib.Omega.{arith}
 use mathlib.Core.Path.{_≡_, refl, _∙_}

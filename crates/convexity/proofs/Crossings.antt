@@ -1,6 +1,7 @@
--- Each line across the block is left at exactly one place by the letter that leads across it. Only two neighbouring pieces have that
--- letter: it is the earlier letter of the first and the later letter of the second. The first piece leads up to the line where the second
--- starts, and the second leads on. The cells of the line to the right of that place are those under the paths of both pieces.
+-- Each line across the block is left at exactly one place by the letter that leads
+-- across it, since only two neighbouring pieces have that letter.
+-- It is the earlier letter of the first and the later letter of the second. The first piece leads up to the line where the second starts,
+-- and the second leads on. The cells of the line to the right of that place are those under the paths of both pieces.
 use Prim.Native.Nat.{ℕ, suc, _+_, _-_, _≤_, _<_}
 use native.Mathlib.Nat.{lt-of-not-le}
 use native.Mathlib.Decide.{decLe, decLt}

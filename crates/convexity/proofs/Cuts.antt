@@ -1,6 +1,7 @@
--- The cut places of any walk from W. While W, N, E and S come in this order, the cut places are their places and the pieces are parts of
--- the walk, because each piece then leads on to the next corner and the last one back to W. Each of these corners is first in the order
--- of its own frame, and the same two letters cannot meet at a corner that is first in two frames.
+-- While W, N, E and S come in this order, the cut places are their places, because each
+-- piece leads on to the next corner and the last one back to W.
+-- The pieces are then parts of the walk. Each of these corners is first in the order of its own frame, and the same two letters cannot
+-- meet at a corner that is first in two frames.
 use Prim.Native.Nat.{ℕ, zero, suc, _+_, _-_, _≤_, _<_}
 use native.Mathlib.Decide.{decLt}
 use native.Mathlib.Omega.{arith}

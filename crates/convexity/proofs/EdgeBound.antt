@@ -1,6 +1,7 @@
--- 612 letters give at most 100 edges: slopes of a piece decrease strictly, so no two of its factors have copies with the same counts, and
--- few short copies have coprime counts. The weight of a copy is what its length lacks to 9. The weights of a piece's copies sum to at
--- most 75.
+-- 612 letters give at most 100 edges, since no two factors of a piece have copies with
+-- the same counts, and few short copies have coprime counts.
+-- Slopes of a piece decrease strictly, so the counts differ. The weight of a copy is what its
+-- length lacks to 9. The weights of a piece's copies sum to at most 75.
 use Prim.Native.Nat.{ℕ, zero, suc, _+_, _-_, _*_, _≤_, _<_}
 use native.Mathlib.Nat.{mul-zero, eq-or-lt-of-le, mul-le-mul-right}
 use native.Mathlib.Omega.{arith}

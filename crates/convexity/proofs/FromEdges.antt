@@ -1,6 +1,6 @@
--- The edges of an outline determine its border. Without a dent each factor with its repeats is the word of its run and its rise, so the
--- runs and rises of its edges determine a piece; and an edge lies only in its own piece's quadrant, so the flat list tells to which piece
--- each edge belongs.
+-- The edges of an outline determine its border, since each edge has one Christoffel word and lies in its own piece's quadrant only.
+-- Without a dent each factor with its repeats is the word of its run and its rise. The
+-- quadrants tell to which piece each edge of the flat list belongs.
 use Prim.Native.Nat.{ℕ, zero, suc, _+_, _<_}
 use native.Mathlib.Omega.{arith}
 use mathlib.Core.Path.{_≡_, refl, sym, ap, _∙_}

@@ -70,7 +70,7 @@ spans (suc zero) x es v w = leZ (pos (x .row)) (highestMet (rowSteps es) w)
 spans (suc (suc zero)) x es v w = leZ (pos (x .col)) (highestMet (colSteps es) v)
 spans (suc (suc (suc k))) x es v w = leZ (lowestMet (rowSteps es) w) (pos (x .row))
 
--- A property that each further edge extends by one vertex holds if it holds at some vertex
+-- If Q of a list holds exactly if Q holds at the first vertex or for the rest, then Q holds exactly if it holds at some vertex
 meets-iff :
     (Q : List ℤ → ℤ → ℤ → Type 0) → ((d v w : ℤ) → Q (d ∷ []) v w ↔ Q [] v w)
     → ((d e : ℤ) (es : List ℤ) (v w : ℤ) → Q (d ∷ e ∷ es) v w ↔ (Q [] v w ⊎ Q es (v +ℤ d) (w +ℤ e)))

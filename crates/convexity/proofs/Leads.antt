@@ -1,5 +1,4 @@
--- Read cyclically, a closed walk meets its corners again in the same order. Each cut place is as far from the one before it as its corner
--- is, so it is where that corner is met next.
+-- Each cut place is where its corner is met next, because a closed walk, read cyclically, meets its corners again in the same order.
 use Prim.Native.Nat.{ℕ, zero, suc, _+_, _-_, _≤_, _<_}
 use native.Mathlib.Decide.{decLe, decLt}
 use native.Mathlib.Omega.{arith}

@@ -1,6 +1,6 @@
--- A cell is enclosed exactly if its level, ups minus downs, is 1. In a walk that leaves W upward, the cell to the right of every letter
--- has level 1 and the cell to its left has level 0. So the cell at W is enclosed; and since no corner lies left of W or below it in its
--- column, no cell there is.
+-- A cell is enclosed exactly if its level, ups minus downs, is 1, and in a walk that leaves
+-- W upward the level is 1 right of each letter and 0 left of it.
+-- So the cell at W is enclosed; and since no corner lies left of W or below it in its column, no cell there is.
 use Prim.Native.Nat.{ℕ, suc, _+_, _<_, _≤_}
 use native.Mathlib.Omega.{arith}
 use mathlib.Core.Path.{_≡_, refl, subst}

@@ -1,6 +1,6 @@
--- If no cell is missing, the enclosed cells of a line form one interval. The cell to the right of a letter is enclosed and the cell to
--- its left is not. So the crossing letter leaves a line once, and its opposite stands at the far end of the interval. Each law names the
--- cell that is missing if it fails.
+-- If no cell is missing, the enclosed cells of a line form one interval, since a cell between two enclosed cells lies in the hull.
+-- The cell to the right of a letter is enclosed and the cell to its left is not. So the crossing letter leaves a line once, and its
+-- opposite stands at the far end of the interval. Each law names the cell that is missing if it fails.
 use Prim.Native.Nat.{ℕ, zero, suc, _+_, _-_, _*_, _≤_, _<_}
 use native.Mathlib.Decide.{decLt}
 use native.Mathlib.Omega.{arith}

@@ -1,5 +1,5 @@
--- The place of a border's letter in the list as sent. The border starts at W, so its letter i is i places after W's, modulo the count;
--- and read backward, letters are counted from the other end and are opposite.
+-- Letter i of the border is i places after W's in the clockwise form, modulo the count;
+-- if that is read backward, places count from the other end.
 use Prim.Native.Nat.{ℕ, _+_, _-_, _≤_, _<_, _%_}
 use native.Mathlib.Nat.{mod-eq-of-lt, add-mod-left, add-mod-mod}
 use native.Mathlib.Omega.{arith}

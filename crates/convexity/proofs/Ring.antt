@@ -1,6 +1,6 @@
--- The four frames form a cycle: each is the one before it turned by a quarter. Its later letter is the earlier letter of the frame
--- before, and its earlier letter is the opposite of the later letter of the frame before. So one law about a piece and the next covers
--- all four.
+-- The four frames form a cycle, each the one before it turned by a quarter, so one law about a piece and the next covers all four.
+-- The later letter of a frame is the earlier letter of the frame before, and its
+-- earlier letter is the opposite of that frame's later letter.
 use Prim.Native.Nat.{ℕ, zero, suc, _+_, _-_, _<_}
 use native.Mathlib.Omega.{arith}
 use mathlib.Core.Path.{_≡_, refl, sym, ap, _∙_}

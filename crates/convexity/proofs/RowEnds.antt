@@ -1,6 +1,6 @@
--- Each row between the lowest corner and the highest is left by one up and by one down. The cells to the right of the up are those under
--- the paths of the two pieces with ups, and the cells to the left of the down those under the paths of the two pieces with downs. So a
--- cell is enclosed exactly if it is under all four.
+-- A cell is enclosed exactly if it is under the paths of all four pieces, since each row between S and N is left by one up and one down.
+-- The cells to the right of the up are those under the paths of the two pieces with ups, and the cells to the left of the down those
+-- under the paths of the two pieces with downs.
 use Prim.Native.Nat.{ℕ, zero, suc, _+_, _-_, _≤_, _<_}
 use native.Mathlib.Omega.{arith}
 use mathlib.Core.Path.{_≡_, refl, _∙_}

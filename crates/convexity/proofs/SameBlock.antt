@@ -1,5 +1,5 @@
--- The cells determine the border: two outlines that enclose the same cells have the same W and the same letters from W. A side is walked
--- exactly where the level changes, so each letter of one outline leaves the same corner in the other, and each corner is left only once.
+-- The cells determine the border, because a side is walked exactly where the level changes, and each corner is left only once.
+-- So two outlines that enclose the same cells have the same W and the same letters from W.
 use Prim.Native.Nat.{ℕ, zero, suc, _+_, _-_, _≤_, _<_}
 use native.Mathlib.Decide.{decLt}
 use native.Mathlib.Omega.{arith}

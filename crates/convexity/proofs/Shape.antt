@@ -1,5 +1,6 @@
--- Without back-steps the cut places increase: a piece that went beyond the end of the walk would contain a letter next to W that goes
--- back in its frame. So the border is four words, and each starts where the one before it ends, in a frame turned by a quarter.
+-- Without back-steps the cut places increase: a piece that went beyond the end of the walk
+-- would contain a letter next to W that goes back in its frame.
+-- So the border is four words, and each starts where the one before it ends, in a frame turned by a quarter.
 use Prim.Native.Nat.{ℕ, zero, suc, _+_, _-_, _≤_, _<_}
 use native.Mathlib.Nat.{add-zero, add-suc}
 use native.Mathlib.Numerals.{one-add}

@@ -1,5 +1,5 @@
--- The checker computes W, the first dented piece, the edges and their rule on specimens H1, H2, H4, H5 and H6 and on an outline with the
--- factor 001101. The table of the whole test is in verdict/specs/Specimens.
+-- The checker computes W, the first dented piece and the edges of H1, H2, H4, H5 and H6 and of an outline with the factor 001101.
+-- The table of the whole test is in verdict/specs/Specimens.
 use Prim.Native.Nat.{ℕ}
 use mathlib.Core.Path.{_≡_, refl}
 use mathlib.Core.Bool.{Bool, true, false}

@@ -1,6 +1,7 @@
--- The convexity theorem. Enclosed means under four paths, inside means on the right side of four lists of edges, and without a dent the
--- two agree in each frame (E1). A mean of cells keeps every side, so without a dent no cell is missing; with one, a point above a path is
--- missing (E2). The ends of the rows then give the lowest missing cell (E3).
+-- The convexity theorem: without a dent, under the four paths and on the right side of
+-- all edges are the same, and a mean of cells keeps every side.
+-- E1: enclosed means under the four paths, inside means on the right side of all edges, and without a dent the two agree in each frame.
+-- E2: so without a dent no cell is missing; with one, a point above a path is. E3: the ends of the rows give the lowest missing cell.
 use Prim.Native.Nat.{ℕ, zero, suc, _+_, _-_, _*_, _≤_, _<_, suc-le-suc}
 use native.Mathlib.Omega.{arith}
 use native.Mathlib.Decide.{decLt}

@@ -1,6 +1,6 @@
--- Every corner cell is on the inner side of every edge. For one edge, the side values of the corner cells first increase and then
--- decrease, along the edges after it and along those before it. They are 0 at the edge, and at least 0 at the anchor, where the walk
--- starts and ends.
+-- Every corner cell is on the inner side of every edge, since along the walk the side values of one edge increase and then decrease.
+-- They do so along the edges after it and along those before it. They are 0 at the edge,
+-- and at least 0 at the anchor, where the walk starts and ends.
 use Prim.Native.Nat.{_+_, _≤_, _<_}
 use native.Mathlib.Decide.{decLe}
 use native.Mathlib.Omega.{arith}

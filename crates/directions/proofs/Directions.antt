@@ -1,5 +1,6 @@
--- The order of directions, clockwise from up. A direction is forward (from up to just short of down) or backward. Among forward ones the
--- sign of the cross product gives the order and is transitive; a backward direction is the opposite of a forward one.
+-- The order of directions is transitive: among those from up to just short of down the
+-- cross product's sign decides, and the others are their opposites.
+-- A direction is forward (from up, included, to down, excluded) or backward.
 use Prim.Native.Nat.{ℕ, zero, suc, _+_, _*_, _≤_, _<_}
 use native.Mathlib.Nat.{mul-le-mul-right, mul-lt-mul-of-pos-right, lt-of-mul-lt-mul-left}
 use native.Mathlib.Omega.{arith}

@@ -1,5 +1,6 @@
--- A cell inside lies in the hull of the corner cells. With three or more edges: follow the fan of triangles from the anchor. The first
--- corner cell that has the cell on its other side closes the triangle that contains the cell.
+-- A cell inside lies in the hull of the corner cells, because one triangle of the fan from the anchor contains it.
+-- With three or more edges, follow the fan. The first corner cell that has the cell on
+-- its other side closes the triangle that contains the cell.
 use native.Mathlib.Decide.{decLe}
 use native.Mathlib.Omega.{arith}
 use mathlib.Core.Path.{_≡_, refl}

@@ -1,5 +1,4 @@
--- Weighted means of three integers. A mean of corner cells is inside: its side values are
--- means of side values, and means respect bounds of columns and rows.
+-- A mean of corner cells is inside, since its side values are means of side values, and means respect the bounds of columns and rows.
 use Prim.Native.Nat.{ℕ, _+_, _*_, _<_}
 use native.Mathlib.Nat.{mul-le-mul-right, le-of-mul-le-mul-right}
 use native.Mathlib.Omega.{arith}

@@ -1,5 +1,6 @@
--- A list passes refusal 16 exactly if each direction comes before all later ones and the walk ends where it started, since the order is
--- transitive. Then the rule of the edges, edge by edge.
+-- A list passes refusal 16 exactly if each direction comes before all later ones and the
+-- walk ends where it started, since the order is transitive.
+-- Then the rule of the edges, edge by edge.
 use Prim.Native.Nat.{zero, suc}
 use native.Mathlib.Omega.{arith}
 use mathlib.Core.Path.{_≡_, refl, ap}

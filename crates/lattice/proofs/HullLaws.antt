@@ -1,6 +1,6 @@
--- Laws of the hull of any set of cells. A cell of the set is in the hull, as a triangle that is one point. Equal sets have the same hull
--- and the same missing cells. Only one missing cell is the lowest. Then the simplest outlines: the border of one cell encloses that cell,
--- and anticlockwise it encloses nothing.
+-- A cell of a set is in the set's hull, as a triangle that is one point; equal sets
+-- have equal hulls; only one missing cell is the lowest.
+-- Then the simplest outlines: the border of one cell encloses that cell, and anticlockwise it encloses nothing.
 use Prim.Native.Nat.{ℕ}
 use native.Mathlib.Omega.{arith}
 use mathlib.Core.Path.{_≡_, refl, sym, _∙_}

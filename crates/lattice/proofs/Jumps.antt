@@ -1,6 +1,8 @@
--- How ups minus downs changes from a cell to its neighbour. Across a vertical side it changes by definition. Across a horizontal side it
--- changes because a closed walk enters the corners {column up to x, row R} as often as it leaves them. Each side is used at most once
--- because the corners are distinct. The pair (C, R) stands for the cell (C - 1, R - 1), so C = 0 or R = 0 is off the chart.
+-- Ups minus downs changes by one across a side that the walk uses, and not across others,
+-- since a closed walk leaves a set of corners as often as it enters it.
+-- Across a vertical side this holds by definition, across a horizontal one by the corners {column up to x, row R}. Each side is used at
+-- most once because the corners are distinct.
+-- The pair (C, R) stands for the cell (C - 1, R - 1), so C = 0 or R = 0 is off the chart.
 use Prim.Native.Nat.{ℕ, zero, suc, _+_, _-_, _≤_, _<_}
 use mathlib.Core.Path.{_≡_, refl, sym, ap, _∙_, subst}
 use mathlib.Core.Bool.{Bool, true, false, _&&_}

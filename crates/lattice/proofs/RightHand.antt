@@ -1,6 +1,7 @@
--- All cells to the right of a walk that passes refusals 1 to 6 have the same ups minus downs: at each corner the cells right of the
--- letter in and of the letter out are the same, or are joined across sides that no letter uses. To the left of a letter the number is one
--- less, and left of the lowest corner of the first column it is 0.
+-- All cells to the right of a walk have the same ups minus downs, since at each corner they
+-- are the same cell or joined across sides that no letter uses.
+-- The walk passes refusals 1 to 6. To the left of a letter the number is one less,
+-- and left of the lowest corner of the first column it is 0.
 use Prim.Native.Nat.{ℕ, zero, suc, _+_, _-_, _%_, _≤_, _<_}
 use mathlib.Core.Path.{_≡_, refl, sym, ap, _∙_, subst}
 use mathlib.Core.Bool.{Bool, false}

@@ -1,4 +1,4 @@
--- A loose query gives the first refusal that applies, and otherwise inside or outside. Each case is a clause of the definition.
+-- A loose query gives the first refusal that applies, and otherwise inside or outside, as the clauses of the definition do.
 use Prim.Native.Nat.{_≤_, _<_, _%_}
 use mathlib.Core.Path.{_≡_}
 use mathlib.Core.Bool.{true, false, cond}

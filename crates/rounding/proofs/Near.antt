@@ -1,5 +1,5 @@
--- The result of an operation lies near the exact value, since rounding moves that value by at
--- most half a unit in the last digit kept. Here over the integers.
+-- Over the integers, an operation's result lies near the exact value, since rounding
+-- moves it by at most half a unit in the last digit kept.
 use Prim.Native.Nat.{ℕ, suc, _+_, _*_, _^_, _≤_, _<_}
 use native.Mathlib.Nat.{two-pow-succ}
 use native.Mathlib.Omega.{arith}

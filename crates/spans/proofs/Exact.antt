@@ -1,5 +1,6 @@
--- The table is exact: along each row the border has one up and, right of it, one down, or neither. The outline as sent runs along the
--- same sides in either direction, so its two columns are the same, and the cells between them are the enclosed ones.
+-- The table is exact, since along each row the border has one up and, right of it, one
+-- down, or neither, and the enclosed cells are those between.
+-- The outline as sent runs along the same sides in either direction, so its two columns are the same.
 use Prim.Native.Nat.{ℕ, _-_, _≤_, _<_}
 use native.Mathlib.Decide.{decLe, decLt}
 use native.Mathlib.Omega.{arith}

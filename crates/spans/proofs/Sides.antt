@@ -1,5 +1,6 @@
--- If the sides of one kind along a row, counted up to a column, are one from column m on, the side that the code keeps is at m, since a
--- second one would be counted. If none is counted, none is kept.
+-- If the sides of one kind along a row are counted once, from column m on, the side that
+-- the code keeps is at m, since a second one would be counted.
+-- If none is counted, none is kept.
 use Prim.Native.Nat.{ℕ, _+_, _≤_}
 use native.Mathlib.Omega.{arith}
 use mathlib.Core.Path.{_≡_, refl, sym, ap, _∙_}

@@ -1,6 +1,7 @@
--- A cell between two points of its row, each on a chord between two corner cells, is inside. An edge that does not go down has both ends
--- of the left chord on its inner side, so also the chord's point and what is right of it. For an edge that goes down the same holds with
--- the right chord.
+-- A cell between two points of its row, each on a chord between corner cells, is inside,
+-- since each edge has both ends of one chord on its inner side.
+-- An edge that does not go down also has the left chord's point, and what is right of it, on its inner side. For an edge that goes down
+-- the same holds with the right chord.
 use Prim.Native.Nat.{ℕ, _+_, _*_, _≤_, _<_}
 use native.Mathlib.Nat.{mul-le-mul-left}
 use native.Mathlib.Decide.{decLe}

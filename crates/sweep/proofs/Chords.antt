@@ -1,5 +1,5 @@
--- If two points pass a linear test, so does their mean, and so does a point beside it on the
--- side where the test grows. A side value is such a test of cells.
+-- If two points pass a linear test, so does their mean, and so does a point beside it on the side where the test grows.
+-- A side value is such a test of cells.
 use Prim.Native.Nat.{ℕ, _+_, _-_, _*_, _≤_, _<_}
 use native.Mathlib.Nat.{mul-add, add-mul, mul-suc, suc-mul, mul-assoc, mul-comm, mul-left-comm, mul-le-mul-left, le-of-mul-le-mul-left}
 use native.Mathlib.Omega.{arith}

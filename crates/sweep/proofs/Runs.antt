@@ -1,6 +1,6 @@
--- The interval of a row has exactly the inside cells. Its first column and its end come from points on chords, and the cells between
--- these are inside. Every row that the edges reach has an edge that goes up through it and one that goes down, or all corner cells are in
--- that row.
+-- The interval of a row has exactly the inside cells, since its first column and its end
+-- come from points on chords, and the cells between are inside.
+-- Every row that the edges reach has an edge that goes up through it and one that goes down, or all corner cells are in that row.
 use Prim.Native.Nat.{ℕ, zero, suc, _+_, _-_, _*_, _≤_, _<_}
 use native.Mathlib.Nat.{le-of-mul-le-mul-left}
 use native.Mathlib.Decide.{decLt}

@@ -1,5 +1,5 @@
--- Two polygons compared by intervals: a hull lies within another exactly if in each row its interval lies within the other's, and they
--- have a common cell exactly if two intervals of a row have a common column. So these tests decide the answer.
+-- Intervals decide how two polygons lie, since a row of a hull is an interval: within is
+-- within in each row, and a common cell is a common column of a row.
 use Prim.Native.Nat.{ℕ, _<_, _-_, min, max}
 use native.Mathlib.Decide.{decLe}
 use native.Mathlib.Omega.{arith}

@@ -1,5 +1,6 @@
--- The rule on two specimens of contract 9, by computation. H6 has its first dent in piece 2, where the word 3300 is one factor and not a
--- Christoffel word. In H3 the word of each piece is one factor, its earlier letter and then its later one, which is a Christoffel word.
+-- The rule holds on two specimens of contract 9 by computation.
+-- H6 has its first dent in piece 2, where the word 3300 is one factor and not a Christoffel word. In H3 the word of each piece is one
+-- factor, its earlier letter and then its later one, which is a Christoffel word.
 use Prim.Native.Nat.{ℕ, zero, suc, _<_}
 use native.Mathlib.Omega.{arith}
 use mathlib.Core.Path.{refl}

@@ -1,5 +1,5 @@
--- The first refusal that applies hides all later ones. So an answer other than 1 to 8 means
--- that none of these applies, and then the dents and the room decide.
+-- The first refusal that applies hides all later ones, so if the answer is none of 1 to
+-- 8, none of these applies, and the dents and the room decide.
 use Prim.Native.Nat.{ℕ, _-_, _*_, _≤_, _<_}
 use native.Mathlib.Omega.{arith}
 use native.Mathlib.Decide.{decLt}

@@ -1,5 +1,6 @@
--- The dent criterion: a Lyndon word of two or more letters is a Christoffel word exactly if none of its earlier letters leaves a point
--- whose upper neighbour is on or under the chord. Both sides say that prefixes are counted by floors.
+-- A Lyndon word is a Christoffel word exactly if no point straight above its path is on
+-- or under the chord: both say that floors count its prefixes.
+-- The word has two or more letters. Only points that an earlier letter leaves are tested. This is the dent criterion.
 use Prim.Native.Nat.{_<_}
 use native.Mathlib.Nat.{not-suc-le-zero}
 use native.Mathlib.Omega.{arith}

@@ -1,5 +1,7 @@
--- Duval's search has read copies of a Lyndon word p and a proper prefix q of it. A larger letter makes everything one longer Lyndon word,
--- an equal one keeps this form, and a smaller one or the end determines the factor.
+-- Duval's search keeps copies of a Lyndon word p and a proper prefix q of it, because
+-- each next letter extends them, joins them or ends them.
+-- A larger letter makes everything one longer Lyndon word, an equal one keeps this
+-- form, and a smaller one or the end determines the factor.
 use Prim.Native.Nat.{ℕ, zero, suc, _+_, _<_}
 use native.Mathlib.Omega.{arith}
 use native.Mathlib.Nat.{zero-add, suc-add}

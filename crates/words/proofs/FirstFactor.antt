@@ -1,5 +1,6 @@
--- Duval's search, letter by letter: the letters read are always copies of a Lyndon word and a proper prefix of it, and at the stop these
--- copies are the first factor. The first j - i letters are one copy, so their later letters are counted for it.
+-- The letters read are always copies of a Lyndon word and a proper prefix of it, so
+-- where the search stops the copies are the first factor.
+-- The first j - i letters are one copy, so their later letters are counted for it.
 use Prim.Native.Nat.{ℕ, zero, suc, _+_, _-_, _*_, _/_, _≤_, _<_}
 use native.Mathlib.Nat.{div-eq-of-lt-le}
 use native.Mathlib.Omega.{arith}

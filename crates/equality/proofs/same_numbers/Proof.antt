@@ -1,4 +1,4 @@
--- The invariant: the lists are equal exactly if their rests from `i` on are. Each iteration takes one number off both rests.
+-- The invariant is that the lists are equal exactly if their rests from `i` on are; each iteration takes one number off both rests.
 use Prim.Native.Nat.{_≤_, _-_}
 use native.Mathlib.Omega.{arith}
 use mathlib.Core.Path.{_≡_, refl, sym, _∙_}

@@ -1,4 +1,4 @@
--- The invariant: every row done has its two columns. At the end the lists agree with the definition at each index.
+-- The invariant is that every row done has its two columns, so at the end the lists agree with the definition at each index.
 use Prim.Native.Nat.{ℕ, _-_, _<_, _≤_}
 use native.Mathlib.Omega.{arith}
 use mathlib.Core.Path.{_≡_}
