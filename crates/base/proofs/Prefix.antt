@@ -1,4 +1,4 @@
--- The first n members of a list that has at least n are exactly n, since the smaller of n and the list's length is n.
+-- The first min(n, m) members of a list of m members are that many, since the minimum is at most m.
 use Prim.Native.Nat.{ℕ, min}
 use native.Mathlib.Omega.{arith}
 use mathlib.Core.Path.{_≡_, sym}

@@ -187,8 +187,8 @@ module _ (o : Outline) (h : WalkFromW o) (up : letterAt o 0 ≡ 1) where
 
   -- ---- where each letter can stand
 
-  -- The later letter of a frame leads from the first corner of the piece before to that of
-  -- the piece after, so its opposite does not stand between them
+  -- The later letter of a frame leads from the first corner of the piece before to that of the piece after, so if its opposite stands
+  -- between them, a cell is missing
   no-back : (k : ℕ) → k < 4 → (j : ℕ) → j ≤ size o → far (next k) (place (next (next k))) ≤ far (next k) j → (m : ℕ) → place k ≤ m → m < j
       → letterAt o m ≡ opposite (frameOf (next k) .later) → SomeMissing o
   no-back k l j n g m a b e =
@@ -299,7 +299,7 @@ module _ (o : Outline) (h : WalkFromW o) (up : letterAt o 0 ≡ 1) where
     fits : (k : ℕ) → k < 4 → cut o (suc k) ≤ size o
     fits = cuts-fit o cuts rise (place-lt 3 (omega arith))
 
-    -- Neither of the other two letters stands in a piece
+    -- If one of the other two letters stands in a piece, a cell is missing
     own-letters : (k : ℕ) → k < 4 → (i : ℕ) → cut o k ≤ i → i < cut o (suc k)
         → (letterAt o i ≡ opposite (frameOf k .earlier)) ⊎ (letterAt o i ≡ opposite (frameOf k .later)) → SomeMissing o
     unfolding frameOf

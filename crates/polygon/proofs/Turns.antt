@@ -47,7 +47,7 @@ bad-turns-from : (es : List ℤ) → badDirections es ≡ not (turnsFrom es (pos
 unfolding badDirections sumsToZero
 bad-turns-from es = not-all (someZero es) (sumsToZero es) (rising es) ∙ sym (ap not (turns-from-is es (pos 0) (pos 0)) ∙ simp +ℤ-idl)
 
--- ---- two edges in a row
+-- ---- two consecutive edges
 
 precedes-than-none : (dx dy : ℤ) (es : List ℤ) → length es < 2 → precedesFirst dx dy es ≡ true
 unfolding precedesFirst

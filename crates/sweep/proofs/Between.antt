@@ -66,7 +66,7 @@ NotLeft k c = k .m * k .x + k .t * k .u ≤ (k .m + k .t) * c
 abbrev pub NotRight : {p : Polygon} {r : ℕ} → Chord p r → ℕ → Type 0
 NotRight k c = (k .m + k .t) * c ≤ k .m * k .x + k .t * k .u
 
--- A mean is at least the smaller number and at most the larger
+-- If a mean is at most c, so is one of the numbers; the same for at least c
 not-above : (m t x u c : ℕ) → 0 < m + t → m * x + t * u ≤ (m + t) * c → (x ≤ c) ⊎ (u ≤ c)
 not-above m t x u c some l =
     elim (decLe x c) [

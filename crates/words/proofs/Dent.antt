@@ -25,8 +25,8 @@ pub record Above (w : Word) : Type 0 where
 abbrev pub ByDiff : Word → Type 0
 ByDiff w = (u v : Word) → w ≡ u ++ v → 0 < length u → 0 < length v → Differs w v
 
--- If no point above the path is under the chord: a prefix on or over the chord that is followed by x and a later letter, as a suffix of
--- the word is, ends strictly over the chord
+-- If no point above the path is under the chord: let u end on or over the chord, and let the word start with x and an earlier letter.
+-- Then u, x and a later letter together end strictly over the chord
 higher : (w : Word) → (Above w → ⊥) → (u x y : Word) → w ≡ x ++ false ∷ y → earliers u * laters w ≤ laters u * earliers w
     → earliers (u ++ (x ++ true ∷ [])) * laters w < laters (u ++ (x ++ true ∷ [])) * earliers w
 unfolding earliers laters

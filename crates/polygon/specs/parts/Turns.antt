@@ -1,4 +1,4 @@
--- Two edges in a row, as the loop of refusal 16 checks them.
+-- Two consecutive edges, as the loop of refusal 16 checks them.
 use mathlib.Core.Bool.{Bool, true, not, _&&_}
 use mathlib.Core.List.{List, [], _∷_}
 use lib.IntN.{ℤ}
