@@ -1,5 +1,5 @@
 -- For edges that pass refusal 16, a cell is inside exactly if it lies in the hull of the corner
--- cells: one direction by means, the other by the fan of triangles.
+-- cells: means give one direction, and the fan of triangles or a segment the other.
 use mathlib.Core.Path.{_≡_}
 use mathlib.Core.Logic.{_↔_}
 use mathlib.Core.Bool.{true, false, _&&_, and-eq-true-iff}

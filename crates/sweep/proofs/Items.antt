@@ -1,5 +1,5 @@
 -- The least first column in a row comes from a corner cell or from an edge that goes up through the row, and the greatest end from a
--- corner cell or from an edge that goes down: a minimum is one of its terms.
+-- corner cell or from an edge that goes down: a minimum or maximum is one of its terms.
 use Prim.Native.Nat.{ℕ, _≤_, _<_, min}
 use native.Mathlib.Decide.{decLe, decLt}
 use native.Mathlib.Omega.{arith}
