@@ -1,5 +1,5 @@
 /*
- * memcpy, memmove and memset for a bare-metal Arm controller without a C library, and the names by which Arm's compilers call them.
+ * memcpy, memmove and memset where there is no C library, and the names by which Arm's compilers call them.
  * Whole words are moved where both ends are aligned. Link librobequarry_memory.a only where nothing else provides these functions.
  */
 typedef __SIZE_TYPE__ size;
@@ -60,6 +60,8 @@ void *memset(void *to, int value, size n) {
     return to;
 }
 
+#ifdef __arm__
+
 /* The run-time ABI for the Arm architecture, 4.3.4: the value comes last, and nothing is returned. */
 void __aeabi_memcpy(void *to, const void *from, size n) { forward(to, from, n); }
 void __aeabi_memcpy4(void *to, const void *from, size n) { forward(to, from, n); }
@@ -73,3 +75,5 @@ void __aeabi_memset8(void *to, size n, int value) { fill(to, n, (byte)value); }
 void __aeabi_memclr(void *to, size n) { fill(to, n, 0); }
 void __aeabi_memclr4(void *to, size n) { fill(to, n, 0); }
 void __aeabi_memclr8(void *to, size n) { fill(to, n, 0); }
+
+#endif
