@@ -6,7 +6,8 @@
  * cell that is missing. A witness then shows why that cell is missing, and a completion is what to draw instead. The library is
  * proved: every input has the reply that is described here.
  *
- * Link target/staticlib/librobequarry.a, which `rt staticlib robequarry` writes (x86-64 Linux). This header is C99 and C++.
+ * Link librobequarry.a, which `./build TARGET` writes to target/TARGET/: for x86-64 and AArch64 Linux, Cortex-M4F and Cortex-M0+. This
+ * header is C99 and C++, and the same for all of them. docs/PORTING.md says what a controller needs besides, and how to go elsewhere.
  *
  *
  * THE CHART
@@ -38,25 +39,28 @@
  *    rq_fresh and rq_pile_fresh take memory with any content: `rq_holder h; rq_fresh(&h);` is right.
  *  - What a call writes overlaps nothing else that is passed to it.
  *  - For readings, floating point is as a C program starts with it: it rounds to nearest, and subnormal numbers are not flushed to
- *    zero. The start-up code of -ffast-math breaks this. On a Cortex-M the bit FZ of FPSCR must be 0.
+ *    zero. The start-up code of -ffast-math breaks this. On a Cortex-M4F the bits FZ and RMode of FPSCR must be 0.
+ *  - A Cortex-M4F does not trap unaligned access: the bit UNALIGN_TRP of CCR is 0, as it is after a reset.
  *
  * Nothing else is asked. Counts, letters, numbers of edges, parties, places and floats may be anything.
  *
  *
  * STACK
  *
- * At most so many bytes, measured on x86-64 and held by host/checks/tests/stack.rs:
+ * At most so many bytes. The first column is for a Cortex-M4F and a Cortex-M0+, compiled for speed or for size, and `./test --targets`
+ * holds it. The second is for x86-64, and host/checks/tests/stack.rs holds it.
  *
- *     rq_test, rq_pile_set                                   8,600
- *     rq_close                                               9,200
- *     a close by rq_call                                     9,300
- *     rq_border                                              9,700
- *     rq_witness, rq_complete                               13,000
- *     rq_replay                                             18,000
- *     rq_pile_check                                            600
- *     rq_compare                                             1,700
- *     any other call by rq_call                                300
- *     every other function                                     200
+ *                                                     Cortex-M    x86-64
+ *     rq_test, rq_pile_set                               8,700     8,600
+ *     rq_close                                           9,300     9,200
+ *     a close by rq_call                                 9,600     9,300
+ *     rq_border                                          9,900     9,700
+ *     rq_witness, rq_complete                           12,700    13,000
+ *     rq_replay                                         18,200    18,000
+ *     rq_pile_check                                        600       600
+ *     rq_compare                                         1,500     1,700
+ *     any other call by rq_call                            600       300
+ *     every other function                                 400       200
  */
 #ifndef ROBEQUARRY_H
 #define ROBEQUARRY_H

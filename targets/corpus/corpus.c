@@ -429,9 +429,6 @@ static void any_call(void) {
     call(number, any_party(), any_place(), x, y);
 }
 
-/* A reading whose numbers are close to cells, so that it lies among edges. */
-static uint32_t chart_float(uint32_t sixteenths_of_1024);
-
 static void fresh(void) {
     memset(&holder, 0x5a, sizeof holder);
     memset(&by_bytes, 0xa5, sizeof by_bytes);
@@ -463,9 +460,6 @@ static void run_scripts(uint32_t number) {
     }
     end_script();
 }
-
-/* Floats, by their bits. */
-enum { FLOAT_ONE = 0x3f800000, FLOAT_254 = 0x437e0000, FLOAT_SIGN = (int32_t)0x80000000u };
 
 /* A whole number of 4096ths, up to 255: exact in a float. */
 static uint32_t chart_float(uint32_t parts) {
@@ -512,7 +506,11 @@ static void reading_at_edge(const struct hull *h, uint8_t party, uint8_t place) 
 static void any_reading(const struct hull *h, uint8_t party, uint8_t place) {
     switch (below(4)) {
         case 0: call(RQ_CALL_READING, party, place, odd_float(), odd_float()); break;
-        case 1: call(RQ_CALL_READING, party, place, chart_float(below(254 * 4096)), once_in(2) ? odd_float() : chart_float(below(254 * 4096))); break;
+        case 1: {
+            const uint32_t x = chart_float(below(254 * 4096)), y = chart_float(below(254 * 4096));
+            call(RQ_CALL_READING, party, place, x, once_in(2) ? odd_float() : y);
+            break;
+        }
         default: reading_at_edge(h, party, place);
     }
 }
@@ -587,9 +585,9 @@ static const struct family {
     uint32_t blocks;
     void (*block)(uint32_t number);
 } families[] = {
-    {"specimens", 1, run_specimens}, {"corner", 25, run_corner},   {"drawings", 40, run_drawings},       {"dents", 60, run_dents},
-    {"garbage", 60, run_garbage},    {"lists", 24, run_lists},     {"comparisons", 24, run_comparisons}, {"scripts", 24, run_scripts},
-    {"readings", 40, run_readings},  {"piles", 12, run_piles},
+    {"specimens", 1, run_specimens}, {"corner", 25, run_corner}, {"drawings", 100, run_drawings},       {"dents", 140, run_dents},
+    {"garbage", 60, run_garbage},    {"lists", 40, run_lists},   {"comparisons", 40, run_comparisons}, {"scripts", 60, run_scripts},
+    {"readings", 60, run_readings},  {"piles", 24, run_piles},
 };
 
 static void put_hash(void) {

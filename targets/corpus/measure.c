@@ -24,12 +24,47 @@ static void dent(void) {
     }
 }
 
+static void set_call(uint8_t number, uint8_t x) {
+    memset(bytes, 0, sizeof bytes);
+    bytes[0] = number;
+    bytes[3] = x;
+}
+
+/* The outline drawn and closed as a script, and what a replay of it takes. */
+static uint8_t script[RQ_CALL_BYTES * (RQ_LETTERS + 2)];
+static rq_reply replies[RQ_LETTERS + 2];
+static uint32_t calls;
+
+static void add_call(uint8_t number, uint16_t x, uint16_t y) {
+    uint8_t *const call = script + RQ_CALL_BYTES * calls++;
+    memset(call, 0, RQ_CALL_BYTES);
+    call[0] = number;
+    call[3] = (uint8_t)x;
+    call[7] = (uint8_t)y;
+}
+
+static void call_replay(void) { rq_replay(script, RQ_CALL_BYTES * calls, replies, RQ_LETTERS + 2); }
+
+static void replay_line(void) {
+    calls = 0;
+    add_call(RQ_CALL_BEGIN, shape.col, shape.row);
+    for (uint32_t i = 0; i < shape.n; i++) add_call(RQ_CALL_ADD, shape.letters[i], 0);
+    add_call(RQ_CALL_CLOSE, 0, 0);
+    memset(replies, 0, sizeof replies);
+    call_replay();
+    reply = replies[calls - 1];
+    line("replay of a drawing", calls, nothing, call_replay, 8);
+}
+
 static void outline_lines(int32_t half) {
     circle(half);
     line("test, taken", shape.n, nothing, call_test, 40);
     line("pile set", shape.n, nothing, call_pile_set, 40);
     draw_on_holder();
     line("close, taken", shape.n, restore, call_close, 40);
+    set_call(RQ_CALL_CLOSE, 0);
+    line("close by rq_call", shape.n, restore, call_bytes, 40);
+    replay_line();
     take_edges(&one);
     line("border", shape.n, nothing, call_border, 40);
     line("completion of a taken outline", shape.n, nothing, call_complete, 40);
@@ -37,12 +72,6 @@ static void outline_lines(int32_t half) {
     line("test, refusal 9", shape.n, nothing, call_test, 40);
     line("witness of a dent", shape.n, nothing, call_witness, 40);
     line("completion of a dent", shape.n, nothing, call_complete, 40);
-}
-
-static void set_call(uint8_t number, uint8_t x) {
-    memset(bytes, 0, sizeof bytes);
-    bytes[0] = number;
-    bytes[3] = x;
 }
 
 static void at_work_lines(void) {
@@ -73,24 +102,24 @@ static void holder_lines(void) {
     line("fresh", 0, nothing, call_fresh, 40);
 }
 
+/* A circle's hull from a given anchor. */
+static void circle_at(struct hull *h, int32_t half, uint16_t at_col, uint16_t at_row) {
+    circle(half);
+    take_edges(h);
+    h->col = at_col;
+    h->row = at_row;
+}
+
 static void compare_lines(void) {
-    circle(76);
-    take_edges(&one);
-    two = one;
+    circle_at(&one, 76, 20, 100);
+    circle_at(&two, 76, 20, 100);
     line("compare, equal", one.m / 2u, nothing, call_compare, 40);
-    circle(30);
-    take_edges(&two);
-    two.col = (uint16_t)(one.col + 40);
-    two.row = one.row;
+    circle_at(&two, 30, 60, 100);
     line("compare, second within first", one.m / 2u, nothing, call_compare, 40);
-    two = one;
-    two.row = (uint16_t)(two.row > 50 ? two.row - 20 : two.row + 20);
+    circle_at(&two, 76, 30, 104);
     line("compare, crossing", one.m / 2u, nothing, call_compare, 40);
-    circle(30);
-    take_edges(&one);
-    two = one;
-    one.col = 0;
-    two.col = 100;
+    circle_at(&one, 50, 0, 100);
+    circle_at(&two, 50, 120, 100);
     line("compare, no common cell", one.m / 2u, nothing, call_compare, 40);
 }
 
