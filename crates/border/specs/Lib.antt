@@ -1,2 +1,2 @@
--- What is still to be written, and what writing does to a list.
+-- What is still to be written, and what writing does to the buffer.
 pub mod parts

@@ -6,7 +6,7 @@ ghost use Rattle.convexity.specs.Frame.{frameOf};
 ghost use Rattle.convexity.specs.FromEdges.{quadrantOf, runIn};
 ghost use Rattle.directions.specs.Round.{positive};
 
-// A number without its sign.
+// The absolute value.
 pub(crate) fn size(d: i16) -> usize
     ensures { λ r. ⌜ (r ≡ natAbs d) × (r ≤ 32768) ⌝ }
 {
@@ -29,8 +29,8 @@ fn below(d: i16) -> bool
     d < 0
 }
 
-// The quadrant, counted from 0: from up to right, from right to down, from down to left, from left to up, the first direction of each
-// included and the last excluded. 4 for (0, 0).
+// The quadrant, counted from 0: up to right, right to down, down to left, left to up. Each has its first direction and not its last.
+// 4 for (0, 0).
 pub(crate) fn quadrant(dx: i16, dy: i16) -> usize
     ensures { λ r. ⌜ r ≡ quadrantOf dx dy ⌝ }
 {
@@ -46,14 +46,14 @@ pub(crate) fn quadrant(dx: i16, dy: i16) -> usize
     if below(dy) { 2 } else { 4 }
 }
 
-// How many earlier letters of piece k an edge of that piece has. Its later ones are those that it has as earlier ones of the next piece.
+// How many earlier letters of piece k an edge of that piece has. The later letters of piece k are the earlier ones of the next piece.
 pub(crate) fn run(k: usize, dx: i16, dy: i16) -> usize
     ensures { λ r. ⌜ (r ≡ runIn k dx dy) × (r ≤ 32768) ⌝ }
 {
     if k % 2 == 0 { size(dx) } else { size(dy) }
 }
 
-// The earlier letter of piece k, counted from 0; any number above 3 stands for the last piece.
+// The earlier letter of piece k, counted from 0. A number above 3 means the last piece.
 pub(crate) fn earlier(k: usize) -> u8
     ensures { λ r. ⌜ r ≡ frameOf k .earlier ⌝ }
 {
@@ -65,7 +65,7 @@ pub(crate) fn earlier(k: usize) -> u8
     }
 }
 
-// The later letter.
+// The later letter of piece k.
 pub(crate) fn later(k: usize) -> u8
     ensures { λ r. ⌜ r ≡ frameOf k .later ⌝ }
 {

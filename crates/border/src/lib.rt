@@ -1,4 +1,4 @@
-// The border written back from an anchor and edges (contract 6.3): the letters are built in a list of their own, tested, and lent.
+// Writes the border of an anchor and edges (contract 6.3). The letters are built in a local array, tested, and then copied to the buffer.
 use border_model::Traced;
 use chart::LONGEST;
 use chart::MOST_NUMBERS;
@@ -27,7 +27,7 @@ ghost use Rattle.border_model.specs.Named.{BorderNamed, Answers};
 mod direction;
 mod writer;
 
-// How many letters the edges write: one for each column and row, and the first of each piece.
+// How many letters the edges give: one for each column and row, and the first letter of each piece.
 fn count(edges: &[i16]) -> usize
     requires { ⌜ length (now edges) ≤ longestList ⌝ }
     ensures { λ r. ⌜ r ≡ 4 + stepCount (now (edges .entry)) ⌝ }
@@ -43,7 +43,7 @@ fn count(edges: &[i16]) -> usize
     letters
 }
 
-// The letters, begun at the anchor's corner, are an outline that is taken with this anchor and these edges.
+// Whether the letters, started at the anchor's corner, are an outline that is taken with this anchor and these edges.
 fn taken_as(anchor: Point, letters: &[u8], edges: &[i16]) -> bool
     ensures { λ r. ⌜ r ≡ takenAs (outline anchor (now (letters .entry))) anchor (now (edges .entry)) ⌝ }
 {
@@ -61,7 +61,7 @@ fn taken_as(anchor: Point, letters: &[u8], edges: &[i16]) -> bool
     }
 }
 
-// Copies the first n letters of a list to the front of the lent one.
+// Copies the first n letters of a list to the front of the buffer.
 fn copy(list: &[u8], n: usize, letters: &mut [u8])
     requires { ⌜ (n ≤ length (now list)) × (n ≤ length (now letters)) ⌝ }
     ensures { λ _. ⌜ now (letters .exit) ≡ take n (now (list .entry)) ++ drop n (now (letters .entry)) ⌝ }
@@ -73,7 +73,7 @@ fn copy(list: &[u8], n: usize, letters: &mut [u8])
     }
 }
 
-// 17 and 18, of edges that pass 10, 11 and 16, or the letters.
+// Checks 17 and 18 for edges that pass 10, 11 and 16, or writes the letters.
 fn trace(anchor: Point, edges: &[i16], letters: &mut [u8]) -> Traced
     requires { ⌜ (badList (now edges) ≡ false) × (badCell anchor ≡ false) × (badDirections (now edges) ≡ false) ⌝ }
     ensures { λ t. ⌜ Answers anchor (now (edges .entry)) (now (letters .entry)) (now (letters .exit)) t ⌝ }
@@ -94,7 +94,7 @@ fn trace(anchor: Point, edges: &[i16], letters: &mut [u8]) -> Traced
     Traced::Written { letters: n as u16 }
 }
 
-// The border: the clockwise letters from W on of the outline that has this anchor and these edges, and how many they are.
+// Writes the border, from W, of the outline that has this anchor and these edges, and returns the count of its letters.
 pub fn border(anchor: Point, edges: &[i16], letters: &mut [u8]) -> Traced
     ensures answer { λ t. ⌜ t ≡ tracedOf anchor (now (edges .entry)) (length (now (letters .entry))) ⌝ }
     ensures letters { λ t. ⌜ now (letters .exit) ≡ lettersAfter anchor (now (edges .entry)) (now (letters .entry)) ⌝ }

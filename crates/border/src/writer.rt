@@ -1,4 +1,4 @@
-// Letters written one behind another into a list (contract 3.4, 3.10 and 3.12).
+// Writes letters one after another into a list (contract 3.4, 3.10 and 3.12).
 use crate::direction;
 ghost use Prim.Native.Nat.{_+_, _-_, _%_, _^_, _≤_, _<_};
 ghost use mathlib.Core.Path.{_≡_};
@@ -9,7 +9,7 @@ ghost use Rattle.border_model.specs.parts.Ordered.{Ordered};
 ghost use Rattle.border.specs.parts.Rest.{firsts, letters as lettersOf, stepLetters};
 ghost use Rattle.border.specs.parts.Wrote.{Wrote};
 
-// (rem + rise) mod (run + rise), by sums within it.
+// (rem + rise) mod (run + rise), without overflow.
 fn next(rem: usize, run: usize, rise: usize) -> usize
     requires { ⌜ (rem < run + rise) × (run + rise < 2 ^ 64) ⌝ }
     ensures { λ r. ⌜ r ≡ (rem + rise) % (run + rise) ⌝ }
@@ -17,7 +17,7 @@ fn next(rem: usize, run: usize, rise: usize) -> usize
     if rem < run { rem + rise } else { rem - run }
 }
 
-// Writes an edge of piece k, and says where it ends: letter i is the earlier one exactly where the remainder of i · rise grows.
+// Writes an edge of piece k and returns where it ends. Letter i is the earlier one exactly if i · rise grows modulo run + rise.
 fn write_edge(letters: &mut [u8], at: usize, k: usize, run: usize, rise: usize) -> usize
     requires { ⌜ (at + (run + rise) ≤ length (now letters)) × (0 < rise) ⌝ }
     ensures { λ r. ⌜ (r ≡ at + (run + rise)) × Wrote (now (letters .entry)) at (lettersOf k run rise) (now (letters .exit)) ⌝ }
@@ -36,7 +36,7 @@ fn write_edge(letters: &mut [u8], at: usize, k: usize, run: usize, rise: usize) 
     at + end
 }
 
-// Writes the first letters of the pieces after piece `from`, up to piece `to`, and says where they end.
+// Writes the first letters of the pieces after piece `from`, up to piece `to`, and returns where they end.
 fn begin_pieces(letters: &mut [u8], at: usize, from: usize, to: usize) -> usize
     requires { ⌜ (from ≤ to) × (at + (to - from) ≤ length (now letters)) ⌝ }
     ensures { λ r. ⌜ (r ≡ at + (to - from)) × Wrote (now (letters .entry)) at (firsts from (to - from)) (now (letters .exit)) ⌝ }
@@ -57,7 +57,7 @@ struct Writer {
     piece: usize,
 }
 
-// Writes one edge, and before it the first letters of the pieces that begin with it.
+// Writes one edge. The first letters of the pieces that begin with it come before it.
 fn step(letters: &mut [u8], writer: Writer, dx: i16, dy: i16) -> Writer
     requires { ⌜ (writer .piece ≤ quadrantOf dx dy) × (quadrantOf dx dy < 4) ⌝ }
     requires { ⌜ writer .at + (quadrantOf dx dy - writer .piece) + (natAbs dx + natAbs dy) ≤ length (now letters) ⌝ }
@@ -73,7 +73,7 @@ fn step(letters: &mut [u8], writer: Writer, dx: i16, dy: i16) -> Writer
     Writer { at: end, piece: k }
 }
 
-// Writes the letters of all edges, which stand in the order of their quadrants, from the front of a list on.
+// Writes the letters of all edges from the front of a list. The edges are in the order of their quadrants.
 pub(crate) fn build(edges: &[i16], letters: &mut [u8])
     requires { ⌜ Ordered 0 (now edges) × (4 + stepCount (now edges) ≤ length (now letters)) ⌝ }
     ensures { λ _. ⌜ take (4 + stepCount (now (edges .entry))) (now (letters .exit)) ≡ lettersFrom (now (edges .entry)) ⌝ }

@@ -1,4 +1,4 @@
--- The outlines that have an anchor and edges, what a border call answers, and what its answer says.
+-- Which outlines have an anchor and edges, what a border call replies, and what the reply says.
 pub mod Outlined
 pub mod Traced
 pub mod Named

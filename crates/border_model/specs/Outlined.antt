@@ -21,19 +21,19 @@ pub record TakenAs (o : Outline) (a : Point) (es : List ℤ) : Type 0 where
   pub taken : verdictOf o ≡ Taken count a
   pub edged : edges (border o) ≡ es
 
--- Some outline is. Refusal 17 is given exactly where none is (proofs/Outlines.antt: `outlined-iff`)
+-- Some outline is taken with them. Refusal 17 applies exactly if none is (proofs/Outlines.antt: `outlined-iff`)
 abbrev pub HasOutline : Point → List ℤ → Type 0
 HasOutline a es = (o : Outline) × TakenAs o a es
 
--- A verdict takes an outline with this anchor
+-- The verdict takes the outline, with this anchor
 unfoldable pub takenAt : Verdict → Point → Bool
 takenAt (Taken n b) a = samePoint b a
 takenAt (Refused f) a = false
 
--- The test whether an outline is taken with this anchor and these edges
+-- Tests whether an outline is taken with this anchor and these edges
 unfoldable pub takenAs : Outline → Point → List ℤ → Bool
 takenAs o a es = takenAt (verdictOf o) a && sameℤs (edges (border o)) es
 
--- The test whether some outline is: it is asked of the letters that the edges write, begun at the anchor's corner
+-- Tests whether some outline is. It is enough to test the letters that the edges give, started at the anchor's corner
 unfoldable pub outlined : Point → List ℤ → Bool
 outlined a es = takenAs (outline a (lettersFrom es)) a es

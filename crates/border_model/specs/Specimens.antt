@@ -1,4 +1,4 @@
--- Borders of the specimens' edges and of others, and their refusals (contract 9). All rows are proved together (proofs/Specimens.antt).
+-- The borders of the specimens' edges and of others, and refusals (contract 9). All rows are proved together (proofs/Specimens.antt).
 use Prim.Native.Nat.{ℕ}
 use mathlib.Core.Bool.{Bool}
 use mathlib.Core.List.{List, [], _∷_}
@@ -9,7 +9,7 @@ use Rattle.chart.specs.Fields.{numbered, placed}
 use Rattle.chart.specs.Same.{sameFields}
 use Rattle.border_model.specs.Traced.{tracedOf, tracedFields}
 
--- A border call with a lent list of so many letters, and its reply
+-- A border call with a buffer of so many letters, and its reply
 pub record Row : Type 0 where
   pub anchor : Point
   pub edges : List ℤ
@@ -22,8 +22,8 @@ answered h = sameFields (tracedFields (tracedOf (h .anchor) (h .edges) (h .buffe
 row : ℕ → ℕ → List ℤ → ℕ → Fields → Row
 row c r es n f = record { anchor = record { col = c; row = r }; edges = es; buffer = n; fields = f }
 
--- One cell; H2; H3; two cells that meet at a corner, also with no room; H2 at the chart's right end, where it has no room; H2 with a letter too few; 10, 11 and 16
--- in their order
+-- One cell; H2; H3; two cells that share only a corner, with and without room; H2 so far right that it leaves the chart; H2 with a buffer
+-- one letter too short; 10, 11 and 16 in their order
 unfoldable pub rows : List Row
 unfolding row
 rows =

@@ -16,7 +16,7 @@ use Rattle.border_model.specs.declared.Traced.{Traced}
 use Rattle.border_model.specs.declared.Traced.the-variants.{Written, Refused, NoOutline, NoRoom}
 use Rattle.border_model.specs.Outlined.{outlined}
 
--- 18, or the count of letters, in a lent list of n
+-- 18, or the count of letters, with a buffer of n
 unfoldable pub lettersIn : ℕ → List ℕ → Traced
 lettersIn n w = cond (ltb n (length w)) NoRoom (Written (length w))
 
@@ -27,14 +27,14 @@ tracedOf a es n =
     (cond (badDirections es) (Refused Directions)
     (cond (not (outlined a es)) NoOutline (lettersIn n (lettersFrom es)))))
 
--- The answer written out
+-- The reply's fields
 unfoldable pub tracedFields : Traced → Fields
 tracedFields (Written n) = placed 0 n
 tracedFields (Refused f) = refusalFields f
 tracedFields NoOutline = numbered 17
 tracedFields NoRoom = numbered 18
 
--- The lent list afterwards: the letters stand first in it and the rest is unaltered; where the call is refused, all of it is
+-- The buffer afterwards. The letters stand first and the rest is unchanged. A refused call changes nothing
 unfoldable pub writtenAfter : Traced → List ℕ → List ℕ → List ℕ
 writtenAfter (Written n) w buffer = w ++ drop (length w) buffer
 writtenAfter (Refused f) w buffer = buffer

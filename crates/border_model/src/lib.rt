@@ -1,16 +1,16 @@
-// The border written back from an anchor and edges: what is answered, and which outlines have them (contract 6.3).
+// The border of an anchor and edges: the reply, and which outlines have this anchor and these edges (contract 6.3).
 use chart::Refusal;
 
 pub mod written;
 
-// What a border call answers.
+// The result of a border call.
 pub enum Traced {
-    // So many letters are written.
+    // This many letters were written.
     Written { letters: u16 },
     // 10, 11 or 16.
     Refused(Refusal),
-    // 17. The edges from this anchor are no taken outline's.
+    // 17. No outline is taken with this anchor and these edges.
     NoOutline,
-    // 18. The lent letter list is too short.
+    // 18. The buffer for letters is too short.
     NoRoom,
 }

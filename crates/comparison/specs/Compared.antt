@@ -1,4 +1,4 @@
--- The comparison of two lists: the refusals of the first, then of the second, and else how their cells lie (contract 6.4).
+-- The comparison of two lists: the refusals of the first, then of the second, and otherwise how their cells lie (contract 6.4).
 use mathlib.Core.Path.{_≡_}
 use mathlib.Core.Bool.{cond}
 use mathlib.Core.List.{List, []}
@@ -22,7 +22,7 @@ use Rattle.comparison.specs.declared.Checked.the-variants.{Fit, Unfit}
 use Rattle.comparison.specs.declared.Handed.{Handed}
 use Rattle.comparison.specs.declared.Handed.the-variants.{First, Second, Neither}
 
--- What refuses a list: 10, 11 of the anchor, 16, then 11 where the walk leaves the chart
+-- What refuses a list: 10, 11 of the anchor, 16, then 11 if a corner cell is off the chart
 unfoldable pub checkedOf : Point → List ℤ → Checked
 checkedOf a es =
     cond (badList es) (Unfit BadList)
@@ -30,7 +30,7 @@ checkedOf a es =
     (cond (badDirections es) (Unfit Directions)
     (cond (cornersOnChart es (pos (a .col)) (pos (a .row))) Fit (Unfit Cell))))
 
--- The whole first list before the second
+-- All of the first list comes before the second
 unfoldable pub decided : Checked → Checked → Nesting → Comparison
 decided (Unfit f) s v = Refused 1 f
 decided Fit (Unfit f) v = Refused 2 f
@@ -39,12 +39,12 @@ decided Fit Fit v = Found v
 unfoldable pub comparisonOf : Point → List ℤ → Point → List ℤ → Comparison
 comparisonOf a es b fs = decided (checkedOf a es) (checkedOf b fs) (nesting (polygon a es) (polygon b fs))
 
--- What the words of a reply say: of the five statements about the cells in the two hulls it names the one that holds, and no other holds
+-- The word of a reply names the one of the five statements about the cells in the two hulls that holds. No other holds
 pub record CellsNamed (p q : Polygon) (f : Fields) : Type 0 where
   pub says : (v : Nesting) → f .word ≡ nestingFields v .word → Says p q v
   pub only : f .number ≡ 0 → (v : Nesting) → Says p q v → f ≡ nestingFields v
 
--- Which list goes with an answer
+-- Which list comes with a reply
 unfoldable pub handedWith : Nesting → Handed
 handedWith Equal = First
 handedWith FirstWithin = First
@@ -56,7 +56,7 @@ unfoldable pub handedBy : Comparison → Handed
 handedBy (Found v) = handedWith v
 handedBy (Refused n f) = Neither
 
--- The list handed back: the first, the second, or an empty part of the first, as the reply's piece says
+-- The list that is returned: the first, the second, or an empty part of the first, as the reply's piece says
 pub record HandedBack (f : Fields) (list first second : RefT (List ℤ)) : Type 0 where
   pub one : f .piece ≡ 1 → list ≡ first
   pub two : f .piece ≡ 2 → list ≡ second

@@ -1,4 +1,4 @@
--- A comparison made both ways round: which lists are handed back, the first time and the second (contract 6.4).
+-- A comparison made both ways round: which list each of the two returns (contract 6.4).
 use mathlib.Core.Path.{_≡_}
 use mathlib.Core.List.{List, []}
 use lib.IntN.{ℤ}
@@ -6,7 +6,8 @@ use denote.Ref.{RefT}
 use Rattle.chart.specs.declared.Nesting.{Nesting}
 use Rattle.chart.specs.declared.Nesting.the-variants.{Equal, FirstWithin, SecondWithin, Apart, Crossing}
 
--- Of equal hulls each time the one given first; the inner one's both times; or nothing, both times
+-- If the hulls are equal, each returns the list given first. If one lies within the other, both return the inner one's. Otherwise both are
+-- empty
 abbrev pub HandedBoth : Nesting → (list again first second : RefT (List ℤ)) → Type 0
 HandedBoth Equal list again first second = (list ≡ first) × (again ≡ second)
 HandedBoth FirstWithin list again first second = (list ≡ first) × (again ≡ first)

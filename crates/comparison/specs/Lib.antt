@@ -1,4 +1,5 @@
--- The walk on the chart; the columns of rows; what a comparison answers, and what its words say; of taken outlines; with the lists exchanged.
+-- The reply of a comparison and what its words say; taken outlines compared; the lists exchanged; the walk on the chart and the columns of
+-- rows.
 pub mod Compared
 pub mod Outlines
 pub mod Exchanged

@@ -1,4 +1,5 @@
--- Two taken outlines compared by their anchors and edges, as the test returns these (contract 6.1 and 6.4): what the word says of the enclosed cells.
+-- Two taken outlines compared by the anchors and edges that a test returns (contract 6.1 and 6.4): what the word says of the enclosed
+-- cells.
 use Prim.Native.Nat.{_*_}
 use mathlib.Core.Path.{_≡_}
 use mathlib.Core.Logic.{_↔_}
@@ -14,14 +15,14 @@ use Rattle.verdict.specs.Verdict.{testFields, edgesAfter}
 use Rattle.verdict.specs.Named.{cellOf}
 use Rattle.nesting.specs.Cells.{SaysOf, Encloses}
 
--- What a test with a buffer for edges returns of a taken outline: the anchor is the cell of the reply, and the edges stand first in the buffer, two numbers each
+-- What a test returns for a taken outline: the anchor is the cell of the reply, and the edges stand first in the buffer, two numbers each
 abbrev pub anchorFrom : Outline → List ℤ → Point
 anchorFrom o buffer = cellOf (testFields o (length buffer))
 
 abbrev pub edgesFrom : Outline → List ℤ → List ℤ
 edgesFrom o buffer = take (2 * testFields o (length buffer) .place) (edgesAfter o buffer)
 
--- A comparison of these is not refused, and its word is of the five the one whose statement holds of the cells that the two outlines enclose
+-- The comparison of these is not refused, and its word is the one of the five that holds for the cells that the two outlines enclose
 pub record BlocksNamed (o v : Outline) (f : Fields) : Type 0 where
   pub unrefused : f .number ≡ 0
   pub word : (n : Nesting) → (f .word ≡ nestingFields n .word) ↔ SaysOf (Encloses o) (Encloses v) n

@@ -1,4 +1,4 @@
-// Two anchors and two lists of edges compared: which of the two hulls lies within the other (contract 6.4).
+// Compares the hulls of two anchors and two lists of edges (contract 6.4).
 use chart::Comparison;
 use chart::Nesting;
 use chart::Point;
@@ -23,7 +23,7 @@ ghost use Rattle.comparison.specs.Compared.{checkedOf, comparisonOf, Cel
 mod rows;
 mod step;
 
-// 11, of a walk: some corner cell is off the chart.
+// 11 of a list: some corner cell is off the chart.
 fn leaves_chart(anchor: Point, edges: &[i16]) -> bool
     ensures { λ b. ⌜ b ≡ not (cornersOnChart (now (edges .entry)) (pos (anchor .col)) (pos (anchor .row))) ⌝ }
 {
@@ -39,13 +39,13 @@ fn leaves_chart(anchor: Point, edges: &[i16]) -> bool
     polygon::bad_cell(at)
 }
 
-// What refuses a list, or nothing.
+// A list's refusal, or none.
 enum Checked {
     Fit,
     Unfit(Refusal),
 }
 
-// 10, 11 of the anchor, 16, then 11 of the walk.
+// Checks 10, 11 of the anchor, 16, then 11 of the corner cells.
 fn check(anchor: Point, edges: &[i16]) -> Checked
     ensures { λ r. ⌜ r ≡ checkedOf anchor (now (edges .entry)) ⌝ }
 {
@@ -64,14 +64,14 @@ fn check(anchor: Point, edges: &[i16]) -> Checked
     Checked::Fit
 }
 
-// The same anchor and the same edges.
+// The anchors and the edges are the same.
 fn same_lists(anchor: Point, edges: &[i16], other: Point, others: &[i16]) -> bool
     ensures { λ b. ⌜ b ≡ (samePoint anchor other && sameℤs (now (edges .entry)) (now (others .entry))) ⌝ }
 {
     same_point(anchor, other) && same_numbers(edges, others)
 }
 
-// What the tests of the rows tell of the cells.
+// How the cells lie, from the tests of the rows.
 fn by_rows(t: Tests) -> Nesting
     ensures { λ v. ⌜ v ≡ byTests (t .inward) (t .outward) (not (t .apart)) ⌝ }
 {
@@ -90,7 +90,7 @@ fn by_rows(t: Tests) -> Nesting
     Nesting::Crossing
 }
 
-// How the cells in two hulls lie: equal lists need no rows.
+// How the cells in two hulls lie. Equal lists are decided without the rows.
 fn nest(anchor: Point, edges: &[i16], other: Point, others: &[i16]) -> Nesting
     requires { ⌜ Fit (polygon anchor (now edges)) × Fit (polygon other (now others)) ⌝ }
     ensures { λ v. ⌜ v ≡ nesting (polygon anchor (now (edges .entry))) (polygon other (now (others .entry))) ⌝ }
@@ -101,7 +101,7 @@ fn nest(anchor: Point, edges: &[i16], other: Point, others: &[i16]) -> Nesting
     by_rows(rows::test_rows(anchor, edges, other, others))
 }
 
-// The refusals of the first list, then of the second, and else how the cells in their hulls lie.
+// The refusals of the first list, then of the second, and otherwise how the cells in their hulls lie.
 pub fn relate(anchor: Point, edges: &[i16], other: Point, others: &[i16]) -> Comparison
     ensures answer { λ r. ⌜ r ≡ comparisonOf anchor (now (edges .entry)) other (now (others .entry)) ⌝ }
     ensures cells { λ r. ⌜ CellsNamed (polygon anchor (now (edges .entry))) (polygon other (now (others .entry))) (comparisonFields r) ⌝ }
@@ -115,14 +115,14 @@ pub fn relate(anchor: Point, edges: &[i16], other: Point, others: &[i16]) -> Com
     }
 }
 
-// Which list is handed back.
+// Which list is returned.
 enum Handed {
     First,
     Second,
     Neither,
 }
 
-// The inner one's: the first where they are equal, and none where neither lies within the other or a list is refused.
+// The inner one's list: the first if both are equal, and none if neither lies within the other or a list is refused.
 fn inner(comparison: Comparison) -> Handed
     ensures { λ r. ⌜ r ≡ handedBy comparison ⌝ }
 {
@@ -138,7 +138,7 @@ fn inner(comparison: Comparison) -> Handed
     }
 }
 
-// The comparison with its reply, and the inner one's own list, or else an empty part of the first.
+// The comparison with its reply and the inner one's own list. Without an inner one the list is an empty part of the first.
 pub fn compare<'a>(
     anchor: Point,
     edges: &'a [i16],

@@ -1,4 +1,4 @@
-// The rows of a polygon by one walk along its edges, and two polygons compared row by row.
+// Finds the rows of a polygon in one walk along its edges, and compares two polygons row by row.
 use crate::step;
 use chart::Point;
 use chart::SIDE;
@@ -14,10 +14,10 @@ ghost use Rattle.comparison.specs.parts.Rows.{firstAt, endAt, metFrom, m
 // One number for each row of the chart, and one more.
 pub(crate) const ROWS: usize = 256;
 
-// The end of the longest run.
+// No row ends past this column.
 const END: u32 = SIDE as u32;
 
-// The first column of a row that has none.
+// The first column of an empty row.
 const NO_COLUMN: u8 = SIDE as u8;
 
 fn lesser(a: u32, b: u32) -> u32
@@ -32,7 +32,7 @@ fn greater(a: u32, b: u32) -> u32
     if a < b { b } else { a }
 }
 
-// The first column on the inner side of an edge from row y to row v, whose side value at column 0 is plus - minus.
+// The first column inside an edge from row y to row v, whose side value at column 0 is plus - minus.
 fn first_column(y: u32, v: u32, plus: u32, minus: u32) -> u32
     ensures { λ r. ⌜ r ≡ edgeFrom (pos v -ℤ pos y) (pos plus -ℤ pos minus) ⌝ }
 {
@@ -45,7 +45,7 @@ fn first_column(y: u32, v: u32, plus: u32, minus: u32) -> u32
     (minus - plus - 1) / (v - y) + 1
 }
 
-// The column after the last one.
+// The column past the last one inside the edge.
 fn end_column(y: u32, v: u32, plus: u32, minus: u32) -> u32
     requires { ⌜ plus < 2 * 65536 ⌝ }
     ensures { λ r. ⌜ r ≡ edgeTo (pos v -ℤ pos y) (pos plus -ℤ pos minus) ⌝ }
@@ -62,7 +62,7 @@ fn end_column(y: u32, v: u32, plus: u32, minus: u32) -> u32
     (plus - minus) / (y - v) + 1
 }
 
-// The first column of a row on the inner side of the edge from p to q.
+// The first column of a row inside the edge from p to q.
 fn first_at(p: Point, q: Point, row: u32) -> u32
     requires { ⌜ (p .col < side) × (p .row < side) × (q .col < side) × (q .row < side) × (row < side) ⌝ }
     ensures { λ r. ⌜ r ≡ firstAt p q row ⌝ }
@@ -74,7 +74,7 @@ fn first_at(p: Point, q: Point, row: u32) -> u32
     first_column(y, v, u * y + x * row, v * x + u * row)
 }
 
-// The end there.
+// The column past the last one.
 fn end_at(p: Point, q: Point, row: u32) -> u32
     requires { ⌜ (p .col < side) × (p .row < side) × (q .col < side) × (q .row < side) × (row < side) ⌝ }
     ensures { λ r. ⌜ r ≡ endAt p q row ⌝ }
@@ -86,21 +86,21 @@ fn end_at(p: Point, q: Point, row: u32) -> u32
     end_column(y, v, u * y + x * row, v * x + u * row)
 }
 
-// The lesser of a byte and a number.
+// The minimum of a byte and a number.
 fn lower(a: u8, b: u32) -> u8
     ensures { λ r. ⌜ r ≡ min a b ⌝ }
 {
     lesser(a as u32, b) as u8
 }
 
-// The greater of a byte and a number, which counts as no more than the end of the longest run.
+// The maximum of a byte and a number. A number above 255 counts as 255.
 fn higher(a: u8, b: u32) -> u8
     ensures { λ r. ⌜ r ≡ max a (min b side) ⌝ }
 {
     greater(a as u32, lesser(b, END)) as u8
 }
 
-// A corner cell's own column is one of its row.
+// The column of a corner cell belongs to its row.
 fn corner_first(at: Point, first: &mut [u8; ROWS])
     requires { ⌜ (at .col < side) × (at .row < side) × AllBelow (now first) ⌝ }
     ensures { λ _. ⌜ Lowered (metFrom at) (now (first .entry)) (now (first .exit)) ⌝ }
@@ -129,7 +129,7 @@ fn rise(p: Point, q: Point, first: &mut [u8; ROWS])
     }
 }
 
-// An edge that falls bounds them on the right.
+// An edge that falls bounds the rows between on the right.
 fn fall(p: Point, q: Point, end: &mut [u8; ROWS])
     requires { ⌜ (p .col < side) × (p .row < side) × (q .col < side) × (q .row < side) × (length (now end) ≡ 256) ⌝ }
     ensures { λ _. ⌜ Raised (fallenTo p q) (now (end .entry)) (now (end .exit)) ⌝ }
@@ -141,7 +141,7 @@ fn fall(p: Point, q: Point, end: &mut [u8; ROWS])
     }
 }
 
-// The first column and the end of every row, by one walk, in lists of no columns.
+// The first column of every row and the column past the last, in one walk. The arrays come in with every row empty.
 fn sweep(anchor: Point, edges: &[i16], first: &mut [u8; ROWS], end: &mut [u8; ROWS])
     requires { ⌜ Fit (polygon anchor (now edges)) × (now first ≡ replicate 256 side) × (now end ≡ replicate 256 0) ⌝ }
     ensures { λ _. ⌜ Swept (polygon anchor (now (edges .entry))) (now (first .exit)) (now (end .exit)) ⌝ }
@@ -161,15 +161,14 @@ fn sweep(anchor: Point, edges: &[i16], first: &mut [u8; ROWS], end: &mut [u8; RO
     corner_end(at, end);
 }
 
-// What the rows tell: every run of the first polygon lies within the second's, and the other way round; no row has a common column.
+// Every row of the first polygon lies within the second's; the other way round; no row has a common column.
 pub(crate) struct Tests {
     pub inward: bool,
     pub outward: bool,
     pub apart: bool,
 }
 
-// The rows of two polygons compared, each given by the first columns and the ends: a run that is empty lies within every other, and has no column in common
-// with any.
+// Compares two polygons given by their rows. An empty row lies within every other row and has no column in common with any.
 fn compare_rows<'a>(
     first: &'a [u8; ROWS],
     end: &'a [u8; ROWS],

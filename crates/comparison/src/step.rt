@@ -1,4 +1,4 @@
-// The walk of edges from corner cell to corner cell, on the chart.
+// The walk along edges from corner cell to corner cell, on the chart.
 use chart::Point;
 use chart::SIDE;
 ghost use mathlib.Core.Path.{_≡_};
@@ -8,14 +8,14 @@ ghost use Rattle.comparison.specs.parts.Step.{kept, steppedTo};
 // The last column and the last row.
 const LAST: u16 = SIDE - 1;
 
-// Where a step of d from n leads: no sum of two such numbers is too large.
+// Where a step of d from n leads. The sum fits.
 fn sum(n: u16, d: i16) -> i32
     ensures { λ r. ⌜ r ≡ pos n +ℤ d ⌝ }
 {
     (n as i32) + (d as i32)
 }
 
-// A column or a row of the chart as it is, and any other number as the first that is none.
+// A column or a row of the chart is kept. Any other number becomes 255, the first that is off the chart.
 fn keep(z: i32) -> u16
     ensures { λ r. ⌜ r ≡ kept z ⌝ }
 {

@@ -1,5 +1,6 @@
--- What is claimed of the drawing of an outline that was taken: its points are the corner cells of the edges, raised by one half exactly, and their hull is the outline's block
--- (contract 8.8).
+-- What is claimed of the drawing of a taken outline (contract 8.8): its points are the corner cells of the edges, raised by exactly one
+-- half,
+-- and their hull is the outline's block.
 use Prim.Native.Nat.{ℕ, _+_, _*_, _^_, _<_}
 use mathlib.Core.Path.{_≡_}
 use mathlib.Core.Logic.{_↔_}
@@ -24,7 +25,7 @@ pub record Raised (n : ℕ) (x : Float) : Type 0 where
   pub number : T (finite x)
   pub exact : value binary32 x ≡ pos ((2 * n + 1) * 2 ^ 148)
 
--- A cell, on the chart or off it: its column and its row
+-- A cell, on the chart or off it, by its column and row
 abbrev pub Cell : Type 0
 Cell = ℤ × ℤ
 
@@ -40,13 +41,13 @@ cornersFrom (dx ∷ dy ∷ es) x y = (x, y) ∷ cornersFrom es (x +ℤ dx) (y +�
 abbrev pub corners : Point → List ℤ → List Cell
 corners a es = cornersFrom es (pos (a .col)) (pos (a .row))
 
--- Where there is an edge, the walk ends at the anchor again
+-- If there is an edge, the walk ends at the anchor again
 unfoldable pub again : Point → List ℤ → List Cell
 again a [] = []
 again a (dx ∷ []) = []
 again a (dx ∷ dy ∷ es) = cellOf a ∷ []
 
--- Some three of these cells, which need not be different, have x in their triangle
+-- x lies in the triangle of some three of these cells, which need not differ
 pub record InHullOf (ps : List Point) (x : Point) : Type 0 where
   pub p : Point
   pub q : Point
@@ -57,15 +58,15 @@ pub record InHullOf (ps : List Point) (x : Point) : Type 0 where
   pub triangle : InTriangle x p q t
 
 pub record Draws (a : Point) (es : List ℤ) (marked : ℕ → ℕ → Bool) : Type 0 where
-  -- The cells that the lines lead to. There is a line to each, and nothing else between the move and close
+  -- the cells that the lines lead to. There is one line to each, and nothing else between the move and the close
   pub ends : List Point
   pub pieces : drawing a es ≡ Move a ∷ map Line ends ++ (Close ∷ [])
-  -- The move's cell and theirs are the corner cells in the order of the walk, without the last, which is the anchor again
+  -- the move's cell and these are the corner cells in the order of the walk, without the last, which is the anchor again
   pub met : corners a es ≡ map cellOf (a ∷ ends) ++ again a es
-  -- They are cells of the chart, and their floats are exact
+  -- they are cells of the chart, and their floats are exact
   pub on-chart : (p : Point) → List·Memᴰ p (a ∷ ends) → (p .col < side) × (p .row < side)
   pub raised : (p : Point) → List·Memᴰ p (a ∷ ends) → Raised (p .col) (half (p .col)) × Raised (p .row) (half (p .row))
-  -- The edges between them are not nil, turn strictly clockwise, and lead back to the anchor
+  -- the edges between them are not zero, turn strictly clockwise, and lead back to the anchor
   pub turning : badDirections es ≡ false
-  -- A cell is marked exactly if it lies in the hull of the points
+  -- a cell is marked exactly if it lies in the hull of the points
   pub hull : (x : Point) → x .col < side → x .row < side → (marked (x .col) (x .row) ≡ true) ↔ InHullOf (a ∷ ends) x

@@ -1,5 +1,6 @@
--- The drawing of an anchor and a list of edges, by the cells at whose centres its points lie: a move, which goes to the anchor, a line for each edge that is not the last, and close, which
--- stands for that one (contract 3.22).
+-- The drawing of an anchor and a list of edges, by cells: a move to the anchor, a line for each edge but the last, and a close, which
+-- stands for
+-- the last edge (contract 3.22).
 use Prim.Native.Nat.{ℕ}
 use mathlib.Core.Bool.{cond}
 use mathlib.Core.List.{List, [], _∷_, _++_}
@@ -10,11 +11,13 @@ use Rattle.directions.specs.CornerHull.{onChart}
 use Rattle.drawing.specs.declared.Stroke.{Stroke}
 use Rattle.drawing.specs.declared.Stroke.the-variants.{Move, Line, Close, None}
 
--- A line to a cell of the chart; to none that is off it. No outline at work has a corner cell there
+-- A line to a cell of the chart, and nothing for a cell off the chart. No outline at work has a corner cell off the chart
 unfoldable pub lineTo : ℤ → ℤ → Stroke
 lineTo x y = cond (onChart x y) (Line (record { col = natAbs x; row = natAbs y })) None
 
--- The lines of a walk from (x, y): for each edge that another follows, to the cell at which it ends. Two numbers an edge, columns then rows; an odd number at the end is no edge
+-- The lines of the walk from (x, y): for each edge but the last, a line to the cell where it ends. An edge is two numbers, columns then
+-- rows.
+-- An odd number at the end is not an edge
 unfoldable pub linesFrom : List ℤ → ℤ → ℤ → List Stroke
 linesFrom [] x y = []
 linesFrom (dx ∷ []) x y = []
@@ -25,6 +28,6 @@ linesFrom (dx ∷ dy ∷ ex ∷ ey ∷ es) x y = lineTo (x +ℤ dx) (y +ℤ dy) 
 unfoldable pub drawing : Point → List ℤ → List Stroke
 drawing a es = Move a ∷ linesFrom es (pos (a .col)) (pos (a .row)) ++ (Close ∷ [])
 
--- The piece at a position, counted from 0; none past the last
+-- The path command at a position, counted from 0. None after the last
 unfoldable pub strokeAt : Point → List ℤ → ℕ → Stroke
 strokeAt a es n = getD (drawing a es) n None

@@ -1,4 +1,4 @@
--- The pieces of a drawing by cells, and by points of two floats; what is claimed of an outline's drawing.
+-- Path commands by cells, and by points of two floats; what is claimed of an outline's drawing.
 pub mod Drawing
 pub mod Points
 pub mod Claims

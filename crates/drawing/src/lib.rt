@@ -1,4 +1,4 @@
-// The drawing of a polygon of edges, piece by piece, as the tablet's canvas takes it.
+// The drawing of a polygon of edges, one path command at a time, as the tablet's canvas takes it.
 use calls::Piece;
 use calls::Reply;
 use chart::Point;
@@ -13,16 +13,16 @@ ghost use Rattle.drawing.specs.Points.{half as halfOf, pieceOf, cellIn, 
 // The last column and the last row.
 const LAST: u16 = SIDE - 1;
 
-// One piece of a drawing, by the cell at whose centre its point lies.
+// One path command, by the cell whose centre is its point.
 pub enum Stroke {
     Move(Point),
     Line(Point),
     Close,
-    // Past the last piece.
+    // Past the last command.
     None,
 }
 
-// One number of a cell, a step further: a position has 16 bits, so no sum of the steps before it is larger than 2^32.
+// One number of a cell after a step. A position has 16 bits, so the sum of the steps before it stays below 2^32.
 fn further(n: i64, d: i16) -> i64
     requires { ⌜ natAbs n ≤ 2 ^ 32 ⌝ }
     ensures { λ r. ⌜ r ≡ n +ℤ d ⌝ }
@@ -37,7 +37,7 @@ fn chart_number(z: i64) -> bool
     (0 <= z) & (z <= LAST as i64)
 }
 
-// A line to a cell of the chart; to none that is off it.
+// A line to a cell of the chart, and nothing for a cell off the chart.
 fn line_to(x: i64, y: i64) -> Stroke
     ensures { λ r. ⌜ r ≡ lineTo x y ⌝ }
 {
@@ -50,7 +50,7 @@ fn line_to(x: i64, y: i64) -> Stroke
     Stroke::None
 }
 
-// The piece at a position of the drawing of an anchor and a list of edges: a line for each edge but the last, and close.
+// The path command at a position of the drawing of an anchor and a list of edges: a line for each edge but the last, and a close.
 fn stroke_at(anchor: Point, edges: &[i16], position: u16) -> Stroke
     ensures { λ r. ⌜ r ≡ strokeAt anchor (now (edges .entry)) position ⌝ }
 {
@@ -84,7 +84,7 @@ fn half(n: u16) -> f32
     (n as f32) + 0.5
 }
 
-// A piece with its point.
+// A path command with its point.
 fn piece_of(stroke: Stroke) -> Piece
     ensures { λ r. ⌜ r ≡ pieceOf stroke ⌝ }
 {
@@ -96,7 +96,7 @@ fn piece_of(stroke: Stroke) -> Piece
     }
 }
 
-// The cell of a move or a line; that of any other piece is (0, 0).
+// The cell of a move or a line. Any other command has (0, 0).
 fn cell_in(stroke: Stroke) -> Point
     ensures { λ r. ⌜ r ≡ cellIn stroke ⌝ }
 {
@@ -108,7 +108,7 @@ fn cell_in(stroke: Stroke) -> Point
     }
 }
 
-// The reply of a call for the piece at a position: the piece with its point, and the point's cell.
+// The reply of the piece call for a position: the path command with its point, and the point's cell.
 pub fn drawn_at(anchor: Point, edges: &[i16], position: u16) -> Reply
     ensures { λ r. ⌜ r ≡ drawnReply (strokeAt anchor (now (edges .entry)) position) ⌝ }
 {
@@ -119,7 +119,7 @@ pub fn drawn_at(anchor: Point, edges: &[i16], position: u16) -> Reply
     }
 }
 
-// Writes two numbers to the front of a lent list that has room for them.
+// Writes two numbers to the front of a buffer that has room for them.
 fn write_pair(x: f32, y: f32, point: &mut [f32])
     ensures { λ r. ⌜ now (point .exit) ≡ pairAfter x y (now (point .entry)) ⌝ }
 {
@@ -130,7 +130,7 @@ fn write_pair(x: f32, y: f32, point: &mut [f32])
     point[1] = y;
 }
 
-// Writes the point of a piece to the front of a lent list. A piece without one leaves the list as it is.
+// Writes the point of a path command to the front of a buffer. A command without a point leaves the buffer unchanged.
 pub fn write_point(piece: Piece, point: &mut [f32])
     ensures { λ r. ⌜ now (point .exit) ≡ pointAfter piece (now (point .entry)) ⌝ }
 {

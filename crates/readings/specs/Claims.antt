@@ -1,4 +1,4 @@
--- What is claimed of a reading that is not refused, in units of 2 ^ -149 (contract 8.7): 1/64 is 2 ^ 143 of them, and 1/32 is 2 ^ 144.
+-- What is claimed of a reading that is not refused (contract 8.7). The unit is 2 ^ -149: 1/64 is 2 ^ 143 units, and 1/32 is 2 ^ 144.
 use Prim.Native.Nat.{_^_, _<_}
 use mathlib.Core.Path.{_≡_}
 use mathlib.Core.Logic.{_↔_}
@@ -16,7 +16,7 @@ use Rattle.readings.specs.declared.Located.the-variants.{Inside, Outside
 use Rattle.readings.specs.Sides.{Edge, edgesAlong, exactSide, computedSide}
 use Rattle.readings.specs.Located.{withinExtremes, exactlyInside, locatedOf}
 
--- When an answer is left open: the extremes hold the reading, every computed side value is above -1/64, and some one is below 1/64
+-- When a reading is undecided: it lies within the extremes, every computed side value is above -1/64, and some is below 1/64
 pub record Open (a : Point) (es : List ℤ) (r : Reading) : Type 0 where
   pub within : withinExtremes a es r ≡ true
   pub none-far : (e : Edge) → List·Memᴰ e (edgesAlong a es) → leZ (value binary32 (computedSide r e)) (negℤ (pos (2 ^ 143))) ≡ false
@@ -25,7 +25,7 @@ pub record Open (a : Point) (es : List ℤ) (r : Reading) : Type 0 where
   pub close : leZ (pos (2 ^ 143)) (value binary32 (computedSide r edge)) ≡ false
 
 pub record Answers (a : Point) (es : List ℤ) (r : Reading) : Type 0 where
-  -- every computed side value is a number and finite, and a float of 32 bits
+  -- every computed side value is a finite number and a 32-bit float
   pub finite : (e : Edge) → List·Memᴰ e (edgesAlong a es) → T (isFinite (computedSide r e)) × T (fits binary32 (computedSide r e))
   -- rounding moves a side value by less than 1/64
   pub close : (e : Edge) → List·Memᴰ e (edgesAlong a es) → natAbs (value binary32 (computedSide r e) -ℤ exactSide r e) < 2 ^ 143
@@ -34,11 +34,11 @@ pub record Answers (a : Point) (es : List ℤ) (r : Reading) : Type 0 where
   pub outside : locatedOf a es r ≡ Outside → exactlyInside a es r ≡ false
   -- when the answer is "undecided"
   pub undecided : (locatedOf a es r ≡ Undecided) ↔ Open a es r
-  -- it decides wherever all exact values reach 1/32, and wherever one is down to -1/32
+  -- the answer is decided if all exact side values are at least 1/32, and if one is at most -1/32
   pub inner : ((e : Edge) → List·Memᴰ e (edgesAlong a es) → leZ (pos (2 ^ 144)) (exactSide r e) ≡ true) → locatedOf a es r ≡ Undecided → ⊥
   pub outer : (e : Edge) → List·Memᴰ e (edgesAlong a es) → leZ (exactSide r e) (negℤ (pos (2 ^ 144))) ≡ true → locatedOf a es r ≡ Undecided → ⊥
 
--- The reading is at the centre of the cell x: its numbers are the cell's column and row
+-- The reading is the centre of the cell x: its numbers are the cell's column and row
 pub record Centred (r : Reading) (x : Point) : Type 0 where
   pub col : value binary32 (r .angle) ≡ inUnits binary32 (pos (x .col))
   pub row : value binary32 (r .load) ≡ inUnits binary32 (pos (x .row))

@@ -1,4 +1,5 @@
--- Side values at a reading, exact and computed; where a reading lies, and what is claimed of it; the answer as a reply; specimens; the parts of the walk that finds it.
+-- Side values at a reading, exact and computed; where a reading lies, and what is claimed of it; the reply; specimens; the steps of the
+-- walk.
 pub mod Sides
 pub mod Located
 pub mod Claims

@@ -17,12 +17,12 @@ use Rattle.readings.specs.declared.Located.{Located}
 use Rattle.readings.specs.declared.Located.the-variants.{Inside, Outside, Undecided, Refused}
 use Rattle.readings.specs.Sides.{Edge, edgesAlong, exactSide, computedSide}
 
--- The two floats are values of 32 bits
+-- Both numbers are 32-bit floats
 pub record Held (r : Reading) : Type 0 where
   pub angle : T (fits binary32 (r .angle))
   pub load : T (fits binary32 (r .load))
 
--- 11: no number, infinite, below 0, or above the last column and row
+-- 11, of one number: NaN, infinite, below 0, or above 254
 unfoldable pub badNumber : Float → Bool
 badNumber nan = true
 badNumber (inf s) = true
@@ -30,30 +30,31 @@ badNumber (fin s m e) =
     let v = value binary32 (fin s m e) in
     not (leZ (pos 0) v && leZ v (inUnits binary32 (pos (side - 1))))
 
--- 11, of a reading: of either number
+-- 11, of a reading: either number is bad
 unfoldable pub badReading : Reading → Bool
 badReading r = badNumber (r .angle) || badNumber (r .load)
 
--- Between the lowest and the highest number that steps from x meet, compared exactly
+-- Between the lowest and the highest number on the walk from x, compared exactly
 unfoldable pub between : List ℤ → ℤ → Float → Bool
 between ds x v = leZ (inUnits binary32 (lowestMet ds x)) (value binary32 v) && leZ (value binary32 v) (inUnits binary32 (highestMet ds x))
 
--- Within the extreme columns and rows
+-- Between the extreme columns and rows
 unfoldable pub withinExtremes : Point → List ℤ → Reading → Bool
 withinExtremes a es r = between (colSteps es) (pos (a .col)) (r .angle) && between (rowSteps es) (pos (a .row)) (r .load)
 
--- Within the extremes, and no exact side value is below 0
+-- Between the extremes, and no exact side value is below 0
 unfoldable pub exactlyInside : Point → List ℤ → Reading → Bool
 exactlyInside a es r = withinExtremes a es r && all (λ e. notNegative (exactSide r e)) (edgesAlong a es)
 
--- The computed side value is at most -1/64, and is below 1/64. 1/64 is the float 1 * 2 ^ -6
+-- The computed side value is at most -1/64; it is below 1/64. 1/64 is the float 1 * 2 ^ -6
 unfoldable pub far : Reading → Edge → Bool
 far r e = le (computedSide r e) (fin true 1 (negsuc 5))
 
 unfoldable pub near : Reading → Edge → Bool
 near r e = lt (computedSide r e) (fin false 1 (negsuc 5))
 
--- Outside where the reading is not within the extremes or is far from some edge, else undecided where it is near some edge, else inside
+-- Outside if the reading is not between the extremes or is far outside some edge; otherwise undecided if it is near some edge; otherwise
+-- inside
 unfoldable pub sided : Point → List ℤ → Reading → Located
 sided a es r =
     cond (withinExtremes a es r && not (any (far r) (edgesAlong a es)))
@@ -64,14 +65,15 @@ sided a es r =
 unfoldable pub endsOn : Edge → Bool
 endsOn e = onChart (e .col +ℤ e .cols) (e .row +ℤ e .rows)
 
--- A walk that stays on the chart: the anchor is one of its cells, and so is the end of every edge
+-- The walk stays on the chart: the anchor and the end of every edge are cells of the chart
 unfoldable pub staysOn : Point → List ℤ → Bool
 staysOn a es = onChart (pos (a .col)) (pos (a .row)) && all endsOn (edgesAlong a es)
 
--- The answer for every anchor, list and pair of floats. No reading is inside a list whose walk leaves the chart; no outline at work has one
+-- The answer for every anchor, list and pair of floats. If the walk leaves the chart, every reading is outside; no outline at work has such
+-- edges
 unfoldable pub locatedOf : Point → List ℤ → Reading → Located
 locatedOf a es r = cond (badReading r) Refused (cond (staysOn a es) (sided a es r) Outside)
 
--- The reading of two bit patterns. Every pattern of no number is the one float that is none
+-- The reading of two bit patterns. Every NaN pattern becomes the same NaN
 unfoldable pub readingOf : ℕ → ℕ → Reading
 readingOf a l = record { angle = ofBits binary32 a; load = ofBits binary32 l }

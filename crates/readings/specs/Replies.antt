@@ -1,4 +1,4 @@
--- What is said of a reading, as a reply (contract 7.10).
+-- The reply to a reading (contract 7.10).
 use Rattle.chart.specs.declared.Refusal.the-variants.{Cell}
 use Rattle.calls.specs.declared.Reply.{Reply}
 use Rattle.calls.specs.declared.Reply.the-variants.{Inside as IsInside, Outside as IsOutside, Undecided as IsUndecided, Refused as WasRefused}

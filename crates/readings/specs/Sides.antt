@@ -1,4 +1,4 @@
--- The side values of a walk of edges at a reading: exact, in units of 2 ^ -149, and as the machine computes them (contract 3.18 and 3.19).
+-- The side values of edges at a reading: exact, in units of 2 ^ -149, and as the machine computes them (contract 3.18 and 3.19).
 use mathlib.Core.List.{List, [], _∷_}
 use lib.IntN.{ℤ, pos, _+ℤ_}
 use lib.Ieee.{Float, binary32, sub, mul, ofInt}
@@ -7,14 +7,14 @@ use Rattle.chart.specs.declared.Point.{Point}
 use Rattle.convexity.specs.Inside.{sideValue}
 use Rattle.calls.specs.declared.Reading.{Reading}
 
--- An edge (cols, rows) and the corner cell (col, row) that it leaves
+-- An edge (cols, rows) and the corner cell (col, row) where it starts
 pub record Edge : Type 0 where
   pub cols : ℤ
   pub rows : ℤ
   pub col : ℤ
   pub row : ℤ
 
--- The edges of a walk from (x, y), and from an anchor
+-- The edges of the walk from (x, y), and from an anchor
 unfoldable pub edgesFrom : List ℤ → ℤ → ℤ → List Edge
 edgesFrom [] x y = []
 edgesFrom (dx ∷ []) x y = []
@@ -23,12 +23,12 @@ edgesFrom (dx ∷ dy ∷ es) x y = record { cols = dx; rows = dy; col = x; row =
 abbrev pub edgesAlong : Point → List ℤ → List Edge
 edgesAlong a es = edgesFrom es (pos (a .col)) (pos (a .row))
 
--- The side value of contract 3.14 with corner and reading in units: exact, in units
+-- The side value of contract 3.14, exact: corner cell and reading both in units of 2 ^ -149
 unfoldable pub exactSide : Reading → Edge → ℤ
 exactSide r e =
     sideValue (e .cols) (e .rows) (inUnits binary32 (e .col)) (inUnits binary32 (e .row)) (value binary32 (r .angle)) (value binary32 (r .load))
 
--- The same steps on floats, each rounded
+-- The same five steps on floats, each rounded
 unfoldable pub computedSide : Reading → Edge → Float
 computedSide r e =
     sub binary32

@@ -34,8 +34,9 @@ answered h = sameFields (replyFields (locatedReply (locatedOf (h .anchor) (h .ed
 ask : Point → List ℤ → ℕ → ℕ → Fields → Asked
 ask a es x y f = record { anchor = a; edges = es; angle = x; load = y; fields = f }
 
--- H3 in its middle, at a corner, on an edge, 1/100 outside it, 1/10 inside it, a cell outside, and past the last column. H2, which is flat, on its line, at -0, 2 ^ -149
--- above it, and past its end. One cell at its centre, at -0, 2 ^ -149 beside it, and from the last cell. No number, infinite, below 0 and above 254. A walk that leaves the chart
+-- H3: the middle, a corner cell, a point on an edge, 1/100 outside it, 1/10 inside it, a cell outside, and past the last column. H2, which
+-- is flat: on its line, at -0, 2 ^ -149 above the line, and past its end. One cell: its centre, -0, 2 ^ -149 beside it, and from the
+-- chart's last cell. Then NaN, infinite, below 0 and above 254, and edges that leave the chart
 unfoldable pub specimens : List Asked
 unfolding at H2 H3 ask
 specimens =

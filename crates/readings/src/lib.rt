@@ -1,4 +1,4 @@
-// Readings between cells: where a pair of floats lies in a polygon of edges, in 32-bit arithmetic.
+// Locates a pair of floats among the edges of a polygon, in 32-bit arithmetic.
 use calls::Reading;
 use calls::Reply;
 use chart::Point;
@@ -15,7 +15,7 @@ mod walk;
 // The last column and the last row.
 const LAST: u16 = SIDE - 1;
 
-// Where a reading lies. It is refused by 11.
+// Where a reading lies. `Refused` is 11.
 pub enum Located {
     Inside,
     Outside,
@@ -23,7 +23,7 @@ pub enum Located {
     Refused,
 }
 
-// 11, of one number: it is none, or infinite, below 0 or past the last column and row.
+// 11, of one number: NaN, infinite, below 0 or above 254.
 fn bad_number(x: f32) -> bool
     ensures { λ b. ⌜ b ≡ badNumber x ⌝ }
 {
@@ -52,7 +52,7 @@ pub fn locate(anchor: Point, edges: &[i16], reading: Reading) -> Located
     walk::settle(at)
 }
 
-// The same as a call's reply.
+// The call's reply.
 pub fn reply(located: Located) -> Reply
     ensures { λ r. ⌜ r ≡ locatedReply located ⌝ }
 {
@@ -64,7 +64,7 @@ pub fn reply(located: Located) -> Reply
     }
 }
 
-// The number of a bit pattern. `from_bits` has none for the patterns of no number: that is made by 0 / 0.
+// The float of a bit pattern. `from_bits` has no value for a NaN pattern, so 0 / 0 makes the NaN.
 fn number(bits: u32) -> f32
     ensures { λ x. ⌜ x ≡ ofBits binary32 bits ⌝ }
 {

@@ -1,4 +1,4 @@
-// The walk along a polygon's edges that finds where a reading lies.
+// The walk along a polygon's edges that locates a reading.
 use crate::LAST;
 use crate::Located;
 use calls::Reading;
@@ -10,16 +10,16 @@ ghost use Rattle.readings.specs.Sides.{computedSide};
 ghost use Rattle.readings.specs.Located.{badNumber, badReading};
 ghost use Rattle.readings.specs.parts.Walk.{met, arrived, begun, passed, settled};
 
-// Below this, and above its negative, a computed side value leaves open on which side of the edge the reading lies.
+// A computed side value between the negative of this and this leaves open on which side of the edge the reading lies.
 const SIXTY_FOURTH: f32 = 0.015625;
 
-// One coordinate of the corner cells met so far: one is at or under the reading's number, one is at or over it.
+// One coordinate of the corner cells met so far: whether some is at most the reading's number, and whether some is at least that.
 struct Met {
     under: bool,
     over: bool,
 }
 
-// The corner cell where the walk stands, what it met, and whether the reading was near an edge.
+// The current corner cell, what the walk has met, and whether the reading was near an edge.
 pub(crate) struct Walk {
     x: i16,
     y: i16,
@@ -28,13 +28,13 @@ pub(crate) struct Walk {
     near: bool,
 }
 
-// The walk after one edge more, or out: it left the chart, or the reading lies far outside that edge.
+// The walk after one more edge, or out: it left the chart, or the reading is far outside that edge.
 pub(crate) enum Passed {
     Out,
     On(Walk),
 }
 
-// One number more is met.
+// Adds one more number.
 fn meet(m: Met, n: i16, x: f32) -> Met
     requires { ⌜ (chartNumber n ≡ true) × (badNumber x ≡ false) ⌝ }
     ensures { λ r. ⌜ r ≡ met m n x ⌝ }
@@ -46,7 +46,7 @@ fn meet(m: Met, n: i16, x: f32) -> Met
     }
 }
 
-// Where a step of d from n leads: no sum of two such numbers is too large.
+// Where a step of d from n leads. The sum fits.
 fn sum(n: i16, d: i16) -> i32
     ensures { λ r. ⌜ r ≡ n +ℤ d ⌝ }
 {
@@ -60,7 +60,7 @@ fn chart_number(z: i32) -> bool
     (0 <= z) & (z <= LAST as i32)
 }
 
-// The computed side value of the edge (dx, dy) that leaves the corner cell (x, y): subtract, multiply, subtract, each rounded.
+// The computed side value of the edge (dx, dy) that starts at the corner cell (x, y): subtract, multiply, subtract, each rounded.
 fn side(dx: i16, dy: i16, x: i16, y: i16, r: Reading) -> f32
     ensures { λ v. ⌜ v ≡ computedSide r (record { cols = dx; rows = dy; col = x; row = y }) ⌝ }
 {
@@ -117,7 +117,7 @@ pub(crate) fn pass(w: Walk, dx: i16, dy: i16, r: Reading) -> Passed
     Passed::On(arrive(w, x as i16, y as i16, v < SIXTY_FOURTH, r))
 }
 
-// What the walk says at its end.
+// The answer at the end of the walk.
 pub(crate) fn settle(w: Walk) -> Located
     ensures { λ l. ⌜ l ≡ settled w ⌝ }
 {

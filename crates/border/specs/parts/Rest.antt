@@ -1,4 +1,4 @@
--- What is still to be written where a piece is begun: the letters of its edges to come, and then the pieces after it.
+-- What is still to be written in a piece: the letters of its remaining edges, and then the later pieces.
 use Prim.Native.Nat.{ℕ, zero, suc, _+_, _-_}
 use mathlib.Core.List.{List, [], _∷_, _++_}
 use lib.IntN.{ℤ}
@@ -11,7 +11,7 @@ use Rattle.convexity.specs.FromEdges.{quadrantOf, runIn, riseIn, sizesIn}
 unfoldable pub edgeLetters : ℕ → List ℤ → List ℕ
 edgeLetters k es = spell (frameOf k) (edgesWord (sizesIn k es))
 
--- In piece k, which n pieces follow
+-- In piece k, with n pieces after it
 unfoldable pub rest : ℕ → ℕ → List ℤ → List ℕ
 rest zero k es = edgeLetters k es
 rest (suc n) k es = edgeLetters k es ++ (frameOf (suc k) .later ∷ rest n (suc k) es)
@@ -25,7 +25,7 @@ firsts k (suc n) = frameOf (suc k) .later ∷ firsts (suc k) n
 unfoldable pub letters : ℕ → ℕ → ℕ → List ℕ
 letters k run rise = spell (frameOf k) (listed (countedLetter rise (run + rise)) (run + rise))
 
--- What one edge writes where piece p was begun last
+-- What one edge writes if piece p was begun last
 unfoldable pub stepLetters : ℕ → ℤ → ℤ → List ℕ
 stepLetters p dx dy =
     firsts p (quadrantOf dx dy - p) ++ letters (quadrantOf dx dy) (runIn (quadrantOf dx dy) dx dy) (riseIn (quadrantOf dx dy) dx dy)

@@ -4,7 +4,8 @@ use mathlib.Core.List.{List, [], _∷_}
 use lib.IntN.{ℤ}
 use Rattle.convexity.specs.FromEdges.{quadrantOf}
 
--- Each edge has a quadrant, which is no earlier than that of the edge before it; that of the first is k or later. An odd number at the end is no edge
+-- Every edge has a quadrant, none before that of the edge in front of it, and the first has quadrant k or a later one.
+-- An odd number at the end is not an edge
 pub data Ordered : ℕ → List ℤ → Type 0 where
   none : {k : ℕ} → Ordered k []
   odd : {k : ℕ} {d : ℤ} → Ordered k (d ∷ [])

@@ -1,5 +1,6 @@
--- The rows of a walk in two lists of numbers, the first columns and the ends: what one corner cell and one edge tell, what lists hold after a walk, and what two
--- such pairs of lists tell.
+-- The rows of a polygon in two lists: the first column of each row, and the column past the last. What a corner cell and an edge add to
+-- them,
+-- what they hold after the walk, and how two such pairs compare.
 use Prim.Native.Nat.{ℕ, _+_, _*_, _≤_, _<_, min, max}
 use mathlib.Core.Path.{_≡_}
 use mathlib.Core.Bool.{cond, not, _&&_}
@@ -16,37 +17,37 @@ use Rattle.sweep.specs.parts.Sweep.{cornerFrom, cornerTo, rowFrom, rowTo}
 use Rattle.sweep.specs.parts.Tests.{runWithin, runsMeet, rowsWithin, rowsApart}
 use Rattle.comparison.specs.declared.rows.Tests.{Tests}
 
--- The first column of row r on the inner side of the edge from p to q, and the end, by the edge's side value at column 0
+-- The first column of row r inside the edge from p to q, and the column past the last, from the edge's side value at column 0
 unfoldable pub firstAt : Point → Point → ℕ → ℕ
 firstAt p q r = edgeFrom (pos (q .row) -ℤ pos (p .row)) (pos (q .col * p .row + p .col * r) -ℤ pos (q .row * p .col + q .col * r))
 
 unfoldable pub endAt : Point → Point → ℕ → ℕ
 endAt p q r = edgeTo (pos (q .row) -ℤ pos (p .row)) (pos (q .col * p .row + p .col * r) -ℤ pos (q .row * p .col + q .col * r))
 
--- What is told of the rows strictly between a and b, and else d
+-- f in the rows strictly between a and b, and d in the others
 unfoldable pub inRows : ℕ → ℕ → (ℕ → ℕ) → ℕ → ℕ → ℕ
 inRows a b f d r = cond (ltb a r && ltb r b) (f r) d
 
--- What a corner cell tells of row r
+-- The bounds that a corner cell gives for row r
 unfoldable pub metFrom : Point → ℕ → ℕ
 metFrom p r = cornerFrom (pos (p .col)) (pos (p .row)) r
 
 unfoldable pub metTo : Point → ℕ → ℕ
 metTo p r = cornerTo (pos (p .col)) (pos (p .row)) r
 
--- What an edge tells that rises through row r, and one that falls
+-- The bound that an edge gives for row r: on the left if it rises through the row, on the right if it falls
 abbrev pub risenFrom : Point → Point → ℕ → ℕ
 risenFrom p q r = inRows (p .row) (q .row) (λ n. min (firstAt p q n) side) side r
 
 abbrev pub fallenTo : Point → Point → ℕ → ℕ
 fallenTo p q r = inRows (q .row) (p .row) (λ n. min (endAt p q n) side) 0 r
 
--- A number for each row of the chart, and one more, of which none is past the end of the longest run
+-- One number for each row of the chart and one more, none above 255
 pub record AllBelow (l : List ℕ) : Type 0 where
   pub long : length l ≡ 256
   pub at : (r : ℕ) → r < side → getD l r 0 ≤ side
 
--- Each number is the lesser, or the greater, of what it was and what is told of its row
+-- Each number is the minimum, or the maximum, of its old value and the bound for its row
 pub record Lowered (f : ℕ → ℕ) (before after : List ℕ) : Type 0 where
   pub long : length after ≡ length before
   pub at : (r : ℕ) → r < side → getD after r 0 ≡ min (getD before r 0) (f r)
@@ -55,12 +56,12 @@ pub record Raised (f : ℕ → ℕ) (before after : List ℕ) : Type 0 where
   pub long : length after ≡ length before
   pub at : (r : ℕ) → r < side → getD after r 0 ≡ max (getD before r 0) (f r)
 
--- The first columns and the ends of a polygon's rows
+-- The two lists hold the columns of a polygon's rows
 pub record Swept (p : Polygon) (first end : List ℕ) : Type 0 where
   pub from : (r : ℕ) → r < side → getD first r 0 ≡ rowFrom p r
   pub to : (r : ℕ) → r < side → getD end r 0 ≡ rowTo p r
 
--- The tests of two polygons, and of two pairs of lists
+-- The three tests, of two polygons and of two pairs of lists
 unfoldable pub testsOf : Polygon → Polygon → Tests
 testsOf p q = record { inward = rowsWithin p q; outward = rowsWithin q p; apart = rowsApart p q }
 

@@ -1,4 +1,4 @@
--- A step on the chart: where it leads, or the first number that is none of the chart's.
+-- A step on the chart: where it leads, or 255 if that is off the chart.
 use Prim.Native.Nat.{ℕ}
 use mathlib.Core.Bool.{cond}
 use lib.IntN.{ℤ, pos, _+ℤ_}
@@ -7,7 +7,7 @@ use Rattle.chart.specs.declared.Point.{Point}
 use Rattle.directions.specs.CornerHull.{chartNumber}
 use Rattle.nesting.specs.Rows.{startAt}
 
--- A column or a row of the chart as it is, and any other number as the first that is none
+-- A column or a row of the chart is kept. Any other number becomes 255, the first that is off the chart
 unfoldable pub kept : ℤ → ℕ
 kept z = cond (chartNumber z) (startAt z) side
 

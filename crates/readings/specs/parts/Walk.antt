@@ -1,4 +1,4 @@
--- The walk along the edges that finds where a reading lies, edge by edge: what its parts promise one another.
+-- The walk along the edges that locates a reading: what its steps promise each other.
 use mathlib.Core.Bool.{Bool, false, cond, _&&_, _||_}
 use lib.IntN.{ℤ, _+ℤ_}
 use lib.Signed.{leZ}
@@ -15,7 +15,7 @@ use Rattle.readings.specs.declared.walk.Passed.the-variants.{Out, On}
 use Rattle.readings.specs.Sides.{Edge}
 use Rattle.readings.specs.Located.{far, near}
 
--- One number more is met: some number met is at or under x, some is at or over it
+-- After one more number: whether some number met is at most x, and whether some is at least x
 unfoldable pub met : Met → ℤ → Float → Met
 met m n x =
     record {
@@ -23,7 +23,7 @@ met m n x =
       over = m .over || leZ (value binary32 x) (inUnits binary32 n);
     }
 
--- The walk one corner cell further; n says whether the reading is near the edge that led there
+-- The walk one corner cell further. n says whether the reading is near the edge that leads there
 unfoldable pub arrived : Walk → ℤ → ℤ → Bool → Reading → Walk
 arrived w x y n r = record { x = x; y = y; cols = met (w .cols) x (r .angle); rows = met (w .rows) y (r .load); near = w .near || n }
 
@@ -34,11 +34,11 @@ noneMet = record { under = false; over = false }
 unfoldable pub begun : ℤ → ℤ → Reading → Walk
 begun x y r = arrived (record { x = x; y = y; cols = noneMet; rows = noneMet; near = false }) x y false r
 
--- The edge on which the walk goes on
+-- The edge that the walk takes next
 unfoldable pub edgeOf : Walk → ℤ → ℤ → Edge
 edgeOf w dx dy = record { cols = dx; rows = dy; col = w .x; row = w .y }
 
--- The walk at the end of that edge; and out, where it leaves the chart or the reading is far outside the edge
+-- The walk at the end of that edge. It is out if it leaves the chart or if the reading is far outside the edge
 unfoldable pub stepped : Walk → ℤ → ℤ → Reading → Walk
 stepped w dx dy r = arrived w (w .x +ℤ dx) (w .y +ℤ dy) (near r (edgeOf w dx dy)) r
 
@@ -46,7 +46,7 @@ unfoldable pub passed : Walk → ℤ → ℤ → Reading → Passed
 passed w dx dy r =
     cond (onChart (w .x +ℤ dx) (w .y +ℤ dy)) (cond (far r (edgeOf w dx dy)) Out (On (stepped w dx dy r))) Out
 
--- What the walk says at its end
+-- The answer at the end of the walk
 unfoldable pub settled : Walk → Located
 settled w =
     cond (w .cols .under && w .cols .over && (w .rows .under && w .rows .over)) (cond (w .near) Undecided Inside) Outside
