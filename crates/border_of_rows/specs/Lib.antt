@@ -1,2 +1,2 @@
--- Letters written from a place of a list on.
+-- Letters written into a list from a place on.
 pub mod parts

@@ -1,4 +1,4 @@
-// The letters round a block of rows, written clockwise from the left end of one of them.
+// Writes the letters round a block of rows, clockwise from the left end of one row.
 ghost use Prim.Native.Nat.{_+_, _-_, _≤_, _<_};
 ghost use mathlib.Core.Path.{_≡_};
 ghost use mathlib.Core.List.{_++_};
@@ -9,7 +9,8 @@ ghost use Rattle.completion.specs.Runs.{across as acrossOf};
 ghost use Rattle.completion.specs.parts.Written.{toRow, descent, writtenFrom};
 ghost use Rattle.border_of_rows.specs.parts.Wrote.{Wrote};
 
-// Writes the rights or the lefts from column `a` to column `b`, and says where they end. One letter is the common case, so there is one loop for both.
+// Writes the rights or the lefts from column `a` to column `b` and returns where they end. Usually there is one letter, so one loop does
+// both.
 fn across(out: &mut [u8], at: usize, a: u16, b: u16) -> usize
     requires { ⌜ at + length (acrossOf a b) ≤ length (now out) ⌝ }
     ensures { λ r. ⌜ (r ≡ at + length (acrossOf a b)) × Wrote (now (out .entry)) at (acrossOf a b) (now (out .exit)) ⌝ }

@@ -16,11 +16,11 @@ use Rattle.completion.specs.Complete.{complete as completionOf}
 use Rattle.completion_call.specs.declared.Completed.{Completed}
 use Rattle.completion_call.specs.declared.Completed.the-variants.{Written, Refused, NoRoom}
 
--- 18, or the count of letters of v and the corner at which they start, in a lent list of n
+-- 18, or the count of letters of v and the corner where they start, with a buffer of n
 unfoldable pub lettersIn : ℕ → Outline → Completed
 lettersIn n v = cond (ltb n (size v)) NoRoom (Written (size v) (v .start))
 
--- What 1 to 6 say, or else what is said further on
+-- The refusal of 1 to 6, or the given result
 unfoldable pub afterSurvey : Surveyed → Completed → Completed
 afterSurvey (Passed c) d = d
 afterSurvey (Stopped f) d = Refused f
@@ -28,13 +28,13 @@ afterSurvey (Stopped f) d = Refused f
 unfoldable pub completedOf : Outline → ℕ → Completed
 completedOf o n = afterSurvey (surveyOf o) (lettersIn n (border (completionOf o)))
 
--- The answer written out
+-- The reply's fields
 unfoldable pub completedFields : Completed → Fields
 completedFields (Written n s) = accepted no-word n s
 completedFields (Refused f) = refusalFields f
 completedFields NoRoom = numbered 18
 
--- The lent list afterwards: the letters stand first in it and the rest is unaltered; where the call is refused, all of it is
+-- The buffer afterwards. The letters stand first and the rest is unchanged. A refused call changes nothing
 unfoldable pub writtenAfter : Completed → List ℕ → List ℕ → List ℕ
 writtenAfter (Written n s) w buffer = w ++ drop (length w) buffer
 writtenAfter (Refused f) w buffer = buffer

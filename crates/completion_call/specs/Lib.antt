@@ -1,4 +1,4 @@
--- What a completion answers, what its reply says about cells, and both in one record.
+-- The reply of a completion, what it says about cells, and both in one record.
 pub mod Completion
 pub mod Named
 pub mod parts

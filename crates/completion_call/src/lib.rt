@@ -18,24 +18,25 @@ ghost use Rattle.completion_call.specs.parts.Answers.{Answers};
 
 pub mod written;
 
-// What a completion answers.
+// The result of a completion.
 pub enum Completed {
-    // So many letters are written, from this corner on.
+    // This many letters were written. They start at this corner.
     Written { letters: u16, start: Point },
     // 1 to 6.
     Refused(Refusal),
-    // 18. The lent letter list is too short.
+    // 18. The buffer for letters is too short.
     NoRoom,
 }
 
-// A number of 16 bits as an index.
+// A 16-bit number as an index.
 fn wide(x: u16) -> usize
     ensures { λ r. ⌜ (r ≡ x) × (r < 65536) ⌝ }
 {
     x as usize
 }
 
-// 18, of an outline past 1 to 6, or the letters: round the hull's rows, from the row of W on. The right side is the left side's mirror image.
+// For an outline that passes 1 to 6: 18, or the letters round the hull's rows, from W. The right side is found as the left side of the
+// mirror image.
 fn write_letters(start: Point, letters: &[u8], out: &mut [u8]) -> Completed
     requires { ⌜ Simple (outline start (now letters)) ⌝ }
     ensures { λ c. ⌜ Answers (outline start (now (letters .entry))) (now (out .entry)) (now (out .exit)) c ⌝ }
@@ -67,7 +68,7 @@ fn write_letters(start: Point, letters: &[u8], out: &mut [u8]) -> Completed
     }
 }
 
-// The completion: its letters, clockwise from W on, stand first in the list, and the rest of it is unaltered; where the call is refused, all of it is.
+// Writes the completion's letters, clockwise from W, to the front of the buffer. The rest is unchanged. A refused call changes nothing.
 pub fn complete(start: Point, letters: &[u8], out: &mut [u8]) -> Completed
     ensures answer { λ c. ⌜ c ≡ completedOf (outline start (now (letters .entry))) (length (now (out .entry))) ⌝ }
     ensures letters { λ c. ⌜ now (out .exit) ≡ completionAfter (outline start (now (letters .entry))) (now (out .entry)) ⌝ }

@@ -1,4 +1,4 @@
-// An answer written out: its number and its fields (contract 4).
+// The reply's number and fields (contract 4).
 use crate::Completed;
 use chart::Fields;
 use chart::reply;

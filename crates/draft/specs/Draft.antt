@@ -1,4 +1,4 @@
--- A draft as it is kept, and what begin, add and drop do to it: an equation for every value of the struct (contract 7.3 to 7.5).
+-- A draft as the holder keeps it, and what begin, add and drop do to it: an equation for every value of the struct (contract 7.3 to 7.5).
 use Prim.Native.Nat.{ℕ, _+_, min}
 use mathlib.Core.Bool.{true, false, cond}
 use lib.ListN.{take, set, replicate}
@@ -12,7 +12,7 @@ use Rattle.calls.specs.declared.Reply.the-variants.{Done, Refused, NoDraft, Dra
 use Rattle.draft.specs.declared.Draft.{Draft}
 use Rattle.draft.specs.declared.Drafted.{Drafted}
 
--- The outline that a draft keeps: no more letters than there is space for
+-- The outline of a draft. A count above the space is read as the space
 unfoldable pub outlineOf : Draft → Outline
 outlineOf d = record { start = d .start; letters = take (min (d .count) longest) (d .letters) }
 
@@ -20,7 +20,7 @@ outlineOf d = record { start = d .start; letters = take (min (d .count) longest)
 unfoldable pub noDraft : Draft
 noDraft = record { begun = false; start = record { col = 0; row = 0 }; letters = replicate longest 0; count = 0 }
 
--- The draft over; opened at a start, without letters; one letter longer
+-- The draft after it ends; after it is opened at a start, without letters; after one more letter
 unfoldable pub endOf : Draft → Draft
 endOf d = record { begun = false; start = d .start; letters = d .letters; count = d .count }
 

@@ -1,2 +1,2 @@
--- A draft as it is kept, and the calls on it.
+-- A draft as the holder keeps it, and the calls on it.
 pub mod Draft

@@ -15,7 +15,7 @@ ghost use Rattle.judge.specs.Judged.{judgedOf};
 ghost use Rattle.spans.specs.Spans.{spansOf};
 ghost use Rattle.draft.specs.Draft.{outlineOf, noDraft, endOf, beginOf, addOf, dropOf};
 
-// An outline in the making, if one was begun: a start, and as many letters as are counted.
+// An outline in the making, if one was begun: its start, its letters and their count.
 #[repr(C)]
 pub struct Draft {
     pub begun: bool,
@@ -30,14 +30,14 @@ pub struct Drafted {
     pub draft: Draft,
 }
 
-// No more letters than there is space for.
+// A count above the space is read as the space.
 fn held(count: usize) -> usize
     ensures { λ r. ⌜ r ≡ min count longest ⌝ }
 {
     if count < LONGEST { count } else { LONGEST }
 }
 
-// The letters that are held of those that there is space for.
+// The letters that are counted.
 fn first(letters: &[u8; LONGEST], count: usize) -> &[u8]
     ensures { λ r. ⌜ now r ≡ take (min count longest) (now (letters .entry)) ⌝ }
 {
@@ -58,7 +58,7 @@ impl Draft {
         }
     }
 
-    // The draft is over.
+    // Ends the draft.
     pub fn end(mut self) -> Self
         ensures { λ r. ⌜ r ≡ endOf self ⌝ }
     {
@@ -66,7 +66,7 @@ impl Draft {
         self
     }
 
-    // What refusals 1 to 9 say of the outline, and its edges.
+    // The verdict of refusals 1 to 9, and the edges.
     pub fn judge(self) -> Judged
         ensures { λ r. ⌜ r ≡ judgedOf (outlineOf self) ⌝ }
     {
@@ -76,7 +76,7 @@ impl Draft {
         judge::judgement(start, sent)
     }
 
-    // The first and the last column that it encloses in each row.
+    // The columns that it encloses in each row.
     pub fn spans(self) -> Spans
         ensures { λ r. ⌜ r ≡ spansOf (outlineOf self) ⌝ }
     {

@@ -1,4 +1,4 @@
--- The plain book: what the holder means, kept from the calls alone (contract 8).
+-- The model of the holder, which the contract calls the plain book: it sees the calls and keeps outlines (contract 8).
 use Prim.Native.Nat.{ℕ}
 use mathlib.Core.Bool.{Bool, false, cond, Bool·beq}
 use mathlib.Core.Option.{Option, none, some}
@@ -33,9 +33,9 @@ use Rattle.calls.specs.declared.Reading.{Reading}
 use Rattle.calls.specs.declared.Reply.{Reply}
 use Rattle.calls.specs.declared.Reply.the-variants.{Done, Inside, Outside, Taken as WasTaken, Same, Refused as WasRefused, NothingAtWork, NoDraft, DraftOpen, DraftFull, NoParty, NoPlace}
 
--- ---- the entries
+-- ---- the state
 
--- A party's page: its draft, and the outline at each place. Any of them may be none
+-- A party's state: its draft, and the outline at work at each place. Each may be none
 pub record PartyModel : Type 0 where
   pub draft : Option Outline
   pub works : ℕ → Option Outline
@@ -46,7 +46,7 @@ putDraft g d = record { draft = d; works = g .works }
 abbrev pub putWork : PartyModel → ℕ → Option Outline → PartyModel
 putWork g k w = record { draft = g .draft; works = put (g .works) k w }
 
--- A page for each party
+-- A state for each party
 abbrev pub Book : Type 0
 Book = ℕ → PartyModel
 
@@ -66,14 +66,14 @@ pub record OnDraft : Type 0 where
   pub reply : Reply
   pub draft : Option Outline
 
--- Begin (contract 7.3). 14 and 2 are asked in this order; what is opened has no letters yet
+-- Begin (contract 7.3). Checks 14 and then 2. The opened draft has no letters yet
 unfoldable pub begins : Point → Option Outline → OnDraft
 begins s (some d) = record { reply = DraftOpen; draft = some d }
 begins s none =
     cond (badStart s) (record { reply = WasRefused Start; draft = none })
     (record { reply = Done; draft = some (record { start = s; letters = [] }) })
 
--- Add (contract 7.4). 13, 15 and 3 are asked in this order; the place of 3 is where the letter would have stood
+-- Add (contract 7.4). Checks 13, 15 and then 3. The place of 3 is where the letter would have stood
 unfoldable pub adds : ℕ → Option Outline → OnDraft
 adds a none = record { reply = NoDraft; draft = none }
 adds a (some d) =
@@ -86,7 +86,7 @@ unfoldable pub drops : Option Outline → OnDraft
 drops none = record { reply = NoDraft; draft = none }
 drops (some d) = record { reply = Done; draft = none }
 
--- ---- what a close does to a work: its reply, and the work afterwards. The draft is over either way
+-- ---- what a close does to a work: its reply, and the work afterwards. The draft ends in any case
 
 pub record OnWork : Type 0 where
   pub reply : Reply
@@ -101,39 +101,39 @@ unfoldable pub equalsWork : Outline → Option Outline → Bool
 equalsWork o none = false
 equalsWork o (some v) = sameBlock o v
 
--- The reply, by what 1 to 9 say of the draft and whether it is the block at work
+-- The reply, from the verdict of 1 to 9 on the draft and whether the same block is at work
 unfoldable pub closedReply : Bool → Verdict → Reply
 closedReply same (Refused f) = WasRefused f
 closedReply same (Taken n a) = cond same (Same n a) (WasTaken n a)
 
--- A refusal leaves what is at work, and a draft that is taken replaces it
+-- A refusal leaves what is at work. A taken draft replaces it
 unfoldable pub workAfter : Option Outline → Outline → Verdict → Option Outline
 workAfter w d (Refused f) = w
 workAfter w d (Taken n a) = some d
 
--- Close (contract 7.7). What 1 to 9 say of the draft decides
+-- Close (contract 7.7). The verdict of 1 to 9 on the draft decides
 unfoldable pub closes : Option Outline → Option Outline → OnWork
 closes none w = record { reply = NoDraft; work = w }
 closes (some d) w = record { reply = closedReply (equalsWork d w) (verdictOf d); work = workAfter w d (verdictOf d) }
 
--- ---- what a call asks of a work
+-- ---- questions about a work
 
--- Query (contract 7.8). 12 and 11 are asked in this order; then the enclosed cells decide
+-- Query (contract 7.8). Checks 12 and then 11. Then the enclosed cells decide
 unfoldable pub asked : Point → Option Outline → Reply
 asked x none = NothingAtWork
 asked x (some o) = cond (badCell x) (WasRefused Cell) (cond (block o (x .col) (x .row)) Inside Outside)
 
--- Row (contract 7.9). 12 and 11 are asked in this order; then the first and the last enclosed column, by a search of the row's cells
+-- Row (contract 7.9). Checks 12 and then 11. Then the first and the last enclosed column, found cell by cell
 unfoldable pub askedRow : ℕ → Option Outline → Reply
 askedRow r none = NothingAtWork
 askedRow r (some o) = cond (leb side r) (WasRefused Cell) (spanReply (rowSpan (block o) r))
 
--- Reading (contract 7.10). 12 is asked first; then the outline's anchor and edges answer, with 11 among their answers
+-- Reading (contract 7.10). Checks 12. Then the outline's anchor and edges answer, including 11
 unfoldable pub askedReading : Reading → Option Outline → Reply
 askedReading x none = NothingAtWork
 askedReading x (some o) = locatedReply (locatedOf (border o .start) (edges (border o)) x)
 
--- Piece (contract 7.11). 12 is asked first; then the drawing of the outline's anchor and edges is looked at
+-- Piece (contract 7.11). Checks 12. Then it takes the path command from the drawing of the outline's anchor and edges
 unfoldable pub askedPiece : ℕ → Option Outline → Reply
 askedPiece n none = NothingAtWork
 askedPiece n (some o) = drawnReply (strokeAt (border o .start) (edges (border o)) n)
@@ -146,7 +146,7 @@ asks (OfPiece n) w = askedPiece n w
 
 -- ---- the calls of a party
 
--- A reply, and the page after it
+-- A reply, and the party's state after it
 pub record OnParty : Type 0 where
   pub reply : Reply
   pub page : PartyModel
@@ -157,7 +157,7 @@ drafting g a = record { reply = a .reply; page = putDraft g (a .draft) }
 abbrev pub closing : PartyModel → ℕ → OnWork → OnParty
 closing g k a = record { reply = a .reply; page = putWork (putDraft g none) k (a .work) }
 
--- Contract 7.3 to 7.11; a clear is 7.6. Where a place is named 20 comes first, and a close that it turns back ends the draft
+-- Contract 7.3 to 7.11; a clear is 7.6. If the action names a place, 20 is checked first. A close refused by 20 still ends the draft
 unfoldable pub acts : PartyModel → Action → OnParty
 acts g (Begin s) = drafting g (begins s (g .draft))
 acts g (Add a) = drafting g (adds a (g .draft))
@@ -168,18 +168,18 @@ acts g (Ask k q) = record { reply = cond (badPlace k) NoPlace (asks q (g .works 
 
 -- ---- the calls
 
--- The reply of a call, and the book after it
+-- The reply of a call, and the model after it
 pub record Answer : Type 0 where
   pub reply : Reply
   pub next : Book
 
--- 19 comes first (contract 7.2); else the party's page alone is read and turned
+-- 19 is checked first (contract 7.2). Otherwise the call reads and changes its own party's state only
 unfoldable pub answer : Book → Call → Answer
 answer b c =
     cond (badParty (c .party)) (record { reply = NoParty; next = b })
     (record { reply = acts (b (c .party)) (c .action) .reply; next = put b (c .party) (acts (b (c .party)) (c .action) .page) })
 
--- The replies of a list of calls, each call given the book that the last one left, and the book after them all
+-- The replies to a list of calls, each made on the model that the one before it left, and the model after all of them
 unfoldable pub repliesFrom : Book → List Call → List Reply
 repliesFrom b [] = []
 repliesFrom b (c ∷ cs) = answer b c .reply ∷ repliesFrom (answer b c .next) cs

@@ -1,4 +1,4 @@
--- The plain book; the outline last taken; the calls of one party.
+-- The model; the outline last taken; the calls of one party.
 pub mod Book
 pub mod LastTaken
 pub mod Parties

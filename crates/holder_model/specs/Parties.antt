@@ -13,13 +13,13 @@ unfoldable pub callsOf : ℕ → List Call → List Call
 callsOf p [] = []
 callsOf p (c ∷ cs) = cond (eqb p (c .party)) (c ∷ callsOf p cs) (callsOf p cs)
 
--- Of the replies to a list of calls those to the calls of party p
+-- Among the replies to a list of calls, those to party p
 unfoldable pub repliesTo : ℕ → List Call → List Reply → List Reply
 repliesTo p [] rs = []
 repliesTo p (c ∷ cs) [] = []
 repliesTo p (c ∷ cs) (r ∷ rs) = cond (eqb p (c .party)) (r ∷ repliesTo p cs rs) (repliesTo p cs rs)
 
--- The replies of a list of actions of one party, each given the page that the last one left
+-- The replies to a list of one party's actions, each made on the state that the one before it left
 unfoldable pub actsFrom : PartyModel → List Action → List Reply
 actsFrom g [] = []
 actsFrom g (a ∷ rest) = acts g a .reply ∷ actsFrom (acts g a .page) rest

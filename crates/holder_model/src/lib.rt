@@ -1,1 +1,1 @@
-// The plain book: what the holder means, kept from the calls alone. Definitions and theorems, no code.
+// The model of the holder. Definitions and theorems, no code.

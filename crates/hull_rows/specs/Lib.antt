@@ -1,2 +1,2 @@
--- What the climb up one side of a hull writes, and the row that begins furthest left.
+-- What the pass up one side of a hull writes, and the row that begins furthest left.
 pub mod parts

@@ -1,4 +1,4 @@
-// The left ends of the rows of a hull, by one climb up its left side.
+// Finds the left ends of the rows of a hull in one pass up its left side.
 use rows::tangents;
 ghost use Prim.Native.Nat.{_+_, _-_, _<_, _≤_};
 ghost use mathlib.Core.Path.{_≡_};
@@ -10,7 +10,7 @@ ghost use Rattle.rows.specs.parts.Rows.{rows};
 ghost use Rattle.rows.specs.Search.{crossing as crossingOf};
 ghost use Rattle.hull_rows.specs.parts.Ends.{LeftEnds, Lowest};
 
-// A number of 16 bits as an index.
+// A 16-bit number as an index.
 fn wide(x: u16) -> usize
     ensures { λ r. ⌜ (r ≡ x) × (r < 65536) ⌝ }
 {
@@ -28,7 +28,7 @@ fn crossed(lo: &[u16; 256], i: usize, j: usize, r: usize) -> u16
     (((j - r) * a + (r - i) * b + (height - 1)) / height) as u16
 }
 
-// The row from which the edge leaves that spans row `r`, where that of the row below leaves row `i`.
+// The row where the edge across row `r` starts. `i` is the row where the edge across the row below starts.
 fn edge(next: &[u16; 256], i: usize, r: usize) -> usize
     requires { ⌜ i < 256 ⌝ }
     ensures { λ e. ⌜ e ≡ cond (leb r (rows (now (next .entry)) i)) i (rows (now (next .entry)) i) ⌝ }
@@ -37,7 +37,7 @@ fn edge(next: &[u16; 256], i: usize, r: usize) -> usize
     if r <= j { i } else { j }
 }
 
-// Puts for each of the rows `b` to `t - 1`, which begin at `lo`, where it begins in the hull of them all. A row at which an edge ends begins where it did.
+// Replaces the first columns `lo` of rows `b` to `t - 1` by those of the hull. Rows where an edge ends keep theirs, so this works in place.
 pub fn left(lo: &mut [u16; 256], b: usize, t: usize)
     requires { ⌜ (length (now lo) ≡ 256) × (b < t) × (t ≤ side) ⌝ }
     ensures { λ _. ⌜ LeftEnds (rows (now (lo .entry))) (rows (now (lo .exit))) b t ⌝ }

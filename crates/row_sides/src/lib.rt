@@ -1,4 +1,4 @@
-// The first, the second and the last side along each row of an outline, by one pass over its letters.
+// Finds the first, the second and the last side of each row of an outline in one pass over its letters. A side is a step up or down.
 use chart::Point;
 ghost use Prim.Native.Nat.{ℕ, _<_, min, max};
 ghost use mathlib.Core.Path.{_≡_};
@@ -9,7 +9,7 @@ ghost use Rattle.lattice.specs.Refusals.{Simple};
 ghost use Rattle.witness.specs.parts.Kept.{keepTwo};
 ghost use Rattle.row_sides.specs.parts.Passed.{Tells, Passed};
 
-// The lesser and the greater of two numbers.
+// The minimum and the maximum of two numbers.
 fn lesser(a: u16, b: u16) -> u16
     ensures { λ r. ⌜ r ≡ min a b ⌝ }
 {
@@ -22,7 +22,7 @@ fn greater(a: u16, b: u16) -> u16
     if a < b { b } else { a }
 }
 
-// The row along which a letter runs from a corner of row `row`, or 255, which is no row.
+// The row along which a letter steps from a corner at height `row`, or 255, which is not a row of the chart.
 fn along(row: u16, letter: u8) -> usize
     requires { ⌜ row < 256 ⌝ }
     ensures { λ r. ⌜ Tells row letter r ⌝ }
@@ -36,7 +36,7 @@ fn along(row: u16, letter: u8) -> usize
     255
 }
 
-// The two least columns met.
+// The two smallest different columns met.
 struct Pair {
     one: u16,
     two: u16,
@@ -76,7 +76,8 @@ fn moved(p: Point, letter: u8) -> Point
     p
 }
 
-// What the pass keeps: of row `r` the columns of the first side, of the second and of the last; the rows of the lowest and of the highest corner.
+// What the pass keeps: the columns of the first, the second and the last side of each row, and the rows of the lowest and the highest
+// corner.
 pub struct Sides {
     pub lo: [u16; 256],
     pub en: [u16; 256],
@@ -85,7 +86,7 @@ pub struct Sides {
     pub high: u16,
 }
 
-// Row 255, which is none of the chart's, takes what the letters along no row would store.
+// Letters that step along no row store at index 255, which is not a row of the chart. So the loop needs no branch.
 pub fn pass(s: Point, w: &[u8]) -> Sides
     requires { ⌜ Simple (outline s (now w)) ⌝ }
     ensures { λ r. ⌜ Passed (outline s (now (w .entry))) (r .lo) (r .en) (r .hi) (r .low) (r .high) ⌝ }

@@ -1,4 +1,4 @@
--- What a call does to its party's draft and to the work at the place that it names: an equation for every value of the two (contract 7.3 to 7.11).
+-- What a call does to its party's draft and to the work at its place: an equation for every value of the two (contract 7.3 to 7.11).
 use Prim.Native.Nat.{ℕ}
 use mathlib.Core.Bool.{cond}
 use mathlib.Core.List.{List}
@@ -36,25 +36,25 @@ clearOf d w k = cond (badPlace k) (acted NoPlace d w) (acted Done d (removed w))
 
 -- ---- close
 
--- A draft that is taken has the word "same" where its anchor and its edges are at work
+-- The word is "same" if the taken draft's anchor and edges are at work
 unfoldable pub closedReply : Work → List ℤ → Verdict → Reply
 closedReply w es (Refused f) = WasRefused f
 closedReply w es (Taken n a) = cond (hasEdges w a (listed es n)) (Same n a) (WasTaken n a)
 
--- A refusal leaves what is at work, and a draft that is taken replaces it, with the edges that were found and its rows
+-- A refusal leaves what is at work. A taken draft replaces it, with the edges that were found and its rows
 unfoldable pub closedWork : Draft → Work → List ℤ → Verdict → Work
 closedWork d w es (Refused f) = w
 closedWork d w es (Taken n a) = replaced a es n (spansOf (outlineOf d))
 
--- The draft is over either way
+-- The draft ends in any case
 unfoldable pub closedBy : Draft → Work → Judged → Acted
 closedBy d w j = acted (closedReply w (j .numbers) (j .verdict)) (endOf d) (closedWork d w (j .numbers) (j .verdict))
 
--- A close that 20 turns back ends the draft too
+-- A close refused by 20 ends the draft too
 unfoldable pub closeOf : Draft → Work → ℕ → Acted
 closeOf d w k = cond (badPlace k) (acted NoPlace (endOf d) w) (cond (d .begun) (closedBy d w (judgedOf (outlineOf d))) (acted NoDraft d w))
 
--- ---- what is asked of the work
+-- ---- questions about the work
 
 unfoldable pub askOf : Draft → Work → ℕ → Question → Acted
 askOf d w k q = acted (cond (badPlace k) NoPlace (answered w q)) d w

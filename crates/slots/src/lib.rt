@@ -1,4 +1,4 @@
-// What a call does to its party's draft and to the work at the place that it names (contract 7.3 to 7.11).
+// What a call does to its party's draft and to the work at its place (contract 7.3 to 7.11).
 use calls::Action;
 use calls::PLACES;
 use calls::Question;
@@ -21,14 +21,14 @@ pub struct Acted {
     pub work: Work,
 }
 
-// 20.
+// 20: the place is above 3.
 pub fn bad_place(place: u8) -> bool
     ensures { λ r. ⌜ r ≡ badPlaceOf place ⌝ }
 {
     PLACES <= place as usize
 }
 
-// The reply of a close that took the draft.
+// The reply of a close that takes the draft.
 fn taken_reply(same: bool, edges: u16, anchor: Point) -> Reply
     ensures { λ r. ⌜ r ≡ cond same (Reply.Same edges anchor) (Reply.Taken edges anchor) ⌝ }
 {
@@ -39,7 +39,7 @@ fn taken_reply(same: bool, edges: u16, anchor: Point) -> Reply
     }
 }
 
-// What a call on the draft does; the work stays.
+// A call on the draft leaves the work.
 fn redraft(drafted: Drafted, work: Work) -> Acted
     ensures { λ r. ⌜ r ≡ redrafted drafted work ⌝ }
 {
@@ -65,7 +65,7 @@ fn clear(draft: Draft, work: Work, place: u8) -> Acted
     }
 }
 
-// What a close does with a verdict on the draft, which is over either way.
+// What a close does, given the verdict on the draft. The draft ends in any case.
 fn close_by(draft: Draft, work: Work, judged: Judged) -> Acted
     ensures { λ r. ⌜ r ≡ closedBy draft work judged ⌝ }
 {
@@ -90,7 +90,7 @@ fn close_by(draft: Draft, work: Work, judged: Judged) -> Acted
     }
 }
 
-// 20, which ends the draft; 13; or what the verdict makes of it.
+// 20, which ends the draft too; 13; or a close by the verdict on the draft.
 fn close(draft: Draft, work: Work, place: u8) -> Acted
     ensures { λ r. ⌜ r ≡ closeOf draft work place ⌝ }
 {

@@ -1,4 +1,4 @@
--- What the answer of a witness call says about the cells that the outline encloses (contract 6.5).
+-- What the reply of a witness call says about the cells that the outline encloses (contract 6.5).
 use Prim.Native.Nat.{ℕ, suc, _*_, _≤_}
 use mathlib.Core.Path.{_≡_}
 use mathlib.Core.Logic.{_↔_}
@@ -19,9 +19,10 @@ use Rattle.witness.specs.Witnessed.{sixNumbers}
 unfoldable pub cellIn : List ℕ → ℕ → Point
 cellIn l k = record { col = getD l (2 * k) 0; row = getD l (suc (2 * k)) 0 }
 
--- Number 0 is said of the outlines past 1 to 6, given six numbers, and of no others. Of these the word is "none" exactly where no cell is
--- missing. Otherwise the cell is the lowest missing one, and the first three cells of the list are enclosed and have it in their triangle.
--- The list is altered in this case alone, and then in its first six numbers alone
+-- The number is 0 exactly if the outline passes 1 to 6 and the buffer has six numbers. Then the word is "none" exactly if no cell is
+-- missing.
+-- Otherwise the reply has the lowest missing cell, and the first three cells of the buffer are enclosed and have it in their triangle. Only
+-- then does the buffer change, and only its first six numbers
 pub record WitnessNamed (o : Outline) (f : Fields) (before after : List ℕ) : Type 0 where
   pub answers : (f .number ≡ 0) ↔ (Simple o × (sixNumbers ≤ length before))
   pub full : f .number ≡ 0 → (f .word ≡ none) ↔ Convex (block o)

@@ -1,4 +1,4 @@
--- A witness call: refusals 1 to 6 and 10, "none" where no cell is missing, or the lowest missing cell, and three cells in the list
+-- A witness call: refusals 1 to 6 and 10; "none" if no cell is missing; otherwise the lowest missing cell, with three cells in the buffer
 -- (contract 6.5).
 use Prim.Native.Nat.{ℕ}
 use mathlib.Core.Bool.{cond}
@@ -18,15 +18,15 @@ use Rattle.witness.specs.declared.Witnessed.the-variants.{Found, None, R
 use Rattle.witness.specs.Three.{Three}
 use Rattle.witness.specs.Gap.{isMissing, lowestMissing, witnessOf}
 
--- Three cells are this many numbers
+-- Three cells have six numbers
 abbrev pub sixNumbers : ℕ
 sixNumbers = 6
 
--- Of an outline past 1 to 6, with a list of n numbers: 10, or the lowest missing cell, or none
+-- For an outline that passes 1 to 6, with a buffer of n numbers: 10, the lowest missing cell, or none
 unfoldable pub shownIn : ℕ → Outline → Witnessed
 shownIn n o = cond (ltb n sixNumbers) (Refused BadList) (cond (isMissing o) (Found (lowestMissing o)) None)
 
--- What 1 to 6 say, or else what is said further on
+-- The refusal of 1 to 6, or the given result
 unfoldable pub pastSurvey : Surveyed → Witnessed → Witnessed
 pastSurvey (Passed c) v = v
 pastSurvey (Stopped f) v = Refused f
@@ -34,7 +34,7 @@ pastSurvey (Stopped f) v = Refused f
 unfoldable pub witnessedOf : Outline → ℕ → Witnessed
 witnessedOf o n = pastSurvey (surveyOf o) (shownIn n o)
 
--- The answer written out
+-- The reply's fields
 unfoldable pub witnessedFields : Witnessed → Fields
 witnessedFields (Found x) = accepted no-word 0 x
 witnessedFields None = said none
@@ -44,7 +44,7 @@ witnessedFields (Refused f) = refusalFields f
 unfoldable pub threeNumbers : Three → List ℕ
 threeNumbers w = w .a .col ∷ w .a .row ∷ w .b .col ∷ w .b .row ∷ w .d .col ∷ w .d .row ∷ []
 
--- The list afterwards: the six numbers stand first in it and the rest is unaltered; where no cell is named, all of it is
+-- The buffer afterwards. The six numbers stand first and the rest is unchanged. Without a missing cell nothing changes
 unfoldable pub shownAfter : Witnessed → Three → List ℕ → List ℕ
 shownAfter (Found x) w buffer = threeNumbers w ++ drop sixNumbers buffer
 shownAfter None w buffer = buffer

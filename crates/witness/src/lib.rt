@@ -1,10 +1,11 @@
-// The lowest missing cell of any outline past 1 to 6, and three enclosed cells that show it: what is answered (contract 6.5), and theory.
+// The lowest missing cell of an outline that passes 1 to 6, and three enclosed cells that prove it missing: the result (contract 6.5) and
+// theory.
 use chart::Point;
 use chart::Refusal;
 
 pub mod written;
 
-// What a witness call answers.
+// The result of a witness call.
 pub enum Witnessed {
     // The lowest missing cell.
     Found { cell: Point },

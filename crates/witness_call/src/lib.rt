@@ -1,4 +1,4 @@
-// The witness call: refusals 1 to 6 and 10, then the lowest missing cell, and three enclosed cells that show it (contract 6.5).
+// The witness call: refusals 1 to 6 and 10, then the lowest missing cell and three enclosed cells that prove it missing (contract 6.5).
 use chart::Point;
 use chart::Refusal;
 use survey::Surveyed;
@@ -13,10 +13,10 @@ ghost use Rattle.witness.specs.Gap.{witnessOf};
 ghost use Rattle.witness.specs.Witnessed.{sixNumbers, shownIn, witnessedOf, witnessedFields, threeNumbers, shownAfter, cellsAfter};
 ghost use Rattle.witness.specs.Named.{WitnessNamed};
 
-// Three cells are this many numbers.
+// Three cells have six numbers.
 const SIX: usize = 6;
 
-// Writes three cells to the front of a list.
+// Writes three cells to the front of the buffer.
 fn put(a: Point, b: Point, d: Point, cells: &mut [u16])
     requires { ⌜ sixNumbers ≤ length (now cells) ⌝ }
     ensures { λ _. ⌜ now (cells .exit) ≡ threeNumbers (record { a = a; b = b; d = d }) ++ drop sixNumbers (now (cells .entry)) ⌝ }
@@ -29,7 +29,7 @@ fn put(a: Point, b: Point, d: Point, cells: &mut [u16])
     cells[5] = d.row;
 }
 
-// 10, of an outline that passes 1 to 6, or the lowest missing cell, or none.
+// For an outline that passes 1 to 6: 10, the lowest missing cell, or none.
 fn show(start: Point, letters: &[u8], cells: &mut [u16]) -> Witnessed
     requires { ⌜ Simple (outline start (now letters)) ⌝ }
     ensures answer { λ r. ⌜ r ≡ shownIn (length (now (cells .entry))) (outline start (now (letters .entry))) ⌝ }
@@ -50,8 +50,8 @@ fn show(start: Point, letters: &[u8], cells: &mut [u16]) -> Witnessed
     Witnessed::None
 }
 
-// Names the lowest missing cell of an outline. The numbers of three enclosed cells that have it in their triangle stand first in the list.
-// Where no cell is missing, and where the outline or the list is refused, the list is left as it was.
+// Finds the lowest missing cell of an outline and writes three enclosed cells whose triangle has it to the front of the buffer.
+// If no cell is missing, or the call is refused, the buffer is unchanged.
 pub fn witness(start: Point, letters: &[u8], cells: &mut [u16]) -> Witnessed
     ensures answer { λ r. ⌜ r ≡ witnessedOf (outline start (now (letters .entry))) (length (now (cells .entry))) ⌝ }
     ensures cells { λ r. ⌜ now (cells .exit) ≡ cellsAfter (outline start (now (letters .entry))) (now (cells .entry)) ⌝ }

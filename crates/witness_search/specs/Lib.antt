@@ -1,2 +1,2 @@
--- What the pass over the rows answers.
+-- What the pass over the rows finds.
 pub mod parts

@@ -1,4 +1,4 @@
-// The lowest missing cell of an outline with any rows, and three cells that show it, by one pass over the rows.
+// Finds the lowest missing cell of an outline, and three cells that prove it missing, in one pass over the rows. Rows may have gaps.
 use chart::Point;
 use row_sides::pass;
 use rows::mirrored;
@@ -14,21 +14,21 @@ ghost use Rattle.chart.specs.Outline.{outline};
 ghost use Rattle.lattice.specs.Refusals.{Simple};
 ghost use Rattle.witness_search.specs.parts.Answers.{Answers, Shows, Finds};
 
-// A number of 16 bits as an index.
+// A 16-bit number as an index.
 fn wide(x: u16) -> usize
     ensures { λ r. ⌜ (r ≡ x) × (r < 65536) ⌝ }
 {
     x as usize
 }
 
-// The number before `x`, and 0 before 0.
+// `x - 1`, or 0 if `x` is 0.
 fn prior(x: u16) -> u16
     ensures { λ r. ⌜ r ≡ pred x ⌝ }
 {
     if 0 < x { x - 1 } else { 0 }
 }
 
-// The first column of row `r` that is not left of the line from row `i` to row `j`, at its ends too.
+// The first column of row `r` that is not left of the line from row `i` to row `j`. `r` may be `i` or `j`.
 fn crossed(lo: &[u16; 256], i: usize, j: usize, r: usize) -> usize
     requires { ⌜ (i < j) × (i ≤ r) × (r ≤ j) × (j < 256) ⌝ }
     ensures { λ c. ⌜ c ≡ crossingOf (rows (now (lo .entry))) i j r ⌝ }
@@ -39,7 +39,7 @@ fn crossed(lo: &[u16; 256], i: usize, j: usize, r: usize) -> usize
     ((j - r) * a + (r - i) * b + (height - 1)) / height
 }
 
-// The row from which the edge leaves that spans row `r`, where that of the row below leaves row `i`.
+// The row where the edge across row `r` starts. `i` is the row where the edge across the row below starts.
 fn edge(next: &[u16; 256], i: usize, r: usize) -> usize
     requires { ⌜ i < 256 ⌝ }
     ensures { λ e. ⌜ e ≡ cond (leb r (rows (now (next .entry)) i)) i (rows (now (next .entry)) i) ⌝ }
@@ -48,7 +48,7 @@ fn edge(next: &[u16; 256], i: usize, r: usize) -> usize
     if r <= j { i } else { j }
 }
 
-// What is said of an outline: whether a cell is missing, the lowest, and three cells that hold it.
+// Whether a cell is missing, the lowest such cell, and three cells whose triangle has it.
 pub struct Shown {
     pub found: bool,
     pub cell: Point,
@@ -108,7 +108,7 @@ fn display(
     }
 }
 
-// Column `l` where it is before the row's first, else the end of the row's first run.
+// Column `l` if it is left of the row's first column, otherwise the end of the row's first interval.
 fn column(l: usize, first: u16, end: u16) -> u16
     ensures { λ c. ⌜ c ≡ cond (ltb l first) l end ⌝ }
 {
@@ -118,7 +118,7 @@ fn column(l: usize, first: u16, end: u16) -> u16
     end
 }
 
-// Column `c` is before the hull's right end, which is `x` columns from the chart's.
+// Column `c` is left of the hull's right end, which is `x` columns left of the chart's.
 fn gap(c: u16, x: usize) -> bool
     ensures { λ g. ⌜ g ≡ ltb c (side - x) ⌝ }
 {
@@ -129,7 +129,7 @@ fn gap(c: u16, x: usize) -> bool
     false
 }
 
-// Up the rows from row `b` to row `t - 1`, with the edges of the hull's two sides that span the row in hand.
+// Goes up the rows from `b` to `t - 1`, keeping the hull's left and right edge across the current row.
 pub fn search<'a>(
     lo: &'a [u16; 256],
     en: &'a [u16; 256],
@@ -183,7 +183,7 @@ fn nothing() -> Shown
     }
 }
 
-// Of one row alone: a gap within it.
+// For one row alone: a gap within it.
 fn single<'a>(lo: &'a [u16; 256], en: &'a [u16; 256], hi: &'a [u16; 256], b: usize) -> Shown
     requires { ⌜ (b < 256) × (rows (now hi) b ≤ side) × (rows (now lo) b < rows (now en) b) ⌝ }
     ensures { λ s. ⌜ Answers (rows (now (lo .entry))) (rows (now (en .entry))) (rows (now (hi .entry))) b (b + 1) (s .found) (s .cell) (s .a) (s .b) (s .d) ⌝ }
@@ -195,7 +195,7 @@ fn single<'a>(lo: &'a [u16; 256], en: &'a [u16; 256], hi: &'a [u16; 256], b: usi
     nothing()
 }
 
-// The lowest missing cell of an outline past refusals 1 to 6, and three enclosed cells that hold it.
+// The lowest missing cell of an outline that passes 1 to 6, and three enclosed cells whose triangle has it.
 pub fn find(s: Point, w: &[u8]) -> Shown
     requires { ⌜ Simple (outline s (now w)) ⌝ }
     ensures { λ r. ⌜ Finds (outline s (now (w .entry))) (r .found) (r .cell) (r .a) (r .b) (r .d) ⌝ }

@@ -1,2 +1,2 @@
--- What is at work as it is kept, and what is asked of it.
+-- An outline at work as the holder keeps it, and the questions about it.
 pub mod Work

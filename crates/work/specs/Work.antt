@@ -1,4 +1,4 @@
--- What is at work as it is kept, and what is asked of it: an equation for every value of the struct (contract 7.6 to 7.11).
+-- An outline at work as the holder keeps it, and the questions about it: an equation for every value of the struct (contract 7.6 to 7.11).
 use Prim.Native.Nat.{ℕ, _*_, min}
 use mathlib.Core.Bool.{Bool, true, false, cond, _&&_}
 use mathlib.Core.List.{List}
@@ -24,7 +24,7 @@ use Rattle.calls.specs.declared.Reply.{Reply}
 use Rattle.calls.specs.declared.Reply.the-variants.{Inside, Outside, Refused, NothingAtWork}
 use Rattle.work.specs.declared.Work.{Work}
 
--- The numbers of n edges, of those that a list has space for
+-- The numbers of the first n edges, as far as the list has space
 unfoldable pub listed : List ℤ → ℕ → List ℤ
 listed numbers n = take (min (2 * n) mostNumbers) numbers
 
@@ -36,7 +36,7 @@ workEdges w = listed (w .numbers) (w .edges)
 unfoldable pub noWork : Work
 noWork = record { taken = false; anchor = record { col = 0; row = 0 }; numbers = replicate mostNumbers (pos 0); edges = 0; spans = noSpans }
 
--- The work that a taken outline becomes, by its anchor, its edges and their count, and its rows; the work removed
+-- The work of a taken outline: its anchor, its edges and their count, and its rows; the work removed
 unfoldable pub replaced : Point → List ℤ → ℕ → Spans → Work
 replaced a es n s = record { taken = true; anchor = a; numbers = es; edges = n; spans = s }
 
@@ -47,7 +47,7 @@ removed w = record { taken = false; anchor = w .anchor; numbers = w .numbers; ed
 unfoldable pub hasEdges : Work → Point → List ℤ → Bool
 hasEdges w a es = w .taken && (samePoint (w .anchor) a && sameℤs (workEdges w) es)
 
--- 12, 11, or the answer of the rows at work
+-- 12, 11, or whether the rows at work have the cell
 unfoldable pub located : Work → Point → Reply
 located w x =
     cond (w .taken)
@@ -57,15 +57,15 @@ located w x =
 unfoldable pub spanned : Work → ℕ → Reply
 spanned w r = cond (w .taken) (cond (leb side r) (Refused Cell) (spanReply (spanAt (w .spans) r))) NothingAtWork
 
--- 12, or where the edges at work have the reading, 11 among it (contract 7.10)
+-- 12, 11, or where the reading lies among the edges at work (contract 7.10)
 unfoldable pub readAt : Work → Reading → Reply
 readAt w x = cond (w .taken) (locatedReply (locatedOf (w .anchor) (workEdges w) x)) NothingAtWork
 
--- 12, or the piece of the drawing (contract 7.11)
+-- 12, or the path command (contract 7.11)
 unfoldable pub drawnAt : Work → ℕ → Reply
 drawnAt w n = cond (w .taken) (drawnReply (strokeAt (w .anchor) (workEdges w) n)) NothingAtWork
 
--- What is asked of it
+-- The reply to a question
 unfoldable pub answered : Work → Question → Reply
 answered w (OfCell x) = located w x
 answered w (OfRow r) = spanned w r

@@ -1,4 +1,4 @@
-// What is at work: the anchor and the edges of the outline last taken, and what is asked of them (contract 7.6 to 7.11).
+// An outline at work: the anchor, the edges and the rows of the outline last taken, and the questions about it (contract 7.6 to 7.11).
 use calls::Question;
 use calls::Reading;
 use calls::Reply;
@@ -20,7 +20,7 @@ ghost use Rattle.chart.specs.Limits.{mostNumbers};
 ghost use Rattle.spans.specs.Spans.{inSpans};
 ghost use Rattle.work.specs.Work.{noWork, listed, replaced, removed, hasEdges, located, spanned, readAt, drawnAt, answered};
 
-// The outline last taken, if one was: its anchor, its edges, two numbers an edge, and its rows.
+// The outline last taken, if any: its anchor, its edges with two numbers each, and its rows.
 #[repr(C)]
 pub struct Work {
     pub taken: bool,
@@ -30,7 +30,7 @@ pub struct Work {
     pub spans: Spans,
 }
 
-// How many numbers stand for this many edges: no more than there is space for.
+// How many numbers this many edges have. A count above the space is read as the space.
 fn number_count(edges: usize) -> usize
     ensures { λ r. ⌜ r ≡ min (2 * edges) mostNumbers ⌝ }
 {
@@ -41,7 +41,7 @@ fn number_count(edges: usize) -> usize
     }
 }
 
-// The numbers of the edges, of those that there is space for.
+// The numbers of the edges that are counted.
 fn first(numbers: &[i16; MOST_NUMBERS], edges: usize) -> &[i16]
     ensures { λ r. ⌜ now r ≡ listed (now (numbers .entry)) edges ⌝ }
 {
@@ -63,7 +63,7 @@ impl Work {
         }
     }
 
-    // An outline that was taken replaces what is at work.
+    // A taken outline replaces what is at work.
     pub fn replace(
         mut self,
         anchor: Point,
@@ -88,7 +88,7 @@ impl Work {
         self
     }
 
-    // The same block is at work: its anchor and its edges are these.
+    // Whether the same block is at work: it has this anchor and these edges.
     pub fn has(self, anchor: Point, numbers: [i16; MOST_NUMBERS], edges: u16) -> bool
         ensures { λ r. ⌜ r ≡ hasEdges self anchor (listed numbers edges) ⌝ }
     {
@@ -142,7 +142,7 @@ impl Work {
         spans::reply(span_at(spans, row))
     }
 
-    // 12, or where the reading lies, 11 among it.
+    // 12, 11, or where the reading lies.
     fn read(self, reading: Reading) -> Reply
         ensures { λ r. ⌜ r ≡ readAt self reading ⌝ }
     {
@@ -155,7 +155,7 @@ impl Work {
         readings::reply(readings::locate(anchor, list, reading))
     }
 
-    // 12, or the piece of the drawing at the position.
+    // 12, or the path command at the position.
     fn draw(self, position: u16) -> Reply
         ensures { λ r. ⌜ r ≡ drawnAt self position ⌝ }
     {

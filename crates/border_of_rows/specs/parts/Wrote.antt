@@ -1,4 +1,4 @@
--- Letters written from a place of a list on: those before it and those behind stand as they stood.
+-- Letters written into a list from a place on. The letters before and behind them are unchanged.
 use Prim.Native.Nat.{ℕ, _+_}
 use mathlib.Core.Path.{_≡_}
 use mathlib.Core.List.{List, _++_}

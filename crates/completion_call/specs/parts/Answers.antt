@@ -8,7 +8,7 @@ use Rattle.completion_call.specs.declared.Completed.{Completed}
 use Rattle.completion_call.specs.Completion.{completedOf, completedFields, completionAfter}
 use Rattle.completion_call.specs.Named.{CompletionNamed}
 
--- All that a completion promises of its answer c and of the lent list
+-- All that a completion promises of its result c and of the buffer
 pub record Answers (o : Outline) (before after : List ℕ) (c : Completed) : Type 0 where
   pub answer : c ≡ completedOf o (length before)
   pub letters : after ≡ completionAfter o before

@@ -1,4 +1,4 @@
--- What one pass over the letters says of the rows.
+-- What one pass over the letters finds in each row.
 use Prim.Native.Nat.{ℕ, _<_}
 use mathlib.Core.Path.{_≡_}
 use mathlib.Core.List.{List}
@@ -10,12 +10,12 @@ use Rattle.rows.specs.parts.Rows.{rows}
 use Rattle.completion.specs.parts.Sides.{alongRow, firstSide, lastSide, lowestCorner, highestCorner}
 use Rattle.witness.specs.Gap.{secondSide}
 
--- Of the chart's rows, a letter a that leaves a corner of row y runs along row x, if x is one of them, and along no other
+-- The letter a from a corner at height y steps along row x. If x is 255, it steps along no row of the chart
 pub record Tells (y a x : ℕ) : Type 0 where
   pub below : x < 256
   pub tells : (p : Point) → p .row ≡ y → (r : ℕ) → r < side → alongRow r p a ≡ eqb x r
 
--- The first, the second and the last side along each row, and the rows of the corners
+-- The first, the second and the last side of each row, and the rows of the lowest and the highest corner
 pub record Passed (o : Outline) (lo en hi : List ℕ) (low high : ℕ) : Type 0 where
   pub first : (r : ℕ) → r < side → rows lo r ≡ firstSide o r
   pub second : (r : ℕ) → r < side → rows en r ≡ secondSide o r

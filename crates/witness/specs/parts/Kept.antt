@@ -1,4 +1,4 @@
--- What one pass over the letters keeps of row r: the least column of a side along it, and the least beyond that.
+-- What one pass over the letters keeps of row r: the two smallest different columns of its sides.
 use Prim.Native.Nat.{ℕ}
 use mathlib.Core.Bool.{cond, _&&_}
 use mathlib.Core.List.{List, [], _∷_}
@@ -11,7 +11,7 @@ pub record Two : Type 0 where
   pub one : ℕ
   pub two : ℕ
 
--- A side at column c is met
+-- The pair after one more side, at column c
 unfoldable pub keepTwo : ℕ → Two → Two
 keepTwo c k =
     cond (ltb c (k .one)) (record { one = c; two = k .one }) (cond (ltb (k .one) c && ltb c (k .two)) (record { one = k .one; two = c }) k)
