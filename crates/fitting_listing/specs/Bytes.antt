@@ -14,7 +14,7 @@ unfoldable pub fileOf : List Outline → List ℕ
 fileOf [] = []
 fileOf (o ∷ os) = bytesOf o ++ fileOf os
 
--- What the test says of outlines, numbered from n on
+-- The test's lines for outlines, numbered from n on
 unfoldable pub testedFrom : ℕ → List Outline → List Line
 testedFrom n [] = []
 testedFrom n (o ∷ os) = testedLine n o ∷ testedFrom (n + 1) os

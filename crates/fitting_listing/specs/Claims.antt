@@ -1,4 +1,5 @@
--- What the theorems speak of: the numbers that a line may have, the parts of a file, and lines moved on (contract 11.1 to 11.3).
+-- What the theorems are about: the numbers that a line may have, the parts of a file, and lines after other records (contract 11.1 to
+-- 11.3).
 use Prim.Native.Nat.{ℕ, _+_, _<_}
 use mathlib.Core.Path.{_≡_}
 use mathlib.Core.Bool.{cond}
@@ -12,7 +13,7 @@ use Rattle.text_lines.specs.declared.Line.{Line}
 use Rattle.fitting_listing.specs.Lines.{line}
 use Rattle.fitting_listing.specs.Bytes.{fileOf}
 
--- The second number of a line is one of these: 0, the refusals up to 9, of which 7 is not used, and the faults
+-- The second number of a line is one of these: 0, the refusals up to 9 without 7, and the faults
 abbrev pub answers : List ℕ
 answers = 0 ∷ 1 ∷ 2 ∷ 3 ∷ 4 ∷ 5 ∷ 6 ∷ 8 ∷ 9 ∷ 23 ∷ 24 ∷ 25 ∷ []
 
@@ -20,22 +21,22 @@ answers = 0 ∷ 1 ∷ 2 ∷ 3 ∷ 4 ∷ 5 ∷ 6 ∷ 8 ∷ 9 ∷ 23 ∷ 24 ∷ 25
 abbrev pub AllBytes : List ℕ → Type 0
 AllBytes w = (i : ℕ) → getD w i 0 < 256
 
--- A record has room for the start and for the count of letters
+-- The start and the count of letters fit into a record
 pub record Storable (o : Outline) : Type 0 where
   pub col : o .start .col < 256
   pub row : o .start .row < 256
   pub count : length (o .letters) < 65536
 
--- Bytes begin with no whole record: there are none, or they are a fault
+-- The bytes do not begin with a whole record: there are none, or they are a fault
 abbrev pub NoRecord : List ℕ → Type 0
 NoRecord w = (c r count : ℕ) → foundIn w ≡ Record c r count → ⊥
 
--- The parts of a file: whole records, and a rest that begins with none
+-- The parts of a file: whole records, and a rest that does not begin with one
 pub record Parts (file : List ℕ) (os : List Outline) (rest : List ℕ) : Type 0 where
   pub joined : file ≡ fileOf os ++ rest
   pub storable : (o : Outline) → List·Memᴰ o os → Storable o
   pub none : NoRecord rest
 
--- A line of a file, where n records of p bytes stand before the file. From 23 on the numbers are faults, and their place is a position
+-- A line of a file that comes after n records of p bytes. Numbers from 23 on are faults, and their place is a position
 unfoldable pub movedLine : ℕ → ℕ → Line → Line
 movedLine n p l = line (n + l .number) (l .answer) (cond (leb 23 (l .answer)) (p + l .place) (l .place))

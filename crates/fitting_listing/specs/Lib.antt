@@ -1,4 +1,4 @@
--- The lines of a fitting file, the bytes of records, what a listing leaves in a buffer, and what the theorems speak of.
+-- The lines of a fitting file, the bytes of records, what a listing leaves in a buffer, and what the theorems are about.
 pub mod Lines
 pub mod Bytes
 pub mod Listed

@@ -7,7 +7,7 @@ use Rattle.text_lines.specs.declared.Line.{Line}
 use Rattle.text_lines.specs.Text.{textOf}
 use Rattle.text_lines.specs.Written.{over}
 
--- Eighteen bytes, three numbers of five digits, for each of 10,923 lines: 10,922 records of six bytes, and a fault
+-- Eighteen bytes, for three numbers of five digits, in each of 10,923 lines: 10,922 records of six bytes, and a fault
 abbrev pub room : ℕ
 room = 196614
 

@@ -1,4 +1,4 @@
-// The listing of a fitting file: what the test says of each record's outline, and the fault, if there is one (contract 11).
+// The listing of a fitting file: the test's number and place for each record's outline, and the fault, if there is one (contract 11).
 use chart::MOST_NUMBERS;
 use chart::Point;
 use chart::reply::of_verdict;
@@ -27,7 +27,7 @@ const TRUNCATED: usize = 24;
 
 const TOO_LONG: usize = 25;
 
-// The line of a fault: the number of the record, that of the fault, and a position.
+// The line of a fault: the record's number, the fault's number, and a position.
 fn fault(number: usize, answer: usize, place: usize) -> Line
     ensures { λ r. ⌜ r ≡ lineOf number answer place ⌝ }
 {
@@ -56,7 +56,7 @@ fn tested(number: usize, col: u8, row: u8, letters: &[u8]) -> Line
     }
 }
 
-// Steps through the records of a file, up to its end or a fault, and writes their lines.
+// Writes the lines of the records of a file, up to its end or a fault.
 fn list_records(file: &[u8], text: &mut [u8]) -> usize
     requires { ⌜ length (now file) ≤ most ⌝ }
     ensures { λ r. ⌜ Listed (linesAt 0 0 (now (file .entry))) (now (text .entry)) (now (text .exit)) r ⌝ }

@@ -8,21 +8,21 @@ use Rattle.fitting_records.specs.declared.Found.{Found}
 use Rattle.fitting_records.specs.declared.Step.{Step}
 use Rattle.fitting_records.specs.declared.Found.the-variants.{End, WrongMark, Truncated, Record}
 
--- The bytes of a record before its letters: two for the mark, two for the start, and two for the count of letters
+-- The bytes of a record before its letters: two for the mark, two for the start, two for the count of letters
 abbrev pub header : ℕ
 header = 6
 
--- A number of 16 bits, low byte first
+-- A 16-bit number, low byte first
 abbrev pub wide : ℕ → ℕ → ℕ
 wide low high = low + 256 * high
 
--- Bytes begin with a whole mark, 4B 4F
+-- The bytes begin with a whole mark, 4B 4F
 unfoldable pub marked : List ℕ → Bool
 marked [] = false
 marked (a ∷ []) = false
 marked (a ∷ b ∷ w) = eqb a 75 && eqb b 79
 
--- What stands behind a mark: the rest of a whole record, or of a truncated one
+-- What stands after a mark: the rest of a whole record, or of a truncated one
 unfoldable pub afterMark : List ℕ → Found
 afterMark [] = Truncated
 afterMark (c ∷ []) = Truncated
@@ -30,7 +30,7 @@ afterMark (c ∷ r ∷ []) = Truncated
 afterMark (c ∷ r ∷ low ∷ []) = Truncated
 afterMark (c ∷ r ∷ low ∷ high ∷ w) = cond (leb (wide low high) (length w)) (Record c r (wide low high)) Truncated
 
--- What bytes begin with. A single byte is no mark
+-- What the bytes begin with. A single byte is not a mark
 unfoldable pub foundIn : List ℕ → Found
 foundIn [] = End
 foundIn (a ∷ []) = WrongMark
@@ -40,7 +40,7 @@ foundIn (a ∷ b ∷ w) = cond (marked (a ∷ b ∷ w)) (afterMark w) WrongMark
 abbrev pub foundAt : List ℕ → ℕ → Found
 foundAt file at = foundIn (drop at file)
 
--- How many bytes a step passes: those of a whole record, and none at the end or at a fault
+-- How many bytes a step reads: those of a whole record, and none at the end or at a fault
 unfoldable pub width : Found → ℕ
 width End = 0
 width WrongMark = 0

@@ -10,7 +10,7 @@ const FIRST: u8 = 0x4B;
 
 const SECOND: u8 = 0x4F;
 
-// The bytes of a record before its letters: the mark, the column and the row of the start, and two for the count of letters.
+// The bytes of a record before its letters: the mark, the column and the row of the start, and two bytes for the count of letters.
 pub const HEADER: usize = 6;
 
 // What stands at a position of a file.
@@ -37,7 +37,7 @@ pub struct Reader<'a> {
     pub at: usize,
 }
 
-// A number of 16 bits, low byte first.
+// A 16-bit number, low byte first.
 fn wide(low: u8, high: u8) -> usize
     ensures { λ r. ⌜ r ≡ wideOf low high ⌝ }
 {
@@ -57,7 +57,7 @@ fn is_marked(file: &[u8], at: usize) -> bool
     first == FIRST && second == SECOND
 }
 
-// What stands behind a mark: the rest of a whole record, or of a truncated one.
+// What stands after a mark: the rest of a whole record, or of a truncated one.
 fn after_mark(file: &[u8], at: usize) -> Found
     requires { ⌜ at ≤ length (now file) ⌝ }
     ensures { λ r. ⌜ r ≡ afterMark (drop at (now (file .entry))) ⌝ }
@@ -90,7 +90,7 @@ fn found_at(file: &[u8], at: usize) -> Found
     after_mark(file, at + 2)
 }
 
-// The work of a reader, on the file and the position alone. At the end and at a fault the position stays.
+// One step from a position of a file. At the end and at a fault the position stays.
 fn step_at(file: &[u8], at: usize) -> Step
     ensures { λ r. ⌜ r ≡ stepAt (now (file .entry)) at ⌝ }
 {

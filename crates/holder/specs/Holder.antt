@@ -1,5 +1,5 @@
--- What each call does to the holder as it is kept: an equation for every value of the struct. That it is the plain book's answer is the list
--- theorem (crate agreement, proofs/ListTheorem.antt).
+-- What each call does to the holder as it is kept: an equation for every value of the struct. The list theorem says that the replies are
+-- the model's (crate holder_refinement, proofs/ListTheorem.antt).
 use Prim.Native.Nat.{ℕ, _+_, _*_}
 use mathlib.Core.Bool.{false, cond}
 use mathlib.Core.List.{[]}
@@ -23,14 +23,14 @@ use Rattle.holder.specs.declared.Answered.{Answered}
 unfoldable pub freshHolder : Holder
 freshHolder = record { drafts = replicate parties noDraft; works = replicate (parties * places) noWork }
 
--- What a slot past the end would read as; no party and place has it
+-- What an index past the end would read as. No party and place has such an index
 unfoldable pub blankDraft : Draft
 blankDraft = record { begun = false; start = record { col = 0; row = 0 }; letters = []; count = 0 }
 
 unfoldable pub blankWork : Work
 blankWork = record { taken = false; anchor = record { col = 0; row = 0 }; numbers = []; edges = 0; spans = record { first = []; past = [] } }
 
--- The slots: read, and put. What follows reaches drafts and works by these alone
+-- The draft and the work at an index, read and replaced. The rest of the file reaches drafts and works only through these
 unfoldable pub draftOf : Holder → ℕ → Draft
 draftOf h p = getD (h .drafts) p blankDraft
 
@@ -47,13 +47,15 @@ workOf h p k = getD (h .works) (slot p k) blankWork
 unfoldable pub withWork : Holder → ℕ → ℕ → Work → Holder
 withWork h p k w = record { drafts = h .drafts; works = set (h .works) (slot p k) w }
 
--- A reply, and the holder as it was
+-- A reply, with the holder unchanged
 abbrev pub replied : Reply → Holder → Answered
 replied r h = record { reply = r; holder = h }
 
 -- ---- the calls
 
--- The place whose work is at hand for an action: the one that it names. The first is at hand for one that names none, or one that 20 turns back, and stays as it is
+-- The place whose work an action is given: the one that it names. An action that names none, or is refused by 20, is given the first
+-- place's work
+-- and leaves it unchanged
 unfoldable pub keptPlace : ℕ → ℕ
 keptPlace k = cond (badPlace k) 0 k
 
@@ -65,11 +67,11 @@ reachedBy (Clear k) = keptPlace k
 reachedBy (Close k) = keptPlace k
 reachedBy (Ask k q) = keptPlace k
 
--- What was done to the draft and the work of party p at place k, put back
+-- The holder with the new draft and work of party p at place k
 abbrev pub turned : Holder → ℕ → ℕ → Acted → Answered
 turned h p k a = record { reply = a .reply; holder = withWork (withDraft h p (a .draft)) p k (a .work) }
 
--- Of a party that there is
+-- For a party up to 1
 unfoldable pub actOf : Holder → ℕ → Action → Answered
 actOf h p a = turned h p (reachedBy a) (actedOf (draftOf h p) (workOf h p (reachedBy a)) a)
 

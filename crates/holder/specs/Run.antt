@@ -1,4 +1,5 @@
--- Lists of calls on a holder, each call given the holder that the last one handed back (contract 7.2). The plain book's stand in the crate book.
+-- Lists of calls on a holder, each made on the holder that the one before it returned (contract 7.2). The model's are in the crate
+-- holder_model.
 use mathlib.Core.List.{List, [], _∷_}
 use Rattle.holder.specs.Holder.{freshHolder, answerOf}
 use Rattle.calls.specs.declared.Call.{Call}

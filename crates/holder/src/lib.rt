@@ -42,14 +42,14 @@ pub fn fresh() -> Holder
     }
 }
 
-// 19.
+// 19: the party is above 1.
 fn bad_party(party: u8) -> bool
     ensures { λ r. ⌜ r ≡ badPartyOf party ⌝ }
 {
     PARTIES <= party as usize
 }
 
-// A place that there is: the first in place of one that 20 turns back.
+// The place as an index, or the first place if 20 refuses it.
 fn kept(place: u8) -> usize
     ensures { λ r. ⌜ r ≡ keptPlace place ⌝ }
 {
@@ -59,7 +59,7 @@ fn kept(place: u8) -> usize
     place as usize
 }
 
-// The place whose work is at hand for an action. One that names none has the first, and leaves it as it is.
+// The place whose work an action is given. An action that names no place is given the first one's, and leaves it unchanged.
 fn reached(action: Action) -> usize
     ensures { λ r. ⌜ r ≡ reachedBy action ⌝ }
 {
@@ -136,7 +136,7 @@ impl Holder {
         })
     }
 
-    // The cell that it names is the anchor of an outline that is taken, and the lowest missing one of a dented outline.
+    // The cell of the reply is the anchor of a taken outline, or the lowest missing cell of a dented one.
     pub fn close(self, party: u8, place: u8) -> Answered
         ensures answer { λ r. ⌜ r ≡ answerOf self (by party (Action.Close place)) ⌝ }
         ensures named { λ r. ⌜ CellNamed (outlineOf (draftOf self party)) (replyFields (r .reply)) ⌝ }
@@ -187,7 +187,7 @@ impl Holder {
         })
     }
 
-    // The reply alone to what is asked of a work: no question alters the holder.
+    // The reply alone to a question about a work. A question does not change the holder.
     pub fn ask(self, party: u8, place: u8, question: Question) -> Reply
         ensures { λ r. ⌜ r ≡ answerOf self (by party (Action.Ask place question)) .reply ⌝ }
     {

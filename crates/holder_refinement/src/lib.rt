@@ -1,1 +1,1 @@
-// The holder answers as the plain book does. Theorems, no code.
+// The holder replies as the model does. Theorems, no code.

@@ -1,4 +1,5 @@
--- One call on a holder in lists, as bytes or by its arguments, with a list for its reply; and a fresh holder in lists (contract 10.4).
+-- One call on a holder in the caller's arrays, as bytes or by its arguments, with a buffer for its reply; and a fresh holder (contract
+-- 10.4).
 use Prim.Native.Nat.{ℕ}
 use mathlib.Core.Path.{_≡_}
 use mathlib.Core.Bool.{Bool, true, false, cond}
@@ -18,11 +19,12 @@ use Rattle.wire.specs.Wire.{replyWidth}
 use Rattle.live_memory.specs.Layout.{Memory, holderIn, Fits}
 use Rattle.live_memory.specs.parts.Writes.{callWrites}
 
--- A call by its arguments, with a list of so many numbers for its reply: none where the reply has no room. A call as bytes is wire's `heard`
+-- A call by its arguments, with a buffer of so many numbers for its reply. Nothing if the reply does not fit. For bytes see `received` in
+-- wire
 unfoldable pub spoken : Call → ℕ → Decoded
 spoken c room = cond (leb replyWidth room) (Said c) Nothing
 
--- What the holder by value makes of it: whether there is a call, the next holder, and the reply list
+-- Whether there is a call; the next holder and the reply buffer, as the holder by value has them
 unfoldable pub isCall : Decoded → Bool
 isCall Nothing = false
 isCall (Said c) = true
@@ -35,7 +37,7 @@ unfoldable pub replyBy : Holder → Decoded → List ℕ → List ℕ
 replyBy h Nothing reply = reply
 replyBy h (Said c) reply = replyAfter (replyFields (answerOf h c .reply)) reply
 
--- The list for a point, after a call for a piece (contract 10.5)
+-- The buffer for a point after a piece call (contract 10.5)
 unfoldable pub pieceDrawn : Holder → Call → List Float → List Float
 pieceDrawn h c point = pointAfter (pieceIn (answerOf h c .reply)) point
 
@@ -43,13 +45,13 @@ unfoldable pub pointBy : Holder → Decoded → List Float → List Float
 pointBy h Nothing point = point
 pointBy h (Said c) point = pieceDrawn h c point
 
--- The heads that it may alter
+-- The heads that the call may change
 unfoldable pub writes : Decoded → ℕ → Bool
 writes Nothing i = false
 writes (Said c) i = callWrites c i
 
--- From lists m to lists n, with a list for the reply, which is reply′ afterwards. F says that the lists that the call goes by have their lengths. Then it is done exactly if there
--- is a call, and holder and reply are the by-value call's. Where it is not done, as with lists of other lengths, every list is as it was
+-- From arrays m to arrays n, with reply′ as the reply buffer afterwards. F says that the arrays of this call have their lengths. Given F, the
+-- call is done exactly if there is a call; without F it is not done. If it is done, holder and reply are those by value. If not, nothing changes
 pub record Called (F : Type 0) (m n : Memory) (d : Decoded) (reply reply′ : List ℕ) (r : Bool) : Type 0 where
   pub done : F → r ≡ isCall d
   pub holder : r ≡ true → holderIn n ≡ nextHolder (holderIn m) d
@@ -59,19 +61,19 @@ pub record Called (F : Type 0) (m n : Memory) (d : Decoded) (reply reply′ : Li
   pub unfit : (F → ⊥) → r ≡ false
   pub unaltered : r ≡ false → (n ≡ m) × (reply′ ≡ reply)
 
--- A call where every list has its length, by the types of the lists, and a reply of seven numbers: there is nothing to refuse
+-- A call on arrays whose types fix their lengths, with a reply of seven numbers: it is always done
 pub record Done (m n : Memory) (c : Call) (reply : List ℕ) : Type 0 where
   pub holder : holderIn n ≡ answerOf (holderIn m) c .holder
   pub replied : reply ≡ numbersOf (replyFields (answerOf (holderIn m) c .reply))
   pub fits : Fits m → Fits n
   pub others : (i : ℕ) → callWrites c i ≡ false → getD (n .heads) i 0 ≡ getD (m .heads) i 0
 
--- The list for a point, before and after: it is written where the call is done
+-- The buffer for a point, before and after. It is written if the call is done
 pub record PointDrawn (m : Memory) (d : Decoded) (point point′ : List Float) (r : Bool) : Type 0 where
   pub drawn : r ≡ true → point′ ≡ pointBy (holderIn m) d point
   pub undrawn : r ≡ false → point′ ≡ point
 
--- Lists of the right lengths have a fresh holder in them, and others are as they were
+-- Arrays of the right lengths become a fresh holder. Others are unchanged
 pub record Freshened (m n : Memory) (r : Bool) : Type 0 where
   pub done : Fits m → r ≡ true
   pub holder : Fits m → holderIn n ≡ freshHolder

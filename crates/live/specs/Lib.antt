@@ -1,2 +1,2 @@
--- A call on a holder in lists, and a fresh holder in them.
+-- A call on a holder in the caller's arrays, and a fresh holder in them.
 pub mod Called

@@ -1,4 +1,4 @@
-// The calls on a holder that stands in lists of numbers which the caller keeps (contract 10.4): close and clear, any call, one call as bytes, and a fresh holder.
+// The calls on a holder in the caller's arrays (contract 10.4): close and clear, any call, one call as bytes, and a fresh holder.
 use calls::Action;
 use calls::Call;
 use calls::PARTIES;
@@ -40,7 +40,7 @@ ghost use Rattle.live_memory.specs.Layout.{memory, Fits, WorksFit};
 ghost use Rattle.live_memory.specs.parts.Writes.{Acts, Answers};
 ghost use Rattle.live.specs.Called.{Called, Freshened};
 
-// The reply of a close that took the draft.
+// The reply of a close that takes the draft.
 fn taken_reply(same: bool, edges: u16, anchor: Point) -> Reply
     ensures { λ r. ⌜ r ≡ cond same (Reply.Same edges anchor) (Reply.Taken edges anchor) ⌝ }
 {
@@ -51,7 +51,7 @@ fn taken_reply(same: bool, edges: u16, anchor: Point) -> Reply
     }
 }
 
-// 13, or what the verdict makes of the draft, which is over either way.
+// 13, or a close by the verdict on the draft. The draft ends in any case.
 fn close(
     letters: &[u8],
     rows: &mut [u8],
@@ -100,7 +100,7 @@ fn close(
     }
 }
 
-// 20, which ends the draft, or a close.
+// 20, which ends the draft too, or a close.
 pub fn close_at(
     letters: &[u8],
     rows: &mut [u8],
@@ -120,7 +120,7 @@ pub fn close_at(
     close(letters, rows, numbers, heads, party, at)
 }
 
-// 20, or nothing is at work at the place.
+// 20, or leaves nothing at work at the place.
 pub fn clear(heads: &mut [u16], party: usize, place: u8) -> Reply
     requires { ⌜ (party < parties) × (length (now heads) ≡ 40) ⌝ }
     ensures { λ r. ⌜ ((letters rows : List ℕ) (numbers : List ℤ) → Acts (memory letters rows numbers (now (heads .entry))) (memory letters rows numbers (now (heads .exit))) party (Action.Clear place) r) ⌝ }
@@ -133,7 +133,7 @@ pub fn clear(heads: &mut [u16], party: usize, place: u8) -> Reply
     Reply::Done
 }
 
-// 20, or what the work at the place answers.
+// 20, or the reply of the work at the place.
 pub fn ask(
     rows: &[u8],
     numbers: &[i16],
@@ -152,7 +152,7 @@ pub fn ask(
     answered(rows, numbers, heads, 4 * party + at, question)
 }
 
-// A call on the holder in the lists.
+// A call on the holder in the arrays.
 pub fn answer(
     letters: &mut [u8],
     rows: &mut [u8],
@@ -178,7 +178,7 @@ pub fn answer(
     }
 }
 
-// One call of eleven bytes, and its reply in a lent list. Where the lists have other lengths, or there is no call, or no room, nothing is altered.
+// One call of eleven bytes, with its reply in a buffer. If an array has another length, or there is no call or no room, nothing changes.
 pub fn respond(
     letters: &mut [u8],
     rows: &mut [u8],
@@ -210,7 +210,7 @@ pub fn respond(
     true
 }
 
-// A fresh holder in lists of the right lengths.
+// Makes arrays of the right lengths a fresh holder.
 pub fn fresh(letters: &mut [u8], rows: &mut [u8], numbers: &mut [i16], heads: &mut [u16]) -> bool
     ensures { λ r. ⌜ Freshened (memory (now (letters .entry)) (now (rows .entry)) (now (numbers .entry)) (now (heads .entry))) (memory (now (letters .exit)) (now (rows .exit)) (now (numbers .exit)) (now (heads .exit))) r ⌝ }
 {

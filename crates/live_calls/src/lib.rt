@@ -1,4 +1,6 @@
-// One call by its arguments, on a holder in lists (contract 10.4). Each function takes the lists that its call goes by and no others, so that it needs no more stack than that call does.
+// One call by its arguments, on a holder in the caller's arrays (contract 10.4). Each function takes only the arrays that its call needs,
+// so
+// that it uses no more stack than that call.
 use calls::Action;
 use calls::PARTIES;
 use calls::PLACES;
@@ -293,7 +295,7 @@ fn piece_of(numbers: &[i16], heads: &[u16], party: u8, place: u8, position: u16)
     live_works::piece(numbers, heads, 4 * at + k, position)
 }
 
-// With the point of a move or a line at the front of a list of its own (contract 10.5).
+// Also writes the point of a move or a line to the front of a buffer (contract 10.5).
 pub fn piece(
     numbers: &[i16],
     heads: &[u16],

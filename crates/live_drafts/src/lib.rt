@@ -1,4 +1,4 @@
-// The calls on a draft, in lists that the caller keeps: begin, add and drop; and the draft's letters, handed to a close.
+// The calls on a draft in the caller's arrays: begin, add and drop. Also the draft's letters, for a close.
 use calls::Reply;
 use chart::LONGEST;
 use chart::Point;
@@ -53,7 +53,7 @@ pub fn add(letters: &mut [u8], heads: &mut [u16], party: usize, letter: u8) -> R
     Reply::Done
 }
 
-// The draft is over.
+// Ends the draft.
 pub fn end(heads: &mut [u16], party: usize)
     requires { ⌜ (party < parties) × (length (now heads) ≡ 40) ⌝ }
     ensures { λ _. ⌜ ((letters : List ℕ) → DraftPut letters (now (heads .entry)) letters (now (heads .exit)) party (endOf (draftAt letters (now (heads .entry)) party))) ⌝ }
@@ -74,7 +74,7 @@ pub fn drop(heads: &mut [u16], party: usize) -> Reply
     Reply::Done
 }
 
-// No more letters than there is space for.
+// A count above the space is read as the space.
 fn held(count: usize) -> usize
     ensures { λ r. ⌜ r ≡ min count longest ⌝ }
 {

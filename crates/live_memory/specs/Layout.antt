@@ -1,4 +1,4 @@
--- A holder as four lists of numbers that a caller keeps: which draft and which work stand in them, whatever they hold (contract 10.4).
+-- A holder in four arrays of the caller's: which draft and which work any content stands for (contract 10.4).
 use Prim.Native.Nat.{ℕ, _+_, _*_}
 use mathlib.Core.Path.{_≡_}
 use mathlib.Core.List.{List}
@@ -13,7 +13,7 @@ use Rattle.holder.specs.declared.Holder.{Holder}
 use Rattle.windows.specs.Windows.{window, slotsFrom}
 use Rattle.span_list.specs.SpanList.{spansAt}
 
--- Each draft and each work has four numbers in the list of heads: a flag, zero or not, a column, a row and a count
+-- Each draft and each work has four numbers in the array of heads: a flag, a column, a row and a count
 abbrev pub draftHead : ℕ → ℕ
 draftHead p = 4 * p
 
@@ -45,7 +45,7 @@ unfoldable pub holderOf : List ℕ → List ℕ → List ℤ → List ℕ → Ho
 holderOf letters rows numbers heads =
     record { drafts = slotsFrom (draftAt letters heads) 0 parties; works = slotsFrom (workAt rows numbers heads) 0 (parties * places) }
 
--- ---- the four lists together
+-- ---- the four arrays together
 
 pub record Memory : Type 0 where
   pub letters : List ℕ

@@ -1,3 +1,3 @@
--- A holder in lists of numbers that a caller keeps.
+-- A holder in arrays of the caller's.
 pub mod Layout
 pub mod parts

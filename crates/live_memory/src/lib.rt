@@ -1,4 +1,4 @@
-// A holder in lists of numbers that a caller keeps (contract 10.4): how long the lists are, and how the numbers of a draft or a work are written.
+// A holder in arrays of the caller's (contract 10.4): the lengths of the arrays, and how the head of a draft or a work is written.
 use chart::Point;
 ghost use mathlib.Core.Path.{_≡_};
 ghost use Prim.Native.Nat.{_+_, _≤_};

@@ -1,4 +1,4 @@
--- A pile as two lists of bytes that a caller keeps, whatever they hold: its layers, and whether it has passed (contract 12.8).
+-- A pile in two arrays of the caller's, whatever they hold: its layers, and whether it has passed (contract 12.8).
 use Prim.Native.Nat.{ℕ}
 use mathlib.Core.Path.{_≡_}
 use mathlib.Core.List.{List}
@@ -9,11 +9,11 @@ use Rattle.pile.specs.declared.PileReply.{PileReply}
 use Rattle.pile.specs.Calls.{PileCall, answerOf}
 use Rattle.live_sections.specs.Layers.{layersOf}
 
--- It has passed where the one byte of the state is not zero
+-- It has passed if the one byte of the state is not zero
 unfoldable pub pileOf : List ℕ → List ℕ → Pile
 pileOf rows state = record { layers = layersOf rows; passed = ltb 0 (getD state 0 0) }
 
--- ---- the two lists together
+-- ---- the two arrays together
 
 pub record Memory : Type 0 where
   pub rows : List ℕ
@@ -29,7 +29,7 @@ pub record Fits (m : Memory) : Type 0 where
   pub rows : length (m .rows) ≡ 8160
   pub state : length (m .state) ≡ 1
 
--- From lists m to lists n with this reply: the reply and the pile are those of the call by value
+-- From arrays m to arrays n with this reply: reply and pile are those of the call by value
 pub record Acts (m n : Memory) (c : PileCall) (r : PileReply) : Type 0 where
   pub reply : r ≡ answerOf (pileIn m) c .reply
   pub pile : pileIn n ≡ answerOf (pileIn m) c .pile

@@ -1,3 +1,3 @@
--- A pile in lists of bytes that a caller keeps, and a call on it.
+-- A pile in arrays of the caller's, and a call on it.
 pub mod Layout
 pub mod Called

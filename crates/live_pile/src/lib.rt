@@ -1,4 +1,4 @@
-// The calls on a pile that stands in two lists of bytes which the caller keeps: its layers, and whether it has passed (contract 12.8).
+// The calls on a pile in two arrays of the caller's: its layers, and whether it has passed (contract 12.8).
 use chart::Point;
 use chart::Verdict;
 use chart::reply;
@@ -26,17 +26,17 @@ ghost use Rattle.live_pile.specs.Called.{Called, CheckWritten, Freshened
 // Sixteen layers, 510 bytes each.
 pub const ROW_BYTES: usize = 8160;
 
-// One byte, not zero where the pile has passed.
+// One byte, which is not zero if the pile has passed.
 pub const STATE_BYTES: usize = 1;
 
-// What is written to it.
+// The values that are written to it.
 const UNCHECKED: u8 = 0;
 
 const FAILED: u8 = 0;
 
 const PASSED: u8 = 1;
 
-// A fresh pile in lists of the right lengths.
+// Makes arrays of the right lengths a fresh pile.
 pub fn fresh(rows: &mut [u8], state: &mut [u8]) -> bool
     ensures { λ r. ⌜ Freshened (memory (now (rows .entry)) (now (state .entry))) (memory (now (rows .exit)) (now (state .exit))) r ⌝ }
 {
@@ -76,7 +76,7 @@ fn set_layer(
     }
 }
 
-// Sets a layer to an outline: 22, what a test says, and the layer where it is taken.
+// Sets a layer to an outline: 22, or the test's verdict. A taken outline becomes the layer.
 pub fn set(
     rows: &mut [u8],
     state: &mut [u8],
@@ -193,7 +193,7 @@ fn query_layer(rows: &[u8], state: &[u8], layer: u8, cell: Point) -> PileReply
     }
 }
 
-// 22, 12, 11, or where the cell lies.
+// 22, 12, 11, or whether the layer has the cell.
 pub fn query(rows: &[u8], state: &[u8], layer: u8, cell: Point, reply: &mut [u16]) -> bool
     ensures { λ r. ⌜ Called (memory (now (rows .entry)) (now (state .entry))) (memory (now (rows .entry)) (now (state .entry)))
         (Query layer cell) (now (reply .entry)) (now (reply .exit)) r ⌝ }

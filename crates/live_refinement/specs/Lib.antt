@@ -1,2 +1,2 @@
--- Calls made one by one on a holder in lists.
+-- Calls made one by one on a holder in the caller's arrays.
 pub mod Run

@@ -1,4 +1,5 @@
--- Calls made one by one on a holder in lists, as bytes and by their arguments, mixed as they may be; and what the plain book says to them (contract 8.2 and 10.4).
+-- Calls made one by one on a holder in the caller's arrays, as bytes and by arguments in any mixture, and the model's replies to them
+-- (contract 8.2 and 10.4).
 use Prim.Native.Nat.{ℕ}
 use mathlib.Core.Bool.{Bool, true, false, cond}
 use mathlib.Core.Path.{_≡_}
@@ -16,22 +17,22 @@ use Rattle.wire.specs.Wire.{received as receivedIn}
 use Rattle.live_memory.specs.Layout.{Memory, Fits}
 use Rattle.live.specs.Called.{spoken, Called, Done, Freshened}
 
--- A call as it is sent: by bytes, which may be none, or by its arguments
+-- A call as it is made: as bytes, which may not be a call, or by its arguments
 pub data Sent : Type 0 where
   Bytes : List ℕ → Sent
   Arguments : Call → Sent
 
--- With the list for its reply
+-- A call with the buffer for its reply
 pub record Asked : Type 0 where
   pub sent : Sent
   pub reply : List ℕ
 
--- Whether it was done, and that list afterwards
+-- Whether the call was done, and the buffer afterwards
 pub record Received : Type 0 where
   pub done : Bool
   pub reply : List ℕ
 
--- The call that is answered: none where the bytes are none, or the reply has no room
+-- The call that is answered. Nothing if the bytes are not a call, or the reply has no room
 unfoldable pub sentCall : Sent → ℕ → Decoded
 sentCall (Bytes b) room = receivedIn b room
 sentCall (Arguments c) room = spoken c room
@@ -39,7 +40,7 @@ sentCall (Arguments c) room = spoken c room
 abbrev pub callIn : Asked → Decoded
 callIn x = sentCall (x .sent) (length (x .reply))
 
--- From lists m to lists k: each call is made on the lists that the last one left, and promises what `Called` says
+-- From arrays m to arrays k: each call is made on the arrays that the one before it left, and does what `Called` says
 pub data Run : Memory → List Asked → List Received → Memory → Type 1 where
   stop : {m : Memory} → Run m [] [] m
   next : {m n k : Memory} {x : Asked} {y : Received} {xs : List Asked} {ys : List Received} (F : Type 0) → (Fits m → F)
@@ -54,9 +55,9 @@ unfoldable pub callsIn : List Asked → List Call
 callsIn [] = []
 callsIn (x ∷ xs) = withCall (callIn x) (callsIn xs)
 
--- ---- in the book
+-- ---- in the model
 
--- What is no call, or has no room for its reply, alters nothing
+-- Bytes that are not a call, or a reply without room, change nothing
 unfoldable pub receivedInModel : Book → Decoded → List ℕ → Received
 receivedInModel b Nothing reply = record { done = false; reply = reply }
 receivedInModel b (Said c) reply = record { done = true; reply = replyAfter (replyFields (answer b c .reply)) reply }
@@ -69,9 +70,9 @@ unfoldable pub modelFrom : Book → List Asked → List Received
 modelFrom b [] = []
 modelFrom b (x ∷ xs) = receivedInModel b (callIn x) (x .reply) ∷ modelFrom (nextBook b (callIn x)) xs
 
--- ---- calls by their arguments alone, on lists that have their lengths
+-- ---- calls by their arguments only, on arrays that have their lengths
 
--- Each leaves its reply of seven numbers
+-- Each call writes its reply of seven numbers
 pub data Calls : Memory → List Call → List (List ℕ) → Memory → Type 0 where
   end : {m : Memory} → Calls m [] [] m
   then : {m n k : Memory} {c : Call} {cs : List Call} {reply : List ℕ} {rs : List (List ℕ)} → Done m n c reply → Calls n cs rs k
@@ -82,7 +83,7 @@ pub data Calls : Memory → List Call → List (List ℕ) → Memory → Type 0 
 abbrev pub unreceived : Received
 unreceived = record { done = false; reply = [] }
 
--- Lists were made fresh and calls made on them one by one. Among these, after the calls cs, call c got the reply whose seven numbers are g
+-- Arrays were made fresh and calls were made on them one by one. After the calls cs, call c got the reply with the fields g
 pub record Replied (cs : List Call) (c : Call) (g : Fields) : Type 1 where
   pub given : Memory
   pub lists : Memory
@@ -99,7 +100,7 @@ pub record Replied (cs : List Call) (c : Call) (g : Fields) : Type 1 where
   pub call : callIn asked ≡ Said c
   pub fields : fieldsOf (getD received (length earlier) unreceived .reply) ≡ g
 
--- ---- what one party hears
+-- ---- what one party receives
 
 -- The call is party p's
 unfoldable pub isOf : ℕ → Decoded → Bool

@@ -1,1 +1,1 @@
-// Calls made one by one on a holder in lists get the plain book's replies: definitions and theorems, no code.
+// Calls made one by one on a holder in the caller's arrays get the model's replies. Definitions and theorems, no code.

@@ -1,4 +1,4 @@
--- The layers of a pile that stand in one list of bytes, slot by slot, whatever it holds.
+-- The layers of a pile in one list of bytes, slot by slot, whatever it holds.
 use Prim.Native.Nat.{ℕ}
 use mathlib.Core.List.{List}
 use Rattle.spans.specs.declared.Spans.{Spans}

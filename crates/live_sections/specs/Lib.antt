@@ -1,3 +1,3 @@
--- The layers of a pile in one list of bytes, and the rows of each that have a cell.
+-- The layers of a pile in one list of bytes, and the rows of each layer that have a cell.
 pub mod Layers
 pub mod parts

@@ -1,4 +1,4 @@
-// The sections of a pile whose layers stand in one list of bytes, by columns and by rows, and the first that is dented.
+// The sections of a pile whose layers are in one list of bytes, by columns and by rows, and the first that is dented.
 use sections::LAYERS;
 use sections::Section;
 use sections::is_clear;
@@ -24,7 +24,7 @@ fn part(rows: &[u8], from: usize) -> &[u8]
     &rows[from..to]
 }
 
-// Column `col` is among those of row `r`.
+// Row `r` has column `col`.
 fn holds(first: &[u8], past: &[u8], col: u8, r: usize) -> bool
     requires { ⌜ (r < side) × (length (now first) ≡ side) × (length (now past) ≡ side) ⌝ }
     ensures { λ b. ⌜ b ≡ inRow (now (first .entry)) (now (past .entry)) col r ⌝ }
@@ -55,7 +55,7 @@ fn bottom(first: &[u8], past: &[u8]) -> u8
     255
 }
 
-// The row after the highest with a cell, or 0.
+// The row past the highest with a cell, or 0.
 fn top(first: &[u8], past: &[u8]) -> u8
     requires { ⌜ (length (now first) ≡ side) × (length (now past) ≡ side) ⌝ }
     ensures { λ b. ⌜ b ≡ side - firstOf (λ k. hasCell (now (first .entry)) (now (past .entry)) (side - 1 - k)) side ⌝ }
@@ -70,7 +70,7 @@ fn top(first: &[u8], past: &[u8]) -> u8
     0
 }
 
-// The rows of each layer that have a cell: from the lowest up to but not including the one after the highest.
+// The rows of each layer that have a cell: from the lowest up to but not including the row past the highest.
 fn reach(rows: &[u8]) -> Section
     requires { ⌜ length (now rows) ≡ 8160 ⌝ }
     ensures { λ r. ⌜ r ≡ reachOf (layersOf (now (rows .entry))) ⌝ }
@@ -89,7 +89,7 @@ fn reach(rows: &[u8]) -> Section
     Section { lo, past }
 }
 
-// The lowest row with the column, or 255: among rows `from` up to but not including `to`, where the others have no cell.
+// The lowest row with the column, or 255. Only rows `from` up to but not including `to` have cells.
 fn lowest(first: &[u8], past: &[u8], col: u8, from: u8, to: u8) -> u8
     requires { ⌜ (length (now first) ≡ side) × (length (now past) ≡ side) × NoneBelow (now first) (now past) col from
         × NoneFrom (now first) (now past) col to ⌝ }
@@ -106,7 +106,7 @@ fn lowest(first: &[u8], past: &[u8], col: u8, from: u8, to: u8) -> u8
     255
 }
 
-// The row after the highest with the column, or 0.
+// The row past the highest with the column, or 0.
 fn after_highest(first: &[u8], past: &[u8], col: u8, from: u8, to: u8) -> u8
     requires { ⌜ (length (now first) ≡ side) × (length (now past) ≡ side) × NoneBelow (now first) (now past) col from
         × NoneFrom (now first) (now past) col to ⌝ }
@@ -123,7 +123,7 @@ fn after_highest(first: &[u8], past: &[u8], col: u8, from: u8, to: u8) -> u8
     0
 }
 
-// The section at a column: of each layer the rows with that column, which are among those that it reaches.
+// The section at a column: for each layer, the rows with that column. They are within `reach`.
 fn column(rows: &[u8], reach: Section, col: u8) -> Section
     requires { ⌜ (length (now rows) ≡ 8160) × (reach ≡ reachOf (layersOf (now rows))) ⌝ }
     ensures { λ r. ⌜ r ≡ columnSection (layersOf (now (rows .entry))) col ⌝ }
@@ -146,7 +146,7 @@ fn column(rows: &[u8], reach: Section, col: u8) -> Section
     Section { lo, past }
 }
 
-// The section at a row: of each layer the columns of that row.
+// The section at a row: for each layer, the columns of that row.
 fn row(rows: &[u8], r: usize) -> Section
     requires { ⌜ (r < side) × (length (now rows) ≡ 8160) ⌝ }
     ensures { λ s. ⌜ s ≡ rowSection (layersOf (now (rows .entry))) r ⌝ }
@@ -163,7 +163,7 @@ fn row(rows: &[u8], r: usize) -> Section
     Section { lo, past }
 }
 
-// The two sections have the same runs.
+// The two sections have the same intervals.
 fn same(a: Section, b: Section) -> bool
     requires { ⌜ Sized a × Sized b ⌝ }
     ensures { λ r. ⌜ (r ≡ true → b ≡ a) ⌝ }
@@ -185,7 +185,7 @@ fn same(a: Section, b: Section) -> bool
     true
 }
 
-// The hull of the section's marked cells holds no other, where that is so of the section before it: the same section is not tested again.
+// Whether the section is convex, given that the one before it is. Equal sections are not tested again.
 fn clear_after(last: Section, section: Section) -> bool
     requires { ⌜ (clearOf last ≡ true) × Sized last × Sized section ⌝ }
     ensures { λ r. ⌜ r ≡ clearOf section ⌝ }

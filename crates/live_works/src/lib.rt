@@ -1,4 +1,4 @@
-// What is at work, in lists that the caller keeps: asked, removed and replaced.
+// An outline at work in the caller's arrays: questions, removal and replacement.
 use calls::Question;
 use calls::Reading;
 use calls::Reply;
@@ -27,7 +27,7 @@ ghost use Rattle.windows.specs.Windows.{window};
 ghost use Rattle.live_memory.specs.Layout.{workAt, WorksFit};
 ghost use Rattle.live_memory.specs.parts.Writes.{WorkPut};
 
-// Nothing is at work at the place.
+// Leaves nothing at work at the place.
 pub fn remove(heads: &mut [u16], party: usize, place: usize)
     requires { ⌜ (party < parties) × (place < places) × (length (now heads) ≡ 40) ⌝ }
     ensures { λ _. ⌜ ((rows : List ℕ) (numbers : List ℤ) → WorkPut rows numbers (now (heads .entry)) rows numbers (now (heads .exit)) party place (removed (workAt rows numbers (now (heads .entry)) (4 * party + place)))) ⌝ }
@@ -36,7 +36,7 @@ pub fn remove(heads: &mut [u16], party: usize, place: usize)
     heads[at] = 0;
 }
 
-// How many numbers stand for this many edges: no more than there is space for.
+// How many numbers this many edges have. A count above the space is read as the space.
 fn number_count(edges: usize) -> usize
     ensures { λ r. ⌜ r ≡ min (2 * edges) mostNumbers ⌝ }
 {
@@ -97,7 +97,7 @@ pub fn row(rows: &[u8], heads: &[u16], slot: usize, row: u16) -> Reply
     spans::reply(span_at(rows, slot, row))
 }
 
-// 12, or where the reading lies, 11 among it.
+// 12, 11, or where the reading lies.
 pub fn reading(numbers: &[i16], heads: &[u16], slot: usize, reading: Reading) -> Reply
     requires { ⌜ (slot < parties * places) × (length (now numbers) ≡ 1600) × (length (now heads) ≡ 40) ⌝ }
     ensures { λ r. ⌜ ((rows : List ℕ) → r ≡ readAt (workAt rows (now (numbers .entry)) (now (heads .entry)) slot) reading) ⌝ }
@@ -115,7 +115,7 @@ pub fn reading(numbers: &[i16], heads: &[u16], slot: usize, reading: Reading) ->
     readings::reply(readings::locate(anchor, list, reading))
 }
 
-// 12, or the piece of the drawing at the position.
+// 12, or the path command at the position.
 pub fn piece(numbers: &[i16], heads: &[u16], slot: usize, position: u16) -> Reply
     requires { ⌜ (slot < parties * places) × (length (now numbers) ≡ 1600) × (length (now heads) ≡ 40) ⌝ }
     ensures { λ r. ⌜ ((rows : List ℕ) → r ≡ drawnAt (workAt rows (now (numbers .entry)) (now (heads .entry)) slot) position) ⌝ }
@@ -133,7 +133,7 @@ pub fn piece(numbers: &[i16], heads: &[u16], slot: usize, position: u16) -> Repl
     drawing::drawn_at(anchor, list, position)
 }
 
-// What is asked of the work at a slot.
+// The reply to a question about the work at a slot.
 pub fn answered(
     rows: &[u8],
     numbers: &[i16],
@@ -152,7 +152,7 @@ pub fn answered(
     }
 }
 
-// Copies the numbers of edges to a lent list, from an index on.
+// Copies the numbers of edges into a buffer, from an index on.
 fn put_numbers(list: &[i16; MOST_NUMBERS], at: usize, buffer: &mut [i16])
     requires { ⌜ at + mostNumbers ≤ length (now buffer) ⌝ }
     ensures { λ _. ⌜ (now (buffer .exit) ≡ paste (now (buffer .entry)) at (now (list .entry)) mostNumbers) × (length (now (list .entry)) ≡ mostNumbers) ⌝ }
@@ -166,7 +166,7 @@ fn put_numbers(list: &[i16; MOST_NUMBERS], at: usize, buffer: &mut [i16])
     }
 }
 
-// The same block is at work: its anchor and its edges are these.
+// Whether the same block is at work: it has this anchor and these edges.
 pub fn has(
     numbers: &[i16],
     heads: &[u16],
@@ -197,7 +197,7 @@ pub fn has(
     same_numbers(mine, other)
 }
 
-// An outline that was taken replaces what is at work.
+// A taken outline replaces what is at work.
 pub fn replace(
     rows: &mut [u8],
     numbers: &mut [i16],

@@ -1,4 +1,4 @@
--- The calls on a pile, and what each answers of a pile by value: its reply and the next pile (contract 12.4 to 12.6).
+-- The calls on a pile by value: the reply and the next pile (contract 12.4 to 12.6).
 use Prim.Native.Nat.{ℕ}
 use Rattle.chart.specs.declared.Point.{Point}
 use Rattle.chart.specs.Outline.{Outline}

@@ -22,7 +22,7 @@ use Rattle.pile.specs.declared.Piled.{Piled}
 use Rattle.pile.specs.declared.PileReply.{PileReply}
 use Rattle.pile.specs.declared.PileReply.the-variants.{Done, Inside, Outside, Judged, Cell, NotPassed, Dented, Layer}
 
--- The layer l of a list of layers, empty past the last
+-- Layer l of a list of layers, empty past the last
 abbrev pub layerAt : List Spans → ℕ → Spans
 layerAt ls l = getD ls l (record { first = []; past = [] })
 
@@ -30,7 +30,7 @@ layerAt ls l = getD ls l (record { first = []; past = [] })
 unfoldable pub freshPile : Pile
 freshPile = record { layers = replicate layers noSpans; passed = false }
 
--- The pile with another layer, and so unchecked; with the outcome of a check
+-- The pile with another layer, which makes it unchecked; the pile after a check
 unfoldable pub put : Pile → ℕ → Spans → Pile
 put p l s = record { layers = set (p .layers) l s; passed = false }
 
@@ -39,18 +39,18 @@ judgedPile p b = record { layers = p .layers; passed = b }
 
 -- ---- the sections
 
--- Column c is among those of row r
+-- Row r has column c
 unfoldable pub inRow : List ℕ → List ℕ → ℕ → ℕ → Bool
 inRow begins ends c r = leb (rows begins r) c && ltb c (rows ends r)
 
--- The lowest row with column c, and the one after the highest; the side and 0 where there is none
+-- The lowest row with column c, and the row past the highest; 255 and 0 if there is none
 unfoldable pub lowestRow : Spans → ℕ → ℕ
 lowestRow s c = first (λ r. inRow (s .first) (s .past) c r) side
 
 unfoldable pub afterHighest : Spans → ℕ → ℕ
 afterHighest s c = side - first (λ k. inRow (s .first) (s .past) c (side - 1 - k)) side
 
--- The section at column c: of each layer the rows with that column; the section at row r: of each layer the columns of that row
+-- The section at column c: for each layer, the rows with that column. The section at row r: for each layer, the columns of that row
 unfoldable pub columnSection : List Spans → ℕ → Section
 columnSection ls c = record { lo = table (λ l. lowestRow (layerAt ls l) c) 0 layers; past = table (λ l. afterHighest (layerAt ls l) c) 0 layers }
 
@@ -63,7 +63,7 @@ columnClear ls c = clear (numbers (columnSection ls c .lo)) (numbers (columnSect
 unfoldable pub rowClear : List Spans → ℕ → Bool
 rowClear ls r = clear (numbers (rowSection ls r .lo)) (numbers (rowSection ls r .past))
 
--- The first column, and the first row, whose section is dented; the side where there is none
+-- The first column, and the first row, whose section is dented; 255 if there is none
 unfoldable pub dentedColumn : List Spans → ℕ
 dentedColumn ls = first (λ c. not (columnClear ls c)) side
 
@@ -72,7 +72,7 @@ dentedRow ls = first (λ r. not (rowClear ls r)) side
 
 -- ---- the calls
 
--- By what 1 to 9 say of the outline
+-- A set, by the verdict of 1 to 9 on the outline
 unfoldable pub setAs : Pile → ℕ → Outline → Verdict → Piled
 setAs p l o (Refused f) = record { reply = Judged (Refused f); pile = p }
 setAs p l o (Taken n a) = record { reply = Judged (Taken n a); pile = put p l (spansOf o) }
@@ -83,14 +83,14 @@ setOf p l o = cond (ltb 15 l) (record { reply = Layer; pile = p }) (setAs p l o 
 unfoldable pub emptyOf : Pile → ℕ → Piled
 emptyOf p l = cond (ltb 15 l) (record { reply = Layer; pile = p }) (record { reply = Done; pile = put p l noSpans })
 
--- 21 of a column, else of a row, else the check passes
+-- 21 of a column, then of a row; otherwise the check passes
 unfoldable pub checkOf : Pile → Piled
 checkOf p =
     cond (ltb (dentedColumn (p .layers)) side) (record { reply = Dented 0 (dentedColumn (p .layers)); pile = judgedPile p false })
     (cond (ltb (dentedRow (p .layers)) side) (record { reply = Dented 1 (dentedRow (p .layers)); pile = judgedPile p false })
     (record { reply = Done; pile = judgedPile p true }))
 
--- 22, 12 and 11 in this order
+-- 22, 12 and 11, checked in this order
 unfoldable pub locatedIn : Spans → Point → PileReply
 locatedIn s x = cond (inSpans s (x .col) (x .row)) Inside Outside
 

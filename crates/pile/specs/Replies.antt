@@ -1,4 +1,4 @@
--- A reply written out: the number, the word and the fields, for every case (contract 4, 5 and 12).
+-- The fields of each reply: the number, the word and the rest (contract 4, 5 and 12).
 use Rattle.chart.specs.declared.Fields.{Fields}
 use Rattle.chart.specs.Fields.{numbered, said, verdictFields, no-word, inside, outside}
 use Rattle.pile.specs.declared.PileReply.{PileReply}

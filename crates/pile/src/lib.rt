@@ -20,26 +20,26 @@ ghost use Rattle.pile.specs.Meaning.{CheckedRuns};
 mod section_at;
 pub mod written;
 
-// What is kept of each layer, and whether the last check passed and nothing was set since. Zeros: a fresh pile.
+// The rows of each layer, and whether the last check passed and nothing was set since. All zeros is a fresh pile.
 #[repr(C)]
 pub struct Pile {
     pub layers: [Spans; LAYERS],
     pub passed: bool,
 }
 
-// What a call answers.
+// The reply of a call.
 pub enum PileReply {
     // A layer was set to empty, or a check passed.
     Done,
     Inside,
     Outside,
-    // A layer was to be set to an outline: what a test says of it, 1 to 9 or taken.
+    // The verdict of a set on its outline: 1 to 9, or taken.
     Judged(Verdict),
     // 11. A cell number above 254.
     Cell,
     // 12. The pile is unchecked, or did not pass.
     NotPassed,
-    // 21. The first dented section: kind 0 a column, 1 a row, and which.
+    // 21. The first dented section: kind 0 is a column and 1 a row, `at` is its number.
     Dented { kind: u16, at: u16 },
     // 22. A layer above 15.
     Layer,
@@ -63,7 +63,7 @@ pub fn fresh() -> Pile
 }
 
 impl Pile {
-    // The pile with another layer, and so unchecked.
+    // The pile with another layer, which makes it unchecked.
     fn put(mut self, layer: usize, spans: Spans) -> Self
         requires { ⌜ layer < layers ⌝ }
         ensures { λ r. ⌜ r ≡ putOf self layer spans ⌝ }
@@ -73,7 +73,7 @@ impl Pile {
         self
     }
 
-    // Sets a layer to an outline: 22, what a test says, and the pile with it where it is taken.
+    // Sets a layer to an outline: 22, or the test's verdict. A taken outline becomes the layer.
     pub fn set(self, layer: u8, start: Point, letters: &[u8]) -> Piled
         ensures answer { λ r. ⌜ r ≡ setOf self layer (outline start (now (letters .entry))) ⌝ }
         ensures cell { λ r. ⌜ CellNamed (outline start (now (letters .entry))) (pileFields (r .reply)) ⌝ }
@@ -146,7 +146,7 @@ impl Pile {
         }
     }
 
-    // 22, 12, 11, or where the cell lies.
+    // 22, 12, 11, or whether the layer has the cell.
     pub fn query(self, layer: u8, cell: Point) -> PileReply
         ensures { λ r. ⌜ r ≡ queryOf self layer cell ⌝ }
     {

@@ -12,7 +12,7 @@ ghost use Rattle.rows.specs.parts.Rows.{rows as rowOf};
 ghost use Rattle.pile.specs.Pile.{inRow, columnSection, rowSection, dentedColumn, dentedRow};
 ghost use Rattle.pile.specs.Meaning.{RowFits};
 
-// Column `col` is among those of row `r`.
+// Row `r` has column `col`.
 fn holds(first: &[u8; ROWS], past: &[u8; ROWS], col: u8, r: usize) -> bool
     requires { ⌜ r < side ⌝ }
     ensures { λ b. ⌜ b ≡ inRow (now (first .entry)) (now (past .entry)) col r ⌝ }
@@ -34,7 +34,7 @@ fn lowest(first: &[u8; ROWS], past: &[u8; ROWS], col: u8) -> u8
     255
 }
 
-// The row after the highest with the column, or 0.
+// The row past the highest with the column, or 0.
 fn after_highest(first: &[u8; ROWS], past: &[u8; ROWS], col: u8) -> u8
     ensures { λ b. ⌜ b ≡ side - firstOf (λ k. inRow (now (first .entry)) (now (past .entry)) col (side - 1 - k)) side ⌝ }
 {
@@ -48,7 +48,7 @@ fn after_highest(first: &[u8; ROWS], past: &[u8; ROWS], col: u8) -> u8
     0
 }
 
-// The section at a column: of each layer the rows with that column.
+// The section at a column: for each layer, the rows with that column.
 fn column(layers: [Spans; LAYERS], col: u8) -> Section
     ensures { λ r. ⌜ r ≡ columnSection layers col ⌝ }
 {
@@ -66,7 +66,7 @@ fn column(layers: [Spans; LAYERS], col: u8) -> Section
     Section { lo, past }
 }
 
-// The number of row `r`. Of what a function returns it is known that it is a byte.
+// The number of row `r`. As a function's result it is known to be a byte.
 fn number(list: &[u8; ROWS], r: usize) -> u8
     requires { ⌜ r < side ⌝ }
     ensures { λ b. ⌜ b ≡ rowOf (now (list .entry)) r ⌝ }
@@ -74,7 +74,7 @@ fn number(list: &[u8; ROWS], r: usize) -> u8
     list[r]
 }
 
-// The section at a row: of each layer the columns of that row, and so a run that ends on the chart.
+// The section at a row: for each layer, the columns of that row, an interval that ends on the chart.
 fn row(layers: [Spans; LAYERS], r: usize) -> Section
     requires { ⌜ r < side ⌝ }
     ensures { λ s. ⌜ (s ≡ rowSection layers r) × RowFits layers r ⌝ }

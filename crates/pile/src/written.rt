@@ -1,4 +1,4 @@
-// A reply written out: its number, its word and its fields (contract 4).
+// The reply's number, word and fields (contract 4).
 use crate::PileReply;
 use chart::Fields;
 use chart::reply;

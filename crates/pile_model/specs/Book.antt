@@ -1,5 +1,6 @@
--- The plain book for piles, kept from the calls alone (contract 12): sixteen layers, each none or an outline, and whether the last check passed and nothing was set
--- since. What a check says is put in words of the hull: no section holds a missing cell, or the first that does.
+-- The model of a pile, which the contract calls the plain book (contract 12). It sees the calls and keeps sixteen layers, each none or an
+-- outline, and whether the last check passed and nothing was set since. A check is stated by hulls: no section has a missing cell, or the
+-- first that has one.
 use Prim.Native.Nat.{ℕ}
 use mathlib.Core.Path.{_≡_}
 use mathlib.Core.Bool.{Bool, true, false, cond}
@@ -19,7 +20,7 @@ use Rattle.pile.specs.declared.PileReply.the-variants.{Done, Inside, Outside, J
 use Rattle.pile.specs.Calls.{PileCall, Set, SetEmpty, Check, Query}
 use Rattle.pile.specs.Meaning.{AllConvex, CheckedBy}
 
--- ---- the entries
+-- ---- the state
 
 abbrev pub Layers : Type 0
 Layers = ℕ → Option Outline
@@ -28,11 +29,11 @@ pub record PileBook : Type 0 where
   pub layers : Layers
   pub passed : Bool
 
--- Every layer is empty at first, and the pile unchecked
+-- Every layer is empty at first, and the pile is unchecked
 unfoldable pub fresh : PileBook
 fresh = record { layers = λ l. none; passed = false }
 
--- The layer l is set, and the pile counts as unchecked
+-- Layer l is set, which makes the pile unchecked
 unfoldable pub putLayer : PileBook → ℕ → Option Outline → PileBook
 putLayer b l v = record { layers = put (b .layers) l v; passed = false }
 
@@ -52,7 +53,7 @@ rowMarks ls r l c = marks (ls l) c r
 
 -- ---- what a check says
 
--- Nothing where no section is dented; else the first among the columns and then the rows
+-- Done if no section is dented, otherwise the first dented one, columns before rows
 abbrev pub Checked : Layers → PileReply → Type 0
 Checked ls = CheckedBy (columnMarks ls) (rowMarks ls)
 
@@ -62,29 +63,29 @@ NoneDented ls = AllConvex (columnMarks ls) (rowMarks ls)
 
 -- ---- the replies
 
--- Where the cell lies
+-- Whether the layer has the cell
 unfoldable pub located : Option Outline → Point → PileReply
 located v x = cond (marks v (x .col) (x .row)) Inside Outside
 
--- 22 before all others, then 12, then 11
+-- 22, 12 and 11, checked in this order
 unfoldable pub queried : PileBook → ℕ → Point → PileReply
 queried b l x = cond (ltb 15 l) Layer (cond (b .passed) (cond (badCell x) Cell (located (b .layers l) x)) NotPassed)
 
--- The reply is the book's
+-- The reply is the model's
 unfoldable pub Answers : PileBook → PileCall → PileReply → Type 0
 Answers b (Set l o) r = r ≡ cond (ltb 15 l) Layer (Judged (verdictOf o))
 Answers b (SetEmpty l) r = r ≡ cond (ltb 15 l) Layer Done
 Answers b Check r = Checked (b .layers) r
 Answers b (Query l x) r = r ≡ queried b l x
 
--- ---- the book after a call
+-- ---- the model after a call
 
--- An outline that is taken is the layer's from now on, and a refusal alters nothing
+-- A taken outline becomes the layer. A refusal changes nothing
 unfoldable pub setBook : PileBook → ℕ → Outline → Verdict → PileBook
 setBook b l o (Refused f) = b
 setBook b l o (Taken n a) = putLayer b l (some o)
 
--- A check that passes says done
+-- A check that passes replies done
 unfoldable pub isDone : PileReply → Bool
 isDone Done = true
 isDone Inside = false
@@ -101,7 +102,7 @@ next b (SetEmpty l) r = cond (ltb 15 l) b (putLayer b l none)
 next b Check r = record { layers = b .layers; passed = isDone r }
 next b (Query l x) r = b
 
--- Every reply of a list of calls is the book's, each call given the book that the last one left
+-- Every reply to a list of calls is the model's, each call made on the model that the one before it left
 unfoldable pub AllAnswer : PileBook → List PileCall → List PileReply → Type 0
 AllAnswer b [] [] = Unit {0}
 AllAnswer b [] (r ∷ rs) = ⊥

@@ -1,3 +1,3 @@
--- The plain book for piles; a list of calls on a pile.
+-- The model of a pile; a list of calls on a pile.
 pub mod Book
 pub mod Run

@@ -1,4 +1,4 @@
--- A list of calls on a pile, each given the pile that the last one handed back; and the book after the same calls and replies.
+-- A list of calls on a pile, each made on the pile that the one before it returned; and the model after the same calls and replies.
 use mathlib.Core.List.{List, [], _∷_}
 use Rattle.pile.specs.declared.Pile.{Pile}
 use Rattle.pile.specs.declared.PileReply.{PileReply}
@@ -13,7 +13,7 @@ unfoldable pub pileAfter : Pile → List PileCall → Pile
 pileAfter p [] = p
 pileAfter p (c ∷ cs) = pileAfter (answerOf p c .pile) cs
 
--- The book after the calls with these replies
+-- The model after the calls with these replies
 unfoldable pub bookAfter : PileBook → List PileCall → List PileReply → PileBook
 bookAfter b [] rs = b
 bookAfter b (c ∷ cs) [] = b

@@ -1,1 +1,1 @@
-// The plain book for piles, and the theorem that a pile replies as it does; no code.
+// The model of a pile, and the theorem that a pile replies as the model does. No code.

@@ -1,2 +1,2 @@
--- Calls on a pile in lists, one by one.
+-- Calls made one by one on a pile in the caller's arrays.
 pub mod Series

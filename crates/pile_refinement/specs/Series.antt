@@ -1,4 +1,4 @@
--- Calls on a pile in lists, one by one, and what the plain book has of them (contract 12.7 and 12.8).
+-- Calls made one by one on a pile in the caller's arrays, and the model's replies to them (contract 12.7 and 12.8).
 use Prim.Native.Nat.{ℕ}
 use mathlib.Core.Bool.{Bool, true, false, cond}
 use mathlib.Core.List.{List, [], _∷_}
@@ -11,7 +11,7 @@ use Rattle.pile.specs.Calls.{PileCall}
 use Rattle.live_pile.specs.Layout.{Memory}
 use Rattle.live_pile.specs.Called.{Called, Done}
 
--- A call, and the list lent for its reply; whether it was done, and that list afterwards
+-- A call with the buffer for its reply; whether the call was done, and the buffer afterwards
 pub record Asked : Type 0 where
   pub call : PileCall
   pub reply : List ℕ
@@ -20,7 +20,7 @@ pub record Received : Type 0 where
   pub done : Bool
   pub reply : List ℕ
 
--- Calls made one by one from lists m to lists n, each on the lists that the last one left, with what was heard of each
+-- Calls made one by one from arrays m to arrays n, each on the arrays that the one before it left, with what was received for each
 pub data Series : Memory → List Asked → List Received → Memory → Type 0 where
   stop : {m : Memory} → Series m [] [] m
   made :
@@ -29,17 +29,17 @@ pub data Series : Memory → List Asked → List Received → Memory → Type 0 
       Series k xs ys n →
       Series m (x ∷ xs) (y ∷ ys) n
 
--- ---- calls on lists that have their lengths
+-- ---- calls on arrays that have their lengths
 
--- Each leaves its reply of seven numbers
+-- Each call writes its reply of seven numbers
 pub data Calls : Memory → List PileCall → List (List ℕ) → Memory → Type 0 where
   end : {m : Memory} → Calls m [] [] m
   then : {m n k : Memory} {c : PileCall} {cs : List PileCall} {reply : List ℕ} {rs : List (List ℕ)} → Done m n c reply
       → Calls n cs rs k → Calls m (c ∷ cs) (reply ∷ rs) k
 
--- ---- in the book
+-- ---- in the model
 
--- The calls whose reply has room: no other turns a page
+-- The calls whose reply fits. No other call changes the model
 abbrev pub roomy : Asked → Bool
 roomy x = leb 7 (length (x .reply))
 
@@ -47,8 +47,7 @@ unfoldable pub heeded : List Asked → List PileCall
 heeded [] = []
 heeded (x ∷ xs) = cond (roomy x) (x .call ∷ heeded xs) (heeded xs)
 
--- What is heard where the heeded calls get these replies, one after the other: each is written to the list of its call, and a list
--- without room is as it was
+-- What is received if these calls get these replies in turn. Each reply is written to its call's buffer. A buffer without room is unchanged
 abbrev pub answered : Asked → PileReply → Received
 answered x r = record { done = true; reply = replyAfter (pileFields r) (x .reply) }
 

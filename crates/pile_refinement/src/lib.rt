@@ -1,1 +1,1 @@
-// Calls on a pile in lists, one by one, and the theorem that they get the plain book's replies; no code.
+// Calls made one by one on a pile in the caller's arrays get the model's replies. Definitions and theorems, no code.

@@ -1,4 +1,4 @@
--- Scripts: calls as bytes one after the other, and what a replay writes: the plain book's replies (contract 10.3).
+-- Scripts: calls as bytes one after another, and what a replay writes: the model's replies (contract 10.3).
 use Prim.Native.Nat.{ℕ, zero, suc, _*_, _/_, min}
 use mathlib.Core.List.{List, [], _∷_, _++_}
 use lib.ListN.{length, take, drop}
@@ -11,12 +11,12 @@ use Rattle.wire.specs.declared.Decoded.{Decoded}
 use Rattle.wire.specs.declared.Decoded.the-variants.{Call as Said, Nothing}
 use Rattle.wire.specs.Wire.{callWidth, replyWidth, decoded}
 
--- A call and those that follow it; none follow where there is no call
+-- A call and the calls after it. If there is no call, none come after
 unfoldable pub followed : Decoded → List Call → List Call
 followed (Said x) cs = x ∷ cs
 followed Nothing cs = []
 
--- The first n calls of a script, up to the first that is none
+-- The first n calls of a script, up to the first bytes that are not a call
 unfoldable pub callsFrom : ℕ → List ℕ → List Call
 callsFrom zero s = []
 callsFrom (suc n) s = followed (decoded (take callWidth s)) (callsFrom n (drop callWidth s))
@@ -25,11 +25,11 @@ unfoldable pub written : List Reply → List ℕ
 written [] = []
 written (r ∷ rs) = numbersOf (replyFields r) ++ written rs
 
--- The calls of a script that stand whole in it and for whose replies a list of m numbers has room
+-- The whole calls of a script whose replies fit into a buffer of m numbers
 unfoldable pub callsRead : List ℕ → ℕ → List Call
 callsRead script m = callsFrom (min (length script / callWidth) (m / replyWidth)) script
 
--- The list after a replay: the book's replies to the calls read stand first; the rest is unaltered
+-- The buffer after a replay: the model's replies to these calls stand first, and the rest is unchanged
 unfoldable pub repliesAfter : List ℕ → List ℕ → List ℕ
 repliesAfter script buffer =
     written (replies (callsRead script (length buffer))) ++ drop (replyWidth * length (callsRead script (length buffer))) buffer

@@ -12,7 +12,7 @@ ghost use lib.ListN.{length};
 ghost use Rattle.wire.specs.Wire.{callWidth, replyWidth};
 ghost use Rattle.replay.specs.Script.{callsRead, repliesAfter};
 
-// How many calls stand whole in this many bytes and have room for their replies in this many numbers.
+// How many whole calls this many bytes have, if their replies must fit into this many numbers.
 fn most(bytes: usize, numbers: usize) -> usize
     ensures { λ r. ⌜ r ≡ min (bytes / callWidth) (numbers / replyWidth) ⌝ }
 {
@@ -21,7 +21,8 @@ fn most(bytes: usize, numbers: usize) -> usize
     if calls < replies { calls } else { replies }
 }
 
-// Runs the calls of a script from a fresh holder, writes the replies, and says how many. The holder stands in lists of zeros, which are a fresh one.
+// Runs the calls of a script on a fresh holder, writes the replies and returns their count. The holder is arrays of zeros, which are a
+// fresh one.
 pub fn replay(script: &[u8], replies: &mut [u16]) -> usize
     ensures count { λ r. ⌜ r ≡ length (callsRead (now (script .entry)) (length (now (replies .entry)))) ⌝ }
     ensures replies { λ r. ⌜ now (replies .exit) ≡ repliesAfter (now (script .entry)) (now (replies .entry)) ⌝ }

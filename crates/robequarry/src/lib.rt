@@ -1,5 +1,7 @@
-// The calls for C (include/robequarry.h). A list is passed as a pointer and a length, and an array as a pointer. A reply is an array of seven numbers, in the order number, word
-// (contract 4.3), place, piece, length, column, row. A holder and a pile are arrays, too, which the functions in `on_holder` and `on_pile` take apart.
+// The calls for C (include/robequarry.h). A list is passed as a pointer and a length, an array as a pointer. A reply is an array of seven
+// numbers: number, word (contract 4.3), place, piece, length, column, row. A holder and a pile are passed as their arrays, to the functions
+// of
+// `on_holder` and `on_pile`.
 use border_model::written::of_traced;
 use chart::Fields;
 use chart::Point;
@@ -38,7 +40,7 @@ fn put(f: Fields, reply: &mut [u16; NUMBERS])
     write(f, &mut reply[..]);
 }
 
-// Tests an outline: the start corner and the letters. The edges stand first in their list, where the outline is taken.
+// Tests an outline: the start corner and the letters. If it is taken, its edges stand first in the buffer.
 #[no_mangle]
 pub extern "C" fn rq_test(
     col: u16,
@@ -55,7 +57,7 @@ pub extern "C" fn rq_test(
     put(of_verdict(verdict), reply);
 }
 
-// Asks whether a cell lies inside the edges that lead once round from an anchor.
+// Whether a cell lies inside an anchor and edges.
 #[no_mangle]
 pub extern "C" fn rq_loose_query(
     anchor_col: u16,
@@ -76,7 +78,7 @@ pub extern "C" fn rq_loose_query(
     put(of_position(position), reply);
 }
 
-// Writes back the border of an anchor and edges. The letters, clockwise from W on, stand first in their list.
+// Writes the border of an anchor and edges. The letters, clockwise from W, stand first in the buffer.
 #[no_mangle]
 pub extern "C" fn rq_border(
     anchor_col: u16,
@@ -97,7 +99,7 @@ pub extern "C" fn rq_border(
     put(of_traced(traced), reply);
 }
 
-// Compares two lists of edges, each from its anchor: how the cells in their hulls lie, and whose list is the inner one's.
+// Compares two lists of edges, each with its anchor: how the cells in their hulls lie, and which list is the inner one's.
 #[no_mangle]
 pub extern "C" fn rq_compare(
     anchor_col_1: u16,
@@ -123,7 +125,7 @@ pub extern "C" fn rq_compare(
     put(of_comparison(comparison), reply);
 }
 
-// Names the lowest missing cell of an outline. Three enclosed cells that hold it stand first in their list, two numbers each.
+// Finds the lowest missing cell of an outline. Three enclosed cells whose triangle has it stand first in the buffer, two numbers each.
 #[no_mangle]
 pub extern "C" fn rq_witness(
     col: u16,
@@ -140,7 +142,7 @@ pub extern "C" fn rq_witness(
     put(of_witnessed(witnessed), reply);
 }
 
-// Completes an outline. The letters round the hull of its cells, clockwise from W on, stand first in their list.
+// Completes an outline. The letters round the hull of its cells, clockwise from W, stand first in the buffer.
 #[no_mangle]
 pub extern "C" fn rq_complete(
     col: u16,
@@ -157,7 +159,7 @@ pub extern "C" fn rq_complete(
     put(of_completed(completed), reply);
 }
 
-// Runs a script of calls, eleven bytes each, from a fresh holder, writes a reply of seven numbers for each, and says how many.
+// Runs a script of calls, eleven bytes each, on a fresh holder, writes a reply of seven numbers for each, and returns how many.
 #[no_mangle]
 pub extern "C" fn rq_replay_numbers(script: &[u8], replies: &mut [u16]) -> usize
     ensures count { λ r. ⌜ r ≡ length (callsRead (now (script .entry)) (length (now (replies .entry)))) ⌝ }

@@ -1,4 +1,5 @@
-// The calls on a holder (contract 10.4). C has a holder as one struct of four arrays; each function here takes the arrays that its call goes by. Their lengths are part of their types.
+// The calls on a holder (contract 10.4). In C a holder is one struct of four arrays. Each function here takes only the arrays that its call
+// needs. Their lengths are part of their types.
 use calls::Reading;
 use chart::Point;
 use chart::reply::NUMBERS as REPLY;
@@ -20,7 +21,7 @@ ghost use Rattle.live_memory.specs.Layout.{memory, holderIn, Fits};
 ghost use Rattle.live.specs.Called.{Called, Done, pieceDrawn};
 ghost use Rattle.robequarry.specs.At.{at};
 
-// A fresh holder, whatever the arrays held.
+// Makes the arrays a fresh holder, whatever they held.
 #[no_mangle]
 pub extern "C" fn rq_fresh_parts(
     letters: &mut [u8; LETTERS],
@@ -179,7 +180,7 @@ pub extern "C" fn rq_reading_parts(
     );
 }
 
-// Piece: the point of a move or a line stands in `point`, which any other piece leaves.
+// Piece. Writes the point of a move or a line to `point`. Any other path command leaves it unchanged.
 #[no_mangle]
 pub extern "C" fn rq_piece_parts(
     numbers: &[i16; NUMBERS],
@@ -204,7 +205,7 @@ pub extern "C" fn rq_piece_parts(
     );
 }
 
-// One call of eleven bytes. False, with nothing altered, where the bytes are no call.
+// One call of eleven bytes. If the bytes are not a call, returns false and changes nothing.
 #[no_mangle]
 pub extern "C" fn rq_call_parts(
     letters: &mut [u8; LETTERS],

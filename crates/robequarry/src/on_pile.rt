@@ -1,4 +1,5 @@
-// The calls on a pile (contract 12.8). C has a pile as one struct of two arrays, and each function here takes both. Their lengths are part of their types.
+// The calls on a pile (contract 12.8). In C a pile is one struct of two arrays, and each function here takes both. Their lengths are part
+// of their types.
 use chart::Point;
 use chart::reply::NUMBERS as REPLY;
 use live_pile::ROW_BYTES;
@@ -15,7 +16,7 @@ ghost use Rattle.live_pile.specs.Layout.{memory, pileIn, Fits};
 ghost use Rattle.live_pile.specs.Called.{Done, CheckWritten};
 ghost use Rattle.robequarry.specs.At.{at};
 
-// A fresh pile, whatever the arrays held.
+// Makes the arrays a fresh pile, whatever they held.
 #[no_mangle]
 pub extern "C" fn rq_pile_fresh_parts(rows: &mut [u8; ROW_BYTES], state: &mut [u8; STATE_BYTES])
     ensures pile { λ _. ⌜ pileIn (memory (now (rows .exit)) (now (state .exit))) ≡ freshPile ⌝ }
@@ -74,7 +75,7 @@ pub extern "C" fn rq_pile_check_parts(
     live_pile::check(&rows[..], &mut state[..], &mut reply[..]);
 }
 
-// Asks where a cell lies.
+// Whether a layer has a cell.
 #[no_mangle]
 pub extern "C" fn rq_pile_query_parts(
     rows: &[u8; ROW_BYTES],

@@ -1,2 +1,2 @@
--- A section by the runs of its layers, and whether the hull of its cells holds no other.
+-- A section by the intervals of its layers, and whether it is convex.
 pub mod Sections

@@ -1,10 +1,10 @@
-// Whether the hull of a section's marked cells holds no other: a section is a plane of layers, each with one run of marked cells, or none.
+// Whether a section is convex. A section is a plane of layers, each with one interval of marked cells, or none.
 ghost use Prim.Native.Nat.{ℕ, suc, _+_, _-_, _*_, _≤_, _<_, min, max};
 ghost use mathlib.Core.Path.{_≡_};
 ghost use Rattle.chart.specs.Limits.{side};
 ghost use Rattle.sections.specs.Sections.{layers, numbers, Bounded, ceiling, above, full as fullOf, alone as aloneOf, joined as joinedOf, joinedFrom, reached as reachedOf, whole as wholeOf, clear};
 
-// A pile has this many layers.
+// How many layers a pile has.
 pub const LAYERS: usize = 16;
 
 // The marked cells of layer `l` are those from `lo[l]` up to but not including `past[l]`.
@@ -33,7 +33,7 @@ fn number(list: &[u8; LAYERS], l: usize) -> usize
     wide(list[l])
 }
 
-// The number before, from 0 on.
+// `x - 1`, or 0 if `x` is 0.
 fn before(x: usize) -> usize
     ensures { λ r. ⌜ r ≡ x - 1 ⌝ }
 {
@@ -47,7 +47,7 @@ fn full(lo: &[u8; LAYERS], past: &[u8; LAYERS], l: usize) -> bool
     number(lo, l) < number(past, l)
 }
 
-// A sum of two weighed numbers.
+// a·x + b·y.
 fn weighed(a: usize, x: usize, b: usize, y: usize) -> usize
     requires { ⌜ (a < layers) × (x ≤ side) × (b < layers) × (y ≤ side) ⌝ }
     ensures { λ r. ⌜ (r ≡ a * x + b * y) × (r ≤ 65536) ⌝ }
@@ -55,7 +55,7 @@ fn weighed(a: usize, x: usize, b: usize, y: usize) -> usize
     a * x + b * y
 }
 
-// The smaller of `low` and `a / d` rounded up: a quotient that is not smaller is not computed.
+// The minimum of `low` and `a / d` rounded up. The division is made only if the quotient is smaller.
 fn lowered(low: usize, a: usize, d: usize) -> usize
     requires { ⌜ (low ≤ side) × (a ≤ 65536) × (0 < d) × (d < layers) ⌝ }
     ensures { λ r. ⌜ (r ≡ min low (ceiling a d)) × (r ≤ side) ⌝ }
@@ -67,7 +67,7 @@ fn lowered(low: usize, a: usize, d: usize) -> usize
     }
 }
 
-// The larger of `high` and the number after `a / d` rounded down.
+// The maximum of `high` and one more than `a / d` rounded down.
 fn raised(high: usize, a: usize, d: usize) -> usize
     requires { ⌜ (high ≤ side) × (a < d * side) × (0 < d) × (d < layers) ⌝ }
     ensures { λ r. ⌜ (r ≡ max high (above a d)) × (r ≤ side) ⌝ }
@@ -75,7 +75,7 @@ fn raised(high: usize, a: usize, d: usize) -> usize
     if d * high <= a { a / d + 1 } else { high }
 }
 
-// What is known of layer `j`, with the lines between layers `i` and `k` too.
+// The bounds of layer `j` with the lines between layers `i` and `k`.
 fn joined(
     lo: &[u8; LAYERS],
     past: &[u8; LAYERS],
@@ -100,7 +100,7 @@ fn joined(
     }
 }
 
-// With those between layer `i` and every later one than `j`.
+// The bounds with the lines between layer `i` and every layer after `j`.
 fn joined_from(lo: &[u8; LAYERS], past: &[u8; LAYERS], i: usize, j: usize, reach: Reach) -> Reach
     requires { ⌜ (i < j) × (j < layers) × Bounded reach ⌝ }
     ensures { λ r. ⌜ (r ≡ joinedFrom (numbers (now (lo .entry))) (numbers (now (past .entry))) i j reach) × Bounded r ⌝ }
@@ -117,7 +117,7 @@ fn joined_from(lo: &[u8; LAYERS], past: &[u8; LAYERS], i: usize, j: usize, reach
     next
 }
 
-// What is known of layer `j` without any line: its own run.
+// The bounds of layer `j` without any line: its own interval.
 fn alone(lo: &[u8; LAYERS], past: &[u8; LAYERS], j: usize) -> Reach
     requires { ⌜ j < layers ⌝ }
     ensures { λ r. ⌜ (r ≡ aloneOf (numbers (now (lo .entry))) (numbers (now (past .entry))) j) × Bounded r ⌝ }
@@ -146,7 +146,7 @@ fn reached(lo: &[u8; LAYERS], past: &[u8; LAYERS], j: usize) -> Reach
     reach
 }
 
-// The hull has no cell in layer `j`, or all of them are in the layer's run.
+// The hull has no cells in layer `j`, or all of them are in the layer's interval.
 fn whole(lo: &[u8; LAYERS], past: &[u8; LAYERS], j: usize) -> bool
     requires { ⌜ j < layers ⌝ }
     ensures { λ r. ⌜ r ≡ wholeOf (numbers (now (lo .entry))) (numbers (now (past .entry))) j ⌝ }
@@ -158,7 +158,7 @@ fn whole(lo: &[u8; LAYERS], past: &[u8; LAYERS], j: usize) -> bool
     number(lo, j) <= reach.low && reach.high <= number(past, j)
 }
 
-// The hull of the marked cells holds no other.
+// No cell is missing from the marked ones.
 pub fn is_clear(section: Section) -> bool
     ensures { λ r. ⌜ r ≡ clear (numbers (section .lo)) (numbers (section .past)) ⌝ }
 {

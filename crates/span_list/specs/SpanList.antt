@@ -1,4 +1,5 @@
--- The rows of several outlines side by side in one list of bytes. Slot s has 510 of them: the first columns of its 255 rows, and then the columns past the last.
+-- The rows of several outlines side by side in one list of bytes. Slot s has 510 bytes: the first columns of its 255 rows, then the columns
+-- past the last.
 use Prim.Native.Nat.{ℕ, _+_, _*_}
 use mathlib.Core.Path.{_≡_}
 use mathlib.Core.List.{List}
@@ -14,12 +15,12 @@ spansFrom first past = record { first = first; past = past }
 unfoldable pub spansAt : List ℕ → ℕ → Spans
 spansAt rows s = record { first = window (510 * s) side rows; past = window (510 * s + side) side rows }
 
--- Of two lists, the second has these spans at slot s and is else the first
+-- The second list has these spans at slot s and otherwise equals the first
 pub record SpansPut (rows rows′ : List ℕ) (s : ℕ) (x : Spans) : Type 0 where
   pub here : spansAt rows′ s ≡ x
   pub elsewhere : (j : ℕ) → (j ≡ s → ⊥) → spansAt rows′ j ≡ spansAt rows j
   pub size : length rows′ ≡ length rows
 
--- The two bytes of row r of slot s: its first column, and the one past its last
+-- The two bytes of row r of slot s: its first column, and the column past its last
 unfoldable pub endsAt : List ℕ → ℕ → ℕ → Ends
 endsAt rows s r = record { first = getD rows (510 * s + r) 0; past = getD rows (510 * s + r + side) 0 }

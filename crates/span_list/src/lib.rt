@@ -1,4 +1,4 @@
-// The rows of several outlines side by side in one list of bytes: read and written where they stand.
+// The rows of several outlines side by side in one list of bytes, read and written in place.
 use chart::Point;
 use spans::ROWS;
 use spans::Span;
@@ -16,7 +16,7 @@ ghost use Rattle.span_list.specs.SpanList.{spansFrom, spansAt, SpansPut,
 // How many bytes a slot has.
 pub const WIDTH: usize = 2 * ROWS;
 
-// Copies 255 bytes to a list, from an index on.
+// Copies 255 bytes into a list, from an index on.
 fn put_rows(from: &[u8; ROWS], at: usize, rows: &mut [u8])
     requires { ⌜ at + side ≤ length (now rows) ⌝ }
     ensures { λ _. ⌜ (now (rows .exit) ≡ paste (now (rows .entry)) at (now (from .entry)) side) × (length (now (from .entry)) ≡ side) ⌝ }
@@ -29,7 +29,7 @@ fn put_rows(from: &[u8; ROWS], at: usize, rows: &mut [u8])
     }
 }
 
-// 255 zeros in a list, from an index on.
+// Writes 255 zeros into a list, from an index on.
 fn put_zeros(at: usize, rows: &mut [u8])
     requires { ⌜ at + side ≤ length (now rows) ⌝ }
     ensures { λ _. ⌜ now (rows .exit) ≡ paste (now (rows .entry)) at (replicate side 0) side ⌝ }
@@ -41,7 +41,7 @@ fn put_zeros(at: usize, rows: &mut [u8])
     }
 }
 
-// Spans with these first columns, and these columns past the last, stand in the slot from now on.
+// Writes these first columns and these columns past the last to the slot.
 fn put<'a>(rows: &mut [u8], slot: usize, first: &'a [u8; ROWS], past: &'a [u8; ROWS])
     requires { ⌜ 510 * slot + 510 ≤ length (now rows) ⌝ }
     ensures { λ _. ⌜ SpansPut (now (rows .entry)) (now (rows .exit)) slot (spansFrom (now (first .entry)) (now (past .entry))) ⌝ }
@@ -51,7 +51,7 @@ fn put<'a>(rows: &mut [u8], slot: usize, first: &'a [u8; ROWS], past: &'a [u8; R
     put_rows(past, at + ROWS, rows);
 }
 
-// The rows of an outline stand in the slot from now on. They are found here, so that no caller has them on its stack while it judges the outline.
+// Writes the rows of an outline to the slot. They are found here, so no caller has them on its stack while it judges the outline.
 pub fn put_outline(rows: &mut [u8], slot: usize, start: Point, letters: &[u8])
     requires { ⌜ 510 * slot + 510 ≤ length (now rows) ⌝ }
     ensures { λ _. ⌜ SpansPut (now (rows .entry)) (now (rows .exit)) slot (spansOf (outline start (now (letters .entry)))) ⌝ }
@@ -60,7 +60,7 @@ pub fn put_outline(rows: &mut [u8], slot: usize, start: Point, letters: &[u8])
     put(rows, slot, &spans.first, &spans.past);
 }
 
-// No row of the slot has a cell.
+// Makes every row of the slot empty.
 pub fn put_none(rows: &mut [u8], slot: usize)
     requires { ⌜ 510 * slot + 510 ≤ length (now rows) ⌝ }
     ensures { λ _. ⌜ SpansPut (now (rows .entry)) (now (rows .exit)) slot noSpans ⌝ }
@@ -70,7 +70,7 @@ pub fn put_none(rows: &mut [u8], slot: usize)
     put_zeros(at + ROWS, rows);
 }
 
-// The two bytes of a row: its first column, and the one past its last.
+// The two bytes of a row: its first column, and the column past its last.
 struct Ends {
     first: u16,
     past: u16,
@@ -93,7 +93,7 @@ fn ends_at(rows: &[u8], slot: usize, row: u16) -> Ends
     }
 }
 
-// Whether a cell is among the columns of its row.
+// Whether a cell is within the columns of its row.
 pub fn within(rows: &[u8], slot: usize, cell: Point) -> bool
     requires { ⌜ (510 * slot + 510 ≤ length (now rows)) × (cell .row < side) ⌝ }
     ensures { λ b. ⌜ b ≡ inSpans (spansAt (now (rows .entry)) slot) (cell .col) (cell .row) ⌝ }

@@ -1,4 +1,4 @@
-// The cells of the 4 by 4 corner: cell k stands in column k % 4 and row k / 4.
+// The cells of the chart's lower left 4 by 4 corner. Cell k is in column k % 4 and row k / 4.
 use crate::sets;
 
 // There are this many.
@@ -15,7 +15,7 @@ pub(crate) fn row(k: u16) -> u16 {
     k / 4
 }
 
-// The lowest cell of a set, and in its row the leftmost: cells are numbered so.
+// The lowest cell of a set, leftmost in its row. Cells are numbered in this order.
 pub(crate) fn lowest(set: u32) -> u16 {
     let mut k = 0;
     while k < CELLS {
@@ -27,7 +27,7 @@ pub(crate) fn lowest(set: u32) -> u16 {
     NONE
 }
 
-// The leftmost cell of a set, and in its column the lowest.
+// The leftmost cell of a set, lowest in its column.
 pub(crate) fn leftmost(set: u32) -> u16 {
     let mut t = 0;
     while t < CELLS {

@@ -1,4 +1,4 @@
-// One outline through the engine's test and loose queries, against what was counted.
+// Runs one outline through the engine's test and loose queries, and compares with what was counted.
 use crate::cells;
 use crate::cells::NONE;
 use crate::plain;
@@ -11,7 +11,7 @@ use chart::Point;
 use chart::reply;
 ghost use Rattle.io.specs.Counts.{Counts};
 
-// Two numbers an edge, for an edge from each of the 16 cells.
+// Two numbers for each edge. There is at most one edge from each of the 16 cells.
 const ROOM: usize = 32;
 
 // The steps from one column or row to another.
@@ -38,7 +38,7 @@ fn edge_agrees(list: &[i16], k: usize, p: u16, q: u16) -> bool {
     false
 }
 
-// The edges lead round the hull, from the anchor to the anchor, vertex by vertex.
+// The edges lead round the hull from the anchor back to the anchor, vertex by vertex.
 fn edges_agree(list: &[i16], count: usize, set: u32, anchor: u16) -> bool {
     let mut p = anchor;
     let mut k = 0;
@@ -56,7 +56,7 @@ fn edges_agree(list: &[i16], count: usize, set: u32, anchor: u16) -> bool {
     false
 }
 
-// The numbers 0 to 6, and the chart's last one.
+// The numbers 0 to 6, and 254.
 fn spread(x: u16) -> u16 {
     if x < 7 { x } else { 254 }
 }
@@ -71,7 +71,7 @@ fn in_set(set: u32, col: u16, row: u16) -> bool {
     sets::has(set, 4 * row + col)
 }
 
-// A loose query says of a cell in the corner, or beyond it, whether it is in the set.
+// A loose query finds a cell, in the 4 by 4 corner or beyond it, inside exactly if it is in the set.
 fn query_agrees(anchor: Point, edges: &[i16], set: u32, t: u16) -> bool {
     let col = spread(t % 8);
     let row = spread(t / 8);
@@ -97,12 +97,12 @@ fn queries_agree(anchor: Point, edges: &[i16], set: u32) -> bool {
     true
 }
 
-// The answer's cell is cell k.
+// The reply's cell is cell k.
 fn cell_agrees(fields: Fields, k: u16) -> bool {
     fields.col == cells::col(k) && fields.row == cells::row(k)
 }
 
-// A taken outline: its anchor, its edges, and loose queries of them.
+// A taken outline: its anchor, its edges, and loose queries with them.
 fn taken_agrees(fields: Fields, list: &[i16], counted: Counted) -> bool {
     let count = fields.place as usize;
     let set = counted.cells;
@@ -132,7 +132,7 @@ fn agrees(fields: Fields, list: &[i16], counted: Counted) -> bool {
     }
 }
 
-// The letters of a closed walk of n corners, from the corner at `first` on. Answers how many there are.
+// The letters of a closed walk of n corners, from the corner at `first`. Returns how many there are.
 fn spell(corners: &[u16; CORNERS], n: usize, first: usize, letters: &mut [u8]) -> usize
     ensures { λ r. ⌜ Counts r (now (letters .exit)) ⌝ }
 {
@@ -147,7 +147,7 @@ fn spell(corners: &[u16; CORNERS], n: usize, first: usize, letters: &mut [u8]) -
     i
 }
 
-// The same walk backward: its letters from the last to the first, each turned to its opposite. Answers how many there are.
+// The same walk backward: the letters from the last to the first, each replaced by its opposite. Returns how many there are.
 fn turn_back(letters: &[u8], back: &mut [u8]) -> usize
     ensures { λ r. ⌜ Counts r (now (back .exit)) ⌝ }
 {
@@ -160,7 +160,7 @@ fn turn_back(letters: &[u8], back: &mut [u8]) -> usize
     i
 }
 
-// A letter that is named stands as far from the other end when the outline is drawn backward; a taken outline's place is the count of edges.
+// If the outline is drawn backward, a refusal's place counts from the other end. A taken outline's place is the count of edges.
 fn places_agree(fields: Fields, back: Fields, n: usize) -> bool {
     if fields.number == 0 {
         return fields.place == back.place;
@@ -169,7 +169,7 @@ fn places_agree(fields: Fields, back: Fields, n: usize) -> bool {
     sum == n as u64
 }
 
-// Drawn backward, the outline gets the same answer.
+// The outline drawn backward gets the same reply.
 fn twins_agree(fields: Fields, back: Fields, n: usize) -> bool {
     fields.number == back.number
         && fields.piece == back.piece
@@ -191,13 +191,13 @@ fn same_edges(a: &[i16; ROOM], b: &[i16; ROOM]) -> bool {
     true
 }
 
-// What the engine answers for an outline, and whether that agrees with what was counted and with the answer for its twin.
+// The engine's reply to an outline, and whether it agrees with what was counted and with the reply to the outline drawn backward.
 pub(crate) struct Answer {
     pub(crate) number: u16,
     pub(crate) agrees: bool,
 }
 
-// The outline of a closed walk from the corner at `first` on, and the same drawn backward.
+// The outline of a closed walk from the corner at `first`, and the same drawn backward.
 pub(crate) fn run(corners: &[u16; CORNERS], n: usize, first: usize, counted: Counted) -> Answer {
     let mut letters = [0u8; CORNERS];
     let count = spell(corners, n, first, &mut letters);

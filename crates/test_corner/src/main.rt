@@ -1,5 +1,6 @@
-// Runs every outline that fits 4 by 4 cells, drawn either way, through the engine, compares it with plain counting of cells and with the same outline
-// drawn backward, and writes counts.
+// Runs every outline that fits into 4 by 4 cells, in both directions, through the engine. Compares the replies with a plain count of cells
+// and
+// with each other, and writes counts.
 mod cells;
 mod compare;
 mod plain;
@@ -13,10 +14,10 @@ use walks::CORNERS;
 use walks::OFF;
 use walks::Search;
 
-// The longest search from one corner takes 768,725 steps. One cut short would miss walks, and the counts would tell.
+// The longest search from one corner takes 768,725 steps. A search cut short would miss walks, and the counts would show it.
 const MOST_STEPS: u64 = 1_000_000;
 
-// What was counted so far: closed simple walks, outlines by the engine's answers, and those that do not agree.
+// Counts so far: closed simple walks, outlines by the engine's reply, and those that do not agree.
 struct Tally {
     walks: u64,
     outlines: u64,
@@ -67,7 +68,7 @@ fn with_starts(t: Tally, corners: &[u16; CORNERS], n: usize, counted: Counted) -
     u
 }
 
-// A closed walk that was found. Each is found in both directions; it is counted where its first letter is 1.
+// A closed walk that was found. Each is found in both directions. It is counted if its first letter is 1.
 fn with_walk(t: Tally, s: Search) -> Tally {
     if !s.closed {
         return t;

@@ -1,4 +1,4 @@
-// Plain counting of cells: the definitions of contract 2, by trying every cell and every three cells. Nothing of the engine is used.
+// Plain counting of cells: the definitions of contract 2, by trying every cell and every three cells. It uses nothing of the engine.
 use crate::cells;
 use crate::cells::CELLS;
 use crate::cells::NONE;
@@ -7,17 +7,17 @@ use crate::walks;
 use crate::walks::CORNERS;
 ghost use Prim.Native.Nat.{_≤_};
 
-// Three cells are tried by one number, below this.
+// One number below this stands for three cells.
 const TRIPLES: u16 = 4096;
 
-// What is counted: the number that the test is to answer, the enclosed cells, and the missing cell or the anchor.
+// What is counted: the number that the test must reply, the enclosed cells, and the missing cell or the anchor.
 pub(crate) struct Counted {
     pub(crate) number: u16,
     pub(crate) cells: u32,
     pub(crate) cell: u16,
 }
 
-// The letter between two corners runs up along the height of the cell's row, at a corner column up to the cell's.
+// The letter between two corners steps up along the cell's row, at the cell's column or left of it.
 fn climbs(from: u16, to: u16, k: u16) -> bool {
     from < to && to - from == 5 && from / 5 == cells::row(k) && from % 5 <= cells::col(k)
 }
@@ -26,12 +26,12 @@ fn one_if(b: bool) -> u64 {
     if b { 1 } else { 0 }
 }
 
-// One of the two is one more than the other.
+// The two numbers differ by one.
 fn one_apart(a: u64, b: u64) -> bool {
     a == std::num::wrapping_add_u64(b, 1) || b == std::num::wrapping_add_u64(a, 1)
 }
 
-// Enclosed: clockwise, ups minus downs is 1; drawn the other way round, each letter down is one up, and downs minus ups is 1.
+// Enclosed: clockwise, ups minus downs is 1. In the other direction ups and downs change places, and downs minus ups is 1.
 fn encloses(corners: &[u16; CORNERS], n: usize, k: u16) -> bool {
     let mut ups = 0;
     let mut downs = 0;
@@ -61,7 +61,7 @@ fn enclosed(corners: &[u16; CORNERS], n: usize) -> u32 {
     set
 }
 
-// Three cells of one row or one column, of which the middle one alone is not in the set.
+// Three cells of one row or one column. Only the middle one is not in the set.
 fn gap_at(set: u32, a: u16, b: u16, c: u16) -> bool {
     let level = cells::row(a) == cells::row(c);
     let upright = cells::col(a) == cells::col(b) && cells::col(b) == cells::col(c);
@@ -107,12 +107,12 @@ fn not_right(a: u16, b: u16, c: u16) -> bool {
     right <= left
 }
 
-// A number is not below all of three others, nor above all of them.
+// A number between the smallest and the largest of three others.
 fn amid(a: u16, b: u16, c: u16, x: u16) -> bool {
     (a <= x || b <= x || c <= x) && (x <= a || x <= b || x <= c)
 }
 
-// A cell lies in the triangle of three others that do not turn right, its border included. Three on one line are a segment.
+// A cell lies in the triangle of three others that do not turn right, border included. Three cells on one line are a segment.
 fn in_triangle(a: u16, b: u16, c: u16, x: u16) -> bool {
     not_right(a, b, x)
         && not_right(b, c, x)
@@ -126,7 +126,7 @@ fn held_by(set: u32, a: u16, b: u16, c: u16, x: u16) -> bool {
     sets::has(set, a) && sets::has(set, b) && sets::has(set, c) && in_triangle(a, b, c, x)
 }
 
-// Some three cells of the set have the cell in their triangle. Each three are tried in each order.
+// Some three cells of the set have the cell in their triangle. Every three are tried in every order.
 fn in_hull(set: u32, x: u16) -> bool {
     let mut t = 0;
     while t < TRIPLES {
@@ -149,7 +149,7 @@ fn hull(set: u32) -> u32 {
     filled
 }
 
-// A set with no gap: convex, with its anchor, or dented, with the lowest missing cell.
+// A set without gaps: convex, with its anchor, or dented, with the lowest missing cell.
 fn count_hull(set: u32) -> Counted {
     let missing = hull(set) ^ set;
     if missing == 0 {
@@ -166,7 +166,7 @@ fn count_hull(set: u32) -> Counted {
     }
 }
 
-// A closed walk, whatever corner it starts from.
+// A closed walk, whichever corner it starts from.
 pub(crate) fn count(corners: &[u16; CORNERS], n: usize) -> Counted {
     let set = enclosed(corners, n);
     if has_gap(set) {
@@ -179,12 +179,12 @@ pub(crate) fn count(corners: &[u16; CORNERS], n: usize) -> Counted {
     count_hull(set)
 }
 
-// Seen from p towards q, a cell lies to the right, or on the segment between the two.
+// From p towards q, a cell lies to the right, or on the segment between them.
 fn passed(p: u16, q: u16, x: u16) -> bool {
     !not_right(p, q, x) || in_triangle(p, q, q, x)
 }
 
-// From p to q runs an edge of the hull, clockwise, to its end: every cell of the set is passed.
+// The segment from p to q is a whole edge of the hull, clockwise: no cell of the set is left of it or beyond its ends.
 fn is_edge(set: u32, p: u16, q: u16) -> bool {
     let mut x = 0;
     while x < CELLS {
@@ -196,7 +196,7 @@ fn is_edge(set: u32, p: u16, q: u16) -> bool {
     p != q && sets::has(set, q)
 }
 
-// The vertex of the hull that comes clockwise after p, or none.
+// The vertex of the hull after p, clockwise, or none.
 pub(crate) fn next_vertex(set: u32, p: u16) -> u16 {
     let mut q = 0;
     while q < CELLS {

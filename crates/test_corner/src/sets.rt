@@ -1,4 +1,4 @@
-// Sets of numbers below 32, those of cells or of corners: a bit for each.
+// Sets of numbers below 32, of cells or of corners: one bit for each.
 pub(crate) fn has(set: u32, k: u16) -> bool {
     k < 32 && (set >> (k as u32)) % 2 == 1
 }

@@ -1,11 +1,11 @@
-// Every closed simple walk on the 5 by 5 corners of the block. Corner k stands in column k % 5 and row k / 5.
-// A walk is found from its lowest row's leftmost corner, once in each direction.
+// Every closed simple walk on the 5 by 5 corners of the block. Corner k is in column k % 5 and row k / 5.
+// The search finds a walk from the leftmost corner of its lowest row, once in each direction.
 use crate::sets;
 
 // The block has this many corners, and no simple walk has more.
 pub(crate) const CORNERS: usize = 25;
 
-// A walk so far: its corners up to the one at `depth`, how many letters were tried from each, and the set of those met.
+// A walk so far: its corners up to the one at `depth`, how many letters were tried from each, and the set of corners met.
 pub(crate) struct Search {
     pub(crate) corners: [u16; CORNERS],
     pub(crate) tried: [u16; CORNERS],
@@ -15,13 +15,13 @@ pub(crate) struct Search {
     pub(crate) done: bool,
 }
 
-// The corner at a place of a closed walk of n corners, past its end once more from its beginning.
+// The corner at a place of a closed walk of n corners, read cyclically.
 pub(crate) fn corner_at(corners: &[u16; CORNERS], n: usize, place: usize) -> u16 {
     let i = if place < n { place } else { place - n };
     if i < CORNERS { corners[i] } else { 0 }
 }
 
-// The letter that leads from a corner to the next.
+// The letter from a corner to the next.
 pub(crate) fn letter(from: u16, to: u16) -> u8 {
     if from < to {
         if to - from == 1 { 0 } else { 1 }
@@ -57,7 +57,7 @@ pub(crate) fn begin(start: u16) -> Search {
     }
 }
 
-// All letters from the last corner were tried: one corner back.
+// All letters from the last corner were tried: goes back one corner.
 fn back(s: Search) -> Search {
     let mut t = s;
     let depth = s.depth;
@@ -70,7 +70,7 @@ fn back(s: Search) -> Search {
     t
 }
 
-// One corner on.
+// Goes on to the next corner.
 fn ahead(s: Search, next: u16) -> Search {
     let mut t = s;
     let depth = s.depth;

@@ -1,9 +1,9 @@
-// Factors and judges a table of words over 0 and 1, and writes a line for each.
+// Finds the factors of a table of words over 0 and 1, says which are Christoffel words, and writes a line for each word.
 use libc::STDOUT_FILENO;
 ghost use Prim.Native.Nat.{_<_, _≤_};
 ghost use lib.ListN.{length};
 
-// The letters of one copy, the repeats where there are several, and the mark.
+// The letters of one copy, the repeats if there are several, and whether it is a Christoffel word.
 fn write_factor(copy: &[u8], times: usize, christoffel: bool) {
     if times == 1 {
         io::write_all(STDOUT_FILENO, b" ");
@@ -21,7 +21,7 @@ fn write_factor(copy: &[u8], times: usize, christoffel: bool) {
     }
 }
 
-// Writes the factor that begins at `at`, and answers where the next one begins.
+// Writes the factor that begins at `at` and returns where the next one begins.
 fn write_next(word: &[u8], at: usize) -> usize
     requires { ⌜ at < length (now word) ⌝ }
     ensures { λ r. ⌜ (at < r) × (r ≤ length (now (word .entry))) ⌝ }

@@ -1,7 +1,7 @@
 // A script in the making: calls of eleven bytes each.
 pub(crate) const SIZE: usize = 45056;
 
-// The bytes past the end are 9, which is no call. The calls that follow are of this party, at this place.
+// Bytes past the end are 9, which is not a call. The next calls are of this party, at this place.
 pub(crate) struct Script {
     pub(crate) bytes: [u8; SIZE],
     pub(crate) end: usize,
@@ -9,7 +9,7 @@ pub(crate) struct Script {
     pub(crate) place: u8,
 }
 
-// What the bytes that a call does not name are.
+// The bytes that a call does not name.
 const LAST_TWO: u32 = 0x0909_0000;
 
 const LAST_THREE: u32 = 0x0909_0900;
@@ -18,7 +18,7 @@ fn low(n: u32) -> u8 {
     (n % 256) as u8
 }
 
-// A number of two bytes, and bytes that the call does not name.
+// A 16-bit number, followed by bytes that the call does not name.
 fn short(n: u16) -> u32 {
     LAST_TWO + n as u32
 }
@@ -38,14 +38,14 @@ impl Script {
         }
     }
 
-    // The calls that follow are of this party, at this place.
+    // The next calls are of this party, at this place.
     pub(crate) fn at(mut self, party: u8, place: u8) -> Self {
         self.party = party;
         self.place = place;
         self
     }
 
-    // One more call, where there is space for it.
+    // Appends a call if there is space for it.
     fn put(mut self, number: u8, x: u32, y: u32) -> Self {
         let at = self.end;
         if at <= SIZE - 11 {
@@ -112,7 +112,7 @@ impl Script {
         self
     }
 
-    // One letter, again and again.
+    // One letter n times.
     pub(crate) fn times(mut self, n: usize, a: u8) -> Self {
         let mut i = 0;
         while i < n {
@@ -122,7 +122,7 @@ impl Script {
         self
     }
 
-    // A whole draft, closed.
+    // A whole draft, and a close.
     pub(crate) fn outline(self, col: u16, row: u16, word: &[u8]) -> Self {
         self.begin(col, row).letters(word).close()
     }

@@ -1,4 +1,4 @@
-// The calls of a script on a holder by value, each given the holder that the last one returned.
+// The calls of a script on a holder by value, each made on the holder that the one before it returned.
 use crate::lines::same;
 use calls::written::of_reply;
 use chart::reply;
@@ -10,7 +10,7 @@ use wire::received;
 ghost use Prim.Native.Nat.{_+_, _*_, _≤_, _<_};
 ghost use lib.ListN.{length};
 
-// The next holder, and whether the reply is the one that stands in the list.
+// The next holder, and whether its reply equals the one in the list.
 struct Step {
     holder: Holder,
     same: bool,
@@ -36,7 +36,7 @@ fn answer(holder: Holder, call: &[u8], expected: &[u16]) -> Step {
     }
 }
 
-// How many of the replies are others than those by value.
+// How many replies differ from those by value.
 pub(crate) fn differing(script: &[u8], replies: &[u16], count: usize) -> usize
     requires { ⌜ (11 * count ≤ length (now script)) × (7 * count ≤ length (now replies)) ⌝ }
 {

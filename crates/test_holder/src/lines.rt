@@ -27,7 +27,7 @@ fn reply(replies: &[u16], i: usize) -> &[u16]
     &replies[from..to]
 }
 
-// Where the replies that are the same as the one at `i` end.
+// Where the replies equal to the one at `i` end.
 fn run_end(replies: &[u16], i: usize, count: usize) -> usize
     requires { ⌜ (i < count) × (7 * count ≤ length (now replies)) ⌝ }
     ensures { λ r. ⌜ (i < r) × (r ≤ count) ⌝ }
@@ -57,7 +57,7 @@ pub(crate) fn write_numbers(list: &[u16]) {
     }
 }
 
-// A line for each reply, and one for those that are the same in a row, with their count.
+// A line for each reply. Equal replies in a row share one line with their count.
 pub(crate) fn write_replies(replies: &[u16], count: usize)
     requires { ⌜ 7 * count ≤ length (now replies) ⌝ }
 {

@@ -9,7 +9,7 @@ use replay::replay;
 
 const ROOM: usize = 28672;
 
-// What the state turns back, before anything is taken.
+// Refusals before anything is taken.
 fn without_draft(s: Script) -> Script {
     s.query(0, 0)
         .query(255, 255)
@@ -20,7 +20,7 @@ fn without_draft(s: Script) -> Script {
         .clear()
 }
 
-// What begin and add turn back, and what drop leaves.
+// Refusals of begin and add, and what a drop leaves.
 fn drafts(s: Script) -> Script {
     let s = s.begin(256, 0).begin(0, 256).begin(65535, 258).add(0);
     let s = s.begin(0, 0)
@@ -33,7 +33,7 @@ fn drafts(s: Script) -> Script {
     s.begin(255, 255).drop().begin(3, 4).close()
 }
 
-// Drafts that a close turns back: 1, 4, 5, 6, 8 and 9, the last two also drawn anticlockwise.
+// Drafts that a close refuses: by 1, 4, 5, 6, 8 and 9, the last two also drawn anticlockwise.
 fn refused(s: Script) -> Script {
     let s = s.outline(0, 0, b"103");
     let s = s.outline(255, 0, b"1032").outline(0, 0, b"2031");
@@ -57,7 +57,7 @@ fn backward(s: Script) -> Script {
     s.clear()
 }
 
-// Outlines taken, the same again, and cells asked.
+// Outlines taken, the same ones again, and queries.
 fn taken(s: Script) -> Script {
     let s = s.outline(0, 0, b"1032").query(0, 0).query(1, 0).query(0, 1);
     let s = s.query(255, 0).query(0, 255).query(254, 254);
@@ -76,7 +76,7 @@ fn taken(s: Script) -> Script {
         .query(0, 0)
         .query(1, 1)
         .query(2, 2);
-    // The same block from another start, the other way round, and elsewhere.
+    // The same block from another start, in the other direction, and elsewhere.
     let s = s.outline(1, 1, b"210103032321")
         .outline(0, 1, b"030101212323")
         .query(0, 1)
@@ -88,7 +88,7 @@ fn taken(s: Script) -> Script {
         .query(1, 1)
 }
 
-// What is at work stays over a refused close, over a draft, and until a clear; a clear keeps the draft.
+// What is at work stays through a refused close and a draft, until a clear. A clear keeps the draft.
 fn kept(s: Script) -> Script {
     let s = s.outline(0, 0, b"111033003222").query(0, 1).query(2, 0);
     let s = s.begin(10, 20)
@@ -115,7 +115,7 @@ fn kept(s: Script) -> Script {
     s.begin(0, 0).letters(b"12").drop().query(10, 20).close()
 }
 
-// A dent in each piece: its factor reads 001101 in the piece's two letters, a palindrome between the ends and no Christoffel word.
+// A dent in each piece. Its factor is 001101 in the piece's two letters: a palindrome between the ends, but not a Christoffel word.
 fn dents(s: Script) -> Script {
     let s = s.outline(0, 0, b"1001101033332222");
     let s = s.outline(0, 4, b"0330030322221111");
@@ -124,7 +124,7 @@ fn dents(s: Script) -> Script {
     s.query(10, 20).outline(5, 5, b"110100332322").query(5, 6)
 }
 
-// The largest square that can be sent, and a draft that is full.
+// The largest square that can be sent, and a full draft.
 fn long(s: Script) -> Script {
     let s = s.begin(0, 0)
         .times(153, 1)
@@ -143,7 +143,7 @@ fn long(s: Script) -> Script {
     s.clear().query(152, 0)
 }
 
-// Both parties: drafts apart, the same outline at several places, and a clear of one. 19 before 20, and both before all others.
+// Both parties: separate drafts, the same outline at several places, and one clear. 19 comes before 20, and both before all others.
 fn both(s: Script) -> Script {
     let s = s.at(1, 3)
         .begin(7, 7)
@@ -169,7 +169,7 @@ fn both(s: Script) -> Script {
         .query(255, 0);
     let s = s.at(255, 0).clear().query(0, 0);
     let s = s.at(1, 4).clear().query(255, 255).close();
-    // A close that 20 turns back ends its party's draft, and not the other's.
+    // A close refused by 20 ends its party's draft, and not the other's.
     let s = s.begin(5, 5)
         .at(0, 0)
         .begin(6, 6)
@@ -187,15 +187,16 @@ fn both(s: Script) -> Script {
         .clear()
 }
 
-// The rows of H3 at a place: 12 and 11 in their order, the columns of three rows, and none of a fourth.
+// The rows of H3 at a place: 12 and 11 in their order, the columns of three rows, and none in a fourth.
 fn rows(s: Script) -> Script {
     let s = s.at(1, 2).row(255).outline(0, 1, b"101030323212");
     let s = s.row(0).row(1).row(2).row(3).row(254).row(255);
     s.at(2, 2).row(0).at(1, 4).row(0).at(1, 2).clear().row(1)
 }
 
-// Readings with H3 at a place: 12 and 11 in their order; in the middle, at a corner, on an edge, a hundredth outside it, a tenth inside it, a cell outside, past the last
-// column. H2, which is flat: on its line, at -0, just above it, and past its end. H1: its centre, at -0, and just beside it.
+// Readings with H3 at a place: 12 and 11 in their order; the middle, a corner cell, a point on an edge, 1/100 outside it, 1/10 inside it,
+// a cell outside, and past the last column. H2, which is flat: on its line, at -0, just above it, and past its end. H1: its centre, -0, and
+// just beside it.
 fn readings(s: Script) -> Script {
     let s = s.at(0, 1)
         .reading(0x7fc0_0000, 0)
@@ -217,7 +218,7 @@ fn readings(s: Script) -> Script {
     s.reading(1, 0).reading(0x437e_0000, 0x437e_0000).clear()
 }
 
-// The pieces of H1, H2, H3 and H5: a move, a line for each edge but the last, close, and none past that. 19, 20 and 12 in their order.
+// The drawings of H1, H2, H3 and H5: a move, a line for each edge but the last, a close, and none after it. 19, 20 and 12 in their order.
 fn pieces(s: Script) -> Script {
     let s = s.at(0, 3).piece(0).outline(0, 0, b"1032");
     let s = s.piece(0).piece(1).piece(2).outline(0, 0, b"10003222");
@@ -248,7 +249,7 @@ fn script() -> Script {
     pieces(readings(s))
 }
 
-// Replays a script and writes the replies; and how many replies differ from those of the same calls on a holder by value.
+// Replays a script and writes the replies, and how many of them differ from those by value.
 fn run(script: &[u8], replies: &mut [u16]) {
     let count = replay(script, replies);
     lines::write_replies(replies, count);
@@ -267,7 +268,7 @@ fn main() {
     let s = script();
     let mut replies = [0u16; ROOM];
     run(&s.bytes, &mut replies);
-    // A number that is no call, a call that is cut, and no room for a third reply.
+    // A number that is not a call, a truncated call, and no room for a third reply.
     let mut few = [9u16; 20];
     run(
         b"\x03\x00\x00........\x09\x00\x00........\x03\x00\x00........",

@@ -44,7 +44,7 @@ fn cell(pile: Pile, layer: u8, col: u16, row: u16) -> Pile {
     told(pile.set(layer, Point { col, row }, &letters[..]))
 }
 
-// The five cells of a plus, from the corner left of its middle row.
+// The five cells of a plus, from the left corner of its middle row.
 fn plus(pile: Pile, layer: u8, col: u16, row: u16) -> Pile {
     let letters = [1u8, 0, 1, 0, 3, 0, 3, 2, 3, 2, 1, 2];
     told(pile.set(layer, Point { col, row }, &letters[..]))
@@ -70,7 +70,7 @@ fn query(pile: Pile, layer: u8, col: u16, row: u16) -> Pile {
     pile
 }
 
-// A fresh pile: unchecked, and it passes. 22 before 12, and 12 before 11.
+// A fresh pile: it is unchecked, and a check passes. 22 comes before 12, and 12 before 11.
 fn empty_pile(p: Pile) -> Pile {
     let p = query(p, 0, 0, 0);
     let p = query(p, 16, 0, 0);
@@ -83,7 +83,7 @@ fn empty_pile(p: Pile) -> Pile {
     empty(p, 255)
 }
 
-// A refused set leaves a passed pile passed; one that is taken, and one to empty, leave it unchecked.
+// A refused set leaves a passed pile passed. A taken outline and a set to empty leave it unchecked.
 fn layers(p: Pile) -> Pile {
     let p = dented(p, 3);
     let p = query(p, 3, 0, 0);
@@ -99,7 +99,7 @@ fn layers(p: Pile) -> Pile {
     query(p, 3, 5, 5)
 }
 
-// Cells (0, 1), (1, 2), (2, 0) of a column, as layer and row: (1, 1) is missing, and no two of the layers show it.
+// Cells (0, 1), (1, 2), (2, 0) of a column, as layer and row: (1, 1) is missing, and no two of the layers alone show it.
 fn three_cells(p: Pile) -> Pile {
     let p = cell(p, 0, 9, 1);
     let p = cell(p, 1, 9, 2);
@@ -116,7 +116,7 @@ fn three_cells(p: Pile) -> Pile {
     empty(p, 2)
 }
 
-// Sections that fall into parts: an empty layer between, with a cell of the hull in it or none; a dented column before a dented row.
+// Sections in several parts: an empty layer between, with a cell of the hull or without one; a dented column before a dented row.
 fn parts(p: Pile) -> Pile {
     let p = cell(p, 0, 7, 0);
     let p = cell(p, 2, 7, 1);

@@ -1,4 +1,4 @@
-// Runs every specimen through the test, asks loose queries of two of them, compares them, and writes a line for each.
+// Runs every specimen through the test, makes loose queries and comparisons with some of them, and writes a line for each.
 use chart::Fields;
 use chart::LONGEST;
 use chart::MOST_NUMBERS;
@@ -8,7 +8,7 @@ use chart::reply::NUMBERS;
 use libc::STDOUT_FILENO;
 ghost use Rattle.io.specs.Counts.{Counts};
 
-// A number without its sign.
+// The absolute value.
 fn size(x: i16) -> u64 {
     if x < 0 {
         (0 - (x as i64)) as u64
@@ -37,7 +37,7 @@ fn write_cell(cell: Point) {
     io::write_all(STDOUT_FILENO, b")");
 }
 
-// The edge at index k, where the list has one.
+// The edge at index k, if the list has one.
 fn write_edge(list: &[i16], k: usize) {
     if k < list.len() / 2 {
         io::write_all(STDOUT_FILENO, b" (");
@@ -57,7 +57,7 @@ fn write_edges(list: &[i16], count: usize) {
     }
 }
 
-// A test's answer: number, place, piece, length and cell.
+// A test's reply: number, place, piece, length and cell.
 fn write_fields(fields: Fields) {
     write_number(fields.number);
     write_number(fields.place);
@@ -69,7 +69,7 @@ fn write_fields(fields: Fields) {
     });
 }
 
-// Tests an outline, and writes its line.
+// Tests an outline and writes its line.
 fn write_test(name: &[u8], start: Point, letters: &[u8]) {
     let mut edges = [0i16; MOST_NUMBERS];
     let fields = reply::of_verdict(outline::test(start, letters, &mut edges));
@@ -83,7 +83,7 @@ fn write_test(name: &[u8], start: Point, letters: &[u8]) {
     io::write_all(STDOUT_FILENO, b"\n");
 }
 
-// Reads digits as letters, and answers how many there are.
+// Reads digits as letters and returns how many there are.
 fn read_letters(digits: &[u8], letters: &mut [u8]) -> usize
     ensures { λ r. ⌜ Counts r (now (letters .exit)) ⌝ }
 {
@@ -102,7 +102,7 @@ fn write_specimen(name: &[u8], col: u16, row: u16, digits: &[u8]) {
     write_test(name, Point { col, row }, &letters[..n]);
 }
 
-// The longest list of letters that is no refusal 1, one letter more, and far more.
+// The longest list of letters that passes refusal 1, one letter more, and far more.
 fn write_longest() {
     let start = Point { col: 0, row: 0 };
     write_test(b"612 letters 1", start, &[1u8; LONGEST]);
@@ -111,7 +111,7 @@ fn write_longest() {
     write_test(b"2,049 letters 1", start, &[1u8; 2049]);
 }
 
-// An outline of 604 letters with as many edges as any has.
+// An outline of 604 letters with the most edges that any outline has.
 fn write_most_edges() {
     let digits =
         b"1101111111011111101111101111011101101110110101101101011010101101001010101001010100101001001010010001001000100001000100001000001000000100000001000000001003000000030000003000003000030003003000300303003003030030303003033030303033030303303033033030330333033033303333033303333033333033333303333333033333333033233333332333333233333233332333233233323323233233232332323233232232323232232323223232232232322322232232223222232223222232222232222223222222232222222232212222222122222212222212222122212212221221212212212122121212212112121212112121211212112112121121112112111211112111211112111112111111211111112111111112";
@@ -120,7 +120,7 @@ fn write_most_edges() {
     write_test(b"604 letters", Point { col: 0, row: 81 }, &letters[..n]);
 }
 
-// The word of a loose query's answer, or the number of its refusal.
+// The word of a loose query's reply, or the number of its refusal.
 fn write_word(fields: Fields) {
     let word = fields.word;
     match word {
@@ -134,7 +134,7 @@ fn write_word(fields: Fields) {
     }
 }
 
-// Asks whether a list of edges holds a cell, and writes its line.
+// Makes a loose query and writes its line.
 fn write_query(name: &[u8], anchor: Point, edges: &[i16], cell: Point) {
     let fields = reply::of_position(polygon::loose_query(anchor, edges, cell));
     io::write_all(STDOUT_FILENO, name);
@@ -182,7 +182,7 @@ fn write_nesting(reply: &[u16; NUMBERS]) {
     }
 }
 
-// Compares two lists of edges, and writes the word and the list that is handed back.
+// Compares two lists of edges, and writes the word and the list that is returned.
 fn write_comparison<'a>(
     name: &[u8],
     anchor: Point,
@@ -217,7 +217,7 @@ fn compare_h3() {
     write_comparison(b"H3 and H3", anchor, &edges, anchor, &edges);
 }
 
-// Specimens drawn backward: the letter that is named stands as far from the other end.
+// Specimens drawn backward. The place in the reply then counts from the other end.
 fn write_backward() {
     write_specimen(b"H3 backward", 0, 1, b"030101212323");
     write_specimen(b"H4 backward", 1, 1, b"301012123230");

@@ -10,14 +10,14 @@ const LINE_FEED: u8 = 10;
 
 const ZERO: u8 = 48;
 
-// A line of a listing: a record's number, what is said of it, and a place.
+// A line of a listing: a record's number, the number of the test or the fault, and a place or a position.
 pub struct Line {
     pub number: usize,
     pub answer: usize,
     pub place: usize,
 }
 
-// Writes a byte, where there is room for it, and says where the next one goes.
+// Writes a byte if there is room for it, and returns where the next one goes.
 fn put(byte: u8, text: &mut [u8], at: usize) -> usize
     ensures { λ r. ⌜ Wrote (byte ∷ []) at (now (text .entry)) (now (text .exit)) r ⌝ }
 {
@@ -28,7 +28,7 @@ fn put(byte: u8, text: &mut [u8], at: usize) -> usize
     at + 1
 }
 
-// Writes a number in decimal: the digits of its tenth, where it has one, and its last digit.
+// Writes a number in decimal: first the digits of a tenth of it, if that is not 0, then its last digit.
 fn put_number(n: usize, text: &mut [u8], at: usize) -> usize
     ensures { λ r. ⌜ Wrote (decimal n) at (now (text .entry)) (now (text .exit)) r ⌝ }
 {
@@ -40,7 +40,7 @@ fn put_number(n: usize, text: &mut [u8], at: usize) -> usize
     put(digit, text, end)
 }
 
-// Writes a number, and a byte behind it.
+// Writes a number and the byte after it.
 fn put_field(n: usize, byte: u8, text: &mut [u8], at: usize) -> usize
     ensures { λ r. ⌜ Wrote (fieldText n byte) at (now (text .entry)) (now (text .exit)) r ⌝ }
 {
@@ -48,7 +48,7 @@ fn put_field(n: usize, byte: u8, text: &mut [u8], at: usize) -> usize
     put(byte, text, end)
 }
 
-// Writes a line: its three numbers with a space between, and a line feed.
+// Writes a line: its three numbers with spaces between, and a line feed.
 pub fn put_line(line: Line, text: &mut [u8], at: usize) -> usize
     ensures { λ r. ⌜ Wrote (lineText line) at (now (text .entry)) (now (text .exit)) r ⌝ }
 {

@@ -1,2 +1,2 @@
--- Parts of a list: a window of it, and the slots that windows fill.
+-- Windows of a list, and the values in consecutive windows.
 pub mod Windows

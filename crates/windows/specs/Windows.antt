@@ -1,4 +1,4 @@
--- A list that holds several values side by side, each in a window of its own.
+-- A list that holds several values side by side, each in its own window.
 use Prim.Native.Nat.{ℕ, zero, suc}
 use mathlib.Core.List.{List, [], _∷_}
 use lib.ListN.{take, drop}

@@ -1,4 +1,4 @@
-// Lists of numbers set to zeros.
+// Sets lists of numbers to zero.
 ghost use mathlib.Core.Path.{_≡_};
 ghost use lib.ListN.{length, replicate};
 ghost use lib.IntN.{pos};

@@ -12,14 +12,14 @@ use Rattle.readings.specs.Located.{readingOf}
 use Rattle.wire.specs.declared.Decoded.{Decoded}
 use Rattle.wire.specs.declared.Decoded.the-variants.{Call as Said, Nothing}
 
--- How many bytes a call is, and how many numbers a reply
+-- How many bytes a call has, and how many numbers a reply
 abbrev pub callWidth : ℕ
 callWidth = 11
 
 abbrev pub replyWidth : ℕ
 replyWidth = 7
 
--- A number of 32 bits, low byte first; its first two bytes, and its first
+-- A 32-bit number, low byte first; its first two bytes; its first byte
 abbrev pub long : ℕ → ℕ → ℕ → ℕ → ℕ
 long a b c d = a + 256 * b + 65536 * c + 16777216 * d
 
@@ -32,8 +32,8 @@ letterOf x = x % 256
 abbrev pub pointOf : ℕ → ℕ → Point
 pointOf x y = record { col = shortOf x; row = shortOf y }
 
--- The call of a number, a party, a place and two numbers of 32 bits: 0 begin, 1 add, 2 drop, 3 clear, 4 close, 5 query, 6 row, 7 reading, 8 piece. A
--- number above 8 is no call
+-- The call with a number, a party, a place and two 32-bit arguments: 0 begin, 1 add, 2 drop, 3 clear, 4 close, 5 query, 6 row, 7 reading,
+-- 8 piece. A number above 8 is not a call
 unfoldable pub callOf : ℕ → ℕ → ℕ → ℕ → ℕ → Decoded
 callOf zero p k x y = Said (by p (Begin (pointOf x y)))
 callOf (suc zero) p k x y = Said (by p (Add (letterOf x)))
@@ -46,13 +46,13 @@ callOf (suc (suc (suc (suc (suc (suc (suc zero))))))) p k x y = Said (by p (Ask 
 callOf (suc (suc (suc (suc (suc (suc (suc (suc zero)))))))) p k x y = Said (by p (Ask k (OfPiece (shortOf x))))
 callOf (suc (suc (suc (suc (suc (suc (suc (suc (suc n))))))))) p k x y = Nothing
 
--- The call of these bytes: none unless there are eleven
+-- The call of these bytes. Nothing unless there are eleven
 unfoldable pub decoded : List ℕ → Decoded
 decoded s =
     cond (eqb (length s) callWidth)
     (callOf (getD s 0 0) (getD s 1 0) (getD s 2 0) (long (getD s 3 0) (getD s 4 0) (getD s 5 0) (getD s 6 0)) (long (getD s 7 0) (getD s 8 0) (getD s 9 0) (getD s 10 0)))
     Nothing
 
--- The call that is answered: none where a reply has no room in so many numbers
+-- The call that is answered. Nothing if the reply does not fit into so many numbers
 unfoldable pub received : List ℕ → ℕ → Decoded
 received call room = cond (leb replyWidth room) (decoded call) Nothing

@@ -8,17 +8,17 @@ use readings::from_bits;
 ghost use mathlib.Core.Path.{_≡_};
 ghost use Rattle.wire.specs.Wire.{long as longOf, shortOf, letterOf, pointOf, callOf, decoded as decodedOf, received as receivedOf};
 
-// How many bytes a call is.
+// How many bytes a call has.
 pub const BYTES: usize = 11;
 
-// What the bytes of a call say.
+// A decoded call.
 pub enum Decoded {
     Call(Call),
-    // No call: a number that is none's, or not so many bytes.
+    // Not a call: the number is above 8, or there are not eleven bytes.
     Nothing,
 }
 
-// A number of 32 bits, low byte first.
+// A 32-bit number, low byte first.
 fn long(a: u8, b: u8, c: u8, d: u8) -> u32
     ensures { λ r. ⌜ r ≡ longOf a b c d ⌝ }
 {
@@ -89,7 +89,7 @@ fn decode(call: &[u8]) -> Decoded
     call_of(call[0], call[1], call[2], x, y)
 }
 
-// The call to be answered: none where there is no room for the reply.
+// The call to answer. Nothing if there is no room for the reply.
 pub fn received(call: &[u8], room: usize) -> Decoded
     ensures { λ r. ⌜ r ≡ receivedOf (now (call .entry)) room ⌝ }
 {

@@ -1,4 +1,4 @@
--- The rows of a layer that have a cell: a search for those with a column goes through them alone.
+-- The rows of a layer that have a cell. The search for the rows with a column looks only at these.
 use Prim.Native.Nat.{ℕ, _-_, _≤_, _<_}
 use mathlib.Core.Path.{_≡_}
 use mathlib.Core.Bool.{Bool, false}
@@ -17,14 +17,14 @@ use Rattle.pile.specs.Pile.{layerAt, inRow}
 unfoldable pub hasCell : List ℕ → List ℕ → ℕ → Bool
 hasCell begins ends r = ltb (rows begins r) (rows ends r)
 
--- The lowest row with a cell, and the one after the highest
+-- The lowest row with a cell, and the row past the highest
 unfoldable pub bottomOf : Spans → ℕ
 bottomOf s = first (λ r. hasCell (s .first) (s .past) r) side
 
 unfoldable pub topOf : Spans → ℕ
 topOf s = side - first (λ k. hasCell (s .first) (s .past) (side - 1 - k)) side
 
--- Of each layer
+-- The same for every layer
 unfoldable pub reachOf : List Spans → Section
 reachOf ls = record { lo = table (λ l. bottomOf (layerAt ls l)) 0 layers; past = table (λ l. topOf (layerAt ls l)) 0 layers }
 
@@ -35,11 +35,11 @@ NoneBelow begins ends c n = (r : ℕ) → r < n → inRow begins ends c r ≡ fa
 unfoldable pub NoneFrom : List ℕ → List ℕ → ℕ → ℕ → Type 0
 NoneFrom begins ends c n = (r : ℕ) → n ≤ r → r < side → inRow begins ends c r ≡ false
 
--- The hull of a section's marked cells holds no other
+-- No cell is missing from the section's marked ones
 unfoldable pub clearOf : Section → Bool
 clearOf s = clear (numbers (s .lo)) (numbers (s .past))
 
--- A run for each layer
+-- An interval for each layer
 pub record Sized (s : Section) : Type 0 where
   pub lo : length (s .lo) ≡ layers
   pub past : length (s .past) ≡ layers
