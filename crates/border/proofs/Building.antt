@@ -1,4 +1,4 @@
--- The loop that writes all edges: what stands in the list, followed by what is still to be written, is the border all along.
+-- The loop that writes all edges: what stands in the buffer, followed by what is still to be written, is always the border.
 use Prim.Native.Nat.{ℕ, zero, suc, _+_, _-_, _≤_, _<_}
 use native.Mathlib.Nat.{add-comm}
 use native.Mathlib.Omega.{arith}
@@ -38,7 +38,7 @@ length-step p dx dy =
       run-and-rise k dx dy,
     )
 
--- The first letters of the pieces that begin, and behind them the edge's own
+-- The first letters of the pieces that begin, and then the edge's own
 pub step-wrote :
     (p : ℕ) (dx dy : ℤ) {before middle after : List ℕ} {at k run rise i : ℕ} → k ≡ quadrantOf dx dy → run ≡ runIn (quadrantOf dx dy) dx dy
     → rise ≡ riseIn (quadrantOf dx dy) dx dy → Wrote before at (firsts p (k - p)) middle → i ≡ at + (k - p) → Wrote middle i (letters k run rise) after
@@ -60,7 +60,7 @@ first-of (Ordered.more l s r) = record { from = l; small = s; others = r }
 
 -- ---- the loop
 
--- The first `at` letters are written, piece p was begun last, and the edges from number i on are still to come
+-- The first `at` letters are written, piece p was begun last, and the numbers from index i on are still to come
 pub record Building (es : List ℤ) (before list : List ℕ) (at p i : ℕ) : Type 0 where
   pub sized : length list ≡ length before
   pub room : length (lettersFrom es) ≤ length before
@@ -164,7 +164,7 @@ module _ {es : List ℤ} {before list : List ℕ} {at p i : ℕ} (b : Building e
         let e : 4 + stepCount es ≡ at + length (firsts p (3 - p)) = omega (arith, left, ap length rest-end, length-letters es) in
         ap (λ (n : ℕ). take n after) e ∙ w .written ∙ ap (λ (u : List ℕ). take at list ++ u) (sym rest-end) ∙ b .written
 
--- ---- how many letters there are to be
+-- ---- how many letters there will be
 
 pub steps-next :
     (es : List ℤ) (i : ℕ) → i + 1 < length es

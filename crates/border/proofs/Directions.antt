@@ -1,4 +1,4 @@
--- Quadrants, sizes and runs by the machine's tests: each sign of the two numbers is a clause of the definition.
+-- Quadrants, absolute values and runs by the machine's tests: each pair of signs is a clause of the definition.
 use Prim.Native.Nat.{ℕ, zero, suc, _≤_, _%_}
 use native.Mathlib.Omega.{arith}
 use mathlib.Core.Path.{_≡_, refl, subst}
@@ -36,9 +36,9 @@ quadrant-tests (negsuc a) (pos zero) = refl
 quadrant-tests (negsuc a) (pos (suc b)) = refl
 quadrant-tests (negsuc a) (negsuc b) = refl
 
--- ---- a number without its sign
+-- ---- absolute values
 
--- A negative number, negated, fits 64 bits with its sign and without
+-- A negative number, negated, fits 64 bits, signed and unsigned
 pub record Negated (x : ℤ) : Type 0 where
   pub sfits : SFits w64 (pos 0 -ℤ x)
   pub nonneg : T (nonNeg (pos 0 -ℤ x))
@@ -50,7 +50,7 @@ negated (pos n) f e = absurd (omega (arith, ltb-true n 0 e))
 negated (negsuc n) f e =
     record { sfits = record { sfits = omega (arith, f .sfits) }; nonneg = tt; fits = record { fits = omega (arith, f .sfits) }; size = omega arith }
 
--- Any other stands for itself
+-- Any other number stays as it is
 pub kept : (x : ℤ) → SFits w16 x → ltZ x (pos 0) ≡ false → T (nonNeg x) × Fits w64 (natAbs x)
 kept (pos n) f e = (tt, record { fits = omega (arith, f .sfits) })
 kept (negsuc n) f e = absurd (subst T e tt)

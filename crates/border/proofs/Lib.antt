@@ -1,4 +1,4 @@
--- Directions by the machine's tests; what is still to be written, one edge further.
+-- Directions by the machine's tests; what is still to be written after one more edge.
 pub mod Directions
 pub mod Remainders
 pub mod Writing

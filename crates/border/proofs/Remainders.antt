@@ -1,4 +1,4 @@
--- Remainders of a sum run + rise, one rise further at a time: the remainder grows exactly where it was below the run.
+-- Adding rise modulo run + rise makes the remainder grow exactly if it was below run.
 use Prim.Native.Nat.{ℕ, zero, suc, _+_, _-_, _*_, _%_, _≤_, _<_}
 use native.Mathlib.Nat.{mod-eq-of-lt, add-mod-right, mod-lt, mod-add-mod}
 use native.Mathlib.Omega.{arith}
@@ -19,11 +19,11 @@ module _ (rem run rise : ℕ) where
       let e : rem + rise ≡ rem - run + (run + rise) = omega arith in
       sym (ap (λ (m : ℕ). m % (run + rise)) e ∙ add-mod-right (rem - run) (run + rise) ∙ mod-eq-of-lt (omega arith))
 
--- One rise further along the multiples
+-- The next multiple of rise
 pub multiple-next : (i rise n : ℕ) → (i * rise % n + rise) % n ≡ suc i * rise % n
 multiple-next i rise n = mod-add-mod (i * rise) n rise ∙ ap (λ (m : ℕ). m % n) (let e : i * rise + rise ≡ suc i * rise = omega arith in e)
 
--- Letter i, by the remainder that stands before it
+-- Letter i, from the remainder before it
 module _ (i run rise : ℕ) (rises : 0 < rise) where
   abbrev here : ℕ
   here = i * rise % (run + rise)
@@ -41,7 +41,7 @@ module _ (i run rise : ℕ) (rises : 0 < rise) where
       let e = next-above here run rise small h ∙ multiple-next i rise (run + rise) in
       ap not (le-ltb here (suc i * rise % (run + rise)) (omega arith))
 
--- A listed word, one letter longer
+-- A listed word with one more letter
 pub listed-next : (f : ℕ → Bool) (n : ℕ) → listed f (suc n) ≡ listed f n ++ (f n ∷ [])
 unfolding listed
 listed-next f zero = refl

@@ -1,4 +1,6 @@
--- What is still to be written, one edge further: pieces whose edges are all passed leave only their first letters, and an edge of the piece begun last leaves its own letters.
+-- What is still to be written after one more edge: a piece without further edges leaves only its first letter, and an edge of the piece
+-- begun
+-- last leaves its own letters.
 use Prim.Native.Nat.{ℕ, zero, suc, _+_, _-_, _≤_, _<_}
 use native.Mathlib.Omega.{arith}
 use mathlib.Core.Path.{_≡_, refl, sym, ap, _∙_}
@@ -15,7 +17,7 @@ use Rattle.convexity.proofs.FromEdges.{quadrant-step}
 use Rattle.border_model.specs.parts.Ordered.{Ordered}
 use Rattle.border.specs.parts.Rest.{edgeLetters, rest, firsts, letters}
 
--- All letters: the first, and then what follows it in piece 0
+-- All letters: the first, and then the rest of piece 0
 pub all-letters : (es : List ℤ) → lettersFrom es ≡ frameOf 0 .later ∷ rest 3 0 es
 unfolding lettersFrom pieceFrom rest edgeLetters spell
 all-letters es = refl
@@ -38,7 +40,7 @@ letters-none : {j : ℕ} {es : List ℤ} → Ordered j es → (k : ℕ) → k < 
 unfolding edgeLetters edgesWord spell
 letters-none o k h = rw (earlier-none o k h)
 
--- So m pieces on, only their first letters are written
+-- So for the next m pieces only their first letters are written
 pub rest-on : (m n k : ℕ) {j : ℕ} {es : List ℤ} → Ordered j es → k + m ≤ j → rest (m + n) k es ≡ firsts k m ++ rest n (k + m) es
 unfolding rest firsts
 rest-on zero n k {es = es} o h = let e : k + 0 ≡ k = omega arith in let d : 0 + n ≡ n = omega arith in rw (d, e)
@@ -47,7 +49,7 @@ rest-on (suc m) n k {es = es} o h =
     let d : suc m + n ≡ suc (m + n) = omega arith in
     rw (d, letters-none o k (omega arith)) (ap (λ (w : List ℕ). frameOf (suc k) .later ∷ w) (rest-on m n (suc k) o (omega arith) ∙ ap (λ (q : ℕ). firsts (suc k) m ++ rest n q es) e))
 
--- With no edge left, only first letters are
+-- Without edges only first letters are left
 pub rest-none : (k : ℕ) {es : List ℤ} → k ≤ 3 → Ordered 4 es → rest (3 - k) k es ≡ firsts k (3 - k)
 unfolding rest
 rest-none k {es} h o =
@@ -69,7 +71,7 @@ own-letters dx dy es h =
     (spell-append (frameOf k) (edgeWord run rise) (edgesWord (sizesIn k es))
     ∙ ap (λ (w : List ℕ). w ++ spell (frameOf k) (edgesWord (sizesIn k es))) (ap (spell (frameOf k)) (edge-listed run rise (quadrant-step dx dy h .rises))))
 
--- The pieces after it do not have the edge
+-- The later pieces do not have the edge
 later-same : (n k : ℕ) (dx dy : ℤ) (es : List ℤ) → quadrantOf dx dy < k → rest n k (dx ∷ dy ∷ es) ≡ rest n k es
 unfolding rest edgeLetters
 later-same zero k dx dy es h = rw (elsewhere k dx dy es (λ e. omega arith))
@@ -85,7 +87,7 @@ rest-edge (suc n) dx dy es h =
     rw (own-letters dx dy es h, later-same n (suc k) dx dy es (omega arith))
     (append-assoc (letters k (runIn k dx dy) (riseIn k dx dy)) (edgeLetters k es) (frameOf (suc k) .later ∷ rest n (suc k) es))
 
--- One edge further: the first letters of the pieces that begin with it, then its own
+-- One edge: the first letters of the pieces that begin with it, then its own
 pub rest-next :
     (p : ℕ) (dx dy : ℤ) (es : List ℤ) → Ordered p (dx ∷ dy ∷ es) → p ≤ quadrantOf dx dy → quadrantOf dx dy < 4 → Ordered (quadrantOf dx dy) es
     → let k = quadrantOf dx dy in

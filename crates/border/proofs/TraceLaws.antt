@@ -1,4 +1,5 @@
--- The letters are built where there is room for the longest outline's, and tested; more letters than that are no outline's, since refusal 1 turns them back.
+-- The letters are built in an array with room for the longest outline, and tested. More letters than that are no outline: refusal 1
+-- applies.
 use Prim.Native.Nat.{ℕ, _+_, _≤_, _<_}
 use native.Mathlib.Omega.{arith}
 use mathlib.Core.Path.{_≡_, sym, ap, _∙_}

@@ -1,4 +1,4 @@
--- Letters stored one behind another: what was written before stands, and one more stands behind it.
+-- Letters stored one after another: the earlier ones stay, and the next one follows them.
 use Prim.Native.Nat.{ℕ, zero, suc, _+_, _*_, _%_, _≤_, _<_}
 use native.Mathlib.Nat.{add-zero}
 use native.Mathlib.Omega.{arith}
@@ -19,7 +19,7 @@ use Rattle.border.proofs.Remainders.{letter-below, letter-above, listed
 pub wrote-none : (before : List ℕ) (at : ℕ) → Wrote before at [] before
 wrote-none before at = record { sized = refl; written = ap (λ (n : ℕ). take n before) (add-zero at) ∙ sym (append-nil (take at before)) }
 
--- One letter more, at the place i behind those written
+-- One more letter, at place i after those written
 pub wrote-next :
     {before w after : List ℕ} {at : ℕ} → Wrote before at w after → (i a : ℕ) → i ≡ at + length w → i < length before
     → Wrote before at (w ++ (a ∷ [])) (set after i a)
@@ -33,7 +33,7 @@ wrote-next {before} {w} {after} {at} h i a e l =
           ∙ append-assoc (take at before) w (a ∷ []));
     }
 
--- Letters behind letters
+-- Letters after letters
 pub wrote-both :
     {before middle after u v : List ℕ} {at : ℕ} → Wrote before at u middle → (i : ℕ) → i ≡ at + length u → Wrote middle i v after
     → Wrote before at (u ++ v) after
@@ -65,7 +65,7 @@ pub length-letters : (k run rise : ℕ) → length (letters k run rise) ≡ run 
 unfolding letters
 length-letters k run rise = length-spell (frameOf k) (listed (countedLetter rise (run + rise)) (run + rise)) ∙ length-listed (countedLetter rise (run + rise)) (run + rise)
 
--- A word listed and spelled, one letter longer
+-- A word listed and spelled, with one more letter
 pub spelled-next : (k : ℕ) (f : ℕ → Bool) (i : ℕ) → spell (frameOf k) (listed f (suc i)) ≡ spell (frameOf k) (listed f i) ++ spell (frameOf k) (f i ∷ [])
 spelled-next k f i = ap (spell (frameOf k)) (listed-next f i) ∙ spell-append (frameOf k) (listed f i) (f i ∷ [])
 

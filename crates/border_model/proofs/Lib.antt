@@ -1,4 +1,6 @@
--- Which outlines have an anchor and edges; a border call by its cases, and what its answer says; from a taken outline and back; the order of its edges; specimens.
+-- Which outlines have an anchor and edges; the cases of a border call, and what its reply says; from a taken outline and back; the order of
+-- its
+-- edges; specimens.
 pub mod Outlines
 pub mod Tested
 pub mod TracedCases

@@ -1,5 +1,6 @@
--- An outline with this anchor and these edges is taken exactly if the test that the code puts to the letters of the edges passes: of every such outline those
--- letters are the reading from W.
+-- Some outline is taken with this anchor and these edges exactly if the letters of the edges pass the code's test, because the border of
+-- every
+-- such outline is those letters.
 use Prim.Native.Nat.{ℕ, _*_, _≤_}
 use native.Mathlib.Omega.{arith}
 use mathlib.Core.Path.{_≡_, sym, ap, _∙_}
@@ -41,12 +42,12 @@ has-taken {o} h =
       edged = h .edged;
     }
 
--- It has two numbers an edge
+-- It has two numbers for each edge
 pub taken-size : {o : Outline} {a : Point} {es : List ℤ} (t : TakenAs o a es) → length es ≡ 2 * t .count
 taken-size {o} {a} t =
     ap length (sym (t .edged)) ∙ edges-length (border o) ∙ ap (λ (n : ℕ). 2 * n) (sym (taken-facts o (t .count) a (t .taken) .count))
 
--- Tested with a long enough list it gives the anchor and the edges again
+-- Tested with a long enough buffer it gives the anchor and the edges again
 pub record Again (o : Outline) (a : Point) (es buffer : List ℤ) : Type 0 where
   pub count : ℕ
   pub verdict : testOf o (length buffer) ≡ Taken count a
@@ -89,7 +90,7 @@ takenAs-iff o a es =
 
 -- ---- some outline has this anchor and these edges
 
--- Refusal 17: the letters that the edges write are tested, and anchor and edges are compared
+-- Refusal 17: the letters that the edges give are tested, and anchor and edges are compared
 pub outlined-iff : (a : Point) (es : List ℤ) → (outlined a es ≡ true) ↔ HasOutline a es
 unfolding outlined
 outlined-iff a es =

@@ -1,5 +1,5 @@
--- The border of a taken outline's edges is its own, clockwise from W: its anchor and edges meet none of 10, 11, 16 and 17, and their letters are the
--- outline's reading from W. So 18 is decided by the outline's own length, which is at most 612.
+-- The edges of a taken outline give its own border: its anchor and edges meet none of 10, 11, 16 and 17, and their letters are its border.
+-- So 18 depends on the outline's own length, which is at most 612.
 use Prim.Native.Nat.{ℕ, _≤_, _<_}
 use native.Mathlib.Decide.{decLt}
 use native.Mathlib.Omega.{arith}
@@ -52,7 +52,7 @@ module _ {o : Outline} {a : Point} {es : List ℤ} (t : TakenAs o a es) where
   size-bound : size o ≤ longest
   size-bound = walked o (taken-has t .reaches .simple) .short
 
-  -- The answer is its count of letters, and the list has its own letters first, clockwise from W
+  -- The reply has its count of letters, and the buffer has its border first
   pub own-letters :
       (buffer : List ℕ) → size o ≤ length buffer
       → (tracedOf a es (length buffer) ≡ Written (size o)) × (lettersAfter a es buffer ≡ border o .letters ++ drop (size o) buffer)
@@ -60,13 +60,13 @@ module _ {o : Outline} {a : Point} {es : List ℤ} (t : TakenAs o a es) where
       let w = traced-written a es buffer (taken-listed (taken-has t)) (taken-anchored (taken-has t)) turned (outlined-iff a es .1 (o, t)) (omega (arith, letters-size)) in
       (sym (w .answer) ∙ ap Written letters-size, sym (w .letters) ∙ rw (letters-are, ← letters-size, letters-are) refl)
 
-  -- A list of 612 letters or more always suffices
+  -- A buffer of 612 letters or more always suffices
   pub own-suffices :
       (buffer : List ℕ) → longest ≤ length buffer
       → (tracedOf a es (length buffer) ≡ Written (size o)) × (lettersAfter a es buffer ≡ border o .letters ++ drop (size o) buffer)
   own-suffices buffer room = own-letters buffer (omega (arith, size-bound))
 
-  -- With a list that is too short the answer is 18, and the list is unaltered
+  -- With a buffer that is too short the reply is 18, and the buffer is unchanged
   pub own-short : (buffer : List ℕ) → length buffer < size o → (tracedOf a es (length buffer) ≡ NoRoom) × (lettersAfter a es buffer ≡ buffer)
   own-short buffer short =
       let w =
@@ -74,7 +74,7 @@ module _ {o : Outline} {a : Point} {es : List ℤ} (t : TakenAs o a es) where
       in
       (sym (w .answer), sym (w .letters))
 
-  -- So 18 is the number exactly where the list is shorter than the outline
+  -- So the number is 18 exactly if the buffer is shorter than the outline
   pub own-short-iff : (buffer : List ℕ) → (tracedFields (tracedOf a es (length buffer)) .number ≡ 18) ↔ (length buffer < size o)
   unfolding tracedFields
   own-short-iff buffer =

@@ -1,5 +1,5 @@
--- Edges that pass refusal 16 stand in the order of their quadrants: of two directions in one half of the round, the one that comes sooner is in no later
--- quadrant, or their cross product would not be above 0; a backward direction is the opposite of a forward one, two quadrants on.
+-- Edges that pass refusal 16 are in the order of their quadrants. Of two directions in one half, the earlier one is in no later quadrant,
+-- or their cross product would not be above 0. A backward direction is the opposite of a forward one, two quadrants later.
 use Prim.Native.Nat.{ℕ, zero, suc, _+_, _*_, _≤_, _<_}
 use native.Mathlib.Omega.{arith}
 use mathlib.Core.Path.{_≡_, refl, ap}
@@ -31,7 +31,7 @@ backward-on {dy = pos (suc m)} Backward.across = refl
 backward-on {dy = negsuc m} Backward.across = refl
 backward-on Backward.downward = refl
 
--- What clockwise of a direction at or below right lies in the same half, is below right too
+-- Clockwise of a direction at or below right, in the same half, is below right too
 below-right : (a c d : ℕ) (dy : ℤ) → up dy ≡ 0 → Above (cross (pos (suc a)) dy (pos c) (pos (suc d))) → ⊥
 below-right a c d dy z h = omega (arith, is-cross (is-self (pos (suc a))) (is-self dy) (is-self (pos c)) (is-self (pos (suc d))) .eq, ap (λ (n : ℕ). n * up (pos c)) z)
 

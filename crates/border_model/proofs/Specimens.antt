@@ -1,4 +1,4 @@
--- The checker computes the answer of every row of the table, and one law turns that into what a row says.
+-- The checker computes the reply for every row of the table, and one law turns that into what a row says.
 use mathlib.Core.Path.{_≡_, refl}
 use mathlib.Core.Bool.{true}
 use mathlib.Core.List.{List·Memᴰ}

@@ -1,4 +1,4 @@
--- A border call by its cases: the first refusal that applies, and else the letters. Each case is a clause of the definition.
+-- The cases of a border call: the first refusal that applies, otherwise the letters. Each case is a clause of the definition.
 use Prim.Native.Nat.{ℕ, _≤_, _<_}
 use native.Mathlib.Omega.{arith}
 use mathlib.Core.Path.{_≡_, refl, sym, ap, _∙_}
@@ -23,7 +23,7 @@ use Rattle.border_model.specs.Traced.{lettersIn, tracedOf, tracedFields,
 use Rattle.border_model.specs.Named.{BorderNamed, Answers}
 use Rattle.border_model.proofs.Outlines.{outlined-iff, outlined-border}
 
--- ---- what an answer says
+-- ---- what a reply says
 
 module _ (a : Point) (es : List ℤ) where
   -- A refusal that is neither 17 nor 18
@@ -55,7 +55,7 @@ module _ (a : Point) (es : List ℤ) where
 -- ---- the cases
 
 module _ (a : Point) (es : List ℤ) (buffer : List ℕ) where
-  -- A refusal leaves the list alone
+  -- A refusal leaves the buffer unchanged
   left : (t : Traced) → t ≡ tracedOf a es (length buffer) → writtenAfter t (lettersFrom es) buffer ≡ buffer → BorderNamed a es (tracedFields t) buffer → Answers a es buffer buffer t
   unfolding lettersAfter
   left t e k n = record { answer = e; letters = sym k ∙ ap (λ (u : Traced). writtenAfter u (lettersFrom es) buffer) e; named = n }

@@ -1,4 +1,4 @@
--- A list and a comparison by their cases: the first refusal that applies, and else the tests. Each case is a clause of the definition.
+-- The cases of a list and of a comparison: the first refusal that applies, otherwise the tests. Each case is a clause of the definition.
 use mathlib.Core.Path.{_≡_, refl, sym, ap}
 use mathlib.Core.Bool.{Bool, true, false, false≢true, cond}
 use mathlib.Core.List.{List}
@@ -40,7 +40,7 @@ module _ (a : Point) (es : List ℤ) where
         unfolding checkedOf
         checked-fit e = rw (l, c, t, e)
 
--- Nothing refuses a list that fits
+-- Nothing refuses the list
 abbrev fits : Checked → Bool
 fits Fit = true
 fits (Unfit f) = false

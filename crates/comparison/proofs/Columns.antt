@@ -1,4 +1,5 @@
--- The columns that one edge bounds, in natural numbers: between two corner cells a side value at column 0 is the difference of two sums of products.
+-- The columns that an edge bounds, in natural numbers: between two corner cells the side value at column 0 is a difference of two sums of
+-- products.
 use Prim.Native.Nat.{ℕ, zero, suc, _+_, _-_, _*_, _/_, _≤_, _<_}
 use native.Mathlib.Nat.{div-le-self, mul-le-mul}
 use native.Mathlib.Decide.{decLe}
@@ -20,7 +21,7 @@ minus-up v y h = is-unique (is-minus (is-self (pos v)) (is-self (pos y))) (is-se
 minus-down : (v y : ℕ) → v < y → pos v -ℤ pos y ≡ negsuc (y - v - 1)
 minus-down v y h = is-unique (is-minus (is-self (pos v)) (is-self (pos y))) (is-self (negsuc (y - v - 1))) (omega arith)
 
--- ---- the first column, and the one after the last
+-- ---- the first column, and the column past the last
 
 from-level : (b : ℤ) (v y : ℕ) → v ≤ y → 0 ≡ edgeFrom (pos v -ℤ pos y) b
 unfolding edgeFrom

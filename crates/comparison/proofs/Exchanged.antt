@@ -1,5 +1,5 @@
--- With the lists exchanged the words for within change places and the other three stay, and the inner one's list is handed back again: both lists pass, so the
--- answer is that of the polygons exchanged.
+-- With the lists exchanged the two words for within are exchanged and the other three stay, and the inner one's list is returned again.
+-- Both lists pass, so the result is that of the exchanged polygons.
 use mathlib.Core.Path.{_≡_, refl, sym, ap, _∙_}
 use mathlib.Core.Bool.{Bool, true, false, false≢true}
 use mathlib.Core.List.{List}
@@ -21,7 +21,7 @@ use Rattle.comparison.specs.Exchanged.{HandedBoth}
 use Rattle.comparison.proofs.Cases.{compared-found}
 
 module _ (a : Point) (es : List ℤ) (b : Point) (fs : List ℤ) where
-  -- An answer tells that nothing refuses either list
+  -- If the comparison is not refused, neither list is
   nestingIn : Nesting → Comparison → Nesting
   nestingIn d (Found v) = v
   nestingIn d (Refused n f) = d
@@ -41,13 +41,13 @@ module _ (a : Point) (es : List ℤ) (b : Point) (fs : List ℤ) where
       go Fit (Unfit f) e = absurd (false≢true (ap isFound e))
       go Fit Fit e = (refl, refl, ap (nestingIn v) e)
 
-  -- The claim, of the word
+  -- The claim for the word
   pub exchanged-found : (v : Nesting) → comparisonOf a es b fs ≡ Found v → comparisonOf b fs a es ≡ Found (exchanged v)
   exchanged-found v e =
       let p = found-parts v e in
       sym (compared-found b fs a es (p .1) (p .0)) ∙ ap Found (nesting-exchanged (polygon a es) (polygon b fs) ∙ ap exchanged (p .2))
 
--- And of the lists that are handed back
+-- The claim for the lists that are returned
 pub exchanged-handed :
     (v : Nesting) (list again first second : RefT (List ℤ)) → HandedBack (nestingFields v) list first second
     → HandedBack (nestingFields (exchanged v)) again second first → HandedBoth v list again first second

@@ -1,4 +1,4 @@
--- A list of numbers, one for each row, that is lowered or raised in one row after another: what was told of the rows passed is in it, and the others are as they were.
+-- A list with one number for each row is lowered or raised row by row: the rows so far have their bounds, and the others are unchanged.
 use Prim.Native.Nat.{ℕ, _+_, _≤_, _<_, min, max}
 use native.Mathlib.Decide.{decLe, decLt}
 use native.Mathlib.Omega.{arith}
@@ -43,7 +43,7 @@ module _ (a b : ℕ) (f : ℕ → ℕ) (d : ℕ) where
       go true = rw (le-ltb r b h)
       go false = refl
 
--- One row more tells the same of every other row
+-- One more row changes nothing for the other rows
 one-more : (a n : ℕ) (f : ℕ → ℕ) (d r : ℕ) → (r ≡ n → ⊥) → inRows a (n + 1) f d r ≡ inRows a n f d r
 unfolding inRows
 one-more a n f d r h = go (ltb r n) refl
@@ -52,7 +52,7 @@ one-more a n f d r h = go (ltb r n) refl
     go true e = rw (e, lt-ltb r (n + 1) (omega (arith, ltb-true r n e)))
     go false e = rw (e, le-ltb r (n + 1) (omega (arith, ltb-false r n e)))
 
--- At the last row, or where there is none, it tells all
+-- After the last row, or if there is none, all rows are done
 all-rows : (a b n : ℕ) (f : ℕ → ℕ) (d r : ℕ) → b ≤ n → n ≤ max (a + 1) b → inRows a n f d r ≡ inRows a b f d r
 all-rows a b n f d r h k =
     elim (decLt a r) [
@@ -66,7 +66,7 @@ all-rows a b n f d r h k =
 
 -- ---- lists
 
--- A number put at n, and the others as they were
+-- A number put at n, with the others unchanged
 module _ (l : List ℕ) (n v : ℕ) (room : n < length l) where
   put-here : (r : ℕ) → r ≡ n → getD (set l n v) r 0 ≡ v
   put-here r e = rw e (getD-set-same l n v 0 room)
@@ -134,7 +134,7 @@ module _ (a : ℕ) (f : ℕ → ℕ) (before : List ℕ) where
   pub high-end : {b n : ℕ} {list : List ℕ} → Raised (inRows a n f 0) before list → b ≤ n → n ≤ max (a + 1) b → Raised (inRows a b f 0) before list
   high-end {b} {n} o h k = record { long = o .long; at = λ r l. o .at r l ∙ ap (max (getD before r 0)) (all-rows a b n f 0 r h k) }
 
--- ---- one row alone
+-- ---- a single row
 
 module _ (f : ℕ → ℕ) (before : List ℕ) (n w : ℕ) (room : n < length before) where
   pub low-one : AllBelow before → f n ≡ min w side → ((r : ℕ) → (r ≡ n → ⊥) → f r ≡ side) → Lowered f before (set before n (min (getD before n 0) w))

@@ -1,4 +1,4 @@
--- A comparison of two taken outlines: nothing refuses their anchors and edges, and the hulls hold the enclosed cells, of which the answer speaks.
+-- A comparison of two taken outlines: nothing refuses their anchors and edges, and the cells of their hulls are the enclosed cells.
 use Prim.Native.Nat.{ℕ, _*_}
 use native.Mathlib.Omega.{arith}
 use mathlib.Core.Path.{_≡_, refl, sym, ap, _∙_}
@@ -32,7 +32,7 @@ pub taken-checked : {o : Outline} {a : Point} {es : List ℤ} → HasEdges o a e
 taken-checked {o} {a} {es} h = checked-fit a es (taken-listed h) (taken-anchored h) (taken-fit h .passes) (taken-fit h .placed)
 
 module _ {o v : Outline} {a b : Point} {es fs : List ℤ} (h : HasEdges o a es) (k : HasEdges v b fs) where
-  -- The answer of two of them
+  -- The result for two of them
   pub outlines-found : comparisonOf a es b fs ≡ Found (nesting (polygon a es) (polygon b fs))
   outlines-found = sym (compared-found a es b fs (taken-checked h) (taken-checked k))
 
@@ -82,7 +82,9 @@ test-has o buffer e =
       edged = sym (edges-first o buffer (t .count) (t .anchor) (t .said)) ∙ ap (λ (v : Verdict). take (2 * verdictFields v .place) (edgesAfter o buffer)) (sym (t .said));
     }
 
--- The claim: of two taken outlines, with the anchors and the edges that their tests return, the comparison is not refused and speaks of the enclosed cells
+-- The claim: for two taken outlines, with the anchors and edges that their tests return, the comparison is not refused, and its word is
+-- about the
+-- enclosed cells
 pub taken-compared :
     (o v : Outline) (first second : List ℤ) → testFields o (length first) .number ≡ 0 → testFields v (length second) .number ≡ 0
     → BlocksNamed o v (comparisonFields (comparisonOf (anchorFrom o first) (edgesFrom o first) (anchorFrom v second) (edgesFrom v second)))

@@ -1,4 +1,4 @@
--- The tests of two pairs of lists, row by row, are those of the polygons whose rows they are.
+-- The tests of two pairs of lists, row by row, are those of the two polygons that have these rows.
 use Prim.Native.Nat.{ℕ, zero, suc, _+_, _≤_, _<_, min, max}
 use native.Mathlib.Omega.{arith}
 use mathlib.Core.Path.{_≡_, refl, _∙_}
@@ -30,7 +30,7 @@ unfolding every
 every-same f g zero h = refl
 every-same f g (suc n) h = rw (every-same f g n (λ r l. h r (omega arith)), h n (omega arith)) refl
 
--- Two runs have no common column where one is empty, or ends before the other begins
+-- Two intervals have no common column if one is empty or ends before the other begins
 pub apart-is : (a b c d : ℕ) → (leb b a || leb d c || leb b c || leb d a) ≡ not (runsMeet a b c d)
 unfolding runsMeet
 apart-is a b c d = go (leb b a) (leb d c) (leb b c) (leb d a) refl refl refl refl
@@ -56,7 +56,7 @@ module _ (f e g h : List ℕ) where
   abbrev apartAt : ℕ → Bool
   apartAt r = not (runsMeet (getD f r 0) (getD e r 0) (getD g r 0) (getD h r 0))
 
-  -- No row, and one row more
+  -- No rows, and one more row
   pub compared-start : record { inward = true; outward = true; apart = true } ≡ comparedTo f e g h 0
   unfolding comparedTo every
   compared-start = refl

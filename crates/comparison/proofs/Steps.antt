@@ -1,4 +1,5 @@
--- A walk on the chart is the walk of the edges for as long as it stays there: a number of the chart is kept as it is, and any other is kept off it.
+-- A walk on the chart equals the walk along the edges while it stays there: numbers of the chart are kept, and any other number stays off
+-- the chart.
 use Prim.Native.Nat.{ℕ, _+_, _<_, _≤_}
 use native.Mathlib.Omega.{arith}
 use mathlib.Core.Path.{_≡_, refl, sym, ap, _∙_}
@@ -73,7 +74,7 @@ kept-walk es z w = go (onChart z w) refl
         rw (← (kept-is z (h .0)), ← (kept-is w (h .1)))
     go false e = corner-off onChart es z w e ∙ sym (corner-off onChart es (pos (kept z)) (pos (kept w)) (same ∙ e))
 
--- ---- a turn of a loop over the edges
+-- ---- an iteration of a loop over the edges
 
 module _ (f : ℤ → ℤ → Bool) (es : List ℤ) (i : ℕ) (x y : ℤ) where
   pub next-corner :
@@ -88,7 +89,7 @@ module _ (f : ℤ → ℤ → Bool) (es : List ℤ) (i : ℕ) (x y : ℤ) where
       go : (fs : List ℤ) → length fs < 2 → everyCorner f fs x y ≡ f x y
       go fs l = short f fs x y l
 
--- The walk stands at a corner cell of the chart after the numbers before i, and what is left stays on the chart
+-- After the numbers before i the walk is at a corner cell of the chart, and the rest of it stays on the chart
 pub record Standing (es : List ℤ) (i : ℕ) (p : Point) : Type 0 where
   pub passed : i ≤ length es
   pub rest : cornersOnChart (drop i es) (pos (p .col)) (pos (p .row)) ≡ true
@@ -96,7 +97,7 @@ pub record Standing (es : List ℤ) (i : ℕ) (p : Point) : Type 0 where
 pub standing-start : (es : List ℤ) (p : Point) → cornersOnChart es (pos (p .col)) (pos (p .row)) ≡ true → Standing es 0 p
 standing-start es p e = record { passed = omega arith; rest = e }
 
--- The cell where it stands is on the chart
+-- The current cell is on the chart
 pub standing-here : {es : List ℤ} {i : ℕ} {p : Point} → Standing es i p → (p .col < side) × (p .row < side)
 unfolding cornersOnChart
 standing-here {p = p} s = go (place (pos (p .col)) (pos (p .row)) (every-met onChart Met.start (s .rest)))
@@ -104,7 +105,7 @@ standing-here {p = p} s = go (place (pos (p .col)) (pos (p .row)) (every-met onC
     go : Place (pos (p .col)) (pos (p .row)) → (p .col < side) × (p .row < side)
     go h = omega (arith, ap up (h .isCol), ap up (h .isRow), h .colBelow, h .rowBelow)
 
--- One edge further: the cell reached is that of the walk of the edges
+-- After one more edge the cell is that of the walk along the edges
 pub record Further (es : List ℤ) (i : ℕ) (p q : Point) : Type 0 where
   pub stands : Standing es (i + 2) q
   pub isCol : pos (p .col) +ℤ getD es i (pos 0) ≡ pos (q .col)
@@ -124,7 +125,7 @@ standing-further {es} {i} {p} s h =
       isRow = kept-is w (n .1);
     }
 
--- What is left of the walk stays on the chart exactly if all of it does
+-- The rest of the walk stays on the chart exactly if all of it does
 pub record Leaving (es : List ℤ) (a : Point) (i : ℕ) (p : Point) : Type 0 where
   pub passed : i ≤ length es
   pub left : cornersOnChart es (pos (a .col)) (pos (a .row)) ≡ cornersOnChart (drop i es) (pos (p .col)) (pos (p .row))

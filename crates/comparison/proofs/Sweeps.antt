@@ -1,4 +1,5 @@
--- A walk along the edges tells of each row what its corner cells and edges tell: what the lists hold and what is still to come are the whole.
+-- The walk gives for each row the bounds of its corner cells and edges: the lists so far, together with the rest of the walk, give all of
+-- them.
 use Prim.Native.Nat.{ℕ, _+_, _≤_, _<_, min, max}
 use native.Mathlib.Omega.{arith}
 use mathlib.Core.Path.{_≡_, refl, sym, ap, _∙_}
@@ -66,7 +67,7 @@ module _ {es : List ℤ} {i : ℕ} {p q : Point} (f : Further es i p q) where
         rise-is dx dy (p .col) (p .row) (q .col) (q .row) r (f .isCol) (f .isRow),
       ) refl
 
-  -- The walk from p is the corner cell, the edge, and the walk from q
+  -- The walk from p is the corner cell p, the edge, and the walk from q
   from-next : (r : ℕ) → i + 1 < length es
       → sweptFrom (drop i es) (pos (p .col)) (pos (p .row)) r ≡ min (min (metFrom p r) (risenFrom p q r)) (sweptFrom (drop (i + 2) es) (pos (q .col)) (pos (q .row)) r)
   unfolding sweptFrom metFrom
@@ -77,7 +78,7 @@ module _ {es : List ℤ} {i : ℕ} {p q : Point} (f : Further es i p q) where
   unfolding sweptTo metTo
   to-next r h = rw (drop-two es i h, fall-told r, f .isCol, f .isRow) refl
 
--- What is left of the walk at its end is a corner cell
+-- At the end of the walk only a corner cell is left
 from-last : (es : List ℤ) (p : Point) (r : ℕ) → length es < 2 → sweptFrom es (pos (p .col)) (pos (p .row)) r ≡ metFrom p r
 unfolding sweptFrom metFrom
 from-last [] p r h = refl

@@ -1,4 +1,5 @@
--- The words of a comparison name the statement that holds: past the refusals by the theorem of the five statements, and a refusal has no word.
+-- The word of a comparison names the statement that holds: by the theorem of the five statements if nothing is refused, and a refusal has
+-- no word.
 use Prim.Native.Nat.{ℕ, _<_}
 use native.Mathlib.Omega.{arith}
 use mathlib.Core.Path.{_≡_, refl, sym, ap, _∙_}
@@ -41,7 +42,7 @@ refusal-number BadList = omega arith
 refusal-number Cell = omega arith
 refusal-number Directions = omega arith
 
--- Each word is one answer's
+-- Each word belongs to one result
 word-above : (v : Nesting) → 0 < nestingFields v .word
 word-above Equal = omega arith
 word-above FirstWithin = omega arith
@@ -81,12 +82,12 @@ module _ (a : Point) (es : List ℤ) (b : Point) (fs : List ℤ) where
   unfolding comparisonOf
   cells-named = named (checkedOf a es) (checkedOf b fs) refl refl
 
-  -- So does whatever is that answer
+  -- The same for anything equal to that result
   pub answer-named :
       (c : Comparison) → c ≡ comparisonOf a es b fs → (c ≡ comparisonOf a es b fs) × CellsNamed (polygon a es) (polygon b fs) (comparisonFields c)
   answer-named c e = (e, rw e cells-named)
 
--- The piece of a reply names the list that goes with the answer
+-- The piece of a reply names the list that comes with it
 abbrev pub pieceBy : Handed → ℕ
 pieceBy First = 1
 pieceBy Second = 2

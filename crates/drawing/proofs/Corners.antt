@@ -1,4 +1,4 @@
--- The points of a walk that stays on the chart are its corner cells: each line leads to the next of them, and the hull of the points is theirs.
+-- If a walk stays on the chart, its points are its corner cells: each line leads to the next one, and both have the same hull.
 use Prim.Native.Nat.{ℕ, _+_, _*_}
 use mathlib.Core.Path.{_≡_, refl, sym, ap, ap₂, subst, subst₂}
 use mathlib.Core.Logic.{_↔_, ⊎-elim}
@@ -28,7 +28,7 @@ point-cell c = rw (c .col-is, c .row-is)
 
 -- ---- the lines
 
--- The cells at which the edges end, but for the last
+-- The cells where the edges end, without the last
 unfoldable pub endsFrom : List ℤ → ℤ → ℤ → List Point
 endsFrom [] x y = []
 endsFrom (dx ∷ []) x y = []
@@ -36,7 +36,7 @@ endsFrom (dx ∷ dy ∷ []) x y = []
 endsFrom (dx ∷ dy ∷ ex ∷ []) x y = []
 endsFrom (dx ∷ dy ∷ ex ∷ ey ∷ es) x y = point (x +ℤ dx) (y +ℤ dy) ∷ endsFrom (ex ∷ ey ∷ es) (x +ℤ dx) (y +ℤ dy)
 
--- Every corner cell is one of the chart
+-- Every corner cell is on the chart
 abbrev pub Stays : List ℤ → ℤ → ℤ → Type 0
 Stays es x y = (u v : ℤ) → Met es x y u v → IsCell u v
 
@@ -48,7 +48,7 @@ lines-are (dx ∷ dy ∷ []) x y s = refl
 lines-are (dx ∷ dy ∷ ex ∷ []) x y s = refl
 lines-are (dx ∷ dy ∷ ex ∷ ey ∷ es) x y s = ap₂ _∷_ (line-cell (s _ _ (after start))) (lines-are (ex ∷ ey ∷ es) (x +ℤ dx) (y +ℤ dy) (λ u v m. s u v (after m)))
 
--- Behind an edge: the ends, and where the walk comes to
+-- After an edge: the ends, and where the walk arrives
 corners-behind :
     (dx dy : ℤ) (es : List ℤ) (x y : ℤ) → Stays (dx ∷ dy ∷ es) x y
     → cornersFrom es (x +ℤ dx) (y +ℤ dy) ≡ map cellOf (endsFrom (dx ∷ dy ∷ es) x y) ++ ((reached (colSteps es) (x +ℤ dx), reached (rowSteps es) (y +ℤ dy)) ∷ [])
@@ -97,7 +97,7 @@ record PointAt (ps : List Point) (u v : ℤ) : Type 0 where
 point-at : {ps : List Point} {u v : ℤ} (p : Point) → List·Memᴰ p ps → cellOf p ≡ (u, v) → PointAt ps u v
 point-at p l e = record { point = p; listed = l; col = ap (λ (c : Cell). c .0) e; row = ap (λ (c : Cell). c .1) e }
 
--- A mean of three whole numbers that are not negative
+-- A mean of three natural numbers
 mean :
     (i j k c p q t : ℕ) {u v w : ℤ} → pos p ≡ u → pos q ≡ v → pos t ≡ w → pos (i + j + k) *ℤ pos c ≡ pos i *ℤ u +ℤ pos j *ℤ v +ℤ pos k *ℤ w
     → (i + j + k) * c ≡ i * p + j * q + k * t
@@ -123,7 +123,7 @@ module _ (a : Point) (es : List ℤ) (ps : List Point) (met : corners a es ≡ m
       listed-met es (pos (a .col)) (pos (a .row))
       (subst (λ (cs : List Cell). List·Memᴰ (cellOf p) cs) (sym met) (Memᴰ·append-left (again a es) (Memᴰ·map cellOf m)))
 
-  -- So both have one hull
+  -- So both have the same hull
   pub hull-iff : (x : Point) → CornersHold a es x ↔ InHullOf (a ∷ ps) x
   hull-iff x = (to, of)
     where

@@ -1,4 +1,4 @@
--- A number of 16 bits and one half has 17 binary digits, of which the last is worth one half: a float has room for 24, so nothing is rounded.
+-- A 16-bit number plus one half has 17 binary digits. A float has 24, so nothing is rounded.
 use Prim.Native.Nat.{ℕ, _+_, _*_, _^_, _<_}
 use native.Mathlib.Nat.{lt-of-lt-of-le, eq-of-mul-eq-mul-right}
 use native.Mathlib.Omega.{arith}
@@ -17,7 +17,7 @@ use Rattle.rounding.proofs.Operations.{ofInt-pos}
 use Rattle.drawing.specs.Points.{half}
 use Rattle.drawing.specs.Claims.{Raised}
 
--- ---- a fraction a / d that is n, and one half, over the divisor d * 2; p is one half in units
+-- ---- a fraction a / d that equals n, plus one half, with the denominator d * 2; p is one half in units
 
 over-two : (a d n p : ℕ) → a * 1 ≡ n * d → (a * 2 + 1 * d) * (p * 2) ≡ (2 * n + 1) * p * (d * 2)
 over-two a d n p e = omega (arith, ap (λ (z : ℕ). z * p) e)
@@ -38,7 +38,7 @@ module _ (n : ℕ) (small : n < 2 ^ 16) where
   reduced (inf s) a d D e h = absurd h
   reduced (fin s m j) a d D e h = (h .0, in-units (m * up j) (down j) n (2 ^ 148) (in-halves (m * up j) (down j) a d n D e (h .1)))
 
-  -- The sum is rounded to itself
+  -- The sum is a float, so rounding keeps it
   rounded : (a d : ℕ) → 0 < d → a * 1 ≡ n * d → HasValue (round binary32 false (a * 2 + 1 * d) (d * 2)) false ((2 * n + 1) * 2 ^ 148) (2 ^ 149)
   rounded a d D e =
       reduced (round binary32 false (a * 2 + 1 * d) (d * 2)) a d D e

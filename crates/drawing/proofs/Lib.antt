@@ -1,4 +1,4 @@
--- Halves are exact; the walk to a position; what stands at each; points and corner cells; outlines; a pair in a lent list; specimens.
+-- Halves are exact; the walk to a position; the command at each position; points and corner cells; outlines; a pair in a buffer; specimens.
 pub mod Halves
 pub mod Walks
 pub mod Positions

@@ -1,4 +1,4 @@
--- A pair at the front of a list is two stores there, where the list has two numbers.
+-- A pair at the front of a list is two stores, if the list has room for two numbers.
 use Prim.Native.Nat.{_≤_, _<_}
 use native.Mathlib.Omega.{arith}
 use mathlib.Core.Path.{_≡_, refl}

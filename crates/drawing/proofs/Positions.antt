@@ -1,4 +1,4 @@
--- Which piece stands at which position, for every anchor and list: there are as many lines as edges, less one.
+-- Which path command is at which position, for every anchor and list: there is one line fewer than edges.
 use Prim.Native.Nat.{ℕ, zero, suc, _-_, _/_, _<_, max}
 use native.Mathlib.Omega.{arith}
 use mathlib.Core.Path.{_≡_, refl, ap, _∙_}
@@ -25,7 +25,7 @@ lines-length (dx ∷ dy ∷ ex ∷ ey ∷ es) x y = omega (arith, lines-length (
 abbrev pub lineToCell : Cell → Stroke
 lineToCell c = lineTo (c .0) (c .1)
 
--- Line n leads to the corner cell that is reached after n + 1 edges
+-- Line n leads to the corner cell reached after n + 1 edges
 lines-at : (es : List ℤ) (x y : ℤ) (n : ℕ) (d : Cell) → suc n < length es / 2 → getD (linesFrom es x y) n None ≡ lineToCell (getD (cornersFrom es x y) (suc n) d)
 unfolding linesFrom cornersFrom
 lines-at [] x y n d h = absurd (omega arith)
@@ -40,7 +40,7 @@ module _ (a : Point) (es : List ℤ) where
   pub position-move : strokeAt a es 0 ≡ Move a
   position-move = stroke-first a es
 
-  -- Then, for each edge but the last, a line to the corner cell that is reached after n edges
+  -- Then, for each edge but the last, a line to the corner cell reached after n edges
   pub position-line : (n : ℕ) → 0 < n → n < length es / 2 → strokeAt a es n ≡ lineToCell (getD (corners a es) n (cellOf a))
   unfolding strokeFrom
   position-line zero l h = absurd (omega arith)
@@ -49,7 +49,7 @@ module _ (a : Point) (es : List ℤ) where
       ∙ List·getD-append (linesFrom es (pos (a .col)) (pos (a .row))) (Close ∷ []) None n (omega (arith, lines-length es (pos (a .col)) (pos (a .row))))
       ∙ lines-at es (pos (a .col)) (pos (a .row)) n (cellOf a) h
 
-  -- Then close: behind the last line, or behind the move where there is no line
+  -- Then the close: after the last line, or after the move if there is no line
   pub position-close : strokeAt a es (max 1 (length es / 2)) ≡ Close
   unfolding strokeFrom
   position-close =

@@ -1,4 +1,4 @@
--- The walk to a position, edge by edge: the piece there of the edges that are left is the one wanted of all.
+-- The walk to a position, edge by edge: the wanted command is always the one at the remaining position of the remaining edges.
 use Prim.Native.Nat.{ℕ, zero, suc, _+_, _-_, _*_, _^_, _≤_, _<_}
 use native.Mathlib.Omega.{arith}
 use mathlib.Core.Path.{_≡_, refl, ap, _∙_}
@@ -30,7 +30,7 @@ lines-short (dx ∷ dy ∷ ex ∷ ey ∷ es) x y h = absurd (omega arith)
 
 -- ---- what is left of a drawing
 
--- The piece at a position of the lines of a walk from (x, y), and close
+-- The command at a position of the lines of a walk from (x, y), followed by a close
 unfoldable pub strokeFrom : List ℤ → ℤ → ℤ → ℕ → Stroke
 strokeFrom es x y n = getD (linesFrom es x y ++ (Close ∷ [])) n None
 
@@ -60,7 +60,7 @@ past (suc n) h = refl
 
 -- ---- the loop
 
--- The walk stands at (x, y) behind i numbers of the list. The piece s is n positions further, and the numbers stay small until then
+-- The walk is at (x, y) after i numbers of the list. The command s is n positions further, and the numbers stay small until then
 pub record Walked (es : List ℤ) (s : Stroke) (x y : ℤ) (n i : ℕ) : Type 0 where
   pub piece : s ≡ strokeFrom (drop i es) x y n
   pub col : natAbs x + 32768 * n ≤ 2 ^ 32

@@ -1,4 +1,6 @@
--- "Inside" and "outside" agree with exactly inside, since no computed side value is 1/64 off: one at most -1/64 has an exact value below 0, and one from 1/64 on has one above.
+-- "Inside" and "outside" agree with exactly inside, because rounding moves a side value by less than 1/64: if the computed one is at most
+-- -1/64,
+-- the exact one is below 0, and if it is at least 1/64, the exact one is above 0.
 use Prim.Native.Nat.{ℕ, _^_}
 use mathlib.Core.Path.{_≡_, refl, sym, ap, _∙_, subst}
 use mathlib.Core.Logic.{_↔_, _⊎_, inl, inr, ⊎-elim}
@@ -30,18 +32,18 @@ use Rattle.readings.proofs.Side.{Close, side-close}
 use Rattle.readings.proofs.Edges.{stays-small}
 use Rattle.readings.proofs.Apart.{far-negative, beyond-positive, inner-beyond, outer-far, level-near}
 
--- The reading of two bit patterns has values of 32 bits
+-- The reading of two bit patterns has 32-bit floats
 pub patterns-held : (x y : ℕ) → Held (readingOf x y)
 unfolding readingOf
 patterns-held x y = record { angle = ofBits-fits binary32 x; load = ofBits-fits binary32 y }
 
 -- ---- the answer by its tests
 
--- 11; the walk stays on the chart; within the extremes; far from some edge; near some edge
+-- 11; the walk stays on the chart; between the extremes; far outside some edge; near some edge
 answer : Bool → Bool → Bool → Bool → Bool → Located
 answer b s w f n = cond b Refused (cond s (cond (w && not f) (cond n Undecided Inside) Outside) Outside)
 
--- What an answer says of the tests
+-- What an answer says about the tests
 abbrev Says : Located → Bool → Bool → Bool → Bool → Bool → Type 0
 Says Inside b s w f n = (b ≡ false) × (s ≡ true) × (w ≡ true) × (f ≡ false) × (n ≡ false)
 Says Outside b s w f n = (b ≡ false) × ((s ≡ false) ⊎ ((w ≡ false) ⊎ (f ≡ true)))
@@ -101,7 +103,7 @@ module _ (a : Point) (es : List ℤ) (r : Reading) (held : Held r) (good : badRe
   pub computed-close : (e : Edge) → List·Memᴰ e (edgesAlong a es) → Close (computedSide r e) (exactSide r e)
   computed-close e m = side-close r e (good-numbers .0) (good-numbers .1) (stays-small a es on e m)
 
-  -- The two comparisons, in units
+  -- The two comparisons, in units of 2 ^ -149
   pub far-value : (e : Edge) → List·Memᴰ e (edgesAlong a es) → far r e ≡ leZ (value binary32 (computedSide r e)) (negℤ (pos sixtyFourth))
   unfolding far
   far-value e m = rw low-is at (le-value binary32 (computedSide r e) (fin true 1 (negsuc 5)) (computed-close e m .exact) low-exact)
@@ -146,7 +148,7 @@ module _ (a : Point) (es : List ℤ) (r : Reading) (held : Held r) where
     -- ---- when the answer is "undecided"
 
     module _ (good : badReading r ≡ false) where
-      -- The extremes hold it, every computed side value is above -1/64, and some one is below 1/64
+      -- It lies within the extremes, every computed side value is above -1/64, and some is below 1/64
       pub undecided-iff : (locatedOf a es r ≡ Undecided) ↔ Open a es r
       unfolding locatedOf sided
       undecided-iff = (
@@ -168,18 +170,18 @@ module _ (a : Point) (es : List ℤ) (r : Reading) (held : Held r) where
             rw (good, on, o .within, none-far, some),
       )
 
-      -- It decides wherever all exact values reach 1/32
+      -- The answer is decided if all exact values are at least 1/32
       pub decided-inside : ((e : Edge) → List·Memᴰ e (edgesAlong a es) → leZ (pos (2 ^ 144)) (exactSide r e) ≡ true) → locatedOf a es r ≡ Undecided → ⊥
       decided-inside h e =
           let o = undecided-iff .0 e in
           true≢false (sym (inner-beyond sixtyFourth (value binary32 (computedSide r (o .edge))) (exactSide r (o .edge)) (computed-close a es r held good on (o .edge) (o .met) .near) (h (o .edge) (o .met))) ∙ o .close)
 
-      -- Nor where one is -1/32 or less
+      -- It is decided too if one is at most -1/32
       pub decided-outside : (e : Edge) → List·Memᴰ e (edgesAlong a es) → leZ (exactSide r e) (negℤ (pos (2 ^ 144))) ≡ true → locatedOf a es r ≡ Undecided → ⊥
       decided-outside e m h u =
           true≢false (sym (outer-far sixtyFourth (value binary32 (computedSide r e)) (exactSide r e) (computed-close a es r held good on e m .near) h) ∙ undecided-iff .0 u .none-far e m)
 
-      -- Always on an edge of what is exactly inside
+      -- On an edge of what is exactly inside it is always undecided
       pub undecided-on-edge : exactlyInside a es r ≡ true → (e : Edge) → List·Memᴰ e (edgesAlong a es) → exactSide r e ≡ pos 0 → locatedOf a es r ≡ Undecided
       unfolding exactlyInside
       undecided-on-edge i e m z =
@@ -195,7 +197,7 @@ module _ (a : Point) (es : List ℤ) (r : Reading) (held : Held r) where
             close = level-near sixtyFourth (value binary32 (computedSide r e)) (exactSide r e) (computed-close a es r held good on e m .near) z;
           })
 
-      -- All of it
+      -- All claims together
       pub answers : Answers a es r
       answers =
           record {

@@ -1,5 +1,6 @@
--- Two kinds of hull. Without an edge the extremes are the cell itself, so they alone decide. A flat one has two opposite edges, whose side values are opposite
--- too: on its line both are 0.
+-- Two kinds of hull. Without edges the extremes are the cell itself, so they decide alone. A flat hull has two opposite edges with opposite
+-- side
+-- values: on its line both are 0.
 use native.Mathlib.Omega.{arith}
 use mathlib.Core.Path.{_≡_, refl, sym, ap, _∙_}
 use mathlib.Core.Bool.{true, false, and-eq-true-iff}
@@ -66,7 +67,7 @@ back-side f dx dy x y X Y =
     rw (units-plus f x dx, units-plus f y dy, minus-plus X (inUnits f x) (inUnits f dx), minus-plus Y (inUnits f y) (inUnits f dy))
     (back-ring dx dy (X -ℤ inUnits f x) (Y -ℤ inUnits f y) (inUnits f dx) (inUnits f dy) (units-times f dy dx ∙ ap (inUnits f) (*ℤ-comm dy dx) ∙ sym (units-times f dx dy)))
 
--- On its line and within its extremes every reading is undecided
+-- On its line and between its extremes every reading is undecided
 pub flat-undecided :
     (a : Point) (dx dy : ℤ) (r : Reading) → Held r → badReading r ≡ false →
     let es = dx ∷ dy ∷ negℤ dx ∷ negℤ dy ∷ [] in

@@ -1,4 +1,6 @@
--- A number that is not refused is finite, so it has a value in units; floats compare as values do, and a cell's number is a float, exactly.
+-- A number that is not refused is finite, so it has a value in units of 2 ^ -149. Floats compare as their values do, and a cell's number is
+-- exactly
+-- a float.
 use Prim.Native.Nat.{ℕ, _*_, _^_, _≤_, _<_}
 use native.Mathlib.Nat.{le-of-suc-le-suc, lt-of-le-of-lt}
 use mathlib.Core.Path.{_≡_, refl}
@@ -60,7 +62,7 @@ bad-is (fin s m e) held =
     let h = fits-exact binary32 x tt held in
     rw (le-value binary32 zero x zero-exact h, le-value binary32 x last h last-exact, zero-is, last-is) refl
 
--- Of a reading neither number is refused
+-- Neither number of the reading is refused
 pub good-both : (r : Reading) → badReading r ≡ false → (badNumber (r .angle) ≡ false) × (badNumber (r .load) ≡ false)
 unfolding badReading
 good-both r g = go (badNumber (r .angle)) (badNumber (r .load)) g
@@ -102,7 +104,7 @@ cell-of z h = let p = number z h in record { n = p .0; is = p .1; small = le-of-
 pub cell-size : {z : ℤ} → Cell z → natAbs z ≤ 254
 cell-size c = rw (c .is) (c .small)
 
--- It fits 16 bits with a sign
+-- It fits a signed 16-bit number
 pub cell-fits : (z : ℤ) → chartNumber z ≡ true → SFits w16 z
 cell-fits z h = fits-size w16 z (lt-of-le-of-lt (cell-size (cell-of z h)) (lit≤ tt))
 

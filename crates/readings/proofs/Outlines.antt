@@ -1,4 +1,6 @@
--- The walk of a taken outline's edges stays on the chart, and at a cell's centre its edges answer for the block: so the readings agree with the enclosed cells.
+-- The walk along a taken outline's edges stays on the chart, and at a cell's centre its edges decide whether the cell is in the block. So
+-- readings
+-- agree with the enclosed cells.
 use Prim.Native.Nat.{_<_}
 use mathlib.Core.Path.{_≡_, refl, sym, _∙_}
 use mathlib.Core.Logic.{inl, inr}
@@ -54,7 +56,7 @@ module _ (o : Outline) (straight : NoBackStep o) where
       let (v, w, c, off) = vertex-is-cell o (shape o straight) Off m in
       true≢false (sym (on-cell c) ∙ off))
 
-  -- What is claimed of a reading holds with the edges of every outline that has no back-step
+  -- What is claimed of a reading holds with the edges of every outline without a back-step
   pub outline-answers : (r : Reading) → Held r → badReading r ≡ false → Answers (o .start) (edges o) r
   outline-answers r held good = answers (o .start) (edges o) r held edges-stay good
 

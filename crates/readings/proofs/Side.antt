@@ -1,5 +1,8 @@
--- Rounding moves a side value by less than 1/64. In units let E be 2 ^ 132, and U one, 2 ^ 149. Each difference, below 256 U, may be off by E; its
--- product, below 65536 U, by 254 E for that and 256 E more; the last difference, below 131072 U, by 512 E more: 2 * (254 + 256) + 512 = 1532, and 1/64 is 2048 E.
+-- Rounding moves a side value by less than 1/64. In units of 2 ^ -149, let E be 2 ^ 132 and U be 2 ^ 149, which is 1. Each difference,
+-- below
+-- 256 U, has an error of at most E. Its product, below 65536 U, has 254 E from that and 256 E of its own. The last difference, below 131072
+-- U,
+-- adds 512 E. In all 2 * (254 + 256) + 512 = 1532, and 1/64 is 2048 E.
 use Prim.Native.Nat.{ℕ, _+_, _*_, _^_, _≤_, _<_}
 use native.Mathlib.Nat.{mul-le-mul, mul-le-mul-right}
 use native.Mathlib.Omega.{arith}
@@ -17,7 +20,7 @@ use Rattle.calls.specs.declared.Reading.{Reading}
 use Rattle.readings.specs.Sides.{Edge, exactSide, computedSide}
 use Rattle.readings.proofs.Numbers.{Good, Cell, few-digits, cell-size, small-exact, small-is}
 
--- ---- a reading's number less a cell's
+-- ---- a reading's number minus a cell's
 
 -- The exact difference
 apart : (X : Float) (x : ℤ) → Good X → Cell x → natAbs (value binary32 X -ℤ inUnits binary32 x) ≤ 254 * 2 ^ 149
@@ -41,9 +44,9 @@ difference X x p q =
     below : (n U P : ℕ) → n ≤ 254 * U → P ≡ 256 * U → 0 < U → n < P
     below n U P h p u = omega arith
 
--- ---- times an edge's step
+-- ---- the product with an edge's step
 
--- y stands for that difference, and z for its exact value
+-- y is the computed difference, and z its exact value
 product : (d : ℤ) (y : Float) (z : ℤ) → natAbs d ≤ 254 → natAbs z ≤ 254 * 2 ^ 149 → Near binary32 y z (2 ^ 132)
     → Near binary32 (mul binary32 (ofInt binary32 d) y) (d *ℤ z) (510 * 2 ^ 132)
 product d y z small high h =

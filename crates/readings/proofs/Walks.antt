@@ -1,5 +1,6 @@
--- The walk, edge by edge, ends with the answer: what was met so far and what is yet to be met are tested apart, since a lowest number is at most x where one of the numbers
--- met is.
+-- The walk ends with the answer, by induction over the edges. What was met and what is still to come can be tested apart: the lowest number
+-- is at
+-- most x exactly if some number is.
 use Prim.Native.Nat.{ℕ, _+_, _≤_, _<_}
 use native.Mathlib.Omega.{arith}
 use mathlib.Core.Path.{_≡_, refl, sym, _∙_}
@@ -39,7 +40,7 @@ under v z = leZ (inUnits binary32 z) (value binary32 v)
 abbrev over : Float → ℤ → Bool
 over v z = leZ (value binary32 v) (inUnits binary32 z)
 
--- The lower and the higher of two numbers, in units
+-- The minimum and the maximum of two numbers, in units
 pick-units : (t : Bool) (a b : ℤ) → inUnits binary32 (cond t a b) ≡ cond t (inUnits binary32 a) (inUnits binary32 b)
 pick-units true a b = refl
 pick-units false a b = refl
@@ -56,7 +57,7 @@ max-over a b v =
     rw pick-units
     (rw (sym (units-le binary32 a b)) (max-at-least (inUnits binary32 a) (inUnits binary32 b) (value binary32 v)))
 
--- Between what was met, and what steps from x meet
+-- Between the numbers met so far and those that the steps from x meet
 betweenFrom : Met → List ℤ → ℤ → Float → Bool
 betweenFrom m ds x v = (m .under || meets (under v) ds x) && (m .over || meets (over v) ds x)
 
@@ -74,7 +75,7 @@ between-end m x v = simp or-false
 
 -- ---- both coordinates
 
--- What the walk answers of the edges that are left
+-- The answer of the walk for the remaining edges
 abbrev pub after : Passed → (Walk → Located) → Located
 after Out f = Outside
 after (On w) f = f w
@@ -95,7 +96,7 @@ whole es w r =
     (any (far r) (edgesFrom es (w .x) (w .y)))
     (w .near || any (near r) (edgesFrom es (w .x) (w .y)))
 
--- One edge more: its tests join those of the rest
+-- One more edge: its tests join those of the rest
 one-more :
     (t f s b g m n k : Bool) (w : Walk) (F : Walk → Located) → F w ≡ answer s b g ((m || n) || k)
     → after (cond t (cond f Out (On w)) Out) F ≡ answer (t && s) b (f || g) (m || (n || k))
@@ -123,7 +124,7 @@ from-whole (dx ∷ dy ∷ es) w r =
     (one-more (onChart x y) (far r e) (all endsOn rest) (betweenFrom (w′ .cols) (colSteps es) x (r .angle) && betweenFrom (w′ .rows) (rowSteps es) y (r .load))
     (any (far r) rest) (w .near) (near r e) (any (near r) rest) w′ (λ w′. from es w′ r) (from-whole es w′ r))
 
--- The walk from an anchor on the chart finds where a reading that is not refused lies
+-- The walk from an anchor on the chart locates a reading that is not refused
 pub walk-locates :
     (a : Point) (es : List ℤ) (r : Reading) → badReading r ≡ false → onChart (pos (a .col)) (pos (a .row)) ≡ true
     → from es (begun (pos (a .col)) (pos (a .row)) r) r ≡ locatedOf a es r
@@ -145,9 +146,9 @@ pub located-off : (a : Point) (es : List ℤ) (r : Reading) → badReading r ≡
 unfolding locatedOf staysOn
 located-off a es r g b = rw (g, not-true (onChart (pos (a .col)) (pos (a .row))) (sym (bad-cell a) ∙ b))
 
--- ---- a turn of the loop
+-- ---- an iteration of the loop
 
--- One edge further
+-- One more edge
 pub from-edge :
     (es : List ℤ) (i : ℕ) (w : Walk) (r : Reading) → i + 1 < length es
     → from (drop i es) w r ≡ after (passed w (getD es i (pos 0)) (getD es (i + 1) (pos 0)) r) (λ w′. from (drop (i + 2) es) w′ r)

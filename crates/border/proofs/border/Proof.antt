@@ -1,4 +1,4 @@
--- Each refusal is a case of the definition, by the tests that led there; what is left is traced.
+-- Each refusal is a case of the definition, by the tests that led there. What passes them is traced.
 use mathlib.Core.Path.{_≡_, sym, _∙_}
 use mathlib.Core.Bool.{false}
 use Rattle.directions.specs.Increasing.{badDirections}

@@ -1,4 +1,4 @@
--- After i turns the first i letters are the list's, and the rest is the lent list's.
+-- After i iterations the first i letters are the list's, and the rest is the buffer's own.
 use Prim.Native.Nat.{ℕ, _-_, _≤_}
 use native.Mathlib.Nat.{zero-add}
 use native.Mathlib.Numerals.{add-one}
@@ -22,7 +22,7 @@ loop-holds c = (omega arith, paste-zero _ 0 (c .args .list .now))
 shared-slice-read-letters : tie.Need-shared-slice-read-letters Inv-loop μ-loop
 shared-slice-read-letters c = omega (arith, c .before .before .before .pre, c .before .loop-test .taken)
 
--- The lent list keeps its length
+-- The buffer keeps its length
 kept : (c : tie.At-loop Inv-loop μ-loop) → length (c .loop .letters) ≡ length (c .before .args .letters .now)
 kept c =
     let s = c .before in

@@ -1,4 +1,4 @@
--- What was counted, and what the edges still to come add, stay the same in all.
+-- The count so far, plus what the remaining edges add, is constant.
 use Prim.Native.Nat.{_+_, _-_, _*_, _≤_}
 use native.Mathlib.Omega.{arith}
 use mathlib.Core.Path.{_≡_, refl}
@@ -59,7 +59,7 @@ add-i c = omega (arith, c .before .before .before .before .before .loop .inv)
 loop-less : tie.Need-loop-less Inv-loop μ-loop
 loop-less c = omega arith
 
--- The sizes of the turn's two numbers
+-- The absolute values of the two numbers of this iteration
 cols-are :
     (c : tie.After-size Inv-loop μ-loop) →
     let l = c .before .before .before .before in

@@ -1,4 +1,4 @@
--- A refusal is no taking; else the anchor and the edges that the test gives are compared.
+-- A refused outline is not taken. Otherwise the anchor and the edges that the test gives are compared.
 use Prim.Native.Nat.{_*_, _≤_}
 use native.Mathlib.Omega.{arith}
 use mathlib.Core.Path.{_≡_, sym, _∙_}
@@ -41,7 +41,7 @@ mul-n c = search needs
 same-point-requires : tie.Need-same-point-requires
 same-point-requires c κs = search needs
 
--- What the test says, with a list of zeros
+-- The test's verdict, with a buffer of zeros
 module _ (c : tie.After-test) where
   abbrev sent : Outline
   sent = let a = c .before .before .before .args in outline (a .anchor) (a .letters .now)
@@ -52,7 +52,7 @@ module _ (c : tie.After-test) where
   list : c .test .last .1 .1 .0 ≡ edgesAfter sent zeros
   list = c .test .ensures .1 .1 .0
 
--- Of an outline that is taken
+-- For an outline that is taken
 module _ (c : tie.After-verdict) where
   abbrev tested : tie.After-test
   tested = c .before .before .before

@@ -1,4 +1,5 @@
--- Each return is a case of the border call: too many letters, letters that are not taken with this anchor and these edges, no room, and the letters.
+-- Each return is a case of the border call: too many letters, letters that are not taken with this anchor and these edges, no room, and
+-- success.
 use native.Mathlib.Omega.{arith}
 use mathlib.Core.Path.{sym, _∙_}
 use lib.Seq.{length-take-le}

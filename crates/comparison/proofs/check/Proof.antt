@@ -1,4 +1,4 @@
--- Each return is a case of the definition; past refusal 10 the list is short enough for 16 to be said of it.
+-- Each return is a case of the definition. After refusal 10 the list is short enough to check 16.
 use mathlib.Core.Path.{_≡_, sym, _∙_}
 use mathlib.Core.Bool.{false}
 use borrow.Author.Tests.{not-true, not-false}

@@ -1,4 +1,4 @@
--- The reply is that of the relation, which also decides the list that is handed back: its piece names that list.
+-- The reply is that of the relation, which also decides the list that is returned. The reply's piece names that list.
 use mathlib.Core.Path.{_≡_, refl, sym, ap, _∙_}
 use Rattle.chart.specs.declared.Fields.{Fields}
 use Rattle.chart.specs.declared.Comparison.{Comparison}
@@ -22,7 +22,7 @@ written c = c .write .ensures .1 ∙ seven-written _ _ (c .before .write-arg .gi
 fields : (c : tie.After-write) → fieldsOf (c .write .last .1 .0) ≡ comparisonFields (found c)
 fields c = ap fieldsOf (written c) ∙ read-back (comparisonFields (found c))
 
--- The reply of the definition, whose words name what holds of the cells
+-- The reply of the definition, whose word names what holds for the cells
 replied :
     (c : tie.After-write) →
     let s = c .before .before .before .before .args in
@@ -32,7 +32,7 @@ replied c =
     let r = c .before .before .before .relate in
     (written c ∙ ap (λ (v : Comparison). numbersOf (comparisonFields v)) (r .ensures .0), rw (fields c) (r .ensures .1))
 
--- The piece of the reply, by the arm of the list that is handed back
+-- The piece of the reply, by the list that is returned
 piece-is : (c : tie.After-inner) (h : Handed) → c .inner .result ≡ h → fieldsOf (c .before .write .last .1 .0) .piece ≡ pieceBy h
 piece-is c h e =
     ap (λ (f : Fields). f .piece) (fields (c .before)) ∙ handed-piece (found (c .before)) ∙ ap pieceBy (sym (c .inner .ensures) ∙ e)

@@ -28,7 +28,7 @@ enum-told-5 c = search needs
 enum-told-6 : tie.Need-enum-told-6
 enum-told-6 c = search needs
 
--- In the arm that has a nesting the list is the nesting's
+-- In the arm that has a nesting, the list is the nesting's
 found-is : (c : tie.After-known-told) (n : Nesting) → c .before .comparison .given .0 .0 ≡ n → handedWith n ≡ handedBy (c .before .before .before .args .comparison)
 unfolding handedBy
 found-is c n e = sym (ap handedBy (c .before .comparison .given .1 ∙ ap Found e))

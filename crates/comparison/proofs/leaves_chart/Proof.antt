@@ -1,4 +1,4 @@
--- The loop's invariant: what is left of the walk stays on the chart exactly if all of it does.
+-- The loop's invariant: the rest of the walk stays on the chart exactly if all of it does.
 use Prim.Native.Nat.{_+_, _-_}
 use native.Mathlib.Omega.{arith}
 use mathlib.Core.Path.{_≡_, sym, ap, _∙_}
@@ -24,7 +24,7 @@ Inv-loop edges at₀ i₀ at i = Leaving edges at₀ i at
 abbrev μ-loop : tie.MeasureT-loop
 μ-loop edges at₀ i₀ at i = length edges - i
 
--- A turn's edge, and what its numbers lead to
+-- The edge of an iteration, and where it leads
 abbrev Iteration : Type 0
 Iteration = tie.In-loop Inv-loop μ-loop
 
@@ -49,7 +49,7 @@ stepped-is :
     c .further .result ≡ steppedTo (t .before .loop .at) (stepX t) (stepY t)
 stepped-is c = simp (toZ-ofZ w16 _ (fits-x (c .before .before)), toZ-ofZ w16 _ (fits-y (c .before))) at (c .further .ensures)
 
--- The test of the cell where the walk stands
+-- The test of the current cell
 abbrev here : Iteration → Bool
 here t = onChart (pos (t .before .loop .at .col)) (pos (t .before .loop .at .row))
 

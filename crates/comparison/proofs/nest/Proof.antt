@@ -1,4 +1,4 @@
--- Equal lists have equal hulls, and for others the tests of the rows decide.
+-- Equal lists have equal hulls. For other lists the tests of the rows decide.
 use mathlib.Core.Path.{sym, _∙_}
 use borrow.Author.Needs.{needs}
 use Rattle.comparison.proofs.RowTests.{nests-same, nests-by-rows}

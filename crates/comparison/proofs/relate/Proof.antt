@@ -1,4 +1,4 @@
--- Each arm is a case of the definition, whose words name what holds of the cells.
+-- Each arm is a case of the definition, whose words name what holds for the cells.
 use mathlib.Core.Path.{_≡_, sym, ap, _∙_}
 use Rattle.chart.specs.declared.Comparison.the-variants.{Found}
 use Rattle.comparison.specs.declared.Checked.the-variants.{Fit}

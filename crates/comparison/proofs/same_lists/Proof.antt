@@ -1,4 +1,4 @@
--- The second test is made where the first passes.
+-- The second test is made only if the first passes.
 use borrow.Author.Needs.{needs}
 use mathlib.Core.Path.{sym, _∙_}
 use Rattle.comparison.proofs.same_lists.Statement.{statement}

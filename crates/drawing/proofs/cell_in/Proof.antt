@@ -1,4 +1,4 @@
--- Each arm is its clause of the definition.
+-- Each arm is a clause of the definition.
 use Rattle.drawing.specs.Points.{cellIn}
 use borrow.Author.Needs.{needs}
 use Rattle.drawing.proofs.cell_in.Statement.{statement}

@@ -1,4 +1,4 @@
--- The piece at the position, with its point and its cell.
+-- The reply is the command at the position, with its point and its cell.
 use Rattle.drawing.specs.Points.{drawnReply}
 use borrow.Author.Needs.{needs}
 use Rattle.drawing.proofs.drawn_at.Statement.{statement}

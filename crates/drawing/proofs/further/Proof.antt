@@ -1,4 +1,4 @@
--- A sum of 33 bits and 16 bits fits 64.
+-- The sum of a 33-bit and a 16-bit number fits 64 bits.
 use native.Mathlib.Omega.{arith}
 use lib.IntN.{_+ℤ_}
 use mir.Syntax.{w16, w64}

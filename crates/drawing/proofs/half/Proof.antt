@@ -1,4 +1,4 @@
--- The sum of the definition: the bits of 0.5 are those of 1 * 2 ^ -1.
+-- This is the definition's sum: the bits of 0.5 are those of 1 * 2 ^ -1.
 use borrow.Author.Needs.{needs}
 use mathlib.Core.Path.{refl}
 use lib.Ieee.{ofBits}

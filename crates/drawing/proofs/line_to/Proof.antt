@@ -1,4 +1,4 @@
--- A number on the chart is its own size, and fits 16 bits.
+-- A number on the chart is not negative and fits 16 bits.
 use borrow.Author.Needs.{needs}
 use mathlib.Core.Path.{_≡_, sym, ap₂, _∙_}
 use mathlib.Core.Bool.{true, _&&_}

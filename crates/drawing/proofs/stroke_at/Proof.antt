@@ -1,4 +1,4 @@
--- The loop's invariant: the piece is as many positions further as are left.
+-- The loop's invariant: the wanted command is as many positions further as are left to count.
 use borrow.Author.Needs.{needs}
 use Prim.Native.Nat.{suc, _+_, _-_, _≤_}
 use native.Mathlib.Omega.{arith}
@@ -22,7 +22,7 @@ Inv-loop edges position x₀ y₀ left₀ i₀ x y left i =
 abbrev μ-loop : tie.MeasureT-loop
 μ-loop edges position x₀ y₀ left₀ i₀ x y left i = length edges - i
 
--- A turn's edge
+-- The edge of an iteration
 abbrev Iteration : Type 0
 Iteration = tie.In-loop Inv-loop μ-loop
 
@@ -41,7 +41,7 @@ fits-x c = record { sfits = c .further-arg .given }
 fits-y : (c : tie.After-further-arg2 Inv-loop μ-loop) → SFits w16 (stepY (c .before .before .before))
 fits-y c = record { sfits = c .further-arg2 .given }
 
--- The cell one edge further
+-- The cell after one more edge
 col-is :
     (c : tie.After-further Inv-loop μ-loop) →
     let t = c .before .before in
@@ -60,7 +60,7 @@ cast-x c = search needs
 cast-y : tie.Need-cast-y Inv-loop μ-loop
 cast-y c = search needs
 
--- The walk finds the wanted piece
+-- The walk finds the wanted command
 rule :
     (c : tie.After-struct-known2 Inv-loop μ-loop) →
     let a = c .before .before .before .args in

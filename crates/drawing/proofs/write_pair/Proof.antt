@@ -1,4 +1,4 @@
--- Two stores from the front on leave the two numbers and then what stood behind them.
+-- Two stores at the front leave the two numbers and then what stood behind them.
 use borrow.Author.Needs.{needs}
 use native.Mathlib.Omega.{arith}
 use mathlib.Core.Path.{sym}

@@ -1,4 +1,4 @@
--- The two comparisons are those of values, and what is no finite number fails one of them.
+-- The two comparisons compare values, and a number that is not finite fails one of them.
 use borrow.Author.Needs.{needs}
 use mathlib.Core.Path.{sym, subst}
 use lib.Dec.{T}

@@ -1,4 +1,4 @@
--- Number by number.
+-- Both numbers are decoded in the same way.
 use borrow.Author.Needs.{needs}
 use Rattle.readings.specs.Located.{readingOf}
 use Rattle.readings.proofs.from_bits.Statement.{statement}

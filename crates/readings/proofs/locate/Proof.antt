@@ -1,4 +1,4 @@
--- The loop's invariant: what the walk answers of the edges that are left is what it answers of all.
+-- The loop's invariant: the walk's answer for the remaining edges is its answer for all of them.
 use Prim.Native.Nat.{_+_, _-_, _≤_}
 use native.Mathlib.Omega.{arith}
 use borrow.Author.Needs.{needs}
@@ -41,7 +41,7 @@ anchored : (c : tie.Else2 Inv-loop μ-loop) →
     onChart (pos (a .col)) (pos (a .row)) ≡ true
 anchored c = anchor-on (c .before .before .before .before .before .args .anchor) (sym (c .before .bad-cell .ensures) ∙ c .if2 .left)
 
--- The walk from the anchor finds where the reading lies
+-- The walk from the anchor locates the reading
 rule : (c : tie.After-begin Inv-loop μ-loop) →
     let e = c .before .before .before in
     let a = e .before .before .before .before .before .args in
@@ -53,7 +53,7 @@ rule c =
     let start = simp (toZ-ofZ w16 (pos (a .anchor .col)) (cell-fits _ (on .0)), toZ-ofZ w16 (pos (a .anchor .row)) (cell-fits _ (on .1))) at (c .begin .ensures) in
     rw start (walk-locates (a .anchor) (a .edges .now) (a .reading) (good (e .before .before)) (anchored e))
 
--- A turn's edge, and the pass along it
+-- The edge of an iteration, and the step along it
 abbrev Iteration : Type 0
 Iteration = tie.In-loop Inv-loop μ-loop
 
@@ -79,7 +79,7 @@ pass-is c =
       toZ-ofZ w16 (stepY t) (record { sfits = c .before .pass-arg2 .given }),
     ) at (c .pass .ensures)
 
--- What the walk answers of all the edges, by what this pass gives
+-- The walk's answer for all edges, from the result of this step
 passes : (c : tie.After-pass Inv-loop μ-loop) {p : Passed} → c .pass .result ≡ p →
     let t = c .before .before .before in
     locatedOf (start t .args .anchor) (list t) (start t .args .reading) ≡ after p (λ w. from (drop (t .before .loop .i + 2) (list t)) w (start t .args .reading))

@@ -1,4 +1,4 @@
--- A pattern above that of infinity, its sign left out, is one of no number, and so is 0 / 0.
+-- A pattern above that of infinity, apart from its sign, is a NaN, and so is 0 / 0.
 use borrow.Author.Needs.{needs}
 use borrow.Author.Tests.{lt-ltb, le-ltb}
 use mathlib.Core.Path.{_≡_, refl, sym, subst, _∙_}

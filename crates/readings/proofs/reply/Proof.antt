@@ -1,4 +1,4 @@
--- Each arm is its clause.
+-- Each arm is a clause of the definition.
 use Rattle.readings.specs.Replies.{locatedReply}
 use borrow.Author.Needs.{needs}
 use Rattle.readings.proofs.reply.Statement.{statement}

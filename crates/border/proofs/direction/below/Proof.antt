@@ -1,4 +1,4 @@
--- A machine's test against 0 is the definition's.
+-- The machine's comparison with 0 is the definition's.
 use mir.Syntax.{w16}
 use mir.ValLaws.{toZ-ofZ}
 use Rattle.border.proofs.Directions.{below-machine}

@@ -1,4 +1,4 @@
--- The remainder of the piece by 2 says which number is its run.
+-- Whether the piece is even or odd decides which number is its run.
 use mathlib.Core.Path.{_≡_, sym, _∙_}
 use lib.IntN.{natAbs}
 use mir.Syntax.{w16}

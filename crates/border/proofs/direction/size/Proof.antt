@@ -1,4 +1,4 @@
--- A number of 16 bits is negated in 64, and is not negative then.
+-- A 16-bit number can be negated in 64 bits, and is then not negative.
 use native.Mathlib.Omega.{arith}
 use mathlib.Core.Path.{_≡_, refl}
 use mathlib.Core.Bool.{true, false}

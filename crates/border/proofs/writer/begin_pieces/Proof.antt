@@ -1,4 +1,4 @@
--- The loop keeps the first letters of the pieces passed.
+-- The loop's invariant: the first letters of the pieces so far are written.
 use Prim.Native.Nat.{suc, _+_, _-_, _≤_}
 use native.Mathlib.Omega.{arith}
 use mathlib.Core.Path.{_≡_}

@@ -1,4 +1,4 @@
--- What stands in the list, followed by what is still to be written, is the border: that is the invariant, and each turn writes one edge.
+-- The invariant: what stands in the buffer, followed by what is still to be written, is the border. Each iteration writes one edge.
 use Prim.Native.Nat.{_+_, _-_}
 use native.Mathlib.Omega.{arith}
 use mathlib.Core.Path.{_∙_}
@@ -46,7 +46,7 @@ mul-dy c = omega (arith, c .before .before .loop .inv .passed)
 shared-slice-copy-out-dy : tie.Need-shared-slice-copy-out-dy Inv-loop μ-loop
 shared-slice-copy-out-dy c = omega arith
 
--- A turn's edge
+-- The edge of an iteration
 abbrev Iteration : Type 0
 Iteration = tie.In-loop Inv-loop μ-loop
 

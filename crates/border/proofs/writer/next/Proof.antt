@@ -1,4 +1,4 @@
--- Below the run the sum is its own remainder; from the run on, the whole less is.
+-- Below run the sum is its own remainder. From run on, subtract run + rise.
 use native.Mathlib.Omega.{arith}
 use Rattle.border.proofs.Remainders.{next-below, next-above}
 use Rattle.border.proofs.writer.next.Statement.{statement}

@@ -1,4 +1,4 @@
--- The first letters of the pieces that begin, and behind them the edge's own.
+-- The first letters of the pieces that begin come first, and then the edge's own.
 use Prim.Native.Nat.{ℕ, suc, _-_}
 use native.Mathlib.Numerals.{add-one}
 use native.Mathlib.Omega.{arith}
@@ -33,7 +33,7 @@ add-run c = let q = c .before .before .before .before .before in omega (arith, q
 run-requires-2 : tie.Need-run-requires-2
 run-requires-2 c κs = search needs
 
--- The edge's two counts, and where it begins
+-- The edge's two counts, and where it starts
 run-is :
     (c : tie.After-run) →
     let a = c .before .before .before .before .before .before .before .args in c .run .result ≡ runIn (quadrantOf (a .dx) (a .dy)) (a .dx) (a .dy)

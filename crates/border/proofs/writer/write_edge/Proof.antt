@@ -1,4 +1,4 @@
--- The loop keeps the remainder of the letters written; below the run the next letter is the earlier one.
+-- The loop keeps the remainder after the letters written. If it is below run, the next letter is the earlier one.
 use Prim.Native.Nat.{ℕ, suc, _+_, _-_, _*_, _%_, _≤_, _<_}
 use native.Mathlib.Nat.{zero-mul, zero-mod, mod-lt}
 use native.Mathlib.Numerals.{add-one}
@@ -55,7 +55,7 @@ add-i c = omega arith
 loop-less : tie.Need-loop-less Inv-loop μ-loop
 loop-less c = omega arith
 
--- One letter more, by the test of the remainder
+-- One more letter, by the test of the remainder
 longer :
     (c : tie.Joined1 Inv-loop μ-loop) →
     let l = c .before .before in

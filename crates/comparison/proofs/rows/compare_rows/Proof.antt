@@ -1,4 +1,4 @@
--- The tests of the rows passed are those of the definition, row by row.
+-- The tests of the rows so far are those of the definition, row by row.
 use Prim.Native.Nat.{_-_, _≤_}
 use native.Mathlib.Omega.{arith}
 use mathlib.Core.Path.{_≡_, refl}

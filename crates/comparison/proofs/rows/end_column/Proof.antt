@@ -1,4 +1,4 @@
--- Each return is a case of the definition: only an edge that falls bounds columns from above, and a level one all of them or none.
+-- Each return is a case of the definition: only a falling edge bounds columns from above. A level edge allows all columns or none.
 use Prim.Native.Nat.{_+_, _-_}
 use native.Mathlib.Omega.{arith}
 use Rattle.comparison.proofs.Columns.{end-rising, end-outer, end-level, end-inner, quotient-small}

@@ -1,4 +1,4 @@
--- The rows passed are raised to the edge's end in each, and the others are as they were.
+-- The rows so far are raised to the edge's end in each, and the others are unchanged.
 use Prim.Native.Nat.{ℕ, _+_, _-_, _≤_, _<_, min, max}
 use native.Mathlib.Omega.{arith}
 use mathlib.Core.Path.{_≡_, sym, ap}

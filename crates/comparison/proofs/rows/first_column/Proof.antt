@@ -1,4 +1,4 @@
--- Each return is a case of the definition: an edge that does not rise bounds no column from below, nor does one with column 0 on its inner side.
+-- Each return is a case of the definition: an edge bounds no column from below unless it rises and column 0 is outside it.
 use Prim.Native.Nat.{_-_}
 use native.Mathlib.Omega.{arith}
 use Rattle.comparison.proofs.Columns.{first-level, first-inner, first-outer, quotient-small}

@@ -1,4 +1,4 @@
--- The rows passed are lowered to the edge's first column in each, and the others are as they were.
+-- The rows so far are lowered to the edge's first column in each, and the others are unchanged.
 use Prim.Native.Nat.{ℕ, _+_, _-_, _≤_, _<_, min, max}
 use native.Mathlib.Omega.{arith}
 use mathlib.Core.Path.{sym, ap}

@@ -1,4 +1,4 @@
--- The loop's invariant: what the lists tell of the part walked, and what is left of the walk, are the whole.
+-- The loop's invariant: the bounds of the part walked, together with those of the rest, are the bounds of the whole walk.
 use Prim.Native.Nat.{_+_, _-_, _<_}
 use native.Mathlib.Omega.{arith}
 use mathlib.Core.Path.{_≡_, _∙_}
@@ -23,7 +23,7 @@ Inv-loop edges first₀ end₀ at₀ i₀ first end at i = Sweeping edges at₀ 
 abbrev μ-loop : tie.MeasureT-loop
 μ-loop edges first₀ end₀ at₀ i₀ first end at i = length edges - i
 
--- A turn's edge, and what its numbers lead to
+-- The edge of an iteration, and where it leads
 abbrev Iteration : Type 0
 Iteration = tie.In-loop Inv-loop μ-loop
 

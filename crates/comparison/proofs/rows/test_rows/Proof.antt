@@ -1,4 +1,4 @@
--- Two walks fill the lists, whose tests are those of the polygons.
+-- Two walks fill the lists, and the tests of the lists are those of the polygons.
 use mathlib.Core.Path.{_∙_}
 use borrow.Author.Needs.{needs}
 use Rattle.comparison.proofs.RowTests.{compared-swept}

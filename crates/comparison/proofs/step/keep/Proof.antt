@@ -1,4 +1,4 @@
--- A number of the chart is not negative and is read as it is.
+-- A number of the chart is not negative, and reads the same as an unsigned number.
 use borrow.Author.Needs.{needs}
 use mathlib.Core.Path.{_≡_}
 use mathlib.Core.Bool.{true, false}

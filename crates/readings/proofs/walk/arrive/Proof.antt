@@ -1,4 +1,4 @@
--- Coordinate by coordinate.
+-- Columns and rows are treated alike.
 use mir.Syntax.{w16}
 use mir.ValLaws.{toZ-ofZ}
 use Rattle.directions.proofs.OnChart.{on-parts}

@@ -1,4 +1,4 @@
--- The first corner cell is arrived at with nothing met.
+-- The first corner cell is reached with no number met.
 use mir.Syntax.{w16}
 use mir.ValLaws.{toZ-ofZ}
 use Rattle.readings.specs.parts.Walk.{begun}

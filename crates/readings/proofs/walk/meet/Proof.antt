@@ -1,4 +1,4 @@
--- The two comparisons of floats are those of values, since a cell's number is a float, exactly.
+-- The two float comparisons compare values, because a cell's number is exactly a float.
 use borrow.Author.Needs.{needs}
 use mathlib.Core.Path.{sym, subst}
 use lib.Dec.{T}

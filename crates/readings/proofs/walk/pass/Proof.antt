@@ -1,4 +1,4 @@
--- Each return is a case of the definition, by the tests that led there; what a call gives is read back as it is.
+-- Each return is a case of the definition, by the tests that led there.
 use borrow.Author.Needs.{needs}
 use borrow.Author.Tests.{not-true, not-false}
 use mathlib.Core.Path.{_≡_, sym, ap, ap₂, _∙_}

@@ -1,4 +1,4 @@
--- The steps of the definition, once the whole numbers are read back from their bits.
+-- The steps are those of the definition, once the whole numbers are read from their bits.
 use borrow.Author.Needs.{needs}
 use mir.Syntax.{w16}
 use mir.ValLaws.{toZ-ofZ}
