@@ -1,4 +1,4 @@
--- The letters round rows part by part: each loop writes one row more, and the parts stand one behind another.
+-- The letters round rows, part by part: each iteration writes one more row, and the parts follow one another.
 use Prim.Native.Nat.{ℕ, zero, suc, pred, _+_, _-_, _≤_, _<_}
 use native.Mathlib.Decide.{decLe}
 use native.Mathlib.Omega.{arith}
@@ -34,7 +34,7 @@ across-left : (a x : ℕ) → x ≤ a → across a x ≡ replicate (a - x) 2
 unfolding across
 across-left a x h = let e : x - a ≡ 0 = omega arith in rw e refl
 
--- One column further
+-- One more column
 pub onward-more : (a b x : ℕ) → Between a b x → x < b → (across a (x + 1) ≡ across a x ++ (0 ∷ [])) × Between a b (x + 1)
 onward-more a b x (onward h k) l =
     let e : x + 1 - a ≡ (x - a) + 1 = omega arith in
@@ -47,7 +47,7 @@ backward-more a b x (backward h k) l =
     let e : a - (x - 1) ≡ (a - x) + 1 = omega arith in
     (across-left a (x - 1) (omega arith) ∙ rw e (replicate-next (a - x) 2) ∙ ap (λ (w : List ℕ). w ++ (2 ∷ [])) (sym (across-left a x k)), backward (omega arith) (omega arith))
 
--- How far is still to go
+-- How far there is still to go
 pub across-fits : (a b x : ℕ) → Between a b x → length (across a x) + ((b - x) + (x - b)) ≡ length (across a b)
 across-fits a b x (onward h k) = omega (arith, length-across a x, length-across a b)
 across-fits a b x (backward h k) = omega (arith, length-across a x, length-across a b)
@@ -55,7 +55,7 @@ across-fits a b x (backward h k) = omega (arith, length-across a x, length-acros
 -- ---- up
 
 module _ (lo : ℕ → ℕ) where
-  -- One row further
+  -- One more row
   rise-next : (y n : ℕ) → toRow lo y (suc n) ≡ toRow lo y n ++ (1 ∷ across (lo (y + n)) (lo (suc (y + n))))
   unfolding toRow
   rise-next y zero = let e : y + 0 ≡ y = omega arith in rw (e, append-nil) refl

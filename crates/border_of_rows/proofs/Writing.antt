@@ -1,4 +1,4 @@
--- Letters stored one behind another: what was written before stands, and what stands behind is not touched.
+-- Letters stored one after another: the earlier ones stay, and what stands behind is not changed.
 use Prim.Native.Nat.{ℕ, suc, _+_, _<_}
 use native.Mathlib.Nat.{add-zero, zero-add}
 use native.Mathlib.Omega.{arith}
@@ -12,11 +12,11 @@ pub wrote-none : (before : List ℕ) (at : ℕ) → Wrote before at [] before
 wrote-none before at =
     record { sized = refl; written = ap (λ (n : ℕ). take n before) (add-zero at) ∙ sym (append-nil (take at before)); kept = refl }
 
--- What is not touched behind a place is not touched further on
+-- What is unchanged from a place on is unchanged from any later place on
 further : (l m : List ℕ) (i j : ℕ) → drop i l ≡ drop i m → drop (i + j) l ≡ drop (i + j) m
 further l m i j e = sym (drop-drop j i l) ∙ ap (drop j) e ∙ drop-drop j i m
 
--- One letter more, at the place i behind those written
+-- One more letter, at place i after those written
 pub wrote-next :
     {before w after : List ℕ} {at : ℕ} → Wrote before at w after → (i a : ℕ) → i ≡ at + length w → i < length before
     → Wrote before at (w ++ (a ∷ [])) (set after i a)
@@ -32,7 +32,7 @@ wrote-next {before} {w} {after} {at} h i a e l =
       kept = rw n (drop-set-lt (suc i) after i a (omega arith) ∙ rw d (further after before i 1 (rw e (h .kept))));
     }
 
--- Letters behind letters
+-- Letters after letters
 pub wrote-both :
     {before middle after u v : List ℕ} {at : ℕ} → Wrote before at u middle → (i : ℕ) → i ≡ at + length u → Wrote middle i v after
     → Wrote before at (u ++ v) after
@@ -46,17 +46,17 @@ wrote-both {before} {middle} {after} {u} {v} {at} h i e k =
       kept = rw n (k .kept ∙ further middle before i (length v) (rw e (h .kept)));
     }
 
--- The same letters under another name
+-- Equal letters
 pub wrote-same : {before w v after : List ℕ} {at : ℕ} → w ≡ v → Wrote before at w after → Wrote before at v after
 wrote-same {before} {w} {v} {after} {at} e h = subst (λ (u : List ℕ). Wrote before at u after) e h
 
--- Written from the front on
+-- Written from the front
 pub wrote-front : {before w after : List ℕ} → Wrote before 0 w after → after ≡ w ++ drop (length w) before
 wrote-front {before} {w} {after} h =
     let n : 0 + length w ≡ length w = zero-add (length w) in
     sym (take-append-drop (length w) after) ∙ (λ i. (rw n at (h .written)) i ++ (rw n at (h .kept)) i)
 
--- ---- letters written from the front on, as far as a place
+-- ---- letters written from the front up to a place
 
 pub record Front (before w after : List ℕ) (k : ℕ) : Type 0 where
   pub at : k ≡ length w

@@ -1,4 +1,6 @@
--- The completion has twice as many letters as the drawing has columns and rows together: its hull reaches as far left and right as the drawing's cells do, and they as far as its corners.
+-- The completion has twice as many letters as the drawing has columns and rows together, because its hull reaches as far left and right as
+-- the
+-- drawing's cells, and these reach as far as the drawing's corners.
 use Prim.Native.Nat.{ℕ, pred, _+_, _-_, _*_, _≤_, _<_}
 use mathlib.Core.Path.{_≡_, sym, ap, _∙_}
 use mathlib.Core.Bool.{true}
@@ -46,7 +48,7 @@ module _ (o : Outline) (h : Simple o) where
   wide : Rows (hullLeft lo b t) (hullRight hi b t) (firstRow (block o)) (pastRow (block o))
   wide = hull-rows lo hi b t (e .rows)
 
-  -- The rows that begin and end furthest out, of the block and of the hull
+  -- The rows that begin furthest left and end furthest right, of the block and of the hull
   first-row : Least (firstCell (block o)) (firstRow (block o)) (pastRow (block o))
   first-row = least-of lo b t (e .rows .below)
 
@@ -56,7 +58,7 @@ module _ (o : Outline) (h : Simple o) where
   hull-cell : (c r : ℕ) → b ≤ r → r < t → hullLeft lo b t r ≤ c → c < hullRight hi b t r → InHull (block o) (point c r)
   hull-cell c r k l m n = hull-iff (block o) lo hi b t e (point c r) .1 (record { above = k; below = l; begun = m; before = n })
 
-  -- No cell of the block is further left, or further right
+  -- No cell of the block is further left, and none further right
   cell-left : (c r : ℕ) → block o c r ≡ true → lo (first-row .at) ≤ c
   cell-left c r m = let k = e .inside (point c r) m in omega (arith, k .begun, first-row .least r (k .above) (k .below))
 
@@ -124,7 +126,7 @@ module _ (o : Outline) (h : Simple o) where
       ∙ hull-letters lo hi b t (e .rows) m n
       ∙ ap (λ (x : ℕ). 2 * (t - b) + 2 * x) (right-is m n)
 
-  -- Two letters for each column and each row between the corners
+  -- Two letters for each column and each row between the extreme corners
   pub complete-count : size (complete o) ≡ 2 * (rightmostCorner o - leftmostCorner o) + 2 * (highestCorner o - lowestCorner o)
   complete-count =
       counted (size (complete o)) (lo (first-row .at)) (hi (last-row .at)) (firstRow (block o)) (pastRow (block o)) (leftmostCorner o) (rightmostCorner o) (lowestCorner o) (highestCorner o)

@@ -1,4 +1,4 @@
--- The outline round the hull of a block has no more letters than any outline of the block: twice the rows and twice the columns of the block.
+-- The outline round the hull of a block has twice as many letters as the block has rows and columns, and no outline of the block has fewer.
 use Prim.Native.Nat.{ℕ, zero, suc, pred, _+_, _-_, _*_, _≤_, _<_}
 use mathlib.Core.Path.{_≡_, refl, sym, ap, _∙_}
 use mathlib.Core.Bool.{Bool, true, false, true≢false}
@@ -90,7 +90,7 @@ module _ (lo hi : ℕ → ℕ) (b t : ℕ) (rows : Rows lo hi b t) where
           → s + 2 * lm ≡ h + 2 * (side - mn)
       sums s h lb lt lm mb mt mn tl tr tm a c d e f g i = omega arith
 
--- ---- corners of a walk around the cells that it encloses
+-- ---- a walk has corners on all sides of the cells that it encloses
 
 module _ (o : Outline) (h : WalkFromW o) (up : letterAt o 0 ≡ 1) where
   -- Right of an enclosed cell
@@ -199,7 +199,7 @@ module _ (o : Outline) (h : Simple o) (lo hi : ℕ → ℕ) (b t : ℕ) (e : End
   hull-at : (c r : ℕ) → b ≤ r → r < t → hullLeft lo b t r ≤ c → c < hullRight hi b t r → InHull (block o) (point c r)
   hull-at c r k l m n = hull-iff (block o) lo hi b t e (point c r) .1 (record { above = k; below = l; begun = m; before = n })
 
-  -- Corners of the border around the hull
+  -- The border has corners on all sides of the hull's cells
   corner-right : (c r : ℕ) → InHull (block o) (point c r) → (i : ℕ) × (i ≤ size (border o)) × (suc c ≤ cornerAt (border o) i .col)
   corner-right c r k =
       let (y, m, far) = furthest-right (block o) (point c r) k in

@@ -1,6 +1,8 @@
--- The block of an outline past refusals 1 to 6 is joined by sides: between its lowest and its highest row, each row shares a column with the next. A walk that goes on from a
--- corner at or below the height between rows r and r + 1 does not get above that height without a shared column: it comes to that height by an up, and leaves
--- it by an up only next to a column whose two cells are both on its right hand.
+-- The block of an outline that passes refusals 1 to 6 is 4-connected: between its lowest and its highest row, each row shares a column with
+-- the
+-- next. Consider a walk from a corner at or below the height between rows r and r + 1. It reaches that height by an up, and leaves it by an
+-- up
+-- only next to a column whose two cells are both on its right. So without a shared column it never gets above that height.
 use Prim.Native.Nat.{ℕ, zero, suc, _+_, _-_, _%_, _≤_, _<_}
 use mathlib.Core.Path.{_≡_, refl, sym, ap, _∙_, subst}
 use mathlib.Core.Bool.{Bool, true}
@@ -59,7 +61,7 @@ module _ (o : Outline) (h : WalkFromW o) (up : letterAt o 0 ≡ 1) (r : ℕ) whe
   col-is : {p q : Point} → p ≡ q → p .col ≡ q .col
   col-is e = ap (λ (x : Point). x .col) e
 
-  -- The cell ahead on the right hand of a letter before a left turn
+  -- The cell ahead on the right of a letter before a left turn
   ahead : (i j a : ℕ) (c s : ℕ) → i < size o → j < size o → cornerAt o (suc i) ≡ cornerAt o j → letterAt o i ≡ a → letterAt o j ≡ (letterAt o i + 1) % 4
       → cornerOf (cornerAt o i) a ≡ point (suc c) (suc s) → encloses o c s ≡ true
   ahead i j a c s l m e f g d =
@@ -134,7 +136,7 @@ module _ (o : Outline) (h : WalkFromW o) (up : letterAt o 0 ≡ 1) (r : ℕ) whe
         | inr (inr (inr e)) ↦ inr (inl (omega (arith, row-is (next-corner i 3 l e), a .height)))
       ]
 
-  -- From place k on to place k + n
+  -- From place k to place k + n
   onwards : (n k : ℕ) → k + n ≤ size o → Good (cornerAt o k) → Shared (encloses o) r ⊎ Good (cornerAt o (k + n))
   onwards zero k l g = inr (rw (let e : k + 0 ≡ k = omega arith in e) g)
   onwards (suc n) k l g =
@@ -167,7 +169,7 @@ module _ (o : Outline) (h : WalkFromW o) (up : letterAt o 0 ≡ 1) (r : ℕ) whe
         | inr (inr g) ↦ absurd (omega (arith, g .height, row-is (next-corner i 1 (c .0) (c .1))))
       ]
 
--- As sent
+-- For the outline as sent
 pub joined :
     (o : Outline) → Simple o → (r c₁ r₁ c₂ r₂ : ℕ) → block o c₁ r₁ ≡ true → r₁ ≤ r → block o c₂ r₂ ≡ true → r < r₂ → Shared (block o) r
 joined o h r c₁ r₁ c₂ r₂ e l f m =

@@ -1,5 +1,6 @@
--- Paths that meet no corner twice; the path round a block of rows, its count of letters, that it passes refusals 1 to 6 and marks the block, its letters as loops write them. The edges of
--- a hull, and its rows. The block of an outline is joined by sides; the ends of its rows, from its sides. The completion.
+-- Paths that meet no corner twice; the path round a block of rows: its letters, their count, that it passes refusals 1 to 6 and marks the
+-- block.
+-- The edges and the rows of a hull. The block of an outline is 4-connected; the ends of its rows, from its sides. The completion.
 pub mod Paths
 pub mod Segments
 pub mod Hood

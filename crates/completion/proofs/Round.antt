@@ -1,4 +1,4 @@
--- The outline round a block of rows passes refusals 1 to 6 where its letters are not too many.
+-- The outline round a block of rows is a path joined to the bottom row, so it passes refusals 1 to 6 if it has at most 612 letters.
 use Prim.Native.Nat.{ℕ, zero, suc, _+_, _-_, _≤_, _<_}
 use mathlib.Core.Path.{_≡_, sym, ap, _∙_, subst}
 use mathlib.Core.Logic.{_⊎_, inl, inr, ⊎-elim}

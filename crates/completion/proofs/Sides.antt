@@ -1,5 +1,7 @@
--- The ends of a block's rows are the columns of the first and the last sides along them, and its rows lie between the lowest and the highest corners: the cell on the right hand of
--- each letter of the clockwise reading is in the block, and a row changes only at a side. Read backward a walk has the same sides.
+-- The ends of a block's rows are the columns of their first and last sides, and its rows lie between the lowest and the highest corner. The
+-- cell
+-- on the right of each letter of the clockwise form is in the block, and a row changes only at a side. A walk read backward has the same
+-- sides.
 use Prim.Native.Nat.{ℕ, zero, suc, pred, _+_, _-_, _≤_, _<_}
 use mathlib.Core.Path.{_≡_, refl, sym, ap, _∙_, subst}
 use mathlib.Core.Bool.{Bool, true, false, _||_, _&&_}
@@ -53,7 +55,7 @@ along-down r p a e d = rw (eq-eqb a 3 e, eq-eqb (p .row) (suc r) d) (either (eqb
     either true = refl
     either false = refl
 
--- A side along row r at column c
+-- A side of row r at column c
 abbrev pub Side : Outline → ℕ → ℕ → Type 0
 Side o r c = Met (alongRow r) (λ (p : Point). p .col) (o .start) (o .letters) c
 
@@ -118,7 +120,7 @@ module _ (o : Outline) (h : Simple o) (r c : ℕ) where
   pub side-read : Side o r c → Side (clockwiseForm o) r c
   side-read m = by-reading o (λ v. Side v r c) (λ e. m) (λ e. side-backward m)
 
--- ---- the clockwise reading
+-- ---- the clockwise form
 
 module _ (o : Outline) (h : Simple o) where
   abbrev v : Outline
@@ -148,7 +150,7 @@ module _ (o : Outline) (h : Simple o) where
   right-cell : (i : ℕ) → i < size (clockwiseForm o) → (c : ℕ) × (r : ℕ) × (rightOf (cornerAt (clockwiseForm o) i) (letterAt (clockwiseForm o) i) .col ≡ suc c) × (rightOf (cornerAt (clockwiseForm o) i) (letterAt (clockwiseForm o) i) .row ≡ suc r) × (block o c r ≡ true)
   right-cell i l = cell-of (rightOf (cornerAt (clockwiseForm o) i) (letterAt (clockwiseForm o) i)) (clockwise-right (clockwiseForm o) w (westPlace (clockwiseForm o)) lowest up i l)
 
-  -- A side has the block's cell to its right if it runs up, and to its left if it runs down
+  -- A side has a cell of the block on its right if it runs up, and on its left if it runs down
   side-cell : (r c : ℕ) → Side (clockwiseForm o) r c → (d : ℕ) × (block o d r ≡ true) × (d ≤ c) × (c ≤ suc d)
   unfolding rightOf leftOf
   side-cell r c m =

@@ -1,5 +1,6 @@
--- The completion of an outline past refusals 1 to 6 is taken; it marks exactly the hull of the outline's block; every taken outline that marks the block's cells marks the completion's;
--- and it has no more letters than the outline.
+-- The completion of an outline that passes refusals 1 to 6 is taken and encloses exactly the hull of the outline's block. Every taken
+-- outline that
+-- encloses the block encloses the completion. It has no more letters than the outline.
 use Prim.Native.Nat.{ℕ, suc, _≤_, _<_}
 use mathlib.Core.Path.{_≡_, refl, sym, ap, _∙_}
 use mathlib.Core.Bool.{Bool, true, false, true≢false}
@@ -33,7 +34,7 @@ use Rattle.completion.specs.parts.Written.{writtenFrom}
 use Rattle.completion.proofs.Extent.{hull-shorter}
 use Rattle.completion.proofs.FromWest.{from-west}
 
--- Wider rows overlap where the rows do
+-- Wider rows overlap if the rows do
 wider-overlap :
     (lo hi lo′ hi′ : ℕ → ℕ) (b t : ℕ) → ((r : ℕ) → b ≤ r → r < t → lo′ r ≤ lo r) → ((r : ℕ) → b ≤ r → r < t → hi r ≤ hi′ r)
     → Overlapping lo hi b t → Overlapping lo′ hi′ b t
@@ -43,7 +44,7 @@ wider-overlap lo hi lo′ hi′ b t left right h r l m =
       omega (arith, d, left (suc r) (omega arith) m, right r l (omega arith)),
     )
 
--- The cells of a set that has no missing cell hold the hull of every part of it
+-- A convex set has the hull of every part of it
 full-holds : (marked whole : ℕ → ℕ → Bool) → Convex whole → ((c r : ℕ) → marked c r ≡ true → whole c r ≡ true) → (x : Point) → InHull marked x → whole (x .col) (x .row) ≡ true
 full-holds marked whole full part x h = go (whole (x .col) (x .row)) refl
   where
@@ -130,7 +131,7 @@ module _ (o : Outline) (h : Simple o) where
   pub complete-holds : (c r : ℕ) → block o c r ≡ true → block (complete o) c r ≡ true
   complete-holds c r m = complete-hull (point c r) .1 (enclosed-in-hull (block o) (point c r) m)
 
-  -- No cell is missing from it: the hull of the hull is the hull
+  -- It is convex: the hull of the hull is the hull
   pub complete-convex : Convex (block (complete o))
   complete-convex x m = hull-convex lo hi b t (row-ends .rows) x (missing-same complete-rows m)
 
@@ -141,13 +142,13 @@ module _ (o : Outline) (h : Simple o) where
   pub complete-taken : verdictFields (verdictOf (complete o)) .number ≡ 0
   complete-taken = taken-iff-convex (complete o) complete-simple .1 complete-convex
 
-  -- And it is the least: a taken outline that marks the outline's cells marks the completion's
+  -- It is the smallest: a taken outline that encloses the outline's cells encloses the completion's
   pub complete-least :
       (v : Outline) → Simple v → verdictFields (verdictOf v) .number ≡ 0 → ((c r : ℕ) → block o c r ≡ true → block v c r ≡ true)
       → (c r : ℕ) → block (complete o) c r ≡ true → block v c r ≡ true
   complete-least v k taken part c r m = full-holds (block o) (block v) (taken-iff-convex v k .0 taken) part (point c r) (complete-hull (point c r) .0 m)
 
-  -- A taken outline's completion marks its own block, and has its border
+  -- The completion of a taken outline encloses its own block, and has its border
   pub complete-own : verdictFields (verdictOf o) .number ≡ 0 → SameCells (complete o) o
   complete-own taken c r = go (block o c r) (block (complete o) c r) refl refl
     where
@@ -160,18 +161,18 @@ module _ (o : Outline) (h : Simple o) where
   complete-own-border taken = same-from-w-iff (complete o) o complete-simple h .0 (complete-own taken)
 
 module _ (o : Outline) (h : Simple o) where
-  -- Its border, clockwise from W, as loops write it: W is the lower left corner of the lowest of the hull's rows that begin furthest left, here row m
+  -- Its border as the loops write it. W is the lower left corner of row m, the lowest of the hull's rows that begin furthest left
   pub complete-border :
       (m : ℕ) → b o h ≤ m → m < t o h → ((r : ℕ) → b o h ≤ r → r < t o h → left o h m ≤ left o h r) → ((r : ℕ) → b o h ≤ r → r < m → left o h m < left o h r)
       → border (complete o) ≡ outline (point (left o h m) m) (writtenFrom (left o h) (right o h) (b o h) (t o h) m)
   unfolding complete hullOutline
   complete-border = from-west (left o h) (right o h) (b o h) (t o h) (rows o h) (high o h) (shares o h) (short o h)
 
--- Outlines of one block have one completion
+-- Outlines of the same block have the same completion
 pub complete-same : (o v : Outline) → SameCells o v → complete o ≡ complete v
 unfolding complete
 complete-same o v same = ap hullOutline (λ i c r. same c r i)
 
--- The completion of a completion marks the same block
+-- The completion of a completion encloses the same block
 pub complete-twice : (o : Outline) → Simple o → SameCells (complete (complete o)) (complete o)
 complete-twice o h = complete-own (complete o) (complete-simple o h) (complete-taken o h)

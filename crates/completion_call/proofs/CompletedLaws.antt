@@ -1,4 +1,4 @@
--- A completion by its cases: 1 to 6 stop it, the list is too short, or the letters are written; and what each case says about cells.
+-- The cases of a completion, and what each says about cells: 1 to 6 refuse it, the buffer is too short, or the letters are written.
 use Prim.Native.Nat.{ℕ, _≤_, _<_}
 use native.Mathlib.Omega.{arith}
 use mathlib.Core.Path.{_≡_, refl, sym, ap, _∙_, subst}
@@ -85,7 +85,7 @@ module _ (o : Outline) (n : ℕ) where
 
 -- ---- the border of a completion
 
--- A taken outline is taken with room for the edges of every taken one
+-- A taken outline is taken if there is room for the edges of every taken outline
 pub tested-taken : (v : Outline) (m : ℕ) → mostNumbers ≤ m → verdictFields (verdictOf v) .number ≡ 0 → testFields v m .number ≡ 0
 unfolding testFields
 tested-taken v m l e = go (verdictOf v) refl
@@ -104,7 +104,7 @@ module _ (o : Outline) (h : Simple o) where
   written-back : BorderOf (border (completionOf o) .start) (edges (border (completionOf o))) (lettersFrom (edges (border (completionOf o))))
   written-back = outlined-border anchor sides (outlined-iff anchor sides .1 (completionOf o, complete-taken-as o h))
 
-  -- It is the outline that its anchor and edges write back
+  -- It is the outline that its anchor and edges give
   is-written : border (completionOf o) ≡ outline (border (completionOf o) .start) (lettersFrom (edges (border (completionOf o))))
   is-written = written-back .own (completionOf o) (complete-taken-as o h)
 
@@ -126,7 +126,7 @@ module _ (o : Outline) (h : Simple o) where
   pub border-completes : Completes o (border (completionOf o))
   border-completes = subst (Completes o) (sym is-written) whole
 
--- ---- what an answer says
+-- ---- what a reply says
 
 module _ (o : Outline) (buffer : List ℕ) where
   pub stopped-answers : {f : Refusal} → surveyOf o ≡ Stopped f → Answers o buffer buffer (Refused f)
@@ -150,7 +150,7 @@ module _ (o : Outline) (buffer : List ℕ) where
         named = record { drawn = λ q. absurd (omega arith); completes = λ q. absurd (omega arith); short = λ q. h };
       }
 
-  -- The letters first in the list are read back
+  -- The letters at the front of the buffer are the outline's
   pub read-back : (v : Outline) (after : List ℕ) → after ≡ v .letters ++ drop (size v) buffer → outlineIn (completedFields (Written (size v) (v .start))) after ≡ v
   unfolding completedFields
   read-back v after e = ap (outline (v .start)) (ap (take (size v)) e ∙ take-at (v .letters) (drop (size v) buffer) (size v) refl)

@@ -26,7 +26,7 @@ use Rattle.witness.proofs.Steps.{left-same}
 use Rattle.row_sides.specs.parts.Passed.{Passed}
 use Rattle.hull_rows.specs.parts.Ends.{LeftEnds, Lowest}
 
--- The ends of the hull's rows b to t - 1, from which the border of the completion is written, from the left end of row m on, and its count n of letters
+-- The ends of the hull's rows b to t - 1. From these the completion's border is written, from the left end of row m. It has n letters
 pub record HullOf (o : Outline) (begins ends : List ℕ) (b t m n : ℕ) : Type 0 where
   pub low : b ≤ m
   pub high : m < t
@@ -35,7 +35,7 @@ pub record HullOf (o : Outline) (begins ends : List ℕ) (b t m n : ℕ) : Type 
   pub count : n ≡ size (border (complete o))
   pub short : n ≤ longest
 
--- Rows that begin alike begin alike in the hull, also a single one
+-- Rows that begin alike begin alike in the hull, even a single row
 hull-same : (f g : ℕ → ℕ) (b t : ℕ) → ((r : ℕ) → r < t → f r ≡ g r) → (r : ℕ) → b ≤ r → r < t → hullLeft f b t r ≡ hullLeft g b t r
 hull-same f g b t same r h l =
     elim (decLt (suc b) t) [
@@ -91,7 +91,7 @@ module _ (o : Outline) (h : Simple o) where
   block-rows : Rows (firstCell (block o)) (pastCell (block o)) (firstRow (block o)) (pastRow (block o))
   block-rows = block-ends (block o) (block-joined o h) .rows
 
-  -- The rows of the code's two climbs
+  -- The rows that the code's two passes find
   pub record Sided (begins over ends : ℕ → ℕ) (b t : ℕ) : Type 0 where
     pub low : b ≡ firstRow (block o)
     pub high : t ≡ pastRow (block o)

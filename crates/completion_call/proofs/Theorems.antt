@@ -1,4 +1,6 @@
--- What the contract says of completions (6.6). The reply and the list hold the border of the outline round the hull, and the laws of that outline do the rest.
+-- What the contract says about completions (6.6): reply and buffer have the border of the outline round the hull, and the laws of that
+-- outline do
+-- the rest.
 use Prim.Native.Nat.{ℕ, _+_, _-_, _*_, _≤_, _<_}
 use native.Mathlib.Decide.{decLt}
 use native.Mathlib.Omega.{arith}
@@ -56,7 +58,7 @@ module _ (o : Outline) (buffer : List ℕ) where
   abbrev fields : Completed → ℕ
   fields c = completedFields c .number
 
-  -- Number 0 says that the outline passes 1 to 6 and that there is room
+  -- Number 0 means that the outline passes 1 to 6 and that there is room
   pub written-iff : (replyTo o buffer .number ≡ 0) ↔ (Simple o × (size (border (completionOf o)) ≤ length buffer))
   unfolding completedFields
   written-iff = (λ e. go e (case-of o (length buffer)), λ w. ap fields (completed-written o (length buffer) (w .0) (w .1)))
@@ -74,7 +76,7 @@ module _ (o : Outline) (buffer : List ℕ) where
     answered : completedOf o (length buffer) ≡ Written (size (border (completionOf o))) (border (completionOf o) .start)
     answered = completed-written o (length buffer) drawn (written-iff .0 done .1)
 
-    -- The reply and the list hold the border of the outline round the hull
+    -- The reply and the buffer have the border of the outline round the hull
     pub holds-border : replied o buffer ≡ border (completionOf o)
     unfolding completionAfter writtenAfter
     holds-border =
@@ -93,7 +95,7 @@ module _ (o : Outline) (buffer : List ℕ) where
     encloses-drawing c r e =
         same-block c r .1 (complete-hull o drawn (record { col = c; row = r }) .0 (complete-holds o drawn c r e))
 
-    -- And it is the least: every taken outline that encloses the drawing's cells encloses all of its
+    -- It is the smallest: every taken outline that encloses the drawing's cells encloses all of its cells
     pub least :
         (v : Outline) → verdictFields (verdictOf v) .number ≡ 0 → ((c r : ℕ) → block o c r ≡ true → block v c r ≡ true)
         → (c r : ℕ) → block (replied o buffer) c r ≡ true → block v c r ≡ true
@@ -112,12 +114,12 @@ module _ (o : Outline) (buffer : List ℕ) where
     pub letters : replyTo o buffer .place ≡ 2 * (rightmostCorner o - leftmostCorner o) + 2 * (highestCorner o - lowestCorner o)
     letters = placed ∙ length-border (completionOf o) (complete-simple o drawn) ∙ complete-count o drawn
 
-    -- And no more letters than the drawing
+    -- It has no more letters than the drawing
     pub shorter : replyTo o buffer .place ≤ size o
     shorter =
         omega (arith, placed, length-border (completionOf o) (complete-simple o drawn), complete-shorter o drawn)
 
-  -- A list of 612 letters is never too short
+  -- A buffer of 612 letters is never too short
   pub enough : longest ≤ length buffer → replyTo o buffer .number ≡ 18 → ⊥
   unfolding completedFields
   enough l e = go (case-of o (length buffer))
@@ -127,7 +129,7 @@ module _ (o : Outline) (buffer : List ℕ) where
       go (short h k) = omega (arith, length-border (completionOf o) (complete-simple o h), complete-shorter o h, walked o h .short)
       go (roomy h k) = omega (arith, e, ap fields (completed-written o (length buffer) h k))
 
--- Completed again, with room for its letters, it is the same, and so is the reply
+-- Completed again, with room for its letters, it stays the same, and so does the reply
 pub twice :
     (o : Outline) (buffer again : List ℕ) → replyTo o buffer .number ≡ 0 → replyTo o buffer .place ≤ length again
     → (replyTo (replied o buffer) again ≡ replyTo o buffer) × (replied (replied o buffer) again ≡ replied o buffer)

@@ -1,4 +1,6 @@
--- A climb with one edge in hand: it spans the row in hand, or the next one does, because it ends in the row before; and it crosses the row where the hull begins.
+-- The pass up a side keeps one edge. It goes across the current row, or it ends in the row before and the next edge does. It crosses the
+-- row where
+-- the hull begins.
 use Prim.Native.Nat.{ℕ, suc, pred, _+_, _-_, _*_, _/_, _≤_, _<_}
 use mathlib.Core.Path.{_≡_, refl, sym, ap, _∙_, subst}
 use mathlib.Core.Bool.{cond}
@@ -22,7 +24,7 @@ use Rattle.completion.proofs.Climb.{Climbed, climbed-start, climbed-writes, cli
 use Rattle.completion.proofs.Edges.{crossing-le}
 use Rattle.hull_rows.specs.parts.Ends.{Lowest}
 
--- A mean of two numbers, rounded up, is below what bounds both
+-- A mean of two numbers, rounded up, is below a bound of both
 mean-small : (u v x y b : ℕ) → 0 < u + v → x < b → y < b → (u * x + v * y + (u + v - 1)) / (u + v) < b
 mean-small u v x y b pos h k = div-lt-iff-lt-mul pos .1 (omega (arith, mul-le-mul-left u h, mul-le-mul-left v k))
 
@@ -32,7 +34,7 @@ crossing-fits lo i j r b ir rj h k =
     let d : j - i ≡ (j - r) + (r - i) = omega arith in rw d (mean-small (j - r) (r - i) (lo i) (lo j) b (omega arith) h k)
 
 module _ (lo : ℕ → ℕ) (b t : ℕ) where
-  -- The edge from row i spans the row below row r, which is above row i
+  -- The edge from row i goes across the row below row r, and row r is above row i
   pub record Climbing (i r : ℕ) : Type 0 where
     pub left : ℕ
     pub climbed : Climbed lo b t i left
@@ -48,7 +50,7 @@ module _ (lo : ℕ → ℕ) (b t : ℕ) where
         under = λ m. omega (arith, furthest-furthest lo b t m .above);
       }
 
-  -- The edge from row e spans row r
+  -- The edge from row e goes across row r
   pub record Spanning (e r : ℕ) : Type 0 where
     pub left : ℕ
     pub climbed : Climbed lo b t e left
@@ -81,7 +83,7 @@ module _ (lo : ℕ → ℕ) (b t : ℕ) where
     pub spanning-low : b ≤ e
     spanning-low = s .climbed .low
 
-    -- The row at which it ends
+    -- The row where it ends
     pub spanning-end : (j : ℕ) → j ≡ nextRow lo t e → (e < r) × (r ≤ j) × (j < t)
     spanning-end j d = omega (arith, s .above, s .under, furthest-furthest lo e t spanning-two .below)
 
@@ -93,7 +95,7 @@ module _ (lo : ℕ → ℕ) (b t : ℕ) where
 
 -- ---- in place
 
--- The line meets the row in which it ends at that row's first column
+-- A line meets the row where it ends at that row's first column
 crossing-end : (lo : ℕ → ℕ) (i j : ℕ) → i < j → crossing lo i j j ≡ lo j
 crossing-end lo i j l =
     let a = crossing-le lo i j j (lo j) l (omega arith) (omega arith) .1 right-end in
@@ -106,7 +108,7 @@ unfolding crossing
 crossing-by f g i j r d e = rw (d, e) refl
 
 module _ (lo : ℕ → ℕ) (b t : ℕ) (fits : t ≤ 256) where
-  -- The rows below row r begin where the hull does, and the others, and row i, where they did
+  -- The rows below row r have the hull's first columns. The other rows, and row i, have their own
   pub record Leftward (l : List ℕ) (i r : ℕ) : Type 0 where
     pub sized : length l ≡ 256
     pub low : b < r
@@ -117,7 +119,7 @@ module _ (lo : ℕ → ℕ) (b t : ℕ) (fits : t ≤ 256) where
     pub corner : rows l i ≡ lo i
 
   module _ (l : List ℕ) (i r : ℕ) (w : Leftward l i r) (more : r < t) (e : ℕ) where
-    -- The row from which the next edge leaves begins where it did
+    -- The row where the next edge starts still has its own first column
     pub leftward-corner : (j : ℕ) → j ≡ nextRow lo t i → e ≡ cond (leb r j) i j → rows l e ≡ lo e
     leftward-corner j d g =
         let c = w .climbing in

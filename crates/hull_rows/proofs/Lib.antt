@@ -1,2 +1,2 @@
--- The laws of the climb and of the search for the lowest row.
+-- The laws of the pass up a side, and of the search for the lowest row.
 pub mod Laws

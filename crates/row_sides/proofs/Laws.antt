@@ -1,4 +1,4 @@
--- The pass, letter by letter: what is kept so far and the letters that are left give the sides of the rows.
+-- The pass, letter by letter: what is kept so far, together with the remaining letters, gives the sides of the rows.
 use Prim.Native.Nat.{ℕ, zero, suc, _+_, _-_, _≤_, _<_, min, max}
 use mathlib.Core.Path.{_≡_, refl, sym, ap, _∙_, subst}
 use mathlib.Core.Bool.{Bool, true, false, cond, _||_, _&&_, true≢false}
@@ -49,7 +49,7 @@ tells-none y a f g =
     (λ p d r h k. elim (along-cases r p a k) [ inl (z, _) ↦ absurd (f z) | inr (z, q) ↦ absurd (g z (omega arith)) ])
     (λ p d r h k. absurd (omega arith))
 
--- ---- two columns, and one more
+-- ---- two columns and one more
 
 abbrev Keeps : ℕ → ℕ → ℕ → ℕ → ℕ → Type 0
 Keeps c u v u′ v′ = (u′ ≡ keepTwo c (record { one = u; two = v }) .one) × (v′ ≡ keepTwo c (record { one = u; two = v }) .two)
@@ -135,7 +135,7 @@ passing-end o i p lo en hi low high l k =
       highest = rw d at (k .highest);
     }
 
--- The corner is one of the chart
+-- The corner is on the chart
 pub passing-on : (o : Outline) (i : ℕ) (p : Point) (lo en hi : List ℕ) (low high : ℕ) → Simple o → i < size o → Passing o i p lo en hi low high → (p .col < 256) × (p .row < 256)
 passing-on o i p lo en hi low high s l k =
     let w = walked o s in

@@ -1,5 +1,4 @@
--- Rows that begin and end alike below the top have the same three cells for every cell of the hull: the edges that span its row are the
--- same (Steps).
+-- Rows with equal ends below the top have the same three cells for every cell of the hull, because they have the same edges (Steps).
 use Prim.Native.Nat.{ℕ, suc, pred, _-_, _≤_, _<_}
 use mathlib.Core.Path.{_≡_, refl, sym, ap, _∙_}
 use native.Mathlib.Decide.{decLt}
@@ -18,7 +17,7 @@ three-eq : {a b d u v w : Point} → a ≡ u → b ≡ v → d ≡ w
     → _≡_ {A = Three} (record { a = a; b = b; d = d }) (record { a = u; b = v; d = w })
 three-eq i j k = rw (i, j, k)
 
--- The ends of the edge that spans a row, where the hull begins left of the row
+-- The ends of the edge across a row, if the hull begins left of the row
 record Ended (f g : ℕ → ℕ) (b t r : ℕ) : Type 0 where
   lower : lowerEnd f b t r < t
   upper : upperEnd f b t r < t

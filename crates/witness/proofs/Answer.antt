@@ -1,5 +1,6 @@
--- The answer of a witness call, and what it means: past 1 to 6 and with six numbers it is that of the search, whose theorems say the rest;
--- before that it is a refusal, whose number is not 0.
+-- The reply of a witness call and its meaning. If the outline passes 1 to 6 and the buffer has six numbers, it is the search's, whose
+-- theorems say
+-- the rest. Otherwise it is a refusal, whose number is not 0.
 use Prim.Native.Nat.{ℕ, _≤_, _<_}
 use native.Mathlib.Omega.{arith}
 use native.Mathlib.Decide.{decLt}
@@ -45,7 +46,7 @@ above Cell = omega arith
 above Directions = omega arith
 
 module _ (o : Outline) where
-  -- ---- the answer
+  -- ---- the reply
 
   pub answer-stopped : (n : ℕ) {f : Refusal} → surveyOf o ≡ Stopped f → Refused f ≡ witnessedOf o n
   unfolding witnessedOf pastSurvey
@@ -74,7 +75,7 @@ module _ (o : Outline) where
     abbrev Named : Witnessed → Type 0
     Named w = WitnessNamed o (witnessedFields w) l (shownAfter w (witnessOf o) l)
 
-    -- A refusal of an outline that does not pass 1 to 6, or whose list is too short
+    -- A refusal of an outline that does not pass 1 to 6, or whose buffer is too short
     refused : (f : Refusal) → (Simple o → sixNumbers ≤ length l → ⊥) → Named (Refused f)
     unfolding witnessedFields shownAfter
     refused f out =

@@ -1,5 +1,6 @@
--- The three cells hold the cell; the search by rows finds the lowest missing cell; the first run of a block's row ends at its second side;
--- the theorems for an outline, and for the answer of a witness call. What the loops over the letters and over the rows keep.
+-- The three cells have the cell in their triangle; the search by rows finds the lowest missing cell; the first interval of a row ends at
+-- its second
+-- side; the theorems for an outline, and for the reply of a witness call; the invariants of the loops over letters and rows.
 pub mod Three
 pub mod Gap
 pub mod Runs

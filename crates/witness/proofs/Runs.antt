@@ -1,5 +1,6 @@
--- The first run of a row of a block ends at the second side along the row: where there is no side the next cell is as the one before, and a side with an enclosed cell on its left
--- runs down, so the cell on its right is open.
+-- The first interval of a row of a block ends at the row's second side. Without a side the next cell is like the one before it. A side with
+-- an
+-- enclosed cell on its left runs down, so the cell on its right is not enclosed.
 use Prim.Native.Nat.{ℕ, zero, suc, pred, _+_, _-_, _≤_, _<_}
 use mathlib.Core.Path.{_≡_, refl, sym, ap, _∙_, subst, subst₂}
 use mathlib.Core.Bool.{Bool, true, false, true≢false, _&&_, and-eq-true-iff}
@@ -46,7 +47,7 @@ module _ (o : Outline) (h : Simple o) where
   up : letterAt (clockwiseForm o) (westPlace (clockwiseForm o)) ≡ 1
   up = sym (leaving-west (clockwiseForm o) w) ∙ leaves-upwards (border o) (clockwise-form o h)
 
-  -- Without a side the next cell is as the one before
+  -- Without a side the next cell is like the one before it
   goes-on : (c r : ℕ) → block o c r ≡ true → (Side o r (suc c) → ⊥) → block o (suc c) r ≡ true
   goes-on c r e n =
       level-enclosed (clockwiseForm o) (point (suc c) r)
@@ -70,7 +71,7 @@ module _ (o : Outline) (h : Simple o) where
                 absurd (n (side-sent o h r (suc c) (record { place = i; below = l; passes = along-down r (cornerAt (clockwiseForm o) i) (letterAt (clockwiseForm o) i) a (row-is d); said = col-is d })))
           ]
 
-  -- A side right of an enclosed cell runs down, and the cell beyond it is open
+  -- A side right of an enclosed cell runs down, and the cell after it is not enclosed
   stops : (c r : ℕ) → block o c r ≡ true → Side o r (suc c) → block o (suc c) r ≡ false
   unfolding leftOf
   stops c r e s =
@@ -99,7 +100,7 @@ module _ (o : Outline) (h : Simple o) where
   abbrev beyond : ℕ → Point → ℕ → Bool
   beyond r p a = alongRow r p a && ltb (firstSide o r) (p .col)
 
-  -- The second side is the least beyond the first
+  -- The second side is the smallest after the first
   second-le : (r c : ℕ) → Side o r c → firstSide o r < c → secondSide o r ≤ c
   unfolding secondSide
   second-le r c s l =

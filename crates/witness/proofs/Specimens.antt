@@ -1,5 +1,6 @@
--- Witnesses computed: a dent at the right and its mirror image, gaps within rows, drawn either way, a dent at the left of rows that step in and out again, and an outline with none
--- missing; and what the call answers.
+-- The checker computes witnesses: a dent on the right and its mirror image, gaps within rows, outlines drawn in either direction, a dent on
+-- the
+-- left of rows that step in and out again, an outline with no missing cell, and replies of the call.
 use Prim.Native.Nat.{ℕ}
 use mathlib.Core.Path.{_≡_, refl}
 use mathlib.Core.Bool.{Bool, true, false}
@@ -22,7 +23,7 @@ use Rattle.verdict.proofs.Computes.{computes}
 use Rattle.witness.specs.Gap
 use Rattle.witness.specs.Witnessed
 
--- A name that opens the definitions, for what follows
+-- Opens the definitions for what follows
 opened : Bool
 unfolding Below.first Below.further Chart.step Enclosed.upAlong Enclosed.downAlong Search.leans Search.furthest Search.crossing HullRows.leftFrom HullRows.hullLeft HullRows.hullRight Sides.alongRow Sides.leastOver Sides.greatestOver Sides.firstSide Sides.lastSide Sides.lowestCorner Sides.highestCorner Three.edgeRow Three.lowerEnd Three.upperEnd Three.firstIn Three.lastIn Three.fromLeft Three.fromRight Three.fromRow Three.threeFor Gap.openColumn Gap.hasGap Gap.lowestRow Gap.lowestOpen Gap.secondSide Gap.isMissing Gap.lowestMissing Gap.witnessFor Gap.witnessOf
 opened = true
@@ -31,7 +32,7 @@ called : Bool
 unfolding Witnessed.shownIn Witnessed.pastSurvey Witnessed.witnessedOf Witnessed.witnessedFields Witnessed.threeNumbers Witnessed.shownAfter Witnessed.cellsAfter
 called = true
 
--- Some cell is missing, which, and which three cells show it
+-- Some cell is missing: which one, and which three cells prove it
 pub record Shows (o : Outline) (x a b d : Point) : Type 0 where
   pub missing : Gap.isMissing o ≡ true
   pub cell : Gap.lowestMissing o ≡ x
@@ -59,7 +60,7 @@ h7-back : Shows (drawn (0 ∷ 0 ∷ 0 ∷ 1 ∷ 1 ∷ 2 ∷ 3 ∷ 2 ∷ 1 ∷ 2 
 unfolding opened
 h7-back = record { missing = refl; cell = refl; three = refl }
 
--- Three towers of three on a row of five: two gaps in each row, and the first is named
+-- Three towers of three on a row of five: two gaps in each row, of which the first is found
 comb :
     Shows (drawn (1 ∷ 1 ∷ 1 ∷ 0 ∷ 3 ∷ 3 ∷ 0 ∷ 1 ∷ 1 ∷ 0 ∷ 3 ∷ 3 ∷ 0 ∷ 1 ∷ 1 ∷ 0 ∷ 3 ∷ 3 ∷ 3 ∷ 2 ∷ 2 ∷ 2 ∷ 2 ∷ 2 ∷ []))
     (point 1 1) (point 0 1) (point 4 1) (point 4 1)
@@ -78,12 +79,12 @@ one-cell = refl
 
 -- ---- the call
 
--- The answer with a list of zeros, n of them, and the list afterwards
+-- The reply with a buffer of n zeros, and the buffer afterwards
 pub record Answers (o : Outline) (n : ℕ) (f : Fields) (after : List ℕ) : Type 0 where
   pub replied : Witnessed.witnessedFields (Witnessed.witnessedOf o n) ≡ f
   pub written : Witnessed.cellsAfter o (replicate n 0) ≡ after
 
--- H6 in a list of eight numbers; in one of five; H1, one cell; H8, which meets a corner twice
+-- H6 with a buffer of eight numbers and of five; H1, one cell; H8, which meets a corner twice
 h6-answer :
     Answers (drawn (1 ∷ 1 ∷ 1 ∷ 0 ∷ 3 ∷ 3 ∷ 0 ∷ 0 ∷ 3 ∷ 2 ∷ 2 ∷ 2 ∷ [])) 8 (accepted no-word 0 (point 1 1)) (2 ∷ 0 ∷ 0 ∷ 2 ∷ 0 ∷ 1 ∷ 0 ∷ 0 ∷ [])
 unfolding opened computes called

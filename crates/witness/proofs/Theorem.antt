@@ -1,5 +1,6 @@
--- For an outline past refusals 1 to 6, whichever way it is drawn: the search by rows finds a cell exactly if some cell is missing, and then it is the lowest; three enclosed cells
--- hold it. Where the search of refusal 9 is made, the two name the same cell.
+-- For an outline that passes refusals 1 to 6, in either direction, the search by rows finds a cell exactly if some cell is missing. It is
+-- the lowest
+-- one, and three enclosed cells have it in their triangle. Refusal 9 names the same cell.
 use Prim.Native.Nat.{ℕ, _≤_, _<_}
 use mathlib.Core.Path.{_≡_, refl, sym, ap, _∙_}
 use mathlib.Core.Bool.{Bool, true, false, true≢false}
@@ -38,12 +39,12 @@ module _ (o : Outline) (h : Simple o) where
   abbrev row : ℕ
   row = lowestRow (firstSide o) (secondSide o) (lastSide o) (lowestCorner o) (highestCorner o)
 
-  -- The search finds a cell: it is the lowest missing one
+  -- If the search finds a cell, it is the lowest missing one
   pub missing-lowest : isMissing o ≡ true → LowestMissing (block o) (lowestMissing o)
   unfolding isMissing lowestMissing
   missing-lowest e = finds (block o) (firstSide o) (secondSide o) (lastSide o) (lowestCorner o) (highestCorner o) (side-ends o h) (first-run o h) (ltb-true row (highestCorner o) e)
 
-  -- It finds none: none is missing
+  -- If it finds none, none is missing
   pub missing-none : isMissing o ≡ false → Convex (block o)
   unfolding isMissing
   missing-none e = none-missing (block o) (firstSide o) (secondSide o) (lastSide o) (lowestCorner o) (highestCorner o) (side-ends o h) (first-run o h) (ltb-false row (highestCorner o) e)
@@ -69,7 +70,7 @@ module _ (o : Outline) (h : Simple o) where
       go false e f = e
       go true e f = absurd (f (lowestMissing o) (missing-lowest e .missing))
 
-  -- Whatever cell is the lowest missing one, the search has found it
+  -- The lowest missing cell is the one that the search finds
   pub lowest-is : (x : Point) → LowestMissing (block o) x → lowestMissing o ≡ x
   lowest-is x m = lowest-unique (missing-lowest (missing-iff .1 (x, m .missing))) m
 
@@ -93,12 +94,12 @@ module _ (o : Outline) (h : Simple o) where
   pub verdict-same : verdictFields (verdictOf o) .number ≡ 9 → lowestMissing o ≡ cellOf (verdictFields (verdictOf o))
   verdict-same e = lowest-is (cellOf (verdictFields (verdictOf o))) (verdict-named o .missing e)
 
--- The search of rows that are single runs, where no back-step is met and a dent is
+-- The search for rows that are single intervals, with no back-step and with a dent
 pub missing-same : (o : Outline) → Reaches o → dentPiece (border o) < 4
     → lowestMissing o ≡ missingCell (border o) (cornerAt (border o) (cornerPlace (border o) 3) .row) (cornerAt (border o) (cornerPlace (border o) 1) .row)
 missing-same o r d = lowest-is o (r .simple) _ (named-lowest o r d)
 
--- ---- outlines of one block, whichever way and from wherever they are drawn
+-- ---- outlines of the same block, in either direction and from any start
 
 module _ (o v : Outline) (h : Simple o) (k : Simple v) (same : SameCells o v) where
   pub lowest-alike : isMissing o ≡ true → lowestMissing o ≡ lowestMissing v

@@ -1,4 +1,4 @@
--- The answer and the list afterwards, by cases: each is what the definition says there (witness/proofs/Answer.antt).
+-- The reply and the buffer afterwards, case by case as the definition has them (witness/proofs/Answer.antt).
 use Prim.Native.Nat.{ℕ, _≤_, _<_}
 use mathlib.Core.Path.{_≡_, refl, sym, ap, _∙_}
 use mathlib.Core.Bool.{Bool, true, false}
@@ -21,7 +21,7 @@ use Rattle.witness.proofs.Answer.{answer-stopped, answer-passed, shown-short, s
 use Rattle.witness_search.specs.parts.Answers.{Finds}
 
 module _ (o : Outline) (l : List ℕ) where
-  -- Past 1 to 6
+  -- For an outline that passes 1 to 6
   abbrev pub Shows : Witnessed → List ℕ → Type 0
   Shows r after = (r ≡ shownIn (length l) o) × (after ≡ shownAfter (shownIn (length l) o) (witnessOf o) l)
 

@@ -1,2 +1,2 @@
--- The answer and the list by cases.
+-- The reply and the buffer, case by case.
 pub mod Laws

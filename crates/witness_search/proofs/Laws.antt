@@ -1,4 +1,4 @@
--- The pass over the rows: the edges in hand span the row in hand, and no row before it has a gap.
+-- The pass over the rows: the current edges go across the current row, and no earlier row has a gap.
 use Prim.Native.Nat.{ℕ, suc, pred, _+_, _-_, _≤_, _<_}
 use mathlib.Core.Path.{_≡_, refl, sym, ap, _∙_, subst}
 use mathlib.Core.Bool.{Bool, true, false, true≢false, cond}
@@ -21,7 +21,7 @@ use Rattle.witness.proofs.Three.{Spans}
 use Rattle.witness.proofs.Steps.{row-spans, row-first, row-next, lower-same, upper-same, left-same}
 use Rattle.witness_search.specs.parts.Answers.{threeBy, Shows, Answers}
 
--- ---- a column before the hull's right end
+-- ---- a column left of the hull's right end
 
 pub gap-sums : (c x w : ℕ) → w ≡ c → w < 255 → ltb x (255 - w) ≡ ltb c (side - x)
 gap-sums c x w e l =
@@ -76,10 +76,10 @@ module _ (lo hi : ℕ → ℕ) (i j k n c r : ℕ) (x a b d : Point) where
             (cells (point (pred (hi k)) k) (point (pred (hi n)) n) (point (pred (hi r)) r) (is-at a (pred (hi k)) k (f .0 ∙ s, f .1)) (is-at b (pred (hi n)) n (g .0 ∙ t, g .1)) (is-at d (pred (hi r)) r (h .0 ∙ v, h .1)));
       }
 
--- ---- an edge in hand
+-- ---- a current edge
 
 module _ (f : ℕ → ℕ) (b t : ℕ) (two : suc b < t) where
-  -- From the row i of the edge of the row below, that of row r is found
+  -- The edge of row r is found from row i, where the edge of the row below starts
   pub record On (i r : ℕ) : Type 0 where
     pub low : b ≤ i
     pub high : suc i < t
@@ -101,7 +101,7 @@ module _ (f : ℕ → ℕ) (b t : ℕ) (two : suc b < t) where
   pub edge-within : (r i : ℕ) → b ≤ r → r < t → i ≡ lowerEnd f b t r → (b ≤ i) × (suc i < t)
   edge-within r i h l e = let s = row-spans f b t two r h l in (omega (arith, s .from), omega (arith, s .rises, s .below))
 
-  -- It spans the row, and crosses it where the hull begins
+  -- It goes across the row, and crosses it where the hull begins
   pub record Edge (r i j : ℕ) : Type 0 where
     pub is-low : i ≡ lowerEnd f b t r
     pub is-high : j ≡ nextRow f t (lowerEnd f b t r)

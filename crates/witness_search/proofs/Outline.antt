@@ -1,4 +1,4 @@
--- What the two passes say of an outline: the arrays are the ends of its block's rows.
+-- What the two passes find for an outline: the arrays have the ends of its block's rows, so the laws for rows apply.
 use Prim.Native.Nat.{ℕ, suc, pred, _+_, _-_, _≤_, _<_}
 use mathlib.Core.Path.{_≡_, refl, sym, ap, _∙_, subst, subst₂}
 use mathlib.Core.Bool.{Bool, true, false, true≢false, cond}
@@ -71,7 +71,7 @@ module _ (o : Outline) (h : Simple o) (lo en hi : List ℕ) (b t : ℕ) (p : Pas
       let e = p .second r (inner r m) in
       record { begun = omega (arith, f .begun); run = λ c x y. f .run c (omega arith) (omega arith); ended = ap (λ (c : ℕ). block o c r) e ∙ f .ended }
 
-  -- A cell of the hull has the same three cells by the arrays as by the sides
+  -- A cell of the hull has the same three cells from the arrays as from the sides
   three-sent : (x : Point) → InHull (block o) x → threeFor (rows lo) (rows hi) b t x ≡ witnessFor o x
   unfolding witnessFor
   three-sent x k =

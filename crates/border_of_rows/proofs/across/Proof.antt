@@ -1,4 +1,4 @@
--- The letters up to the column in hand are written, which is on the way.
+-- The invariant: the letters up to the current column are written, and it lies between the two ends.
 use Prim.Native.Nat.{_+_, _-_, _<_}
 use mathlib.Core.Path.{_≡_, sym, ap}
 use mathlib.Core.Logic.{inl, inr}
@@ -24,7 +24,7 @@ loop-holds c =
     let none = across-none (args .a) in
     (between-start (args .a) (args .b), omega (arith, ap length none), wrote-same (sym none) (wrote-none (args .out .now) (args .at)))
 
--- A turn has room for a letter
+-- An iteration has room for a letter
 room : (c : tie.In-loop Inv-loop μ-loop) → c .before .loop .k < length (c .before .loop .out)
 room c =
     let args = c .before .before .args in

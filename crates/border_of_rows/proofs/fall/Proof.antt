@@ -1,4 +1,4 @@
--- The letters down to the row in hand are written.
+-- The invariant: the letters down to the current row are written.
 use Prim.Native.Nat.{ℕ, suc, _+_, _-_, _≤_}
 use mathlib.Core.Path.{_≡_, refl, sym, ap, _∙_}
 use mathlib.Core.List.{List, [], _∷_, _++_}
@@ -49,7 +49,7 @@ mul-across-2 c = omega arith
 element-copy-out-across-2 : tie.Need-element-copy-out-across-2 Inv-loop μ-loop
 element-copy-out-across-2 c = omega arith
 
--- A turn has room for one row
+-- An iteration has room for one row
 room :
     (c : tie.In-loop Inv-loop μ-loop)
     → c .before .loop .k + suc (length (across (rows (now (c .before .before .before .args .hi)) (c .before .loop .i)) (rows (now (c .before .before .before .args .hi)) (c .before .loop .i - 1)))) ≤ length (c .before .loop .out)

@@ -1,4 +1,4 @@
--- The letters up to the row in hand are written.
+-- The invariant: the letters up to the current row are written.
 use Prim.Native.Nat.{ℕ, suc, _+_, _-_, _≤_}
 use mathlib.Core.Path.{_≡_, sym, ap}
 use mathlib.Core.List.{[], _∷_, _++_}
@@ -28,7 +28,7 @@ loop-holds c =
     let e : args .y - args .y ≡ 0 = omega arith in
     rw e (omega arith, c .before .pre .0, omega arith, wrote-none (args .out .now) (args .at))
 
--- A turn has room for one row
+-- An iteration has room for one row
 room :
     (c : tie.In-loop Inv-loop μ-loop)
     → c .before .loop .k + suc (length (across (rows (now (c .before .before .before .args .lo)) (c .before .loop .i)) (rows (now (c .before .before .before .args .lo)) (c .before .loop .i + 1)))) ≤ length (c .before .loop .out)

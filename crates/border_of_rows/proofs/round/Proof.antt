@@ -1,4 +1,4 @@
--- The parts stand one behind another, and together they are the letters round the rows.
+-- The parts follow one another, and together they are the letters round the rows.
 use Prim.Native.Nat.{ℕ, _+_, _-_, _≤_}
 use mathlib.Core.Path.{_≡_}
 use mathlib.Core.List.{List, [], _∷_, _++_}
@@ -39,7 +39,7 @@ last s = toRow (left s) (s .args .b) (s .args .m - s .args .b)
 room : (s : tie.Start) → length (first s) + 1 + length (top s) + length (fallen s) + length (bottom s) + length (last s) ≤ length (now (s .args .out))
 room s = omega (arith, round-length (left s) (right s) (s .args .b) (s .args .t) (s .args .m) (s .pre .0 .1), s .pre .1)
 
--- The letters as far as each call
+-- The letters up to each call
 abbrev asTop : tie.Start → List ℕ
 asTop s = (first s ++ (1 ∷ [])) ++ top s
 
@@ -77,7 +77,7 @@ start-4 c = start-3 (descended c)
 abbrev start-5 : tie.After-rise2 → tie.Start
 start-5 c = start-4 (returned c)
 
--- What is written after each call, and how far
+-- What is written after each call, and up to where
 up : (c : tie.After-rise) → Front (now (begun c .args .out)) (first (begun c)) (c .rise .last .1 .1 .1 .0) (c .rise .result)
 up c = let said = c .rise .ensures in record { at = omega (arith, said .0); wrote = said .1 }
 

@@ -1,4 +1,4 @@
--- The survey stops the outline, or it passes 1 to 6 and its hull is written.
+-- The survey refuses the outline, or it passes 1 to 6 and its hull's border is written.
 use mathlib.Core.Path.{sym, _∙_}
 use denote.Ref.{now}
 use Rattle.survey.proofs.SurveyLaws.{survey-simple}

@@ -1,4 +1,5 @@
--- The two climbs find the ends of the hull's rows, W and E are at the rows that reach furthest, and the letters are written round the rows from W on.
+-- The two passes find the ends of the hull's rows, W and E are in the rows that reach furthest, and the letters are written round the rows
+-- from W.
 use Prim.Native.Nat.{ℕ, _+_, _-_, _*_, _≤_, _<_}
 use mathlib.Core.Path.{ap}
 use mathlib.Core.List.{List}

@@ -1,4 +1,4 @@
--- Each product is of a number of 16 bits and a count of rows, and the mean of two such numbers is one.
+-- Each product has a 16-bit factor and a count of rows, and a mean of two 16-bit numbers has 16 bits.
 use Prim.Native.Nat.{_+_, _-_, _*_, _/_, _≤_}
 use mathlib.Core.Path.{_≡_, refl}
 use native.Mathlib.Omega.{arith}

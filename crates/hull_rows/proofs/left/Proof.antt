@@ -1,4 +1,5 @@
--- The edge in hand spans the row in hand, each row passed begins where the hull does, and the rows ahead are as they were.
+-- The invariant: the current edge goes across the current row, each earlier row begins where the hull does, and the later rows are
+-- unchanged.
 use Prim.Native.Nat.{suc, _-_, _≤_, _<_}
 use mathlib.Core.Path.{_≡_, refl, _∙_}
 use denote.Ref.{now}
@@ -30,7 +31,7 @@ loop-holds c =
 edge-requires : tie.Need-edge-requires Inv-loop μ-loop
 edge-requires c κs = let iteration = c .before .before .loop .inv in omega (arith, iteration .1 .climbing .above, iteration .1 .high, iteration .0)
 
--- The edge found spans the row in hand
+-- The edge that is found goes across the current row
 record Found (c : tie.After-edge Inv-loop μ-loop) : Type 0 where
   low : c .before .before .before .before .before .before .args .b ≤ c .edge .result
   high : suc (c .edge .result) < c .before .before .before .before .before .before .args .t
@@ -53,7 +54,7 @@ found c =
       corner = leftward-corner start (args .b) (args .t) (iteration .inv .0) (iteration .lo) (iteration .i) (iteration .r) (iteration .inv .1) l (c .edge .result) _ next (c .edge .ensures);
     }
 
--- And the row read is the one at which it ends
+-- The row that is read is the one where it ends
 record Read (c : tie.After-wide Inv-loop μ-loop) : Type 0 where
   ends : (c .before .edge .result < c .before .before .before .before .loop .r) × (c .before .before .before .before .loop .r ≤ c .wide .result) × (c .wide .result < c .before .before .before .before .before .before .before .args .t)
   at : c .wide .result ≡ nextRow (rows (now (c .before .before .before .before .before .before .before .args .lo))) (c .before .before .before .before .before .before .before .args .t) (c .before .edge .result)

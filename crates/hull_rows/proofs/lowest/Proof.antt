@@ -1,4 +1,4 @@
--- The row in hand is the lowest of those that begin furthest left, of the rows passed.
+-- The invariant: among the rows so far, the current one is the lowest of those that begin furthest left.
 use Prim.Native.Nat.{ℕ, _-_, _≤_, _<_}
 use mathlib.Core.Path.{_≡_, subst}
 use mathlib.Core.Logic.{inl, inr}

@@ -1,4 +1,4 @@
--- Up, down, or along no row.
+-- The letter steps up, down, or along no row.
 use mathlib.Core.Logic.{⊎-elim}
 use native.Mathlib.Omega.{arith}
 use borrow.Author.Tests.{ltb-true, ltb-false}

@@ -1,4 +1,4 @@
--- Less than the least, between the two, or neither.
+-- The column is below the smallest, between the two, or neither.
 use mathlib.Core.Logic.{⊎-elim, inl, inr}
 use native.Mathlib.Omega.{arith}
 use borrow.Author.Tests.{ltb-true, ltb-false}

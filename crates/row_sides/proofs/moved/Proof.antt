@@ -1,4 +1,4 @@
--- A step each way, or none.
+-- Each letter is one step, and any other number is none.
 use mathlib.Core.Logic.{⊎-elim}
 use native.Mathlib.Omega.{arith}
 use borrow.Author.Tests.{ltb-true, ltb-false}

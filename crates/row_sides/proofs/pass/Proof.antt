@@ -1,4 +1,4 @@
--- The loop's invariant: what is kept so far and the letters that are left give the sides of the rows.
+-- The loop's invariant: what is kept so far, together with the remaining letters, gives the sides of the rows.
 use Prim.Native.Nat.{_-_}
 use native.Mathlib.Omega.{arith}
 use denote.Ref.{now}

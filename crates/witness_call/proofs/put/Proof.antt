@@ -1,4 +1,4 @@
--- Six stores from the front on leave the six numbers and then what stood behind them.
+-- Six stores at the front leave the six numbers and then what stood behind them.
 use native.Mathlib.Omega.{arith}
 use lib.ListN.{length-set}
 use lib.Seq.{sets-eq}

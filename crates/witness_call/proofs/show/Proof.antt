@@ -1,4 +1,4 @@
--- The list is too short, or the search says whether a cell is missing, and which cells are written.
+-- The buffer is too short, or the search finds whether a cell is missing and which cells are written.
 use borrow.Author.Needs.{needs}
 use Rattle.witness_call.proofs.Laws.{short-shown, none-shown, found-shown}
 use Rattle.witness_call.proofs.show.Statement.{statement}

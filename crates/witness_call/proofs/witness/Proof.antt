@@ -1,4 +1,4 @@
--- The survey stops the outline, or it passes 1 to 6 and the search answers.
+-- The survey refuses the outline, or it passes 1 to 6 and the search gives the reply.
 use mathlib.Core.Path.{sym, _∙_}
 use borrow.Author.Needs.{needs}
 use Rattle.survey.proofs.SurveyLaws.{survey-simple}

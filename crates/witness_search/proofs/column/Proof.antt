@@ -1,4 +1,4 @@
--- Before the row's first column, or not.
+-- The column is left of the row's first column, or not.
 use mathlib.Core.Path.{refl}
 use native.Mathlib.Omega.{arith}
 use borrow.Author.Tests.{lt-ltb, le-ltb}

@@ -1,4 +1,4 @@
--- Each product is of a number of 16 bits and a count of rows.
+-- Each product has a 16-bit factor and a count of rows, so it fits.
 use Prim.Native.Nat.{_-_, _*_, _≤_}
 use mathlib.Core.Path.{refl}
 use native.Mathlib.Omega.{arith}

@@ -1,4 +1,4 @@
--- Left of the row, within it, or right of it.
+-- The cell is left of the row, within it, or right of it.
 use native.Mathlib.Omega.{arith}
 use denote.Ref.{now}
 use Rattle.rows.specs.parts.Rows.{rows}

@@ -1,4 +1,4 @@
--- The edge spans the row, or the next does.
+-- The edge goes across the row, or the next edge does.
 use mathlib.Core.Path.{refl}
 use native.Mathlib.Omega.{arith}
 use denote.Ref.{now}

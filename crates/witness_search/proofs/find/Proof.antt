@@ -1,4 +1,4 @@
--- The arrays of the first pass are the ends of the block's rows.
+-- The arrays of the first pass have the ends of the block's rows, so the search over rows applies.
 use Prim.Native.Nat.{ℕ, _+_, _≤_, _<_}
 use mathlib.Core.Path.{_≡_, subst}
 use mathlib.Core.List.{List}
@@ -31,7 +31,7 @@ wide-requires-2 c κs = search needs
 add-if1 : tie.Need-add-if1
 add-if1 c = search needs
 
--- The rows in hand, and what the first pass says of them
+-- The rows, and what the first pass finds in them
 module _ (d : tie.After-wide2) where
   abbrev o : Outline
   o = let args = d .before .before .before .before .args in outline (args .s) (now (args .w))
@@ -70,7 +70,7 @@ module _ (d : tie.After-wide2) where
   found : (s : Shown) → Answers (rows lo) (rows en) (rows hi) b t (s .found) (s .cell) (s .a) (s .b) (s .d) → Finds o (s .found) (s .cell) (s .a) (s .b) (s .d)
   found s = found-of o simple lo en hi b t known (s .found) (s .cell) (s .a) (s .b) (s .d)
 
-  -- One row alone
+  -- A single row
   alone : t ≤ b + 1 → b + 1 ≡ t
   alone l = omega (arith, ends .rows .below)
 

@@ -1,4 +1,4 @@
--- Two differences compared.
+-- The test compares two differences that cannot be negative.
 use native.Mathlib.Omega.{arith}
 use mathlib.Core.Path.{sym}
 use Rattle.witness_search.proofs.Laws.{gap-sums, gap-past}

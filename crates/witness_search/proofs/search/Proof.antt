@@ -1,4 +1,4 @@
--- The loop's invariant: the edges in hand span the row in hand, and no row before it has a gap.
+-- The loop's invariant: the current edges go across the current row, and no earlier row has a gap.
 use Prim.Native.Nat.{ℕ, suc, _-_, _≤_, _<_}
 use mathlib.Core.Path.{_≡_, refl, sym, ap, _∙_}
 use native.Mathlib.Omega.{arith}
@@ -40,7 +40,7 @@ edge-requires c κs = omega (arith, c .before .before .loop .inv .2 .left)
 edge-requires-2 : tie.Need-edge-requires-2 Inv-loop μ-loop
 edge-requires-2 c κs = omega (arith, c .before .before .before .before .loop .inv .2 .right)
 
--- The rows of the edges in hand
+-- The rows where the current edges start and end
 record Rows (c : tie.After-edge2 Inv-loop μ-loop) : Type 0 where
   low : c .before .before .before .before .before .before .before .before .before .before .args .b ≤ c .before .before .before .before .before .loop .r
   high : c .before .before .before .before .before .loop .r < c .before .before .before .before .before .before .before .before .before .before .args .t
@@ -69,7 +69,7 @@ rows-of c =
       k-within = edge-within m (args .b) (args .t) two (iteration .r) (c .edge2 .result) (s .low) l z;
     }
 
--- The edges in hand
+-- The current edges
 record Here (c : tie.After-wide2 Inv-loop μ-loop) : Type 0 where
   left : Edge (rows (now (c .before .before .before .before .before .before .before .before .before .before .before .before .args .lo))) (c .before .before .before .before .before .before .before .before .before .before .before .before .args .b) (c .before .before .before .before .before .before .before .before .before .before .before .before .args .t) (c .before .before .before .before .before .before .before .loop .inv .0) (c .before .before .before .before .before .before .before .loop .r) (c .before .before .before .before .edge .result) (c .before .wide .result)
   right : Edge (rows (c .before .before .before .before .before .before .before .before .before .before .before .mirrored .result)) (c .before .before .before .before .before .before .before .before .before .before .before .before .args .b) (c .before .before .before .before .before .before .before .before .before .before .before .before .args .t) (c .before .before .before .before .before .before .before .loop .inv .0) (c .before .before .before .before .before .before .before .loop .r) (c .before .before .edge2 .result) (c .wide2 .result)

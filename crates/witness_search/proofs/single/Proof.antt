@@ -1,4 +1,4 @@
--- A gap within the row, or none.
+-- There is a gap within the row, or none.
 use native.Mathlib.Omega.{arith}
 use denote.Ref.{now}
 use Rattle.rows.specs.parts.Rows.{rows}
