@@ -1,4 +1,4 @@
--- The cell that a close names is that of the close of its party's draft, whatever the holder.
+-- The cell of a close's reply depends only on the party's draft and work, so the law for slots carries over to every holder.
 use Prim.Native.Nat.{ℕ}
 use native.Mathlib.Omega.{arith}
 use mathlib.Core.Path.{_≡_}

@@ -1,3 +1,3 @@
--- The places that there are; the cell that a close names.
+-- Parties and places are within range; the cell of a close's reply.
 pub mod Places
 pub mod CloseLaws

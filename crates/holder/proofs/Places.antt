@@ -1,4 +1,4 @@
--- Past 19 the party is one that there is, and the place at hand is one that there is for every action.
+-- After 19 the party is below two, and the place of the work that an action is given is always below four.
 use Prim.Native.Nat.{ℕ, _<_}
 use mathlib.Core.Path.{_≡_, refl, sym, _∙_}
 use mathlib.Core.Bool.{Bool, true, false, cond}
@@ -26,7 +26,7 @@ reached-below (Clear k) = kept-below k
 reached-below (Close k) = kept-below k
 reached-below (Ask k q) = kept-below k
 
--- By what was seen of the tests
+-- From the results of the tests
 pub there-party : {t : Bool} (p : ℕ) → t ≡ badParty p → t ≡ false → p < parties
 there-party p test e = leb-false parties p (sym test ∙ e)
 

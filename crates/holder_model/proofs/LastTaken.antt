@@ -1,4 +1,5 @@
--- At work is the outline last taken: a call changes what is at work at a place exactly where it leaves a mark of it, and then to that mark.
+-- The outline last taken is at work: a call changes what is at work at a place exactly if it puts something there, and then to what it
+-- puts.
 use Prim.Native.Nat.{ℕ}
 use mathlib.Core.Path.{_≡_, refl, sym, ap, _∙_}
 use mathlib.Core.Bool.{Bool, true, false, cond}
@@ -38,13 +39,13 @@ refusal-numbered BadList = refl
 refusal-numbered Cell = refl
 refusal-numbered Directions = refl
 
--- A reply that is no refusal
+-- A reply that is not a refusal
 abbrev clean : Reply → Bool
 clean r = eqb (replyFields r .number) 0
 
--- ---- one action, on the page of its party
+-- ---- one action, on its party's state
 
--- What a close leaves at its place is its mark, or what was there
+-- After a close its place has what the close put there, or what was there before
 closed-work : (w : Option Outline) (o : Outline) (t : Bool) (v : Verdict) (ms : List (Option Outline)) →
     lastOr w (cond (clean (closedReply t v)) (some o ∷ []) [] ++ ms) ≡ lastOr (workAfter w o v) ms
 unfolding lastOr replyFields closedReply workAfter
@@ -58,7 +59,7 @@ close-work none w ms = unfold replyFields in refl
 close-work (some o) w ms = closed-work w o (equalsWork o w) (verdictOf o) ms
 
 module _ (k : ℕ) (g : PartyModel) (ms : List (Option Outline)) where
-  -- An action that leaves nothing
+  -- An action that puts nothing
   nothing : (r : Reply) (w : Option Outline) → lastOr w (cond (clean r) [] [] ++ ms) ≡ lastOr w ms
   nothing r w = go (clean r)
     where
@@ -88,7 +89,7 @@ module _ (k : ℕ) (g : PartyModel) (ms : List (Option Outline)) where
 -- ---- a list of calls
 
 module _ (p k : ℕ) where
-  -- One call: the last of its mark and of the marks that follow
+  -- One call: the last of what it and the later calls put there
   mark-work : (b : Book) (c : Call) (ms : List (Option Outline)) → lastOr (atWork b p k) (mark p k b c ++ ms) ≡ lastOr (atWork (answer b c .next) p k) ms
   unfolding mark answer put
   mark-work b c ms = go (badParty (c .party)) (eqb p (c .party)) refl refl
@@ -116,14 +117,15 @@ unfolding lastOr
 last-append was [] ns = refl
 last-append was (m ∷ ms) ns = last-append m ms ns
 
--- The outline last taken after one more call: the mark of that call, or what it was before
+-- The outline last taken after one more call: what that call puts there, or the one before
 pub last-taken-next : (p k : ℕ) (cs : List Call) (c : Call) → lastTaken p k (cs ++ (c ∷ [])) ≡ lastOr (lastTaken p k cs) (mark p k (bookAfter fresh cs) c)
 unfolding lastTaken
 last-taken-next p k cs c = ap (lastOr none) (marks-next p k fresh cs c) ∙ last-append none (marks p k fresh cs) (mark p k (bookAfter fresh cs) c)
 
 -- ---- the theorem
 
--- After any list of calls on a fresh book the outline last taken at a party's place is at work there: none before the first taking, and none from a clear to the next
+-- After any list of calls on a fresh model the outline last taken at a party's place is at work there: none before the first taking, and
+-- none from a clear to the next taking
 pub work-last-taken : (p k : ℕ) (cs : List Call) → atWork (bookAfter fresh cs) p k ≡ lastTaken p k cs
 unfolding lastTaken fresh
 work-last-taken p k cs = from-book p k fresh cs

@@ -1,5 +1,6 @@
--- The plain book on some lists of calls: the checker computes the replies. A draft filled to the brim is too long to compute, so there one law, by
--- induction over the count, says what n adds do.
+-- The model on some lists of calls: the checker computes the replies. A full draft is too long to compute, so a law, by induction over n,
+-- says what
+-- n adds do.
 use Prim.Native.Nat.{ℕ, zero, suc, _+_, _≤_}
 use native.Mathlib.Omega.{arith}
 use mathlib.Core.Path.{_≡_, refl, ap, _∙_}
@@ -41,11 +42,11 @@ query k x = Ask k (OfCell x)
 unfoldable pub draw : ℕ → Point → List ℕ → List Action
 draw k s w = Begin s ∷ (map (λ a. Add a) w ++ (Close k ∷ []))
 
--- What the calls of party 0 alone are replied, written out
+-- The fields of the replies to calls of party 0
 unfoldable pub replied : List Action → List Fields
 replied cs = map replyFields (Book.replies (map (by 0) cs))
 
--- The replies of n calls that were done, with no word
+-- The replies of n calls that succeed, with no word
 unfoldable pub done : ℕ → List Fields
 done n = replicate n (said no-word)
 
@@ -61,12 +62,12 @@ H3-back = 0 ∷ 3 ∷ 0 ∷ 1 ∷ 0 ∷ 1 ∷ 2 ∷ 1 ∷ 2 ∷ 3 ∷ 2 ∷ 3 �
 unfoldable pub H6 : List ℕ
 H6 = 1 ∷ 1 ∷ 1 ∷ 0 ∷ 3 ∷ 3 ∷ 0 ∷ 0 ∷ 3 ∷ 2 ∷ 2 ∷ 2 ∷ []
 
--- A name that opens the book, for the proofs that compute it
+-- Opens the model for the proofs that compute it
 opened : Bool
 unfolding at query draw replied done H3 H4 H3-back H6 computes replyFields badCell Book.fresh Book.equalsWork Book.begins Book.adds Book.drops Book.closedReply Book.workAfter Book.closes Book.asked Book.askedRow Book.asks Book.acts Book.answer actsFrom put Book.repliesFrom Book.replies
 opened = true
 
--- The outlines of H3, of H4 and of H3 drawn backward are past 1 to 6 and have one border
+-- The outlines of H3, of H4 and of H3 drawn backward pass 1 to 6 and have the same border
 abbrev h3 : Outline
 h3 = record { start = at 0 1; letters = H3 }
 
@@ -96,27 +97,27 @@ same-h3-back : Book.sameBlock h3-back h4 ≡ true
 unfolding opened
 same-h3-back = same-border-iff h3-back h4 simple-h3-back simple-h4 .1 refl
 
--- What H3, then H4, then H3 drawn backward, and three queries are replied, by whether the blocks are the same
+-- The replies to H3, then H4, then H3 drawn backward, and three queries, depending on whether the blocks are the same
 by-words : Bool → Bool → List Fields
 by-words t u =
     done 13 ++ (accepted taken 4 (at 0 1) ∷ (done 13 ++ (replyFields (Book.closedReply t (Taken 4 (at 0 1))) ∷
     (done 13 ++ (replyFields (Book.closedReply u (Taken 4 (at 0 1))) ∷ said inside ∷ said outside ∷ numbered 11 ∷ [])))))
 
--- H3, then H4, the same block from another start, and then H3 drawn backward: "same" both times
+-- H3, then H4, which is the same block from another start, then H3 drawn backward: "same" both times
 pub taken-then-same : replied (draw 2 (at 0 1) H3 ++ (draw 2 (at 1 1) H4 ++ (draw 2 (at 0 1) H3-back ++ (query 2 (at 1 2) ∷ query 2 (at 0 2) ∷ query 2 (at 0 side) ∷ []))))
     ≡ done 13 ++ (accepted taken 4 (at 0 1) ∷ (done 13 ++ (accepted same 4 (at 0 1) ∷
     (done 13 ++ (accepted same 4 (at 0 1) ∷ said inside ∷ said outside ∷ numbered 11 ∷ [])))))
 unfolding opened by-words
 taken-then-same = λ z. by-words (same-h4 z) (same-h3-back z)
 
--- A clear between: nothing is at work, and H3 again is "taken". A refused close keeps what is at work and ends the draft
+-- With a clear between, nothing is at work, and H3 again is "taken". A refused close keeps what is at work and ends the draft
 pub clear-between : replied (draw 2 (at 0 1) H3 ++ (Clear 2 ∷ query 2 (at 1 1) ∷ (draw 2 (at 0 1) H3 ++ (draw 2 (at 0 0) H6 ++ (Close 2 ∷ query 2 (at 1 1) ∷ [])))))
     ≡ done 13 ++ (accepted taken 4 (at 0 1) ∷ said no-word ∷ numbered 12 ∷ (done 13 ++ (accepted taken 4 (at 0 1) ∷ (done 13 ++
     (record { number = 9; word = no-word; place = 4; piece = 2; length = 4; col = 1; row = 1 } ∷ numbered 13 ∷ said inside ∷ [])))))
 unfolding opened
 clear-between = refl
 
--- A page with this draft, and nothing at work
+-- A party's state with this draft and nothing at work
 drawn : Point → List ℕ → Book.PartyModel
 drawn s w = Book.putDraft (Book.fresh 0) (some (record { start = s; letters = w }))
 
@@ -130,7 +131,7 @@ adding (suc n) s w acting fits =
     let rest = adding n s (w ++ (1 ∷ [])) acting (simp length-append (omega arith)) in
     rw room (ap (λ (r : List Fields). said no-word ∷ r) (rest ∙ simp append-assoc))
 
--- Calls out of place
+-- Calls that the state refuses
 pub out-of-place : List Action
 out-of-place =
     query 2 (at 0 side) ∷ Add 9 ∷ Close 2 ∷ Drop ∷ Begin (at 0 (suc side)) ∷ Begin (at 0 0) ∷ Begin (at 0 (suc side)) ∷ Add 4 ∷
@@ -148,13 +149,15 @@ from-page =
     ap (λ (r : List Fields). numbered 12 ∷ numbered 13 ∷ numbered 13 ∷ numbered 13 ∷ numbered 2 ∷ said no-word ∷ numbered 14 ∷ placed 3 0 ∷ r)
     (adding longest (at 0 0) [] (Add 9 ∷ Drop ∷ Drop ∷ []) (lit≤ tt))
 
--- Every refusal by the state: 12, 13 three times, 14, and 15 with as many letters as a draft may have and not before; 2 and 3 in their places
+-- Every refusal by the state: 12, 13 three times, 14, and 15 at 612 letters and not before; 2 and 3 where they belong
 pub state-refusals : replied out-of-place
     ≡ numbered 12 ∷ numbered 13 ∷ numbered 13 ∷ numbered 13 ∷ numbered 2 ∷ said no-word ∷ numbered 14 ∷ placed 3 0 ∷
     (done longest ++ (numbered 15 ∷ said no-word ∷ numbered 13 ∷ []))
 state-refusals = replied-alone out-of-place ∙ from-page
 
--- Knee and ankle mixed: each has its own draft, and its own outlines at its places. 19 comes before 20, and both before all others; a close that 20 turns back ends the draft
+-- Knee and ankle mixed: each has its own draft and its own outlines. 19 comes before 20, and both before all others. A close refused by 20
+-- ends
+-- the draft
 pub both-parties : map replyFields (Book.replies (
     map (by 1) (Begin (at 0 0) ∷ []) ++ (map (by 0) (draw 1 (at 0 1) H3) ++ (
     by 2 (Close 4) ∷ by 1 (Clear 4) ∷ by 0 (Close 4) ∷ by 0 (query 1 (at 1 1)) ∷ by 1 (query 1 (at 1 1)) ∷ by 0 (query 3 (at 1 1)) ∷ by 1 (Close 4) ∷ by 1 (Close 1) ∷ []))))

@@ -1,4 +1,4 @@
--- A party is answered from its own page, which no other party's call turns: so the replies to its calls in a list are those to its calls alone.
+-- A party's replies come from its own state, which no other party's call changes. So they are the replies to its own calls alone.
 use Prim.Native.Nat.{ℕ}
 use mathlib.Core.Path.{_≡_, refl, sym, ap, ap₂, _∙_}
 use mathlib.Core.Bool.{Bool, true, false, cond}
@@ -15,7 +15,7 @@ use Rattle.holder_model.specs.Book.{Book, PartyModel, fresh, acts, answe
 use Rattle.holder_model.specs.Parties.{callsOf, repliesTo, actsFrom}
 
 module _ (p : ℕ) where
-  -- The reply to a call of party p, and the page of p after any call, by the page of p before
+  -- The reply to a call of party p, and the state of p after any call, from the state of p before
   repliedTo : PartyModel → Action → Reply
   repliedTo g a = cond (badParty p) NoParty (acts g a .reply)
 
@@ -66,7 +66,7 @@ module _ (p : ℕ) where
   unfolding replies
   replies-to cs = own-page fresh fresh refl cs
 
-  -- A party's calls are answered from its page
+  -- The replies to one party's calls, from its own state
   pub alone : badParty p ≡ false → (b : Book) (acting : List Action) → repliesFrom b (map (by p) acting) ≡ actsFrom (b p) acting
   unfolding repliesFrom actsFrom
   alone h b [] = refl

@@ -1,5 +1,6 @@
--- The test of every cell of the chart says whether two outlines past 1 to 6 enclose the same cells: off the chart neither encloses any. They do exactly if they
--- have the same border.
+-- Testing every cell of the chart decides whether two outlines that pass 1 to 6 enclose the same cells, because neither encloses a cell off
+-- the
+-- chart. They do exactly if they have the same border.
 use Prim.Native.Nat.{ℕ, _<_}
 use native.Mathlib.Decide.{decLt}
 use native.Mathlib.Omega.{arith}
@@ -47,7 +48,7 @@ module _ (o v : Outline) (h : Simple o) (k : Simple v) where
     λ same. every-of _ side (λ r b. every-of _ side (λ c a. same-beq (block o c r) (block v c r) (same c r))),
   )
 
-  -- The same border, the same block, and back
+  -- The same border means the same block, and the other way round
   pub same-border-iff : (sameBlock o v ≡ true) ↔ (border o ≡ border v)
   same-border-iff = (
     λ e. same-from-w-iff o v h k .0 (same-block-iff .0 e),

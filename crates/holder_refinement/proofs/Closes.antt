@@ -1,5 +1,6 @@
--- A close is answered by the verdict of its party's draft, so what is known of verdicts holds of closes in any list of calls; and its word goes by the cells of the outline
--- last taken at its place.
+-- The reply of a close is the verdict on its party's draft, so what is known of verdicts holds for closes in any list of calls. Its word
+-- depends on
+-- the cells of the outline last taken at its place.
 use Prim.Native.Nat.{ℕ, _<_}
 use mathlib.Core.Path.{_≡_, refl, sym, ap, _∙_, subst}
 use mathlib.Core.Logic.{_↔_}
@@ -51,7 +52,7 @@ closed-named o t (Refused f) c = c
 closed-named o true (Taken n a) c = record { anchor = c .anchor; missing = c .missing }
 closed-named o false (Taken n a) c = record { anchor = c .anchor; missing = c .missing }
 
--- "Same" is said of a draft that passes the test and equals what is at work
+-- The word is "same" if the draft is taken and has the block at work
 closed-same : (t : Bool) (v : Verdict) (n : ℕ) (a : Point) → (closedReply t v ≡ Same n a) ↔ ((v ≡ Taken n a) × (t ≡ true))
 unfolding closedReply
 closed-same t (Refused f) n a = (λ e. (cc, cc), λ e. let z : _≡_ {A = Reply} (WasRefused f) (Same n a) = cc (e .0) in z)
@@ -60,7 +61,7 @@ closed-same false (Taken m b) n a = (λ e. (cc, cc), λ e. let z = e .1 in cc)
 
 -- A close by party p at place k after a list of calls, with the draft o
 module _ (p k : ℕ) (there : p < parties) (inside : k < places) (cs : List Call) (o : Outline) (draft : drafted (bookAfter fresh cs) p ≡ some o) where
-  -- The reply of a close is that of the draft's verdict, and its word goes by the outline last taken
+  -- The reply of a close is the draft's verdict, and its word depends on the outline last taken
   pub close-reply : replyAfter cs (by p (Close k)) ≡ closedReply (equalsWork o (lastTaken p k cs)) (verdictOf o)
   unfolding answer acts closes
   close-reply =
@@ -69,7 +70,7 @@ module _ (p k : ℕ) (there : p < parties) (inside : k < places) (cs : List Call
   pub close-number : replyFields (replyAfter cs (by p (Close k))) .number ≡ verdictFields (verdictOf o) .number
   close-number = rw close-reply (closed-number (equalsWork o (lastTaken p k cs)) (verdictOf o))
 
-  -- "Same" exactly for a draft that is taken and has the cells of the outline last taken (contract 7.7)
+  -- "Same" exactly if the draft is taken and has the cells of the outline last taken (contract 7.7)
   pub close-same : (v : Outline) → lastTaken p k cs ≡ some v → (n : ℕ) (a : Point) → (replyAfter cs (by p (Close k)) ≡ Same n a) ↔ ((verdictOf o ≡ Taken n a) × SameCells o v)
   unfolding equalsWork
   close-same v last n a = (
@@ -85,18 +86,18 @@ module _ (p k : ℕ) (there : p < parties) (inside : k < places) (cs : List Call
       same : verdictOf o ≡ Taken n a → (equalsWork o (some v) ≡ true) ↔ SameCells o v
       same t = same-block-iff o v (taken-facts o n a t .reaches .simple) (working .reaches .simple)
 
-  -- Of a draft that reaches the dent test: it has number 9 exactly when some cell is in the hull of the enclosed cells and not enclosed (contract 8.4)
+  -- If the draft passes 1 to 8, the number is 9 exactly if some cell is missing (contract 8.4)
   pub close-nine-missing : Reaches o → (replyFields (replyAfter cs (by p (Close k))) .number ≡ 9) ↔ ((x : Point) × Missing (block o) x)
   close-nine-missing r = rw close-number (nine-iff-missing o r)
 
-  -- A draft that 8 turns back has a missing cell too; and one past 1 to 6 is taken exactly if no cell is missing (contract 8.5)
+  -- A draft refused by 8 has a missing cell too. A draft that passes 1 to 6 is taken exactly if no cell is missing (contract 8.5)
   pub close-eight-missing : replyFields (replyAfter cs (by p (Close k))) .number ≡ 8 → (x : Point) × Missing (block o) x
   close-eight-missing e = eight-missing o (sym close-number ∙ e)
 
   pub close-taken-convex : Simple o → (replyFields (replyAfter cs (by p (Close k))) .number ≡ 0) ↔ Convex (block o)
   close-taken-convex h = rw close-number (taken-iff-convex o h)
 
-  -- The cell of the reply is the anchor of a draft that is taken, and with 9 the lowest missing one, leftmost in its row
+  -- The cell of the reply is the anchor of a taken draft, and with 9 the lowest missing cell, leftmost in its row
   pub close-named : CellNamed o (replyFields (replyAfter cs (by p (Close k))))
   close-named = rw close-reply (closed-named o (equalsWork o (lastTaken p k cs)) (verdictOf o) (verdict-named o))
 

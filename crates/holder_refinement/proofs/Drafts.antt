@@ -1,5 +1,6 @@
--- A draft stands for the book's: its flag says whether there is one, and the letters that are counted are the book's. Begin, add and drop keep that and reply as the book
--- does, because both sides make the same tests.
+-- A draft represents the model's: its flag says whether there is one, and the counted letters are the model's. Begin, add and drop preserve
+-- that and
+-- reply as the model does, because both make the same tests.
 use Prim.Native.Nat.{ℕ, suc, _+_, _≤_, _<_, min}
 use native.Mathlib.Omega.{arith}
 use mathlib.Core.Path.{_≡_, refl, sym, ap, _∙_}
@@ -35,7 +36,7 @@ pub record IsDraft (d : Draft) (o : Option Outline) : Type 0 where
   pub space : length (d .letters) ≡ longest
   pub stands : Stands d o
 
--- The same reply, and the next draft stands for the book's next
+-- The same reply, and the next draft represents the model's next draft
 abbrev pub AgreesDraft : Drafted → OnDraft → Type 0
 AgreesDraft a n = (a .reply ≡ n .reply) × IsDraft (a .draft) (n .draft)
 
@@ -43,12 +44,12 @@ pub no-draft-stands : IsDraft noDraft none
 unfolding noDraft
 no-draft-stands = record { space = length-replicate {A = ℕ} longest 0; stands = refl }
 
--- The draft is over
+-- After the draft ends
 pub ended-stands : {d : Draft} {o : Option Outline} → IsDraft d o → IsDraft (endOf d) none
 unfolding endOf
 ended-stands k = record { space = k .space; stands = refl }
 
--- ---- tests: the draft's flag is known, or both sides test the same
+-- ---- tests: the draft's flag is known, or both sides make the same test
 
 if-true : (t : Bool) (x y : Drafted) {n : OnDraft} → t ≡ true → AgreesDraft x n → AgreesDraft (cond t x y) n
 if-true true x y e k = k
@@ -74,12 +75,12 @@ begin-agrees d (some o) k s = if-true (d .begun) _ _ (k .stands .begun) (refl, k
 -- ---- add
 
 module _ (d : Draft) (o : Outline) (space : length (d .letters) ≡ longest) (k : Keeps d o) where
-  -- The count is the count of the book's letters
+  -- The count is the length of the model's letters
   kept-length : length (o .letters) ≡ d .count
   unfolding outlineOf
   kept-length = ap (λ (v : Outline). length (v .letters)) (sym (k .outline)) ∙ rw length-take (omega (arith, k .fits))
 
-  -- One letter more
+  -- One more letter
   kept-more : (a : ℕ) → d .count < longest → outlineOf (lengthened d a) ≡ record { start = o .start; letters = o .letters ++ (a ∷ []) }
   unfolding outlineOf lengthened
   kept-more a room =

@@ -1,4 +1,4 @@
--- Drafts and works that stand for the book's, the slots that hold them, and a party's page; the list theorem, and what a reader takes from it.
+-- Drafts and works that represent the model's, their places in the holder, and a party's state; the list theorem and its consequences.
 pub mod Drafts
 pub mod Works
 pub mod Slots

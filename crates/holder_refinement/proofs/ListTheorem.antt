@@ -1,5 +1,6 @@
--- Every list of calls on a fresh holder gets the plain book's replies: the fresh holder stands for the fresh book, every call keeps that and replies as
--- the book does, and the rest is induction over the list.
+-- Every list of calls on a fresh holder gets the model's replies: the fresh holder represents the fresh model, every call preserves that
+-- and replies
+-- as the model does, and the rest is induction over the list.
 use Prim.Native.Nat.{ℕ, _<_}
 use mathlib.Core.Path.{_≡_, refl, ap₂, subst}
 use mathlib.Core.Bool.{Bool, true, false}
@@ -19,7 +20,7 @@ use Rattle.holder_refinement.proofs.Works.{IsWork}
 use Rattle.holder_refinement.proofs.Slots.{Represents, represents-fresh, written-turns, written-page, represents-turned}
 use Rattle.holder_refinement.proofs.Pages.{act-agrees}
 
--- A call's answer is the book's, and the next holder stands for the next book
+-- A call's reply is the model's, and the next holder represents the next model
 abbrev Agrees : Answered → Answer → Type 0
 Agrees a n = (a .reply ≡ n .reply) × Represents (a .holder) (n .next)
 
@@ -47,7 +48,7 @@ unfolding handledFrom repliesFrom
 handled-from h b k [] = refl
 handled-from h b k (c ∷ cs) = ap₂ _∷_ (call-agrees h b k c .0) (handled-from _ _ (call-agrees h b k c .1) cs)
 
--- For every list of calls of both parties, whatever their arguments, each reply of a fresh holder is the plain book's (contract 8.2)
+-- For every list of calls of both parties, whatever their arguments, each reply of a fresh holder is the model's (contract 8.2)
 pub list-theorem : (cs : List Call) → handled cs ≡ replies cs
 unfolding handled replies
 list-theorem cs = handled-from freshHolder fresh represents-fresh cs
@@ -67,6 +68,6 @@ pub reply-after : (cs : List Call) (c : Call) → replyAfter cs c ≡ answer (bo
 unfolding replyAfter
 reply-after cs c = call-agrees _ _ (represents-after cs) c .0
 
--- So the holder has at work at each place of each party the outline last taken there, by its anchor and its edges (contract 8.3)
+-- So at each place of each party the holder keeps the anchor and the edges of the outline last taken there (contract 8.3)
 pub holder-last-taken : (p k : ℕ) → p < parties → k < places → (cs : List Call) → IsWork (workOf (holderAfter freshHolder cs) p k) (lastTaken p k cs)
 holder-last-taken p k there inside cs = subst (IsWork (workOf (holderAfter freshHolder cs) p k)) (work-last-taken p k cs) (represents-after cs .pages p there .works k inside)

@@ -1,4 +1,6 @@
--- Each action of a party, done to its draft and to the work at hand, replies as the book's page does and leaves the page's next draft and next work there; every other work of the page stays.
+-- Each action, done to its party's draft and to one work, replies as the model does and leaves the model's next draft and work. Every other
+-- work
+-- stays.
 use Prim.Native.Nat.{ℕ}
 use mathlib.Core.Path.{_≡_, refl, sym, subst}
 use mathlib.Core.Bool.{Bool, true, false, cond}
@@ -28,7 +30,7 @@ use Rattle.holder.specs.Holder.{keptPlace, reachedBy}
 use Rattle.holder_refinement.proofs.Drafts.{IsDraft, AgreesDraft, ended-stands, begin-agrees, add-agrees, drop-agrees}
 use Rattle.holder_refinement.proofs.Works.{IsWork, numbersOf, taken-working, removed-stands, closed-agrees, answered-asked}
 
--- What was done to a draft and to the work at place k is what the page's call did
+-- What was done to a draft and to the work at place k is what the model did to the party's state
 pub record AgreesParty (g : PartyModel) (k : ℕ) (a : Acted) (n : OnParty) : Type 0 where
   pub reply : a .reply ≡ n .reply
   pub draft : IsDraft (a .draft) (n .page .draft)
@@ -54,11 +56,11 @@ module _ (g : PartyModel) (d : Draft) (w : Work) (draft : IsDraft d (g .draft)) 
 
   -- ---- close
 
-  -- What a close leaves: no draft, and a work that stands for the book's
+  -- What a close leaves: no draft, and a work that represents the model's
   leaves : (k : ℕ) (a : Acted) (r : Reply) (v : Option Outline) → a .reply ≡ r → IsDraft (a .draft) none → IsWork (a .work) v → AgreesParty g k a (closing g k (record { reply = r; work = v }))
   leaves k a r v said over is = record { reply = said; draft = over; work = rw (put-here (g .works) k v) is; others = put-elsewhere (g .works) k v }
 
-  -- The work is the draft's outline exactly if that was taken
+  -- The work becomes the draft's outline exactly if that was taken
   closed-stands : (v : Option Outline) → IsWork w v → (o : Outline) (t : Verdict) → outlineOf d ≡ o → verdictOf o ≡ t → IsWork (closedWork d w (numbersOf o t) t) (workAfter v o t)
   unfolding closedWork workAfter
   closed-stands v work o (Refused f) own e = work
@@ -89,7 +91,7 @@ module _ (g : PartyModel) (d : Draft) (w : Work) (draft : IsDraft d (g .draft)) 
       go true work = record { reply = refl; draft = ended-stands draft; work = work; others = λ j e. refl }
       go false work = judged-agrees k work (g .draft) draft
 
-  -- ---- what is asked of the work
+  -- ---- questions about the work
 
   ask-agrees : (k : ℕ) (q : Question) → IsWork w (g .works (keptPlace k)) → AgreesParty g (keptPlace k) (askOf d w k q) (acts g (Ask k q))
   unfolding keptPlace askOf acts

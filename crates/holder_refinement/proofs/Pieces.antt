@@ -1,4 +1,6 @@
--- A piece is read off the drawing of the outline last taken at its party and place, so what is claimed of drawings holds of the replies in any list of calls.
+-- A path command comes from the drawing of the outline last taken at its party and place, so the claims about drawings hold for the replies
+-- in any
+-- list of calls.
 use Prim.Native.Nat.{ℕ, zero, suc, _+_, _-_, _/_, _<_, max}
 use native.Mathlib.Numerals.{add-one}
 use native.Mathlib.Omega.{arith}
@@ -39,7 +41,7 @@ line-at [] n h a = absurd (omega arith)
 line-at (x ∷ ps) zero h a = refl
 line-at (x ∷ ps) (suc n) h a = line-at ps n (omega arith) a
 
--- The piece at position n of party p's place k, after a list of calls
+-- The path command at position n of party p's place k, after a list of calls
 module _ (p k : ℕ) (there : p < parties) (inside : k < places) (cs : List Call) where
   abbrev reply : ℕ → Reply
   reply n = replyAfter cs (by p (Ask k (OfPiece n)))
@@ -64,7 +66,9 @@ module _ (p k : ℕ) (there : p < parties) (inside : k < places) (cs : List Call
     unfolding drawnReply
     said n s e = piece-reply n ∙ ap drawnReply e
 
-    -- Position 0 is the move to the anchor, then come the lines to the corner cells; position e, or 1 where e is 0, is close, and everything after it none (contract 7.11)
+    -- Position 0 is the move to the anchor. Then come the lines to the corner cells. Position e, or 1 if e is 0, is the close, and
+    -- everything after it
+    -- is none (contract 7.11)
     pub piece-move : reply 0 ≡ Drawn (MoveTo (half (a .col)) (half (a .row))) a
     unfolding pieceOf cellIn
     piece-move = said 0 (Move a) (position-move a es)

@@ -1,4 +1,4 @@
--- A query is answered from the outline last taken at its party and place, because that outline is the book's work there.
+-- A query is answered from the outline last taken at its party and place, because the model has that outline at work there.
 use Prim.Native.Nat.{ℕ, _<_}
 use native.Mathlib.Omega.{arith}
 use mathlib.Core.Path.{_≡_, refl, ap, _∙_}
@@ -38,7 +38,7 @@ says-outside : (t : Bool) → (cond t Inside Outside ≡ Outside) ↔ (t ≡ fal
 says-outside true = (λ e. cc, λ e. cc)
 says-outside false = (λ e. refl, λ e. refl)
 
--- 12 is the number of a query with nothing at work, and of no other
+-- A query has number 12 exactly if nothing is at work
 asked-nothing : (x : Point) (o : Option Outline) → (replyFields (asked x o) .number ≡ 12) ↔ (o ≡ none)
 unfolding asked replyFields
 asked-nothing x none = (λ e. refl, λ e. refl)
@@ -49,9 +49,9 @@ asked-nothing x (some o) = go (badCell x) (block o (x .col) (x .row))
     go false true = (λ e. absurd (omega (arith, e)), λ e. cc)
     go false false = (λ e. absurd (omega (arith, e)), λ e. cc)
 
--- What is asked of party p's place k, after a list of calls
+-- A question about party p's place k, after a list of calls
 module _ (p k : ℕ) (there : p < parties) (inside : k < places) (cs : List Call) where
-  -- The reply is read off the outline last taken there
+  -- The reply depends on the outline last taken there
   pub ask-reply : (q : Question) → replyAfter cs (by p (Ask k q)) ≡ asks q (lastTaken p k cs)
   unfolding answer acts
   ask-reply q = reply-after cs (by p (Ask k q)) ∙ rw (lt-leb parties p there, lt-leb places k inside) (ap (asks q) (work-last-taken p k cs))
@@ -65,7 +65,7 @@ module _ (p k : ℕ) (there : p < parties) (inside : k < places) (cs : List Call
   unfolding asks
   query-reply = ask-reply p k there inside cs (OfCell x)
 
-  -- It has number 12 exactly when there is none
+  -- The number is 12 exactly if there is none
   pub query-nothing : (replyFields (replyAfter cs query) .number ≡ 12) ↔ (lastTaken p k cs ≡ none)
   query-nothing = rw query-reply (asked-nothing x (lastTaken p k cs))
 
@@ -74,7 +74,7 @@ module _ (p k : ℕ) (there : p < parties) (inside : k < places) (cs : List Call
     unfolding asked
     query-answered = query-reply ∙ ap (asked x) last ∙ rw (not-bad-cell x col row)
 
-    -- It is "inside" exactly when that outline encloses the cell, and else "outside" (contract 8.4)
+    -- "Inside" exactly if that outline encloses the cell, otherwise "outside" (contract 8.4)
     pub query-inside : (replyAfter cs query ≡ Inside) ↔ (block o (x .col) (x .row) ≡ true)
     query-inside = rw query-answered (says-inside (block o (x .col) (x .row)))
 

@@ -1,4 +1,6 @@
--- A reading is answered from the anchor and the edges of the outline last taken at its party and place, so what is claimed of readings holds of the replies in any list of calls.
+-- A reading is answered from the anchor and the edges of the outline last taken at its party and place, so the claims about readings hold
+-- for the
+-- replies in any list of calls.
 use Prim.Native.Nat.{ℕ, _^_, _<_}
 use mathlib.Core.Path.{_≡_, refl, sym, ap, _∙_, subst}
 use mathlib.Core.Logic.{_↔_}
@@ -41,7 +43,7 @@ use Rattle.holder_refinement.proofs.Works.{IsWork, Working}
 use Rattle.holder_refinement.proofs.ListTheorem.{holder-last-taken}
 use Rattle.holder_refinement.proofs.Queries.{ask-reply}
 
--- A reply says what was found
+-- Different results have different replies
 found : (l m : Located) → locatedReply l ≡ locatedReply m → l ≡ m
 unfolding locatedReply
 found IsInside IsInside e = refl
@@ -66,7 +68,7 @@ module _ (p k : ℕ) (there : p < parties) (inside : k < places) (cs : List Call
   abbrev asking : Call
   asking = by p (Ask k (OfReading x))
 
-  -- 12 comes before 11 (contract 7.10)
+  -- 12 is checked before 11 (contract 7.10)
   pub reading-nothing : lastTaken p k cs ≡ none → replyAfter cs asking ≡ NothingAtWork
   unfolding asks askedReading
   reading-nothing last = ask-reply p k there inside cs (OfReading x) ∙ ap (askedReading x) last
@@ -89,21 +91,21 @@ module _ (p k : ℕ) (there : p < parties) (inside : k < places) (cs : List Call
     working : Working (workOf (holderAfter freshHolder cs) p k) o
     working = subst (IsWork (workOf (holderAfter freshHolder cs) p k)) last (holder-last-taken p k there inside cs)
 
-    -- A reply is that of what was found
+    -- The reply is that of the result
     is-found : (l : Located) → (reply ≡ locatedReply l) ↔ (locatedOf a es x ≡ l)
     is-found l = (λ e. found _ l (sym reading-reply ∙ e), λ e. reading-reply ∙ ap locatedReply e)
 
-    -- 11 is for a number that is none, infinite, below 0 or above the last column and row, and for nothing else
+    -- 11 is for a number that is NaN, infinite, below 0 or above 254, and for nothing else
     pub reading-refused : (reply ≡ WasRefused Cell) ↔ (badReading x ≡ true)
     unfolding locatedReply
     reading-refused = (λ e. refused-iff a es x .0 (is-found IsRefused .0 e), λ b. is-found IsRefused .1 (refused-iff a es x .1 b))
 
-    -- Every float of 32 bits that is not refused
+    -- For every pair of 32-bit floats that is not refused
     module _ (held : Held x) (good : badReading x ≡ false) where
       answers : Answers a es x
       answers = outline-answers (border o) (clear-of o (working .reaches)) x held good
 
-      -- Every computed side value is a number and finite, and a float of 32 bits
+      -- Every computed side value is a finite number and a 32-bit float
       pub reading-finite : (e : Edge) → List·Memᴰ e (edgesAlong a es) → T (finite (computedSide x e)) × T (fits binary32 (computedSide x e))
       reading-finite = answers .finite
 
@@ -111,7 +113,7 @@ module _ (p k : ℕ) (there : p < parties) (inside : k < places) (cs : List Call
       pub reading-close : (e : Edge) → List·Memᴰ e (edgesAlong a es) → natAbs (value binary32 (computedSide x e) -ℤ exactSide x e) < 2 ^ 143
       reading-close = answers .close
 
-      -- "Inside" is said only where the reading is exactly inside, and "outside" only where it is not
+      -- "Inside" is said only of readings that are exactly inside, and "outside" only of readings that are not
       pub reading-inside : reply ≡ Inside → exactlyInside a es x ≡ true
       unfolding locatedReply
       reading-inside e = answers .inside (is-found IsInside .0 e)
@@ -120,7 +122,7 @@ module _ (p k : ℕ) (there : p < parties) (inside : k < places) (cs : List Call
       unfolding locatedReply
       reading-outside e = answers .outside (is-found IsOutside .0 e)
 
-      -- The third word is for the strip along the edges: the extremes hold the reading, and its smallest computed value is above -1/64 and below 1/64
+      -- "Undecided" is for the strip along the edges: between the extremes, with a smallest computed value above -1/64 and below 1/64
       pub reading-undecided : (reply ≡ Undecided) ↔ Open a es x
       unfolding locatedReply
       reading-undecided = (
@@ -128,7 +130,7 @@ module _ (p k : ℕ) (there : p < parties) (inside : k < places) (cs : List Call
         λ left. is-found IsUndecided .1 (answers .undecided .1 left),
       )
 
-      -- A reading is decided once its exact values all reach 1/32, and also once a single one is down to -1/32
+      -- A reading is decided if all its exact side values are at least 1/32, and also if one of them is at most -1/32
       pub reading-inner : ((e : Edge) → List·Memᴰ e (edgesAlong a es) → leZ (pos (2 ^ 144)) (exactSide x e) ≡ true) → reply ≡ Undecided → ⊥
       unfolding locatedReply
       reading-inner h e = answers .inner h (is-found IsUndecided .0 e)

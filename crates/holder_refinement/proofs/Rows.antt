@@ -1,4 +1,6 @@
--- A row is answered from the outline last taken at its party and place, and the columns are exact: those from the first to the last are enclosed, and no other.
+-- A row is answered from the outline last taken at its party and place, and the columns are exact: those from the first to the last are
+-- enclosed,
+-- and no other.
 use Prim.Native.Nat.{ℕ, _≤_, _<_}
 use native.Mathlib.Omega.{arith}
 use mathlib.Core.Path.{_≡_, sym, ap, _∙_, subst}
@@ -31,20 +33,20 @@ use Rattle.holder_refinement.proofs.Queries.{ask-reply}
 
 -- ---- what is kept
 
--- A work that stands for the book's keeps its rows
+-- A work that represents the model's keeps its rows
 keeps-rows : (w : Work) (o : Option Outline) → IsWork w o → KeepsRows w o
 keeps-rows w none h = h
 keeps-rows w (some o) h = (h .taken, rw (h .spans) (spans-describe o (h .reaches)))
 
--- After every list of calls the spans kept at each party and place describe exactly the cells of the outline last taken there
+-- After every list of calls the columns kept at each party and place are exactly those of the cells of the outline last taken there
 pub rows-kept : (p k : ℕ) → p < parties → k < places → (cs : List Call)
     → KeepsRows (workOf (holderAfter freshHolder cs) p k) (lastTaken p k cs)
 rows-kept p k there inside cs =
     keeps-rows (workOf (holderAfter freshHolder cs) p k) (lastTaken p k cs) (holder-last-taken p k there inside cs)
 
--- ---- what is replied
+-- ---- the reply
 
--- What a reply says of a row, where the columns that it gives are exact
+-- What a reply says about a row if its columns are exact
 module _ (marked : ℕ → ℕ → Bool) (r : ℕ) where
   columns-said : (s : Span) → SpanExact marked r s → (a b : ℕ) → spanReply s ≡ Columns a b → (c : ℕ) → (marked c r ≡ true) ↔ ((a ≤ c) × (c ≤ b))
   unfolding SpanExact spanReply
@@ -56,7 +58,7 @@ module _ (marked : ℕ → ℕ → Bool) (r : ℕ) where
   none-said Empty exact e c = exact c
   none-said (Run u v) exact e c = let z : _≡_ {A = ℕ} 0 1 = cc in absurd (omega arith)
 
--- Row r at party p's place k, after a list of calls, where the outline last taken is o
+-- Row r at party p's place k, after a list of calls, with o as the outline last taken
 module _ (p k : ℕ) (there : p < parties) (inside : k < places) (cs : List Call) (r : ℕ) (o : Outline) (last : lastTaken p k cs ≡ some o) (row : r < side) where
   abbrev asking : Call
   asking = by p (Ask k (OfRow r))
@@ -75,6 +77,6 @@ module _ (p k : ℕ) (there : p < parties) (inside : k < places) (cs : List Call
   pub row-columns : (a b : ℕ) → replyAfter cs asking ≡ Columns a b → (c : ℕ) → (block o c r ≡ true) ↔ ((a ≤ c) × (c ≤ b))
   row-columns a b e = columns-said (block o) r (rowSpan (block o) r) row-exact a b (sym row-reply ∙ e)
 
-  -- "None": no column is
+  -- "None": no column is enclosed
   pub row-none : replyAfter cs asking ≡ None → (c : ℕ) → block o c r ≡ false
   row-none e = none-said (block o) r (rowSpan (block o) r) row-exact (sym row-reply ∙ e)

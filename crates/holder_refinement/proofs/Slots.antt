@@ -1,4 +1,5 @@
--- A holder's slots stand for a party's page, and a write to two of them leaves all others as they were: no two parties and places share a slot.
+-- The parts of a holder represent a party's state, and writing two of them leaves all others unchanged, because no two parties and places
+-- share one.
 use Prim.Native.Nat.{ℕ, _*_, _<_}
 use native.Mathlib.Omega.{arith}
 use mathlib.Core.Path.{_≡_, refl, sym, _∙_}
@@ -22,12 +23,12 @@ use Rattle.holder_refinement.proofs.Works.{IsWork, no-work-stands}
 
 -- ---- the relation
 
--- There is a slot for each party and each of its places
+-- There is a draft for each party and a work for each of its places
 pub record Sized (h : Holder) : Type 0 where
   pub drafts : length (h .drafts) ≡ parties
   pub works : length (h .works) ≡ parties * places
 
--- The slots of party p stand for its page
+-- The parts of party p represent its state
 pub record HasParty (h : Holder) (p : ℕ) (g : PartyModel) : Type 0 where
   pub draft : IsDraft (draftOf h p) (g .draft)
   pub works : (k : ℕ) → k < places → IsWork (workOf h p k) (g .works k)
@@ -36,7 +37,7 @@ pub record Represents (h : Holder) (b : Book) : Type 0 where
   pub sized : Sized h
   pub pages : (p : ℕ) → p < parties → HasParty h p (b p)
 
--- The next holder has the slots of every other party as they were
+-- The next holder has the parts of every other party unchanged
 pub record Turns (p : ℕ) (h n : Holder) : Type 0 where
   pub sized : Sized n
   pub drafts : (q : ℕ) → (q ≡ p → ⊥) → draftOf n q ≡ draftOf h q
@@ -55,7 +56,7 @@ represents-fresh =
       };
     }
 
--- ---- the two slots of a call, written
+-- ---- the draft and the work of a call, written
 
 differ : (m n : ℕ) → eqb m n ≡ false → m ≡ n → ⊥
 differ m n e q = true≢false (sym (eq-eqb m n q) ∙ e)
@@ -73,7 +74,7 @@ module _ (p k : ℕ) (there : p < parties) (inside : k < places) (h : Holder) (s
         works = λ q j e m. getD-set-other (h .works) (slot p k) (slot q j) w blankWork (λ t. e (omega (arith, t)));
       }
 
-  -- They stand for a page whose other works are those of the page before
+  -- They represent a state whose other works are unchanged
   pub written-page : (g n : PartyModel) → HasParty h p g → IsDraft d (n .draft) → IsWork w (n .works k) → ((j : ℕ) → (j ≡ k → ⊥) → n .works j ≡ g .works j) → HasParty next p n
   unfolding withDraft withWork draftOf workOf
   written-page g n was draft work others = record { draft = rw (getD-set-same (h .drafts) p d blankDraft (omega (arith, s .drafts))) draft; works = works }
@@ -87,7 +88,7 @@ module _ (p k : ℕ) (there : p < parties) (inside : k < places) (h : Holder) (s
               let apart : j ≡ k → ⊥ = differ j k e in
               rw (getD-set-other (h .works) (slot p k) (slot p j) w blankWork (λ t. apart (omega (arith, t))), others j apart) (was .works j m)
 
--- ---- the book after a call of party p
+-- ---- the model after a call of party p
 
 pub represents-turned : (p : ℕ) (h n : Holder) (b : Book) (g : PartyModel) → Represents h b → Turns p h n → HasParty n p g → Represents n (put b p g)
 represents-turned p h n b g k t page = record { sized = t .sized; pages = pages }

@@ -1,5 +1,7 @@
--- A work stands for the book's: its flag says whether there is one, and its anchor, its edges and its rows are those of the book's outline, which was taken. So the edges and the
--- rows answer for the outline's cells, and two outlines that were taken enclose the same cells exactly if they have the same anchor and the same edges.
+-- A work represents the model's: its flag says whether there is one, and its anchor, edges and rows are those of the model's outline, which
+-- was taken.
+-- So edges and rows decide for the outline's cells, and two taken outlines enclose the same cells exactly if they have the same anchor and
+-- edges.
 use Prim.Native.Nat.{ℕ, _*_, min}
 use native.Mathlib.Omega.{arith}
 use mathlib.Core.Path.{_≡_, refl, sym, ap, _∙_}
@@ -66,7 +68,7 @@ removed-stands w = refl
 
 -- ---- an outline that was taken
 
--- The numbers of an outline's edges, with zeros behind them, as a judgement lists them
+-- The numbers of an outline's edges, followed by zeros
 abbrev pub numbersOf : Outline → Verdict → List ℤ
 numbersOf o v = bufferAfter v (edges (border o)) (replicate mostNumbers (pos 0))
 
@@ -82,7 +84,7 @@ module _ (o : Outline) (n : ℕ) (a : Point) (e : verdictOf o ≡ Taken n a) whe
       let size : length es ≡ 2 * n = edges-length (border o) ∙ ap (λ (j : ℕ). 2 * j) (sym (facts .count)) in
       rw all (take-at es (drop (length es) (replicate mostNumbers (pos 0))) (2 * n) size)
 
-  -- What it becomes at work
+  -- The work that it becomes
   pub taken-working : Working (replaced a (numbersOf o (Taken n a)) n (spansOf o)) o
   unfolding replaced workEdges
   taken-working =
@@ -99,7 +101,7 @@ unfolding samePoint
 same-point-of p q e =
     and-eq-true-iff _ _ .1 (eq-eqb (p .col) (q .col) (ap (λ (x : Point). x .col) e), eq-eqb (p .row) (q .row) (ap (λ (x : Point). x .row) e))
 
--- With a taken outline's anchor and edges the comparison says whether it is the block at work
+-- Comparing a taken outline's anchor and edges decides whether it is the block at work
 module _ (w : Work) (v o : Outline) (k : Working w v) (n : ℕ) (a : Point) (e : verdictOf o ≡ Taken n a) where
   abbrev es : List ℤ
   es = listed (numbersOf o (Taken n a)) n
@@ -134,7 +136,7 @@ flag-false : (t x : Bool) → t ≡ false → (t && x) ≡ false
 flag-false true x e = absurd (true≢false e)
 flag-false false x e = refl
 
--- The words "same" and "taken" go by the edges in the holder and by the cells in the book
+-- "Same" and "taken" depend on the edges in the holder and on the cells in the model
 same-work : (w : Work) (o : Outline) (n : ℕ) (a : Point) → verdictOf o ≡ Taken n a → (v : Option Outline) → IsWork w v
     → hasEdges w a (listed (numbersOf o (Taken n a)) n) ≡ equalsWork o v
 unfolding hasEdges equalsWork
@@ -143,7 +145,7 @@ same-work w o n a e (some v) k = flag-true (w .taken) _ (k .taken) ∙ compared 
 
 -- ---- close
 
--- The reply goes by the edges in the holder and by the cells in the book
+-- The reply depends on the edges in the holder and on the cells in the model
 pub closed-agrees : (w : Work) (v : Option Outline) → IsWork w v → (o : Outline) (t : Verdict) → verdictOf o ≡ t → closedReply w (numbersOf o t) t ≡ closedInBook (equalsWork o v) t
 unfolding closedReply closedInBook
 closed-agrees w v k o (Refused f) e = refl
@@ -151,7 +153,7 @@ closed-agrees w v k o (Taken n a) e = ap (λ (s : Bool). cond s (Same n a) (WasT
 
 -- ---- query
 
--- The rows at work answer for the outline at work
+-- The rows at work decide for the outline at work
 located-asked : (w : Work) (x : Point) (o : Option Outline) → IsWork w o → located w x ≡ asked x o
 unfolding located asked
 located-asked w x none e = rw e
@@ -178,7 +180,7 @@ unfolding drawnAt askedPiece
 drawn-asked w n none e = rw e
 drawn-asked w n (some o) k = rw (k .edges, k .anchor, k .taken)
 
--- ---- whatever is asked
+-- ---- any question
 
 pub answered-asked : (w : Work) (q : Question) (o : Option Outline) → IsWork w o → answered w q ≡ asks q o
 unfolding answered asks

@@ -1,4 +1,4 @@
--- A call is not made, for its lists have other lengths or there is none, or its answer is written; fresh lists are zeros.
+-- A call is not made, because an array has another length or there is no call, or its reply is written; fresh arrays are zeros.
 use Prim.Native.Nat.{ℕ, _≤_, _<_}
 use mathlib.Core.Path.{_≡_, refl, sym, ap, _∙_}
 use mathlib.Core.Bool.{Bool, true, false, true≢false}
@@ -26,7 +26,7 @@ use Rattle.live_memory.specs.parts.Writes.{Answers}
 use Rattle.live_memory.proofs.Zeros.{zeros, zeros-fresh}
 use Rattle.live.specs.Called.{spoken, isCall, nextHolder, replyBy, pieceDrawn, pointBy, writes, Called, Done, PointDrawn, Freshened}
 
--- Four lists of these lengths
+-- Four arrays of these lengths
 pub fits-by : (m : Memory) → length (m .letters) ≡ 1224 → length (m .rows) ≡ 4080 → length (m .numbers) ≡ 1600 → length (m .heads) ≡ 40 → Fits m
 fits-by m l r n h = record { letters = l; rows = r; numbers = n; heads = h }
 
@@ -90,7 +90,7 @@ module _ (F : Type 0) (m : Memory) (c : Call) (reply : List ℕ) where
   told-made f room n r a kept g named b told l put =
       told-called F m (spoken c (length reply)) reply f c (spoken-said c (length reply) room) n r a kept g named l put b (told ∙ le-leb replyWidth (length reply) room)
 
--- ---- a call whose lists have their lengths
+-- ---- a call whose arrays have their lengths
 
 module _ (F : Type 0) (m n : Memory) (c : Call) (reply reply′ : List ℕ) (size : length reply ≡ replyWidth) where
   pub called-done : (b : Bool) → F → Called F m n (spoken c (length reply)) reply reply′ b → Done m n c reply′
@@ -105,7 +105,7 @@ module _ (F : Type 0) (m n : Memory) (c : Call) (reply reply′ : List ℕ) (siz
         others = λ i w. t .others i (rw is w);
       }
 
-  -- So such a call is one of those that a run is made of
+  -- So a run can consist of such calls
   pub done-called : F → Done m n c reply′ → Called F m n (spoken c (length reply)) reply reply′ true
   unfolding isCall nextHolder replyBy writes
   done-called f d =
@@ -120,7 +120,7 @@ module _ (F : Type 0) (m n : Memory) (c : Call) (reply reply′ : List ℕ) (siz
         unaltered = λ z. absurd (true≢false z);
       }
 
--- ---- the point of a piece
+-- ---- the point of a path command
 
 pub undrawn-point : (m : Memory) (d : Decoded) (point : List Float) → PointDrawn m d point point false
 undrawn-point m d point = record { drawn = λ z. absurd (true≢false (sym z)); undrawn = λ z. refl }
@@ -134,7 +134,7 @@ drawn-point m c room h point point′ n r a p pe e b told =
       undrawn = λ z. absurd (true≢false (sym (told ∙ le-leb replyWidth room h) ∙ z));
     }
 
--- By a call whose reply has room
+-- For a call whose reply has room
 pub point-drawn : (m : Memory) (c : Call) (room : ℕ) → room ≡ replyWidth → (point point′ : List Float) (b : Bool) → b ≡ true → PointDrawn m (spoken c room) point point′ b
     → point′ ≡ pieceDrawn (holderIn m) c point
 unfolding pointBy

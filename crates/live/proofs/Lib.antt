@@ -1,2 +1,2 @@
--- A call that is not made, and one that is; fresh lists.
+-- A call that is not made, and one that is; fresh arrays.
 pub mod CallLaws

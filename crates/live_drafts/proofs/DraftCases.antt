@@ -1,4 +1,4 @@
--- The calls on a draft in lists: what they reply and leave, by what stands in the lists.
+-- The calls on a draft in the caller's arrays: their replies and what they leave, case by case as the definitions have them.
 use Prim.Native.Nat.{ℕ, _+_, _*_, _≤_, _<_}
 use native.Mathlib.Omega.{arith}
 use mathlib.Core.Path.{_≡_, refl, _∙_}
@@ -67,7 +67,7 @@ module _ (d : Draft) where
   unfolding dropOf
   dropOf-done e = cond-yes _ _ e
 
--- ---- on lists
+-- ---- on the arrays
 
 module _ (letters heads : List ℕ) (p : ℕ) where
   count-is : draftAt letters heads p .count ≡ getD heads (4 * p + 3) 0

@@ -1,2 +1,2 @@
--- The calls on a draft in lists, by cases.
+-- The calls on a draft in the caller's arrays, case by case.
 mod DraftCases

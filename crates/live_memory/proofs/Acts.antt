@@ -1,4 +1,4 @@
--- What each action does to the holder that is read in lists.
+-- What each action does to the holder in the arrays: it writes the holder's new draft and work where the layout has them.
 use Prim.Native.Nat.{ℕ, _+_, _*_, _≤_, _<_, min}
 use native.Mathlib.Omega.{arith}
 use mathlib.Core.Path.{_≡_, refl, sym, ap, ap₂, _∙_}
@@ -41,7 +41,7 @@ use Rattle.live_memory.specs.parts.Writes.{DraftPut, DraftSaid, WorkPut,
 use Rattle.live_memory.proofs.Heads.{cond-yes, cond-no, none-begun, one-begun, apart}
 use Rattle.live_memory.proofs.Stores.{draft-read, work-read}
 
--- ---- a slot put back as it was
+-- ---- a draft or a work written back unchanged
 
 module _ (h : Holder) (p k : ℕ) where
   work-back : (d : Draft) → withWork (withDraft h p d) p k (workOf h p k) ≡ withDraft h p d
@@ -138,13 +138,13 @@ or-right : (a b : Bool) → (a || b) ≡ false → b ≡ false
 or-right false b e = e
 or-right true b e = absurd (true≢false e)
 
--- The reply and the holder of an answer, from the answer
+-- The reply and the holder of a result, from the result
 acts-by : (m n : Memory) (p : ℕ) (a : Action) (r : Reply) (x : Answered) → actOf (holderIn m) p a ≡ x → r ≡ x .reply → holderIn n ≡ x .holder
     → ((i : ℕ) → actWrites p a i ≡ false → getD (n .heads) i 0 ≡ getD (m .heads) i 0) → Acts m n p a r
 acts-by m n p a r x e q w o =
     record { reply = q ∙ ap (λ (y : Answered). y .reply) (sym e); holder = w ∙ ap (λ (y : Answered). y .holder) (sym e); others = o }
 
--- The heads outside those that a clear and a close may alter
+-- The heads that a clear and a close do not change
 module _ (p k i : ℕ) where
   clear-apart : k < places → actWrites p (Clear k) i ≡ false → (i < 8 + 4 * slot p k) ⊎ (8 + 4 * slot p k + 4 ≤ i)
   unfolding actWrites
@@ -184,7 +184,7 @@ module _ (letters rows : List ℕ) (numbers : List ℤ) (heads : List ℕ) (p : 
 
   -- ---- close
 
-  -- The draft over, and nothing else
+  -- The draft ends, and nothing else changes
   ended : (k : ℕ) (heads′ : List ℕ) → DraftPut letters heads letters heads′ p (endOf (draftAt letters heads p))
       → holderOf letters rows numbers heads′ ≡ withWork (withDraft (holderIn lists) p (endOf (draftOf (holderIn lists) p))) p k (workOf (holderIn lists) p k)
   ended k heads′ q =
@@ -232,11 +232,11 @@ module _ (letters rows : List ℕ) (numbers : List ℤ) (heads : List ℕ) (p : 
           said : r ≡ cond (hasEdges (workOf (holderIn lists) p k) a (listed (j .numbers) n)) (Same n a) (WasTaken n a)
           said = reply ∙ ap (λ (t : Bool). cond t (Same n a) (WasTaken n a)) (s ∙ ap (λ (x : Work). hasEdges x a (listed (j .numbers) n)) (sym (work-read letters rows numbers heads p k l m)))
 
-          -- The work first
+          -- First the work is written
           middle : holderOf letters rows′ numbers′ heads₁ ≡ withWork (holderIn lists) p k next
           middle = w .holder letters ∙ ap (λ (x : Spans). withWork (holderIn lists) p k (replaced a (j .numbers) n x)) (spans ∙ ap (λ (d : Draft). spansOf (outlineOf d)) (sym (draft-read letters rows numbers heads p l)))
 
-          -- It leaves the draft
+          -- That leaves the draft
           same-draft : draftAt letters heads₁ p ≡ draftOf (holderIn lists) p
           same-draft = sym (draft-read letters rows′ numbers′ heads₁ p l) ∙ ap (λ (g : Holder). draftOf g p) middle ∙ draft-after-work (holderIn lists) p k next
 

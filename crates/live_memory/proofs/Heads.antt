@@ -1,4 +1,4 @@
--- What the flag of a head says.
+-- A head's flag means "there is one" exactly if it is not zero.
 use Prim.Native.Nat.{ℕ, _+_, _*_, _≤_, _<_}
 use native.Mathlib.Nat.{eq-zero-or-pos}
 use native.Mathlib.Omega.{arith}
@@ -37,7 +37,7 @@ module _ (rows : List ℕ) (numbers : List ℤ) (heads : List ℕ) (s : ℕ) whe
   unfolding workAt
   busy e = lt-ltb 0 (getD heads (8 + 4 * s) 0) (⊎-elim (λ z. absurd (e z)) (λ h. h) (eq-zero-or-pos _))
 
--- ---- an index that is none of a head's four
+-- ---- an index outside a head's four numbers
 
 pub apart : (a i : ℕ) → inHead a i ≡ false → (i < a) ⊎ (a + 4 ≤ i)
 unfolding inHead

@@ -1,4 +1,4 @@
--- The holder that is read where one draft or one work is another, and what an action does to it; lists of zeros.
+-- The holder in the arrays after one draft or one work changes, and what an action does to it; arrays of zeros.
 pub mod Heads
 pub mod Stores
 pub mod Works

@@ -1,4 +1,4 @@
--- The holder that is read in lists, where one draft or one work of them is another.
+-- A store into the arrays changes one draft or one work of the holder, because each has its own window and its own head.
 use Prim.Native.Nat.{ℕ, _+_, _*_, _≤_, _<_}
 use native.Mathlib.Nat.{zero-add}
 use native.Mathlib.Omega.{arith}
@@ -48,7 +48,7 @@ draft-put letters heads letters′ heads′ p d l here drafts others =
 pub draft-kept : (letters heads : List ℕ) (p : ℕ) → p < parties → DraftPut letters heads letters heads p (draftAt letters heads p)
 draft-kept letters heads p l = draft-put letters heads letters heads p (draftAt letters heads p) l refl (λ j q. refl) (λ i o. refl)
 
--- ---- the slots as they are read
+-- ---- drafts and works as they are read
 
 pub draft-read : (letters rows : List ℕ) (numbers : List ℤ) (heads : List ℕ) (p : ℕ) → p < parties → draftOf (holderOf letters rows numbers heads) p ≡ draftAt letters heads p
 unfolding draftOf holderOf
@@ -100,9 +100,9 @@ module _ (h : List ℕ) (a f c r n : ℕ) (room : a + 4 ≤ length h) where
       out : (i ≡ a + 3 → ⊥) → (i ≡ a + 2 → ⊥) → (i ≡ a + 1 → ⊥) → (i ≡ a → ⊥) → getD (headPut h a f c r n) i 0 ≡ getD h i 0
       out x y z w = getD-set-other (set (set (set h a f) (a + 1) c) (a + 2) r) (a + 3) i n 0 x ∙ getD-set-other (set (set h a f) (a + 1) c) (a + 2) i r 0 y ∙ getD-set-other (set h a f) (a + 1) i c 0 z ∙ getD-set-other h a i f 0 w
 
--- ---- a draft begun, and over
+-- ---- a draft begun, and ended
 
--- Heads alone: the numbers of other drafts are as they were
+-- Only the heads change: the numbers of other drafts are unchanged
 heads-put : (letters heads heads′ : List ℕ) (p : ℕ) (d : Draft) → p < parties → draftAt letters heads′ p ≡ d → OtherHeads heads heads′ (4 * p) → DraftPut letters heads letters heads′ p d
 unfolding draftAt
 heads-put letters heads heads′ p d l here else =
@@ -127,10 +127,10 @@ module _ (heads : List ℕ) (p : ℕ) (l : p < parties) (size : length heads ≡
       (rw (getD-set-same heads (4 * p) 0 0 (omega arith), getD-set-other heads (4 * p) (4 * p + 1) 0 0 (λ q. omega arith), getD-set-other heads (4 * p) (4 * p + 2) 0 0 (λ q. omega arith), getD-set-other heads (4 * p) (4 * p + 3) 0 0 (λ q. omega arith)))
       (λ i o. getD-set-other heads (4 * p) i 0 0 (λ q. ⊎-elim (λ m. omega arith) (λ m. omega arith) o))
 
--- ---- a draft with a letter more
+-- ---- a draft with one more letter
 
 module _ (letters heads : List ℕ) (p : ℕ) (fit : DraftsFit letters heads) (l : p < parties) where
-  -- A letter is stored in its draft's window, and numbers in its head
+  -- The letter goes into its draft's window, and the numbers into its head
   letters-else : (n a j : ℕ) → n < longest → (j ≡ p → ⊥) → window (longest * j) longest (set letters (longest * p + n) a) ≡ window (longest * j) longest letters
   letters-else n a j b q =
       ⊎-elim (λ m. window-after (longest * j) longest (longest * p + n) letters a (omega arith)) (λ m. window-before (longest * j) longest (longest * p + n) letters a (omega arith)) (order j p q)

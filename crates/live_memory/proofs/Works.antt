@@ -1,4 +1,4 @@
--- What is at work, in lists: cleared, and replaced.
+-- A work in the arrays, cleared and replaced: only its own windows and its own head change.
 use Prim.Native.Nat.{ℕ, _+_, _*_, _≤_, _<_}
 use native.Mathlib.Omega.{arith}
 use mathlib.Core.Path.{_≡_, refl}
@@ -21,7 +21,7 @@ use Rattle.live_memory.specs.Layout.{workAt, WorksFit}
 use Rattle.live_memory.specs.parts.Writes.{headPut, OtherHeads, WorkPut}
 use Rattle.live_memory.proofs.Stores.{work-put, head-flag, head-col, head-row, head-count, head-else}
 
--- The numbers of other slots are as they were, and their windows
+-- The numbers and the windows of other works are unchanged
 works-put : (rows : List ℕ) (numbers : List ℤ) (heads rows′ : List ℕ) (numbers′ : List ℤ) (heads′ : List ℕ) (p k : ℕ) (w : Work) → p < parties → k < places
     → workAt rows′ numbers′ heads′ (slot p k) ≡ w
     → ((j : ℕ) → (j ≡ slot p k → ⊥) → spansAt rows′ j ≡ spansAt rows j)

@@ -1,4 +1,4 @@
--- Lists of zeros are a fresh holder: each draft and each work that is read in them is none.
+-- Arrays of zeros are a fresh holder: every draft and every work in them is none.
 use Prim.Native.Nat.{ℕ, _+_, _*_, _<_}
 use native.Mathlib.Omega.{arith}
 use mathlib.Core.Path.{_≡_, ap₂, _∙_}
@@ -30,7 +30,7 @@ unfolding workAt noWork
 zero-work s l =
     rw (zeros-none s 4080 (omega arith), window-replicate (mostNumbers * s) mostNumbers 1600 (pos 0) (omega arith), getD-replicate {A = ℕ} 40 (8 + 4 * s) 0 0 (omega arith), getD-replicate {A = ℕ} 40 (8 + 4 * s + 1) 0 0 (omega arith), getD-replicate {A = ℕ} 40 (8 + 4 * s + 2) 0 0 (omega arith), getD-replicate {A = ℕ} 40 (8 + 4 * s + 3) 0 0 (omega arith))
 
--- Lists of zeros are a fresh holder
+-- Arrays of zeros are a fresh holder
 pub zeros-fresh : holderOf (zeros 1224) (zeros 4080) (replicate 1600 (pos 0)) (zeros 40) ≡ freshHolder
 unfolding holderOf freshHolder
 zeros-fresh =

@@ -1,4 +1,6 @@
--- What a reader takes from the replies of calls made one by one: each is the reply by value after the calls before it, so what is known of that one holds of its seven numbers.
+-- What the replies to calls made one by one mean: each is the reply by value after the calls before it, so what is known of that reply
+-- holds for
+-- its seven numbers.
 use Prim.Native.Nat.{ℕ, _≤_, _<_}
 use native.Mathlib.Omega.{arith}
 use mathlib.Core.Path.{_≡_, refl, sym, ap, _∙_}
@@ -72,11 +74,11 @@ word-outside true = (λ e. absurd (omega (arith, e)), λ e. cc)
 word-outside false = (λ e. refl, λ e. refl)
 
 module _ (cs : List Call) (p k : ℕ) (there : p < parties) (place : k < places) (x : Point) (g : Fields) (replied : Replied cs (by p (Ask k (OfCell x))) g) where
-  -- 12 exactly where nothing was taken at the party's place since the last clear
+  -- 12 exactly if nothing was taken at the party's place since the last clear
   pub query-nothing : (g .number ≡ 12) ↔ (lastTaken p k cs ≡ none)
   query-nothing = rw (replied-by-value cs _ g replied) (Queries.query-nothing p k there place cs x)
 
-  -- "Inside" exactly where the outline last taken there encloses the cell, and else "outside" (contract 8.4)
+  -- "Inside" exactly if the outline last taken there encloses the cell, otherwise "outside" (contract 8.4)
   module _ (o : Outline) (last : lastTaken p k cs ≡ some o) (col : x .col < side) (row : x .row < side) where
     pub query-inside : (g .word ≡ inside) ↔ (block o (x .col) (x .row) ≡ true)
     query-inside = rw (replied-by-value cs _ g replied, Queries.query-answered p k there place cs x o last col row) (word-inside (block o (x .col) (x .row)))
@@ -129,7 +131,7 @@ unfolding replyFields closedReply
 never-same (Refused f) e = omega (arith, e, refusal-wordless f)
 never-same (Taken n a) e = omega (arith, e)
 
--- A close by party p at place k, where its draft is o
+-- A close by party p at place k with the draft o
 module _ (cs : List Call) (p k : ℕ) (there : p < parties) (place : k < places) (o : Outline) (draft : drafted (bookAfter fresh cs) p ≡ some o) (g : Fields)
     (replied : Replied cs (by p (Close k)) g) where
   closed : g ≡ replyFields (closedReply (equalsWork o (lastTaken p k cs)) (verdictOf o))
@@ -139,19 +141,19 @@ module _ (cs : List Call) (p k : ℕ) (there : p < parties) (place : k < places)
   pub close-number : g .number ≡ verdictFields (verdictOf o) .number
   close-number = ap (λ (f : Fields). f .number) (replied-by-value cs _ g replied) ∙ Closes.close-number p k there place cs o draft
 
-  -- 9 exactly where some cell is in the hull of the enclosed cells and not enclosed, of a draft that reaches the dent test (contract 8.4)
+  -- If the draft passes 1 to 8, 9 exactly if some cell is missing (contract 8.4)
   pub close-nine : Reaches o → (g .number ≡ 9) ↔ ((x : Point) × Missing (block o) x)
   close-nine r = rw (replied-by-value cs _ g replied) (Closes.close-nine-missing p k there place cs o draft r)
 
-  -- 0 exactly where no cell is missing, of a draft past 1 to 6 (contract 8.5)
+  -- If the draft passes 1 to 6, 0 exactly if no cell is missing (contract 8.5)
   pub close-taken : Simple o → (g .number ≡ 0) ↔ Convex (block o)
   close-taken h = rw (replied-by-value cs _ g replied) (Closes.close-taken-convex p k there place cs o draft h)
 
-  -- With 0 the cell is the anchor, and with 9 it is the lowest missing one, leftmost in its row
+  -- With 0 the cell is the anchor, and with 9 the lowest missing cell, leftmost in its row
   pub close-named : CellNamed o g
   close-named = rw (replied-by-value cs _ g replied) (Closes.close-named p k there place cs o draft)
 
-  -- "Same" exactly for a draft that is taken and encloses the cells of the outline last taken at its place (contract 7.7)
+  -- "Same" exactly if the draft is taken and encloses the cells of the outline last taken at its place (contract 7.7)
   pub close-same : (v : Outline) → lastTaken p k cs ≡ some v → (g .word ≡ same) ↔ ((g .number ≡ 0) × SameCells o v)
   close-same v last = (to, from)
     where
@@ -167,7 +169,7 @@ module _ (cs : List Call) (p k : ℕ) (there : p < parties) (place : k < places)
           let s = Closes.close-same p k there place cs o draft v last n a .1 (t, e .1) in
           ap (λ (f : Fields). f .word) closed ∙ word-same (equalsWork o (lastTaken p k cs)) (verdictOf o) .1 (n, a, sym (Closes.close-reply p k there place cs o draft) ∙ s)
 
-  -- And never where nothing is at work
+  -- Never if nothing is at work
   pub close-not-same : lastTaken p k cs ≡ none → g .word ≡ same → ⊥
   unfolding equalsWork
   close-not-same last e =
@@ -196,7 +198,9 @@ module _ (cs : List Call) (p k : ℕ) (there : p < parties) (place : k < places)
   spanned : g ≡ replyFields (spanReply (rowSpan (block o) r))
   spanned = replied-by-value cs _ g replied ∙ ap replyFields (Rows.row-reply p k there place cs r o last row)
 
-  -- "Columns" or "none": the first with the columns that the outline last taken encloses, every one between the two given and no other; the second where it encloses none (contract 7.9)
+  -- "Columns" if the outline last taken encloses cells of the row: exactly the columns between the two that are given. "None" if it
+  -- encloses none
+  -- (contract 7.9)
   pub row-word : (g .word ≡ columns) ⊎ (g .word ≡ none-word)
   row-word = rw spanned (either-word (rowSpan (block o) r))
 
@@ -208,7 +212,7 @@ module _ (cs : List Call) (p k : ℕ) (there : p < parties) (place : k < places)
 
 -- ---- a reading
 
--- The word of what was found
+-- The word of a result
 word-of : (l : Located) → ((replyFields (locatedReply l) .word ≡ inside) ↔ (locatedReply l ≡ Inside)) × ((replyFields (locatedReply l) .word ≡ outside) ↔ (locatedReply l ≡ Outside))
     × ((replyFields (locatedReply l) .word ≡ undecided) ↔ (locatedReply l ≡ Undecided))
 unfolding locatedReply replyFields
@@ -225,14 +229,16 @@ module _ (cs : List Call) (p k : ℕ) (there : p < parties) (place : k < places)
   reply-is : g ≡ replyFields (locatedReply found)
   reply-is = replied-by-value cs _ g replied ∙ ap replyFields (Readings.reading-reply p k there place cs x o last)
 
-  -- The word says the reply by value
+  -- The word determines the reply by value
   said : {w : ℕ} {r : Reply} → (replyFields (locatedReply found) .word ≡ w) ↔ (locatedReply found ≡ r) → (g .word ≡ w) ↔ (replyTo cs (by p (Ask k (OfReading x))) ≡ r)
   said i = (
     λ e. Readings.reading-reply p k there place cs x o last ∙ i .0 (sym (ap (λ (f : Fields). f .word) reply-is) ∙ e),
     λ e. ap (λ (f : Fields). f .word) reply-is ∙ i .1 (sym (Readings.reading-reply p k there place cs x o last) ∙ e),
   )
 
-  -- "Inside" is said only where the reading is exactly inside, and "outside" only where it is not; the third word is for the strip along the edges (contract 8.7)
+  -- "Inside" is said only of readings that are exactly inside, and "outside" only of readings that are not. "Undecided" is for the strip
+  -- along the
+  -- edges (contract 8.7)
   pub reading-inside : g .word ≡ inside → exactlyInside (border o .start) (edges (border o)) x ≡ true
   reading-inside e = Readings.reading-inside p k there place cs x o last held good (said (word-of found .0) .0 e)
 
@@ -245,14 +251,15 @@ module _ (cs : List Call) (p k : ℕ) (there : p < parties) (place : k < places)
       let j = Readings.reading-undecided p k there place cs x o last held good in
       (λ e. j .0 (i .0 e), λ e. i .1 (j .1 e))
 
--- ---- a piece
+-- ---- a path command
 
 module _ (cs : List Call) (p k : ℕ) (there : p < parties) (place : k < places) (n : ℕ) (o : Outline) (last : lastTaken p k cs ≡ some o) where
-  -- The piece at position n of the drawing of the outline last taken: its word, and the cell at whose centre its point lies (contract 7.11)
+  -- The path command at position n of the drawing of the outline last taken: its word, and the cell whose centre is its point (contract
+  -- 7.11)
   pub piece-fields : (g : Fields) → Replied cs (by p (Ask k (OfPiece n))) g → g ≡ replyFields (drawnReply (strokeAt (border o .start) (edges (border o)) n))
   piece-fields g replied = replied-by-value cs _ g replied ∙ ap replyFields (Pieces.piece-reply p k there place cs o last n)
 
-  -- And the point that is written beside the reply: two floats of a move or a line (contract 10.5)
+  -- The point that is written beside the reply: the two floats of a move or a line (contract 10.5)
   pub piece-point : (h : Holder) → h ≡ holderAfter freshHolder cs → (point : List Float)
       → pieceDrawn h (by p (Ask k (OfPiece n))) point ≡ pointAfter (pieceOf (strokeAt (border o .start) (edges (border o)) n)) point
   unfolding pieceDrawn replyTo pieceIn drawnReply

@@ -1,4 +1,5 @@
--- The reply at any position of a run is the holder's by value after the calls before it: the book's answers are given one after the other, and the reply stands at the call's own position.
+-- The reply at any position of a run is the holder's by value after the calls before it, because each reply stands at its call's own
+-- position.
 use Prim.Native.Nat.{ℕ, _≤_}
 use mathlib.Core.Path.{_≡_, refl, sym, ap, _∙_}
 use mathlib.Core.Bool.{Bool, true, false, cond}
@@ -35,7 +36,7 @@ entry-by-value h (u ∷ us) vs c d = entry-by-value (answerOf h u .holder) us vs
 
 -- ---- in a run
 
--- The book after the calls that are answered
+-- The model after the calls that are answered
 book-after : (b : Book) (d : Decoded) (cs : List Call) → bookAfter (nextBook b d) cs ≡ bookAfter b (withCall d cs)
 unfolding nextBook withCall bookAfter
 book-after b Nothing cs = refl

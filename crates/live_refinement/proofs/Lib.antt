@@ -1,4 +1,4 @@
--- The theorem about calls made one by one, and what a reader takes from it.
+-- The theorem about calls made one by one, and its consequences.
 pub mod Theorem
 pub mod Entries
 pub mod Consequences

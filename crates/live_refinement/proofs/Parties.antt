@@ -1,4 +1,4 @@
--- A party hears its own replies alone: they are the book's, and the book's go by its own calls.
+-- What a party receives depends only on its own calls: the replies are the model's, and the model's depend only on its own calls.
 use Prim.Native.Nat.{ℕ, _≤_}
 use mathlib.Core.Path.{_≡_, refl, sym, ap, ap₂, _∙_}
 use mathlib.Core.Bool.{Bool, true, false, cond}
@@ -22,7 +22,7 @@ use Rattle.live_refinement.specs.Run.{Asked, Received, callIn, Run, with
 use Rattle.live_refinement.proofs.Theorem.{run-theorem}
 use Rattle.live_refinement.proofs.Entries.{sent-room}
 
--- The same fields, where the first of them are
+-- Equal lists of fields, one field longer
 one-more : (t : Bool) (g h : Fields) (gs hs : List Fields) → g ≡ h → gs ≡ hs → cond t (g ∷ gs) gs ≡ cond t (h ∷ hs) hs
 one-more t g h gs hs e f = ap₂ (λ (a : Fields) (l : List Fields). cond t (a ∷ l) l) e f
 
@@ -31,7 +31,7 @@ map-cond true r rs = refl
 map-cond false r rs = refl
 
 module _ (p : ℕ) (b : Book) (x : Asked) (xs : List Asked) where
-  -- One call more
+  -- One more call
   step : (d : Decoded) → ((c : Call) → d ≡ Said c → 7 ≤ length (x .reply))
       → receivedBy p xs (modelFrom (nextBook b d) xs) ≡ map replyFields (repliesTo p (callsIn xs) (repliesFrom (nextBook b d) (callsIn xs)))
       → cond (isOf p d) (fieldsOf (receivedInModel b d (x .reply) .reply) ∷ receivedBy p xs (modelFrom (nextBook b d) xs)) (receivedBy p xs (modelFrom (nextBook b d) xs))
@@ -42,20 +42,20 @@ module _ (p : ℕ) (b : Book) (x : Asked) (xs : List Asked) where
       one-more (eqb p (c .party)) _ _ _ _ (fields-written (replyFields (answer b c .reply)) (x .reply) (room c refl)) rest
       ∙ sym (map-cond (eqb p (c .party)) (answer b c .reply) _)
 
--- What a party hears are the replies to its calls
+-- What a party receives are the replies to its calls
 received-replies : (p : ℕ) (b : Book) (xs : List Asked) → receivedBy p xs (modelFrom b xs) ≡ map replyFields (repliesTo p (callsIn xs) (repliesFrom b (callsIn xs)))
 unfolding receivedBy modelFrom callsIn repliesTo repliesFrom
 received-replies p b [] = refl
 received-replies p b (x ∷ xs) = step p b x xs (callIn x) (λ c e. sent-room (x .sent) (length (x .reply)) c e) (received-replies p (nextBook b (callIn x)) xs)
 
--- Lists that were made fresh, and calls made on them one by one
+-- Arrays that were made fresh, and calls made on them one by one
 module _ (m n : Memory) (t : Bool) (f : Fits m) (s : Freshened m n t) (xs : List Asked) (ys : List Received) (k : Memory) (r : Run n xs ys k) where
-  -- A party hears the replies that its own calls alone would get (contract 8.6)
+  -- A party receives the replies that its own calls alone would get (contract 8.6)
   pub received-alone : (p : ℕ) → receivedBy p xs ys ≡ map replyFields (replies (callsOf p (callsIn xs)))
   unfolding replies
   received-alone p = ap (receivedBy p xs) (run-theorem m n t f s xs ys k r) ∙ received-replies p fresh xs ∙ ap (map replyFields) (replies-to p (callsIn xs))
 
--- So two runs with the same calls of a party, in the same order, give it the same replies, whatever other calls stand between
+-- So two runs with the same calls of a party, in the same order, give it the same replies, whatever other calls are between
 pub received-independent : (m n : Memory) (t : Bool) → Fits m → Freshened m n t → (xs : List Asked) (ys : List Received) (k : Memory) → Run n xs ys k
     → (m′ n′ : Memory) (t′ : Bool) → Fits m′ → Freshened m′ n′ t′ → (xs′ : List Asked) (ys′ : List Received) (k′ : Memory) → Run n′ xs′ ys′ k′
     → (p : ℕ) → callsOf p (callsIn xs) ≡ callsOf p (callsIn xs′) → receivedBy p xs ys ≡ receivedBy p xs′ ys′

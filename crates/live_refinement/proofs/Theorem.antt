@@ -1,5 +1,6 @@
--- Each call made in place leaves the holder, and writes the reply, of the call by value; so calls made one by one from fresh lists get the plain book's replies, by the list theorem's
--- step for one call.
+-- Each call in place leaves the holder, and writes the reply, of the call by value. So calls made one by one on fresh arrays get the
+-- model's replies,
+-- by the list theorem's step for one call.
 use Prim.Native.Nat.{ℕ, _<_}
 use mathlib.Core.Path.{_≡_, refl, ap, ap₂, _∙_}
 use mathlib.Core.Bool.{Bool, true, false}
@@ -83,23 +84,24 @@ run-leaves m f (x ∷ xs) (y ∷ ys) k (next {m = _} {n = n} F h c r) =
     let one = by-value F m n (callIn x) (x .reply) (y .reply) (y .done) c (h f) in
     (rest .0, rest .1 ∙ ap (λ (g : Holder). holderAfter g (callsIn xs)) (one .0) ∙ after-next (holderIn m) (callIn x) (callsIn xs))
 
--- Lists that were made fresh, and any calls made on them one by one, as bytes and by their arguments mixed as they may be, lists too short for a reply among them
+-- Arrays that were made fresh, and calls made on them one by one, as bytes and by arguments in any mixture, also with buffers too short for
+-- a reply
 module _ (m n : Memory) (t : Bool) (f : Fits m) (s : Freshened m n t) (xs : List Asked) (ys : List Received) (k : Memory) (r : Run n xs ys k) where
-  -- What is heard is what the plain book says (contract 8.2 and 10.4)
+  -- What is received is what the model replies (contract 8.2 and 10.4)
   pub run-theorem : ys ≡ modelFrom fresh xs
   run-theorem = run-agrees n fresh (s .fits f) (rw (s .holder f) represents-fresh) xs ys k r
 
-  -- And the holder in the lists afterwards is the holder by value after the same calls
+  -- The holder in the arrays afterwards is the holder by value after the same calls
   pub run-holder : Fits k × (holderIn k ≡ holderAfter freshHolder (callsIn xs))
   run-holder =
       let left = run-leaves n (s .fits f) xs ys k r in
       (left .0, left .1 ∙ ap (λ (h : Holder). holderAfter h (callsIn xs)) (s .holder f))
 
-  -- So the rows in the lists describe exactly the cells of the outline last taken at each party and place
+  -- So the rows in the arrays are exactly those of the cells of the outline last taken at each party and place
   pub run-rows : (p j : ℕ) → p < parties → j < places → KeepsRows (workOf (holderIn k) p j) (lastTaken p j (callsIn xs))
   run-rows p j there inside = rw (run-holder .1) (rows-kept p j there inside (callsIn xs))
 
--- ---- the same of calls by their arguments alone, as a C program makes them
+-- ---- the same for calls by their arguments only, as a C program makes them
 
 calls-handled : (m : Memory) (cs : List Call) (rs : List (List ℕ)) (k : Memory) → Calls m cs rs k → rs ≡ map (λ r. numbersOf (replyFields r)) (handledFrom (holderIn m) cs)
 unfolding handledFrom
@@ -107,7 +109,7 @@ calls-handled m [] [] k end = refl
 calls-handled m (c ∷ cs) (reply ∷ rs) k (then {m = _} {n = n} d later) =
     ap₂ _∷_ (d .replied) (calls-handled n cs rs k later ∙ ap (λ (h : Holder). map (λ r. numbersOf (replyFields r)) (handledFrom h cs)) (d .holder))
 
--- From lists in which a fresh holder stands, every reply is the plain book's, in seven numbers
+-- From arrays with a fresh holder, every reply is the model's, in seven numbers
 pub calls-theorem : (m : Memory) → holderIn m ≡ freshHolder → (cs : List Call) (rs : List (List ℕ)) (k : Memory) → Calls m cs rs k
     → rs ≡ map (λ r. numbersOf (replyFields r)) (replies cs)
 unfolding handled

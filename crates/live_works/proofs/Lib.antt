@@ -1,2 +1,2 @@
--- What is asked of a work in lists, by cases.
+-- The questions about a work in the caller's arrays, case by case.
 mod WorkCases

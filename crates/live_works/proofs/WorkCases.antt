@@ -1,4 +1,4 @@
--- What is asked of a work in lists: the cases of the definitions, by what stands in the lists.
+-- The questions about a work in the caller's arrays: each case of the definitions, from the numbers in the arrays.
 use Prim.Native.Nat.{ℕ, _+_, _-_, _*_, _≤_, _<_, min}
 use native.Mathlib.Omega.{arith}
 use mathlib.Core.Path.{_≡_, refl, sym, ap, _∙_}
@@ -61,7 +61,7 @@ good-cell : (x : Point) → x .col < side → x .row < side → badCell x ≡ fa
 unfolding badCell
 good-cell x g h = rw (lt-leb side (x .col) g, lt-leb side (x .row) h)
 
--- ---- on lists
+-- ---- on the arrays
 
 module _ (rows : List ℕ) (numbers : List ℤ) (heads : List ℕ) (s : ℕ) where
   spans-are : workAt rows numbers heads s .spans ≡ spansAt rows s
@@ -130,7 +130,7 @@ module _ (rows : List ℕ) (numbers : List ℤ) (heads : List ℕ) (s : ℕ) whe
   unfolding drawnAt workEdges workAt
   piece-here n e = sym (cond-yes _ _ (busy rows numbers heads s e))
 
--- The first numbers of a window are those of the list from the window's start on
+-- The first numbers of a window are those of the list from the window's start
 pub edges-window : (numbers : List ℤ) (s e n : ℕ) → n ≡ min (2 * e) mostNumbers → take n (drop (mostNumbers * s) numbers) ≡ listed (window (mostNumbers * s) mostNumbers numbers) e
 unfolding listed
 edges-window numbers s e n h = rw h (sym (take-take (min (2 * e) mostNumbers) mostNumbers (drop (mostNumbers * s) numbers) (omega arith)))

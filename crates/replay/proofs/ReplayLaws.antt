@@ -1,5 +1,6 @@
--- A call that stands whole and has room puts its reply first, and what is left of the script is replayed from the next holder into what is left of the
--- list; from a fresh holder the list theorem makes the replies the plain book's.
+-- A whole call whose reply fits writes its reply first, and the rest of the script is replayed on the next holder into the rest of the
+-- buffer.
+-- From a fresh holder the list theorem makes the replies the model's.
 use Prim.Native.Nat.{ℕ, zero, suc, _+_, _*_, _-_, _/_, _≤_, _<_, min}
 use native.Mathlib.Nat.{zero-add, add-zero, le-refl}
 use native.Mathlib.Omega.{arith}
@@ -28,7 +29,7 @@ use Rattle.live.specs.Called.{isCall, nextHolder, replyBy, Called}
 use Rattle.live.proofs.CallLaws.{fits-by}
 use Rattle.replay.specs.Script.{followed, callsFrom, callsRead, written, repliesAfter}
 
--- ---- the list after a replay of n calls from a holder
+-- ---- the buffer after a replay of n calls on a holder
 
 unfoldable pub listFrom : Holder → ℕ → List ℕ → List ℕ → List ℕ
 listFrom h n s l = written (handledFrom h (callsFrom n s)) ++ drop (replyWidth * length (callsFrom n s)) l
@@ -38,7 +39,7 @@ module _ (h : Holder) (n : ℕ) (s l : List ℕ) where
   unfolding listFrom written handledFrom
   listFrom-none e = rw e
 
-  -- The first of them is no call
+  -- The first bytes are not a call
   calls-none : decoded (take callWidth s) ≡ Nothing → callsFrom n s ≡ []
   unfolding callsFrom followed
   calls-none e = go n
@@ -47,7 +48,7 @@ module _ (h : Holder) (n : ℕ) (s l : List ℕ) where
       go zero = refl
       go (suc m) = rw e
 
-  -- The first of them is this call
+  -- The first bytes are this call
   module _ (x : Call) (e : decoded (take callWidth s) ≡ Said x) where
     calls-some : callsFrom (suc n) s ≡ x ∷ callsFrom n (drop callWidth s)
     unfolding callsFrom followed
@@ -61,14 +62,14 @@ module _ (h : Holder) (n : ℕ) (s l : List ℕ) where
         rw (calls-some, m, sym (drop-drop (replyWidth * length cs) replyWidth l))
         (append-assoc (numbersOf (replyFields (answerOf h x .reply))) (written (handledFrom (answerOf h x .holder) cs)) (drop (replyWidth * length cs) (drop replyWidth l)))
 
--- From a fresh holder: the plain book's replies, by the list theorem
+-- From a fresh holder: the model's replies, by the list theorem
 listFrom-fresh : (script buffer : List ℕ) → listFrom freshHolder (min (length script / callWidth) (length buffer / replyWidth)) script buffer ≡ repliesAfter script buffer
 unfolding listFrom repliesAfter handled callsRead
 listFrom-fresh script buffer =
     let cs = callsRead script (length buffer) in
     ap (λ (t : List Reply). written t ++ drop (replyWidth * length cs) buffer) (list-theorem cs)
 
--- No more calls than are asked for, and so the replies of those read have room
+-- There are at most n calls, so their replies have room
 calls-few : (n : ℕ) (s : List ℕ) → length (callsFrom n s) ≤ n
 unfolding callsFrom followed
 calls-few zero s = omega arith
@@ -100,7 +101,7 @@ answered (Said x) e = (x, refl)
 
 -- ---- the loop
 
--- Where it stands after some calls: what is left of the script, replayed from this holder into what is left of the list, makes the whole
+-- After some calls: replaying the rest of the script on this holder into the rest of the buffer gives the final buffer
 pub record Underway (script buffer : List ℕ) (end : ℕ) (h : Holder) (done : ℕ) (list : List ℕ) : Type 0 where
   pub bytes : callWidth * end ≤ length script
   pub numbers : replyWidth * end ≤ length list
@@ -121,7 +122,7 @@ underway-first script buffer end h most e =
       whole = let z : end - 0 ≡ end = omega arith in rw (z, e) (rw most (sym (listFrom-fresh script buffer)));
     }
 
--- The lists of a fresh holder
+-- The arrays of a fresh holder
 abbrev zeroLists : Memory
 zeroLists = memory (zeros 1224) (zeros 4080) (replicate 1600 (pos 0)) (zeros 40)
 
@@ -132,7 +133,7 @@ underway-zeros script buffer end most = (
 )
 
 module _ (script buffer : List ℕ) (end : ℕ) (h : Holder) (done : ℕ) (list : List ℕ) (st : Underway script buffer end h done list) where
-  -- What is left of the script and of the list
+  -- The rest of the script and of the buffer
   abbrev s : List ℕ
   s = drop (callWidth * done) script
 
@@ -160,16 +161,16 @@ module _ (script buffer : List ℕ) (end : ℕ) (h : Holder) (done : ℕ) (list 
     room : replyWidth ≤ length l
     room = rw (length-drop (replyWidth * done) list) (omega (arith, st .numbers))
 
-    -- The call is heard: there is room for its reply
+    -- The call is received: there is room for its reply
     received-decoded : received (take callWidth s) (length l) ≡ decoded (take callWidth s)
     unfolding received
     received-decoded = rw (le-leb replyWidth (length l) room)
 
-    -- The list is lent from here on, to its end
+    -- The buffer for the reply is the rest of the list
     buffer-part : take (length list - replyWidth * done) l ≡ l
     buffer-part = take-all (length list - replyWidth * done) l (rw (length-drop (replyWidth * done) list) (le-refl _))
 
-    -- And to one that is a call
+    -- For bytes that are a call
     module _ (x : Call) (e : decoded (take callWidth s) ≡ Said x) where
       abbrev next : List ℕ
       next = take (replyWidth * done) list ++ replyAfter (replyFields (answerOf h x .reply)) l
@@ -203,13 +204,13 @@ module _ (script buffer : List ℕ) (end : ℕ) (h : Holder) (done : ℕ) (list 
       carried : (g : Holder) (t : List ℕ) → g ≡ answerOf h x .holder → t ≡ next → Underway script buffer end g (done + 1) t
       carried g t p q = rw (p, q) underway-next
 
-    -- What the lists of the holder, and the part of the list that was lent for the reply, are after these bytes
+    -- The holder's arrays, and the part of the buffer for the reply, after these bytes
     module _ (m k : Memory) (b : Bool) (part : List ℕ) (n : ℕ) (sent : n ≡ callWidth) (is : holderIn m ≡ h) (f : Fits m)
         (t : Called (Fits m) m k (received (take n s) (length (take (length list - replyWidth * done) l))) (take (length list - replyWidth * done) l) part b) where
       abbrev listed : List ℕ
       listed = take (replyWidth * done) list ++ (part ++ drop (length list - replyWidth * done) l)
 
-      -- Nothing is left after the part
+      -- The part goes to the end of the buffer
       listed-part : listed ≡ take (replyWidth * done) list ++ part
       listed-part =
           let all : length l ≤ length list - replyWidth * done = rw (length-drop (replyWidth * done) list) (le-refl _) in
@@ -222,14 +223,14 @@ module _ (script buffer : List ℕ) (end : ℕ) (h : Holder) (done : ℕ) (list 
       d-is : d ≡ decoded (take callWidth s)
       d-is = rw (buffer-part, sent, received-decoded)
 
-      -- No call: the loop stops, and the list is as it was
+      -- Not a call: the loop stops, and the buffer is unchanged
       pub stops-at-none : not b ≡ true → Stopped × (listed ≡ list)
       stops-at-none off =
           let no : b ≡ false = not-true b off in
           let e : decoded (take callWidth s) ≡ Nothing = sym d-is ∙ unanswered d (sym no ∙ t .done f) in
           (calls-none h (end - done) s l e, listed-part ∙ ap (λ (p : List ℕ). take (replyWidth * done) list ++ p) (t .unaltered no .1 ∙ buffer-part) ∙ take-append-drop (replyWidth * done) list)
 
-      -- A call: the loop goes on from the next holder
+      -- A call: the loop continues with the next holder
       by-call : (x : Call) → d ≡ Said x → b ≡ true → Underway script buffer end (holderIn k) (done + 1) listed
       unfolding nextHolder replyBy
       by-call x q so =

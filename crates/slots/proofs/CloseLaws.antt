@@ -1,4 +1,4 @@
--- The cell that a close names is the verdict's; a close that asks no verdict names none.
+-- The cell of a close's reply is the verdict's. A close without a verdict names no cell.
 use Prim.Native.Nat.{ℕ}
 use native.Mathlib.Omega.{arith}
 use mathlib.Core.Bool.{Bool, true, false, cond}

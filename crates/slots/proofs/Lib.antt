@@ -1,2 +1,2 @@
--- The cell that a close names.
+-- The cell of a close's reply.
 pub mod CloseLaws

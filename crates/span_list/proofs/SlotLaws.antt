@@ -1,4 +1,4 @@
--- The two halves of a slot are windows of the list, so a copy into both sets the slot and leaves the windows of every other.
+-- The two halves of a slot are windows of the list, so a copy into both sets the slot and leaves every other slot unchanged.
 use Prim.Native.Nat.{ℕ, _+_, _-_, _*_, _≤_, _<_}
 use native.Mathlib.Omega.{arith}
 use mathlib.Core.Path.{_≡_, sym, ap, ap₂, _∙_}
@@ -31,7 +31,7 @@ module _ (rows : List ℕ) (s : ℕ) where
   unfolding spansAt
   past-at r h = getD-take side (drop (510 * s + side) rows) r 0 h ∙ getD-drop (510 * s + side) rows r 0 ∙ ap (λ (i : ℕ). getD rows i 0) (omega arith)
 
-  -- By the two bytes of a row
+  -- From the two bytes of a row
   module _ (r : ℕ) (h : r < side) (e : Ends) (is : e ≡ endsAt rows s r) where
     within-ends : (c : ℕ) → inSpans (spansAt rows s) c r ≡ (leb (e .first) c && ltb c (e .past))
     unfolding inSpans endsAt
@@ -89,7 +89,7 @@ module _ (rows : List ℕ) (s : ℕ) (x : Spans) (room : 510 * s + 510 ≤ lengt
         size = length-paste rows₁ (510 * s + side) (x .past) side room₂ (omega arith) ∙ size₁;
       }
 
-  -- By what each copy left
+  -- From what each copy left
   pub copies-put : (r₁ : List ℕ) → r₁ ≡ paste rows (510 * s) (x .first) side → (r₂ : List ℕ) → r₂ ≡ paste r₁ (510 * s + 255) (x .past) side → SpansPut rows r₂ s x
   copies-put r₁ e₁ r₂ e₂ = rw (e₂, e₁) halves-put
 

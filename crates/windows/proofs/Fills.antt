@@ -1,4 +1,4 @@
--- A list filled with one number, whole or from an index on.
+-- A list filled with one number, whole or from an index on, by one store at a time.
 use Prim.Native.Nat.{ℕ, zero, suc, _+_, _-_, _≤_, _<_}
 use native.Mathlib.Nat.{zero-add, suc-add, not-suc-le-zero, le-of-suc-le-suc}
 use native.Mathlib.Numerals.{add-one}
@@ -28,7 +28,7 @@ module _ {A : Type 0} where
   slots-replicate i zero x = refl
   slots-replicate i (suc n) x = ap (λ (l : List A). x ∷ l) (slots-replicate (suc i) n x)
 
-  -- A store of x at i takes i of them to i + 1
+  -- A store of x at i extends i copies to i + 1
   pub fill-one : (d : List A) (i : ℕ) (x : A) → i < length d → set (replicate i x ++ drop i d) i x ≡ replicate (i + 1) x ++ drop (i + 1) d
   fill-one d i x l = rw add-one (go i d l)
     where

@@ -1,3 +1,3 @@
--- Slots and windows under stores and copies; lists filled with one number.
+-- Values and windows under stores and copies; lists filled with one number.
 pub mod Slots
 pub mod Fills

@@ -1,4 +1,4 @@
--- A list of slots, read and put; a store of one slot's list leaves the windows of the others.
+-- A list of values, read and written. A store in one value's window leaves the windows of the others unchanged.
 use Prim.Native.Nat.{ℕ, zero, suc, _+_, _-_, _≤_, _<_}
 use native.Mathlib.Nat.{zero-add, suc-add, add-zero, add-sub-of-le, eq-or-lt-of-le}
 use native.Mathlib.Omega.{arith}
@@ -23,7 +23,7 @@ module _ {A : Type 0} where
   slots-below f g i zero e = refl
   slots-below f g i (suc n) e = ap₂ _∷_ (e i (omega arith)) (slots-below f g (suc i) n (λ j l. e j (omega arith)))
 
-  -- Slots that differ in one only
+  -- Two lists of values that differ in one place only
   pub slots-set : (f g : ℕ → A) (i n k : ℕ) (v : A) → k < n → g (i + k) ≡ v → ((j : ℕ) → (j ≡ i + k → ⊥) → g j ≡ f j) → slotsFrom g i n ≡ set (slotsFrom f i n) k v
   unfolding slotsFrom
   slots-set f g i zero k v l here others = absurd (omega arith)

@@ -1,2 +1,2 @@
--- Numbers that are no call's.
+-- Numbers that are not a call's.
 pub mod CallLaws

@@ -1,4 +1,4 @@
--- The letters held fit the space.
+-- The count is limited to the space.
 use borrow.Author.Needs.{needs}
 use Rattle.base.proofs.Prefix.{first-length}
 use Rattle.draft.proofs.first.Statement.{statement}

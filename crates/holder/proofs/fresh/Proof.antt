@@ -1,4 +1,4 @@
--- Each draft and each work is its own empty one.
+-- Each draft and each work is empty.
 use Rattle.holder.specs.Holder.{freshHolder}
 use borrow.Author.Needs.{needs}
 use Rattle.holder.proofs.fresh.Statement.{statement}

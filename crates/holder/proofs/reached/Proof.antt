@@ -1,4 +1,4 @@
--- Each arm is its clause.
+-- Each arm is a clause of the definition.
 use Rattle.holder.specs.Holder.{reachedBy}
 use borrow.Author.Needs.{needs}
 use Rattle.holder.proofs.reached.Statement.{statement}

@@ -1,4 +1,4 @@
--- Each list is set to zeros, and zeros are a fresh holder.
+-- Each array is set to zeros, and zeros are a fresh holder.
 use Rattle.live.proofs.CallLaws.{fits-by, unfit-fresh, fresh-lists}
 use borrow.Author.Needs.{needs}
 use Rattle.live.proofs.fresh.Statement.{statement}

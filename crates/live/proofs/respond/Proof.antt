@@ -1,4 +1,4 @@
--- Lists of other lengths and bytes that are no call are left; else the answer's fields are written.
+-- Arrays of other lengths and bytes that are not a call change nothing. Otherwise the reply's fields are written.
 use mathlib.Core.Path.{refl, sym, _∙_}
 use Rattle.live.proofs.CallLaws.{fits-by, unfit-called, nothing-called, told-called}
 use borrow.Author.Needs.{needs}

@@ -1,4 +1,4 @@
--- As every call by its arguments; the point is that of the piece in the reply.
+-- Like every call by its arguments; the point is that of the path command in the reply.
 use Rattle.live.proofs.CallLaws.{unfit-made, short-made, told-made, undrawn-point, drawn-point}
 use borrow.Author.Needs.{needs}
 use Rattle.live_calls.proofs.piece.Statement.{statement}

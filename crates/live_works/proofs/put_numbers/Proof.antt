@@ -1,4 +1,4 @@
--- After i turns the first i numbers are the list's.
+-- After i iterations the first i numbers are copied.
 use Prim.Native.Nat.{_+_, _-_, _≤_}
 use native.Mathlib.Numerals.{add-one}
 use native.Mathlib.Omega.{arith}
@@ -35,7 +35,7 @@ add-number c = search needs
 mul-number-2 : tie.Need-mul-number-2 Inv-loop μ-loop
 mul-number-2 c = search needs
 
--- The lent list keeps its length
+-- The buffer keeps its length
 kept : (c : tie.At-loop Inv-loop μ-loop) → length (c .loop .buffer) ≡ length (c .before .before .args .buffer .now)
 kept c =
     let a = c .before .before .args in

@@ -1,4 +1,5 @@
--- The loop's invariant is that what is left of the script, replayed from the holder in the lists into what is left of the replies, makes the whole (ReplayLaws).
+-- The loop's invariant: replaying the rest of the script on the holder in the arrays into the rest of the buffer gives the final buffer
+-- (ReplayLaws).
 use borrow.Author.Needs.{needs}
 use mathlib.Core.Path.{refl, ap, _∙_}
 use Prim.Native.Nat.{_+_, _*_, _-_}

@@ -1,4 +1,4 @@
--- Each arm is its clause.
+-- Each arm is a clause of the definition.
 use Rattle.slots.specs.Slots.{actedOf}
 use borrow.Author.Needs.{needs}
 use Rattle.slots.proofs.act.Statement.{statement}

@@ -1,4 +1,4 @@
--- 20, or what the work answers; draft and work go back as they came.
+-- The reply is 20 or the work's, and draft and work are unchanged.
 use mathlib.Core.Path.{sym, _∙_}
 use Rattle.slots.specs.Slots.{askOf}
 use borrow.Author.Needs.{needs}

@@ -1,4 +1,4 @@
--- 20, or the work is removed.
+-- Either 20 refuses the place, or the work is removed.
 use mathlib.Core.Path.{sym, _∙_}
 use Rattle.slots.specs.Slots.{clearOf}
 use borrow.Author.Needs.{needs}

@@ -1,4 +1,4 @@
--- 20, 13, or what the verdict on the draft makes of it.
+-- Either 20 or 13 refuses the close, or the verdict on the draft decides.
 use mathlib.Core.Path.{sym, _∙_}
 use borrow.Author.Tests.{not-true, not-false}
 use Rattle.slots.specs.Slots.{closeOf}

@@ -1,4 +1,4 @@
--- Two bytes of the slot.
+-- The two bytes are at the row's index in each half of the slot.
 use Rattle.span_list.specs.SpanList.{endsAt}
 use borrow.Author.Needs.{needs}
 use Rattle.span_list.proofs.ends_at.Statement.{statement}

@@ -1,4 +1,4 @@
--- After i turns the first i numbers are the from's.
+-- After i iterations the first i numbers are copied.
 use Prim.Native.Nat.{ℕ, _+_, _-_, _≤_}
 use native.Mathlib.Numerals.{add-one}
 use native.Mathlib.Omega.{arith}
@@ -26,7 +26,7 @@ shared-slice-read-rows c = search needs
 add-rows : tie.Need-add-rows Inv-loop μ-loop
 add-rows c = search needs
 
--- The rows from keeps its length
+-- The list keeps its length
 kept : (c : tie.At-loop Inv-loop μ-loop) → length (c .loop .rows) ≡ length (c .before .before .args .rows .now)
 kept c =
     let a = c .before .before .args in

@@ -1,4 +1,4 @@
--- After i turns the first i numbers are zeros.
+-- After i iterations the first i numbers are zeros.
 use Prim.Native.Nat.{ℕ, _+_, _-_, _≤_}
 use native.Mathlib.Numerals.{add-one}
 use native.Mathlib.Omega.{arith}
@@ -26,7 +26,7 @@ loop-holds c = (search needs, paste-zero _ (c .args .at) zeros)
 add-rows : tie.Need-add-rows Inv-loop μ-loop
 add-rows c = search needs
 
--- The rows list keeps its length
+-- The list keeps its length
 kept : (c : tie.At-loop Inv-loop μ-loop) → length (c .loop .rows) ≡ length (c .before .args .rows .now)
 kept c =
     let a = c .before .args in

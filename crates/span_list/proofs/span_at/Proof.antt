@@ -1,4 +1,4 @@
--- The span is read off the two bytes of the row.
+-- The columns come from the two bytes of the row.
 use borrow.Author.Tests.{lt-ltb, le-ltb}
 use mathlib.Core.Path.{sym, _∙_}
 use Rattle.spans.specs.Spans.{spanFrom}

@@ -1,4 +1,4 @@
--- A cell is within where its column is between the two bytes of its row.
+-- A cell is within if its column is between the two bytes of its row.
 use Rattle.span_list.proofs.SlotLaws.{within-right, within-left}
 use borrow.Author.Needs.{needs}
 use Rattle.span_list.proofs.within.Statement.{statement}

@@ -1,4 +1,4 @@
--- Each part is its definition.
+-- Each coordinate is the first two bytes of its number.
 use borrow.Author.Needs.{needs}
 use Rattle.wire.proofs.point.Statement.{statement}
 use Rattle.wire.proofs.point.Tie as tie

@@ -1,4 +1,4 @@
--- The numbers of the edges fit the space.
+-- The count is limited to the space.
 use Rattle.base.proofs.Prefix.{first-length}
 use Rattle.work.specs.Work.{listed}
 use borrow.Author.Needs.{needs}

@@ -1,4 +1,4 @@
--- 19, 20, or what the work at the place answers, as the call has it.
+-- The reply is 19, 20, or that of the work at the place, the same as the call's.
 use native.Mathlib.Omega.{arith}
 use mathlib.Core.Path.{sym, _∙_}
 use borrow.Author.Tests.{leb-false}

@@ -1,4 +1,4 @@
--- The answer is that of the call, and so is its cell (CloseLaws).
+-- The reply is the call's, and so is its cell (CloseLaws).
 use Rattle.holder.proofs.CloseLaws.{answer-named}
 use borrow.Author.Needs.{needs}
 use Rattle.holder.proofs.Holder.close.Statement.{statement}

@@ -1,4 +1,4 @@
--- Each arm is its clause.
+-- Each arm is a clause of the definition.
 use Rattle.work.specs.Work.{answered}
 use borrow.Author.Needs.{needs}
 use Rattle.work.proofs.Work.answer.Statement.{statement}

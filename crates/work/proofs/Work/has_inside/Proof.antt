@@ -1,4 +1,4 @@
--- The rows at work are asked.
+-- The rows at work decide.
 use borrow.Author.Needs.{needs}
 use Rattle.work.proofs.Work.has_inside.Statement.{statement}
 use Rattle.work.proofs.Work.has_inside.Tie as tie

@@ -1,4 +1,4 @@
--- The definition, field by field.
+-- Each field is the definition's.
 use Rattle.work.specs.Work.{noWork}
 use borrow.Author.Needs.{needs}
 use Rattle.work.proofs.Work.none.Statement.{statement}

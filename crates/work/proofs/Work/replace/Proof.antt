@@ -1,4 +1,4 @@
--- The definition, field by field.
+-- Each field is the definition's.
 use mathlib.Core.Path.{refl}
 use Rattle.work.specs.Work.{replaced}
 use Rattle.work.proofs.Work.replace.Statement.{statement}
