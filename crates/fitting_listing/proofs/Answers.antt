@@ -1,4 +1,4 @@
--- The test is a chain of refusals, so its number is one of theirs or 0; since there is room for every taken outline, it is not 10.
+-- The test is a chain of refusals, so its number is one of theirs or 0. It is not 10, because there is room for every taken outline.
 use Prim.Native.Nat.{ℕ, _-_, _*_}
 use mathlib.Core.Path.{_≡_, refl}
 use mathlib.Core.Bool.{Bool, true, false, cond}
@@ -22,7 +22,7 @@ use Rattle.verdict.specs.Verdict.{backStepIn, dentIn, roundVerdict, borderVerdi
 use Rattle.verdict.proofs.VerdictLaws.{taken-fits}
 
 module _ (P : ℕ → Type 0) where
-  -- One refusal of the chain: it applies, or the rest of the chain answers
+  -- One refusal of the chain: it applies, or the rest of the chain decides
   link : (b : Bool) (f : Refusal) (v : Verdict) → P (refusalFields f .number) → P (verdictFields v .number)
       → P (verdictFields (cond b (Refused f) v) .number)
   link true f v p q = p
@@ -40,7 +40,7 @@ module _ (P : ℕ → Type 0) where
   room-link o (Refused f) e p = p
   room-link o (Taken n a) e p = rw (le-ltb mostNumbers (2 * n) (taken-fits o n a e)) p
 
-  -- What holds of 0, of 1 to 6 and of 8 and 9 holds of the number that a test says. 2 needs a start off the chart
+  -- What holds for 0, for 1 to 6 and for 8 and 9 holds for a test's number. 2 needs a start off the chart
   pub tested-number : (o : Outline) → P 0 → P 1 → (badStart (o .start) ≡ true → P 2) → P 3 → P 4 → P 5 → P 6 → P 8 → P 9
       → P (testFields o mostNumbers .number)
   unfolding testFields testOf verdictOf surveyOf afterSurvey borderVerdict roundVerdict backStepIn dentIn

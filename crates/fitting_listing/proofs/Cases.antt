@@ -1,4 +1,4 @@
--- Small files, and the text of their lines: the checker computes them. What stands behind H3 begins at position 18.
+-- The checker computes small files and the text of their lines. What follows H3 begins at position 18.
 use Prim.Native.Nat.{ℕ}
 use mathlib.Core.Path.{_≡_, refl}
 use mathlib.Core.List.{List, [], _∷_, _++_}
@@ -33,7 +33,7 @@ H3-alone : listing H3 ≡ taken
 unfolding listing H3
 H3-alone = refl
 
--- 23: a wrong mark, half a mark, and a single byte that begins no mark
+-- 23: a wrong mark, half a mark, and a single byte that does not begin a mark
 wrong-mark : listing (H3 ++ (75 ∷ 48 ∷ 0 ∷ 1 ∷ 0 ∷ 0 ∷ [])) ≡ taken ++ faulty 51
 unfolding listing H3
 wrong-mark = refl
@@ -46,7 +46,7 @@ lone-byte : listing (H3 ++ (0 ∷ [])) ≡ taken ++ faulty 51
 unfolding listing H3
 lone-byte = refl
 
--- 24: a record truncated behind its mark, in its header, and in its letters
+-- 24: a record truncated after its mark, in its header, and in its letters
 cut-after-mark : listing (H3 ++ (75 ∷ 79 ∷ [])) ≡ taken ++ faulty 52
 unfolding listing H3
 cut-after-mark = refl

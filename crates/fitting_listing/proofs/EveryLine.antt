@@ -1,4 +1,4 @@
--- A line is a record's, a fault's or that of a file that is too long: so what holds of each of these holds of every line of a listing.
+-- A line is a record's, a fault's, or that of a file that is too long. So what holds for each of these holds for every line of a listing.
 use Prim.Native.Nat.{ℕ, zero, suc, _+_}
 use native.Mathlib.Decide.{decLe}
 use native.Mathlib.Omega.{arith}
@@ -13,7 +13,7 @@ use Rattle.text_lines.specs.declared.Line.{Line}
 use Rattle.fitting_listing.specs.Lines.{most, line, testedLine, outlineIn, listed, linesFrom, linesAt, linesOf}
 use Rattle.fitting_listing.proofs.LinesLaws.{lines-long, lines-read}
 
--- P is the property of the lines, and Q one of the bytes that are left
+-- P is the property of the lines, and Q a property of the remaining bytes
 module _ (Q : List ℕ → Type 0) (P : Line → Type 0) (further : (j : ℕ) (w : List ℕ) → Q w → Q (drop j w))
     (tested : (n c r m : ℕ) (w : List ℕ) → Q w → foundIn w ≡ Record c r m → P (testedLine n (outlineIn c r m w)))
     (wrong : (n at : ℕ) → P (line n 23 at)) (cut : (n at : ℕ) → P (line n 24 at)) (long : P (line 0 25 most)) where

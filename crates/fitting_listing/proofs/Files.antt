@@ -1,4 +1,4 @@
--- Each record of a file is found whole at its front, so its outline has a line, and then what follows has its lines.
+-- Each record is found whole at the front of the remaining file, so its outline has a line, and the lines of the rest follow.
 use Prim.Native.Nat.{ℕ, _+_, _/_, _%_, _≤_}
 use native.Mathlib.Nat.{add-zero, div-add-mod}
 use native.Mathlib.Omega.{arith}
@@ -54,7 +54,7 @@ nothing-left : (n at : ℕ) → linesAt n at [] ≡ []
 unfolding foundIn
 nothing-left n at = lines-found-end n at [] refl
 
--- A file of records and nothing else
+-- A file of records only
 pub file-listed : (os : List Outline) → length (fileOf os) ≤ most → linesOf (fileOf os) ≡ testedFrom 0 os
 file-listed os h =
     lines-read (fileOf os) h ∙ ap (linesAt 0 0) (sym (append-nil (fileOf os))) ∙ records-listed 0 0 os [] ∙

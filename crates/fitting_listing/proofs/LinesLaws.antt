@@ -1,4 +1,4 @@
--- The bound on the lines does not matter: what is read of a record is at least its header.
+-- The bound on the lines does not matter, because each step reads at least a header.
 use Prim.Native.Nat.{ℕ, zero, suc, _+_, _≤_, _<_}
 use native.Mathlib.Decide.{decLe}
 use native.Mathlib.Omega.{arith}
@@ -14,7 +14,7 @@ use Rattle.fitting_records.proofs.RecordLaws.{found-within}
 use Rattle.text_lines.specs.declared.Line.{Line}
 use Rattle.fitting_listing.specs.Lines.{most, line, testedLine, outlineIn, listed, linesFrom, linesAt, linesOf}
 
--- Lines that follow a record matter only where there is one
+-- The lines after a record matter only if there is a record
 listed-same : (n at : ℕ) (w : List ℕ) (f : Found) (p q : List Line) → (0 < width f → p ≡ q) → listed n at w f p ≡ listed n at w f q
 unfolding listed width
 listed-same n at w End p q h = refl
@@ -35,7 +35,7 @@ lines-enough (suc k) (suc j) n at w h i =
     let less : length (drop (width (foundIn w)) w) < length w = simp length-drop (omega (arith, found-within w)) in
     lines-enough k j (n + 1) (at + width (foundIn w)) (drop (width (foundIn w)) w) (omega arith) (omega arith))
 
--- The lines of bytes, one step on
+-- The lines of bytes after one step
 lines-step : (n at : ℕ) (w : List ℕ)
     → linesAt n at w ≡ listed n at w (foundIn w) (linesAt (n + 1) (at + width (foundIn w)) (drop (width (foundIn w)) w))
 unfolding linesAt linesFrom listed foundIn
@@ -65,7 +65,7 @@ pub lines-record : (n at c r m : ℕ) (w : List ℕ) → foundIn w ≡ Record c 
 unfolding listed width
 lines-record n at c r m w e = lines-step n at w ∙ rw e refl
 
--- 25 comes first, and a file of no more bytes is read
+-- 25 is checked first, and a shorter file is read
 pub lines-long : (file : List ℕ) → most < length file → linesOf file ≡ line 0 25 most ∷ []
 unfolding linesOf
 lines-long file h = rw (lt-ltb most (length file) h)
@@ -74,7 +74,7 @@ pub lines-read : (file : List ℕ) → length file ≤ most → linesOf file ≡
 unfolding linesOf
 lines-read file h = rw (le-ltb most (length file) h)
 
--- One byte more than a file may have tells as much as the whole file: who reads no further loses nothing
+-- One byte more than a file may have decides as much as the whole file, so a reader may stop there
 pub first-bytes-enough : (file : List ℕ) → linesOf (take (most + 1) file) ≡ linesOf file
 first-bytes-enough file =
     elim (decLe (length file) (most + 1)) [

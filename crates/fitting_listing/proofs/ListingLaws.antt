@@ -1,4 +1,4 @@
--- A listing in the making: what is written so far and the lines that are left are together the whole listing.
+-- While a listing is written, what is written so far and the remaining lines together are the whole listing.
 use Prim.Native.Nat.{ℕ, _+_, _*_, _-_, _≤_, _<_, min}
 use native.Mathlib.Omega.{arith}
 use mathlib.Core.Path.{_≡_, refl, sym, ap, _∙_}
@@ -19,7 +19,7 @@ use Rattle.fitting_listing.specs.Lines.{most, line, testedLine, outlineI
 use Rattle.fitting_listing.specs.Listed.{room, Small, Listed}
 use Rattle.fitting_listing.proofs.LinesLaws.{lines-found-end, lines-wrong-mark, lines-cut, lines-record}
 
--- All lines and those that are left, how many are written, the buffer as it was and as it is, and where the next line goes
+-- All lines and the remaining ones, how many are written, the buffer before and now, and where the next line goes
 pub record Making (all left : List Line) (n : ℕ) (buffer text : List ℕ) (at : ℕ) : Type 0 where
   pub finished : writtenAt at (textOf left) text ≡ over (textOf all) buffer
   pub end : endAt at (length (textOf left)) (length text) ≡ min (length (textOf all)) (length buffer)
@@ -49,7 +49,7 @@ making-ends {all} {n} {buffer} {text} {at} p h =
     let last = p .end in
     record { text = sym (written-none at text) ∙ p .finished; end = omega arith; short = omega (arith, p .short) }
 
--- A listing in the making, by how far the file is read and how many records it had
+-- A listing half written, by how far the file is read and how many records it had
 pub record Going (file buffer text : List ℕ) (at n end : ℕ) : Type 0 where
   pub making : Making (linesAt 0 0 file) (linesAt n at (drop at file)) n buffer text end
   pub within : at ≤ length file
@@ -100,7 +100,7 @@ module _ {file buffer text : List ℕ} {at n end : ℕ} (g : Going file buffer t
         same = ap length (w .text) ∙ length-written end (lineText l) text ∙ g .same;
       }
 
--- The letters of a record stand between its header and the next record
+-- The letters of a record are between its header and the next record
 pub letters-between : {file : List ℕ} {at c r m next : ℕ} (n : ℕ) → Passed file at c r m next
     → testedLine n (outline (record { col = c; row = r }) (take (next - (at + header)) (drop (at + header) file)))
     ≡ testedLine n (outlineIn c r m (drop at file))

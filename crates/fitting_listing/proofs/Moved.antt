@@ -1,4 +1,5 @@
--- What the test says of a record does not depend on where it stands, so bytes further on in a file have the same lines, moved on.
+-- The test's result for a record does not depend on its position. So bytes further on in a file have the same lines, with larger numbers
+-- and positions.
 use Prim.Native.Nat.{ℕ, zero, suc, _+_}
 use native.Mathlib.Nat.{add-assoc}
 use mathlib.Core.Path.{_≡_, refl}
@@ -17,7 +18,7 @@ use Rattle.fitting_listing.specs.Lines.{testedLine, outlineIn, listed, l
 use Rattle.fitting_listing.specs.Claims.{movedLine}
 use Rattle.fitting_listing.proofs.Answers.{tested-number}
 
--- The test never says the number of a fault
+-- The test's number is never a fault's
 no-fault : (o : Outline) → leb 23 (testFields o mostNumbers .number) ≡ false
 no-fault o = tested-number (λ a. leb 23 a ≡ false) o refl refl (λ e. refl) refl refl refl refl refl refl
 

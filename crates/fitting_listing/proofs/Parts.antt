@@ -1,4 +1,5 @@
--- A whole record is the bytes of its outline, and its bytes tell the outline: so a file has its parts, record by record, and only these.
+-- A whole record is the bytes of its outline, and its bytes determine the outline. So a file has its parts, record by record, and no
+-- others.
 use Prim.Native.Nat.{ℕ, zero, suc, _+_, _/_, _%_, _<_}
 use native.Mathlib.Nat.{div-add-mod, mod-lt}
 use native.Mathlib.Omega.{arith}
@@ -80,7 +81,7 @@ apart (suc k) w h b = go (foundIn w) refl (apart k)
         one-more (outlineIn c r m w) (record-bytes b s) (record-storable b s)
         (shorter (drop (header + m) w) (simp length-drop (omega (arith, record-within w e))) (bytes-further (header + m) w b))
 
--- The bytes at the front of a file tell the first outline, and so what follows it
+-- The bytes at the front of a file determine the first outline, and so what follows it
 same-front : (o u : Outline) (v w : List ℕ) → bytesOf o ++ v ≡ bytesOf u ++ w → (o ≡ u) × (v ≡ w)
 same-front o u v w e =
     let found = sym (found-record o v) ∙ ap foundIn e ∙ found-record u w in

@@ -1,4 +1,4 @@
--- The theorems on listings follow from what the test may say, from the parts of a file, and from lines that are moved on.
+-- The theorems on listings follow from the numbers that a test can have, from the parts of a file, and from the lines of bytes further on.
 use Prim.Native.Nat.{ℕ, suc, _≤_}
 use native.Mathlib.Nat.{zero-add, add-zero}
 use native.Mathlib.Omega.{arith}
@@ -59,7 +59,7 @@ started o s = rw (le-ltb side (o .start .col) (omega (arith, s .col)), le-ltb si
 other : (a : ℕ) → eqb a 2 ≡ false → a ≡ 2 → ⊥
 other a = eqb-false a 2
 
--- 2 never occurs in a file of bytes: a byte is no number off the chart
+-- 2 never occurs in a file of bytes, because every byte is a number of the chart's corners
 pub two-never : (file : List ℕ) → AllBytes file → (l : Line) → List·Memᴰ l (linesOf file) → l .answer ≡ 2 → ⊥
 unfolding testedLine
 two-never file b =
@@ -76,7 +76,7 @@ two-never file b =
 
 -- ---- the parts of a file (contract 11.1)
 
--- Every file of bytes is whole records, and then a rest that begins with none
+-- Every file of bytes is whole records, and then a rest that does not begin with one
 pub parts-exist : (file : List ℕ) → AllBytes file → (os : List Outline) × (rest : List ℕ) × Parts file os rest
 parts-exist file b = apart (suc (length file)) file (omega arith) b
 
@@ -85,10 +85,11 @@ pub parts-unique : {file rest rest′ : List ℕ} {os us : List Outline} → Par
     → (os ≡ us) × (rest ≡ rest′)
 parts-unique {os = os} {us = us} p q = one-way os us (sym (p .joined) ∙ q .joined) (p .none) (q .none)
 
--- ---- one file behind another (contract 11.2 and 11.3)
+-- ---- one file after another (contract 11.2 and 11.3)
 
--- Whole records before a file: their lines come first, and then the file's, whose record numbers and positions count on.
--- This is for at most 65,536 bytes in all. Of more bytes the only line is that of 25 (lines-long)
+-- Whole records before a file: their lines come first, and then the file's, whose record numbers and positions continue. This holds for at
+-- most
+-- 65,536 bytes in all. For more bytes the only line is that of 25 (lines-long)
 pub lines-appended : (os : List Outline) (file : List ℕ) → length (fileOf os ++ file) ≤ most
     → linesOf (fileOf os ++ file) ≡ linesOf (fileOf os) ++ map (movedLine (length os) (length (fileOf os))) (linesOf file)
 lines-appended os file h =

@@ -1,4 +1,4 @@
--- What stands at a position is read off the bytes there: those from a position on are the byte there and those from the next one on.
+-- What stands at a position depends on the bytes from there on: the byte at the position, and those from the next position on.
 use Prim.Native.Nat.{ℕ, _+_, _≤_, _<_}
 use native.Mathlib.Numerals.{add-one}
 use native.Mathlib.Omega.{arith}
@@ -25,7 +25,7 @@ marked-at : (w : List ℕ) (i : ℕ) → i + 2 ≤ length w → marked (drop i w
 unfolding marked
 marked-at w i h = rw (byte-at w i (i + 1) refl (omega arith), byte-at w (i + 1) (i + 2) (omega arith) (omega arith))
 
--- With the first byte of a mark the second decides; with another first byte there is no mark
+-- If the first byte is a mark's, the second decides. With any other first byte there is no mark
 pub first-right : (w : List ℕ) (i : ℕ) → i + 2 ≤ length w → getD w i 0 ≡ 75 → marked (drop i w) ≡ eqb (getD w (i + 1) 0) 79
 first-right w i h e = marked-at w i h ∙ ap (λ (b : Bool). b && eqb (getD w (i + 1) 0) 79) (eq-eqb _ _ e)
 
@@ -46,7 +46,7 @@ after-short (c ∷ r ∷ []) h = refl
 after-short (c ∷ r ∷ low ∷ []) h = refl
 after-short (c ∷ r ∷ low ∷ high ∷ w) h = absurd (omega (arith, h))
 
--- The count of letters at a position behind a mark
+-- The count of letters, at a position after a mark
 abbrev pub countAt : List ℕ → ℕ → ℕ
 countAt w i = wide (getD w (i + 2) 0) (getD w (i + 3) 0)
 

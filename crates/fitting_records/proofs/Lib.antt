@@ -1,3 +1,3 @@
--- The laws of a fitting file's records and of the steps over them.
+-- The laws of a fitting file's records, and of the steps over them.
 mod FoundLaws
 pub mod RecordLaws

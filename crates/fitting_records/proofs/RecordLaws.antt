@@ -1,4 +1,4 @@
--- A whole record is its six bytes of header and its letters, so a step passes at least the header and stays in the file.
+-- A whole record is its six bytes of header and its letters, so a step reads at least the header and stays in the file.
 use Prim.Native.Nat.{ℕ, _+_, _≤_}
 use native.Mathlib.Nat.{add-zero}
 use native.Mathlib.Omega.{arith}
@@ -22,7 +22,7 @@ pub record Stands (w : List ℕ) (c r m : ℕ) : Type 0 where
   pub count : m ≡ wide low high
   pub letters : m ≤ length behind
 
--- A record has a width
+-- A record has a width above 0
 pub no-record : {f : Found} {c r m : ℕ} → f ≡ Record c r m → width f ≡ 0 → ⊥
 unfolding width
 no-record e none = omega (arith, ap width e, none)
@@ -66,7 +66,7 @@ record-stands {c} {r} {m} (a ∷ b ∷ w) e = go (eqb a 75 && eqb b 79) refl e
 pub record-within : {c r m : ℕ} (w : List ℕ) → foundIn w ≡ Record c r m → header + m ≤ length w
 record-within w e = let s = record-stands w e in omega (arith, ap length (s .bytes), s .letters)
 
--- No step passes the end of the bytes
+-- No step goes past the end of the bytes
 pub found-within : (w : List ℕ) → width (foundIn w) ≤ length w
 unfolding width
 found-within w = go (foundIn w) refl
@@ -77,7 +77,7 @@ found-within w = go (foundIn w) refl
     go Truncated e = omega arith
     go (Record c r m) e = record-within w e
 
--- A step over a whole record: the next one begins behind its letters, within the file
+-- A step over a whole record: the next one begins after its letters, within the file
 pub record Passed (file : List ℕ) (at c r m next : ℕ) : Type 0 where
   pub found : foundAt file at ≡ Record c r m
   pub behind : next ≡ at + header + m
@@ -92,7 +92,7 @@ passed {file} {at} {c} {r} {m} {s} e told =
     let behind : s .next ≡ at + header + m = omega arith in
     record { found = found; behind = behind; within = omega (arith, simp length-drop at (record-within (drop at file) found)) }
 
--- The step over a whole record, and one that stays
+-- The step over a whole record, and a step that stays
 pub step-on : (c r m at : ℕ) (file : List ℕ) → foundAt file at ≡ Record c r m
     → record { found = Record c r m; next = at + header + m } ≡ stepAt file at
 unfolding width

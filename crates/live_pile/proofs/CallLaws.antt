@@ -1,4 +1,4 @@
--- A call is not made, for its lists have other lengths or its reply has no room, or its answer is written; fresh lists are zeros.
+-- A call is not made, because an array has another length or its reply has no room, or its reply is written; fresh arrays are zeros.
 use Prim.Native.Nat.{ℕ, _≤_, _<_}
 use native.Mathlib.Omega.{arith}
 use mathlib.Core.Path.{_≡_, refl, sym, ap, _∙_}
@@ -32,7 +32,7 @@ use Rattle.live_pile.specs.Layout.{pileOf, Memory, memory, pileIn, Fits,
 use Rattle.live_pile.specs.Called.{Called, Done, CheckWritten, Freshened}
 use Rattle.live_pile.proofs.PileLaws.{pile-failed, pile-passes, zeros-fresh}
 
--- ---- the answer of a call by value, in place
+-- ---- the reply of a call by value, in place
 
 module _ (m n : Memory) (r : PileReply) (q : Pile) (left : pileIn n ≡ q) where
   acts-by : (c : PileCall) → says r q ≡ answerOf (pileIn m) c → Acts m n c r
@@ -80,12 +80,12 @@ module _ (rows state : List ℕ) (one : length state ≡ 1) (c : ℕ) (ec : c �
     unfolding pileOf
     passing-checks h = checks-by rows state _ _ (passing-returns (pileOf rows state) c ec left r er fits h _ (pile-passes rows state one))
 
--- The row of a cell of the chart
+-- The row of a cell on the chart
 pub good-row : (x : Point) → badCell x ≡ false → x .row < side
 unfolding badCell
 good-row x e = leb-false side (x .row) (or-false-iff (leb side (x .col)) (leb side (x .row)) .0 e .1)
 
--- ---- a call with its reply list
+-- ---- a call with its reply buffer
 
 pub fits-by : (m : Memory) → length (m .rows) ≡ 8160 → length (m .state) ≡ 1 → Fits m
 fits-by m r s = record { rows = r; state = s }
@@ -124,7 +124,7 @@ module _ (m : Memory) (c : PileCall) (reply : List ℕ) where
 -- ---- what the reply means
 
 module _ (g : Fields) (reply reply′ : List ℕ) (room : 7 ≤ length reply) (put : reply′ ≡ replyAfter g reply) where
-  -- The cell that the reply of a set names
+  -- The cell of a set's reply
   pub cell-written : (m n : Memory) (l : ℕ) (o : Outline) (r : PileReply) → Acts m n (Set l o) r → g ≡ pileFields r
       → CellNamed o (fieldsOf reply′)
   unfolding answerOf
@@ -144,7 +144,7 @@ module _ (g : Fields) (reply reply′ : List ℕ) (room : 7 ≤ length reply) (p
 
 -- ---- a fresh pile
 
--- ---- a call whose lists have their lengths
+-- ---- a call whose arrays have their lengths
 
 module _ (m n : Memory) (c : PileCall) (reply reply′ : List ℕ) (b : Bool) (f : Fits m) (size : length reply ≡ 7) (t : Called m n c reply reply′ b) where
   pub sized-done : b ≡ true
@@ -158,7 +158,7 @@ module _ (m n : Memory) (c : PileCall) (reply reply′ : List ℕ) (b : Bool) (f
         fits = t .fits f;
       }
 
--- So such a call is one of those that a series is made of
+-- So a series can consist of such calls
 pub done-called : (m n : Memory) (c : PileCall) (reply reply′ : List ℕ) → Fits m → length reply ≡ 7 → Done m n c reply′ → Called m n c reply reply′ true
 done-called m n c reply reply′ f size d =
     record {

@@ -1,3 +1,3 @@
--- The pile that is read in lists; a call on it, by what stands in them.
+-- The pile in the caller's arrays, and a call on it.
 pub mod PileLaws
 pub mod CallLaws

@@ -1,4 +1,4 @@
--- A layer is a slot of the rows and the state is one byte, so a write of one alters that part of the pile alone; zeros are a fresh pile.
+-- A layer is a slot of the rows and the state is one byte, so writing one changes only that part of the pile; zeros are a fresh pile.
 use Prim.Native.Nat.{ℕ, _<_}
 use native.Mathlib.Nat.{zero-add, eq-zero-or-pos}
 use native.Mathlib.Omega.{arith}
@@ -54,7 +54,7 @@ module _ (rows state : List ℕ) where
     unfolding pileOf judgedPile
     pile-passes = ap (piled (layersOf rows)) (rw (getD-set-same state 0 1 0 (omega (arith, one))))
 
-    -- ---- a layer, put, and a state of zero
+    -- ---- a layer written, and a state of zero
 
     pub pile-put : (l : ℕ) → l < layers → (s : Spans) (rows′ : List ℕ) → SpansPut rows rows′ l s
         → pileOf rows′ (set state 0 0) ≡ put (pileOf rows state) l s

@@ -1,4 +1,4 @@
--- The two lists of a section are filled layer by layer, so at the end they are those of the definition.
+-- The two lists of a section are filled layer by layer, so at the end they are the definition's.
 use Prim.Native.Nat.{ℕ, _+_, _≤_, _<_}
 use native.Mathlib.Omega.{arith}
 use mathlib.Core.Path.{_≡_}
@@ -10,7 +10,7 @@ use Rattle.sections.specs.declared.Section.{Section}
 use Rattle.sections.specs.Sections.{layers}
 use Rattle.pile.proofs.CutLaws.{section-eq}
 
--- The layers before l have their runs
+-- The layers before l have their intervals
 pub record Filling (f g : ℕ → ℕ) (lo past : List ℕ) (l : ℕ) : Type 0 where
   pub within : l ≤ layers
   pub begins : Filled f layers lo l

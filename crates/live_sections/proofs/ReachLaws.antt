@@ -1,4 +1,4 @@
--- Rows without a cell have no column; so a search among the others finds what a search of all would.
+-- Rows without a cell have no column, so a search among the others finds what a search of all rows would.
 use Prim.Native.Nat.{ℕ, _+_, _-_, _*_, _≤_, _<_}
 use native.Mathlib.Decide.{decLt}
 use native.Mathlib.Omega.{arith}
@@ -58,7 +58,7 @@ module _ (begins ends : List ℕ) (c : ℕ) where
   unfolding NoneBelow
   low-none n e r h = first-before up side r (omega (arith, e))
 
-  -- A search from the first row on that may have it
+  -- A search that starts at the first row that may have it
   pub search-start : (n : ℕ) → NoneBelow begins ends c n → first up n ≡ n
   unfolding NoneBelow
   search-start n none = first-none up n none
@@ -109,9 +109,9 @@ module _ (rows : List ℕ) (l : ℕ) (h : l < layers) (begins ends : List ℕ) (
     pub to-none : NoneFrom begins ends c (numbers (s .past) l)
     to-none = rw (to-is ∙ sym top-is) (top-none begins ends c)
 
--- ---- two sections with the same runs
+-- ---- two sections with the same intervals
 
--- The first n numbers are the same
+-- The first n numbers are equal
 pub record Agree (a b : List ℕ) (n : ℕ) : Type 0 where
   pub same : (m : ℕ) → m < n → getD b m 0 ≡ getD a m 0
 

@@ -1,4 +1,4 @@
--- No section passed is dented, and the last one is known to be clear; so the first that is dented ends the search.
+-- No section so far is dented, and the last one is known to be convex. So the search ends at the first dented section.
 use Prim.Native.Nat.{ℕ, _+_, _≤_, _<_}
 use native.Mathlib.Omega.{arith}
 use mathlib.Core.Path.{_≡_, refl, sym, ap, _∙_}
@@ -23,7 +23,7 @@ clear-is s b e = e
 
 -- ---- the sections, in their order
 
--- Section n is dented exactly if this one is not clear
+-- Section n is dented exactly if s is not convex
 pub record SectionAt (dented : ℕ → Bool) (n : ℕ) (s : Section) : Type 0 where
   pub sized : Sized s
   pub tested : dented n ≡ not (clearOf s)
@@ -42,7 +42,7 @@ module _ (ls : List Spans) (n : ℕ) (s : Section) where
 
 -- ---- the search
 
--- The sections before n were passed, the last of which is this one
+-- The sections before n are not dented, and the last of them is `last`
 pub record Passed (dented : ℕ → Bool) (last : Section) (n : ℕ) : Type 0 where
   pub within : n ≤ side
   pub none : first dented n ≡ n

@@ -1,4 +1,4 @@
--- What a call answers, by the tests of its definition: a law for each return, by value and in place.
+-- The reply of a call follows the tests of its definition: one law for each return, by value and in place.
 use Prim.Native.Nat.{ℕ, _≤_, _<_}
 use native.Mathlib.Omega.{arith}
 use mathlib.Core.Path.{_≡_, sym, _∙_}
@@ -49,7 +49,7 @@ module _ (p : Pile) (l : ℕ) (o : Outline) where
     unfolding setAs
     set-taken n a g s d q k = rw (k, d) (set-as h (Taken n a) (sym e ∙ g))
 
-  -- The cell that the reply names
+  -- The cell of the reply
   judged-named : (v : Verdict) → CellNamed o (verdictFields v) → CellNamed o (pileFields (setAs p l o v .reply))
   unfolding setAs pileFields
   judged-named (Refused f) c = c

@@ -33,7 +33,7 @@ module _ (columns rows : ℕ → ℕ → ℕ → Bool) (ls : List Spans) (by-col
       column (dentedColumn ls) h (by-column (dentedColumn ls) h .dent (not-true _ (first-found (λ k. not (columnClear ls k)) side h)))
       (columns-convex (dentedColumn ls) (omega arith) (omega arith))
 
-  -- Where no column is dented the rows are asked, as far as the first that is
+  -- If no column is dented, the rows are checked up to the first dented one
   module _ (clear : side ≤ dentedColumn ls) (by-row : (r : ℕ) → r < side → r ≤ dentedRow ls → Decided (rowClear ls r) (rows r)) where
     rows-convex : (n : ℕ) → n ≤ side → n ≤ dentedRow ls → ConvexBefore rows n
     unfolding dentedRow
@@ -70,7 +70,7 @@ check-said columns rows p by-column by-row =
     ls : List Spans
     ls = p .layers
 
--- Of layers as they are kept, for each return
+-- For layers as they are kept, for each return
 abbrev pub Answered : Pile → Piled → Type 0
 Answered p r = (r ≡ checkOf p) × CheckedRuns (p .layers) (r .reply)
 

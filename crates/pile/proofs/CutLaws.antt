@@ -1,4 +1,4 @@
--- Sections with the same lists are the same.
+-- Sections with equal lists are equal.
 use mathlib.Core.Path.{_≡_}
 use mathlib.Core.List.{List}
 use Prim.Native.Nat.{ℕ}

@@ -1,4 +1,4 @@
--- A section's marked cells are a run in each layer, or none; so its test decides whether a cell of their hull is missing.
+-- A section's marked cells are one interval in each layer, or none, so its test decides whether a cell is missing.
 use Prim.Native.Nat.{ℕ, _≤_, _<_}
 use native.Mathlib.Decide.{decLt}
 use native.Mathlib.Omega.{arith}
@@ -26,7 +26,7 @@ both a b c = (
   λ h. rw (le-leb a c (h .0), lt-ltb c b (h .1)),
 )
 
--- ---- runs in two lists, a number for each layer
+-- ---- intervals in two lists, one number for each layer
 
 abbrev pub listed : (ℕ → ℕ) → ℕ → ℕ
 listed f = numbers (table f 0 layers)

@@ -1,3 +1,3 @@
--- A section's runs; that a pile replies as the book does.
+-- The intervals of a section; a pile replies as the model does.
 pub mod Runs
 pub mod ListTheorem

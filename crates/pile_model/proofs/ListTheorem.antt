@@ -1,4 +1,6 @@
--- A pile and the book stay in step: each layer is kept right, and both know whether the last check passed. So each reply is the book's, by induction over the list.
+-- A pile and the model stay in step: each layer has its outline's cells, and both know whether the last check passed. So each reply is the
+-- model's,
+-- by induction over the list.
 use Prim.Native.Nat.{ℕ, _≤_, _<_}
 use native.Mathlib.Decide.{decLt}
 use native.Mathlib.Omega.{arith}
@@ -44,9 +46,9 @@ use Rattle.pile_model.specs.Book.{located, queried, Answers, setBook, is
 use Rattle.pile_model.specs.Run.{pileReplies, pileAfter, bookAfter}
 use Rattle.pile_model.proofs.Runs.{KeptAs, AllKept, column-plane, row-plane, column-decided, row-decided}
 
--- ---- what a layer is kept as
+-- ---- how a layer is kept
 
--- Spans without a cell
+-- An empty layer
 kept-nothing : (s : Spans) → ((r : ℕ) → rows (s .past) r ≡ 0) → KeptAs none s
 unfolding marks inSpans
 kept-nothing s h =
@@ -98,7 +100,7 @@ record InStep (b : PileBook) (p : Pile) : Type 0 where
   size : length (p .layers) ≡ layers
   kept : AllKept (b .layers) (p .layers)
   same : p .passed ≡ b .passed
-  -- what has passed has no dented section
+  -- a pile that has passed has no dented section
   whole : b .passed ≡ true → NoneDented (b .layers)
 
 step-fresh : InStep fresh freshPile
@@ -115,7 +117,7 @@ step-fresh =
       whole = λ e. absurd (true≢false (sym e));
     }
 
--- A check keeps the layers, and passes where it says done
+-- A check keeps the layers, and the pile passes if the reply is done
 check-keeps : (p : Pile) → (checkOf p .pile .layers ≡ p .layers) × (checkOf p .pile .passed ≡ isDone (checkOf p .reply))
 unfolding checkOf judgedPile isDone
 check-keeps p = go (ltb (dentedColumn (p .layers)) side) (ltb (dentedRow (p .layers)) side)
@@ -200,7 +202,7 @@ module _ (b : PileBook) (p : Pile) (t : InStep b p) where
   step-query l x =
       rw (t .same) (ap (λ (v : Bool). cond (ltb 15 l) Layer (cond (b .passed) (cond (badCell x) Cell (cond v Inside Outside)) NotPassed)) (t .kept l .exact (x .col) (x .row)))
 
--- Each call's reply is the book's, and leaves the two in step
+-- Each call's reply is the model's, and the two stay in step
 call-agrees : (b : PileBook) (p : Pile) → InStep b p → (c : PileCall) → Answers b c (answerOf p c .reply) × InStep (next b c (answerOf p c .reply)) (answerOf p c .pile)
 unfolding answerOf Answers next
 call-agrees b p t (Set l o) = step-set b p t l o
@@ -215,18 +217,18 @@ unfolding AllAnswer pileReplies
 replies-agree [] b p t = tt
 replies-agree (c ∷ cs) b p t = let (a, u) = call-agrees b p t c in (a, replies-agree cs _ _ u)
 
--- For every list of calls from a fresh pile every reply is the book's
+-- For every list of calls from a fresh pile every reply is the model's
 pub pile-theorem : (cs : List PileCall) → AllAnswer fresh cs (pileReplies freshPile cs)
 pile-theorem cs = replies-agree cs fresh freshPile step-fresh
 
--- ---- what has passed
+-- ---- a pile that has passed
 
 stays-in-step : (cs : List PileCall) (b : PileBook) (p : Pile) → InStep b p → InStep (bookAfter b cs (pileReplies p cs)) (pileAfter p cs)
 unfolding bookAfter pileReplies pileAfter
 stays-in-step [] b p t = t
 stays-in-step (c ∷ cs) b p t = stays-in-step cs _ _ (call-agrees b p t c .1)
 
--- The book and the pile after a list of calls from a fresh pile
+-- The model and the pile after a list of calls from a fresh pile
 abbrev pub bookOf : List PileCall → PileBook
 bookOf cs = bookAfter fresh cs (pileReplies freshPile cs)
 
@@ -237,7 +239,7 @@ passed-query : (b : PileBook) (l : ℕ) (x : Point) → b .passed ≡ true → l
 unfolding queried
 passed-query b l x e h k = rw (le-ltb 15 l h, e, k)
 
--- A pile that passes answers a query exactly as its layers do, and none of its sections is dented
+-- A pile that has passed answers a query exactly as its layers do, and none of its sections is dented
 pub record Passed (cs : List PileCall) : Type 0 where
   pub answers : (l : ℕ) (x : Point) → l ≤ 15 → badCell x ≡ false → queryOf (pileOf cs) l x ≡ located (bookOf cs .layers l) x
   pub whole : NoneDented (bookOf cs .layers)
@@ -249,11 +251,11 @@ pub pile-passed : (cs : List PileCall) → bookOf cs .passed ≡ true → Passed
 pile-passed cs e =
     record { answers = λ l x h k. step-query _ _ (in-step cs) l x ∙ passed-query (bookOf cs) l x e h k; whole = in-step cs .whole e }
 
--- The pile knows as the book does whether it has passed
+-- The pile has passed exactly if the model has
 pub same-passed : (cs : List PileCall) → pileOf cs .passed ≡ bookOf cs .passed
 same-passed cs = in-step cs .same
 
--- A check of the pile, and a query, get the book's reply
+-- A check of the pile, and a query, get the model's reply
 pub book-checked : (cs : List PileCall) → Checked (bookOf cs .layers) (checkOf (pileOf cs) .reply)
 unfolding Answers
 book-checked cs = step-check _ _ (in-step cs) .0
@@ -261,7 +263,7 @@ book-checked cs = step-check _ _ (in-step cs) .0
 pub book-queried : (cs : List PileCall) (l : ℕ) (x : Point) → queryOf (pileOf cs) l x ≡ queried (bookOf cs) l x
 book-queried cs l x = step-query _ _ (in-step cs) l x
 
--- The plane of a section has 16 by 255 cells: the hull of its marked cells holds no others
+-- The plane of a section has 16 by 255 cells, and the hull of its marked cells stays within it
 module _ (cs : List PileCall) (k : ℕ) (x : Point) where
   pub column-on-plane : InHull (columnMarks (bookOf cs .layers) k) x → (x .col < layers) × (x .row < side)
   column-on-plane = column-plane (bookOf cs .layers) (pileOf cs .layers) (in-step cs .size) (in-step cs .kept) k x
@@ -269,9 +271,9 @@ module _ (cs : List PileCall) (k : ℕ) (x : Point) where
   pub row-on-plane : InHull (rowMarks (bookOf cs .layers) k) x → (x .col < layers) × (x .row < side)
   row-on-plane = row-plane (bookOf cs .layers) (pileOf cs .layers) (in-step cs .size) (in-step cs .kept) k x
 
--- ---- the book fixes the replies
+-- ---- the model determines the replies
 
--- Of two first numbers neither is before the other
+-- Two first numbers with a property are equal
 least : (D F : ℕ → Type 0) → ((k : ℕ) → F k → D k → ⊥) → (a b : ℕ) → D a → ((k : ℕ) → k < a → F k) → D b → ((k : ℕ) → k < b → F k) → a ≡ b
 least D F never a b d f e g =
     elim (decLt a b) [
@@ -301,7 +303,7 @@ answer-once b (SetEmpty l) r s e f = e ∙ sym f
 answer-once b Check r s e f = checked-once (b .layers) r s e f
 answer-once b (Query l x) r s e f = e ∙ sym f
 
--- Two lists of replies that are the book's are the same
+-- Two lists of replies that are the model's are equal
 pub replies-once : (cs : List PileCall) (b : PileBook) (rs ss : List PileReply) → AllAnswer b cs rs → AllAnswer b cs ss → rs ≡ ss
 unfolding AllAnswer
 replies-once [] b [] [] a a′ = refl

@@ -1,5 +1,6 @@
--- The sections of a pile whose layers are kept right: of each layer the marked cells of a column are one run, because a cell between two of them lies in the hull of the block,
--- and those of a row are one run as they are kept. So the test of a section decides whether it has a dent.
+-- The sections of a pile whose layers have their outlines' cells. In each layer the marked cells of a column are one interval, because the
+-- block is
+-- convex, and those of a row are one interval as they are kept. So the test of a section decides whether it is dented.
 use Prim.Native.Nat.{ℕ, _+_, _-_, _*_, _≤_, _<_}
 use native.Mathlib.Decide.{decLt, decLe}
 use native.Mathlib.Omega.{arith}
@@ -25,13 +26,13 @@ use Rattle.sections.proofs.Decides.{InRuns, hull-on-plane}
 use Rattle.pile.specs.Pile.{layerAt, inRow, lowestRow, afterHighest, columnSection, rowSection, columnClear, rowClear}
 use Rattle.pile.proofs.RunLaws.{both, listed, listed-at, listed-past, listed-runs, Decided, runs-decide, after-le}
 
--- ---- one run of numbers
+-- ---- an interval of numbers
 
--- Between two numbers below the side that pass every number does
+-- Every number between two that pass, below 255, passes
 abbrev Run : (ℕ → Bool) → Type 0
 Run f = (i j k : ℕ) → i ≤ j → j ≤ k → k < side → f i ≡ true → f k ≡ true → f j ≡ true
 
--- The numbers that pass below the side are those from the first on, up to but not including the one after the last
+-- The numbers that pass, below 255, are those from the first up to but not including the one past the last
 module _ (f : ℕ → Bool) (run : Run f) where
   abbrev least : ℕ
   least = first f side
@@ -65,9 +66,9 @@ in-row : (s : Spans) (c r : ℕ) → r < side → inSpans s c r ≡ inRow (s .fi
 unfolding inSpans inRow
 in-row s c r l = rw (lt-ltb r side l)
 
--- ---- a layer that is kept right
+-- ---- a layer that has its outline's cells
 
--- The spans have the cells that the layer marks, and it misses none of its hull
+-- The rows kept have the cells that the layer marks, and the layer is convex
 pub record KeptAs (v : Option Outline) (s : Spans) : Type 0 where
   pub exact : (c r : ℕ) → inSpans s c r ≡ marks v c r
   pub whole : Convex (marks v)
@@ -78,7 +79,7 @@ between : (i j k m n : ℕ) → j ≡ i + n → k ≡ j + m → (m + n + 0) * j 
 between i j k m n e f = omega (arith, ap (λ x. m * x) e, ap (λ x. n * x) f)
 
 module _ (v : Option Outline) (s : Spans) (t : KeptAs v s) where
-  -- A column of the layer is one run
+  -- A column of the layer is one interval
   marks-run : (c : ℕ) → Run (marks v c)
   marks-run c i j k h l m e f = go (marks v c j) refl
     where
@@ -115,7 +116,7 @@ module _ (v : Option Outline) (s : Spans) (t : KeptAs v s) where
   row-marks : (c r : ℕ) → r < side → inRow (s .first) (s .past) c r ≡ marks v c r
   row-marks c r l = sym (in-row s c r l) ∙ t .exact c r
 
-  -- No row past the last has a marked cell
+  -- No row off the chart has a marked cell
   off-chart : (c r : ℕ) → side ≤ r → marks v c r ≡ false
   unfolding inSpans
   off-chart c r l = sym (t .exact c r) ∙ rw (le-ltb r side l)
@@ -141,7 +142,7 @@ module _ (v : Option Outline) (s : Spans) (t : KeptAs v s) where
 
 -- ---- the sections
 
--- Runs in two lists, a number for each layer
+-- Intervals in two lists, one number for each layer
 in-runs : (marked : ℕ → ℕ → Bool) (lo past : ℕ → ℕ)
     → ((l : ℕ) → l < layers → (r : ℕ) → (marked l r ≡ true) ↔ ((lo l ≤ r) × (r < past l)))
     → ((l : ℕ) → layers ≤ l → (r : ℕ) → marked l r ≡ false) → ((l : ℕ) → past l ≤ side) → InRuns marked (listed lo) (listed past)
@@ -154,7 +155,7 @@ in-runs marked lo past exact none-past fits =
           (λ e. absurd (true≢false (sym e ∙ none-past l (omega arith) r)), λ (_, k). absurd (omega (arith, none)))
     ])
 
--- Every layer is kept right
+-- Every layer has its outline's cells
 abbrev pub AllKept : Layers → List Spans → Type 0
 AllKept ls kept = (l : ℕ) → KeptAs (ls l) (layerAt kept l)
 
@@ -185,7 +186,7 @@ module _ (ls : Layers) (kept : List Spans) (size : length kept ≡ layers) (t : 
       in-runs (λ l c. marks (ls l) c r) (λ l. rows (layerAt kept l .first) r) (λ l. rows (layerAt kept l .past) r)
       (λ l h c. row-exact (ls l) (layerAt kept l) (t l) c r i) (λ l h c. none-beyond l h c r) (λ l. t l .fits r)
 
-  -- The plane of a section has 16 by 255 cells, and the hull of its marked cells no others
+  -- The plane of a section has 16 by 255 cells, and the hull of its marked cells stays within it
   pub column-plane : (c : ℕ) (x : Point) → InHull (columnMarks ls c) x → (x .col < layers) × (x .row < side)
   column-plane c = hull-on-plane _ _ _ (column-runs c)
 
@@ -199,7 +200,7 @@ module _ (ls : Layers) (kept : List Spans) (size : length kept ≡ layers) (t : 
             absurd (true≢false (sym (h .p-marked) ∙ off-chart (ls l) (layerAt kept l) (t l) (h .p .row) r (omega arith)))
       ]
 
-  -- What the test of a section says
+  -- The result of a section's test
   pub column-decided : (c : ℕ) → Decided (columnClear kept c) (columnMarks ls c)
   unfolding columnClear
   column-decided c = runs-decide (column-runs c)

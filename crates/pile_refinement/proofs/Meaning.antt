@@ -1,4 +1,4 @@
--- The pile that calls one by one leave is the one that they leave by value, of which the book says what a check and a query reply.
+-- Calls made one by one leave the same pile as by value, and the model says what a check and a query of that pile reply.
 use Prim.Native.Nat.{ℕ, _≤_}
 use mathlib.Core.Path.{_≡_, refl, sym, ap, _∙_}
 use mathlib.Core.Bool.{Bool, true, false}
@@ -21,11 +21,12 @@ use Rattle.live_pile.proofs.CallLaws.{check-written}
 use Rattle.pile_refinement.specs.Series.{Asked, Received, Series, heeded}
 use Rattle.pile_refinement.proofs.Theorem.{fresh-leaves}
 
--- Lists in which a fresh pile stood, after any calls, with reply lists too short among them
+-- Arrays with a fresh pile, after any calls, also with reply buffers that are too short
 module _ (m n : Memory) (t : Bool) (f : Fits m) (s : Freshened m n t) (xs : List Asked) (ys : List Received) (k : Memory)
     (r : Series n xs ys k) where
-  -- A check that is done replies 0 exactly if no section, at a column or at a row, of the outlines that were taken has a missing cell;
-  -- and else it names the first that has
+  -- A check that is done replies 0 exactly if no section of the taken outlines, at a column or at a row, has a missing cell. Otherwise it
+  -- names
+  -- the first that has one
   pub check-theorem : (k′ : Memory) (reply reply′ : List ℕ) → Called k k′ Check reply reply′ true
       → CheckWritten (Checked (bookOf (heeded xs) .layers)) (NoneDented (bookOf (heeded xs) .layers)) reply reply′
   unfolding answerOf
@@ -34,7 +35,7 @@ module _ (m n : Memory) (t : Bool) (f : Fits m) (s : Freshened m n t) (xs : List
       let room : 7 ≤ length reply = leb-true 7 (length reply) (sym (c .done fit)) in
       check-written _ reply reply′ room (c .replied refl) _ (rw left (book-checked (heeded xs))) refl
 
-  -- A query that is done gets the book's reply
+  -- A query that is done gets the model's reply
   pub query-replies : (l : ℕ) (x : Point) (k′ : Memory) (reply reply′ : List ℕ) → Called k k′ (Query l x) reply reply′ true
       → reply′ ≡ replyAfter (pileFields (queried (bookOf (heeded xs)) l x)) reply
   unfolding answerOf
@@ -43,7 +44,7 @@ module _ (m n : Memory) (t : Bool) (f : Fits m) (s : Freshened m n t) (xs : List
       ∙ ap (λ (p : Pile). replyAfter (pileFields (queryOf p l x)) reply) (fresh-leaves m n t f s xs ys k r .1)
       ∙ ap (λ (v : PileReply). replyAfter (pileFields v) reply) (book-queried (heeded xs) l x)
 
-  -- Where the last of the calls that set a layer or checked was a check that passed, it answers by the outline of its layer
+  -- If the last call that set a layer or checked was a check that passed, the query is answered from the layer's outline
   pub query-theorem : bookOf (heeded xs) .passed ≡ true → (l : ℕ) (x : Point) → l ≤ 15 → badCell x ≡ false
       → (k′ : Memory) (reply reply′ : List ℕ) → Called k k′ (Query l x) reply reply′ true
       → reply′ ≡ replyAfter (pileFields (located (bookOf (heeded xs) .layers l) x)) reply

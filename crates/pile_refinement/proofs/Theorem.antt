@@ -1,4 +1,4 @@
--- Each call in place is the call by value on the pile that is read, so calls one by one get the replies of a list of calls by value.
+-- Each call in place is the call by value on the pile in the arrays, so calls made one by one get the replies of a list of calls by value.
 use Prim.Native.Nat.{ℕ}
 use mathlib.Core.Path.{_≡_, refl, sym, ap, ap₂, _∙_}
 use mathlib.Core.Bool.{Bool, true, false}
@@ -60,7 +60,7 @@ after-nothing p = refl
 
 -- ---- a series
 
--- What is heard, and the pile that is left
+-- What is received, and the pile that is left
 abbrev As : Memory → List Asked → List Received → Memory → Type 0
 As m xs ys n = (ys ≡ told xs (pileReplies (pileIn m) (heeded xs))) × Fits n × (pileIn n ≡ pileAfter (pileIn m) (heeded xs))
 
@@ -88,32 +88,32 @@ series-told m f (x ∷ xs) (y ∷ ys) n (made {m = _} {k = k} c s) = go (roomy x
           left ∙ ap (λ (k : Memory). pileAfter (pileIn k) (heeded xs)) same ∙ sym (ap (pileAfter (pileIn m)) (heeded-none x xs e)),
         )
 
--- Calls made one by one, from lists in which a fresh pile stands
+-- Calls made one by one, from arrays with a fresh pile
 module _ (m n : Memory) (t : Bool) (f : Fits m) (s : Freshened m n t) (xs : List Asked) (ys : List Received) (k : Memory)
     (r : Series n xs ys k) where
   series-fresh : ys ≡ told xs (pileReplies freshPile (heeded xs))
   series-fresh = series-told n (s .fits f) xs ys k r .0 ∙ ap (λ (p : Pile). told xs (pileReplies p (heeded xs))) (s .pile f)
 
-  -- The lists that are left have the pile that is left by value
+  -- The arrays that are left have the pile that is left by value
   pub fresh-leaves : Fits k × (pileIn k ≡ pileAfter freshPile (heeded xs))
   fresh-leaves =
       let told = series-told n (s .fits f) xs ys k r in
       (told .1, told .2 ∙ ap (λ (p : Pile). pileAfter p (heeded xs)) (s .pile f))
 
-  -- They get the book's replies to the calls whose reply has room
+  -- They get the model's replies to the calls whose reply has room
   pub series-theorem : (rs : List PileReply) × AllAnswer fresh (heeded xs) rs × (ys ≡ told xs rs)
   series-theorem = (pileReplies freshPile (heeded xs), pile-theorem (heeded xs), series-fresh)
 
-  -- And no other replies are the book's
+  -- No other replies are the model's
   pub series-once : (rs : List PileReply) → AllAnswer fresh (heeded xs) rs → ys ≡ told xs rs
   series-once rs a =
       series-fresh ∙ ap (told xs) (replies-once (heeded xs) fresh (pileReplies freshPile (heeded xs)) rs (pile-theorem (heeded xs)) a)
 
-  -- The state says whether the book has passed
+  -- The state says whether the model has passed
   pub state-theorem : pileIn k .passed ≡ bookOf (heeded xs) .passed
   state-theorem = ap (λ (p : Pile). p .passed) (fresh-leaves .1) ∙ same-passed (heeded xs)
 
--- Lists of zeros have a fresh pile in them as they are
+-- Arrays of zeros have a fresh pile
 abbrev pub zeros : Memory
 zeros = memory (replicate 8160 0) (replicate 1 0)
 
@@ -123,7 +123,7 @@ zeros-stand =
     let state = length-replicate {A = ℕ} 1 0 in
     fresh-lists zeros (fits-by zeros rows state) _ _ (ap (λ (n : ℕ). replicate n 0) (sym rows)) (ap (λ (n : ℕ). replicate n 0) (sym state))
 
--- ---- calls on lists that have their lengths, as a C program makes them
+-- ---- calls on arrays that have their lengths, as a C program makes them
 
 calls-replies : (m : Memory) (cs : List PileCall) (rs : List (List ℕ)) (k : Memory) → Calls m cs rs k
     → rs ≡ map (λ r. numbersOf (pileFields r)) (pileReplies (pileIn m) cs)
@@ -133,7 +133,7 @@ calls-replies m (c ∷ cs) (reply ∷ rs) k (then {m = _} {n = n} d later) =
     ap₂ _∷_ (d .replied)
     (calls-replies n cs rs k later ∙ ap (λ (p : Pile). map (λ r. numbersOf (pileFields r)) (pileReplies p cs)) (d .pile))
 
--- From lists in which a fresh pile stands, the replies are the plain book's, in seven numbers
+-- From arrays with a fresh pile, the replies are the model's, in seven numbers
 pub calls-theorem : (m : Memory) → pileIn m ≡ freshPile → (cs : List PileCall) (rs : List (List ℕ)) (k : Memory) → Calls m cs rs k
     → (said : List PileReply) × AllAnswer fresh cs said × (rs ≡ map (λ r. numbersOf (pileFields r)) said)
 calls-theorem m e cs rs k d = (

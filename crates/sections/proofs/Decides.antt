@@ -1,5 +1,6 @@
--- What the loops gather of a layer is the hull's part there: some line is at or below a row exactly if the least of the lines' rows is. So no cell is missing exactly if every
--- layer has what the hull has there; and where one has not, the hull's first or last cell there is missing.
+-- What the loops gather for a layer is the hull's part there: some line is at or below a row exactly if the smallest of the lines' rows is.
+-- So no cell
+-- is missing exactly if every layer has the hull's cells there. If one layer does not, the hull's first or last cell there is missing.
 use Prim.Native.Nat.{ℕ, zero, suc, _+_, _-_, _*_, _≤_, _<_, min, max}
 use native.Mathlib.Nat.{mul-le-mul-left, eq-or-lt-of-le, le-of-suc-le-suc}
 use native.Mathlib.Decide.{decLe, decLt}
@@ -29,12 +30,12 @@ at-most-min r a b = ((λ h. elim (decLe a r) [ yes l ↦ inl l | no l ↦ inr (o
 below-max : (r a b : ℕ) → (r < max a b) ↔ ((r < a) ⊎ (r < b))
 below-max r a b = ((λ h. elim (decLe (suc r) a) [ yes l ↦ inl l | no l ↦ inr (omega arith) ]), λ s. elim s [ inl l ↦ omega arith | inr l ↦ omega arith ])
 
--- One of the steps below n brings Q about
+-- One of the steps below n makes Q true
 abbrev Some : (ℕ → Type 0) → ℕ → Type 0
 Some Q n = (k : ℕ) × (k < n) × Q k
 
 module _ {A : Type 0} (P : A → Type 0) (Q : ℕ → Type 0) (f : ℕ → A → A) where
-  -- Each step keeps P or brings it about, so the whole has it exactly if it was there or some step brought it about
+  -- Each step keeps P or makes it true. So P holds in the end exactly if it held at first or some step made it true
   fold-iff : (n : ℕ) → ((k : ℕ) → k < n → (a : A) → P (f k a) ↔ (P a ⊎ Q k)) → (a : A) → P (fold f n a) ↔ (P a ⊎ Some Q n)
   unfolding fold
   fold-iff zero law a = (λ h. inl h, λ s. elim s [ inl h ↦ h | inr (k, l, q) ↦ absurd (omega arith) ])
@@ -63,7 +64,7 @@ module _ (lo past : ℕ → ℕ) where
   abbrev hi : ℕ → ℕ
   hi l = past l - 1
 
-  -- P holds of what is gathered of layer j exactly if it holds of the layer's own run, or of a line through two other layers
+  -- P holds for what is gathered of layer j exactly if it holds for the layer's own interval, or for a line through two other layers
   module _ (P : Reach → Type 0) (Q : ℕ → ℕ → ℕ → Type 0)
       (law : (i j k : ℕ) → i < j → j < k → (r : Reach) → full lo past k ≡ true → P (joined lo past i j k r) ↔ (P r ⊎ Q i j k)) where
     abbrev Crossed : ℕ → Type 0
@@ -175,7 +176,7 @@ line-of : (u : Bool) (full : ℕ → Bool) (end : ℕ → ℕ) (j r : ℕ) → S
 line-of u full end j r (here f h) = own f h
 line-of u full end j r (across i k f g h l s) = line i k f g (omega arith) (omega arith) (omega arith) s
 
--- The marked cells of layer l are those from lo l up to but not including past l, a run of the chart's; there are none beyond the last layer
+-- The marked cells of layer l are those from lo l up to but not including past l, within the chart. There are none past the last layer
 pub record InRuns (marked : ℕ → ℕ → Bool) (lo past : ℕ → ℕ) : Type 0 where
   pub exact : (l r : ℕ) → (marked l r ≡ true) ↔ ((lo l ≤ r) × (r < past l))
   pub small : (l : ℕ) → lo l < past l → l < layers
@@ -206,7 +207,7 @@ module _ (marked : ℕ → ℕ → Bool) (lo past : ℕ → ℕ) (t : InRuns mar
   small-filled : (l : ℕ) → filled l ≡ true → l < layers
   small-filled l f = t .small l (filled-is l f)
 
-  -- An upper line lies in one of the layers and below the chart's end
+  -- An upper line is in one of the layers and below the chart's end
   upper-layer : (j r : ℕ) → Upper filled (hi lo past) j r → j < layers
   upper-layer j r (own f h) = small-filled j f
   upper-layer j r (line i k f g a b l h) = omega (arith, small-filled k g)
@@ -235,7 +236,7 @@ module _ (marked : ℕ → ℕ → Bool) (lo past : ℕ → ℕ) (t : InRuns mar
       let u = hull-upper marked filled lo (hi lo past) runs x h in
       (upper-layer (x .col) (x .row) u, upper-below (x .col) (x .row) u)
 
-  -- The hull's cells in a layer are those that the loops reach
+  -- The hull's cells in a layer are those that the loops find
   hull-reached : (x : Point) → InHull marked x → (x .col < layers) × (reached lo past (x .col) .low ≤ x .row) × (x .row < reached lo past (x .col) .high)
   hull-reached x h =
       let u = hull-upper marked filled lo (hi lo past) runs x h in
@@ -252,7 +253,7 @@ module _ (marked : ℕ → ℕ → Bool) (lo past : ℕ → ℕ) (t : InRuns mar
       lines-hull marked filled lo (hi lo past) runs (at j r)
       (line-of true filled lo j r (reached-low lo past r small-filled j near (upper-below j r u) .0 low)) u
 
-  -- Where the test passes no cell is missing
+  -- If the test passes, no cell is missing
   whole-full : (j r : ℕ) → whole lo past j ≡ true → reached lo past j .low ≤ r → r < reached lo past j .high → marked j r ≡ true
   unfolding whole wholeIn
   whole-full j r e low high = go (leb (reached lo past j .high) (reached lo past j .low)) refl e
@@ -271,7 +272,7 @@ module _ (marked : ℕ → ℕ → Bool) (lo past : ℕ → ℕ) (t : InRuns mar
       let (near, low, high) = hull-reached x (m .hull) in
       true≢false (sym (whole-full (x .col) (x .row) (every-at (whole lo past) layers e (x .col) near) low high) ∙ m .open-cell)
 
-  -- And where it fails one is
+  -- If it fails, one is
   open-of : (j r : ℕ) → ((lo j ≤ r) → (r < past j) → ⊥) → marked j r ≡ false
   open-of j r h = not-held (marked j r) (λ e. let (a, b) = t .exact j r .0 e in h a b)
 

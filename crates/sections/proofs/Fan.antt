@@ -1,5 +1,6 @@
--- A cell between two segments that share an end is in the triangle of the shared end and the two others. Whether the shared end is in an earlier or a
--- later layer does not matter: all that is said is which weights put each segment's point into the cell's layer.
+-- A cell between two segments that share an end is in the triangle of the shared end and the two others. It does not matter whether the
+-- shared end is
+-- in an earlier or a later layer: the proof uses only the weights that put each segment's point into the cell's layer.
 use Prim.Native.Nat.{ℕ, zero, suc, _+_, _-_, _*_, _≤_, _<_}
 use native.Mathlib.Nat.{mul-le-mul-left}
 use native.Mathlib.Omega.{arith}
@@ -7,7 +8,7 @@ use mathlib.Core.Path.{_≡_, ap}
 use Rattle.chart.specs.declared.Point.{Point}
 use Rattle.lattice.specs.Hull.{InTriangle}
 
--- x is g / (e + d) rows above the segment from z to q and h / (f + d) rows below that from z to t
+-- x is g / (e + d) rows above the segment from z to q and h / (f + d) rows below the segment from z to t
 fan-by :
     (x z q t : Point) (d e f g h : ℕ) →
     0 < d →

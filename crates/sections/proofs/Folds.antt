@@ -1,4 +1,4 @@
--- A loop that has made n steps of a fold makes the next; one that has asked j numbers asks the next.
+-- A loop that has made n steps of a fold makes the next, and a loop that has tested j numbers tests the next.
 use Prim.Native.Nat.{ℕ, suc, _+_, _-_, _≤_, _<_}
 use native.Mathlib.Numerals.{add-one}
 use native.Mathlib.Omega.{arith}
@@ -13,7 +13,7 @@ module _ {A : Type 0} (a : A) where
   unfolding fold
   fold-next f n m e h g = rw e (g ∙ ap (f n) h)
 
-  -- The same where the steps are counted from b
+  -- The same with steps counted from b
   pub fold-from : (f : ℕ → A → A) (b k : ℕ) {x y : A} → b ≤ k → x ≡ fold (λ n. f (b + n)) (k - b) a → y ≡ f k x → y ≡ fold (λ n. f (b + n)) (k + 1 - b) a
   fold-from f b k {x} h e g = fold-next (λ n. f (b + n)) (k - b) (k + 1 - b) (omega arith) e (g ∙ ap (λ (m : ℕ). f m x) (omega arith))
 
@@ -21,7 +21,7 @@ module _ {A : Type 0} (a : A) where
   unfolding fold
   fold-none f n e = rw e refl
 
--- A loop that asks every number
+-- A loop that tests every number
 pub every-next : (f : ℕ → Bool) (j : ℕ) → every f j ≡ true → f j ≡ true → every f (j + 1) ≡ true
 unfolding every
 every-next f j h e = rw (add-one j, h, e)

@@ -27,7 +27,7 @@ product-small a x h k =
     let m : a * x ≤ 3825 = mul-le-mul l k in
     omega arith
 
--- A quotient is taken where it is smaller, and that is seen without it
+-- Whether a quotient is smaller can be tested without dividing
 pub ceiling-taken : (low a d : ℕ) → 0 < d → a + d ≤ d * low → ceiling a d < low
 ceiling-taken zero a d p h = absurd (omega arith)
 ceiling-taken (suc m) a d p h = let l : ceiling a d ≤ m = ceiling-iff a d m p .1 (omega arith) in omega arith

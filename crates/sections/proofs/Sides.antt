@@ -1,6 +1,8 @@
--- A cell in a triangle of marked cells: in its layer, some side of the triangle is at or below it, and some side is at or above it. Both are one proof,
--- with the direction as a Bool. No layers are sorted: the cell's layer has one corner on one side and two on the other, or the corners that count are
--- all in it.
+-- For a cell in a triangle of marked cells, some side of the triangle is at or below it in its layer, and some side is at or above it. Both
+-- have one
+-- proof, with the direction as a Bool. No sorting is needed: the cell's layer has one corner on one side and two on the other, or all
+-- corners with
+-- weight are in it.
 use Prim.Native.Nat.{ℕ, zero, suc, _+_, _-_, _*_, _≤_, _<_}
 use native.Mathlib.Nat.{add-comm, mul-le-mul-left, mul-le-mul-right, le-of-mul-le-mul-left, le-of-eq}
 use native.Mathlib.Decide.{decLe, decLt}
@@ -49,7 +51,7 @@ cancel w l j p e =
     let k : j ≤ l = le-of-mul-le-mul-left (le-of-eq (sym e)) p in
     omega arith
 
--- ---- where a mean j of l, m and n lies: what counts is all at j if none is beyond, and not all are beyond
+-- ---- a mean j of l, m and n: if none is beyond j, all that have weight are at j; and not all are beyond
 
 level-left :
     (a b c j l m n : ℕ) →
@@ -72,7 +74,7 @@ level-right a b c j l m n e h k i = omega (arith, mul-le-mul-left a h, mul-le-mu
 none-left : (a b c j l m n : ℕ) → 0 < a + b + c → (a + b + c) * j ≡ a * l + b * m + c * n → j < l → j < m → j < n → ⊥
 none-left a b c j l m n p e h k i = omega (arith, mul-le-mul-left a h, mul-le-mul-left b k, mul-le-mul-left c i)
 
--- With distances from j, l on one side and m and n on the other
+-- Distances from j, with l on one side and m and n on the other
 distances :
     (a b c j l m n d e f : ℕ) → j ≡ l + d → m ≡ j + e → n ≡ j + f → (a + b + c) * j ≡ a * l + b * m + c * n → a * d ≡ b * e + c * f
 distances a b c j l m n d e f h k i g = omega (arith, ap (λ z. a * z) h, ap (λ z. b * z) k, ap (λ z. c * z) i)
@@ -91,9 +93,9 @@ others-count a b c d e f p s h =
           absurd (omega (arith, mul-le-mul-left a p, mul-le-mul-right e i, mul-le-mul-right f j))
     ]
 
--- ---- one corner on one side at the distance d, and two on the other at e and f: one of the two sides from that corner
+-- ---- one corner on one side at the distance d, and two on the other at e and f: the two sides from that corner
 
--- Two means with the same weights that are equal: one of the first two numbers is at most its fellow
+-- Two equal means with the same weights: one of the first two numbers is at most its counterpart
 one-of-two : (b c x x′ y y′ : ℕ) → 0 < b + c → b * x + c * y ≡ b * x′ + c * y′ → (x ≤ x′) ⊎ (y ≤ y′)
 one-of-two b c x x′ y y′ p e =
     elim (decLe x x′) [
@@ -108,7 +110,7 @@ one-of-two b c x x′ y y′ p e =
           ]
     ]
 
--- The cell is the mean of its places on the two sides
+-- The cell is the mean of the points of the two sides in its layer
 mean-of-sides :
     (a b c d e f r y₁ y₂ y₃ : ℕ) →
     a * d ≡ b * e + c * f →
@@ -130,12 +132,12 @@ turned : {x p q t : Point} → InTriangle x p q t → InTriangle x q t p
 turned h = record { a = h .b; b = h .c; c = h .a; some = omega arith; cols = omega (arith, h .cols); rows = omega (arith, h .rows) }
 
 module _ (u : Bool) (full : ℕ → Bool) (end : ℕ → ℕ) where
-  -- The cell is in a full layer, and not before its end
+  -- The cell is in a full layer, at or past the layer's end
   pub record Mark (p : Point) : Type 0 where
     pub is-full : full (p .col) ≡ true
     pub reached : Dir u (end (p .col)) (p .row)
 
-  -- A side from p to q, and so the line through the ends of their layers
+  -- A side from p to q gives the line through the ends of their layers
   side :
       (x p q : Point) →
       Mark p →
@@ -151,7 +153,7 @@ module _ (u : Bool) (full : ℕ → Bool) (end : ℕ → ℕ) where
       (dir-add u _ _ _ _ (dir-times u (q .col - x .col) _ _ (m .reached)) (dir-times u (x .col - p .col) _ _ (n .reached)))
       s)
 
-  -- ---- the corners that count are all in the cell's layer
+  -- ---- all corners with weight are in the cell's layer
 
   part : (w j : ℕ) (p : Point) → Mark p → w * p .col ≡ w * j → Dir u (w * end j) (w * p .row)
   part zero j p m e = dir-zero u (end j) (p .row)

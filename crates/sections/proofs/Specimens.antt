@@ -1,4 +1,4 @@
--- Small sections, worked out by the checker: the rows of the hull in a layer, and whether they are all marked.
+-- The checker computes small sections: the rows of the hull in a layer, and whether they are all marked.
 use Prim.Native.Nat.{ℕ, zero, suc}
 use mathlib.Core.Path.{_≡_, refl}
 use mathlib.Core.Bool.{true, false}
@@ -19,7 +19,9 @@ three-past (suc zero) = 3
 three-past (suc (suc zero)) = 1
 three-past (suc (suc (suc l))) = 0
 
--- Rows 1 and 2 of layer 1 are in the hull. The lower line goes from layer 0 to layer 2, and the upper one is the end of layer 1 itself: no one pair of layers gives both
+-- Rows 1 and 2 of layer 1 are in the hull. The lower line goes from layer 0 to layer 2, and the upper one is the end of layer 1 itself. No
+-- single
+-- pair of layers gives both
 independent-lines : reached three three-past 1 ≡ record { low = 1; high = 3 }
 unfolding three three-past fold ceiling above lowLine highLine full alone joined joinedFrom reached
 independent-lines = refl
@@ -28,7 +30,7 @@ independent-dent : clear three three-past ≡ false
 unfolding three three-past fold ceiling above lowLine highLine full alone joined joinedFrom reached wholeIn whole clear every
 independent-dent = refl
 
--- (1, 1) as the mean of the three, once each
+-- (1, 1) is the mean of the three, with equal weights
 missing-one : InTriangle (record { col = 1; row = 1 }) (record { col = 0; row = 1 }) (record { col = 1; row = 2 }) (record { col = 2; row = 0 })
 missing-one = record { a = 1; b = 1; c = 1; some = lit≤ tt; cols = refl; rows = refl }
 

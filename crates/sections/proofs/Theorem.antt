@@ -102,7 +102,7 @@ module _ (marked : ℕ → ℕ → Bool) (full : ℕ → Bool) (lo hi : ℕ → 
       (fan _ (cell lo i) (cell lo k) (cell hi j) (j - i) (k - j) 0 (omega arith) (straddle i j k (omega arith) (omega arith)) (omega arith)
       (split true i j k _ r (omega arith) (omega arith) s)
       (omega (arith, mul-le-mul-left (j - i) h)))
-  -- At or above the line s t it is in the triangle s t u, and below it in the triangle t p s
+  -- If the cell is at or above the line s t, it is in the triangle s t u. If it is below, it is in the triangle t p s
   between j r (across i k f f′ a b s) (across i′ k′ g g′ a′ b′ s′) =
       elim (decLe ((k - j) * hi i′ + (j - i′) * lo k) ((k - j + (j - i′)) * r)) [
         | yes m ↦

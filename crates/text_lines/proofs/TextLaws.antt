@@ -1,4 +1,6 @@
--- A number in decimal is its tenth in decimal, where that is not 0, with the last digit behind it; so as many digits are enough as any bound above it has.
+-- A number in decimal is a tenth of it in decimal, unless that is 0, followed by the last digit. So every large enough bound on the digits
+-- gives
+-- the same text.
 use Prim.Native.Nat.{ℕ, zero, suc, _+_, _*_, _-_, _/_, _%_, _^_, _≤_, _<_}
 use native.Mathlib.Nat.{div-add-mod}
 use native.Mathlib.Decide.{decLe}
@@ -35,7 +37,7 @@ decimal-large n h =
     let m = tenth-below n h in
     rw (le-ltb n 10 h, digits-enough n (suc (n / 10)) (n / 10) (omega arith) (omega arith))
 
--- The number that digits stand for, behind one that is read already
+-- The number that digits stand for, after a number that is read already
 abbrev pub numberRead : ℕ → List ℕ → ℕ
 numberRead n [] = n
 numberRead n (d ∷ w) = numberRead (10 * n + (d - 48)) w
@@ -61,7 +63,7 @@ pub decimal-read : (n : ℕ) → numberRead 0 (decimal n) ≡ n
 unfolding decimal
 decimal-read n = digits-read (suc n) n (omega arith)
 
--- A number below a power of ten has no more digits than the power
+-- A number below 10 ^ m has at most m digits
 digits-short : (m k n : ℕ) → n < 10 ^ suc m → length (digits k n) ≤ suc m
 unfolding digits
 digits-short m zero n h = omega arith

@@ -1,4 +1,4 @@
--- One text written behind another is the two joined: by the place where they begin, and then letter by letter.
+-- One text written after another is the two joined: by induction over the place where they begin, and then over the letters.
 use Prim.Native.Nat.{ℕ, zero, suc, _+_, _-_, _≤_, _<_, min}
 use native.Mathlib.Omega.{arith}
 use mathlib.Core.Path.{_≡_, refl, ap, _∙_}
@@ -11,7 +11,7 @@ unfolding over
 over-nil [] = refl
 over-nil (b ∷ t) = refl
 
--- Where there is room the whole text stands first
+-- With room the whole text stands first
 pub over-room : (t buffer : List ℕ) → length t ≤ length buffer → over t buffer ≡ t ++ drop (length t) buffer
 unfolding over
 over-room [] buffer h = refl
@@ -51,7 +51,7 @@ unfolding writtenAt
 written-nil zero t = over-nil t
 written-nil (suc at) t = refl
 
--- What is written behind a text, from where it ends
+-- What is written after a text, from where it ends
 pub written-behind : (at end : ℕ) (s t buffer : List ℕ) → end ≡ endAt at (length s) (length buffer)
     → writtenAt end t (writtenAt at s buffer) ≡ writtenAt at (s ++ t) buffer
 unfolding writtenAt

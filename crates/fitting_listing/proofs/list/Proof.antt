@@ -1,4 +1,4 @@
--- The length is asked first; a file that is not too long is read.
+-- The length is checked first. A file that is not too long is read.
 use native.Mathlib.Omega.{arith}
 use Rattle.fitting_listing.proofs.LinesLaws.{lines-long, lines-read}
 use Rattle.fitting_listing.proofs.ListingLaws.{long-listed}

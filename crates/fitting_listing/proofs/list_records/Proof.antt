@@ -1,4 +1,4 @@
--- Each step over a whole record adds its line to the listing in the making; the end or a fault finishes it.
+-- Each step over a whole record adds its line to the listing. The end or a fault finishes it.
 use Prim.Native.Nat.{ℕ, _-_}
 use native.Mathlib.Omega.{arith}
 use mathlib.Core.Path.{_≡_, sym, ap, _∙_}

@@ -1,4 +1,4 @@
--- With fewer than four bytes the record is truncated; else the count of letters is compared with the bytes that are left.
+-- With fewer than four bytes the record is truncated. Otherwise the count of letters is compared with the bytes that are left.
 use Prim.Native.Nat.{_+_, _≤_}
 use native.Mathlib.Omega.{arith}
 use mathlib.Core.Path.{sym}

@@ -1,4 +1,4 @@
--- The end is asked first, then the mark, and what stands behind the mark is told by a function of its own.
+-- The end is tested first, then the mark. What stands after the mark is another function's result.
 use Prim.Native.Nat.{_≤_, _<_}
 use native.Mathlib.Omega.{arith}
 use mathlib.Core.Path.{sym, _∙_}

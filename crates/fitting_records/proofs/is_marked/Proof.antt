@@ -1,4 +1,4 @@
--- Of fewer than two bytes none are a mark; else the two bytes at the position are asked.
+-- Fewer than two bytes are not a mark. Otherwise the two bytes at the position are compared.
 use Prim.Native.Nat.{_+_, _≤_}
 use native.Mathlib.Omega.{arith}
 use mathlib.Core.Path.{sym, _∙_}

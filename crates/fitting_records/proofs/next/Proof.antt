@@ -1,6 +1,8 @@
--- `next` calls `step_at` with the file and the position of the reader and returns its answer: a walk of its MIR, by hand.
--- Of `step_at` only its promise is used. A reader is Copy, so what it owns is there twice. One copy is kept whole for the exit.
--- Of the other copy, what the file owns goes to the callee. The token of the lifetime goes along and comes back.
+-- `next` calls `step_at` with the reader's file and position and returns its result: a walk through its MIR, by hand. Only the promise of
+-- `step_at`
+-- is used. A reader is Copy, so what it owns is there twice. One copy is kept whole for the exit. From the other, what the file owns goes
+-- to the
+-- callee, together with the token of the lifetime, which comes back.
 use mathlib.Core.Path.{_≡_, refl}
 use Prim.Native.Nat.{_<_, _^_}
 use mathlib.Core.List.{[], _∷_}
@@ -107,7 +109,7 @@ module _ {M : Type 1} (𝓤 : URA M) (H : Heap 𝓤) (A : Atoms 𝓤) (W : Given
   asked : ent 𝓤 (onEntry 𝓤 H A step-at.signature (κ, tt) (q, tt) (d .file, (d .at, tt)) passed) (StepAt 𝓤 H A mem run .pre to)
   asked = qed W ((‵ (flft κ q) ⊛ ‵ ftrue) ∷ ‵ (owns (ShrSlice (named 0) κ u8 ∷ usize ∷ []) (d .file, (d .at, tt)) passed) ∷ []) ∵ join ! $ frame ! $ done !
 
-  -- what the struct owns gives what the callee asks, and is kept
+  -- what the struct owns gives what the callee requires, and is kept
   apart : d .at < 2 ^ 64 → ent 𝓤 (onEntry 𝓤 H A next.signature (κ, tt) (q, tt) (d, tt) (mach ∷ [], tt)) (sep 𝓤 (StepAt 𝓤 H A mem run .pre to) (sem 𝓤 H A Own))
   apart fits =
       qed W ((‵ (flft κ q) ⊛ ‵ ftrue) ∷ ‵ (owns (B (κ, tt) ∷ []) (d, tt) (mach ∷ [], tt)) ∷ []) ∵
@@ -117,7 +119,7 @@ module _ {M : Type 1} (𝓤 : URA M) (H : Heap 𝓤) (A : Atoms 𝓤) (W : Given
       move ! (1 ∷ []) $ drop ! $ nothing ! $ owned ! usize (Is usize) (uint-makes 𝓤 H A W w64) (d .at) _ (refl, fits) $ fjoin ! $ move ! (1 ∷ 0 ∷ []) $ fjoin ! $
       move ! (2 ∷ 0 ∷ []) $ use2 W (raw (StepAt 𝓤 H A mem run .pre to)) asked $ frame ! $ done !)
 
-  -- of the callee's `ensured`, the clause alone: it has no `&mut`, so what is said of last values is dropped
+  -- of the callee's `ensured` only the clause: it has no `&mut`, so nothing is said of last values
   said : (r : Step) → ent 𝓤 (ensured 𝓤 H A step-at.ended (step-at.clauses 𝓤 H A mem run) (κ, tt) (d .file, (d .at, tt)) tt r) (fact 𝓤 (r ≡ step))
   said r = exE 𝓤 _ (λ ws. snd∗ 𝓤 (sem 𝓤 H A (lasts step-at.ended (κ, tt) (d .file, (d .at, tt)) ws)) (fact 𝓤 (r ≡ step)))
 

@@ -1,4 +1,4 @@
--- A whole record is passed with its header and its letters; the other three variants have no width, so the position stays.
+-- The step over a whole record covers its header and its letters. The other three variants have no width, so the position stays.
 use mathlib.Core.Path.{_≡_, refl, sym, _∙_}
 use mathlib.Core.List.{[], _∷_}
 use native.Mathlib.Omega.{arith}

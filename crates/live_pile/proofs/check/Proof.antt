@@ -1,4 +1,4 @@
--- Lists of other lengths and a reply without room are left; else the fields of the answer are written.
+-- With arrays of other lengths or no room for the reply nothing changes. Otherwise the reply's fields are written.
 use mathlib.Core.Path.{sym, _∙_}
 use mathlib.Core.Bool.{true≢false}
 use borrow.Author.Needs.{needs}

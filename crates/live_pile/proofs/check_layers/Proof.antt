@@ -1,4 +1,4 @@
--- The columns, then the rows, as in the definition, and the outcome in the state.
+-- Columns are checked before rows, as in the definition, and the state gets the outcome.
 use native.Mathlib.Omega.{arith}
 use borrow.Author.Needs.{needs}
 use Rattle.live_pile.proofs.CallLaws.{column-checks, row-checks, passing-checks}

@@ -1,4 +1,4 @@
--- Each return is a case of the definition, with nothing put into the slot of the layer.
+-- Each return is a case of the definition, and the layer's slot is emptied.
 use native.Mathlib.Omega.{arith}
 use mathlib.Core.Path.{refl}
 use borrow.Author.Needs.{needs}

@@ -1,4 +1,4 @@
--- Both lists are set to zeros, and zeros are a fresh pile.
+-- Both arrays are set to zeros, and zeros are a fresh pile.
 use borrow.Author.Needs.{needs}
 use Rattle.live_pile.proofs.CallLaws.{fits-by, unfit-fresh, fresh-lists}
 use Rattle.live_pile.proofs.fresh.Statement.{statement}

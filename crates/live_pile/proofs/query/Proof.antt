@@ -1,4 +1,4 @@
--- Lists of other lengths and a reply without room are left; else the fields of the answer are written.
+-- With arrays of other lengths or no room for the reply nothing changes. Otherwise the reply's fields are written.
 use borrow.Author.Needs.{needs}
 use Rattle.live_pile.proofs.CallLaws.{fits-by, unfit-called, short-called, told-called}
 use Rattle.live_pile.proofs.query.Statement.{statement}

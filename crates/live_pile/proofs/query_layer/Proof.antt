@@ -1,4 +1,4 @@
--- Each return is a case of the definition, by the state and the two bytes of the row.
+-- Each return is a case of the definition, from the state and the two bytes of the row.
 use native.Mathlib.Omega.{arith}
 use mathlib.Core.Path.{sym, _∙_}
 use borrow.Author.Needs.{needs}

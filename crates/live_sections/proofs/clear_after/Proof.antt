@@ -1,4 +1,4 @@
--- The same section is clear as the last one was; another is tested.
+-- An equal section is convex because the last one was. Any other is tested.
 use mathlib.Core.Path.{sym, ap, _∙_}
 use borrow.Author.Needs.{needs}
 use Rattle.live_sections.specs.parts.Reach.{clearOf}

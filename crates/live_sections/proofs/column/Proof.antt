@@ -1,4 +1,4 @@
--- Every layer passed has its rows with the column, which are among those that it reaches.
+-- Every layer so far has its rows with the column, which are among its rows with a cell.
 use Prim.Native.Nat.{_-_, _<_}
 use native.Mathlib.Omega.{arith}
 use mathlib.Core.Path.{_∙_}

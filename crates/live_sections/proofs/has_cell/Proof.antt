@@ -1,4 +1,4 @@
--- The test of the definition.
+-- The test is the definition's.
 use mathlib.Core.Path.{refl}
 use borrow.Author.Needs.{needs}
 use Rattle.live_sections.specs.parts.Reach.{hasCell}

@@ -1,4 +1,4 @@
--- Every layer passed has its lowest row with a cell and the one after its highest.
+-- Every layer so far has its lowest row with a cell and the row past its highest.
 use Prim.Native.Nat.{_-_, _<_}
 use native.Mathlib.Omega.{arith}
 use mathlib.Core.Path.{_∙_}

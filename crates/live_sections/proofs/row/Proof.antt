@@ -1,4 +1,4 @@
--- Every layer passed has its run, which is read where it stands.
+-- Every layer so far has its interval, which is read in place.
 use Prim.Native.Nat.{_-_, _<_}
 use native.Mathlib.Omega.{arith}
 use mathlib.Core.Path.{sym}

@@ -1,4 +1,4 @@
--- The layers passed have the same runs in both.
+-- The layers so far have the same intervals in both sections.
 use Prim.Native.Nat.{_-_, _≤_}
 use native.Mathlib.Omega.{arith}
 use mathlib.Core.Path.{_≡_, sym}

@@ -1,4 +1,4 @@
--- Sixteen times no spans.
+-- All sixteen layers are empty.
 use Rattle.pile.specs.Pile.{freshPile}
 use borrow.Author.Needs.{needs}
 use Rattle.pile.proofs.fresh.Statement.{statement}

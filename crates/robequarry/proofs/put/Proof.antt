@@ -1,4 +1,4 @@
--- Seven numbers are all of the array.
+-- The seven numbers fill the array.
 use mathlib.Core.Path.{_∙_}
 use Rattle.chart.proofs.ReplyLaws.{seven-written}
 use borrow.Author.Needs.{needs}

@@ -1,4 +1,4 @@
--- The border is written back, and its fields are the reply.
+-- The border is written, and its fields are the reply.
 use mathlib.Core.Path.{ap, _∙_}
 use Rattle.chart.specs.Fields.{numbersOf}
 use Rattle.border_model.specs.Traced.{tracedFields}

@@ -1,4 +1,4 @@
--- The comparison answers, and its fields are the reply.
+-- The fields of the comparison are the reply.
 use mathlib.Core.Path.{ap, _∙_}
 use Rattle.chart.specs.Fields.{numbersOf, comparisonFields}
 use Rattle.chart.proofs.ReplyLaws.{read-back}

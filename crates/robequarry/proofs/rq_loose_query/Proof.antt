@@ -1,4 +1,4 @@
--- The query answers, and its fields are the reply.
+-- The fields of the query are the reply.
 use mathlib.Core.Path.{ap, _∙_}
 use Rattle.chart.specs.Fields.{numbersOf, positionFields}
 use Rattle.chart.proofs.ReplyLaws.{read-back}

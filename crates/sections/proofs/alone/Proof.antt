@@ -1,4 +1,4 @@
--- The two cases of the definition.
+-- The two branches are the definition's cases.
 use borrow.Author.Needs.{needs}
 use native.Mathlib.Omega.{arith}
 use mathlib.Core.Path.{sym, _∙_}

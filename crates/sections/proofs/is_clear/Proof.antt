@@ -1,4 +1,4 @@
--- Every layer passed is whole; the first that is not ends the search.
+-- The invariant: every layer so far is whole. The first that is not ends the search.
 use Prim.Native.Nat.{_-_, _≤_}
 use native.Mathlib.Omega.{arith}
 use mathlib.Core.Path.{_≡_, refl, sym, _∙_}

@@ -1,4 +1,4 @@
--- The lines of the definition: the weights are below the layers' number, so the upper one stays on the chart.
+-- The lines are the definition's. The weights are below the number of layers, so the upper line stays on the chart.
 use native.Mathlib.Omega.{arith}
 use mathlib.Core.Path.{sym, _∙_}
 use borrow.Author.Needs.{needs}

@@ -1,4 +1,4 @@
--- After every later layer up to k the fold has made as many steps.
+-- After the layers up to k the fold has made as many steps.
 use Prim.Native.Nat.{suc, _+_, _-_, _≤_}
 use native.Mathlib.Omega.{arith}
 use denote.Ref.{now}

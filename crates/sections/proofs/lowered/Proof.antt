@@ -1,4 +1,4 @@
--- The quotient is below low exactly where its product is seen to be.
+-- The quotient is below low exactly if the comparison of the products says so.
 use native.Mathlib.Omega.{arith}
 use borrow.Author.Needs.{needs}
 use Prim.Native.Nat.{ℕ, _<_, _≤_, min}

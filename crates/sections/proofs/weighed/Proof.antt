@@ -1,4 +1,4 @@
--- Both products are small.
+-- Both products are small, so the sum fits.
 use native.Mathlib.Omega.{arith}
 use Prim.Native.Nat.{_*_, _≤_}
 use mathlib.Core.Path.{refl}

@@ -1,4 +1,4 @@
--- The tests of the definition, in its order.
+-- The tests are the definition's, in its order.
 use Prim.Native.Nat.{ℕ, _≤_, _<_}
 use mathlib.Core.Path.{_≡_, sym}
 use lib.Dec.{leb}
@@ -9,7 +9,7 @@ use Rattle.sections.specs.declared.Reach.{Reach}
 use Rattle.sections.proofs.whole.Statement.{statement}
 use Rattle.sections.proofs.whole.Tie as tie
 
--- Where the hull has cells there and begins with the run
+-- If the hull has cells there and does not begin before the interval
 beyond : (lo past : ℕ → ℕ) (j : ℕ) (r : Reach) (x y : ℕ) → r ≡ reached lo past j → x ≡ lo j → y ≡ past j → r .low < r .high → x ≤ r .low → leb (r .high) y ≡ whole lo past j
 unfolding whole wholeIn
 beyond lo past j r x y e f g h k = rw (sym e, sym f, sym g, lt-leb (r .high) (r .low) h, le-leb x (r .low) k)

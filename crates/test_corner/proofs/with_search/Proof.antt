@@ -1,4 +1,4 @@
--- The steps that are left fall by one.
+-- Each iteration leaves one step fewer.
 use borrow.Author.Needs.{needs}
 use Rattle.test_corner.proofs.with_search.Statement.{statement}
 use Rattle.test_corner.proofs.with_search.Tie as tie

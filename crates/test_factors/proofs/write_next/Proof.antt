@@ -1,4 +1,4 @@
--- What was judged is a step of the walk: one copy, and all copies, lie within the word.
+-- A factor is a step of the walk: one copy, and all copies, lie within the word.
 use native.Mathlib.Omega.{arith}
 use borrow.Author.Needs.{needs}
 use denote.Ref.{now}

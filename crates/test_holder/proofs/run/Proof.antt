@@ -1,4 +1,4 @@
--- The calls read stand whole in the script, their replies have room, and a replay keeps the length of its list.
+-- The calls read are whole in the script, their replies have room, and a replay keeps the length of its buffer.
 use native.Mathlib.Omega.{arith}
 use lib.ListN.{length}
 use Rattle.replay.proofs.ReplayLaws.{callsRead-room, callsRead-bytes}

@@ -1,4 +1,4 @@
--- The lent list keeps its length, and the digits are stored within it.
+-- The buffer keeps its length, and the digits are stored within it.
 use Prim.Native.Nat.{_-_, _≤_}
 use native.Mathlib.Omega.{arith}
 use mathlib.Core.Path.{_≡_}

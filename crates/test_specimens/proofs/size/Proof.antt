@@ -1,4 +1,4 @@
--- A number of 16 bits is negated in 64, and is not negative then.
+-- A 16-bit number can be negated in 64 bits, and is then not negative.
 use native.Mathlib.Omega.{arith}
 use mathlib.Core.Path.{_≡_, subst}
 use mathlib.Core.Bool.{true, false}
@@ -14,12 +14,12 @@ use mir.Facts.{sfits-widen}
 use Rattle.test_specimens.proofs.size.Statement.{statement}
 use Rattle.test_specimens.proofs.size.Tie as tie
 
--- A negative number, negated, fits 64 bits with its sign and without
+-- A negative number, negated, fits 64 bits, signed and unsigned
 negated : (x : ℤ) → SFits w16 x → ltZ x (pos 0) ≡ true → SFits w64 (pos 0 -ℤ x) × T (nonNeg (pos 0 -ℤ x)) × Fits w64 (natAbs (pos 0 -ℤ x))
 negated (pos n) f e = absurd (omega (arith, ltb-true n 0 e))
 negated (negsuc n) f e = (record { sfits = omega (arith, f .sfits) }, tt, record { fits = omega (arith, f .sfits) })
 
--- Any other stands for itself
+-- Any other number stays as it is
 kept : (x : ℤ) → SFits w16 x → ltZ x (pos 0) ≡ false → T (nonNeg x) × Fits w64 (natAbs x)
 kept (pos n) f e = (tt, record { fits = omega (arith, f .sfits) })
 kept (negsuc n) f e = absurd (subst T e tt)

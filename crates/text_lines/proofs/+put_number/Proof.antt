@@ -1,4 +1,4 @@
--- Writing a number ends, since its tenth is less than it; the laws of decimal say what stands behind what.
+-- Writing a number ends because a tenth of it is smaller. The laws of decimal numbers say in which order the digits stand.
 use native.Mathlib.Nat.{mod-lt, lt-trans}
 use native.Mathlib.Omega.{arith}
 use lib.Dec.{lit<}

@@ -1,4 +1,4 @@
--- At the end of the buffer nothing is written, and before it one byte.
+-- At the end of the buffer nothing is written. Before the end one byte is.
 use native.Mathlib.Omega.{arith}
 use Rattle.text_lines.proofs.WrittenLaws.{wrote-none, wrote-one}
 use borrow.Author.Needs.{needs}

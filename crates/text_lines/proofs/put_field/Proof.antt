@@ -1,4 +1,4 @@
--- A number, and a byte behind it.
+-- The field is a number and the byte after it.
 use Rattle.text_lines.specs.Text.{fieldText}
 use Rattle.text_lines.proofs.WrittenLaws.{wrote-behind}
 use borrow.Author.Needs.{needs}

@@ -1,4 +1,4 @@
--- Three fields, one behind the other.
+-- The line is three fields, one after another.
 use Rattle.text_lines.specs.Text.{lineText}
 use Rattle.text_lines.proofs.WrittenLaws.{wrote-behind}
 use borrow.Author.Needs.{needs}

@@ -1,4 +1,4 @@
--- The columns, then the rows, as in the definition (CheckLaws).
+-- Columns are checked before rows, as in the definition (CheckLaws).
 use Rattle.pile.proofs.CheckLaws.{column-returns, row-returns, passing-returns}
 use Rattle.pile.proofs.Pile.check.Statement.{statement}
 use Rattle.pile.proofs.Pile.check.Tie as tie

@@ -1,4 +1,4 @@
--- One field is written.
+-- One field is written, the definition's.
 use mathlib.Core.Path.{refl}
 use Rattle.pile.specs.Pile.{judgedPile}
 use Rattle.pile.proofs.Pile.marked.Statement.{statement}

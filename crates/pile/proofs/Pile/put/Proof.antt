@@ -1,4 +1,4 @@
--- Two fields are written.
+-- Two fields are written, the definition's.
 use mathlib.Core.Path.{refl}
 use Rattle.pile.specs.Pile.{put}
 use borrow.Author.Needs.{needs}

@@ -1,4 +1,4 @@
--- The same from the top row down.
+-- The same search as for the lowest row, from the top row down.
 use Prim.Native.Nat.{_-_, _≤_}
 use native.Mathlib.Omega.{arith}
 use mathlib.Core.Path.{_≡_, refl, sym, ap, _∙_}

@@ -1,4 +1,4 @@
--- Every layer passed has its run; at the end the lists are those of the definition.
+-- The invariant: every layer so far has its interval. At the end the lists are the definition's.
 use Prim.Native.Nat.{ℕ, _-_, _≤_}
 use native.Mathlib.Omega.{arith}
 use mathlib.Core.Path.{_≡_}

@@ -1,4 +1,4 @@
--- No section passed is dented; the first that is ends the search.
+-- The invariant: no section so far is dented. The first that is ends the search.
 use Prim.Native.Nat.{_-_, _≤_}
 use native.Mathlib.Omega.{arith}
 use mathlib.Core.Path.{_≡_, refl, sym, ap, _∙_}
@@ -27,7 +27,7 @@ column-requires c κs = tt
 is-clear-requires : tie.Need-is-clear-requires Inv-loop μ-loop
 is-clear-requires c κs = tt
 
--- What the test of this section said
+-- The result of this section's test
 said : (c : tie.After-is-clear Inv-loop μ-loop) → c .is-clear .result ≡ columnClear (c .before .before .before .before .args .layers) (c .before .before .before .loop .col)
 unfolding columnClear
 said c = c .is-clear .ensures ∙ ap (λ s. clear (numbers (s .lo)) (numbers (s .past))) (c .before .column .ensures)

@@ -1,4 +1,4 @@
--- No section passed is dented; the first that is ends the search.
+-- The invariant: no section so far is dented. The first that is ends the search.
 use Prim.Native.Nat.{ℕ, _+_, _-_, _≤_, _<_}
 use native.Mathlib.Omega.{arith}
 use mathlib.Core.Path.{_≡_, refl, sym, ap, _∙_}
@@ -29,12 +29,12 @@ row-requires c κs = omega arith
 is-clear-requires : tie.Need-is-clear-requires Inv-loop μ-loop
 is-clear-requires c κs = tt
 
--- What the test of this section said
+-- The result of this section's test
 said : (c : tie.After-is-clear Inv-loop μ-loop) → c .is-clear .result ≡ rowClear (c .before .before .before .before .args .layers) (c .before .before .before .loop .r)
 unfolding rowClear
 said c = c .is-clear .ensures ∙ ap (λ s. clear (numbers (s .lo)) (numbers (s .past))) (c .before .row .ensures .0)
 
--- It fits, as those before it did
+-- It fits, like those before it
 fits : (c : tie.After-is-clear Inv-loop μ-loop) → (k : ℕ) → k < c .before .before .before .loop .r + 1
     → RowFits (c .before .before .before .before .args .layers) k
 fits c k h =

@@ -1,4 +1,4 @@
--- The two tests of the definition.
+-- The two tests are the definition's.
 use borrow.Author.Tests.{le-leb, lt-leb}
 use Rattle.pile.specs.Pile.{inRow}
 use borrow.Author.Needs.{needs}

@@ -1,4 +1,4 @@
--- No row passed has the column; the first that has ends the search.
+-- The invariant: no row so far has the column. The first that has it ends the search.
 use Prim.Native.Nat.{_-_, _≤_}
 use native.Mathlib.Omega.{arith}
 use mathlib.Core.Path.{_≡_, refl, sym, _∙_}

@@ -1,4 +1,5 @@
--- Every layer passed has its run, of numbers that were read and so are bytes; at the end the lists are those of the definition.
+-- The invariant: every layer so far has its interval, of numbers that were read and so are bytes. At the end the lists are the
+-- definition's.
 use Prim.Native.Nat.{ℕ, _-_, _≤_, _<_}
 use native.Mathlib.Omega.{arith}
 use mathlib.Core.Path.{_≡_, refl}

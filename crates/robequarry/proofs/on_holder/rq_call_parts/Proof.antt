@@ -1,4 +1,4 @@
--- The arrays have their lengths by their types, so the call in lists is done.
+-- The types of the arrays fix their lengths, so the call in place is done.
 use Rattle.live.proofs.CallLaws.{fits-by}
 use mathlib.Core.Path.{sym}
 use borrow.Author.Needs.{needs}

@@ -1,4 +1,4 @@
--- The loop counts up to the number of cells, and each number that it looks at is below it.
+-- The loop counts up to the number of cells, and each number that it tests is below that.
 use Prim.Native.Nat.{_-_}
 use borrow.Author.Needs.{needs}
 use Rattle.test_corner.proofs.cells.leftmost.Statement.{statement}

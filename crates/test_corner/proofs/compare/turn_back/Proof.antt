@@ -1,4 +1,4 @@
--- The list keeps its length, and the letters are stored within both.
+-- The buffer keeps its length, and the letters are within both lists.
 use Prim.Native.Nat.{_-_, _≤_}
 use mathlib.Core.Path.{_≡_}
 use native.Mathlib.Omega.{arith}

@@ -1,4 +1,4 @@
--- A column and a row of the corner are at most 3.
+-- A column and a row of the 4 by 4 corner are at most 3.
 use Prim.Native.Nat.{_*_, _≤_}
 use native.Mathlib.Nat.{mul-le-mul}
 use native.Mathlib.Omega.{arith}

@@ -1,4 +1,4 @@
--- At most as many replies differ as were passed.
+-- At most as many replies differ as were compared.
 use borrow.Author.Needs.{needs}
 use native.Mathlib.Omega.{arith}
 use mathlib.Core.Logic.{⊎-elim}

@@ -1,4 +1,4 @@
--- The end only rises, up to the count.
+-- The end only grows, up to the count.
 use Prim.Native.Nat.{_≤_, _<_, _-_}
 use borrow.Author.Needs.{needs}
 use Rattle.test_holder.proofs.lines.run_end.Statement.{statement}

@@ -1,4 +1,4 @@
--- A run of replies ends past its first and within the count.
+-- Equal replies end after the first of them and within the count.
 use Prim.Native.Nat.{_≤_, _-_}
 use borrow.Author.Needs.{needs}
 use Rattle.test_holder.proofs.lines.write_replies.Statement.{statement}

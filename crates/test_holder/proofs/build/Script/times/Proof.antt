@@ -1,4 +1,4 @@
--- The count falls.
+-- The count falls by one in each iteration.
 use Prim.Native.Nat.{_≤_, _-_}
 use borrow.Author.Needs.{needs}
 use Rattle.test_holder.proofs.build.Script.times.Statement.{statement}
