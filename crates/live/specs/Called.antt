@@ -50,8 +50,9 @@ unfoldable pub writes : Decoded → ℕ → Bool
 writes Nothing i = false
 writes (Said c) i = callWrites c i
 
--- From arrays m to arrays n, with reply′ as the reply buffer afterwards. F says that the arrays of this call have their lengths. Given F, the
--- call is done exactly if there is a call; without F it is not done. If it is done, holder and reply are those by value. If not, nothing changes
+-- From arrays m to arrays n, with reply′ as the reply buffer afterwards. F says that the arrays of this call have their lengths.
+-- Given F, the call is done exactly if there is a call; without F it is not done. If it is done, holder and reply are those by value.
+-- If it is not done, nothing changes
 pub record Called (F : Type 0) (m n : Memory) (d : Decoded) (reply reply′ : List ℕ) (r : Bool) : Type 0 where
   pub done : F → r ≡ isCall d
   pub holder : r ≡ true → holderIn n ≡ nextHolder (holderIn m) d

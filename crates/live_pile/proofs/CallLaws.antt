@@ -142,8 +142,6 @@ module _ (g : Fields) (reply reply′ : List ℕ) (room : 7 ≤ length reply) (p
         zero-iff = rw (put, fields-written g reply room, named) (checked-number r said);
       }
 
--- ---- a fresh pile
-
 -- ---- a call whose arrays have their lengths
 
 module _ (m n : Memory) (c : PileCall) (reply reply′ : List ℕ) (b : Bool) (f : Fits m) (size : length reply ≡ 7) (t : Called m n c reply reply′ b) where
@@ -169,6 +167,8 @@ done-called m n c reply reply′ f size d =
       unfit = λ off. absurd (off f);
       unaltered = λ z. absurd (true≢false z);
     }
+
+-- ---- a fresh pile
 
 pub unfit-fresh : (m : Memory) → (Fits m → ⊥) → Freshened m m false
 unfit-fresh m off = record { done = λ f. absurd (off f); pile = λ f. absurd (off f); fits = λ f. f; unfit = λ n. (refl, refl) }
