@@ -1,6 +1,5 @@
 -- The completion has twice as many letters as the drawing has columns and rows together, because its hull reaches as far left and right as
--- the
--- drawing's cells, and these reach as far as the drawing's corners.
+-- the drawing's cells, and these reach as far as the drawing's corners.
 use Prim.Native.Nat.{ℕ, pred, _+_, _-_, _*_, _≤_, _<_}
 use mathlib.Core.Path.{_≡_, sym, ap, _∙_}
 use mathlib.Core.Bool.{true}

@@ -1,8 +1,6 @@
 -- The block of an outline that passes refusals 1 to 6 is 4-connected: between its lowest and its highest row, each row shares a column with
--- the
--- next. Consider a walk from a corner at or below the height between rows r and r + 1. It reaches that height by an up, and leaves it by an
--- up
--- only next to a column whose two cells are both on its right. So without a shared column it never gets above that height.
+-- the next. Consider a walk from a corner at or below the height between rows r and r + 1. It reaches that height by an up, and leaves it
+-- by an up only next to a column whose two cells are both on its right. So without a shared column it never gets above that height.
 use Prim.Native.Nat.{ℕ, zero, suc, _+_, _-_, _%_, _≤_, _<_}
 use mathlib.Core.Path.{_≡_, refl, sym, ap, _∙_, subst}
 use mathlib.Core.Bool.{Bool, true}

@@ -1,6 +1,5 @@
 -- The completion of an outline that passes refusals 1 to 6 is taken and encloses exactly the hull of the outline's block. Every taken
--- outline that
--- encloses the block encloses the completion. It has no more letters than the outline.
+-- outline that encloses the block encloses the completion. It has no more letters than the outline.
 use Prim.Native.Nat.{ℕ, suc, _≤_, _<_}
 use mathlib.Core.Path.{_≡_, refl, sym, ap, _∙_}
 use mathlib.Core.Bool.{Bool, true, false, true≢false}

@@ -29,8 +29,7 @@ abbrev pub replied : Outline → List ℕ → Outline
 replied o buffer = outlineIn (replyTo o buffer) (completionAfter o buffer)
 
 -- v is the completion of o. It passes 1 to 6 and is not refused. A test with room for the edges of every taken outline takes it. It is its
--- own
--- border, so it runs clockwise and starts at W. It encloses exactly the cells in the hull of the cells that o encloses
+-- own border, so it runs clockwise and starts at W. It encloses exactly the cells in the hull of the cells that o encloses
 pub record Completes (o v : Outline) : Type 0 where
   pub simple : Simple v
   pub taken : verdictFields (verdictOf v) .number ≡ 0

@@ -1,6 +1,5 @@
 -- What is claimed of the drawing of a taken outline (contract 8.8): its points are the corner cells of the edges, raised by exactly one
--- half,
--- and their hull is the outline's block.
+-- half, and their hull is the outline's block.
 use Prim.Native.Nat.{ℕ, _+_, _*_, _^_, _<_}
 use mathlib.Core.Path.{_≡_}
 use mathlib.Core.Logic.{_↔_}

@@ -1,6 +1,5 @@
 -- The drawing of an anchor and a list of edges, by cells: a move to the anchor, a line for each edge but the last, and a close, which
--- stands for
--- the last edge (contract 3.22).
+-- stands for the last edge (contract 3.22).
 use Prim.Native.Nat.{ℕ}
 use mathlib.Core.Bool.{cond}
 use mathlib.Core.List.{List, [], _∷_, _++_}

@@ -88,8 +88,7 @@ parts-unique {os = os} {us = us} p q = one-way os us (sym (p .joined) ∙ q .joi
 -- ---- one file after another (contract 11.2 and 11.3)
 
 -- Whole records before a file: their lines come first, and then the file's, whose record numbers and positions continue. This holds for at
--- most
--- 65,536 bytes in all. For more bytes the only line is that of 25 (lines-long)
+-- most 65,536 bytes in all. For more bytes the only line is that of 25 (lines-long)
 pub lines-appended : (os : List Outline) (file : List ℕ) → length (fileOf os ++ file) ≤ most
     → linesOf (fileOf os ++ file) ≡ linesOf (fileOf os) ++ map (movedLine (length os) (length (fileOf os))) (linesOf file)
 lines-appended os file h =

@@ -1,6 +1,5 @@
 -- Testing every cell of the chart decides whether two outlines that pass 1 to 6 enclose the same cells, because neither encloses a cell off
--- the
--- chart. They do exactly if they have the same border.
+-- the chart. They do exactly if they have the same border.
 use Prim.Native.Nat.{ℕ, _<_}
 use native.Mathlib.Decide.{decLt}
 use native.Mathlib.Omega.{arith}

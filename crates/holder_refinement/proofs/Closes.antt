@@ -1,6 +1,5 @@
 -- The reply of a close is the verdict on its party's draft, so what is known of verdicts holds for closes in any list of calls. Its word
--- depends on
--- the cells of the outline last taken at its place.
+-- depends on the cells of the outline last taken at its place.
 use Prim.Native.Nat.{ℕ, _<_}
 use mathlib.Core.Path.{_≡_, refl, sym, ap, _∙_, subst}
 use mathlib.Core.Logic.{_↔_}

@@ -1,6 +1,5 @@
 -- A draft represents the model's: its flag says whether there is one, and the counted letters are the model's. Begin, add and drop preserve
--- that and
--- reply as the model does, because both make the same tests.
+-- that and reply as the model does, because both make the same tests.
 use Prim.Native.Nat.{ℕ, suc, _+_, _≤_, _<_, min}
 use native.Mathlib.Omega.{arith}
 use mathlib.Core.Path.{_≡_, refl, sym, ap, _∙_}

@@ -1,6 +1,5 @@
 -- Every list of calls on a fresh holder gets the model's replies: the fresh holder represents the fresh model, every call preserves that
--- and replies
--- as the model does, and the rest is induction over the list.
+-- and replies as the model does, and the rest is induction over the list.
 use Prim.Native.Nat.{ℕ, _<_}
 use mathlib.Core.Path.{_≡_, refl, ap₂, subst}
 use mathlib.Core.Bool.{Bool, true, false}

@@ -1,6 +1,5 @@
 -- A path command comes from the drawing of the outline last taken at its party and place, so the claims about drawings hold for the replies
--- in any
--- list of calls.
+-- in any list of calls.
 use Prim.Native.Nat.{ℕ, zero, suc, _+_, _-_, _/_, _<_, max}
 use native.Mathlib.Numerals.{add-one}
 use native.Mathlib.Omega.{arith}
@@ -67,8 +66,7 @@ module _ (p k : ℕ) (there : p < parties) (inside : k < places) (cs : List Call
     said n s e = piece-reply n ∙ ap drawnReply e
 
     -- Position 0 is the move to the anchor. Then come the lines to the corner cells. Position e, or 1 if e is 0, is the close, and
-    -- everything after it
-    -- is none (contract 7.11)
+    -- everything after it is none (contract 7.11)
     pub piece-move : reply 0 ≡ Drawn (MoveTo (half (a .col)) (half (a .row))) a
     unfolding pieceOf cellIn
     piece-move = said 0 (Move a) (position-move a es)

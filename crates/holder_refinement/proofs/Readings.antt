@@ -1,6 +1,5 @@
 -- A reading is answered from the anchor and the edges of the outline last taken at its party and place, so the claims about readings hold
--- for the
--- replies in any list of calls.
+-- for the replies in any list of calls.
 use Prim.Native.Nat.{ℕ, _^_, _<_}
 use mathlib.Core.Path.{_≡_, refl, sym, ap, _∙_, subst}
 use mathlib.Core.Logic.{_↔_}

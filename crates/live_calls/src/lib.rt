@@ -1,6 +1,5 @@
 // One call by its arguments, on a holder in the caller's arrays (contract 10.4). Each function takes only the arrays that its call needs,
-// so
-// that it uses no more stack than that call.
+// so that it uses no more stack than that call.
 use calls::Action;
 use calls::PARTIES;
 use calls::PLACES;

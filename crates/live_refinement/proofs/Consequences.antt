@@ -1,6 +1,5 @@
 -- What the replies to calls made one by one mean: each is the reply by value after the calls before it, so what is known of that reply
--- holds for
--- its seven numbers.
+-- holds for its seven numbers.
 use Prim.Native.Nat.{ℕ, _≤_, _<_}
 use native.Mathlib.Omega.{arith}
 use mathlib.Core.Path.{_≡_, refl, sym, ap, _∙_}
@@ -199,8 +198,7 @@ module _ (cs : List Call) (p k : ℕ) (there : p < parties) (place : k < places)
   spanned = replied-by-value cs _ g replied ∙ ap replyFields (Rows.row-reply p k there place cs r o last row)
 
   -- "Columns" if the outline last taken encloses cells of the row: exactly the columns between the two that are given. "None" if it
-  -- encloses none
-  -- (contract 7.9)
+  -- encloses none (contract 7.9)
   pub row-word : (g .word ≡ columns) ⊎ (g .word ≡ none-word)
   row-word = rw spanned (either-word (rowSpan (block o) r))
 
@@ -237,8 +235,7 @@ module _ (cs : List Call) (p k : ℕ) (there : p < parties) (place : k < places)
   )
 
   -- "Inside" is said only of readings that are exactly inside, and "outside" only of readings that are not. "Undecided" is for the strip
-  -- along the
-  -- edges (contract 8.7)
+  -- along the edges (contract 8.7)
   pub reading-inside : g .word ≡ inside → exactlyInside (border o .start) (edges (border o)) x ≡ true
   reading-inside e = Readings.reading-inside p k there place cs x o last held good (said (word-of found .0) .0 e)
 

@@ -1,6 +1,5 @@
 -- Each call in place leaves the holder, and writes the reply, of the call by value. So calls made one by one on fresh arrays get the
--- model's replies,
--- by the list theorem's step for one call.
+-- model's replies, by the list theorem's step for one call.
 use Prim.Native.Nat.{ℕ, _<_}
 use mathlib.Core.Path.{_≡_, refl, ap, ap₂, _∙_}
 use mathlib.Core.Bool.{Bool, true, false}

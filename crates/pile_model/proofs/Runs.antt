@@ -1,6 +1,5 @@
 -- The sections of a pile whose layers have their outlines' cells. In each layer the marked cells of a column are one interval, because the
--- block is
--- convex, and those of a row are one interval as they are kept. So the test of a section decides whether it is dented.
+-- block is convex, and those of a row are one interval as they are kept. So the test of a section decides whether it is dented.
 use Prim.Native.Nat.{ℕ, _+_, _-_, _*_, _≤_, _<_}
 use native.Mathlib.Decide.{decLt, decLe}
 use native.Mathlib.Omega.{arith}

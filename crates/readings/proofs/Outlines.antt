@@ -1,6 +1,5 @@
 -- The walk along a taken outline's edges stays on the chart, and at a cell's centre its edges decide whether the cell is in the block. So
--- readings
--- agree with the enclosed cells.
+-- readings agree with the enclosed cells.
 use Prim.Native.Nat.{_<_}
 use mathlib.Core.Path.{_≡_, refl, sym, _∙_}
 use mathlib.Core.Logic.{inl, inr}

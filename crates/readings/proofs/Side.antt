@@ -1,8 +1,6 @@
 -- Rounding moves a side value by less than 1/64. In units of 2 ^ -149, let E be 2 ^ 132 and U be 2 ^ 149, which is 1. Each difference,
--- below
--- 256 U, has an error of at most E. Its product, below 65536 U, has 254 E from that and 256 E of its own. The last difference, below 131072
--- U,
--- adds 512 E. In all 2 * (254 + 256) + 512 = 1532, and 1/64 is 2048 E.
+-- below 256 U, has an error of at most E. Its product, below 65536 U, has 254 E from that and 256 E of its own. The last difference, below
+-- 131072 U, adds 512 E. In all 2 * (254 + 256) + 512 = 1532, and 1/64 is 2048 E.
 use Prim.Native.Nat.{ℕ, _+_, _*_, _^_, _≤_, _<_}
 use native.Mathlib.Nat.{mul-le-mul, mul-le-mul-right}
 use native.Mathlib.Omega.{arith}

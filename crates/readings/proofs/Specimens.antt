@@ -1,6 +1,5 @@
 -- The checker computes the reply for every row of the table, and one law turns that into what a row says. Two side values show that the
--- bound
--- 1/64 cannot be replaced by a half or a quarter of it.
+-- bound 1/64 cannot be replaced by a half or a quarter of it.
 use Prim.Native.Nat.{_*_, _^_}
 use mathlib.Core.Path.{_≡_, refl}
 use mathlib.Core.Bool.{true}

@@ -1,6 +1,5 @@
 -- The walk ends with the answer, by induction over the edges. What was met and what is still to come can be tested apart: the lowest number
--- is at
--- most x exactly if some number is.
+-- is at most x exactly if some number is.
 use Prim.Native.Nat.{ℕ, _+_, _≤_, _<_}
 use native.Mathlib.Omega.{arith}
 use mathlib.Core.Path.{_≡_, refl, sym, _∙_}

@@ -1,6 +1,5 @@
 -- A cell between two segments that share an end is in the triangle of the shared end and the two others. It does not matter whether the
--- shared end is
--- in an earlier or a later layer: the proof uses only the weights that put each segment's point into the cell's layer.
+-- shared end is in an earlier or a later layer: the proof uses only the weights that put each segment's point into the cell's layer.
 use Prim.Native.Nat.{ℕ, zero, suc, _+_, _-_, _*_, _≤_, _<_}
 use native.Mathlib.Nat.{mul-le-mul-left}
 use native.Mathlib.Omega.{arith}

@@ -12,8 +12,7 @@ pub record Runs (marked : ℕ → ℕ → Bool) (full : ℕ → Bool) (lo hi : �
   pub in-run : (l r : ℕ) → full l ≡ true → lo l ≤ r → r ≤ hi l → marked l r ≡ true
 
 -- A line through the ends of two full layers i <= j <= k compares with row r of layer j by R, which is "at most" for the low ends and "at
--- least" for
--- the high ends. If i = k = j, the line is the end of layer j itself.
+-- least" for the high ends. If i = k = j, the line is the end of layer j itself.
 pub data Line (R : ℕ → ℕ → Type 0) (full : ℕ → Bool) (end : ℕ → ℕ) (j r : ℕ) : Type 0 where
   own : full j ≡ true → R (end j) r → Line R full end j r
   line :

@@ -20,8 +20,7 @@ three-past (suc (suc zero)) = 1
 three-past (suc (suc (suc l))) = 0
 
 -- Rows 1 and 2 of layer 1 are in the hull. The lower line goes from layer 0 to layer 2, and the upper one is the end of layer 1 itself. No
--- single
--- pair of layers gives both
+-- single pair of layers gives both
 independent-lines : reached three three-past 1 ≡ record { low = 1; high = 3 }
 unfolding three three-past fold ceiling above lowLine highLine full alone joined joinedFrom reached
 independent-lines = refl

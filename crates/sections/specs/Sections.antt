@@ -1,6 +1,5 @@
 -- A section is a plane of layers. The marked cells of layer l are one interval, from lo l up to but not including past l, or none. Whether
--- a
--- cell is missing is computed from the lines through the ends of two intervals (proofs/Decides.antt proves it).
+-- a cell is missing is computed from the lines through the ends of two intervals (proofs/Decides.antt proves it).
 use Prim.Native.Nat.{ℕ, zero, suc, _+_, _-_, _*_, _/_, _≤_, min, max}
 use mathlib.Core.Bool.{Bool, cond, _&&_, _||_}
 use mathlib.Core.List.{List}

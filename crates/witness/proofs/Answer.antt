@@ -1,6 +1,5 @@
 -- The reply of a witness call and its meaning. If the outline passes 1 to 6 and the buffer has six numbers, it is the search's, whose
--- theorems say
--- the rest. Otherwise it is a refusal, whose number is not 0.
+-- theorems say the rest. Otherwise it is a refusal, whose number is not 0.
 use Prim.Native.Nat.{ℕ, _≤_, _<_}
 use native.Mathlib.Omega.{arith}
 use native.Mathlib.Decide.{decLt}

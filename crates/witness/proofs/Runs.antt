@@ -1,6 +1,5 @@
 -- The first interval of a row of a block ends at the row's second side. Without a side the next cell is like the one before it. A side with
--- an
--- enclosed cell on its left runs down, so the cell on its right is not enclosed.
+-- an enclosed cell on its left runs down, so the cell on its right is not enclosed.
 use Prim.Native.Nat.{ℕ, zero, suc, pred, _+_, _-_, _≤_, _<_}
 use mathlib.Core.Path.{_≡_, refl, sym, ap, _∙_, subst, subst₂}
 use mathlib.Core.Bool.{Bool, true, false, true≢false, _&&_, and-eq-true-iff}

@@ -1,6 +1,5 @@
 -- The checker computes witnesses: a dent on the right and its mirror image, gaps within rows, outlines drawn in either direction, a dent on
--- the
--- left of rows that step in and out again, an outline with no missing cell, and replies of the call.
+-- the left of rows that step in and out again, an outline with no missing cell, and replies of the call.
 use Prim.Native.Nat.{ℕ}
 use mathlib.Core.Path.{_≡_, refl}
 use mathlib.Core.Bool.{Bool, true, false}

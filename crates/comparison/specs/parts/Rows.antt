@@ -1,6 +1,5 @@
 -- The rows of a polygon in two lists: the first column of each row, and the column past the last. What a corner cell and an edge add to
--- them,
--- what they hold after the walk, and how two such pairs compare.
+-- them, what they hold after the walk, and how two such pairs compare.
 use Prim.Native.Nat.{ℕ, _+_, _*_, _≤_, _<_, min, max}
 use mathlib.Core.Path.{_≡_}
 use mathlib.Core.Bool.{cond, not, _&&_}

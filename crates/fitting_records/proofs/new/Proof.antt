@@ -1,6 +1,5 @@
 -- `new` makes a reader from its file and its position: a walk through its MIR, by hand. A `&[u8]` is Copy, so what it owns is there twice:
--- once for
--- the file at exit, and once inside the result, beside the facts about the position.
+-- once for the file at exit, and once inside the result, beside the facts about the position.
 use mathlib.Core.Path.{refl}
 use Prim.Native.Nat.{ℕ, _<_, _^_}
 use mathlib.Core.List.{List, [], _∷_}

@@ -1,8 +1,6 @@
 -- `next` calls `step_at` with the reader's file and position and returns its result: a walk through its MIR, by hand. Only the promise of
--- `step_at`
--- is used. A reader is Copy, so what it owns is there twice. One copy is kept whole for the exit. From the other, what the file owns goes
--- to the
--- callee, together with the token of the lifetime, which comes back.
+-- `step_at` is used. A reader is Copy, so what it owns is there twice. One copy is kept whole for the exit. From the other, what the file
+-- owns goes to the callee, together with the token of the lifetime, which comes back.
 use mathlib.Core.Path.{_≡_, refl}
 use Prim.Native.Nat.{_<_, _^_}
 use mathlib.Core.List.{[], _∷_}

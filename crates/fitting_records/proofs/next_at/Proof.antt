@@ -1,8 +1,6 @@
 -- `next_at` makes a reader by `new`, passes it to `next` and returns its result: a walk through its MIR, by hand. Only the promises of
--- `new` and `next`
--- are used. The machine value from `new` is stored in a local and passed on unchanged. MIR erases the lifetime in the type of a local, so
--- the
--- value must have the type at `erased`. What a reader owns does not name the lifetime.
+-- `new` and `next` are used. The machine value from `new` is stored in a local and passed on unchanged. MIR erases the lifetime in the type
+-- of a local, so the value must have the type at `erased`. What a reader owns does not name the lifetime.
 use mathlib.Core.Path.{_≡_, refl, ap, _∙_}
 use Prim.Native.Nat.{ℕ, _<_, _^_}
 use mathlib.Core.List.{List, [], _∷_}

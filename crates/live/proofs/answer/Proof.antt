@@ -1,3 +1,4 @@
+-- Either 19 refuses the party, or each arm is the action of that name.
 use Rattle.live_memory.proofs.Acts.{no-party, acts-answers, begin-acts, add-acts, drop-acts}
 use borrow.Author.Needs.{needs}
 use Rattle.live.proofs.answer.Statement.{statement}

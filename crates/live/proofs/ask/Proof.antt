@@ -1,3 +1,4 @@
+-- The reply is 20 or the work's.
 use Rattle.live_memory.proofs.Acts.{ask-no-place, ask-done}
 use borrow.Author.Needs.{needs}
 use Rattle.live.proofs.ask.Statement.{statement}

@@ -1,3 +1,4 @@
+-- Either 20 refuses the place, or the work is removed.
 use Rattle.live_memory.proofs.Acts.{clear-no-place, clear-done}
 use borrow.Author.Needs.{needs}
 use Rattle.live.proofs.clear.Statement.{statement}

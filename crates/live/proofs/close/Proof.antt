@@ -1,3 +1,4 @@
+-- Each return is a case of the definition: 13, a refusal by the verdict, or the draft replaces the work.
 use Rattle.spans.specs.Spans.{spansOf}
 use Rattle.judge.specs.Judged.{judgedOf}
 use Rattle.judge.proofs.JudgedLaws.{judged-of}

@@ -1,3 +1,4 @@
+-- Either 20 refuses the place and the draft ends, or the close decides.
 use Rattle.live_memory.proofs.Acts.{close-no-place}
 use borrow.Author.Needs.{needs}
 use Rattle.live.proofs.close_at.Statement.{statement}

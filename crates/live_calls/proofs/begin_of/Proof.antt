@@ -1,3 +1,4 @@
+-- Either 19 refuses the party, or the call is the action on its party.
 use Rattle.live_memory.proofs.Acts.{begin-acts}
 use mathlib.Core.Path.{refl}
 use Rattle.live_memory.proofs.Acts.{no-party, acts-answers}

@@ -1,3 +1,4 @@
+-- Each return is a case of the definition: 14, 2, or a draft without letters (DraftCases).
 use mathlib.Core.Path.{sym, _∙_}
 use Rattle.live_drafts.proofs.DraftCases.{begin-open, begin-start, begin-done}
 use borrow.Author.Needs.{needs}

@@ -1,3 +1,4 @@
+-- Each return is a case of the definition: 13, or the draft ends (DraftCases).
 use Rattle.live_drafts.proofs.DraftCases.{drop-none, drop-done}
 use borrow.Author.Needs.{needs}
 use Rattle.live_drafts.proofs.drop.Statement.{statement}

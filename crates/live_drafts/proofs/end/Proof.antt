@@ -1,3 +1,4 @@
+-- A flag of zero means that there is no draft (DraftCases).
 use Rattle.live_memory.proofs.Stores.{ended-put}
 use borrow.Author.Needs.{needs}
 use Rattle.live_drafts.proofs.end.Statement.{statement}

@@ -1,3 +1,4 @@
+-- The letters are the first ones of the window of the party's draft.
 use native.Mathlib.Nat.{add-sub-cancel-left}
 use Rattle.live_memory.proofs.Acts.{letters-window}
 use borrow.Author.Needs.{needs}

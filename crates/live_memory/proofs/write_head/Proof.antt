@@ -1,3 +1,4 @@
+-- The four stores are those of the definition, and each index is within the heads.
 use native.Mathlib.Omega.{arith}
 use lib.ListN.{length-set}
 use borrow.Author.Needs.{needs}

@@ -1,3 +1,4 @@
+-- Each return is a case of the definition: 22, a refusal by the verdict, or the outline becomes the layer.
 use native.Mathlib.Omega.{arith}
 use mathlib.Core.Path.{refl}
 use Rattle.pile.proofs.CallLaws.{set-high, set-refused, set-taken}

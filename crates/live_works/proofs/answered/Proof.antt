@@ -1,3 +1,4 @@
+-- Each arm is a clause of the definition.
 use Rattle.work.specs.Work.{answered}
 use borrow.Author.Needs.{needs}
 use Rattle.live_works.proofs.answered.Statement.{statement}

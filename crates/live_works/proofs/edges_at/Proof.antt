@@ -1,3 +1,4 @@
+-- The numbers are the first ones of the window of the slot.
 use native.Mathlib.Nat.{add-sub-cancel-left}
 use Prim.Native.Nat.{_-_}
 use Rattle.live_works.proofs.WorkCases.{edges-window}

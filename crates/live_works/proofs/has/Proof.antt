@@ -1,3 +1,4 @@
+-- The flag, the anchors and the edges are compared in this order, as the definition has them (WorkCases).
 use Rattle.work.specs.Work.{listed}
 use Rattle.base.proofs.Prefix.{first-length}
 use borrow.Author.Tests.{not-true, not-false}

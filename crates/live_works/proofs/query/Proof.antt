@@ -1,3 +1,4 @@
+-- Each return is a case of the definition: 12, 11, inside or outside (WorkCases).
 use mathlib.Core.Path.{sym, _∙_}
 use Rattle.live_works.proofs.WorkCases.{query-none, query-col, query-row, query-in, query-out}
 use borrow.Author.Needs.{needs}

@@ -1,3 +1,4 @@
+-- A flag of zero means that nothing is at work.
 use Rattle.live_memory.proofs.Works.{removed-put}
 use borrow.Author.Needs.{needs}
 use Rattle.live_works.proofs.remove.Statement.{statement}

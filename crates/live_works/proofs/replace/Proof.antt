@@ -1,3 +1,4 @@
+-- Rows, edges and head of the slot are written, and together they are the new work.
 use Rattle.chart.specs.Outline.{outline}
 use Rattle.spans.specs.Spans.{spansOf}
 use Rattle.live_memory.proofs.Works.{replaced-put}

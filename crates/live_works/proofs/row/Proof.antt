@@ -1,3 +1,4 @@
+-- Each return is a case of the definition: 12, 11, or the columns (WorkCases).
 use Rattle.spans.specs.Spans.{spanReply}
 use mathlib.Core.Path.{ap, _∙_}
 use Rattle.live_works.proofs.WorkCases.{row-none, row-bad, row-span}

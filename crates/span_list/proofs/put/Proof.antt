@@ -1,3 +1,4 @@
+-- The slot is two windows of the list, and one copy fills each (SlotLaws).
 use borrow.Author.Needs.{needs}
 use Rattle.span_list.specs.SpanList.{spansFrom}
 use Rattle.span_list.proofs.SlotLaws.{copies-put}

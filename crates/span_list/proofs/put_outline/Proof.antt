@@ -1,3 +1,4 @@
+-- The rows that are put are those of the outline.
 use mathlib.Core.Path.{subst}
 use borrow.Author.Needs.{needs}
 use Rattle.span_list.specs.SpanList.{SpansPut}

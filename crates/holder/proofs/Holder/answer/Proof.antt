@@ -1,6 +1,5 @@
 -- Either 19 refuses the party, or one draft and one work are read, acted on and written back. The party is below two and the place below
--- four, so
--- both indices are within the holder.
+-- four, so both indices are within the holder.
 use native.Mathlib.Omega.{arith}
 use mathlib.Core.Path.{sym, _∙_}
 use Rattle.holder.specs.Holder.{draftOf, workOf, withDraft, withWork, blankDraft, blankWork, actOf, answerOf}
