@@ -1,0 +1,66 @@
+// Sets of cells on the chart. A set never changes: a change makes a new one.
+
+export const SIDE = 255;
+
+// Right, up, left, down.
+export const STEPS = [[1, 0], [0, 1], [-1, 0], [0, -1]];
+
+export const onChart = (col, row) => col >= 0 && col < SIDE && row >= 0 && row < SIDE;
+
+export class Cells {
+  constructor(marks = new Uint8Array(SIDE * SIDE)) {
+    this.marks = marks;
+  }
+
+  static of(list) {
+    return new Cells().with(list, true);
+  }
+
+  has(col, row) {
+    return onChart(col, row) && this.marks[row * SIDE + col] === 1;
+  }
+
+  // With some cells put in or taken out; those off the chart are left out. The same set if nothing changes.
+  with(cells, mark) {
+    const changes = cells.filter(([col, row]) => onChart(col, row) && this.has(col, row) !== mark);
+    if (changes.length === 0) return this;
+    const marks = this.marks.slice();
+    for (const [col, row] of changes) marks[row * SIDE + col] = mark ? 1 : 0;
+    return new Cells(marks);
+  }
+
+  minus(other) {
+    return new Cells(this.marks.map((mark, i) => mark & ~other.marks[i]));
+  }
+
+  equals(other) {
+    return this.marks.every((mark, i) => mark === other.marks[i]);
+  }
+
+  // From the lowest row up, each row from the left.
+  *each() {
+    for (let i = this.marks.indexOf(1); i >= 0; i = this.marks.indexOf(1, i + 1)) yield [i % SIDE, Math.floor(i / SIDE)];
+  }
+
+  get count() {
+    let found = 0;
+    for (const mark of this.marks) found += mark;
+    return found;
+  }
+
+  get empty() {
+    return !this.marks.includes(1);
+  }
+
+  // Runs of marked cells in rows: [row, first column, last column].
+  runs() {
+    const found = [];
+    let last = [-1, 0, 0];
+    for (let i = this.marks.indexOf(1); i >= 0; i = this.marks.indexOf(1, i + 1)) {
+      const [col, row] = [i % SIDE, Math.floor(i / SIDE)];
+      if (last[0] === row && last[2] === col - 1) last[2] = col;
+      else found.push((last = [row, col, col]));
+    }
+    return found;
+  }
+}

@@ -1,0 +1,25 @@
+// A drawing: an outline as it was read, or as the border of marked cells. It never changes, so what is found of it stays true of it.
+
+import { border, enclosed, faults, isSimple } from "./border.js";
+import { Cells } from "./chart.js";
+
+export const BLANK = ofCells(new Cells());
+
+// Cells that have no single border have no letters.
+export function ofCells(cells, name = "") {
+  if (cells.empty) return { name, cells, letters: null, faults: [] };
+  const found = faults(cells);
+  return found.length > 0 ? { name, cells, letters: null, faults: found } : { name, cells, faults: [], ...border(cells) };
+}
+
+// An outline that is no simple walk has no cells.
+export function ofOutline({ name = "", start, letters }) {
+  return { name, start, letters, faults: [], cells: isSimple(start, letters) ? enclosed(start, letters) : null };
+}
+
+// With cells marked or not; the same drawing if nothing changes. A change to an outline without cells begins a new block.
+export function marked(drawing, cells, mark) {
+  const base = drawing.cells ?? new Cells();
+  const next = base.with(cells, mark);
+  return next === base ? drawing : ofCells(next, drawing.name);
+}

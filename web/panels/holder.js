@@ -1,0 +1,3 @@
+export function holder() {
+  return { more: () => ({}), show() {} };
+}

@@ -1,0 +1,3 @@
+export function lesson() {
+  return { more: () => ({}), show() {} };
+}

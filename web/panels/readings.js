@@ -1,0 +1,3 @@
+export function readings() {
+  return { more: () => ({}), show() {} };
+}

@@ -1,0 +1,3 @@
+export function speeds() {
+  return { more: () => ({}), show() {} };
+}

@@ -1,0 +1,3 @@
+export function years() {
+  return { more: () => ({}), show() {} };
+}

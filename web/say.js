@@ -1,0 +1,103 @@
+// A verdict in words: what, its meaning, where, and what to do.
+
+import { walk } from "./border.js";
+import { STEPS } from "./chart.js";
+import { clockwiseForm, LETTERS } from "./story.js";
+import { at, count, text } from "./text.js";
+
+const direction = (letter) => text(letter > 3 ? "direction.none" : `direction.${letter}`);
+
+const piece = (n) => {
+  const [earlier, later] = LETTERS[n - 1].map(direction);
+  return text("piece", { n, from: "WNES"[n - 1], to: "WNES"[n % 4], earlier, later });
+};
+
+const letterAt = (letters, place) => text("letter", { letter: letters[place], direction: direction(letters[place]), place });
+
+// The words for a drawing and its answer.
+export function verdict(drawing, answer) {
+  if (answer.kind === "blank") return { what: text("blank.what"), meaning: text("blank.meaning") };
+  if (answer.kind === "unsent") return unsent(drawing.faults);
+  if (answer.kind === "taken") return taken(answer.reply);
+  return refused(drawing, answer);
+}
+
+function taken({ anchor, edges }) {
+  const shown = edges.slice(0, 12).map(({ dx, dy }) => at([dx, dy])).join(" ");
+  const list = edges.length === 0 ? text("taken.alone") : text(edges.length > 12 ? "taken.more" : "taken.edges", { shown, more: edges.length - 12 });
+  return {
+    what: text("taken.what", { edges: count(edges.length, "edge") }),
+    meaning: text("taken.meaning"),
+    where: `${text("taken.anchor", { anchor: at([anchor.col, anchor.row]) })} ${list}`,
+  };
+}
+
+function refused(drawing, answer) {
+  const { number } = answer.reply.refusal;
+  const words = { what: text("refused.what", { number, name: text(`refusal.${number}`) }), meaning: text(`meaning.${number}`) };
+  return { ...words, ...(DETAILS[number]?.(drawing, answer) ?? {}) };
+}
+
+const cornerAt = (start, letters, place) => {
+  const corners = walk(start, letters);
+  return corners[Math.min(place, corners.length - 1)];
+};
+
+// A letter of a piece, as the clockwise form has it.
+function onForm({ start, letters }, place) {
+  if (clockwiseForm(start, letters).clockwise) return letterAt(letters, place);
+  const letter = letters[place];
+  return text("letter.backward", { letter, direction: direction(letter), forward: direction(letter ^ 2), place });
+}
+
+const triangle = ({ cells, missing }) => {
+  const [a, b, c] = cells.map(at);
+  if (a === b || b === c || a === c) return text("witness.between", { a, b: a === b ? c : b, cell: at(missing) });
+  return text("witness.triangle", { a, b, c, cell: at(missing) });
+};
+
+const fill = ({ added }) => text("advice.fill", { cells: count(added.count, "cell") });
+
+const DETAILS = {
+  1: ({ letters }) => ({
+    where: text("where.1", { n: letters.length }),
+    advice: text(letters.length > 612 ? "advice.smaller" : "advice.round"),
+  }),
+  2: ({ start }) => ({ where: text("where.2", { start: at(start) }), advice: text("advice.inside") }),
+  3: ({ letters }, { reply: { refusal } }) => ({ where: text("where.3", { byte: letters[refusal.place], place: refusal.place }) }),
+  4: ({ start, letters }, { reply: { refusal } }) => ({
+    where: text("where.4", { letter: letterAt(letters, refusal.place), corner: at(cornerAt(start, letters, refusal.place)) }),
+    advice: text("advice.inside"),
+  }),
+  5: ({ start, letters }) => ({
+    where: text("where.5", { start: at(start), end: at(cornerAt(start, letters, letters.length)) }),
+    advice: text("advice.close"),
+  }),
+  6: ({ start, letters }, { reply: { refusal } }) => {
+    const [col, row] = cornerAt(start, letters, refusal.place);
+    const [dc, dr] = STEPS[letters[refusal.place]];
+    return { where: text("where.6", { letter: letterAt(letters, refusal.place), corner: at([col + dc, row + dr]) }), advice: text("advice.once") };
+  },
+  8: (drawing, answer) => {
+    const { place, piece: n } = answer.reply.refusal;
+    return { where: `${text("where.8", { letter: onForm(drawing, place), piece: piece(n) })} ${triangle(answer.witness)}`, advice: fill(answer) };
+  },
+  9: (drawing, answer) => {
+    const { place, piece: n, length, cell } = answer.reply.refusal;
+    const clockwise = clockwiseForm(drawing.start, drawing.letters).clockwise;
+    return {
+      meaning: text("meaning.9", { cell: at([cell.col, cell.row]) }),
+      where: `${triangle(answer.witness)} ${text(clockwise ? "where.9" : "where.9.backward", { letters: count(length, "letters"), place, piece: piece(n) })}`,
+      advice: fill(answer),
+    };
+  },
+};
+
+// The words for a set of cells that has no single border, so that nothing is sent.
+function unsent(faults) {
+  const lines = faults.map(({ kind, at: corner, cell, count: n }) => {
+    if (kind === "corner") return text("unsent.corner", { corner: at(corner) });
+    return text(kind === "hole" && n > 1 ? "unsent.holes" : `unsent.${kind}`, { n, cell: at(cell) });
+  });
+  return { what: text("unsent.what"), meaning: text("unsent.meaning"), where: lines.join(" "), advice: text("unsent.advice") };
+}

@@ -1,0 +1,31 @@
+// Small helpers for pictures.
+
+const SVG = "http://www.w3.org/2000/svg";
+
+export function element(name, attributes = {}, words) {
+  const made = document.createElementNS(SVG, name);
+  for (const [key, value] of Object.entries(attributes)) made.setAttribute(key, value);
+  if (words !== undefined) made.textContent = words;
+  return made;
+}
+
+// Sets an attribute if it changes: most of a picture stays as it is from one change to the next.
+export function put(made, key, value) {
+  if (made.getAttribute(key) !== value) made.setAttribute(key, value);
+}
+
+// A path along points.
+export const polyline = (points, shift = 0) => points.map(([x, y], i) => `${i === 0 ? "M" : "L"}${x + shift} ${y + shift}`).join("");
+
+// A path round the runs of cells, each a rectangle `Mcol rowhWIDTHv1h-WIDTHz`.
+export const cellsPath = (cells) =>
+  cells.runs().map(([row, first, last]) => `M${first} ${row}h${last - first + 1}v1h${first - last - 1}z`).join("");
+
+// A picture of cells alone, on the whole chart.
+export function thumbnail(cells) {
+  const made = element("svg", { viewBox: "0 0 255 255", "aria-hidden": "true", class: "thumb" });
+  const plot = element("g", { transform: "translate(0 255) scale(1 -1)" });
+  plot.append(element("rect", { class: "field", width: 255, height: 255 }), element("path", { class: "cells", d: cells ? cellsPath(cells) : "" }));
+  made.append(plot);
+  return made;
+}

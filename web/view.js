@@ -1,0 +1,93 @@
+// The window on the chart: which part of it is shown, and how large.
+
+import { SIDE } from "./chart.js";
+
+// Room for the numbers and names of the axes, in pixels.
+export const LEFT = 52;
+export const BELOW = 42;
+export const ABOVE = 8;
+
+const LEAST = 1.2;
+const MOST = 800;
+
+// How far the window may leave the chart, in cells.
+const MARGIN = 3;
+
+export class View {
+  constructor(svg) {
+    this.svg = svg;
+    this.scale = 26;
+    this.left = -1;
+    this.bottom = -1;
+    this.measure();
+  }
+
+  // Takes the size of the element; to be called when it has changed.
+  measure() {
+    this.wide = this.svg.clientWidth;
+    this.high = this.svg.clientHeight;
+    this.width = Math.max(60, this.wide - LEFT - 8);
+    this.height = Math.max(60, this.high - BELOW - ABOVE);
+  }
+
+  x(col) {
+    return LEFT + (col - this.left) * this.scale;
+  }
+
+  y(row) {
+    return ABOVE + this.height - (row - this.bottom) * this.scale;
+  }
+
+  // The point of the chart under a point of the screen, in columns and rows of corners.
+  point(clientX, clientY) {
+    const box = this.svg.getBoundingClientRect();
+    const col = (clientX - box.left - LEFT) / this.scale + this.left;
+    const row = (ABOVE + this.height - (clientY - box.top)) / this.scale + this.bottom;
+    return [col, row];
+  }
+
+  // Zooms by a factor; the point of the chart stays where it is.
+  zoom(factor, [col, row] = this.middle) {
+    const scale = Math.min(MOST, Math.max(LEAST, this.scale * factor));
+    this.left = col - ((col - this.left) * this.scale) / scale;
+    this.bottom = row - ((row - this.bottom) * this.scale) / scale;
+    this.scale = scale;
+    this.clamp();
+  }
+
+  get middle() {
+    return [this.left + this.width / this.scale / 2, this.bottom + this.height / this.scale / 2];
+  }
+
+  // Moves by pixels.
+  move(dx, dy) {
+    this.left -= dx / this.scale;
+    this.bottom += dy / this.scale;
+    this.clamp();
+  }
+
+  clamp() {
+    const bound = (low, span) => Math.min(Math.max(low, -MARGIN), Math.max(-MARGIN, SIDE + MARGIN - span));
+    this.left = bound(this.left, this.width / this.scale);
+    this.bottom = bound(this.bottom, this.height / this.scale);
+  }
+
+  // Shows these corners, with room round them.
+  fit(corners) {
+    const ends = (k) => corners.reduce(([low, high], corner) => [Math.min(low, corner[k]), Math.max(high, corner[k])], [Infinity, -Infinity]);
+    const [[left, right], [bottom, top]] = [ends(0), ends(1)];
+    const scale = Math.min(this.width / (right - left + 2 * MARGIN), this.height / (top - bottom + 2 * MARGIN));
+    this.scale = Math.min(40, Math.max(LEAST, scale));
+    this.left = (left + right) / 2 - this.width / this.scale / 2;
+    this.bottom = (bottom + top) / 2 - this.height / this.scale / 2;
+    this.clamp();
+  }
+
+  // Moves the window as little as is needed to show a cell.
+  reveal([col, row]) {
+    this.left = Math.min(this.left, col - 1);
+    this.bottom = Math.min(this.bottom, row - 1);
+    this.left = Math.max(this.left, col + 2 - this.width / this.scale);
+    this.bottom = Math.max(this.bottom, row + 2 - this.height / this.scale);
+  }
+}
