@@ -67,7 +67,8 @@ export class View {
   }
 
   clamp() {
-    const bound = (low, span) => Math.min(Math.max(low, -MARGIN), Math.max(-MARGIN, SIDE + MARGIN - span));
+    // A window larger than the chart has the chart in its middle.
+    const bound = (low, span) => (span > SIDE + 2 * MARGIN ? (SIDE - span) / 2 : Math.min(Math.max(low, -MARGIN), SIDE + MARGIN - span));
     this.left = bound(this.left, this.width / this.scale);
     this.bottom = bound(this.bottom, this.height / this.scale);
   }
