@@ -108,17 +108,15 @@ class Page {
     return this.view.point(x, y).map(Math.floor);
   }
 
-  // The middle of the window is the keyboard's cursor, unless the pointer says otherwise.
+  // About a point of the chart, or else about the middle of the window.
   zoom(factor, point) {
     this.view.zoom(factor, point);
     this.show();
   }
 
-  // Everything that is drawn, for the window to fit.
+  // Everything that is drawn, for the window to fit: the drawing, and what a panel shows beside it.
   fit() {
-    const { drawing } = this.app;
-    const corners = drawing.letters ? walk(drawing.start, drawing.letters) : [...(drawing.cells?.each() ?? [])].flatMap(([c, r]) => [[c, r], [c + 1, r + 1]]);
-    const seen = corners.map((corner) => corner.map((n) => Math.min(SIDE, n)));
+    const seen = [this.app.drawing, ...(this.panel.beside?.() ?? [])].flatMap(cornersOf);
     this.view.fit(seen.length > 0 ? seen : [[0, 0], [16, 12]]);
     this.show();
   }
@@ -183,6 +181,12 @@ class Page {
       }
     }
   }
+}
+
+// The corners of a drawing, as far as they are on the chart.
+function cornersOf({ start, letters, cells }) {
+  const corners = letters ? walk(start, letters) : (cells?.runs() ?? []).flatMap(([row, first, last]) => [[first, row], [last + 1, row + 1]]);
+  return corners.map((corner) => corner.map((n) => Math.min(SIDE, Math.max(0, n))));
 }
 
 // What pointers on the chart do.

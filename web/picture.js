@@ -77,7 +77,9 @@ export class Picture {
     const lines = { cells: story.cells ? cellsPath(story.cells) : "", ...more.paths };
     if (story.missing) lines.missing = cellsPath(story.missing);
     if (story.walk) lines.walk = polyline(story.walk);
-    (story.pieces ?? []).forEach((corners, k) => (lines[`piece p${k + 1}`] = polyline(corners)));
+    // Beside other blocks the border is one plain line.
+    if (more.plain) lines.walk = (story.pieces ?? []).map((corners) => polyline(corners)).join("");
+    else (story.pieces ?? []).forEach((corners, k) => (lines[`piece p${k + 1}`] = polyline(corners)));
     if (story.edges) lines.edges = polyline(story.edges, 0.5);
     if (story.band && more.why) lines.band = polyline(story.band, 0.5);
     if (story.triangle && more.why) lines.triangle = `${polyline(story.triangle.cells, 0.5)}z`;
@@ -99,7 +101,7 @@ export class Picture {
 
   signs(story, faults, more) {
     const marks = [];
-    if (story.start) marks.push(square(this.corner(story.start)));
+    if (story.start && !more.plain) marks.push(square(this.corner(story.start)));
     if (story.edges) marks.push(...this.anchor(story.edges));
     if (story.factor && !more.why && this.view.scale > 7) marks.push(...story.factor.map((cell) => circle("point", this.centre(cell), 3.5)));
     if (story.triangle && more.why) marks.push(...story.triangle.cells.map((cell) => this.ring("witness", cell)));
@@ -108,7 +110,7 @@ export class Picture {
     if (story.step) marks.push(...step(this.corner(story.step[0]), this.corner(story.step[1])));
     if (story.spot) marks.push(cross(this.corner(story.spot), 7));
     if (story.gap) marks.push(cross(this.corner(story.gap[0]), 7));
-    for (const [name, at] of story.names ?? []) {
+    for (const [name, at] of more.plain ? [] : (story.names ?? [])) {
       const [x, y] = this.corner(at);
       marks.push(element("text", { class: "name", x: x + BESIDE[name][0], y: y + BESIDE[name][1] }, text(`corner.${name}`)));
     }

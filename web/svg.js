@@ -21,9 +21,22 @@ export const polyline = (points, shift = 0) => points.map(([x, y], i) => `${i ==
 export const cellsPath = (cells) =>
   cells.runs().map(([row, first, last]) => `M${first} ${row}h${last - first + 1}v1h${first - last - 1}z`).join("");
 
-// A picture of cells alone, on the whole chart.
-export function thumbnail(cells) {
-  const made = element("svg", { viewBox: "0 0 255 255", "aria-hidden": "true", class: "thumb" });
+// The square part of the chart that holds some sets of cells, as a view box; the whole chart if they are empty.
+export function boxOf(sets) {
+  let [left, right, bottom, top] = [255, 0, 255, 0];
+  for (const cells of sets) {
+    for (const [row, first, last] of cells?.runs() ?? []) {
+      [left, right, bottom, top] = [Math.min(left, first), Math.max(right, last + 1), Math.min(bottom, row), Math.max(top, row + 1)];
+    }
+  }
+  if (right === 0) return "0 0 255 255";
+  const side = Math.max(right - left, top - bottom) + 4;
+  return [(left + right - side) / 2, 255 - (bottom + top + side) / 2, side, side].join(" ");
+}
+
+// A picture of cells alone.
+export function thumbnail(cells, box) {
+  const made = element("svg", { viewBox: box, "aria-hidden": "true", class: "thumb" });
   const plot = element("g", { transform: "translate(0 255) scale(1 -1)" });
   plot.append(element("rect", { class: "field", width: 255, height: 255 }), element("path", { class: "cells", d: cells ? cellsPath(cells) : "" }));
   made.append(plot);

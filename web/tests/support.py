@@ -167,6 +167,17 @@ class PageTest(unittest.TestCase):
         act.pointer_action.move_to_location(*self.point(cell)).pointer_down().pointer_up()
         act.perform()
 
+    def hover(self, cell, part=(0.5, 0.5)):
+        act = self.mouse()
+        act.pointer_action.move_to_location(*self.point(cell, part))
+        act.perform()
+
+    def wheel(self, at):
+        """Zooms in at a point of the screen."""
+        script = """const at = { deltaY: -100, clientX: arguments[0], clientY: arguments[1], cancelable: true };
+            document.getElementById("chart").dispatchEvent(new WheelEvent("wheel", at))"""
+        self.script(script, *at)
+
     def drag(self, *cells):
         act = self.mouse()
         first, *rest = [self.point(cell) for cell in cells]

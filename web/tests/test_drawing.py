@@ -133,11 +133,6 @@ class Drawing(PageTest):
         self.hover((-1, 1))
         self.assertEqual(self.text("where"), "Off the chart.")
 
-    def hover(self, cell):
-        act = self.mouse()
-        act.pointer_action.move_to_location(*self.point(cell))
-        act.perform()
-
     def test_the_whole_chart_and_the_wheel(self):
         self.press("whole")
         self.click((250, 250))
@@ -147,10 +142,7 @@ class Drawing(PageTest):
         self.press("in")
         self.press("in")
         before = self.point(cell)
-        self.script(
-            "document.getElementById('chart').dispatchEvent(new WheelEvent('wheel', {deltaY: -100, clientX: arguments[0], clientY: arguments[1], cancelable: true}))",
-            *before,
-        )
+        self.wheel(before)
         after = self.point(cell)
         self.assertTrue(all(abs(a - b) <= 3 for a, b in zip(before, after)), (before, after))
 
