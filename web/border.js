@@ -14,12 +14,27 @@ function widened(cells) {
   return marks;
 }
 
-// Why a set has no single border that meets no corner twice: cells that meet at a corner alone, several parts, holes.
-export function faults(cells) {
-  const found = [];
+// The border of a set, or why it has no single one that meets no corner twice: cells that meet at a corner alone, several parts, holes.
+export function borderOrFaults(cells) {
   const marks = widened(cells);
-  const corner = firstPinch(marks);
-  if (corner) found.push({ kind: "corner", at: corner });
+  const corner = firstPinch(cells, marks);
+  if (corner === null) {
+    const found = border(cells);
+    // One walk round the set comes along every side that it has, or there is another border.
+    if (found.letters.length === sides(cells, marks)) return { ...found, faults: [] };
+  }
+  return { letters: null, faults: faults(marks, corner) };
+}
+
+// How many sides of cells lie between the set and the rest: two for each run in a row, and those above and below.
+function sides(cells, marks) {
+  let count = 2 * cells.runs().length;
+  for (let i = WIDE; i < marks.length; i++) count += marks[i] ^ marks[i - WIDE];
+  return count;
+}
+
+function faults(marks, corner) {
+  const found = corner ? [{ kind: "corner", at: corner }] : [];
   const parts = regions(marks, 1);
   if (parts.length > 1) found.push({ kind: "parts", count: parts.length, cell: cellOf(parts[1]) });
   // The first of the others is the one round everything.
@@ -28,14 +43,12 @@ export function faults(cells) {
   return found;
 }
 
-// A corner at which two marked cells meet that share no side there.
-function firstPinch(marks) {
-  for (let i = marks.indexOf(1); i >= 0; i = marks.indexOf(1, i + 1)) {
-    for (const side of [-1, 1]) {
-      if (!marks[i + WIDE + side] || marks[i + side] || marks[i + WIDE]) continue;
-      const [col, row] = cellOf(i);
-      return [side === 1 ? col + 1 : col, row + 1];
-    }
+// A corner at which two marked cells meet that share no side there: a run of a row begins where one of the row below it has ended.
+function firstPinch(cells, marks) {
+  for (const [row, first, last] of cells.runs()) {
+    const above = (col) => marks[wide(col, row + 1)] === 1;
+    if (above(first - 1) && !above(first)) return [first, row + 1];
+    if (above(last + 1) && !above(last)) return [last + 1, row + 1];
   }
   return null;
 }
@@ -54,28 +67,30 @@ function regions(marks, kind) {
 // Takes a part out: its cells are 2 from then on. Returns them.
 function spread(left, from) {
   const kind = left[from];
-  const part = [from];
+  const part = new Int32Array(left.length);
+  let count = 1;
+  part[0] = from;
   left[from] = 2;
-  for (let k = 0; k < part.length; k++) {
+  for (let k = 0; k < count; k++) {
     for (const step of BESIDE) {
       const next = part[k] + step;
       if (left[next] !== kind) continue;
       left[next] = 2;
-      part.push(next);
+      part[count++] = next;
     }
   }
-  return part;
+  return part.subarray(0, count);
 }
 
 // The part that a cell is in, of marked or of other cells; whether it comes to the chart's edge.
 export function part(cells, [col, row]) {
-  const found = spread(widened(cells), wide(col, row)).map(cellOf);
+  const found = Array.from(spread(widened(cells), wide(col, row)), cellOf);
   const open = found.some(([c, r]) => c < 0 || r < 0 || c >= SIDE || r >= SIDE);
   return { cells: found, open };
 }
 
-// The border of a set without faults: clockwise from W, the lowest corner of the leftmost column.
-export function border(cells) {
+// The border round the part with W, the lowest corner of the leftmost column: clockwise from there.
+function border(cells) {
   let start = null;
   for (const [row, first] of cells.runs()) if (start === null || first < start[0]) start = [first, row];
   const letters = [1];
@@ -136,6 +151,8 @@ export function enclosed(start, letters) {
     col += STEPS[letter][0];
     row += STEPS[letter][1];
   }
-  for (let i = 1; i < marks.length; i++) if (i % SIDE > 0) marks[i] ^= marks[i - 1];
+  for (let line = 0; line < marks.length; line += SIDE) {
+    for (let i = line + 1; i < line + SIDE; i++) marks[i] ^= marks[i - 1];
+  }
   return new Cells(marks);
 }

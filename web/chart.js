@@ -30,7 +30,9 @@ export class Cells {
   }
 
   minus(other) {
-    return new Cells(this.marks.map((mark, i) => mark & ~other.marks[i]));
+    const marks = this.marks.slice();
+    for (let i = 0; i < marks.length; i++) if (other.marks[i]) marks[i] = 0;
+    return new Cells(marks);
   }
 
   equals(other) {
@@ -43,9 +45,7 @@ export class Cells {
   }
 
   get count() {
-    let found = 0;
-    for (const mark of this.marks) found += mark;
-    return found;
+    return this.runs().reduce((sum, [, first, last]) => sum + last - first + 1, 0);
   }
 
   get empty() {
@@ -54,13 +54,18 @@ export class Cells {
 
   // Runs of marked cells in rows: [row, first column, last column].
   runs() {
-    const found = [];
-    let last = [-1, 0, 0];
-    for (let i = this.marks.indexOf(1); i >= 0; i = this.marks.indexOf(1, i + 1)) {
-      const [col, row] = [i % SIDE, Math.floor(i / SIDE)];
-      if (last[0] === row && last[2] === col - 1) last[2] = col;
-      else found.push((last = [row, col, col]));
+    this.found ??= [...this.eachRun()];
+    return this.found;
+  }
+
+  *eachRun() {
+    const { marks } = this;
+    for (let i = marks.indexOf(1); i >= 0; ) {
+      const row = Math.floor(i / SIDE);
+      const gap = marks.indexOf(0, i);
+      const end = Math.min(gap < 0 ? marks.length : gap, (row + 1) * SIDE);
+      yield [row, i - row * SIDE, end - 1 - row * SIDE];
+      i = marks.indexOf(1, end);
     }
-    return found;
   }
 }

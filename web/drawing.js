@@ -1,15 +1,13 @@
 // A drawing: an outline as it was read, or as the border of marked cells. It never changes, so what is found of it stays true of it.
 
-import { border, enclosed, faults, isSimple } from "./border.js";
+import { borderOrFaults, enclosed, isSimple } from "./border.js";
 import { Cells } from "./chart.js";
 
 export const BLANK = ofCells(new Cells());
 
 // Cells that have no single border have no letters.
 export function ofCells(cells, name = "") {
-  if (cells.empty) return { name, cells, letters: null, faults: [] };
-  const found = faults(cells);
-  return found.length > 0 ? { name, cells, letters: null, faults: found } : { name, cells, faults: [], ...border(cells) };
+  return { name, cells, ...(cells.empty ? { letters: null, faults: [] } : borderOrFaults(cells)) };
 }
 
 // An outline that is no simple walk has no cells.

@@ -36,6 +36,8 @@ class Page {
     this.tabs = new Tabs(this.app);
     this.hover = null;
     this.why = true;
+    this.shows = 0;
+    this.accounts = new WeakMap();
     // The state right after a completion was taken over.
     this.completed = null;
     this.panels = Object.fromEntries(Object.entries(PANELS).map(([name, make]) => [name, make(this)]));
@@ -48,11 +50,12 @@ class Page {
 
   // Everything that is shown of the drawing, worked out from the drawing now.
   show() {
+    this.shows++;
     const { drawing } = this.app;
     const answer = this.answer(drawing);
-    const told = answer.kind === "failed" ? { cells: drawing.cells } : story(drawing, answer);
+    const { told, words } = this.account(drawing, answer);
     this.picture.draw(told, drawing.faults, { why: this.why, ...this.panel.more(drawing, answer) }, this.app.cursor);
-    this.showVerdict(drawing, answer);
+    this.showVerdict(words, answer);
     this.showTools(answer);
     this.showWhere(drawing, answer);
     this.tabs.show();
@@ -68,10 +71,14 @@ class Page {
     }
   }
 
-  showVerdict(drawing, answer) {
-    const failed = { what: text("failed.what"), meaning: text("failed.meaning") };
-    const words = answer.kind === "failed" ? failed : verdict(drawing, answer);
-    by("verdict").className = { taken: "taken", refused: "refused", unsent: "refused" }[answer.kind] ?? "";
+  // The picture and the words of an answer. The answer belongs to one drawing, so they are made once.
+  account(drawing, answer) {
+    if (!this.accounts.has(answer)) this.accounts.set(answer, tell(drawing, answer));
+    return this.accounts.get(answer);
+  }
+
+  showVerdict(words, { kind }) {
+    by("verdict").className = { taken: "taken", refused: "refused", unsent: "refused" }[kind] ?? "";
     write(by("said"), words.what);
     write(by("meaning"), words.meaning);
     write(by("place"), words.where ?? "");
@@ -183,6 +190,11 @@ class Page {
   }
 }
 
+function tell(drawing, answer) {
+  if (answer.kind !== "failed") return { told: story(drawing, answer), words: verdict(drawing, answer) };
+  return { told: { cells: drawing.cells }, words: { what: text("failed.what"), meaning: text("failed.meaning") } };
+}
+
 // The corners of a drawing, as far as they are on the chart.
 function cornersOf({ start, letters, cells }) {
   const corners = letters ? walk(start, letters) : (cells?.runs() ?? []).flatMap(([row, first, last]) => [[first, row], [last + 1, row + 1]]);
@@ -197,27 +209,25 @@ function strokes(page) {
     page.hover = page.cellAt(at);
     page.panel.pointed?.(view.point(...at).map((n) => n - 0.5));
   };
+  // Shows what has become of it, unless a change of the drawing has done so.
+  const shown = (work) => {
+    const before = page.shows;
+    work();
+    if (page.shows === before) page.show();
+  };
   return {
     press(at, { pan, erase }) {
       panning = pan || tools.tool === "hand";
       hover(at);
-      if (!panning) tools.press(page.cellAt(at), erase);
-      page.show();
+      shown(() => panning || tools.press(page.cellAt(at), erase));
     },
     drag(from, to) {
       if (panning) view.move(to[0] - from[0], to[1] - from[1]);
-      else tools.drag(page.cellAt(to));
       hover(to);
-      page.show();
+      shown(() => panning || tools.drag(page.cellAt(to)));
     },
-    release() {
-      if (!panning) tools.release();
-      page.show();
-    },
-    cancel() {
-      tools.cancel();
-      page.show();
-    },
+    release: () => shown(() => panning || tools.release()),
+    cancel: () => shown(() => tools.cancel()),
     hover(at) {
       tools.note = null;
       hover(at);
@@ -269,6 +279,9 @@ function listen(page) {
   document.addEventListener("keydown", (event) => undoByKeys(event, page.app));
   addEventListener("pagehide", () => page.save());
   new ResizeObserver(() => (page.view.measure(), page.show())).observe(chart);
+  chart.addEventListener("pointerenter", () => page.view.measure());
+  addEventListener("scroll", () => page.view.measure(), { capture: true, passive: true });
+  addEventListener("resize", () => page.view.measure());
 }
 
 function undoByKeys(event, app) {

@@ -73,8 +73,16 @@ export class Picture {
     return path;
   }
 
+  // The paths of a story are made once for each way to show it.
   lines(story, more) {
-    const lines = { cells: story.cells ? cellsPath(story.cells) : "", ...more.paths };
+    const way = `${Boolean(more.why)} ${Boolean(more.plain)}`;
+    story.lines ??= {};
+    story.lines[way] ??= this.storyLines(story, more);
+    return { ...story.lines[way], ...more.paths };
+  }
+
+  storyLines(story, more) {
+    const lines = { cells: story.cells ? cellsPath(story.cells) : "" };
     if (story.missing) lines.missing = cellsPath(story.missing);
     if (story.walk) lines.walk = polyline(story.walk);
     // Beside other blocks the border is one plain line.

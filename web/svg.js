@@ -18,8 +18,10 @@ export function put(made, key, value) {
 export const polyline = (points, shift = 0) => points.map(([x, y], i) => `${i === 0 ? "M" : "L"}${x + shift} ${y + shift}`).join("");
 
 // A path round the runs of cells, each a rectangle `Mcol rowhWIDTHv1h-WIDTHz`.
-export const cellsPath = (cells) =>
-  cells.runs().map(([row, first, last]) => `M${first} ${row}h${last - first + 1}v1h${first - last - 1}z`).join("");
+export function cellsPath(cells) {
+  cells.path ??= cells.runs().map(([row, first, last]) => `M${first} ${row}h${last - first + 1}v1h${first - last - 1}z`).join("");
+  return cells.path;
+}
 
 // The square part of the chart that holds some sets of cells, as a view box; the whole chart if they are empty.
 export function boxOf(sets) {

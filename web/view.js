@@ -22,8 +22,9 @@ export class View {
     this.measure();
   }
 
-  // Takes the size of the element; to be called when it has changed.
+  // Takes the size and the place of the element; to be called when they have changed. A look at every stroke would lay out the page.
   measure() {
+    this.box = this.svg.getBoundingClientRect();
     this.wide = this.svg.clientWidth;
     this.high = this.svg.clientHeight;
     this.width = Math.max(60, this.wide - LEFT - 8);
@@ -40,7 +41,7 @@ export class View {
 
   // The point of the chart under a point of the screen, in columns and rows of corners.
   point(clientX, clientY) {
-    const box = this.svg.getBoundingClientRect();
+    const { box } = this;
     const col = (clientX - box.left - LEFT) / this.scale + this.left;
     const row = (ABOVE + this.height - (clientY - box.top)) / this.scale + this.bottom;
     return [col, row];

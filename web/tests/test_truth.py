@@ -87,7 +87,7 @@ RANDOM_EDITS = (
     };
     while (seen.length < count) {
       // Blocks stay small and near the chart's corner, where strokes meet them.
-      if (below(60) === 0) {
+      if (below(9) === 0) {
         click("clear");
         click("fit");
       }
@@ -179,7 +179,6 @@ class Truth(PageTest):
         self.press("on")
         step()
         self.says("Refused, 9")
-        self.script("localStorage.clear = () => {}")
         self.browser.refresh()
         self.until(lambda: self.script("return document.documentElement.dataset.ready") == "yes")
         step()
