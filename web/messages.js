@@ -157,6 +157,7 @@ export const MESSAGES = {
   "outline": "Outline",
   "outline.head": "Start {start}, {letters}.",
   "outline.none": "Nothing to send.",
+  "outline.print": "{name} {start} {letters}",
   "letters": "Letters of the border, as the tablet sends them",
   "letters.hint": "0 right, 1 up, 2 left, 3 down",
   "fault.none": "The file holds no outline.",

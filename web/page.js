@@ -58,6 +58,7 @@ class Page {
     this.showVerdict(words, answer);
     this.showTools(answer);
     this.showWhere(drawing, answer);
+    write(by("letters-print"), outlineWords(drawing));
     this.tabs.show();
     this.panel.show(drawing, answer);
   }
@@ -188,6 +189,12 @@ class Page {
       }
     }
   }
+}
+
+// The name, the start and the letters, for a printed page.
+function outlineWords({ name, start, letters }) {
+  if (!letters) return name;
+  return text("outline.print", { name, start: at(start), letters: letters.join("") });
 }
 
 function tell(drawing, answer) {

@@ -26,7 +26,7 @@ export class Picture {
     this.plot.append(...this.paths.values());
     this.marks = element("g");
     this.axes = element("g", { "aria-hidden": "true" });
-    const inside = element("g", { "clip-path": "url(#window)" });
+    const inside = element("g", { "clip-path": "url(#window)", "aria-hidden": "true" });
     inside.append(this.plot, this.marks);
     view.svg.replaceChildren(definitions(this.clip, this.hatchings), inside, this.axes);
   }

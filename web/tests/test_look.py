@@ -1,0 +1,169 @@
+"""The file itself, what stays in its place, dark, print, and what a screen reader gets."""
+
+import base64
+import re
+import unittest
+
+from support import DENTED, PLUS, PageTest, outlines
+
+PLACES = """return [...document.querySelectorAll("button, select, input, #chart")].filter((e) => e.checkVisibility()).map((e) => {
+    const { x, y, width, height } = e.getBoundingClientRect();
+    return [e.id || e.value, x, y, width, height].join(" ");
+  })"""
+
+CONTRAST = """
+    const luminance = (color) => {
+      const [r, g, b] = color.match(/[\\d.]+/g).slice(0, 3).map((n) => (n /= 255) <= 0.04045 ? n / 12.92 : ((n + 0.055) / 1.055) ** 2.4);
+      return 0.2126 * r + 0.7152 * g + 0.0722 * b;
+    };
+    const ground = (e) => {
+      for (; e; e = e.parentElement) {
+        const color = getComputedStyle(e).backgroundColor;
+        if (!/, 0\\)$/.test(color)) return color;
+      }
+      return "rgb(255, 255, 255)";
+    };
+    const bad = [];
+    const walker = document.createTreeWalker(document.body, NodeFilter.SHOW_TEXT);
+    while (walker.nextNode()) {
+      const e = walker.currentNode.parentElement;
+      if (!walker.currentNode.data.trim() || !e.checkVisibility() || e.closest("svg, :disabled, option")) continue;
+      const [a, b] = [getComputedStyle(e).color, ground(e)].map(luminance).sort((x, y) => y - x);
+      if ((a + 0.05) / (b + 0.05) < 4.5) bad.push([e.id, e.textContent.slice(0, 30), (a + 0.05) / (b + 0.05)]);
+    }
+    return bad;
+"""
+
+
+class TheFile(PageTest):
+    def test_it_is_small_and_whole(self):
+        words = self.file.read_text()
+        self.assertLess(len(words.encode()), 400 * 1024)
+        self.assertIsNone(re.search(r'(src|href)="(?!data:,)', words))
+        self.assertNotIn("unsafe-inline", words)
+        asked = self.script("return performance.getEntriesByType('resource').map((entry) => entry.name)")
+        self.assertEqual([name for name in asked if not name.startswith("data:")], [])
+        self.assertTrue(self.script("return location.protocol") == "file:")
+
+    def test_the_policy_keeps_everything_else_out(self):
+        refused = self.browser.execute_async_script(
+            """const done = arguments[0], seen = [];
+            document.addEventListener("securitypolicyviolation", (event) => seen.push(event.effectiveDirective));
+            const add = (name, more) => document.body.append(Object.assign(document.createElement(name), more));
+            window.ran = false;
+            add("script", { textContent: "window.ran = true" });
+            add("script", { src: "https://example.org/x.js" });
+            add("style", { textContent: "body { color: red }" });
+            add("img", { src: "https://example.org/x.png" });
+            add("iframe", { src: "https://example.org/" });
+            fetch("https://example.org/").catch(() => {});
+            const button = document.createElement("button");
+            button.setAttribute("onclick", "window.ran = true");
+            button.click();
+            setTimeout(() => done([seen, window.ran]), 500)"""
+        )
+        self.assertFalse(refused[1])
+        for directive in ("script-src-elem", "style-src-elem", "img-src", "frame-src", "connect-src", "script-src-attr"):
+            self.assertIn(directive, refused[0])
+        # The browser tells each of them.
+        self.browser.get_log("browser")
+
+    def test_without_the_library_there_is_no_verdict(self):
+        words = self.file.read_text()
+        broken = self.folder / "broken.html"
+        broken.write_text(re.sub(r'(id="library">).{40}', r"\1AAAA", words))
+        self.browser.get(broken.as_uri())
+        self.until(lambda: self.text("said") != "")
+        self.assertIn("The library cannot run", self.text("said"))
+        self.browser.get_log("browser")
+
+
+class InPlace(PageTest):
+    def test_buttons_stay_while_words_change(self):
+        for size in ((1280, 720), (800, 1280)):
+            self.resize(*size)
+            self.open()
+            self.press("clear")
+            for panel in ("draw", "lesson", "readings", "years", "speeds", "holder"):
+                self.panel(panel)
+                self.press("fit")
+                before = self.script(PLACES)
+                for cells in (PLUS, DENTED[:1], DENTED, [(5, 5)], [(9, 3), (10, 3)]):
+                    self.draw(cells)
+                    self.assertEqual(self.script(PLACES), before, (size, panel))
+                self.press("clear")
+
+    def test_nothing_is_wider_than_the_screen(self):
+        for size in ((1280, 720), (800, 1280), (390, 800), (1920, 1080)):
+            self.resize(*size)
+            self.assertLessEqual(self.script("return document.documentElement.scrollWidth"), size[0])
+
+    def test_the_chart_and_the_verdict_are_seen_at_once(self):
+        for width, height in ((1280, 720), (800, 1280)):
+            self.resize(width, height)
+            for name in ("chart", "verdict", "undo", "instead"):
+                bottom = self.script("return document.getElementById(arguments[0]).getBoundingClientRect().bottom", name)
+                self.assertLessEqual(bottom, height, name)
+
+
+class Dark(PageTest):
+    def test_words_can_be_read_in_light_and_dark(self):
+        self.draw(DENTED)
+        grounds = set()
+        for scheme in ("light", "dark"):
+            self.look(scheme)
+            grounds.add(self.script("return getComputedStyle(document.body).backgroundColor"))
+            for panel in ("draw", "lesson", "readings", "years", "speeds", "holder"):
+                self.panel(panel)
+                self.assertEqual(self.script(CONTRAST), [], (scheme, panel))
+        self.assertEqual(len(grounds), 2)
+
+
+class Print(PageTest):
+    def test_print_has_the_chart_and_the_verdict_in_light(self):
+        self.draw(DENTED)
+        self.look("dark", "print")
+        shown = lambda name: self.script("return document.getElementById(arguments[0]).checkVisibility()", name)
+        for name in ("chart", "said", "meaning", "letters-print", "title"):
+            self.assertTrue(shown(name), name)
+        for name in ("undo", "tabs", "instead", "example", "keys"):
+            self.assertFalse(shown(name), name)
+        self.assertEqual(self.script("return getComputedStyle(document.body).backgroundColor"), "rgb(255, 255, 255)")
+        self.look("light")
+        made = self.browser.execute_cdp_cmd("Page.printToPDF", {"paperWidth": 8.27, "paperHeight": 11.69})
+        pdf = base64.b64decode(made["data"])
+        self.assertEqual(len(re.findall(rb"/Type\s*/Page\b", pdf)), 1)
+
+
+class Spoken(PageTest):
+    def test_names_roles_and_live_regions(self):
+        """Every control has a name; what changes by itself is in a live region."""
+        nameless = """return [...document.querySelectorAll("button, select, input, textarea, svg[role], [role=tabpanel]")].filter((e) =>
+            !(e.getAttribute("aria-label") || e.textContent.trim() || e.labels?.length || e.getAttribute("aria-labelledby"))).map((e) => e.id)"""
+        for panel in ("speeds", "holder"):
+            self.panel(panel)
+        self.assertEqual(self.script(nameless), [])
+        live = {name: self.script("return document.getElementById(arguments[0]).getAttribute('role')", name) for name in ("told", "spoken", "file", "log", "pile-word", "years-word", "lesson-state")}
+        self.assertEqual(live, {"told": "status", "spoken": "status", "file": "alert", "log": "log", "pile-word": "status", "years-word": "status", "lesson-state": "status"})
+
+    def test_the_tree_that_a_screen_reader_gets(self):
+        self.draw(DENTED)
+        nodes = self.browser.execute_cdp_cmd("Accessibility.getFullAXTree", {})["nodes"]
+        found = {(node["role"]["value"], node.get("name", {}).get("value", "")) for node in nodes if "role" in node}
+        for wanted in (("tab", "Readings"), ("button", "Undo"), ("heading", "Refused, 9: a dent"), ("application", "Chart"), ("tabpanel", "Block")):
+            self.assertIn(wanted, found)
+
+    def test_a_verdict_that_stays_is_not_written_again(self):
+        self.draw(PLUS)
+        changes = self.script(
+            """window.changes = 0;
+            new MutationObserver((list) => (window.changes += list.length)).observe(document.getElementById("told"), { subtree: true, childList: true, characterData: true });"""
+        )
+        self.press("in")
+        self.press("out")
+        self.hover((4, 4))
+        self.assertEqual(self.script("return window.changes"), 0, changes)
+
+
+if __name__ == "__main__":
+    unittest.main()
