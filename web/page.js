@@ -103,6 +103,8 @@ class Page {
   showWhere(drawing, answer) {
     const cell = this.hover ?? this.app.cursor;
     write(by("where"), this.tools.note ? text(this.tools.note) : this.whereWords(cell, drawing, answer));
+    // What was spoken last may be true no more.
+    write(by("spoken"), "");
   }
 
   whereWords(cell, drawing, answer) {

@@ -48,7 +48,7 @@ export function missingFrom(engine, marks) {
 
 const LEFT = 34;
 const WIDTH = 340;
-const HEIGHT = 150;
+const HEIGHT = 104;
 
 // The section as a picture: speeds along, rows or columns up.
 export function drawSection(svg, marks, missing, { piece }) {

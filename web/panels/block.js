@@ -45,6 +45,7 @@ function listen(page, examples) {
     page.visit();
   };
   const go = (step) => {
+    if (!app.state.records[app.state.at + step]) return;
     app.set({ ...app.state, at: app.state.at + step });
     page.visit();
   };

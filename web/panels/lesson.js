@@ -39,6 +39,7 @@ export function lesson(page) {
   };
 
   const begin = (at) => {
+    if (!tasks[at]) return;
     Object.assign(state, { at, begun: true });
     app.change(app.with(tasks[at].base));
     page.visit();

@@ -11,7 +11,7 @@ export function years(page) {
   const { app, engine } = page;
   signs(by("years-signs"), ["cells", "last", "inner"]);
   by("years-keep").addEventListener("click", () => app.change({ ...app.state, last: app.drawing }));
-  by("years-swap").addEventListener("click", () => app.change({ ...app.with(app.state.last), last: app.drawing }));
+  by("years-swap").addEventListener("click", () => app.state.last && app.change({ ...app.with(app.state.last), last: app.drawing }));
   by("years-drop").addEventListener("click", () => app.change({ ...app.state, last: null }));
 
   // The library's comparison of two taken blocks, with the inner one's hull; null where one is not taken.

@@ -26,8 +26,8 @@ import inline  # noqa: E402
 LIBRARY = ROOT / "target/wasm32/robequarry.wasm"
 SCREENSHOTS = os.environ.get("ROBEQUARRY_SCREENSHOTS")
 
-# No test takes as long as this; one that hangs ends the run.
-LONGEST = 900
+# Seconds. Nothing takes as long as this, on a busy machine either; what hangs ends then.
+LONGEST = 3600
 
 PLUS = [(1, 0), (0, 1), (1, 1), (2, 1), (1, 2)]
 DENTED = [(0, 0), (1, 0), (2, 0), (0, 1), (0, 2)]
@@ -60,6 +60,10 @@ def outlines(name):
     return found
 
 
+def too_long(*_):
+    raise TimeoutError(f"no end after {LONGEST} seconds")
+
+
 def start_browser(folder):
     """A browser that asks no network: its proxy is an address where nobody listens."""
     options = webdriver.ChromeOptions()
@@ -80,9 +84,9 @@ class PageTest(unittest.TestCase):
 
     @classmethod
     def setUpClass(cls):
-        # The run ends by itself, whoever started it and with whatever signals ignored.
+        # Ctrl-C ends the run, also where it was started with the signal ignored.
         signal.signal(signal.SIGINT, signal.default_int_handler)
-        signal.signal(signal.SIGALRM, signal.SIG_DFL)
+        signal.signal(signal.SIGALRM, too_long)
         signal.alarm(LONGEST)
         folder = tempfile.TemporaryDirectory(ignore_cleanup_errors=True)
         cls.addClassCleanup(folder.cleanup)
@@ -119,7 +123,7 @@ class PageTest(unittest.TestCase):
         return self.browser.execute_script(words, *arguments)
 
     def until(self, fact):
-        return WebDriverWait(self.browser, 60, poll_frequency=0.05).until(lambda _: fact())
+        return WebDriverWait(self.browser, LONGEST, poll_frequency=0.05).until(lambda _: fact())
 
     def by(self, name):
         return self.browser.find_element(By.ID, name)

@@ -286,6 +286,26 @@ class KeysAlone(PageTest):
         self.keys(Keys.ESCAPE)
         self.assertEqual(len(self.cells()), 20)
 
+    def test_panels_by_arrows(self):
+        self.script("document.getElementById('tab-draw').focus()")
+        self.keys(Keys.ARROW_RIGHT, Keys.ARROW_RIGHT)
+        self.assertEqual(self.script("return document.activeElement.id"), "tab-readings")
+        self.assertTrue(self.by("panel-readings").is_displayed())
+        self.keys(Keys.ARROW_RIGHT, Keys.ARROW_RIGHT)
+        self.script("document.getElementById('layer-0').focus()")
+        self.keys(Keys.ARROW_RIGHT, Keys.ARROW_DOWN)
+        self.assertEqual(self.by("layer-2").get_attribute("aria-checked"), "true")
+        self.script("document.getElementById('tab-holder').click(); document.getElementById('place-0-0').focus()")
+        self.keys(Keys.ARROW_LEFT)
+        self.assertEqual(self.by("place-1-3").get_attribute("aria-checked"), "true")
+
+    def test_what_was_spoken_is_not_left_behind(self):
+        self.to_chart()
+        self.keys(Keys.SPACE)
+        self.assertEqual(self.text("spoken"), "Cell (0, 0): marked. The controller says: inside.")
+        self.press("clear")
+        self.assertEqual(self.text("spoken"), "")
+
     def test_every_control_can_be_reached(self):
         """Tab goes round all panels' controls, and arrows from tab to tab."""
         seen = set()

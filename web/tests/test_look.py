@@ -46,8 +46,8 @@ class TheFile(PageTest):
         self.assertTrue(self.script("return location.protocol") == "file:")
 
     def test_the_policy_keeps_everything_else_out(self):
-        refused = self.browser.execute_async_script(
-            """const done = arguments[0], seen = [];
+        self.script(
+            """window.seen = [];
             document.addEventListener("securitypolicyviolation", (event) => seen.push(event.effectiveDirective));
             const add = (name, more) => document.body.append(Object.assign(document.createElement(name), more));
             window.ran = false;
@@ -59,12 +59,11 @@ class TheFile(PageTest):
             fetch("https://example.org/").catch(() => {});
             const button = document.createElement("button");
             button.setAttribute("onclick", "window.ran = true");
-            button.click();
-            setTimeout(() => done([seen, window.ran]), 500)"""
+            button.click();"""
         )
-        self.assertFalse(refused[1])
-        for directive in ("script-src-elem", "style-src-elem", "img-src", "frame-src", "connect-src", "script-src-attr"):
-            self.assertIn(directive, refused[0])
+        wanted = {"script-src-elem", "style-src-elem", "img-src", "frame-src", "connect-src", "script-src-attr"}
+        self.until(lambda: wanted <= set(self.script("return seen")))
+        self.assertFalse(self.script("return ran"))
         # The browser tells each of them.
         self.browser.get_log("browser")
 

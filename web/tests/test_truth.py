@@ -17,8 +17,7 @@ SHOWN = """
       cells: document.querySelector("#chart path.cells").getAttribute("d"),
       missing: document.querySelector("#chart path.missing").getAttribute("d"),
       edges: document.querySelector("#chart path.edges").getAttribute("d"),
-      letters: document.getElementById("letters").value,
-      head: document.getElementById("outline-head").textContent,
+      outline: document.getElementById("letters-print").textContent,
       said: document.getElementById("said").textContent,
       meaning: document.getElementById("meaning").textContent,
       place: document.getElementById("place").textContent,
@@ -79,6 +78,11 @@ RANDOM_EDITS = (
       [6, () => key(["ArrowRight", "ArrowUp", "ArrowLeft", "ArrowDown"][below(4)], { shiftKey: below(2) === 1, ctrlKey: below(4) === 0 })],
       [2, () => (tool("rectangle"), key(" "), note(), key("ArrowRight"), note(), key("ArrowUp"), note(), key(" "))],
       [1, () => (tool("line"), key(" "), key("ArrowUp"), note(), key("Escape"))],
+      [2, () => click(["tab-draw", "tab-lesson", "tab-readings", "tab-years", "tab-speeds", "tab-holder"][below(6)])],
+      [2, () => click(["lesson-again", "lesson-on", "lesson-back"][below(3)])],
+      [2, () => click(["years-keep", "years-swap", "years-drop"][below(3)])],
+      [2, () => (click("tab-speeds"), note(), click(["layer-3", "layer-4", "layer-copy", "pile-bad", "pile-good", "pile-empty"][below(6)]))],
+      [1, () => (click("tab-holder"), note(), click(["call-send", "call-begin", "call-rest", "call-clear", "log-clear"][below(5)]))],
     ];
     const total = ways.reduce((sum, [weight]) => sum + weight, 0);
     const pick = () => {
@@ -111,8 +115,8 @@ def outline_of(shown):
     cells = cells_of(shown["cells"])
     if cells:
         return reference.border(cells)
-    start = re.search(r"\((\d+), (\d+)\)", shown["head"])
-    return ((int(start[1]), int(start[2])), shown["letters"]) if start else None
+    sent = re.search(r"\((\d+), (\d+)\) (\d*)$", shown["outline"])
+    return ((int(sent[1]), int(sent[2])), sent[3]) if sent else None
 
 
 class Truth(PageTest):
