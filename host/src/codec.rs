@@ -125,7 +125,8 @@ impl Call {
             Action::Query { place, cell } => put(5, Some(place), &cell.col.to_le_bytes(), &cell.row.to_le_bytes()),
             Action::Row { place, row } => put(6, Some(place), &row.to_le_bytes(), &[]),
             Action::Reading { place, reading } => {
-                put(7, Some(place), &reading.angle.to_le_bytes(), &reading.load.to_le_bytes())
+                let (angle, load) = reading.bits();
+                put(7, Some(place), &angle.to_le_bytes(), &load.to_le_bytes())
             }
             Action::Piece { place, position } => put(8, Some(place), &position.to_le_bytes(), &[]),
         }
@@ -147,7 +148,7 @@ impl Call {
             6 => Action::Row { place, row: x },
             7 => {
                 let (angle, load) = (u32::from_le_bytes([a, b, c, d]), u32::from_le_bytes([e, f, g, h]));
-                Action::Reading { place, reading: Reading { angle, load } }
+                Action::Reading { place, reading: Reading::from_bits(angle, load) }
             }
             8 => Action::Piece { place, position: x },
             _ => return None,
@@ -184,7 +185,7 @@ mod tests {
         (Action::Query { place: 2, cell: Cell::new(0xff, 0x100) }.by(1), [5, 1, 2, 0xff, 0, 0, 0, 0, 1, 0, 0]),
         (Action::Row { place: 1, row: 0x201 }.by(0), [6, 0, 1, 1, 2, 0, 0, 0, 0, 0, 0]),
         (
-            Action::Reading { place: 3, reading: Reading { angle: 0x4030_2010, load: 0xff80_0001 } }.by(1),
+            Action::Reading { place: 3, reading: Reading::from_bits(0x4030_2010, 0xff80_0001) }.by(1),
             [7, 1, 3, 0x10, 0x20, 0x30, 0x40, 1, 0, 0x80, 0xff],
         ),
         (Action::Piece { place: 2, position: 0x8001 }.by(0), [8, 0, 2, 1, 0x80, 0, 0, 0, 0, 0, 0]),

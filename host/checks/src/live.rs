@@ -37,7 +37,7 @@ pub fn by_arguments(holder: &mut HolderMemory, Call { party, action }: Call, rep
         Action::Query { place, cell } => holder.query(party, place, cell.col, cell.row, reply),
         Action::Row { place, row } => holder.row(party, place, row, reply),
         Action::Reading { place, reading: Reading { angle, load } } => {
-            holder.reading(party, place, f32::from_bits(angle), f32::from_bits(load), reply);
+            holder.reading(party, place, angle, load, reply);
         }
         Action::Piece { place, position } => holder.piece(party, place, position, &mut [0.0; 2], reply),
     }

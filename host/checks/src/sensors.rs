@@ -12,10 +12,10 @@ pub fn reading(random: &mut Random, polygon: &Polygon) -> Reading {
     let (x, y) = near(random, polygon);
     let (angle, load) = (beside(random, x), beside(random, y));
     match random.below(12) {
-        0 | 1 => Reading { angle: pattern(random), load: pattern(random) },
-        2 => Reading { angle, load: pattern(random) },
-        3 => Reading { angle: pattern(random), load },
-        _ => Reading { angle, load },
+        0 | 1 => Reading::from_bits(pattern(random), pattern(random)),
+        2 => Reading::from_bits(angle, pattern(random)),
+        3 => Reading::from_bits(pattern(random), load),
+        _ => Reading::from_bits(angle, load),
     }
 }
 

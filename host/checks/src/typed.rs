@@ -55,8 +55,7 @@ pub fn holder_call(holder: &mut Holder, Call { party, action }: Call) -> Fields 
             Err(refusal) => refused(refusal),
         },
         Action::Reading { place, reading } => {
-            let (angle, load) = (f32::from_bits(reading.angle), f32::from_bits(reading.load));
-            match holder.reading(party, place, angle, load) {
+            match holder.reading(party, place, reading.angle, reading.load) {
                 Ok(Located::Inside) => said(INSIDE),
                 Ok(Located::Outside) => said(OUTSIDE),
                 Ok(Located::Undecided) => said(UNDECIDED),

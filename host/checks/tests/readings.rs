@@ -48,7 +48,7 @@ fn rounding_is_the_machines() {
 
 /// The two differences of a side value, and the columns and rows by which they are multiplied, as the machine has them.
 fn parts(edge: Edge, reading: Reading) -> [f32; 4] {
-    let (x, y) = (f32::from_bits(reading.angle), f32::from_bits(reading.load));
+    let Reading { angle: x, load: y } = reading;
     [edge.step.1 as f32, x - edge.from.0 as f32, edge.step.0 as f32, y - edge.from.1 as f32]
 }
 
@@ -222,11 +222,11 @@ fn patterns_of_every_class() {
         let polygon = Polygon::of(&outline).expect("it is taken");
         let mut at_work = AtWork::new(&outline, 0, 1);
         for (angle, load) in patterns().into_iter().flat_map(|angle| patterns().into_iter().map(move |load| (angle, load))) {
-            let reading = Reading { angle, load };
+            let reading = Reading::from_bits(angle, load);
             let reply = at_work.reading(reading);
-            assert_eq!(reply, located(&polygon, reading), "{reading:x?} {outline:?}");
+            assert_eq!(reply, located(&polygon, reading), "{:x?} {outline:?}", reading.bits());
             let on_chart = |pattern| (0.0..=f32::from(LAST_CELL)).contains(&f32::from_bits(pattern));
-            assert_eq!(reply.number == 0, on_chart(angle) && on_chart(load), "{reading:x?}");
+            assert_eq!(reply.number == 0, on_chart(angle) && on_chart(load), "{:x?}", reading.bits());
         }
     }
 }

@@ -10,7 +10,7 @@ use crate::{Fields, Point};
 const SIXTY_FOURTH: f32 = 1.0 / 64.0;
 
 pub fn located(anchor: Point, edges: &[i16], reading: Reading) -> Fields {
-    let (angle, load) = (f32::from_bits(reading.angle), f32::from_bits(reading.load));
+    let Reading { angle, load } = reading;
     if is_off_chart(angle) || is_off_chart(load) {
         return numbered(11);
     }

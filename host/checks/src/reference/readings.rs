@@ -134,7 +134,8 @@ impl Polygon {
 /// The reading's values; none if it meets refusal 11.
 pub fn values(reading: Reading) -> Option<Values> {
     let number = |pattern| value(pattern).filter(|&v| Wide::ZERO <= v && v <= whole(i64::from(LAST_CELL)));
-    Some((number(reading.angle)?, number(reading.load)?))
+    let (angle, load) = reading.bits();
+    Some((number(angle)?, number(load)?))
 }
 
 /// What is said of a reading with the edges of a taken outline.

@@ -149,7 +149,6 @@ impl Stack {
             }
             Action::Row { place, row } => self.note("rq_row", &mut || on.row(party, place, row, reply)),
             Action::Reading { place, reading: Reading { angle, load } } => {
-                let (angle, load) = (f32::from_bits(angle), f32::from_bits(load));
                 self.note("rq_reading", &mut || on.reading(party, place, angle, load, reply));
             }
             Action::Piece { place, position } => {

@@ -285,7 +285,7 @@ fn readings(bench: &mut Bench, random: &mut Random, names: [&'static str; 2], ou
         readings.len(),
         || {
             for &Reading { angle, load } in &readings {
-                library.reading(party, place, f32::from_bits(angle), f32::from_bits(load), &mut reply);
+                library.reading(party, place, angle, load, &mut reply);
                 black_box(&reply);
             }
         },
