@@ -1,6 +1,10 @@
-//! Links the proved archive that `rt staticlib robequarry` writes at the repository's root.
+//! Links the proved archive that `rt staticlib robequarry` writes at the repository's root, and names it by its SHA-256.
+
+#[path = "build/sha256.rs"]
+mod sha256;
 
 use std::env;
+use std::fs;
 use std::path::Path;
 use std::process;
 
@@ -16,6 +20,8 @@ fn main() {
         );
         process::exit(1);
     }
+    let bytes = fs::read(&archive).expect("the archive can be read");
+    println!("cargo:rustc-env=ROBEQUARRY_ARCHIVE={}", sha256::hexadecimal(&bytes));
     println!("cargo:rustc-link-search=native={}", folder.display());
     println!("cargo:rustc-link-lib=static=robequarry");
 }

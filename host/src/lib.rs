@@ -28,6 +28,9 @@
 //! [`Pile`] keeps sixteen layers, and checks that no section through them is dented. Both own their memory: what asks a question takes
 //! `&self`, and whatever can alter something `&mut self`.
 //!
+//! Files hold outlines in two forms: [`text`], a line each, which [`Outline`] also parses from a string, and [`fitting`] files, records
+//! of bytes. Both readers stop at the first fault and say where it is.
+//!
 //! [`raw`] has the library's functions as they are, on plain lists of numbers; [`codec`] reads and writes these, and [`limits`] names
 //! what bounds them.
 //!
@@ -36,12 +39,14 @@
 mod chart;
 pub mod codec;
 mod comparison;
+pub mod fitting;
 mod holder;
 pub mod limits;
 mod outline;
 mod pile;
 pub mod raw;
 mod refusal;
+pub mod text;
 mod witness;
 
 pub use chart::{Cell, Corner, Reading};
@@ -52,3 +57,9 @@ pub use outline::{Edges, Outline, Taken, Verdict};
 pub use pile::{Pile, PileCall};
 pub use refusal::{Refusal, SectionKind};
 pub use witness::Witness;
+
+/// The version of this crate and of the C header.
+pub const VERSION: &str = env!("CARGO_PKG_VERSION");
+
+/// Which library is linked: the SHA-256 of the archive, as `sha256sum target/staticlib/librobequarry.a` writes it.
+pub const ARCHIVE: &str = env!("ROBEQUARRY_ARCHIVE");

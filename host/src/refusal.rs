@@ -10,7 +10,10 @@ use crate::Cell;
 
 /// Why a call was refused, in the order of the numbers. A place counts the letters before it in the list as sent; pieces are numbered 1
 /// to 4. There is no refusal 7.
+///
+/// Later versions may add refusals, so a match needs an arm for others.
 #[derive(Clone, Copy, Debug, PartialEq, Eq, Hash)]
+#[non_exhaustive]
 pub enum Refusal {
     /// 1: too few or too many letters.
     Count,
