@@ -54,14 +54,12 @@ pub fn holder_call(holder: &mut Holder, Call { party, action }: Call) -> Fields 
             Ok(None) => said(NONE),
             Err(refusal) => refused(refusal),
         },
-        Action::Reading { place, reading } => {
-            match holder.reading(party, place, reading.angle, reading.load) {
-                Ok(Located::Inside) => said(INSIDE),
-                Ok(Located::Outside) => said(OUTSIDE),
-                Ok(Located::Undecided) => said(UNDECIDED),
-                Err(refusal) => refused(refusal),
-            }
-        }
+        Action::Reading { place, reading } => match holder.reading(party, place, reading.angle, reading.load) {
+            Ok(Located::Inside) => said(INSIDE),
+            Ok(Located::Outside) => said(OUTSIDE),
+            Ok(Located::Undecided) => said(UNDECIDED),
+            Err(refusal) => refused(refusal),
+        },
         Action::Piece { place, position } => match holder.piece(party, place, position) {
             Ok(Piece::Move(x, y)) => Fields { col: cell(x, y).col, row: cell(x, y).row, ..said(MOVE) },
             Ok(Piece::Line(x, y)) => Fields { col: cell(x, y).col, row: cell(x, y).row, ..said(LINE) },

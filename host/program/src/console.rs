@@ -1,4 +1,4 @@
-//! Standard output, and a line on standard error that says how far a long file has been read.
+//! Standard output and standard error, and a line on the latter that says how far a long run has come.
 
 use std::fmt::Display;
 use std::io::{self, IsTerminal, Write};
@@ -40,20 +40,37 @@ impl<O: Write, E: Write> Console<O, E> {
 
     pub fn line(&mut self, line: impl Display) -> io::Result<()> {
         writeln!(self.kept, "{line}")?;
+        self.flush_if_much()
+    }
+
+    /// Bytes as they are, lines or a file.
+    pub fn bytes(&mut self, bytes: &[u8]) -> io::Result<()> {
+        self.kept.extend_from_slice(bytes);
+        self.flush_if_much()
+    }
+
+    fn flush_if_much(&mut self) -> io::Result<()> {
         if self.kept.len() < KEPT {
             return Ok(());
         }
         self.flush()
     }
 
+    /// A line on standard error, after all that was written before it.
+    pub fn remark(&mut self, line: impl Display) -> io::Result<()> {
+        self.flush()?;
+        // Where standard error is closed there is nobody to tell.
+        let _ = writeln!(self.err, "robequarry: {line}");
+        Ok(())
+    }
+
     /// Says how far the work has come, where that is due.
-    pub fn progress(&mut self, done: usize, all: usize, what: &str) -> io::Result<()> {
+    pub fn progress(&mut self, how_far: impl FnOnce() -> String) -> io::Result<()> {
         if self.due.is_none_or(|due| Instant::now() < due) {
             return Ok(());
         }
         self.flush()?;
-        let percent = done * 100 / all.max(1);
-        write!(self.err, "{ERASE}{what}, {percent} % of the file")?;
+        write!(self.err, "{ERASE}{}", how_far())?;
         self.err.flush()?;
         self.shown = true;
         self.due = Some(Instant::now() + BEAT);
@@ -81,11 +98,11 @@ mod tests {
     fn a_line_that_is_shown_is_erased_before_more_is_written() {
         let mut console = Console::over(Vec::new(), Vec::new(), Some(Instant::now()));
         console.line("one").unwrap();
-        console.progress(1, 3, "7 outlines").unwrap();
+        console.progress(|| "7 outlines".to_string()).unwrap();
         assert_eq!(console.out, b"one\n");
-        console.line("two").unwrap();
-        console.flush().unwrap();
-        assert_eq!(String::from_utf8(console.err).unwrap(), "\r\x1b[K7 outlines, 33 % of the file\r\x1b[K");
+        console.bytes(b"two\n").unwrap();
+        console.remark("no").unwrap();
+        assert_eq!(String::from_utf8(console.err).unwrap(), "\r\x1b[K7 outlines\r\x1b[Krobequarry: no\n");
         assert_eq!(console.out, b"one\ntwo\n");
     }
 
@@ -93,7 +110,7 @@ mod tests {
     fn nothing_is_shown_without_a_terminal_or_ahead_of_time() {
         for due in [None, Some(Instant::now() + PATIENCE)] {
             let mut console = Console::over(Vec::new(), Vec::new(), due);
-            console.progress(1, 3, "7 outlines").unwrap();
+            console.progress(|| "7 outlines".to_string()).unwrap();
             console.flush().unwrap();
             assert!(console.err.is_empty());
         }

@@ -3,7 +3,7 @@
 use robequarry::Verdict;
 
 use crate::engine::Help;
-use crate::input::{Entries, Entry, Form};
+use crate::input::{entries, Entry};
 use crate::picture::{beside, picture, sheet, Tile};
 
 pub const SPECIMENS: &str = include_str!("../specimens.txt");
@@ -32,9 +32,8 @@ pub fn gallery() -> Vec<(String, String)> {
 type Judged = (Entry, Verdict);
 
 fn judged(text: &str) -> Vec<Judged> {
-    let entries = Entries::of(text.as_bytes(), Some(Form::Text));
     let judge = |entry: Entry| (entry.clone(), entry.outline.test());
-    entries.map(|entry| judge(entry.expect("our own text has no fault"))).collect()
+    entries(text).into_iter().map(judge).collect()
 }
 
 fn tiles(judged: &[Judged]) -> Vec<Tile<'_>> {

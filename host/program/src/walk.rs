@@ -41,6 +41,19 @@ pub fn corners(from: Point, letters: &[u8]) -> Vec<Point> {
     met
 }
 
+/// Whether a closed walk is clockwise: up leaves W, the lowest corner of the leftmost column (contract 2.2).
+pub fn clockwise(outline: &Outline) -> bool {
+    let mut corner = start(outline);
+    let (mut west, mut leaves) = (corner, 0);
+    for &letter in &outline.letters {
+        if corner <= west {
+            (west, leaves) = (corner, letter);
+        }
+        corner = step(corner, letter);
+    }
+    leaves == 1
+}
+
 pub fn on_chart((col, row): Point) -> bool {
     let numbers = 0..=i32::from(LAST_CORNER);
     numbers.contains(&col) && numbers.contains(&row)

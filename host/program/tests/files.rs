@@ -1,21 +1,22 @@
-//! Fitting files are read here as the proved program `fittings` reads them: the listing of contract 11 is the same.
+//! Fitting files are read as the proved program `fittings` reads them: the listing of contract 11 is the same.
 
 use std::fs;
 use std::path::Path;
 
+use robequarry::fitting::Records;
 use robequarry::Refusal;
 use robequarry_checks::random::Random;
 use robequarry_checks::reference::files;
-use robequarry_program::fitting::{Fault, Records};
 
-/// The listing that this program's reader and the library's test make.
+/// The listing that the reader and the library's test make.
 fn listing(file: &[u8]) -> String {
     let mut lines = String::new();
     for (number, record) in Records::of(file).enumerate() {
         let (said, place) = match record {
-            Err(Fault::Mark { at, .. }) => (23, at),
-            Err(Fault::Cut { at, .. }) => (24, at),
-            Err(Fault::Large) => (25, 65_536),
+            Err(fault) => {
+                assert_eq!(fault.record(), number);
+                (fault.number(), fault.position())
+            }
             Ok(outline) => match outline.test() {
                 Ok(edges) => (0, edges.steps().len()),
                 Err(refusal) => (refusal.number(), place(refusal)),

@@ -15,9 +15,9 @@ use robequarry_checks::Point;
 use robequarry_program::engine::Help;
 use robequarry_program::explain::told;
 use robequarry_program::gallery::gallery;
-use robequarry_program::input::{Entries, Form};
+use robequarry_program::input::entries;
 use robequarry_program::picture::{beside, picture};
-use support::{parse, Element};
+use support::xml::{parse, Element};
 
 type Cells = BTreeSet<(i32, i32)>;
 
@@ -198,8 +198,8 @@ fn drawings_and_garbage() {
 #[test]
 fn specimens() {
     for text in [robequarry_program::gallery::SPECIMENS, robequarry_program::gallery::TRAINING] {
-        for entry in Entries::of(text.as_bytes(), Some(Form::Text)) {
-            let outline = entry.unwrap().outline;
+        for entry in entries(text) {
+            let outline = entry.outline;
             holds(&outline);
             completion(&outline);
         }

@@ -3,48 +3,15 @@
 mod support;
 
 use std::fs;
-use std::io::Write;
 use std::path::PathBuf;
-use std::process::{Command, Output, Stdio};
 
-const SPECIMENS: &str = concat!(env!("CARGO_MANIFEST_DIR"), "/specimens.txt");
-
-fn program(arguments: &[&str]) -> Output {
-    Command::new(env!("CARGO_BIN_EXE_robequarry")).args(arguments).output().expect("cargo has built it")
-}
-
-fn status(output: &Output) -> i32 {
-    output.status.code().expect("it ends by itself")
-}
-
-fn out(output: &Output) -> String {
-    String::from_utf8(output.stdout.clone()).expect("the output is text")
-}
-
-fn err(output: &Output) -> String {
-    String::from_utf8(output.stderr.clone()).expect("the output is text")
-}
-
-/// A file for a test, with these bytes.
-fn file(name: &str, bytes: &[u8]) -> String {
-    let path = PathBuf::from(env!("CARGO_TARGET_TMPDIR")).join(name);
-    fs::write(&path, bytes).expect("the folder for tests can be written");
-    path.to_str().expect("the folder's name is text").to_string()
-}
-
-/// The record of a fitting file.
-fn record(start: (u8, u8), letters: &[u8]) -> Vec<u8> {
-    let count = (letters.len() as u16).to_le_bytes();
-    [&[0x4B, 0x4F, start.0, start.1, count[0], count[1]], letters].concat()
-}
-
-const PLUS: [u8; 12] = [1, 0, 1, 0, 3, 0, 3, 2, 3, 2, 1, 2];
-const DENTED: [u8; 12] = [1, 1, 1, 0, 3, 3, 0, 0, 3, 2, 2, 2];
+use support::call::{err, fed, file, out, program, record, status, DENTED, PLUS, SPECIMENS};
+use support::xml;
 
 #[test]
 fn check_says_each_verdict_in_words() {
     let checked = program(&["check", SPECIMENS]);
-    assert_eq!(out(&checked), include_str!("check.txt"));
+    assert_eq!(out(&checked).replace(SPECIMENS, "SPECIMENS"), include_str!("check.txt"));
     assert_eq!((status(&checked), err(&checked).as_str()), (1, ""));
 }
 
@@ -67,12 +34,15 @@ fn a_fitting_file_is_read_as_well() {
     let checked = program(&["check", &both]);
     let lines = "outline 0: taken - 4 edges, anchor (0, 1)\n\
                  outline 1: refused, 9: a dent - cell (1, 1) is missing; 4 letters from place 4 in piece 2 (N to E: down and right)\n\
-                 2 outlines: 1 taken, 1 refused\n";
-    assert_eq!((out(&checked).as_str(), status(&checked)), (lines, 1));
+                 2 outlines in 1 file: 1 taken, 1 refused\n";
+    assert!(out(&checked).starts_with(lines));
+    assert_eq!(status(&checked), 1);
     let plus = file("plus.fit", &record((0, 1), &PLUS));
     assert_eq!(status(&program(&["check", &plus])), 0);
-    let empty = program(&["check", &file("empty.fit", &[])]);
-    assert_eq!((out(&empty).as_str(), status(&empty)), ("", 0));
+    let path = file("empty.fit", &[]);
+    let empty = program(&["check", &path]);
+    assert_eq!((out(&empty).as_str(), status(&empty)), ("no outline in 1 file: 0 taken, 0 refused\n  1 file empty\n", 0));
+    assert_eq!(err(&empty), format!("robequarry: {path}: the file is empty: it holds no outline\n"));
 }
 
 #[test]
@@ -80,7 +50,7 @@ fn the_lines_before_a_fault_stand() {
     let plus = record((0, 1), &PLUS);
     for (name, bytes, fault) in [
         ("mark.fit", [&plus[..], b"KX"].concat(), "fault 23: outline 1 has no mark: the bytes 4B 4F are not at byte 18"),
-        ("cut.fit", [&plus[..], &plus[..17]].concat(), "fault 24: outline 1 is cut: its mark is at byte 18"),
+        ("cut.fit", [&plus[..], &plus[..17]].concat(), "fault 24: outline 1 is truncated: its mark is at byte 18"),
         (
             "text.txt",
             b"0 1 101030323212\n0 0 abc\n".to_vec(),
@@ -89,23 +59,19 @@ fn the_lines_before_a_fault_stand() {
     ] {
         let path = file(name, &bytes);
         let checked = program(&["check", &path]);
-        assert_eq!(out(&checked), "outline 0: taken - 4 edges, anchor (0, 1)\n");
+        assert!(out(&checked).starts_with("outline 0: taken - 4 edges, anchor (0, 1)\n1 outline in 1 file: 1 taken"));
         assert_eq!(err(&checked), format!("robequarry: {path}: {fault}\n"));
         assert_eq!(status(&checked), 2);
     }
     let large = file("large.fit", &plus.repeat(4000));
     let checked = program(&["check", &large]);
-    assert_eq!((out(&checked).as_str(), status(&checked)), ("", 2));
+    assert_eq!(status(&checked), 2);
     assert!(err(&checked).ends_with("fault 25: a fitting file has at most 65536 bytes\n"));
 }
 
 #[test]
 fn standard_input_is_a_file_too() {
-    let mut command = Command::new(env!("CARGO_BIN_EXE_robequarry"));
-    command.args(["check", "-", "--fitting"]).stdin(Stdio::piped()).stdout(Stdio::piped());
-    let mut child = command.spawn().expect("cargo has built it");
-    child.stdin.take().expect("it is piped").write_all(&record((9, 9), &PLUS)).expect("it is read");
-    let checked = child.wait_with_output().expect("it ends");
+    let checked = fed(&["check", "-", "--fitting"], &record((9, 9), &PLUS));
     assert!(out(&checked).starts_with("outline 0: taken - 4 edges, anchor (9, 9)\n"));
 }
 
@@ -113,10 +79,17 @@ fn standard_input_is_a_file_too() {
 fn faults_of_a_call() {
     for (arguments, message) in [
         (&[][..], "no command is given"),
-        (&["chekc"], "there is no command `chekc`"),
-        (&["check"], "check takes one file; nothing is given"),
-        (&["check", "a", "b"], "check takes one file; `b` is one too many"),
+        (&["chekc"], "there is no command `chekc`; is it `check`?"),
+        (&["check"], "check takes files and folders; nothing is given"),
+        (&["explain"], "explain takes one file; nothing is given"),
+        (&["explain", "a", "b"], "explain takes one file; `b` is one too many"),
         (&["check", "--colour", "a"], "there is no option --colour here"),
+        (&["check", "--text", "--fitting", "a"], "--text and --fitting contradict each other: give one of them"),
+        (
+            &["check", "--summary", "--format=csv", "a"],
+            "--summary and --format csv contradict each other: a summary is no table",
+        ),
+        (&["explain", "\u{1b}[2J", "b", "c"], "explain takes one file; `b` is one too many"),
         (&["explain", SPECIMENS, "--outline", "x"], "--outline needs a number, not `x`"),
     ] {
         let called = program(arguments);
@@ -151,14 +124,14 @@ fn draw_writes_a_picture_of_any_outline() {
         let drawn = program(&["draw", SPECIMENS, "-n", number, "-o", &path]);
         assert_eq!((status(&drawn), out(&drawn), err(&drawn)), (expected, String::new(), String::new()));
         let svg = fs::read_to_string(&path).expect("it was written");
-        support::parse(&svg);
+        xml::parse(&svg);
         let shown = program(&["draw", SPECIMENS, "-n", number, "-o", "-"]);
         assert_eq!(out(&shown), svg);
     }
     // With its completion beside it, where a cell is missing; else by itself.
     for (number, expected, plots) in [("5", 1, 2), ("6", 1, 2), ("2", 0, 1), ("9", 1, 1)] {
         let drawn = program(&["draw", SPECIMENS, "-n", number, "--complete", "-o", "-"]);
-        let picture = support::parse(&out(&drawn));
+        let picture = xml::parse(&out(&drawn));
         assert_eq!((picture.of_class("plot").len(), status(&drawn)), (plots, expected), "{number}");
     }
     let nowhere = program(&["draw", SPECIMENS, "-o", "no/such/folder/a.svg"]);
@@ -241,16 +214,15 @@ fn border_writes_an_outline_back() {
 /// Whatever `check` takes, `border` writes back from its edges: the same block.
 #[test]
 fn border_of_every_taken_specimen() {
-    use robequarry_program::input::Entries;
-    for entry in Entries::of(robequarry_program::gallery::SPECIMENS.as_bytes(), None) {
-        let Ok(edges) = entry.expect("our own text has no fault").outline.test() else {
+    for entry in robequarry_program::input::entries(robequarry_program::gallery::SPECIMENS) {
+        let Ok(edges) = entry.outline.test() else {
             continue;
         };
         let mut words = vec!["border".to_string(), edges.anchor().col.to_string(), edges.anchor().row.to_string()];
         words.extend(edges.numbers().iter().map(i16::to_string));
         let line = out(&program(&words.iter().map(String::as_str).collect::<Vec<_>>()));
-        let again = Entries::of(line.as_bytes(), None).next().expect("there is a line").expect("it has no fault");
-        assert_eq!(again.outline.test(), Ok(edges));
+        let again: robequarry::Outline = line.parse().expect("it is an outline");
+        assert_eq!(again.test(), Ok(edges));
     }
 }
 
@@ -267,7 +239,7 @@ fn complete_writes_what_to_draw_instead() {
     // What it writes is read again: every outline is taken, and is its own completion.
     let again = file("completed.txt", lines.as_bytes());
     let checked = program(&["check", &again]);
-    assert!(out(&checked).ends_with("3 outlines: 3 taken, 0 refused\n"), "{}", out(&checked));
+    assert!(out(&checked).contains("3 outlines in 1 file: 3 taken, 0 refused\n"), "{}", out(&checked));
     let twice = program(&["complete", &again]);
     let without_remark: String =
         lines.lines().filter(|line| !line.starts_with('#')).map(|line| format!("{line}\n")).collect();

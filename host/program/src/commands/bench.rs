@@ -1,13 +1,13 @@
-use std::ffi::OsString;
 use std::hint::black_box;
+use std::path::Path;
 use std::time::{Duration, Instant};
 
 use robequarry::{Cell, Edges, Outline};
 
-use super::{read, title, Command, Console, Failure, Status};
+use super::{faulty, read, title, Command, Console, Failure, Status};
 use crate::arguments::Arguments;
 use crate::gallery::SPECIMENS;
-use crate::input::Entries;
+use crate::input::{entries, Entry, Fault};
 
 pub const COMMAND: Command = Command {
     name: "bench",
@@ -26,17 +26,15 @@ const SAMPLE: Duration = Duration::from_millis(1);
 const SAMPLES: usize = 12;
 
 fn run(arguments: &Arguments, console: &mut Console) -> Result<Status, Failure> {
-    let (name, bytes) = match &arguments.plain[..] {
-        [] => (OsString::from("the specimens"), SPECIMENS.as_bytes().to_vec()),
-        [path] => (path.clone(), read(path.as_ref(), arguments)?),
+    let (path, entries): (&Path, Box<dyn Iterator<Item = Result<Entry, Fault>>>) = match &arguments.plain[..] {
+        [] => (Path::new("the specimens"), Box::new(entries(SPECIMENS).into_iter().map(Ok))),
+        [path] => (path.as_ref(), Box::new(read(path.as_ref(), arguments)?)),
         _ => return Err(Failure::Call("bench takes one file or none".to_string())),
     };
     console.line("letters     test, ns    query, ns")?;
     let mut all_taken = true;
-    let mut entries = Entries::of(&bytes, arguments.form);
-    let mut number = 0;
-    while let Some(entry) = entries.next() {
-        let entry = entry.map_err(|fault| Failure::File(name.clone().into(), fault.to_string()))?;
+    for (number, entry) in entries.enumerate() {
+        let entry = entry.map_err(|fault| faulty(path, fault))?;
         let verdict = entry.outline.test();
         let query = verdict.as_ref().map_or("-".to_string(), |edges| format!("{:.0}", query_time(edges)));
         let test = test_time(&entry.outline);
@@ -45,9 +43,8 @@ fn run(arguments: &Arguments, console: &mut Console) -> Result<Status, Failure> 
             entry.outline.letters.len(),
             title(number, &entry)
         ))?;
-        console.progress(entries.position(), bytes.len(), &title(number, &entry))?;
+        console.progress(|| title(number, &entry))?;
         all_taken &= verdict.is_ok();
-        number += 1;
     }
     Ok(Status::of(all_taken))
 }

@@ -1,11 +1,10 @@
 use std::ffi::OsString;
 
-use robequarry::{Cell, Edges};
+use robequarry::{text, Cell, Edges};
 
 use super::{number, refused, Command, Console, Failure, Status};
 use crate::arguments::Arguments;
 use crate::engine;
-use crate::text;
 
 pub const COMMAND: Command = Command {
     name: "border",

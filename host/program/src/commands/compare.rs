@@ -13,18 +13,15 @@ pub const COMMAND: Command = Command {
     summary: "which of two blocks lies within the other",
     help: "\
 Tests an outline of each file and says how the cells of the two blocks lie: whether they are the same, one block is within the
-other, they have no cell in common, or they cross. Where one lies within the other, or both are equal, the inner one's edges follow.
-
-  --first N    the outline of A with this number; without it, the first
-  --second N   the outline of B with this number; without it, the first",
+other, they have no cell in common, or they cross. Where one lies within the other, or both are equal, the inner one's edges follow.",
     options: &["--first", "--second", "--text", "--fitting"],
     run,
 };
 
 fn run(arguments: &Arguments, console: &mut Console) -> Result<Status, Failure> {
     let [a, b] = plain(arguments, "compare takes two files")?;
-    let first = edges(a, arguments, arguments.first, "first", console)?;
-    let second = edges(b, arguments, arguments.second, "second", console)?;
+    let first = edges(a, arguments, arguments.number("--first"), "first", console)?;
+    let second = edges(b, arguments, arguments.number("--second"), "second", console)?;
     let (Some(first), Some(second)) = (first, second) else {
         return Ok(Status::Refused);
     };

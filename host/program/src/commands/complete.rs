@@ -1,46 +1,50 @@
-use super::{plain, read, title, Command, Console, Failure, Status};
+use super::{faulty, plain, put, read, say_empty, title, written, Command, Console, Failure, Status};
 use crate::arguments::Arguments;
-use crate::input::Entries;
-use crate::text;
+use crate::input::Form;
+use crate::output::{form_of, Sink};
 use crate::verdict::{count, Said};
 
 pub const COMMAND: Command = Command {
     name: "complete",
-    usage: "complete FILE",
-    summary: "the smallest convex block round each outline, as lines of text",
+    usage: "complete FILE [-o OUT] [--to FORM]",
+    summary: "the smallest convex block round each outline, as a file of outlines",
     help: "\
-Writes for each outline the smallest convex block that has all its cells: its border, clockwise from W, as a line of the text
-form, with the outline's name. What it writes is a file that every command reads, and every outline in it is taken. A block that
-is taken stays as it is. Letters that go round no block, refusals 1 to 6, have no completion: a line after a # says so.
+Writes for each outline the smallest convex block that has all its cells: its border, clockwise from W, in the text form with the
+outline's name, or as a fitting file. What it writes is a file that every command reads, and every outline in it is taken. A block
+that is taken stays as it is. Letters that go round no block, refusals 1 to 6, have no completion: a line after a # says so.
 
-    robequarry complete drawn.txt > completed.txt
+    robequarry complete drawn.txt -o completed.txt
 
 Here the exit status is 0 if every outline has a completion, also where the test refuses some, and 1 if one has none.",
-    options: &["--text", "--fitting"],
+    options: &["--out", "--to", "--text", "--fitting"],
     run,
 };
 
 fn run(arguments: &Arguments, console: &mut Console) -> Result<Status, Failure> {
     let [path] = plain(arguments, "complete takes one file")?;
-    let bytes = read(path, arguments)?;
-    let mut entries = Entries::of(&bytes, arguments.form);
+    let out = arguments.path("--out");
+    let form = arguments.to().or(out.and_then(form_of)).unwrap_or(Form::Text);
+    let mut sink = Sink::to(out, form);
     let (mut number, mut all) = (0, true);
-    while let Some(entry) = entries.next() {
-        let entry = entry.map_err(|fault| Failure::File(path.to_path_buf(), fault.to_string()))?;
+    let mut reader = read(path, arguments)?;
+    for entry in reader.by_ref() {
+        let entry = entry.map_err(|fault| faulty(path, fault))?;
         match entry.outline.complete() {
             Ok(completed) => {
-                let line = text::line(&completed).expect("the library writes letters");
-                let name = entry.name.map_or(String::new(), |name| format!("  # {name}"));
-                console.line(format_args!("{line}{name}"))?;
+                let name = entry.name.as_deref().unwrap_or("");
+                put(sink.outline(&completed, name, console), path, number)?;
             }
             Err(refusal) => {
                 let said = Said::of(&entry.outline, &Err(refusal));
-                console.line(format_args!("# {}: {} - {}", title(number, &entry), said.what, said.place))?;
+                let remark = format!("{}: {} - {}", title(number, &entry), said.what, said.place);
+                put(sink.remark(&remark, console), path, number)?;
                 all = false;
             }
         }
         number += 1;
-        console.progress(entries.position(), bytes.len(), &count(number, "outline"))?;
+        console.progress(|| count(number, "outline"))?;
     }
+    say_empty(path, &reader, console)?;
+    written(sink, path, console)?;
     Ok(Status::of(all))
 }

@@ -5,6 +5,7 @@ mod border;
 mod check;
 mod compare;
 mod complete;
+mod convert;
 mod draw;
 mod explain;
 mod gallery;
@@ -12,16 +13,19 @@ mod reading;
 mod row;
 
 use std::ffi::{OsStr, OsString};
-use std::io;
+use std::io::{self, Write};
 use std::path::{Path, PathBuf};
 use std::str::FromStr;
 
+use robequarry::text::Escaped;
 use robequarry::Refusal;
 
-use crate::arguments::Arguments;
+use crate::arguments::{nearest, Arguments};
 use crate::console;
 use crate::engine::AtWork;
-use crate::input::{self, Entries, Entry};
+use crate::input::{Entry, Fault, Reader};
+use crate::options;
+use crate::output::{self, Sink};
 use crate::verdict::Said;
 
 type Console = console::Console<io::Stdout, io::Stderr>;
@@ -33,6 +37,8 @@ enum Status {
     Taken,
     /// One was refused.
     Refused,
+    /// A file had a fault, which has been told; others were read.
+    Faulty,
 }
 
 impl Status {
@@ -75,6 +81,7 @@ const COMMANDS: &[&Command] = &[
     &explain::COMMAND,
     &draw::COMMAND,
     &complete::COMMAND,
+    &convert::COMMAND,
     &row::COMMAND,
     &reading::COMMAND,
     &compare::COMMAND,
@@ -110,6 +117,7 @@ pub fn run(words: Vec<OsString>) -> u8 {
     match done.and_then(|status| flushed.map(|()| status)) {
         Ok(Status::Taken) => 0,
         Ok(Status::Refused) => 1,
+        Ok(Status::Faulty) => 2,
         Err(failure) => {
             report(failure);
             2
@@ -117,14 +125,14 @@ pub fn run(words: Vec<OsString>) -> u8 {
     }
 }
 
-/// Says what is wrong; who closes the pipe wants to hear nothing.
+/// Says what is wrong. Where standard error is closed there is nobody to tell.
 fn report(failure: Failure) {
-    match failure {
-        Failure::Call(message) => eprintln!("robequarry: {message}\nTry `robequarry --help`."),
-        Failure::File(path, message) => eprintln!("robequarry: {}: {message}", path.display()),
-        Failure::Output(error) if error.kind() == io::ErrorKind::BrokenPipe => {}
-        Failure::Output(error) => eprintln!("robequarry: the output cannot be written: {error}"),
-    }
+    let message = match failure {
+        Failure::Call(message) => format!("{}\nTry `robequarry --help`.", Escaped(&message)),
+        Failure::File(path, message) => format!("{}: {message}", Escaped(&path.to_string_lossy())),
+        Failure::Output(error) => format!("the output cannot be written: {error}"),
+    };
+    let _ = writeln!(io::stderr(), "robequarry: {message}");
 }
 
 fn dispatch(words: Vec<OsString>, console: &mut Console) -> Result<Status, Failure> {
@@ -135,9 +143,13 @@ fn dispatch(words: Vec<OsString>, console: &mut Console) -> Result<Status, Failu
     if name == "--help" || name == "-h" || name == "help" {
         return help(words.next(), console);
     }
+    if name == "--version" || name == "-V" {
+        console.line(version())?;
+        return Ok(Status::Taken);
+    }
     let command = command(&name)?;
     let arguments = Arguments::parse(words, command.options).map_err(Failure::Call)?;
-    if arguments.help {
+    if arguments.has("--help") {
         console.line(command_help(command))?;
         return Ok(Status::Taken);
     }
@@ -146,7 +158,18 @@ fn dispatch(words: Vec<OsString>, console: &mut Console) -> Result<Status, Failu
 
 fn command(name: &OsString) -> Result<&'static Command, Failure> {
     let found = COMMANDS.iter().find(|command| *name == command.name);
-    found.copied().ok_or_else(|| Failure::Call(format!("there is no command `{}`", name.to_string_lossy())))
+    found.copied().ok_or_else(|| {
+        let name = name.to_string_lossy();
+        let near = nearest(&name, COMMANDS.iter().map(|command| command.name));
+        let near = near.map_or(String::new(), |near| format!("; is it `{near}`?"));
+        Failure::Call(format!("there is no command `{name}`{near}"))
+    })
+}
+
+/// This program, and which library is in it.
+fn version() -> String {
+    let [program, library] = [env!("CARGO_PKG_VERSION"), robequarry::VERSION];
+    format!("robequarry {program}\nlibrary {library}, librobequarry.a SHA-256 {}", robequarry::ARCHIVE)
 }
 
 /// Of one command or, where none is named, of all.
@@ -164,7 +187,7 @@ fn help(name: Option<OsString>, console: &mut Console) -> Result<Status, Failure
 }
 
 fn command_help(command: &Command) -> String {
-    format!("robequarry {}\n\n{}\n\n{FILES}", command.usage, command.help)
+    format!("robequarry {}\n\n{}\n\n{}\n\n{FILES}", command.usage, command.help, options::help(command.options))
 }
 
 /// The plain words of a call, if there are as many as the command takes.
@@ -186,31 +209,41 @@ fn number<T: FromStr>(word: &OsStr, what: &str) -> Result<T, Failure> {
     number.ok_or_else(|| Failure::Call(format!("`{}` is not {what}", word.to_string_lossy())))
 }
 
-fn read(path: &Path, arguments: &Arguments) -> Result<Vec<u8>, Failure> {
-    input::read(path, arguments.form).map_err(|error| Failure::File(path.to_path_buf(), format!("cannot be read: {error}")))
+/// Opens a file of outlines.
+fn read(path: &Path, arguments: &Arguments) -> Result<Reader, Failure> {
+    Reader::open(path, arguments.form()).map_err(|error| faulty(path, Fault::Unread(error)))
 }
 
-/// The name under which an outline of a file is spoken of.
-fn title(number: usize, entry: &Entry) -> String {
-    match &entry.name {
-        Some(name) => format!("outline {number} ({name})"),
-        None => format!("outline {number}"),
+fn faulty(path: &Path, fault: Fault) -> Failure {
+    Failure::File(path.to_path_buf(), fault.to_string())
+}
+
+/// The name under which an outline of a file is spoken of. `name` may be empty.
+fn described(number: usize, name: &str) -> String {
+    match name {
+        "" => format!("outline {number}"),
+        name => format!("outline {number} ({})", Escaped(name)),
     }
+}
+
+fn title(number: usize, entry: &Entry) -> String {
+    described(number, entry.name.as_deref().unwrap_or(""))
 }
 
 /// One outline of a file: the wanted one or the first, with its number. A fault ahead of it is a fault.
 fn one(path: &Path, arguments: &Arguments, wanted: Option<usize>) -> Result<(usize, Entry), Failure> {
-    let bytes = read(path, arguments)?;
+    let mut reader = read(path, arguments)?;
     let number = wanted.unwrap_or(0);
     let mut read = 0;
-    for entry in Entries::of(&bytes, arguments.form) {
-        let entry = entry.map_err(|fault| Failure::File(path.to_path_buf(), fault.to_string()))?;
+    for entry in reader.by_ref() {
+        let entry = entry.map_err(|fault| faulty(path, fault))?;
         if read == number {
             return Ok((number, entry));
         }
         read += 1;
     }
     let holds = match read {
+        0 if reader.was_empty() => "the file is empty".to_string(),
         0 => "it holds no outline".to_string(),
         1 => "its only outline is number 0".to_string(),
         _ => format!("its outlines are numbered 0 to {}", read - 1),
@@ -218,9 +251,22 @@ fn one(path: &Path, arguments: &Arguments, wanted: Option<usize>) -> Result<(usi
     Err(Failure::File(path.to_path_buf(), format!("there is no outline {number}: {holds}")))
 }
 
+/// Every outline of a file. A fault is a fault of the whole.
+fn every(path: &Path, arguments: &Arguments) -> Result<Vec<Entry>, Failure> {
+    read(path, arguments)?.map(|entry| entry.map_err(|fault| faulty(path, fault))).collect()
+}
+
+/// Says that a file is empty, where it is.
+fn say_empty(path: &Path, reader: &Reader, console: &mut Console) -> Result<(), Failure> {
+    if reader.was_empty() {
+        console.remark(format_args!("{}: the file is empty: it holds no outline", Escaped(&path.to_string_lossy())))?;
+    }
+    Ok(())
+}
+
 /// One outline of a file at work on a holder; none where it is refused, and that is said.
 fn at_work(path: &Path, arguments: &Arguments, console: &mut Console) -> Result<Option<AtWork>, Failure> {
-    let (number, entry) = one(path, arguments, arguments.outline)?;
+    let (number, entry) = one(path, arguments, arguments.number("--outline"))?;
     let verdict = entry.outline.test();
     if verdict.is_err() {
         let said = Said::of(&entry.outline, &verdict);
@@ -228,6 +274,20 @@ fn at_work(path: &Path, arguments: &Arguments, console: &mut Console) -> Result<
         return Ok(None);
     }
     Ok(Some(AtWork::of(&entry.outline).expect("what a test takes a holder takes")))
+}
+
+/// What became of writing an outline of a file.
+fn put(put: Result<(), output::Failure>, path: &Path, number: usize) -> Result<(), Failure> {
+    put.map_err(|failure| match failure {
+        output::Failure::Outline(sentence) => Failure::File(path.to_path_buf(), format!("outline {number}: {sentence}")),
+        output::Failure::File(path, error) => Failure::File(path, format!("cannot be written: {error}")),
+        output::Failure::Output(error) => Failure::Output(error),
+    })
+}
+
+/// Ends the writing of outlines of a file.
+fn written(sink: Sink, path: &Path, console: &mut Console) -> Result<(), Failure> {
+    put(sink.finish(console), path, 0)
 }
 
 /// Says why the library refused what was asked.

@@ -9,9 +9,7 @@ pub const COMMAND: Command = Command {
     summary: "the first and last marked column of a row, or of every row",
     help: "\
 Writes the first and the last column of a taken outline's block in a row, or `none` where the row has no marked cell. Without a
-row it writes every row that has one. Of a refused outline it writes the refusal.
-
-  -n, --outline N   the outline with this number; without it, the first",
+row it writes every row that has one. Of a refused outline it writes the refusal.",
     options: &["--outline", "--text", "--fitting"],
     run,
 };

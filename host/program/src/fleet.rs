@@ -1,0 +1,228 @@
+//! Many files at once: one thread reads them in pieces, others work on the pieces, and the results come back in the files' order. Only so
+//! many pieces are under way at a time, so memory does not grow with the files.
+
+use std::collections::BTreeMap;
+use std::io::Read;
+use std::panic::{catch_unwind, AssertUnwindSafe};
+use std::path::{Path, PathBuf};
+use std::process;
+use std::sync::atomic::{AtomicBool, Ordering};
+use std::sync::mpsc::{channel, Receiver, Sender};
+use std::sync::{Arc, Condvar, Mutex};
+use std::thread;
+
+use crate::input::{self, Fault, Form, Found, Piece, Pieces};
+
+/// How many pieces each worker may be ahead by.
+const AHEAD: usize = 4;
+
+/// More workers than this would wait for the one reader.
+const MOST_WORKERS: usize = 16;
+
+/// A file that is being read.
+pub struct Source {
+    pub path: PathBuf,
+    /// The path as it is shown.
+    pub name: Arc<str>,
+    /// Whether a fault was found in it, so that no more of it need be read.
+    ended: AtomicBool,
+}
+
+/// What is found in a file, one after the other: pieces, perhaps a fault, and the end.
+pub enum Step {
+    Piece(Piece),
+    Fault(Fault),
+    End { empty: bool },
+    PassedOver,
+}
+
+/// What a worker makes of a step: what is to be written, and the fault that ends the file.
+pub struct Result<T> {
+    pub made: T,
+    pub fault: Option<Fault>,
+}
+
+/// What comes back: of which file, and whether it is the end of it.
+pub struct Done<T> {
+    pub source: Arc<Source>,
+    pub made: Option<T>,
+    pub fault: Option<Fault>,
+    pub end: Option<End>,
+}
+
+#[derive(Clone, Copy, PartialEq)]
+pub enum End {
+    File { empty: bool },
+    PassedOver,
+}
+
+/// How many results are still to be written. The reader waits while they are too many.
+struct Window {
+    open: Mutex<Option<usize>>,
+    moved: Condvar,
+}
+
+impl Window {
+    /// Waits for space. Returns false where the run is over.
+    fn enter(&self) -> bool {
+        let mut open = self.open.lock().expect("nobody panics while it is locked");
+        while *open == Some(0) {
+            open = self.moved.wait(open).expect("nobody panics while it is locked");
+        }
+        let goes_on = open.is_some();
+        *open = open.map(|open| open - 1);
+        goes_on
+    }
+
+    fn leave(&self) {
+        let mut open = self.open.lock().expect("nobody panics while it is locked");
+        *open = open.map(|open| open + 1);
+        self.moved.notify_one();
+    }
+
+    fn close(&self) {
+        *self.open.lock().expect("nobody panics while it is locked") = None;
+        self.moved.notify_one();
+    }
+}
+
+type Task = (u64, Arc<Source>, Step);
+
+/// Reads files, works on their pieces on all cores, and gives the results to `sink` in order. An error of the sink ends the run.
+pub fn run<T: Send, E>(
+    files: impl Iterator<Item = Found> + Send,
+    form: Option<Form>,
+    work: impl Fn(&Source, &Piece) -> Result<T> + Sync,
+    mut sink: impl FnMut(Done<T>) -> std::result::Result<(), E>,
+) -> std::result::Result<(), E> {
+    let workers = thread::available_parallelism().map_or(1, usize::from).min(MOST_WORKERS);
+    let window = Window { open: Mutex::new(Some(AHEAD * workers + 1)), moved: Condvar::new() };
+    let (tasks, waiting) = channel::<Task>();
+    let (results, done) = channel::<(u64, Done<T>)>();
+    let waiting = Mutex::new(waiting);
+    thread::scope(|scope| {
+        let (window, waiting, work) = (&window, &waiting, &work);
+        scope.spawn(move || read_all(files, form, window, &tasks));
+        for _ in 0..workers {
+            let results = results.clone();
+            scope.spawn(move || work_on(waiting, &results, work));
+        }
+        drop(results);
+        let ended = in_order(&done, window, &mut sink);
+        window.close();
+        ended
+    })
+}
+
+/// The reader: sends every step of every file, numbered.
+fn read_all(files: impl Iterator<Item = Found>, form: Option<Form>, window: &Window, tasks: &Sender<Task>) {
+    let mut number = 0;
+    let mut send = |source: &Arc<Source>, step: Step| {
+        let sent = window.enter() && tasks.send((number, source.clone(), step)).is_ok();
+        number += 1;
+        sent
+    };
+    for found in files {
+        let (path, opened) = match found {
+            Found::File(path) => {
+                let opened = input::open(&path);
+                (path, Some(opened))
+            }
+            Found::Unread(path, error) => (path, Some(Err(error))),
+            Found::PassedOver => (PathBuf::new(), None),
+        };
+        let name = shown(&path);
+        let source = Arc::new(Source { path, name, ended: AtomicBool::new(false) });
+        let goes_on = match opened {
+            None => send(&source, Step::PassedOver),
+            Some(Err(error)) => {
+                send(&source, Step::Fault(Fault::Unread(error))) && send(&source, Step::End { empty: false })
+            }
+            Some(Ok(bytes)) => read_one(bytes, form, &source, &mut send),
+        };
+        if !goes_on {
+            return;
+        }
+    }
+}
+
+/// Sends the steps of one file. Returns false where the run is over.
+fn read_one(
+    bytes: Box<dyn Read>,
+    form: Option<Form>,
+    source: &Arc<Source>,
+    send: &mut impl FnMut(&Arc<Source>, Step) -> bool,
+) -> bool {
+    let mut pieces = Pieces::of(bytes, form);
+    while let Some(piece) = pieces.next() {
+        if source.ended.load(Ordering::Relaxed) {
+            break;
+        }
+        if !send(source, piece.map_or_else(Step::Fault, Step::Piece)) {
+            return false;
+        }
+    }
+    send(source, Step::End { empty: pieces.was_empty() })
+}
+
+/// A worker: makes a result of each step that it gets hold of.
+fn work_on<T>(
+    waiting: &Mutex<Receiver<Task>>,
+    results: &Sender<(u64, Done<T>)>,
+    work: &impl Fn(&Source, &Piece) -> Result<T>,
+) {
+    loop {
+        let next = waiting.lock().expect("nobody panics while it is locked").recv();
+        let Ok((number, source, step)) = next else {
+            return;
+        };
+        let (made, fault, end) = match step {
+            Step::Piece(piece) => {
+                // A panic has been told by now. Nobody must wait for this result.
+                let worked = catch_unwind(AssertUnwindSafe(|| work(&source, &piece)));
+                let Result { made, fault } = worked.unwrap_or_else(|_| process::exit(101));
+                (Some(made), fault, None)
+            }
+            Step::Fault(fault) => (None, Some(fault), None),
+            Step::End { empty } => (None, None, Some(End::File { empty })),
+            Step::PassedOver => (None, None, Some(End::PassedOver)),
+        };
+        if fault.is_some() {
+            source.ended.store(true, Ordering::Relaxed);
+        }
+        if results.send((number, Done { source, made, fault, end })).is_err() {
+            return;
+        }
+    }
+}
+
+/// Gives the results to the sink in the order of their numbers. What comes after a file's fault, but for its end, is dropped.
+fn in_order<T, E>(
+    done: &Receiver<(u64, Done<T>)>,
+    window: &Window,
+    sink: &mut impl FnMut(Done<T>) -> std::result::Result<(), E>,
+) -> std::result::Result<(), E> {
+    let mut early: BTreeMap<u64, Done<T>> = BTreeMap::new();
+    let (mut next, mut faulty) = (0, false);
+    for (number, result) in done {
+        early.insert(number, result);
+        while let Some(result) = early.remove(&next) {
+            next += 1;
+            let (fault, end) = (result.fault.is_some(), result.end.is_some());
+            if !faulty || end {
+                sink(result)?;
+            }
+            faulty = (faulty || fault) && !end;
+            window.leave();
+        }
+    }
+    Ok(())
+}
+
+/// A path as it is shown.
+fn shown(path: &Path) -> Arc<str> {
+    match path.to_str() {
+        Some("-") => "standard input".into(),
+        _ => robequarry::text::Escaped(&path.to_string_lossy()).to_string().into(),
+    }
+}
