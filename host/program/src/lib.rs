@@ -4,6 +4,7 @@
 //! them ([`story`], [`words`]) is worked out here once more, for people; the tests hold it to the library's answers.
 
 mod arguments;
+mod audit;
 mod commands;
 mod console;
 pub mod engine;

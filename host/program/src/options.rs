@@ -40,6 +40,7 @@ pub const OPTIONS: &[Choice] = &[
     choice("--second", None, Value::Number, "the outline of the other file with this number; without it, the first"),
     choice("--format", None, Value::OneOf(&["text", "json", "csv"]), "what is written: sentences, JSON or CSV"),
     choice("--summary", None, Value::None, "the summary alone"),
+    choice("--differences", None, Value::None, "only what differs"),
     choice("--every-file", None, Value::None, "in a folder, read files of any name, not only .fit and .txt"),
     choice("--to", None, Value::OneOf(&["text", "fitting"]), "the form in which outlines are written"),
     choice("--edges", None, Value::File, "read anchors and edges from a file, a list a line"),

@@ -1,5 +1,6 @@
 //! The commands, each with its help, and what all of them share: files, faults and exit statuses.
 
+mod audit;
 mod bench;
 mod border;
 mod check;
@@ -78,6 +79,7 @@ struct Command {
 
 const COMMANDS: &[&Command] = &[
     &check::COMMAND,
+    &audit::COMMAND,
     &explain::COMMAND,
     &draw::COMMAND,
     &complete::COMMAND,
