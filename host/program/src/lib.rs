@@ -15,6 +15,7 @@ pub mod input;
 mod options;
 mod output;
 pub mod picture;
+pub mod pile;
 mod report;
 pub mod story;
 pub mod verdict;

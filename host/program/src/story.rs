@@ -117,12 +117,17 @@ impl Story {
 
     /// Cells of the hull that are not enclosed, from the lowest row up, each row from the left (contract 2.6).
     pub fn missing(&self) -> Vec<Point> {
-        let ends = self.rows.iter().flat_map(|(&row, runs)| [(runs[0].0, row), (runs[runs.len() - 1].1, row)]);
-        let hull = hull(ends.collect());
-        let left = self.rows.values().map(|runs| runs[0].0).min().unwrap_or(0);
-        let right = self.rows.values().map(|runs| runs[runs.len() - 1].1).max().unwrap_or(0);
-        let frame = self.rows.keys().flat_map(|&row| (left..=right).map(move |col| (col, row)));
-        frame.filter(|&cell| !self.encloses(cell) && in_hull(&hull, cell)).collect()
+        missing(&self.rows)
+    }
+
+    /// The cells that another encloses too.
+    pub fn common(&self, other: &Story) -> Rows {
+        let alone = |row: i32, runs: &[(i32, i32)]| {
+            let cells = runs.iter().flat_map(|&(first, last)| first..=last);
+            joined(cells.filter(|&col| other.encloses((col, row))))
+        };
+        let rows = self.rows.iter().map(|(&row, runs)| (row, alone(row, runs)));
+        rows.filter(|(_, runs)| !runs.is_empty()).collect()
     }
 
     /// The cells of this outline that another does not enclose, from the lowest row up, each row from the left.
@@ -132,9 +137,39 @@ impl Story {
         cells.filter(|&cell| !other.encloses(cell)).collect()
     }
 
-    pub fn encloses(&self, (col, row): Point) -> bool {
-        self.rows.get(&row).is_some_and(|runs| runs.iter().any(|&(first, last)| first <= col && col <= last))
+    pub fn encloses(&self, cell: Point) -> bool {
+        holds(&self.rows, cell)
     }
+}
+
+/// Whether a set of cells has a cell.
+pub fn holds(rows: &Rows, (col, row): Point) -> bool {
+    rows.get(&row).is_some_and(|runs| runs.iter().any(|&(first, last)| first <= col && col <= last))
+}
+
+/// Columns in rising order as runs.
+pub fn joined(cols: impl Iterator<Item = i32>) -> Vec<(i32, i32)> {
+    let mut runs: Vec<(i32, i32)> = Vec::new();
+    for col in cols {
+        match runs.last_mut() {
+            Some((_, last)) if *last + 1 == col => *last = col,
+            _ => runs.push((col, col)),
+        }
+    }
+    runs
+}
+
+/// The missing cells of any set of cells, in one part or several, from the lowest row up, each row from the left (contract 2.6).
+pub fn missing(rows: &Rows) -> Vec<Point> {
+    let (Some((&bottom, _)), Some((&top, _))) = (rows.first_key_value(), rows.last_key_value()) else {
+        return Vec::new();
+    };
+    let ends = rows.iter().flat_map(|(&row, runs)| [(runs[0].0, row), (runs[runs.len() - 1].1, row)]);
+    let hull = hull(ends.collect());
+    let left = rows.values().map(|runs| runs[0].0).min().unwrap_or(0);
+    let right = rows.values().map(|runs| runs[runs.len() - 1].1).max().unwrap_or(0);
+    let frame = (bottom..=top).flat_map(|row| (left..=right).map(move |col| (col, row)));
+    frame.filter(|&cell| !holds(rows, cell) && in_hull(&hull, cell)).collect()
 }
 
 impl Piece {

@@ -6,8 +6,8 @@ use std::collections::BTreeSet;
 use std::path::Path;
 use std::{env, fs};
 
-use robequarry::{Cell, Corner, Outline, Refusal};
-use robequarry_checks::draw::Shape;
+use robequarry::{Cell, Corner, Outline, Refusal, SectionKind};
+use robequarry_checks::draw::{any_taken, Shape};
 use robequarry_checks::random::Random;
 use robequarry_checks::reference::cells::Enclosed;
 use robequarry_checks::walks::outlines;
@@ -15,8 +15,9 @@ use robequarry_checks::Point;
 use robequarry_program::engine::Help;
 use robequarry_program::explain::told;
 use robequarry_program::gallery::gallery;
-use robequarry_program::input::entries;
-use robequarry_program::picture::{beside, picture};
+use robequarry_program::input::{entries, Entry};
+use robequarry_program::picture::{self, beside, picture};
+use robequarry_program::pile::{Layers, Section};
 use support::xml::{parse, Element};
 
 type Cells = BTreeSet<(i32, i32)>;
@@ -204,6 +205,104 @@ fn specimens() {
             completion(&outline);
         }
     }
+}
+
+fn enclosed(outline: &Outline) -> Cells {
+    Enclosed::of(Point::new(outline.start.col, outline.start.row), &outline.letters).cells().collect()
+}
+
+fn from(drawn: robequarry_checks::Outline) -> Outline {
+    Outline::new(Corner::new(drawn.start.col, drawn.start.row), drawn.letters)
+}
+
+/// Two blocks: the cells of both, and of each alone, and both hulls' corner cells.
+#[test]
+fn comparisons() {
+    let mut random = Random::new(31);
+    for round in 0..60 {
+        let draw = |random: &mut Random| match round % 2 {
+            0 => from(any_taken(random)),
+            _ => from(Shape::Ellipse.draw_in(random, 9)),
+        };
+        let (first, second) = (draw(&mut random), draw(&mut random));
+        let (one, two) = (first.test().expect("it is taken"), second.test().expect("it is taken"));
+        let said = robequarry_program::verdict::Said { what: "a".to_string(), place: "b".to_string() };
+        let picture = parse(&picture::comparison("a & b", &said, (&first, &one), (&second, &two)));
+        let plot = picture.of_class("plot")[0];
+        let (a, b) = (enclosed(&first), enclosed(&second));
+        assert_eq!(cells(plot, "cells"), a.intersection(&b).copied().collect());
+        assert_eq!(cells(plot, "first"), a.difference(&b).copied().collect());
+        assert_eq!(cells(plot, "second"), b.difference(&a).copied().collect());
+        for (class, edges) in [("edges", &one), ("others", &two)] {
+            let points = points(only(plot, class).expect("edges are drawn"));
+            assert_eq!((points[0], points.len()), (centre(edges.anchor()), edges.steps().len() + 1));
+        }
+    }
+}
+
+#[test]
+fn witnesses() {
+    let mut random = Random::new(32);
+    let mut drawn = 0;
+    for shape in Shape::ALL.into_iter().cycle().take(80) {
+        let outline = from(shape.draw_in(&mut random, 12));
+        let Some(help) = Help::of(&outline) else { continue };
+        let picture = parse(&picture::witness("a & b", &outline, &help));
+        let plot = picture.of_class("plot")[0];
+        assert_eq!(cells(plot, "cells"), enclosed(&outline));
+        let missing = (i32::from(help.witness.missing.col), i32::from(help.witness.missing.row));
+        assert_eq!(cells(plot, "missing"), Cells::from([missing]));
+        triangle(&picture, plot, &outline, &enclosed(&outline));
+        assert!(plot.of_class("piece").is_empty() && plot.of_class("edges").is_empty());
+        drawn += 1;
+    }
+    assert!(drawn > 20);
+}
+
+/// The cells that a section marks, by counting.
+fn marks(layers: &[Cells], section: &Section) -> Cells {
+    let at = i32::from(section.at);
+    let along = |cell: &(i32, i32)| match section.kind {
+        SectionKind::Column => (cell.0 == at).then_some(cell.1),
+        SectionKind::Row => (cell.1 == at).then_some(cell.0),
+    };
+    (0..).zip(layers).flat_map(|(layer, cells)| cells.iter().filter_map(along).map(move |other| (layer, other))).collect()
+}
+
+/// The first dented section is the one that the library's check names, and a drawn one has its cells.
+#[test]
+fn sections_of_piles() {
+    let mut random = Random::new(33);
+    let mut refused = 0;
+    for round in 0..40 {
+        let base = from(Shape::Ellipse.draw_in(&mut random, 8));
+        let other = from(Shape::Ellipse.draw_in(&mut random, 8));
+        let layers: Vec<Outline> = (0..random.from_to(1, 16))
+            .map(|_| match random.below(if round < 10 { 1 } else { 8 }) {
+                0..6 => base.clone(),
+                6 => other.clone(),
+                _ => Outline::new(Corner::new(0, 0), []),
+            })
+            .collect();
+        let entry = |outline: &Outline| Entry { name: None, outline: outline.clone() };
+        let entries: Vec<Entry> = layers.iter().map(entry).collect();
+        let Ok(mut pile) = Layers::set(&entries, |_, _, _| {}) else { panic!("every layer is taken") };
+        let counted: Vec<Cells> =
+            layers.iter().map(|layer| if layer.letters.is_empty() { Cells::new() } else { enclosed(layer) }).collect();
+        let dented = pile.dented();
+        let named = dented.first().map(|section| Refusal::Section { kind: section.kind, at: section.at });
+        assert_eq!(pile.check().err(), named);
+        refused += usize::from(named.is_some());
+        for section in dented.iter().take(2).chain(&pile.largest()) {
+            let picture = parse(&picture::section("a & b", section));
+            let plot = picture.of_class("plot")[0];
+            assert_eq!(cells(plot, "cells"), marks(&counted, section));
+            assert_eq!(cells(plot, "missing"), section.missing().into_iter().collect());
+        }
+        let some: Vec<Section> = dented.into_iter().take(5).chain(pile.largest()).collect();
+        assert_eq!(parse(&picture::sections("a & b", &some)).of_class("plot").len(), some.len());
+    }
+    assert!(refused > 5);
 }
 
 /// The pictures in docs/pictures/ are those that the gallery makes, and every one is well-formed.

@@ -1,37 +1,84 @@
 use std::ffi::OsString;
+use std::path::Path;
 
 use robequarry::{text, Cell, Edges};
 
-use super::{number, refused, Command, Console, Failure, Status};
+use super::{number, put, refused, written, Command, Console, Failure, Status};
 use crate::arguments::Arguments;
+use crate::audit;
 use crate::engine;
+use crate::input::Form;
+use crate::output::{form_of, Sink};
 
 pub const COMMAND: Command = Command {
     name: "border",
-    usage: "border COLUMN ROW [DX DY ...]",
-    summary: "the outline of an anchor and edges, as a line of text",
+    usage: "border COLUMN ROW [DX DY ...] | --edges FILE",
+    summary: "the outline of an anchor and edges, or of a file of them",
     help: "\
 Writes the outline that has this anchor and these edges, clockwise from W, as a line of the text form. Edges are pairs of columns
 and rows, clockwise from the anchor. Where no taken outline has them, it writes the refusal.
 
     robequarry border 0 1  1 1  1 -1  -1 -1  -1 1
-    0 1 101030323212",
-    options: &[],
+
+With --edges it does so for each line of a file: a list of edges as `audit` reads it, or a CSV as `check --format csv` writes it, of
+which it takes what has edges. What it writes is a file of outlines; a line after a # says which edges have no outline.
+
+    robequarry border --edges controllers.txt -o outlines.txt
+
+Here the exit status is 0 if every list of edges has an outline, and 1 if one has none.",
+    options: &["--edges", "--out", "--to"],
     run,
 };
 
 fn run(arguments: &Arguments, console: &mut Console) -> Result<Status, Failure> {
-    let (anchor, edges) = match &arguments.plain[..] {
-        [col, row, edges @ ..] => (Cell::new(number(col, "a column")?, number(row, "a row")?), edges),
-        _ => return Err(Failure::Call("border takes an anchor, COLUMN ROW, and edges, DX DY each".to_string())),
-    };
-    let numbers =
-        edges.iter().map(|word: &OsString| number(word, "a number of an edge")).collect::<Result<Vec<i16>, _>>()?;
-    match engine::border(&Edges::new(anchor, numbers)) {
+    match (arguments.path("--edges"), &arguments.plain[..]) {
+        (Some(path), []) => from_file(path, arguments, console),
+        (Some(_), _) => Err(Failure::Call("--edges and numbers contradict each other: give one of them".to_string())),
+        (None, [col, row, edges @ ..]) => {
+            let anchor = Cell::new(number(col, "a column")?, number(row, "a row")?);
+            let numbers = edges.iter().map(|word: &OsString| number(word, "a number of an edge"));
+            from_numbers(&Edges::new(anchor, numbers.collect::<Result<Vec<i16>, _>>()?), arguments, console)
+        }
+        _ => Err(Failure::Call("border takes an anchor, COLUMN ROW, and edges, DX DY each, or --edges FILE".to_string())),
+    }
+}
+
+fn sink(arguments: &Arguments) -> Sink {
+    let out = arguments.path("--out");
+    Sink::to(out, arguments.to().or(out.and_then(form_of)).unwrap_or(Form::Text))
+}
+
+fn from_numbers(edges: &Edges, arguments: &Arguments, console: &mut Console) -> Result<Status, Failure> {
+    let mut sink = sink(arguments);
+    match engine::border(edges) {
         Ok(outline) => {
-            console.line(text::line(&outline).expect("the library writes letters"))?;
+            put(sink.outline(&outline, "", console), Path::new("border"), 0)?;
+            written(sink, Path::new("border"), console)?;
             Ok(Status::Taken)
         }
         Err(refusal) => refused(refusal, console),
     }
+}
+
+fn from_file(path: &Path, arguments: &Arguments, console: &mut Console) -> Result<Status, Failure> {
+    let faulty = |sentence: String| Failure::File(path.to_path_buf(), sentence);
+    let lines = audit::open(path).map_err(|error| faulty(format!("cannot be read: {error}")))?;
+    let mut sink = sink(arguments);
+    let mut all = true;
+    for line in lines.map_err(|wrong| faulty(wrong.to_string()))? {
+        let line = line.map_err(|wrong| faulty(wrong.to_string()))?;
+        let Some(edges) = line.account.edges else {
+            continue;
+        };
+        match engine::border(&edges) {
+            Ok(outline) => put(sink.outline(&outline, &line.name, console), path, line.outline)?,
+            Err(refusal) => {
+                let (list, number) = (text::edge_line(&edges), refusal.number());
+                put(sink.remark(&format!("{list}: refused, {number}: {refusal}"), console), path, line.outline)?;
+                all = false;
+            }
+        }
+    }
+    written(sink, path, console)?;
+    Ok(Status::of(all))
 }

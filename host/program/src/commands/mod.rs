@@ -10,6 +10,7 @@ mod convert;
 mod draw;
 mod explain;
 mod gallery;
+mod pile;
 mod reading;
 mod row;
 
@@ -88,6 +89,7 @@ const COMMANDS: &[&Command] = &[
     &reading::COMMAND,
     &compare::COMMAND,
     &border::COMMAND,
+    &pile::COMMAND,
     &bench::COMMAND,
     &gallery::COMMAND,
 ];

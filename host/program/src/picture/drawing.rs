@@ -1,16 +1,45 @@
 //! What a picture of an outline shows, in corners and cells.
 
-use robequarry::limits::LAST_CORNER;
-use robequarry::{Cell, Outline, Refusal, Verdict};
+use robequarry::limits::{LAST_CORNER, LAYERS, SIDE};
+use robequarry::{Cell, Edges, Outline, Refusal, SectionKind, Verdict};
 
 use crate::engine::{AtWork, Help};
 use crate::explain::told;
+use crate::pile::Section;
 use crate::story::{Piece, Rows, Story, NAMES};
 use crate::verdict::at;
-use crate::walk::{corners, start, step, walkable, Point};
+use crate::walk::{corner_cells, corners, start, step, walkable, Point};
+
+/// What is drawn on: the chart, or a section through the layers of a pile.
+#[derive(Clone, Copy, Default, PartialEq)]
+pub enum Plane {
+    #[default]
+    Chart,
+    Section(SectionKind),
+}
+
+impl Plane {
+    /// How many columns of cells it has. Rows are always as many as the chart's.
+    pub fn columns(self) -> u16 {
+        match self {
+            Plane::Chart => SIDE,
+            Plane::Section(_) => LAYERS.into(),
+        }
+    }
+
+    /// The names of its two axes.
+    pub fn axes(self) -> [&'static str; 2] {
+        match self {
+            Plane::Chart => ["column (knee angle)", "row (shin load)"],
+            Plane::Section(SectionKind::Column) => ["layer (walking speed)", "row (shin load)"],
+            Plane::Section(SectionKind::Row) => ["layer (walking speed)", "column (knee angle)"],
+        }
+    }
+}
 
 #[derive(Default)]
 pub struct Drawing {
+    pub plane: Plane,
     /// The enclosed cells.
     pub rows: Rows,
     /// Pieces, by number, with their corners.
@@ -29,6 +58,10 @@ pub struct Drawing {
     pub triangle: Vec<Point>,
     /// The enclosed cells that another drawing lacks, which this one completes.
     pub added: Vec<Point>,
+    /// Of two blocks, the cells of the first alone and of the second alone; `rows` are those of both.
+    pub alone: Option<[Vec<Point>; 2]>,
+    /// The points of the second block's hull.
+    pub others: Vec<(f64, f64)>,
     /// The cells along one copy of the dented factor. Its chord joins the ends.
     pub factor: Vec<Point>,
     pub fault: Option<Fault>,
@@ -63,8 +96,13 @@ impl Drawing {
         let cell = |&(col, row): &Point| [(col, row), (col + 1, row + 1)];
         let mut all: Vec<Point> =
             self.walk.iter().chain(self.pieces.iter().flat_map(|(_, corners)| corners)).copied().collect();
-        let corner_cells: Vec<Point> = self.edges.iter().map(|&(x, y)| (x as i32, y as i32)).collect();
+        let points = self.edges.iter().chain(&self.others);
+        let corner_cells: Vec<Point> = points.map(|&(x, y)| (x as i32, y as i32)).collect();
         all.extend(self.missing.iter().chain(&corner_cells).flat_map(cell));
+        if self.pieces.is_empty() {
+            let run = |(&row, runs): (&i32, &Vec<(i32, i32)>)| [(runs[0].0, row), (runs[runs.len() - 1].1, row)];
+            all.extend(self.rows.iter().flat_map(run).flat_map(|end| cell(&end)));
+        }
         all.extend(self.start);
         match self.fault {
             Some(Fault { kind: Kind::Step(a, b) | Kind::Gap(a, b), .. }) => all.extend([a, b]),
@@ -73,6 +111,43 @@ impl Drawing {
         }
         all
     }
+}
+
+/// A block, three of its cells and the missing cell in their triangle.
+pub fn witness(outline: &Outline, help: &Help) -> Drawing {
+    let point = |cell: Cell| (cell.col.into(), cell.row.into());
+    let named = point(help.witness.missing);
+    Drawing {
+        rows: Story::of(outline).rows,
+        missing: vec![named],
+        named: Some(named),
+        triangle: help.witness.cells.map(point).to_vec(),
+        ..Drawing::default()
+    }
+}
+
+/// Two taken blocks, one upon the other.
+pub fn comparison(first: (&Outline, &Edges), second: (&Outline, &Edges)) -> Drawing {
+    let (one, other) = (Story::of(first.0), Story::of(second.0));
+    let alone = [one.cells_beyond(&other), other.cells_beyond(&one)];
+    let centres = |edges: &Edges| {
+        let centre = |(col, row): Point| (f64::from(col) + 0.5, f64::from(row) + 0.5);
+        corner_cells(edges).into_iter().map(centre).collect()
+    };
+    Drawing {
+        rows: one.common(&other),
+        alone: Some(alone),
+        edges: centres(first.1),
+        others: centres(second.1),
+        ..Drawing::default()
+    }
+}
+
+/// A section of a pile, with the cells that are missing from it.
+pub fn section(section: &Section) -> Drawing {
+    let missing = section.missing();
+    let named = missing.first().copied();
+    Drawing { plane: Plane::Section(section.kind), rows: section.marked.clone(), missing, named, ..Drawing::default() }
 }
 
 /// Of an outline past refusals 1 to 6: its block.

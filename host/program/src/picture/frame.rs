@@ -14,6 +14,8 @@ pub struct Frame {
     /// The window's upper left corner on the paper.
     pub x: f64,
     pub y: f64,
+    /// The columns of what is drawn on.
+    columns: u16,
 }
 
 /// Pixels round what is drawn, for labels.
@@ -21,7 +23,7 @@ const MARGIN: f64 = 44.0;
 
 impl Frame {
     /// A window round these corners: its sides at most so many pixels, a cell's side at most `cell`.
-    pub fn round(corners: &[Point], most: f64, cell: f64) -> Self {
+    pub fn round(corners: &[Point], columns: u16, most: f64, cell: f64) -> Self {
         let cols = corners.iter().map(|corner| f64::from(corner.0));
         let rows = corners.iter().map(|corner| f64::from(corner.1));
         let least = |numbers: &mut dyn Iterator<Item = f64>| numbers.fold(f64::INFINITY, f64::min);
@@ -40,6 +42,7 @@ impl Frame {
             scale,
             x: 0.0,
             y: 0.0,
+            columns,
         }
     }
 
@@ -71,15 +74,25 @@ impl Frame {
 
     /// The part of the chart in the window: left, right, bottom, top.
     pub fn chart(&self) -> [f64; 4] {
-        let side = f64::from(SIDE);
-        [self.left.max(0.0), self.right.min(side), self.bottom.max(0.0), self.top.min(side)]
+        let (columns, rows) = (f64::from(self.columns), f64::from(SIDE));
+        [self.left.max(0.0), self.right.min(columns), self.bottom.max(0.0), self.top.min(rows)]
+    }
+
+    /// The columns that get a number.
+    pub fn column_ticks(&self, room: f64) -> Vec<i32> {
+        self.ticks(self.columns, self.left, self.right, room)
+    }
+
+    /// The rows that get a number.
+    pub fn row_ticks(&self, room: f64) -> Vec<i32> {
+        self.ticks(SIDE, self.bottom, self.top, room)
     }
 
     /// Columns, or rows, between two ends that get a number: far enough apart for `room` pixels each.
-    pub fn ticks(&self, low: f64, high: f64, room: f64) -> Vec<i32> {
+    fn ticks(&self, count: u16, low: f64, high: f64, room: f64) -> Vec<i32> {
         let step = [1, 2, 5, 10, 20, 50].into_iter().find(|&step| f64::from(step) * self.scale >= room).unwrap_or(100);
         let wide = |n: &i32| f64::from(*n) + 0.5 >= low && f64::from(*n) + 0.5 <= high;
-        (0..i32::from(SIDE)).filter(|n| n % step == 0).filter(wide).collect()
+        (0..i32::from(count)).filter(|n| n % step == 0).filter(wide).collect()
     }
 }
 

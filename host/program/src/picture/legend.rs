@@ -16,8 +16,13 @@ const SIGN: f64 = 46.0;
 #[derive(Clone, Copy, PartialEq, Eq, PartialOrd, Ord)]
 pub enum Sign {
     Cells,
+    Both,
+    First,
+    Second,
     Piece(usize),
     Edges,
+    FirstEdges,
+    Others,
     Anchor,
     Start,
     Missing,
@@ -38,10 +43,19 @@ pub fn signs(drawing: &Drawing, frame: &Frame) -> Vec<Sign> {
     let [left, right, bottom, top] = frame.chart();
     let off = left > frame.left || right < frame.right || bottom > frame.bottom || top < frame.top;
     let fault = drawing.fault.as_ref().map(|fault| &fault.kind);
-    let mut signs: Vec<(Sign, bool)> = vec![(Sign::Cells, !drawing.rows.is_empty())];
+    let has = !drawing.rows.is_empty();
+    let alone = |which: usize| drawing.alone.as_ref().is_some_and(|alone| !alone[which].is_empty());
+    let mut signs: Vec<(Sign, bool)> = vec![
+        (Sign::Cells, has && drawing.alone.is_none()),
+        (Sign::Both, has && drawing.alone.is_some()),
+        (Sign::First, alone(0)),
+        (Sign::Second, alone(1)),
+    ];
     signs.extend((1..=4).map(|n| (Sign::Piece(n), drawing.pieces.iter().any(|(number, _)| *number == n))));
     signs.extend([
-        (Sign::Edges, drawing.edges.len() > 1),
+        (Sign::Edges, drawing.edges.len() > 1 && drawing.alone.is_none()),
+        (Sign::FirstEdges, drawing.edges.len() > 1 && drawing.alone.is_some()),
+        (Sign::Others, drawing.others.len() > 1),
         (Sign::Anchor, !drawing.edges.is_empty()),
         (Sign::Start, drawing.start.is_some()),
         (Sign::Missing, !drawing.missing.is_empty()),
@@ -63,11 +77,16 @@ impl Sign {
     fn words(self) -> String {
         match self {
             Sign::Cells => "marked cells: the block".to_string(),
+            Sign::Both => "cells of both blocks".to_string(),
+            Sign::First => "cell of the first block alone".to_string(),
+            Sign::Second => "cell of the second block alone".to_string(),
             Sign::Piece(n) => {
                 let [earlier, later] = LETTERS[n - 1].map(direction);
                 format!("piece {n}, {} to {}: {earlier}, {later}", NAMES[n - 1], NAMES[n % 4])
             }
             Sign::Edges => "edges of the hull".to_string(),
+            Sign::FirstEdges => "edges of the first hull".to_string(),
+            Sign::Others => "edges of the second hull".to_string(),
             Sign::Anchor => "anchor, where the edges begin".to_string(),
             Sign::Start => "start of the outline as sent".to_string(),
             Sign::Missing => "missing cell: in the hull only".to_string(),
@@ -89,7 +108,9 @@ impl Sign {
         let ends = ((x, y), (x + SIGN - 10.0, y));
         let middle = (x + (SIGN - 10.0) / 2.0, y);
         match self {
-            Sign::Cells => tile(svg, "cells", middle),
+            Sign::Cells | Sign::Both => tile(svg, "cells", middle),
+            Sign::First => tile(svg, "first", middle),
+            Sign::Second => tile(svg, "second", middle),
             Sign::Off => tile(svg, "off", middle),
             Sign::Missing => tile(svg, "missing", middle),
             Sign::Added => tile(svg, "added", middle),
@@ -97,10 +118,11 @@ impl Sign {
                 line(svg, &format!("piece p{n}"), ends, PIECE, DASHES[n - 1]);
                 badge(svg, middle, n);
             }
-            Sign::Edges => {
+            Sign::Edges | Sign::FirstEdges => {
                 line(svg, "edges", ends, EDGE, &[]);
                 arrow(svg, "arrow", ends.0, ends.1, 0.62, 6.0);
             }
+            Sign::Others => line(svg, "others", ends, EDGE, CHORD_DASHES),
             Sign::Anchor => {
                 svg.open("g", &[("stroke-width", &2)]);
                 svg.circle("anchor", middle, 6.0);

@@ -44,7 +44,7 @@ pub fn plot(svg: &mut Svg, drawing: &Drawing, frame: &Frame, axes: bool) {
     labels(svg, drawing, frame);
     numbers(svg, frame);
     if axes {
-        names_of_axes(svg, frame);
+        names_of_axes(svg, frame, drawing.plane.axes());
     }
 }
 
@@ -104,7 +104,10 @@ fn lines(svg: &mut Svg, drawing: &Drawing, frame: &Frame) {
     let centres = |points: &[Point]| points.iter().map(centre).collect::<Vec<_>>();
 
     svg.open("g", &[("stroke-width", &px(1.0 / frame.scale))]);
-    for (class, cells) in [("missing", &drawing.missing), ("added", &drawing.added)] {
+    let [first, second] = drawing.alone.as_ref().map_or([&[][..]; 2], |[first, second]| [first, second]);
+    for (class, cells) in
+        [("missing", &drawing.missing[..]), ("added", &drawing.added), ("first", first), ("second", second)]
+    {
         for (col, row) in cells {
             svg.empty("rect", &[("class", &class), ("x", col), ("y", row), ("width", &1), ("height", &1)]);
         }
@@ -123,6 +126,9 @@ fn lines(svg: &mut Svg, drawing: &Drawing, frame: &Frame) {
             svg.path("edges", &drawing.edges);
         }
     });
+    if !drawing.others.is_empty() {
+        stroke(svg, frame, EDGE, CHORD_DASHES, |svg| svg.path("others", &drawing.others));
+    }
     if let [first, .., last] = drawing.factor[..] {
         stroke(svg, frame, FACTOR, &[], |svg| svg.path("factor", &centres(&drawing.factor)));
         stroke(svg, frame, EDGE, CHORD_DASHES, |svg| svg.path("chord", &centres(&[first, last])));
@@ -321,20 +327,20 @@ pub fn badge(svg: &mut Svg, at: (f64, f64), number: usize) {
 /// The numbers of columns below, and of rows to the left.
 fn numbers(svg: &mut Svg, frame: &Frame) {
     let bottom = frame.y + frame.height();
-    for col in frame.ticks(frame.left, frame.right, 26.0) {
+    for col in frame.column_ticks(26.0) {
         let (x, _) = frame.centre((col, 0));
         svg.words("tick middle", x, bottom + 15.0, &col.to_string());
     }
-    for row in frame.ticks(frame.bottom, frame.top, 18.0) {
+    for row in frame.row_ticks(18.0) {
         let (_, y) = frame.centre((0, row));
         svg.words("tick right", frame.x - 6.0, y + 4.0, &row.to_string());
     }
 }
 
-fn names_of_axes(svg: &mut Svg, frame: &Frame) {
+fn names_of_axes(svg: &mut Svg, frame: &Frame, [across, up]: [&str; 2]) {
     let (x, y) = (frame.x + frame.width() / 2.0, frame.y + frame.height());
-    svg.words("axis middle", x, y + 34.0, "column (knee angle)");
+    svg.words("axis middle", x, y + 34.0, across);
     let (x, y) = (frame.x - 38.0, frame.y + frame.height() / 2.0);
     let turn = format!("translate({} {}) rotate(-90)", px(x), px(y));
-    svg.content("text", &[("class", &"axis middle"), ("transform", &turn)], "row (shin load)");
+    svg.content("text", &[("class", &"axis middle"), ("transform", &turn)], up);
 }

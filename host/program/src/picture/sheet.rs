@@ -30,11 +30,32 @@ pub struct Tile<'a> {
     pub added: Vec<Point>,
 }
 
+/// A drawing with its name and what is said of it.
+pub struct Panel {
+    pub title: String,
+    pub what: String,
+    pub place: String,
+    pub drawing: Drawing,
+}
+
+impl Panel {
+    fn of(tile: &Tile) -> Self {
+        let said = Said::of(tile.outline, tile.verdict);
+        let drawing = Drawing { added: tile.added.clone(), ..Drawing::of(tile.outline, tile.verdict) };
+        Panel { title: tile.title.to_string(), what: said.what, place: said.place, drawing }
+    }
+}
+
 /// A sheet with so many tiles in a row; `most` is the side of a plot.
 pub fn sheet(title: &str, tiles: &[Tile], columns: usize, most: f64) -> String {
-    let drawing = |tile: &Tile| Drawing { added: tile.added.clone(), ..Drawing::of(tile.outline, tile.verdict) };
-    let drawings: Vec<Drawing> = tiles.iter().map(drawing).collect();
-    let mut frames: Vec<Frame> = drawings.iter().map(|drawing| Frame::round(&drawing.corners(), most, CELL)).collect();
+    panels(title, &tiles.iter().map(Panel::of).collect::<Vec<_>>(), columns, most)
+}
+
+/// The same of any drawings.
+pub fn panels(title: &str, tiles: &[Panel], columns: usize, most: f64) -> String {
+    let drawings: Vec<&Drawing> = tiles.iter().map(|tile| &tile.drawing).collect();
+    let frame = |drawing: &&Drawing| Frame::round(&drawing.corners(), drawing.plane.columns(), most, CELL);
+    let mut frames: Vec<Frame> = drawings.iter().map(frame).collect();
     let width = NUMBERS + most + MARGIN;
     let end = place(&mut frames, columns, width, most);
     let keys = keys(&drawings, &frames);
@@ -68,7 +89,7 @@ fn place(frames: &mut [Frame], columns: usize, width: f64, most: f64) -> f64 {
 }
 
 /// The signs of all drawings, each once.
-fn keys(drawings: &[Drawing], frames: &[Frame]) -> Vec<Sign> {
+fn keys(drawings: &[&Drawing], frames: &[Frame]) -> Vec<Sign> {
     let mut keys: Vec<Sign> = drawings.iter().zip(frames).flat_map(|(drawing, frame)| signs(drawing, frame)).collect();
     keys.sort_unstable();
     keys.dedup();
@@ -76,12 +97,11 @@ fn keys(drawings: &[Drawing], frames: &[Frame]) -> Vec<Sign> {
 }
 
 /// A tile's name and its verdict in two lines.
-fn heading(svg: &mut Svg, tile: &Tile, x: f64, y: f64, width: f64) {
-    let said = Said::of(tile.outline, tile.verdict);
+fn heading(svg: &mut Svg, tile: &Panel, x: f64, y: f64, width: f64) {
     let fits = (width / 7.4) as usize;
-    let place = said.place.split(';').next().unwrap_or_default();
-    svg.words("tile", x, y + 12.0, &wrapped(tile.title, fits)[0]);
-    for (line, words) in wrapped(&said.what, fits).iter().chain(&wrapped(place, fits)).take(2).enumerate() {
+    let place = tile.place.split(';').next().unwrap_or_default();
+    svg.words("tile", x, y + 12.0, &wrapped(&tile.title, fits)[0]);
+    for (line, words) in wrapped(&tile.what, fits).iter().chain(&wrapped(place, fits)).take(2).enumerate() {
         svg.words("said", x, y + 31.0 + 16.0 * line as f64, words);
     }
 }
