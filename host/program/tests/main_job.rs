@@ -1,0 +1,109 @@
+//! The main job: the proved program `fittings` tells a read and a write that fail, and `./run` ends with a status that says what happened.
+
+mod support;
+
+use std::fs::{self, File};
+use std::os::unix::fs::PermissionsExt;
+use std::path::{Path, PathBuf};
+use std::process::{Command, Output, Stdio};
+use std::sync::OnceLock;
+
+use support::call::{err, file, out, path, status};
+
+fn root() -> PathBuf {
+    Path::new(env!("CARGO_MANIFEST_DIR")).join("../..")
+}
+
+fn fittings() -> Command {
+    let program = root().join("target/bin/fittings");
+    assert!(program.is_file(), "target/bin/fittings is missing: run `rt check fittings` at the repository's root first");
+    Command::new(program)
+}
+
+/// Folders with an `rt` that only says that it has proved what is linked already, and one that fails.
+fn toolchains() -> &'static [String; 2] {
+    static FOLDERS: OnceLock<[String; 2]> = OnceLock::new();
+    FOLDERS.get_or_init(|| {
+        [("rt-that-proves", 0), ("rt-that-fails", 1)].map(|(name, status)| {
+            let script = format!("#!/bin/sh\necho \"rt: listing proved (1 s)\"\nexit {status}\n");
+            let rt = file(&format!("{name}/rt"), script.as_bytes());
+            fs::set_permissions(&rt, fs::Permissions::from_mode(0o755)).expect("it is ours");
+            path(name)
+        })
+    })
+}
+
+/// `./run` with one of these toolchains.
+fn run(arguments: &[&str], proves: bool) -> Output {
+    let folder = &toolchains()[usize::from(!proves)];
+    let paths = format!("{folder}:{}", std::env::var("PATH").expect("there is one"));
+    let mut command = Command::new(root().join("run"));
+    command.args(arguments).env("PATH", paths).stdin(Stdio::null()).output().expect("bash is there")
+}
+
+#[test]
+fn a_read_that_fails_is_told() {
+    let folder = File::open(root()).expect("a folder can be opened, and not be read");
+    let told = fittings().stdin(folder).output().expect("it runs");
+    assert_eq!((out(&told).as_str(), err(&told).as_str()), ("", "fittings: the input cannot be read\n"));
+}
+
+#[test]
+fn a_write_that_fails_is_told() {
+    let full = File::options().write(true).open("/dev/full").expect("Linux has it");
+    let input = File::open(root().join("files/h3.fit")).expect("it ships");
+    let child = fittings().stdin(input).stdout(full).stderr(Stdio::piped()).spawn().expect("it runs");
+    assert_eq!(err(&child.wait_with_output().expect("it ends")), "fittings: the listing cannot be written\n");
+}
+
+#[test]
+fn an_input_without_end_is_too_large() {
+    let zeros = File::open("/dev/zero").expect("Linux has it");
+    let listed = fittings().stdin(zeros).output().expect("it runs");
+    assert_eq!((out(&listed).as_str(), err(&listed).as_str()), ("0 25 65536\n", ""));
+}
+
+/// Every shipped file: the listing on standard output and nothing else there, and a status by its last line.
+#[test]
+fn run_lists_a_file() {
+    let mut faults = 0;
+    for entry in fs::read_dir(root().join("files")).expect("the files ship") {
+        let fitting = entry.expect("it is listed").path();
+        if fitting.extension().is_none_or(|extension| extension != "fit") {
+            continue;
+        }
+        let lines = fs::read_to_string(fitting.with_extension("lines")).expect("its lines stand beside it");
+        let listed = run(&[fitting.to_str().expect("its name is text")], true);
+        let number = lines.lines().last().and_then(|line| line.split(' ').nth(1)).unwrap_or("0");
+        let fault = ["23", "24", "25"].contains(&number);
+        assert_eq!((out(&listed), status(&listed)), (lines, i32::from(fault)), "{}", fitting.display());
+        assert!(
+            err(&listed).starts_with("run: 1 of 2: ") && err(&listed).contains("\n[1 of 16] rt: listing proved (1 s)\n")
+        );
+        assert!(err(&listed).contains("\nrun: 2 of 2: "));
+        faults += usize::from(fault);
+    }
+    assert!(faults > 5);
+    let shipped = fs::read_to_string(root().join("files/specimens.lines")).expect("it ships");
+    assert_eq!(out(&run(&[], true)), shipped);
+}
+
+#[test]
+fn run_refuses_what_is_no_call() {
+    for arguments in [&[""][..], &["--help"], &["-h"], &["a", "b"]] {
+        let refused = run(arguments, true);
+        assert_eq!((out(&refused).as_str(), status(&refused)), ("", 2), "{arguments:?}");
+        assert!(err(&refused).starts_with("usage: ./run [FILE] ") && err(&refused).lines().count() == 1);
+    }
+    for name in ["no/such/file", "."] {
+        let refused = run(&[name], true);
+        assert_eq!((err(&refused), status(&refused)), (format!("run: '{name}' is no file that can be read\n"), 2));
+    }
+}
+
+#[test]
+fn run_says_what_failed() {
+    let unproved = run(&[], false);
+    assert!(err(&unproved).ends_with("run: 'fittings' is not proved\n"), "{}", err(&unproved));
+    assert_eq!((out(&unproved).as_str(), status(&unproved)), ("", 3));
+}
