@@ -34,15 +34,21 @@
  *
  * WHAT A CALLER OWES
  *
- *  - A pointer is good for its count, and is not null, also where the count is 0.
- *  - What is passed has been initialised: lists, replies, and buffers too. A holder or a pile has been made fresh once. Only
- *    rq_fresh and rq_pile_fresh take memory with any content: `rq_holder h; rq_fresh(&h);` is right.
- *  - What a call writes overlaps nothing else that is passed to it.
- *  - For readings, floating point is as a C program starts with it: it rounds to nearest, and subnormal numbers are not flushed to
- *    zero. The start-up code of -ffast-math breaks this. On a Cortex-M4F the bits FZ and RMode of FPSCR must be 0.
- *  - A Cortex-M4F does not trap unaligned access: the bit UNALIGN_TRP of CCR is 0, as it is after a reset.
+ * The numbers are those of the duties in docs/SAFETY.md.
  *
- * Nothing else is asked. Counts, letters, numbers of edges, parties, places and floats may be anything.
+ *  - D1. A pointer is good for its count, and is not null, also where the count is 0.
+ *  - D2. What is passed has been initialised: lists, replies, and buffers too. A holder or a pile has been made fresh once. Only
+ *    rq_fresh and rq_pile_fresh take memory with any content: `rq_holder h; rq_fresh(&h);` is right.
+ *  - D3. What a call writes overlaps nothing else that is passed to it.
+ *  - D4. For readings, floating point is as a C program starts with it: it rounds to nearest, and subnormal numbers are not flushed
+ *    to zero. The start-up code of -ffast-math breaks this. On a Cortex-M4F the bits FZ and RMode of FPSCR must be 0.
+ *  - D5. A Cortex-M4F has its FPU switched on and does not trap unaligned access: the bit UNALIGN_TRP of CCR is 0, as it is after a
+ *    reset.
+ *  - D6. The stack has the bytes that are stated below.
+ *  - D7. One holder or pile is for one thread at a time, and an interrupt routine counts as one (see WHO OWNS WHAT).
+ *
+ * Nothing else is asked for the replies to be as described. Counts, letters, numbers of edges, parties, places and floats may be
+ * anything. D8 to D17 are what a device owes besides: what to do with a reply, records, damaged memory, time, and how to build.
  *
  *
  * STACK

@@ -14,7 +14,7 @@ abbrev Inv-loop : tie.InvT-loop
 Inv-loop begins ends col from to k₀ end k = (k ≤ side) × (first (λ i. inRow begins ends col (side - 1 - i)) k ≡ k)
 
 abbrev μ-loop : tie.MeasureT-loop
-μ-loop begins ends col from to k₀ end k = side - k
+μ-loop begins ends col from to k₀ end k = end - k
 
 sub-k : tie.Need-sub-k Inv-loop μ-loop
 sub-k c = omega arith

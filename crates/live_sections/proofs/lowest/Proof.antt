@@ -14,7 +14,7 @@ abbrev Inv-loop : tie.InvT-loop
 Inv-loop begins ends col from to r₀ end r = (r ≤ side) × (first (λ k. inRow begins ends col k) r ≡ r)
 
 abbrev μ-loop : tie.MeasureT-loop
-μ-loop begins ends col from to r₀ end r = side - r
+μ-loop begins ends col from to r₀ end r = end - r
 
 loop-holds : tie.Need-loop-holds Inv-loop μ-loop
 loop-holds c =

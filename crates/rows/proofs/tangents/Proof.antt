@@ -13,7 +13,7 @@ abbrev Inv-loop : tie.InvT-loop
 Inv-loop lo b t next₀ i₀ above₀ next i above = (i ≤ t) × (length next ≡ 256) × (above ≡ rows next (i - 1)) × Tangents (rows lo) (rows next) (i - 1) t
 
 abbrev μ-loop : tie.MeasureT-loop
-μ-loop lo b t next₀ i₀ above₀ next i above = i
+μ-loop lo b t next₀ i₀ above₀ next i above = i - b - 1
 
 loop-holds : tie.Need-loop-holds Inv-loop μ-loop
 loop-holds c = (

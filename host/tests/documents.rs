@@ -1,0 +1,306 @@
+//! Every theorem, definition, function, file, must-fail edit and command that the README, docs/DEMANDS.md and docs/SAFETY.md name
+//! exists. A name with a file behind it, as in "`level` (lattice/proofs/RightHand)", is defined in that file. The duties that the header
+//! cites are those of docs/SAFETY.md, and docs/PERFORMANCE.md lists every loop with the measure that its proof has.
+
+#[path = "documents/text.rs"]
+mod text;
+#[path = "documents/tree.rs"]
+mod tree;
+
+use std::collections::BTreeSet;
+
+use text::Part;
+use tree::{read, Tree};
+
+const DOCUMENTS: [&str; 3] = ["README.md", "docs/DEMANDS.md", "docs/SAFETY.md"];
+
+/// Spans in backticks that name nothing of the repository: words of Rattle, Rust, C and the tools, endings, and what programs print.
+const WORDS: [&str; 14] = [
+    ".antt", ".fit", ".lines", "&self", "Result", "cargo", "crate/file", "io", "libc", "pub", "requires", "rt", "taken with 4 edges",
+    "(1, 1) is inside",
+];
+
+/// Files that a command writes.
+const WRITTEN: [&str; 3] = ["target/staticlib/librobequarry.a", "host/target/release/robequarry", "target/bin/fittings"];
+
+/// Commands that are named before they are there. Take a name out once its file has come.
+const PENDING: [&str; 1] = ["build"];
+
+/// Folders that every crate has.
+const IN_CRATES: [&str; 5] = ["specs", "src", "proofs", "must-fail", "specs/Lib.antt"];
+
+/// What `rt` can be told to do.
+const RT: [&str; 6] = ["check", "ci", "must-fail", "prove", "staticlib", "version"];
+
+fn command_error(tree: &Tree, line: &str) -> Option<String> {
+    let words: Vec<&str> = line.split_whitespace().take_while(|word| !word.starts_with('#')).collect();
+    let after = |flag: &str| words.iter().position(|word| *word == flag).and_then(|at| words.get(at + 1)).copied();
+    if let Some(name) = after("--bin") {
+        let there = ["checks", "program"].iter().any(|folder| {
+            tree.is_file(&format!("host/{folder}/src/bin/{name}.rs"))
+                || tree.is_folder(&format!("host/{folder}/src/bin/{name}"))
+                || read(&format!("host/{folder}/Cargo.toml")).contains(&format!("name = \"{name}\""))
+        });
+        return (!there).then(|| format!("no program {name}"));
+    }
+    if let Some(name) = after("--test") {
+        let there = ["", "checks/", "program/"].iter().any(|folder| tree.is_file(&format!("host/{folder}tests/{name}.rs")));
+        return (!there).then(|| format!("no test {name}"));
+    }
+    let first = *words.first()?;
+    if let Some(script) = first.strip_prefix("./") {
+        return (!tree.is_executable(script) && !PENDING.contains(&script)).then(|| format!("no command {first}"));
+    }
+    let second = *words.get(1)?;
+    match first {
+        "rt" if !RT.contains(&second) => Some(format!("rt has no {second}")),
+        "rt" => words.get(2).filter(|name| tree::is_name(name) && !tree.is_crate(name)).map(|name| format!("no crate {name}")),
+        "robequarry" if second.starts_with('-') => None,
+        "robequarry" => {
+            (!tree.is_file(&format!("host/program/src/commands/{second}.rs"))).then(|| format!("robequarry has no {second}"))
+        }
+        _ => None,
+    }
+}
+
+fn is_command(span: &str) -> bool {
+    let first = span.split_whitespace().next().unwrap_or("");
+    first.starts_with("./") || (span.contains(' ') && ["rt", "cargo", "cd", "robequarry"].contains(&first))
+}
+
+/// `rq_..._parts`: some name of the header begins and ends so.
+fn header_error(tree: &Tree, name: &str) -> Option<String> {
+    let (begin, end) = name.split_once("...").unwrap_or((name, ""));
+    let fits = |known: &String| match name.contains("...") {
+        true => known.starts_with(begin) && known.ends_with(end) && known.len() > begin.len() + end.len(),
+        false => known == name,
+    };
+    (!tree.header.iter().any(fits)).then(|| "not in include/robequarry.h".to_string())
+}
+
+fn path_error(tree: &Tree, path: &str) -> Option<String> {
+    let plain = path.trim_end_matches('/');
+    let known = WRITTEN.contains(&plain) || IN_CRATES.contains(&plain) || tree.path(path).is_some();
+    (!known).then(|| "no such file".to_string())
+}
+
+/// What is wrong with a span in backticks.
+fn span_error(tree: &Tree, span: &str) -> Option<String> {
+    if WORDS.contains(&span) {
+        return None;
+    }
+    if is_command(span) {
+        return command_error(tree, span);
+    }
+    if span.starts_with("rq_") || span.starts_with("RQ_") {
+        let name = span.split(|c: char| !(c.is_ascii_alphanumeric() || "_.".contains(c))).next().unwrap_or(span);
+        return header_error(tree, name);
+    }
+    if span.contains("::") {
+        return (!tree.code_path(span)).then(|| "no such function".to_string());
+    }
+    if span.contains('/') && !span.contains(' ') {
+        return path_error(tree, span);
+    }
+    if tree::is_name(span) {
+        return (!tree.knows(span)).then(|| "defined nowhere".to_string());
+    }
+    None
+}
+
+/// The names that stand directly before a file in brackets, as in "`a`, `b` (crate/proofs/File".
+fn names_before(parts: &[Part]) -> Vec<&str> {
+    let mut names = Vec::new();
+    let mut rest = parts;
+    loop {
+        let [before @ .., Part::Quoted(name), Part::Plain(gap)] = rest else { break };
+        let joins = if names.is_empty() { gap == " (" } else { [", ", " and "].contains(&gap.as_str()) };
+        if !joins || !tree::is_name(name) {
+            break;
+        }
+        names.push(name.as_str());
+        rest = before;
+    }
+    names
+}
+
+/// Each name before a file is defined in it.
+fn place_errors(tree: &Tree, parts: &[Part], found: &mut Vec<String>) {
+    for (at, part) in parts.iter().enumerate() {
+        let Part::Path(written) = part else { continue };
+        let Some(path) = tree.path(written) else { continue };
+        if !path.contains("/proofs") && !path.contains("/specs") {
+            continue;
+        }
+        for name in names_before(&parts[..at]).into_iter().filter(|name| !tree.defines(&path, name)) {
+            found.push(format!("`{name}`: not in {written}"));
+        }
+    }
+}
+
+/// Behind `crate/must-fail/name` further names of the same folder may follow, with commas between them.
+fn edit_errors(tree: &Tree, parts: &[Part], found: &mut Vec<String>) {
+    for pair in parts.windows(2) {
+        let [Part::Path(path), Part::Plain(behind)] = pair else { continue };
+        let Some((of, _)) = path.split_once("/must-fail/") else { continue };
+        let mut rest = behind.as_str();
+        while let Some(more) = rest.strip_prefix(", ") {
+            let end = more.find(|c: char| !(c.is_ascii_alphanumeric() || c == '_')).unwrap_or(more.len());
+            let name = &more[..end];
+            if !name.contains('_') || more[end..].starts_with('/') {
+                break;
+            }
+            if !tree.has_edit(of, name) {
+                found.push(format!("{of}/must-fail/{name}: no such file"));
+            }
+            rest = &more[end..];
+        }
+    }
+}
+
+/// Everything wrong with the names of a document.
+fn errors(tree: &Tree, document: &str) -> Vec<String> {
+    let (prose, code) = text::prose_and_code(&read(document));
+    let mut found = Vec::new();
+    for line in code.iter().filter(|line| is_command(line)) {
+        found.extend(command_error(tree, line).map(|why| format!("{line}: {why}")));
+    }
+    for cell in text::without_links(&prose).split(['|']).flat_map(|cell| cell.split("\n\n")) {
+        let parts = text::parts(cell);
+        for part in &parts {
+            found.extend(match part {
+                Part::Quoted(span) => span_error(tree, span).map(|why| format!("`{span}`: {why}")),
+                Part::Path(path) => path_error(tree, path).map(|why| format!("{path}: {why}")),
+                Part::Plain(_) => None,
+            });
+        }
+        place_errors(tree, &parts, &mut found);
+        edit_errors(tree, &parts, &mut found);
+    }
+    found
+}
+
+#[test]
+fn what_the_documents_name_exists() {
+    let tree = Tree::new();
+    let found: BTreeSet<String> = DOCUMENTS
+        .iter()
+        .flat_map(|document| errors(&tree, document).into_iter().map(move |error| format!("{document}: {error}")))
+        .collect();
+    let all: Vec<String> = found.into_iter().collect();
+    assert!(all.is_empty(), "{} wrong references:\n{}", all.len(), all.join("\n"));
+}
+
+/// The loops of the library, each with the measure in its proof; the programs' are left out.
+fn loops(tree: &Tree) -> BTreeSet<(String, String)> {
+    let mut found = BTreeSet::new();
+    for path in tree.code.keys().filter(|path| path.starts_with("crates/") && !path.starts_with("crates/test_")) {
+        let parts: Vec<&str> = path.trim_end_matches(".rt").split('/').collect();
+        let mut names: Vec<&str> = [&parts[1..2], &parts[3..]].concat();
+        if ["lib", "main"].contains(&names[names.len() - 1]) {
+            names.pop();
+        }
+        let text = read(path);
+        let mut function = "";
+        for line in text.lines().map(str::trim_start) {
+            if let Some((_, rest)) = line.split_once("fn ").filter(|_| !line.starts_with("//")) {
+                function = rest.split(['(', '<']).next().unwrap_or(rest);
+            }
+            if line.starts_with("while ") || line.starts_with("loop ") || line.starts_with("for ") {
+                found.insert((format!("{}::{function}", names.join("::")), measure(&names, function)));
+            }
+        }
+    }
+    found
+}
+
+/// The measure of the one loop of a function.
+fn measure(names: &[&str], function: &str) -> String {
+    let path = format!("crates/{}/proofs/{}", names[0], [&names[1..], &[function, "Proof.antt"]].concat().join("/"));
+    let proof = read(&path);
+    let measures: Vec<&str> = proof.lines().filter(|line| line.starts_with("μ-loop ")).collect();
+    assert_eq!(measures.len(), 1, "{path} has one measure");
+    measures[0].split_once(" = ").expect("a measure is an equation").1.trim().to_string()
+}
+
+#[test]
+fn every_loop_is_listed_with_its_measure() {
+    let text = read("docs/PERFORMANCE.md");
+    let (_, section) = text.split_once("## Bounds on work").expect("the section is there");
+    let mut listed = BTreeSet::new();
+    for line in section.lines().filter(|line| line.starts_with("| `") && line.contains("::")) {
+        let spans: Vec<&str> = line.split('`').collect();
+        listed.insert((spans[1].to_string(), spans[3].to_string()));
+    }
+    let found = loops(&Tree::new());
+    let missing: Vec<_> = found.difference(&listed).collect();
+    let wrong: Vec<_> = listed.difference(&found).collect();
+    assert!(missing.is_empty() && wrong.is_empty(), "loops that are not listed: {missing:#?}\nlisted, and not so: {wrong:#?}");
+}
+
+/// The duties that a text cites: D1, D2, and all between in "D4 to D7".
+fn cited(text: &str) -> BTreeSet<u32> {
+    let mut found = BTreeSet::new();
+    let words: Vec<&str> = text.split(|c: char| !c.is_ascii_alphanumeric()).filter(|word| !word.is_empty()).collect();
+    let number = |word: &str| word.strip_prefix('D').and_then(|digits| digits.parse::<u32>().ok());
+    for (at, word) in words.iter().enumerate() {
+        let Some(first) = number(word) else { continue };
+        let last = match words.get(at + 1..at + 3) {
+            Some(["to", next]) => number(next).unwrap_or(first),
+            _ => first,
+        };
+        found.extend(first..=last);
+    }
+    found
+}
+
+#[test]
+fn the_header_cites_every_duty() {
+    let safety = read("docs/SAFETY.md");
+    let duties: Vec<u32> = safety
+        .lines()
+        .filter_map(|line| line.strip_prefix("- **D")?.split_once('.')?.0.parse().ok())
+        .collect();
+    assert!(!duties.is_empty());
+    assert_eq!(duties, (1..=duties.len() as u32).collect::<Vec<u32>>(), "docs/SAFETY.md numbers its duties from 1");
+    let all: BTreeSet<u32> = duties.into_iter().collect();
+    let header = read("include/robequarry.h");
+    let (_, owed) = header.split_once("WHAT A CALLER OWES").expect("the section is there");
+    let (owed, _) = owed.split_once("STACK").expect("the next section is there");
+    assert_eq!(cited(owed), all, "include/robequarry.h cites the duties of docs/SAFETY.md");
+    assert_eq!(cited(&safety), all, "docs/SAFETY.md cites its own duties");
+}
+
+/// The search itself: wrong names of each kind are found, and right ones are not.
+#[test]
+fn a_wrong_name_is_found() {
+    let tree = Tree::new();
+    let count = |text: &str| {
+        let parts = text::parts(text);
+        let mut found = Vec::new();
+        for part in &parts {
+            found.extend(match part {
+                Part::Quoted(span) => span_error(&tree, span),
+                Part::Path(path) => path_error(&tree, path),
+                Part::Plain(_) => None,
+            });
+        }
+        place_errors(&tree, &parts, &mut found);
+        edit_errors(&tree, &parts, &mut found);
+        found.len()
+    };
+    for right in [
+        "`level` (lattice/proofs/RightHand)", "`survey::survey`", "`Pile::check`", "words/must-fail/never_a_dent, all_dented",
+        "`rq_test`", "`rq_..._parts`", "`RQ_SIDE`", "docs/CONTRACT.md", "`./test`", "`rt check words`",
+        "`cargo run --release --bin differential`", "`robequarry check FILE`", "1/64",
+    ] {
+        assert_eq!(count(right), 0, "{right}");
+    }
+    for wrong in [
+        "`level` (lattice/proofs/Jumps)", "`no-such-theorem`", "`survey::no_such`", "`Pile::no_such`",
+        "words/must-fail/never_a_dent, no_such_edit", "words/must-fail/no_such_edit", "`rq_no_such`", "`rq_..._pasts`", "docs/NO.md",
+        "`./no_such`", "`rt check no_such`", "`cargo run --release --bin no_such`", "`robequarry no_such FILE`",
+    ] {
+        assert_eq!(count(wrong), 1, "{wrong}");
+    }
+}
