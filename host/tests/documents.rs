@@ -16,7 +16,19 @@ const DOCUMENTS: [&str; 3] = ["README.md", "docs/DEMANDS.md", "docs/SAFETY.md"];
 
 /// Spans in backticks that name nothing of the repository: words of Rattle, Rust, C and the tools, endings, and what programs print.
 const WORDS: [&str; 14] = [
-    ".antt", ".fit", ".lines", "&self", "Result", "cargo", "crate/file", "io", "libc", "pub", "requires", "rt", "taken with 4 edges",
+    ".antt",
+    ".fit",
+    ".lines",
+    "&self",
+    "Result",
+    "cargo",
+    "crate/file",
+    "io",
+    "libc",
+    "pub",
+    "requires",
+    "rt",
+    "taken with 4 edges",
     "(1, 1) is inside",
 ];
 
@@ -54,7 +66,9 @@ fn command_error(tree: &Tree, line: &str) -> Option<String> {
     let second = *words.get(1)?;
     match first {
         "rt" if !RT.contains(&second) => Some(format!("rt has no {second}")),
-        "rt" => words.get(2).filter(|name| tree::is_name(name) && !tree.is_crate(name)).map(|name| format!("no crate {name}")),
+        "rt" => {
+            words.get(2).filter(|name| tree::is_name(name) && !tree.is_crate(name)).map(|name| format!("no crate {name}"))
+        }
         "robequarry" if second.starts_with('-') => None,
         "robequarry" => {
             (!tree.is_file(&format!("host/program/src/commands/{second}.rs"))).then(|| format!("robequarry has no {second}"))
@@ -235,7 +249,10 @@ fn every_loop_is_listed_with_its_measure() {
     let found = loops(&Tree::new());
     let missing: Vec<_> = found.difference(&listed).collect();
     let wrong: Vec<_> = listed.difference(&found).collect();
-    assert!(missing.is_empty() && wrong.is_empty(), "loops that are not listed: {missing:#?}\nlisted, and not so: {wrong:#?}");
+    assert!(
+        missing.is_empty() && wrong.is_empty(),
+        "loops that are not listed: {missing:#?}\nlisted, and not so: {wrong:#?}"
+    );
 }
 
 /// The duties that a text cites: D1, D2, and all between in "D4 to D7".
@@ -257,10 +274,8 @@ fn cited(text: &str) -> BTreeSet<u32> {
 #[test]
 fn the_header_cites_every_duty() {
     let safety = read("docs/SAFETY.md");
-    let duties: Vec<u32> = safety
-        .lines()
-        .filter_map(|line| line.strip_prefix("- **D")?.split_once('.')?.0.parse().ok())
-        .collect();
+    let duties: Vec<u32> =
+        safety.lines().filter_map(|line| line.strip_prefix("- **D")?.split_once('.')?.0.parse().ok()).collect();
     assert!(!duties.is_empty());
     assert_eq!(duties, (1..=duties.len() as u32).collect::<Vec<u32>>(), "docs/SAFETY.md numbers its duties from 1");
     let all: BTreeSet<u32> = duties.into_iter().collect();
@@ -269,6 +284,28 @@ fn the_header_cites_every_duty() {
     let (owed, _) = owed.split_once("STACK").expect("the next section is there");
     assert_eq!(cited(owed), all, "include/robequarry.h cites the duties of docs/SAFETY.md");
     assert_eq!(cited(&safety), all, "docs/SAFETY.md cites its own duties");
+}
+
+/// What docs/SAFETY.md says of the tree as a whole.
+#[test]
+fn the_tree_is_as_the_safety_case_says() {
+    let tree = Tree::new();
+    for path in tree.files.iter().filter(|path| path.starts_with("crates/robequarry/src/") && path.ends_with(".rt")) {
+        assert!(!read(path).contains("requires {"), "{path}: no function of C requires anything");
+    }
+    // The proof of a cycle of calls stands in a folder that begins with a plus sign.
+    let cycles = tree.files.iter().filter(|path| path.starts_with("crates/") && path.contains("/+"));
+    for path in cycles.filter(|path| !path.starts_with("crates/text_lines/")) {
+        panic!("{path}: a function that calls itself");
+    }
+    for line in read("crates.txt").lines().filter(|line| !line.starts_with('#')) {
+        let (name, uses) = line.split_once(':').unwrap_or((line, ""));
+        let outside = uses.split_whitespace().any(|used| ["io", "libc", "os"].contains(&used));
+        assert!(
+            !outside || name == "fittings" || name.starts_with("test_"),
+            "{name}: only programs use libraries of the kit"
+        );
+    }
 }
 
 /// The search itself: wrong names of each kind are found, and right ones are not.
@@ -290,16 +327,36 @@ fn a_wrong_name_is_found() {
         found.len()
     };
     for right in [
-        "`level` (lattice/proofs/RightHand)", "`survey::survey`", "`Pile::check`", "words/must-fail/never_a_dent, all_dented",
-        "`rq_test`", "`rq_..._parts`", "`RQ_SIDE`", "docs/CONTRACT.md", "`./test`", "`rt check words`",
-        "`cargo run --release --bin differential`", "`robequarry check FILE`", "1/64",
+        "`level` (lattice/proofs/RightHand)",
+        "`survey::survey`",
+        "`Pile::check`",
+        "words/must-fail/never_a_dent, all_dented",
+        "`rq_test`",
+        "`rq_..._parts`",
+        "`RQ_SIDE`",
+        "docs/CONTRACT.md",
+        "`./test`",
+        "`rt check words`",
+        "`cargo run --release --bin differential`",
+        "`robequarry check FILE`",
+        "1/64",
     ] {
         assert_eq!(count(right), 0, "{right}");
     }
     for wrong in [
-        "`level` (lattice/proofs/Jumps)", "`no-such-theorem`", "`survey::no_such`", "`Pile::no_such`",
-        "words/must-fail/never_a_dent, no_such_edit", "words/must-fail/no_such_edit", "`rq_no_such`", "`rq_..._pasts`", "docs/NO.md",
-        "`./no_such`", "`rt check no_such`", "`cargo run --release --bin no_such`", "`robequarry no_such FILE`",
+        "`level` (lattice/proofs/Jumps)",
+        "`no-such-theorem`",
+        "`survey::no_such`",
+        "`Pile::no_such`",
+        "words/must-fail/never_a_dent, no_such_edit",
+        "words/must-fail/no_such_edit",
+        "`rq_no_such`",
+        "`rq_..._pasts`",
+        "docs/NO.md",
+        "`./no_such`",
+        "`rt check no_such`",
+        "`cargo run --release --bin no_such`",
+        "`robequarry no_such FILE`",
     ] {
         assert_eq!(count(wrong), 1, "{wrong}");
     }

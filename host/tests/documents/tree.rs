@@ -59,7 +59,9 @@ fn defined_in_proof(line: &str) -> Vec<String> {
         return rest.first().map(|name| vec![name.to_string()]).unwrap_or_default();
     }
     match rest.iter().position(|word| *word == ":") {
-        Some(end) if end > 0 && rest[..end].iter().all(|word| is_name(word)) => rest[..end].iter().map(|w| w.to_string()).collect(),
+        Some(end) if end > 0 && rest[..end].iter().all(|word| is_name(word)) => {
+            rest[..end].iter().map(|w| w.to_string()).collect()
+        }
         _ => Vec::new(),
     }
 }
@@ -87,7 +89,8 @@ fn index(files: &BTreeSet<String>, ending: &str, defined: fn(&str) -> Vec<String
 /// The header's names: every word of it that is not in a comment.
 fn header_names() -> BTreeSet<String> {
     let text = read("include/robequarry.h");
-    let code: String = text.split("/*").flat_map(|part| part.split_once("*/").map_or(Some(part), |(_, code)| Some(code))).collect();
+    let code: String =
+        text.split("/*").flat_map(|part| part.split_once("*/").map_or(Some(part), |(_, code)| Some(code))).collect();
     code.split(|c: char| !(c.is_ascii_alphanumeric() || c == '_')).map(str::to_string).collect()
 }
 
@@ -121,7 +124,9 @@ impl Tree {
     /// A path as the documents write it: from the root, or below `crates/` or `host/`, with `.antt` or `.edit` left out.
     pub fn path(&self, written: &str) -> Option<String> {
         let written = written.trim_end_matches('/');
-        let below = ["", "crates/", "host/"].iter().flat_map(|above| ["", ".antt", ".edit"].map(|end| format!("{above}{written}{end}")));
+        let below = ["", "crates/", "host/"]
+            .iter()
+            .flat_map(|above| ["", ".antt", ".edit"].map(|end| format!("{above}{written}{end}")));
         below.into_iter().find(|path| self.is_file(path) || self.is_folder(path))
     }
 
@@ -136,7 +141,9 @@ impl Tree {
     /// Whether a name is defined anywhere, or names a crate, a program or a part of the header.
     pub fn knows(&self, name: &str) -> bool {
         let maps = [&self.definitions, &self.code, &self.host];
-        self.is_crate(name) || self.header.contains(name) || maps.iter().any(|map| map.values().any(|names| names.contains(name)))
+        self.is_crate(name)
+            || self.header.contains(name)
+            || maps.iter().any(|map| map.values().any(|names| names.contains(name)))
     }
 
     /// `crate::function`, `module::function` or `Type::method`: the last name is defined where the first one leads.
@@ -149,9 +156,9 @@ impl Tree {
         let with_type = |names: &BTreeSet<String>| first.starts_with(char::is_uppercase) && names.contains(first);
         let leads = |file: &str, names: &BTreeSet<String>| in_crate(file) || in_module(file) || with_type(names);
         let module = |file: &str| in_crate(file) && file.ends_with(&format!("/{last}.rt"));
-        [&self.code, &self.host].iter().any(|map| {
-            map.iter().any(|(file, names)| module(file) || (leads(file, names) && names.contains(last)))
-        })
+        [&self.code, &self.host]
+            .iter()
+            .any(|map| map.iter().any(|(file, names)| module(file) || (leads(file, names) && names.contains(last))))
     }
 
     pub fn has_edit(&self, of: &str, name: &str) -> bool {
