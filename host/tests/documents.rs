@@ -38,9 +38,6 @@ const WRITTEN: [&str; 3] = ["target/staticlib/librobequarry.a", "host/target/rel
 /// Commands that are named before they are there. Take a name out once its file has come.
 const PENDING: [&str; 1] = ["build"];
 
-/// Folders that every crate has.
-const IN_CRATES: [&str; 5] = ["specs", "src", "proofs", "must-fail", "specs/Lib.antt"];
-
 /// What `rt` can be told to do.
 const RT: [&str; 6] = ["check", "ci", "must-fail", "prove", "staticlib", "version"];
 
@@ -94,7 +91,7 @@ fn header_error(tree: &Tree, name: &str) -> Option<String> {
 
 fn path_error(tree: &Tree, path: &str) -> Option<String> {
     let plain = path.trim_end_matches('/');
-    let known = WRITTEN.contains(&plain) || IN_CRATES.contains(&plain) || tree.path(path).is_some();
+    let known = WRITTEN.contains(&plain) || tree.in_some_crate(plain) || tree.path(path).is_some();
     (!known).then(|| "no such file".to_string())
 }
 

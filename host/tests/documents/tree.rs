@@ -130,6 +130,13 @@ impl Tree {
         below.into_iter().find(|path| self.is_file(path) || self.is_folder(path))
     }
 
+    /// `specs/`, `must-fail/` and the like: a folder or a file that some crate has.
+    pub fn in_some_crate(&self, path: &str) -> bool {
+        let folder = format!("{path}/");
+        let fits = |file: &String| file.splitn(3, '/').nth(2).is_some_and(|rest| rest == path || rest.starts_with(&folder));
+        self.files.iter().any(|file| file.starts_with("crates/") && fits(file))
+    }
+
     /// Whether a name is defined in a file, or in some file of a folder.
     pub fn defines(&self, path: &str, name: &str) -> bool {
         let folder = format!("{path}/");
