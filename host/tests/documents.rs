@@ -169,6 +169,11 @@ fn edit_errors(tree: &Tree, parts: &[Part], found: &mut Vec<String>) {
     }
 }
 
+/// The parts of each paragraph and of each cell of a table.
+fn cells(prose: &str) -> Vec<Vec<Part>> {
+    text::without_links(prose).split('|').flat_map(|cell| cell.split("\n\n")).map(text::parts).collect()
+}
+
 /// Everything wrong with the names of a document.
 fn errors(tree: &Tree, document: &str) -> Vec<String> {
     let (prose, code) = text::prose_and_code(&read(document));
@@ -176,8 +181,7 @@ fn errors(tree: &Tree, document: &str) -> Vec<String> {
     for line in code.iter().filter(|line| is_command(line)) {
         found.extend(command_error(tree, line).map(|why| format!("{line}: {why}")));
     }
-    for cell in text::without_links(&prose).split(['|']).flat_map(|cell| cell.split("\n\n")) {
-        let parts = text::parts(cell);
+    for parts in cells(&prose) {
         for part in &parts {
             found.extend(match part {
                 Part::Quoted(span) => span_error(tree, span).map(|why| format!("`{span}`: {why}")),
@@ -189,6 +193,21 @@ fn errors(tree: &Tree, document: &str) -> Vec<String> {
         edit_errors(tree, &parts, &mut found);
     }
     found
+}
+
+/// The documents are read whole: each has names in backticks up to its last section.
+#[test]
+fn the_documents_are_read() {
+    for (document, least) in DOCUMENTS.iter().zip([100, 500, 50]) {
+        let (prose, _) = text::prose_and_code(&read(document));
+        let quoted = cells(&prose).into_iter().flatten().filter(|part| matches!(part, Part::Quoted(_))).count();
+        assert!(quoted >= least, "{document}: {quoted} names");
+        assert_eq!(
+            read(document).matches("\n## ").count(),
+            prose.matches("\n## ").count(),
+            "{document}: every section is read"
+        );
+    }
 }
 
 #[test]
