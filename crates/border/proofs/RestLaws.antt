@@ -1,5 +1,5 @@
--- What is still to be written after one more edge: a piece without further edges leaves only its first letter, and an edge of the piece
--- begun last leaves its own letters.
+-- What is still to be written after one more edge: a piece without further edges leaves only
+-- its first letter, and an edge of the piece begun last leaves its own letters.
 use Prim.Native.Nat.{ℕ, zero, suc, _+_, _-_, _≤_, _<_}
 use native.Mathlib.Omega.{arith}
 use mathlib.Core.Path.{_≡_, refl, sym, ap, _∙_}

@@ -1,5 +1,4 @@
--- The letters are built in an array with room for the longest outline, and tested. More letters than that are no outline: refusal 1
--- applies.
+-- The letters are built in an array with room for the longest outline, and tested. More letters than that are refused by 1.
 use Prim.Native.Nat.{ℕ, _+_, _≤_, _<_}
 use native.Mathlib.Omega.{arith}
 use mathlib.Core.Path.{_≡_, sym, ap, _∙_}

@@ -29,8 +29,7 @@ fn below(d: i16) -> bool
     d < 0
 }
 
-// The quadrant, counted from 0: up to right, right to down, down to left, left to up. Each has its first direction and not its last.
-// 4 for (0, 0).
+// The quadrant, counted from 0: up to right, right to down, down to left, left to up, each without its last direction. 4 for (0, 0).
 pub(crate) fn quadrant(dx: i16, dy: i16) -> usize
     ensures { λ r. ⌜ r ≡ quadrantOf dx dy ⌝ }
 {

@@ -1,5 +1,5 @@
--- Which outlines have an anchor and edges; the cases of a border call, and what its reply says; from a taken outline and back; the order of
--- its edges; specimens.
+-- Which outlines have an anchor and edges; the cases of a border call, and what its reply
+-- says; from a taken outline and back; the order of its edges; specimens.
 pub mod Outlines
 pub mod Tested
 pub mod TracedCases

@@ -1,5 +1,5 @@
--- Some outline is taken with this anchor and these edges exactly if the letters of the edges pass the code's test, because the border of
--- every such outline is those letters.
+-- Some outline is taken with this anchor and these edges exactly if the letters of the edges
+-- pass the code's test, because the border of every such outline is those letters.
 use Prim.Native.Nat.{ℕ, _*_, _≤_}
 use native.Mathlib.Omega.{arith}
 use mathlib.Core.Path.{_≡_, sym, ap, _∙_}

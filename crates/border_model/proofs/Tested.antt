@@ -1,6 +1,5 @@
--- A test with room for any taken outline's edges decides whether an outline is taken with an anchor and edges. It refuses what is not
--- taken;
--- otherwise it gives the anchor and the edges, which are compared.
+-- A test with room for any taken outline's edges decides whether an outline is taken with an anchor and
+-- edges. It refuses what is not taken; otherwise it gives the anchor and the edges, which are compared.
 use Prim.Native.Nat.{ℕ, _*_, _≤_}
 use native.Mathlib.Omega.{arith}
 use mathlib.Core.Path.{_≡_, refl, sym, ap, _∙_}

@@ -9,8 +9,7 @@ ghost use Rattle.completion.specs.Runs.{across as acrossOf};
 ghost use Rattle.completion.specs.parts.Written.{toRow, descent, writtenFrom};
 ghost use Rattle.border_of_rows.specs.parts.Wrote.{Wrote};
 
-// Writes the rights or the lefts from column `a` to column `b` and returns where they end. Usually there is one letter, so one loop does
-// both.
+// Writes the rights or the lefts from column `a` to column `b`, usually one letter, and returns where they end.
 fn across(out: &mut [u8], at: usize, a: u16, b: u16) -> usize
     requires { ⌜ at + length (acrossOf a b) ≤ length (now out) ⌝ }
     ensures { λ r. ⌜ (r ≡ at + length (acrossOf a b)) × Wrote (now (out .entry)) at (acrossOf a b) (now (out .exit)) ⌝ }

@@ -1,5 +1,5 @@
--- The columns that an edge bounds, in natural numbers: between two corner cells the side value at column 0 is a difference of two sums of
--- products.
+-- The columns that an edge bounds, in natural numbers: between two corner cells
+-- the side value at column 0 is a difference of two sums of products.
 use Prim.Native.Nat.{ℕ, zero, suc, _+_, _-_, _*_, _/_, _≤_, _<_}
 use native.Mathlib.Nat.{div-le-self, mul-le-mul}
 use native.Mathlib.Decide.{decLe}

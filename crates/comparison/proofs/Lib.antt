@@ -1,6 +1,5 @@
--- Steps on the chart; the columns that an edge bounds; the lists of numbers for the rows; the walk that fills them; the tests of two such
--- walks;
--- the cases of a comparison, and what its words say; taken outlines; the lists exchanged.
+-- Steps on the chart; the columns that an edge bounds; the lists of numbers for the rows; the walk that fills them; the
+-- tests of two such walks; the cases of a comparison, and what its words say; taken outlines; the lists exchanged.
 pub mod Steps
 pub mod Columns
 pub mod Lists

@@ -82,8 +82,8 @@ test-has o buffer e =
       edged = sym (edges-first o buffer (t .count) (t .anchor) (t .said)) ∙ ap (λ (v : Verdict). take (2 * verdictFields v .place) (edgesAfter o buffer)) (sym (t .said));
     }
 
--- The claim: for two taken outlines, with the anchors and edges that their tests return, the comparison is not refused, and its word is
--- about the enclosed cells
+-- The claim: for two taken outlines, with the anchors and edges that their tests
+-- return, the comparison is not refused, and its word is about the enclosed cells
 pub taken-compared :
     (o v : Outline) (first second : List ℤ) → testFields o (length first) .number ≡ 0 → testFields v (length second) .number ≡ 0
     → BlocksNamed o v (comparisonFields (comparisonOf (anchorFrom o first) (edgesFrom o first) (anchorFrom v second) (edgesFrom v second)))

@@ -1,5 +1,4 @@
--- A walk on the chart equals the walk along the edges while it stays there: numbers of the chart are kept, and any other number stays off
--- the chart.
+-- A walk on the chart equals the walk along the edges while it stays there: numbers of the chart are kept, and others stay off it.
 use Prim.Native.Nat.{ℕ, _+_, _<_, _≤_}
 use native.Mathlib.Omega.{arith}
 use mathlib.Core.Path.{_≡_, refl, sym, ap, _∙_}

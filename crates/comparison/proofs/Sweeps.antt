@@ -1,5 +1,4 @@
--- The walk gives for each row the bounds of its corner cells and edges: the lists so far, together with the rest of the walk, give all of
--- them.
+-- The walk gives the bounds of each row: those in the lists so far, together with those of the rest of the walk, are all of them.
 use Prim.Native.Nat.{ℕ, _+_, _≤_, _<_, min, max}
 use native.Mathlib.Omega.{arith}
 use mathlib.Core.Path.{_≡_, refl, sym, ap, _∙_}

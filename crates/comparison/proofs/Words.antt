@@ -1,5 +1,4 @@
--- The word of a comparison names the statement that holds: by the theorem of the five statements if nothing is refused, and a refusal has
--- no word.
+-- The word of a comparison names the statement that holds, by the theorem of the five statements, and a refusal has no word.
 use Prim.Native.Nat.{ℕ, _<_}
 use native.Mathlib.Omega.{arith}
 use mathlib.Core.Path.{_≡_, refl, sym, ap, _∙_}

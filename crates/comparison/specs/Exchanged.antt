@@ -6,8 +6,7 @@ use denote.Ref.{RefT}
 use Rattle.chart.specs.declared.Nesting.{Nesting}
 use Rattle.chart.specs.declared.Nesting.the-variants.{Equal, FirstWithin, SecondWithin, Apart, Crossing}
 
--- If the hulls are equal, each returns the list given first. If one lies within the other, both return the inner one's. Otherwise both are
--- empty
+-- Equal hulls: each returns the list given first. One within the other: both return the inner one's. Otherwise: both are empty
 abbrev pub HandedBoth : Nesting → (list again first second : RefT (List ℤ)) → Type 0
 HandedBoth Equal list again first second = (list ≡ first) × (again ≡ second)
 HandedBoth FirstWithin list again first second = (list ≡ first) × (again ≡ first)

@@ -1,5 +1,4 @@
--- The reply of a comparison and what its words say; taken outlines compared; the lists exchanged; the walk on the chart and the columns of
--- rows.
+-- The reply of a comparison and what its words say; taken outlines compared; the lists exchanged; the walk and the rows.
 pub mod Compared
 pub mod Outlines
 pub mod Exchanged

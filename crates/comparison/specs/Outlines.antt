@@ -1,5 +1,4 @@
--- Two taken outlines compared by the anchors and edges that a test returns (contract 6.1 and 6.4): what the word says of the enclosed
--- cells.
+-- Two taken outlines compared by the anchors and edges that a test returns: what the word says of the cells (contract 6.1 and 6.4).
 use Prim.Native.Nat.{_*_}
 use mathlib.Core.Path.{_≡_}
 use mathlib.Core.Logic.{_↔_}

@@ -1,6 +1,5 @@
 -- Paths that meet no corner twice; the path round a block of rows: its letters, their count, that it passes refusals 1 to 6 and marks the
--- block.
--- The edges and the rows of a hull. The block of an outline is 4-connected; the ends of its rows, from its sides. The completion.
+-- block. The edges and the rows of a hull. The block of an outline is 4-connected; the ends of its rows, from its sides. The completion.
 pub mod Paths
 pub mod Segments
 pub mod Hood

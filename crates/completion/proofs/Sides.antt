@@ -1,6 +1,6 @@
--- The ends of a block's rows are the columns of their first and last sides, and its rows lie between the lowest and the highest corner. The
--- cell on the right of each letter of the clockwise form is in the block, and a row changes only at a side. A walk read backward has the
--- same sides.
+-- The ends of a block's rows are the columns of their first and last sides, and its rows lie between the
+-- lowest and the highest corner. The cell on the right of each letter of the clockwise form is in the
+-- block, and a row changes only at a side. A walk read backward has the same sides.
 use Prim.Native.Nat.{ℕ, zero, suc, pred, _+_, _-_, _≤_, _<_}
 use mathlib.Core.Path.{_≡_, refl, sym, ap, _∙_, subst}
 use mathlib.Core.Bool.{Bool, true, false, _||_, _&&_}

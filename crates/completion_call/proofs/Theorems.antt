@@ -1,5 +1,5 @@
--- What the contract says about completions (6.6): reply and buffer have the border of the outline round the hull, and the laws of that
--- outline do the rest.
+-- What the contract says about completions (6.6): reply and buffer have the border of
+-- the outline round the hull, and the laws of that outline do the rest.
 use Prim.Native.Nat.{ℕ, _+_, _-_, _*_, _≤_, _<_}
 use native.Mathlib.Decide.{decLt}
 use native.Mathlib.Omega.{arith}

@@ -35,8 +35,7 @@ fn wide(x: u16) -> usize
     x as usize
 }
 
-// For an outline that passes 1 to 6: 18, or the letters round the hull's rows, from W. The right side is found as the left side of the
-// mirror image.
+// For an outline that passes 1 to 6: 18, or the letters round the hull's rows, from W. The mirror image gives the right side.
 fn write_letters(start: Point, letters: &[u8], out: &mut [u8]) -> Completed
     requires { ⌜ Simple (outline start (now letters)) ⌝ }
     ensures { λ c. ⌜ Answers (outline start (now (letters .entry))) (now (out .entry)) (now (out .exit)) c ⌝ }

@@ -1,5 +1,5 @@
--- The corner cells of a taken outline are on the chart and its edges lead round, so the points of its drawing are its corner cells, whose
--- hull is its block.
+-- The corner cells of a taken outline are on the chart and its edges lead round, so
+-- the points of its drawing are its corner cells, whose hull is its block.
 use Prim.Native.Nat.{_<_}
 use native.Mathlib.Nat.{lt-trans}
 use mathlib.Core.Path.{_≡_, sym, ap}

@@ -14,9 +14,8 @@ use Rattle.drawing.specs.declared.Stroke.the-variants.{Move, Line, Close
 unfoldable pub lineTo : ℤ → ℤ → Stroke
 lineTo x y = cond (onChart x y) (Line (record { col = natAbs x; row = natAbs y })) None
 
--- The lines of the walk from (x, y): for each edge but the last, a line to the cell where it ends. An edge is two numbers, columns then
--- rows.
--- An odd number at the end is not an edge
+-- The lines of the walk from (x, y): for each edge but the last, a line to the cell where it ends.
+-- An edge is two numbers, columns then rows. An odd number at the end is not an edge
 unfoldable pub linesFrom : List ℤ → ℤ → ℤ → List Stroke
 linesFrom [] x y = []
 linesFrom (dx ∷ []) x y = []

@@ -1,5 +1,4 @@
--- The test's result for a record does not depend on its position. So bytes further on in a file have the same lines, with larger numbers
--- and positions.
+-- The test does not depend on a record's position, so bytes further on have the same lines with larger numbers and positions.
 use Prim.Native.Nat.{ℕ, zero, suc, _+_}
 use native.Mathlib.Nat.{add-assoc}
 use mathlib.Core.Path.{_≡_, refl}

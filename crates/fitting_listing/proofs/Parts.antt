@@ -1,5 +1,4 @@
--- A whole record is the bytes of its outline, and its bytes determine the outline. So a file has its parts, record by record, and no
--- others.
+-- A whole record is the bytes of its outline, which determine the outline. So a file has its parts, record by record, and no others.
 use Prim.Native.Nat.{ℕ, zero, suc, _+_, _/_, _%_, _<_}
 use native.Mathlib.Nat.{div-add-mod, mod-lt}
 use native.Mathlib.Omega.{arith}

@@ -1,5 +1,4 @@
--- What the theorems are about: the numbers that a line may have, the parts of a file, and lines after other records (contract 11.1 to
--- 11.3).
+-- What the theorems are about: the numbers of a line, the parts of a file, and lines after other records (contract 11.1 to 11.3).
 use Prim.Native.Nat.{ℕ, _+_, _<_}
 use mathlib.Core.Path.{_≡_}
 use mathlib.Core.Bool.{cond}

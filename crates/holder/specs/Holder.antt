@@ -53,8 +53,8 @@ replied r h = record { reply = r; holder = h }
 
 -- ---- the calls
 
--- The place whose work an action is given: the one that it names. An action that names none, or is refused by 20, is given the first
--- place's work and leaves it unchanged
+-- The place whose work an action is given: the one that it names. An action that names none,
+-- or is refused by 20, is given the first place's work and leaves it unchanged
 unfoldable pub keptPlace : ℕ → ℕ
 keptPlace k = cond (badPlace k) 0 k
 

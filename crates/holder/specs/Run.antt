@@ -1,5 +1,4 @@
--- Lists of calls on a holder, each made on the holder that the one before it returned (contract 7.2). The model's are in the crate
--- holder_model.
+-- Lists of calls on a holder, each made on the holder that the one before it returned (contract 7.2). For the model see holder_model.
 use mathlib.Core.List.{List, [], _∷_}
 use Rattle.holder.specs.Holder.{freshHolder, answerOf}
 use Rattle.calls.specs.declared.Call.{Call}

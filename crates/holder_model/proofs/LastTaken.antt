@@ -1,5 +1,4 @@
--- The outline last taken is at work: a call changes what is at work at a place exactly if it puts something there, and then to what it
--- puts.
+-- The outline last taken is at work, because what is at work at a place changes exactly if a call puts something there.
 use Prim.Native.Nat.{ℕ}
 use mathlib.Core.Path.{_≡_, refl, sym, ap, _∙_}
 use mathlib.Core.Bool.{Bool, true, false, cond}
@@ -124,8 +123,8 @@ last-taken-next p k cs c = ap (lastOr none) (marks-next p k fresh cs c) ∙ last
 
 -- ---- the theorem
 
--- After any list of calls on a fresh model the outline last taken at a party's place is at work there: none before the first taking, and
--- none from a clear to the next taking
+-- After any list of calls on a fresh model the outline last taken at a party's place is at
+-- work there: none before the first taking, and none from a clear to the next taking
 pub work-last-taken : (p k : ℕ) (cs : List Call) → atWork (bookAfter fresh cs) p k ≡ lastTaken p k cs
 unfolding lastTaken fresh
 work-last-taken p k cs = from-book p k fresh cs

@@ -1,5 +1,5 @@
--- The model on some lists of calls: the checker computes the replies. A full draft is too long to compute, so a law, by induction over n,
--- says what n adds do.
+-- The model on some lists of calls: the checker computes the replies. A full draft is
+-- too long to compute, so a law, by induction over n, says what n adds do.
 use Prim.Native.Nat.{ℕ, zero, suc, _+_, _≤_}
 use native.Mathlib.Omega.{arith}
 use mathlib.Core.Path.{_≡_, refl, ap, _∙_}
@@ -154,8 +154,8 @@ pub state-refusals : replied out-of-place
     (done longest ++ (numbered 15 ∷ said no-word ∷ numbered 13 ∷ []))
 state-refusals = replied-alone out-of-place ∙ from-page
 
--- Knee and ankle mixed: each has its own draft and its own outlines. 19 comes before 20, and both before all others. A close refused by 20
--- ends the draft
+-- Knee and ankle mixed: each has its own draft and its own outlines. 19 comes
+-- before 20, and both before all others. A close refused by 20 ends the draft
 pub both-parties : map replyFields (Book.replies (
     map (by 1) (Begin (at 0 0) ∷ []) ++ (map (by 0) (draw 1 (at 0 1) H3) ++ (
     by 2 (Close 4) ∷ by 1 (Clear 4) ∷ by 0 (Close 4) ∷ by 0 (query 1 (at 1 1)) ∷ by 1 (query 1 (at 1 1)) ∷ by 0 (query 3 (at 1 1)) ∷ by 1 (Close 4) ∷ by 1 (Close 1) ∷ []))))

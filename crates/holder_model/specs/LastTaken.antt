@@ -1,5 +1,4 @@
--- The outline last taken at a party's place (contract 8.3), defined from the calls, their replies and the drafts, and not from what is at
--- work.
+-- The outline last taken at a party's place (contract 8.3), defined from the calls, their replies and the drafts alone.
 use Prim.Native.Nat.{ℕ}
 use mathlib.Core.Bool.{cond, _&&_}
 use mathlib.Core.Option.{Option, none}

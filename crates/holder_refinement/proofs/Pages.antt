@@ -1,5 +1,5 @@
--- Each action, done to its party's draft and to one work, replies as the model does and leaves the model's next draft and work. Every other
--- work stays.
+-- Each action, done to its party's draft and to one work, replies as the model does
+-- and leaves the model's next draft and work. Every other work stays.
 use Prim.Native.Nat.{ℕ}
 use mathlib.Core.Path.{_≡_, refl, sym, subst}
 use mathlib.Core.Bool.{Bool, true, false, cond}

@@ -1,5 +1,5 @@
--- A path command comes from the drawing of the outline last taken at its party and place, so the claims about drawings hold for the replies
--- in any list of calls.
+-- A path command comes from the drawing of the outline last taken at its party and
+-- place, so the claims about drawings hold for the replies in any list of calls.
 use Prim.Native.Nat.{ℕ, zero, suc, _+_, _-_, _/_, _<_, max}
 use native.Mathlib.Numerals.{add-one}
 use native.Mathlib.Omega.{arith}

@@ -1,5 +1,5 @@
--- A row is answered from the outline last taken at its party and place, and the columns are exact: those from the first to the last are
--- enclosed, and no other.
+-- A row is answered from the outline last taken at its party and place, and the columns
+-- are exact: those from the first to the last are enclosed, and no other.
 use Prim.Native.Nat.{ℕ, _≤_, _<_}
 use native.Mathlib.Omega.{arith}
 use mathlib.Core.Path.{_≡_, sym, ap, _∙_, subst}

@@ -1,5 +1,5 @@
--- The parts of a holder represent a party's state, and writing two of them leaves all others unchanged, because no two parties and places
--- share one.
+-- The parts of a holder represent a party's state, and writing two of them leaves
+-- all others unchanged, because no two parties and places share one.
 use Prim.Native.Nat.{ℕ, _*_, _<_}
 use native.Mathlib.Omega.{arith}
 use mathlib.Core.Path.{_≡_, refl, sym, _∙_}

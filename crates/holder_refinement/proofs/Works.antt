@@ -1,7 +1,6 @@
--- A work represents the model's: its flag says whether there is one, and its anchor, edges and rows are those of the model's outline, which
--- was taken.
--- So edges and rows decide for the outline's cells, and two taken outlines enclose the same cells exactly if they have the same anchor and
--- edges.
+-- A work represents the model's: its flag says whether there is one, and its anchor, edges and rows are
+-- those of the model's outline, which was taken. So edges and rows decide for the outline's cells, and two
+-- taken outlines enclose the same cells exactly if they have the same anchor and edges.
 use Prim.Native.Nat.{ℕ, _*_, min}
 use native.Mathlib.Omega.{arith}
 use mathlib.Core.Path.{_≡_, refl, sym, ap, _∙_}

@@ -1,5 +1,5 @@
--- The pass up a side keeps one edge. It goes across the current row, or it ends in the row before and the next edge does. It crosses the
--- row where the hull begins.
+-- The pass up a side keeps one edge. It goes across the current row, or it ends in the
+-- row before and the next edge does. It crosses the row where the hull begins.
 use Prim.Native.Nat.{ℕ, suc, pred, _+_, _-_, _*_, _/_, _≤_, _<_}
 use mathlib.Core.Path.{_≡_, refl, sym, ap, _∙_, subst}
 use mathlib.Core.Bool.{cond}

@@ -1,5 +1,4 @@
--- One call on a holder in the caller's arrays, as bytes or by its arguments, with a buffer for its reply; and a fresh holder (contract
--- 10.4).
+-- One call on a holder in the caller's arrays, as bytes or by arguments, with a buffer for the reply; a fresh holder (contract 10.4).
 use Prim.Native.Nat.{ℕ}
 use mathlib.Core.Path.{_≡_}
 use mathlib.Core.Bool.{Bool, true, false, cond}
@@ -19,8 +18,7 @@ use Rattle.wire.specs.Wire.{replyWidth}
 use Rattle.live_memory.specs.Layout.{Memory, holderIn, Fits}
 use Rattle.live_memory.specs.parts.Writes.{callWrites}
 
--- A call by its arguments, with a buffer of so many numbers for its reply. Nothing if the reply does not fit. For bytes see `received` in
--- wire
+-- A call by its arguments, with so many numbers for its reply. Nothing if the reply does not fit. For bytes see `received` in wire
 unfoldable pub spoken : Call → ℕ → Decoded
 spoken c room = cond (leb replyWidth room) (Said c) Nothing
 
@@ -50,9 +48,9 @@ unfoldable pub writes : Decoded → ℕ → Bool
 writes Nothing i = false
 writes (Said c) i = callWrites c i
 
--- From arrays m to arrays n, with reply′ as the reply buffer afterwards. F says that the arrays of this call have their lengths.
--- Given F, the call is done exactly if there is a call; without F it is not done. If it is done, holder and reply are those by value.
--- If it is not done, nothing changes
+-- From arrays m to arrays n, with reply′ as the reply buffer afterwards. F says that the arrays of this
+-- call have their lengths. Given F, the call is done exactly if there is a call; without F it is not done.
+-- If it is done, holder and reply are those by value. If it is not done, nothing changes
 pub record Called (F : Type 0) (m n : Memory) (d : Decoded) (reply reply′ : List ℕ) (r : Bool) : Type 0 where
   pub done : F → r ≡ isCall d
   pub holder : r ≡ true → holderIn n ≡ nextHolder (holderIn m) d

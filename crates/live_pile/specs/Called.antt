@@ -13,9 +13,8 @@ use Rattle.pile.specs.Pile.{freshPile}
 use Rattle.pile.specs.Calls.{PileCall, answerOf}
 use Rattle.live_pile.specs.Layout.{Memory, pileIn, Fits}
 
--- From arrays m to arrays n, with reply′ as the reply buffer afterwards. The call is done if the arrays have their lengths and the reply
--- fits.
--- Pile and reply are then those by value. If it is not done, nothing changes
+-- From arrays m to arrays n, with reply′ as the reply buffer afterwards. The call is done if the arrays have their
+-- lengths and the reply fits. Pile and reply are then those by value. If it is not done, nothing changes
 pub record Called (m n : Memory) (c : PileCall) (reply reply′ : List ℕ) (r : Bool) : Type 0 where
   pub done : Fits m → r ≡ leb 7 (length reply)
   pub pile : r ≡ true → pileIn n ≡ answerOf (pileIn m) c .pile

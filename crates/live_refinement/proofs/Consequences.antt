@@ -1,5 +1,5 @@
--- What the replies to calls made one by one mean: each is the reply by value after the calls before it, so what is known of that reply
--- holds for its seven numbers.
+-- What the replies to calls made one by one mean: each is the reply by value after the
+-- calls before it, so what is known of that reply holds for its seven numbers.
 use Prim.Native.Nat.{ℕ, _≤_, _<_}
 use native.Mathlib.Omega.{arith}
 use mathlib.Core.Path.{_≡_, refl, sym, ap, _∙_}
@@ -197,8 +197,8 @@ module _ (cs : List Call) (p k : ℕ) (there : p < parties) (place : k < places)
   spanned : g ≡ replyFields (spanReply (rowSpan (block o) r))
   spanned = replied-by-value cs _ g replied ∙ ap replyFields (Rows.row-reply p k there place cs r o last row)
 
-  -- "Columns" if the outline last taken encloses cells of the row: exactly the columns between the two that are given. "None" if it
-  -- encloses none (contract 7.9)
+  -- "Columns" if the outline last taken encloses cells of the row: exactly the columns
+  -- between the two that are given. "None" if it encloses none (contract 7.9)
   pub row-word : (g .word ≡ columns) ⊎ (g .word ≡ none-word)
   row-word = rw spanned (either-word (rowSpan (block o) r))
 
@@ -234,8 +234,8 @@ module _ (cs : List Call) (p k : ℕ) (there : p < parties) (place : k < places)
     λ e. ap (λ (f : Fields). f .word) reply-is ∙ i .1 (sym (Readings.reading-reply p k there place cs x o last) ∙ e),
   )
 
-  -- "Inside" is said only of readings that are exactly inside, and "outside" only of readings that are not. "Undecided" is for the strip
-  -- along the edges (contract 8.7)
+  -- "Inside" is said only of readings that are exactly inside, and "outside" only of
+  -- readings that are not. "Undecided" is for the strip along the edges (contract 8.7)
   pub reading-inside : g .word ≡ inside → exactlyInside (border o .start) (edges (border o)) x ≡ true
   reading-inside e = Readings.reading-inside p k there place cs x o last held good (said (word-of found .0) .0 e)
 
@@ -251,8 +251,7 @@ module _ (cs : List Call) (p k : ℕ) (there : p < parties) (place : k < places)
 -- ---- a path command
 
 module _ (cs : List Call) (p k : ℕ) (there : p < parties) (place : k < places) (n : ℕ) (o : Outline) (last : lastTaken p k cs ≡ some o) where
-  -- The path command at position n of the drawing of the outline last taken: its word, and the cell whose centre is its point (contract
-  -- 7.11)
+  -- The path command at position n of the drawing of the outline last taken: its word, and its point's cell (contract 7.11)
   pub piece-fields : (g : Fields) → Replied cs (by p (Ask k (OfPiece n))) g → g ≡ replyFields (drawnReply (strokeAt (border o .start) (edges (border o)) n))
   piece-fields g replied = replied-by-value cs _ g replied ∙ ap replyFields (Pieces.piece-reply p k there place cs o last n)
 

@@ -1,5 +1,4 @@
--- The reply at any position of a run is the holder's by value after the calls before it, because each reply stands at its call's own
--- position.
+-- The reply at any position of a run is the holder's by value after the calls before it, since each reply stands at its call's position.
 use Prim.Native.Nat.{ℕ, _≤_}
 use mathlib.Core.Path.{_≡_, refl, sym, ap, _∙_}
 use mathlib.Core.Bool.{Bool, true, false, cond}

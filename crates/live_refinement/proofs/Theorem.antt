@@ -83,8 +83,7 @@ run-leaves m f (x ∷ xs) (y ∷ ys) k (next {m = _} {n = n} F h c r) =
     let one = by-value F m n (callIn x) (x .reply) (y .reply) (y .done) c (h f) in
     (rest .0, rest .1 ∙ ap (λ (g : Holder). holderAfter g (callsIn xs)) (one .0) ∙ after-next (holderIn m) (callIn x) (callsIn xs))
 
--- Arrays that were made fresh, and calls made on them one by one, as bytes and by arguments in any mixture, also with buffers too short for
--- a reply
+-- Arrays that were made fresh, and calls made on them one by one, as bytes and by arguments in any mixture, with any reply buffers
 module _ (m n : Memory) (t : Bool) (f : Fits m) (s : Freshened m n t) (xs : List Asked) (ys : List Received) (k : Memory) (r : Run n xs ys k) where
   -- What is received is what the model replies (contract 8.2 and 10.4)
   pub run-theorem : ys ≡ modelFrom fresh xs

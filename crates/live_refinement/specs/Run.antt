@@ -1,5 +1,5 @@
--- Calls made one by one on a holder in the caller's arrays, as bytes and by arguments in any mixture, and the model's replies to them
--- (contract 8.2 and 10.4).
+-- Calls made one by one on a holder in the caller's arrays, as bytes and by arguments in
+-- any mixture, and the model's replies to them (contract 8.2 and 10.4).
 use Prim.Native.Nat.{ℕ}
 use mathlib.Core.Bool.{Bool, true, false, cond}
 use mathlib.Core.Path.{_≡_}

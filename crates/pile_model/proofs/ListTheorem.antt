@@ -1,5 +1,5 @@
--- A pile and the model stay in step: each layer has its outline's cells, and both know whether the last check passed. So each reply is the
--- model's, by induction over the list.
+-- A pile and the model stay in step: each layer has its outline's cells, and both know whether
+-- the last check passed. So each reply is the model's, by induction over the list.
 use Prim.Native.Nat.{ℕ, _≤_, _<_}
 use native.Mathlib.Decide.{decLt}
 use native.Mathlib.Omega.{arith}

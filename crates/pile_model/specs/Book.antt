@@ -1,6 +1,6 @@
--- The model of a pile, which the contract calls the plain book (contract 12). It sees the calls and keeps sixteen layers, each none or an
--- outline, and whether the last check passed and nothing was set since. A check is stated by hulls: no section has a missing cell, or the
--- first that has one.
+-- The model of a pile, which the contract calls the plain book (contract 12). It sees the calls and keeps
+-- sixteen layers, each none or an outline, and whether the last check passed and nothing was set since. A
+-- check is stated by hulls: no section has a missing cell, or the first that has one.
 use Prim.Native.Nat.{ℕ}
 use mathlib.Core.Path.{_≡_}
 use mathlib.Core.Bool.{Bool, true, false, cond}

@@ -24,8 +24,8 @@ use Rattle.pile_refinement.proofs.Theorem.{fresh-leaves}
 -- Arrays with a fresh pile, after any calls, also with reply buffers that are too short
 module _ (m n : Memory) (t : Bool) (f : Fits m) (s : Freshened m n t) (xs : List Asked) (ys : List Received) (k : Memory)
     (r : Series n xs ys k) where
-  -- A check that is done replies 0 exactly if no section of the taken outlines, at a column or at a row, has a missing cell. Otherwise it
-  -- names the first that has one
+  -- A check that is done replies 0 exactly if no section of the taken outlines, at a column
+  -- or at a row, has a missing cell. Otherwise it names the first that has one
   pub check-theorem : (k′ : Memory) (reply reply′ : List ℕ) → Called k k′ Check reply reply′ true
       → CheckWritten (Checked (bookOf (heeded xs) .layers)) (NoneDented (bookOf (heeded xs) .layers)) reply reply′
   unfolding answerOf

@@ -1,5 +1,5 @@
--- At a cell's centre, exactly inside is the rule of the edges for the cell: every number is a whole multiple of 1, and a common factor
--- keeps order and sign.
+-- At a cell's centre, exactly inside is the rule of the edges for the cell: every
+-- number is a whole multiple of 1, and a common factor keeps order and sign.
 use Prim.Native.Nat.{_^_, _<_}
 use native.Mathlib.Nat.{le-of-suc-le-suc}
 use mathlib.Core.Path.{_≡_, refl, sym, ap, ap₂, _∙_}

@@ -1,5 +1,5 @@
--- Two kinds of hull. Without edges the extremes are the cell itself, so they decide alone. A flat hull has two opposite edges with opposite
--- side values: on its line both are 0.
+-- Two kinds of hull. Without edges the extremes are the cell itself, so they decide alone. A
+-- flat hull has two opposite edges with opposite side values: on its line both are 0.
 use native.Mathlib.Omega.{arith}
 use mathlib.Core.Path.{_≡_, refl, sym, ap, _∙_}
 use mathlib.Core.Bool.{true, false, and-eq-true-iff}

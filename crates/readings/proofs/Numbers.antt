@@ -1,5 +1,5 @@
--- A number that is not refused is finite, so it has a value in units of 2 ^ -149. Floats compare as their values do, and a cell's number is
--- exactly a float.
+-- A number that is not refused is finite, so it has a value in units of 2 ^ -149.
+-- Floats compare as their values do, and a cell's number is exactly a float.
 use Prim.Native.Nat.{ℕ, _*_, _^_, _≤_, _<_}
 use native.Mathlib.Nat.{le-of-suc-le-suc, lt-of-le-of-lt}
 use mathlib.Core.Path.{_≡_, refl}

@@ -1,5 +1,4 @@
--- Side values at a reading, exact and computed; where a reading lies, and what is claimed of it; the reply; specimens; the steps of the
--- walk.
+-- Side values at a reading, exact and computed; where a reading lies; what is claimed of it; the reply; specimens; the walk.
 pub mod Sides
 pub mod Located
 pub mod Claims

@@ -53,8 +53,7 @@ far r e = le (computedSide r e) (fin true 1 (negsuc 5))
 unfoldable pub near : Reading → Edge → Bool
 near r e = lt (computedSide r e) (fin false 1 (negsuc 5))
 
--- Outside if the reading is not between the extremes or is far outside some edge; otherwise undecided if it is near some edge; otherwise
--- inside
+-- Outside if not between the extremes or far outside some edge; otherwise undecided if near some edge; otherwise inside
 unfoldable pub sided : Point → List ℤ → Reading → Located
 sided a es r =
     cond (withinExtremes a es r && not (any (far r) (edgesAlong a es)))
@@ -69,8 +68,7 @@ endsOn e = onChart (e .col +ℤ e .cols) (e .row +ℤ e .rows)
 unfoldable pub staysOn : Point → List ℤ → Bool
 staysOn a es = onChart (pos (a .col)) (pos (a .row)) && all endsOn (edgesAlong a es)
 
--- The answer for every anchor, list and pair of floats. If the walk leaves the chart, every reading is outside; no outline at work has such
--- edges
+-- The answer for every anchor, list and pair of floats. If the walk leaves the chart, as no outline's at work does, it is outside
 unfoldable pub locatedOf : Point → List ℤ → Reading → Located
 locatedOf a es r = cond (badReading r) Refused (cond (staysOn a es) (sided a es r) Outside)
 

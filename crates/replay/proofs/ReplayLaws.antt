@@ -1,6 +1,5 @@
--- A whole call whose reply fits writes its reply first, and the rest of the script is replayed on the next holder into the rest of the
--- buffer.
--- From a fresh holder the list theorem makes the replies the model's.
+-- A whole call whose reply fits writes its reply first, and the rest of the script is replayed on the next
+-- holder into the rest of the buffer. From a fresh holder the list theorem makes the replies the model's.
 use Prim.Native.Nat.{ℕ, zero, suc, _+_, _*_, _-_, _/_, _≤_, _<_, min}
 use native.Mathlib.Nat.{zero-add, add-zero, le-refl}
 use native.Mathlib.Omega.{arith}

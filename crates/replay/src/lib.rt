@@ -21,8 +21,7 @@ fn most(bytes: usize, numbers: usize) -> usize
     if calls < replies { calls } else { replies }
 }
 
-// Runs the calls of a script on a fresh holder, writes the replies and returns their count. The holder is arrays of zeros, which are a
-// fresh one.
+// Runs the calls of a script on a fresh holder, which is arrays of zeros, writes the replies and returns their count.
 pub fn replay(script: &[u8], replies: &mut [u16]) -> usize
     ensures count { λ r. ⌜ r ≡ length (callsRead (now (script .entry)) (length (now (replies .entry)))) ⌝ }
     ensures replies { λ r. ⌜ now (replies .exit) ≡ repliesAfter (now (script .entry)) (now (replies .entry)) ⌝ }

@@ -1,5 +1,5 @@
-// The calls on a pile (contract 12.8). In C a pile is one struct of two arrays, and each function here takes both. Their lengths are part
-// of their types.
+// The calls on a pile (contract 12.8). In C a pile is one struct of two arrays, and
+// each function here takes both. Their lengths are part of their types.
 use chart::Point;
 use chart::reply::NUMBERS as REPLY;
 use live_pile::ROW_BYTES;

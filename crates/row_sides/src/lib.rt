@@ -76,8 +76,7 @@ fn moved(p: Point, letter: u8) -> Point
     p
 }
 
-// What the pass keeps: the columns of the first, the second and the last side of each row, and the rows of the lowest and the highest
-// corner.
+// What the pass keeps: the first, the second and the last side of each row, and the rows of the lowest and the highest corner.
 pub struct Sides {
     pub lo: [u16; 256],
     pub en: [u16; 256],

@@ -1,6 +1,6 @@
--- What the loops gather for a layer is the hull's part there: some line is at or below a row exactly if the smallest of the lines' rows is.
--- So no cell is missing exactly if every layer has the hull's cells there. If one layer does not, the hull's first or last cell there is
--- missing.
+-- What the loops gather for a layer is the hull's part there: some line is at or below a row exactly if
+-- the smallest of the lines' rows is. So no cell is missing exactly if every layer has the hull's cells
+-- there. If one layer does not, the hull's first or last cell there is missing.
 use Prim.Native.Nat.{ℕ, zero, suc, _+_, _-_, _*_, _≤_, _<_, min, max}
 use native.Mathlib.Nat.{mul-le-mul-left, eq-or-lt-of-le, le-of-suc-le-suc}
 use native.Mathlib.Decide.{decLe, decLt}

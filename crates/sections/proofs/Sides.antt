@@ -1,6 +1,6 @@
--- For a cell in a triangle of marked cells, some side of the triangle is at or below it in its layer, and some side is at or above it. Both
--- have one proof, with the direction as a Bool. No sorting is needed: the cell's layer has one corner on one side and two on the other, or
--- all corners with weight are in it.
+-- For a cell in a triangle of marked cells, some side of the triangle is at or below it in its layer, and some
+-- side is at or above it. Both have one proof, with the direction as a Bool. No sorting is needed: the cell's
+-- layer has one corner on one side and two on the other, or all corners with weight are in it.
 use Prim.Native.Nat.{ℕ, zero, suc, _+_, _-_, _*_, _≤_, _<_}
 use native.Mathlib.Nat.{add-comm, mul-le-mul-left, mul-le-mul-right, le-of-mul-le-mul-left, le-of-eq}
 use native.Mathlib.Decide.{decLe, decLt}

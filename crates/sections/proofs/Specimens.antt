@@ -19,8 +19,8 @@ three-past (suc zero) = 3
 three-past (suc (suc zero)) = 1
 three-past (suc (suc (suc l))) = 0
 
--- Rows 1 and 2 of layer 1 are in the hull. The lower line goes from layer 0 to layer 2, and the upper one is the end of layer 1 itself. No
--- single pair of layers gives both
+-- Rows 1 and 2 of layer 1 are in the hull. The lower line goes from layer 0 to layer 2, and
+-- the upper one is the end of layer 1 itself. No single pair of layers gives both
 independent-lines : reached three three-past 1 ≡ record { low = 1; high = 3 }
 unfolding three three-past fold ceiling above lowLine highLine full alone joined joinedFrom reached
 independent-lines = refl

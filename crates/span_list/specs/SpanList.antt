@@ -1,5 +1,5 @@
--- The rows of several outlines side by side in one list of bytes. Slot s has 510 bytes: the first columns of its 255 rows, then the columns
--- past the last.
+-- The rows of several outlines side by side in one list of bytes. Slot s has 510
+-- bytes: the first columns of its 255 rows, then the columns past the last.
 use Prim.Native.Nat.{ℕ, _+_, _*_}
 use mathlib.Core.Path.{_≡_}
 use mathlib.Core.List.{List}

@@ -194,9 +194,9 @@ fn rows(s: Script) -> Script {
     s.at(2, 2).row(0).at(1, 4).row(0).at(1, 2).clear().row(1)
 }
 
-// Readings with H3 at a place: 12 and 11 in their order; the middle, a corner cell, a point on an edge, 1/100 outside it, 1/10 inside it,
-// a cell outside, and past the last column. H2, which is flat: on its line, at -0, just above it, and past its end. H1: its centre, -0, and
-// just beside it.
+// Readings with H3 at a place: 12 and 11 in their order; the middle, a corner cell, a point on an edge,
+// 1/100 outside it, 1/10 inside it, a cell outside, and past the last column. H2, which is flat: on its
+// line, at -0, just above it, and past its end. H1: its centre, -0, and just beside it.
 fn readings(s: Script) -> Script {
     let s = s.at(0, 1)
         .reading(0x7fc0_0000, 0)

@@ -1,5 +1,5 @@
--- A number in decimal is a tenth of it in decimal, unless that is 0, followed by the last digit. So every large enough bound on the digits
--- gives the same text.
+-- A number in decimal is a tenth of it in decimal, unless that is 0, followed by the
+-- last digit. So every large enough bound on the digits gives the same text.
 use Prim.Native.Nat.{ℕ, zero, suc, _+_, _*_, _-_, _/_, _%_, _^_, _≤_, _<_}
 use native.Mathlib.Nat.{div-add-mod}
 use native.Mathlib.Decide.{decLe}

@@ -19,10 +19,9 @@ use Rattle.witness.specs.Witnessed.{sixNumbers}
 unfoldable pub cellIn : List ℕ → ℕ → Point
 cellIn l k = record { col = getD l (2 * k) 0; row = getD l (suc (2 * k)) 0 }
 
--- The number is 0 exactly if the outline passes 1 to 6 and the buffer has six numbers. Then the word is "none" exactly if no cell is
--- missing.
--- Otherwise the reply has the lowest missing cell, and the first three cells of the buffer are enclosed and have it in their triangle. Only
--- then does the buffer change, and only its first six numbers
+-- The number is 0 exactly if the outline passes 1 to 6 and the buffer has six numbers. Then the word is "none" exactly if
+-- no cell is missing. Otherwise the reply has the lowest missing cell, and the first three cells of the buffer are enclosed
+-- and have it in their triangle. Only then does the buffer change, and only its first six numbers
 pub record WitnessNamed (o : Outline) (f : Fields) (before after : List ℕ) : Type 0 where
   pub answers : (f .number ≡ 0) ↔ (Simple o × (sixNumbers ≤ length before))
   pub full : f .number ≡ 0 → (f .word ≡ none) ↔ Convex (block o)

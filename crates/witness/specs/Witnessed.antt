@@ -1,5 +1,5 @@
--- A witness call: refusals 1 to 6 and 10; "none" if no cell is missing; otherwise the lowest missing cell, with three cells in the buffer
--- (contract 6.5).
+-- A witness call: refusals 1 to 6 and 10; "none" if no cell is missing; otherwise the
+-- lowest missing cell, with three cells in the buffer (contract 6.5).
 use Prim.Native.Nat.{ℕ}
 use mathlib.Core.Bool.{cond}
 use mathlib.Core.List.{List, [], _∷_, _++_}

@@ -1,5 +1,4 @@
--- Each return is a case of the border call: too many letters, letters that are not taken with this anchor and these edges, no room, and
--- success.
+-- Each return is a case of the border call: too many letters, no taken outline with this anchor and these edges, no room, or success.
 use native.Mathlib.Omega.{arith}
 use mathlib.Core.Path.{sym, _∙_}
 use lib.Seq.{length-take-le}

@@ -1,5 +1,4 @@
--- The two passes find the ends of the hull's rows, W and E are in the rows that reach furthest, and the letters are written round the rows
--- from W.
+-- The two passes find the ends of the hull's rows, the rows of W and E reach furthest, and the letters go round the rows from W.
 use Prim.Native.Nat.{ℕ, _+_, _-_, _*_, _≤_, _<_}
 use mathlib.Core.Path.{ap}
 use mathlib.Core.List.{List}

@@ -1,5 +1,4 @@
--- The invariant: the current edge goes across the current row, each earlier row begins where the hull does, and the later rows are
--- unchanged.
+-- The current edge goes across the current row, each earlier row begins where the hull does, and the later rows are unchanged.
 use Prim.Native.Nat.{suc, _-_, _≤_, _<_}
 use mathlib.Core.Path.{_≡_, refl, _∙_}
 use denote.Ref.{now}

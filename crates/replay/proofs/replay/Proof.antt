@@ -1,5 +1,4 @@
--- The loop's invariant: replaying the rest of the script on the holder in the arrays into the rest of the buffer gives the final buffer
--- (ReplayLaws).
+-- The loop's invariant: replaying the rest of the script on the current holder into the rest of the buffer gives the final buffer.
 use borrow.Author.Needs.{needs}
 use mathlib.Core.Path.{refl, ap, _∙_}
 use Prim.Native.Nat.{_+_, _*_, _-_}

@@ -1,5 +1,4 @@
--- The invariant: every layer so far has its interval, of numbers that were read and so are bytes. At the end the lists are the
--- definition's.
+-- Every layer so far has its interval, of numbers that were read and so are bytes. At the end the lists are the definition's.
 use Prim.Native.Nat.{ℕ, _-_, _≤_, _<_}
 use native.Mathlib.Omega.{arith}
 use mathlib.Core.Path.{_≡_, refl}
