@@ -22,7 +22,7 @@ pub enum Stroke {
     None,
 }
 
-// One number of a cell after a step. A position has 16 bits, so the sum of the steps before it stays below 2^32.
+// One number of a cell after a step. A position has 16 bits, so the sum of the steps before it stays within 2^32.
 fn further(n: i64, d: i16) -> i64
     requires { ⌜ natAbs n ≤ 2 ^ 32 ⌝ }
     ensures { λ r. ⌜ r ≡ n +ℤ d ⌝ }

@@ -5,7 +5,7 @@ use mathlib.Core.List.{List, [], _∷_, _++_}
 use lib.Dec.{ltb}
 use Rattle.text_lines.specs.declared.Line.{Line}
 
--- A space, a line feed, and the digit 0
+-- A space, a line feed, and a digit
 abbrev pub space : ℕ
 space = 32
 

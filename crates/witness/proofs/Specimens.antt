@@ -31,7 +31,7 @@ called : Bool
 unfolding Witnessed.shownIn Witnessed.pastSurvey Witnessed.witnessedOf Witnessed.witnessedFields Witnessed.threeNumbers Witnessed.shownAfter Witnessed.cellsAfter
 called = true
 
--- Some cell is missing: which one, and which three cells prove it
+-- Some cell is missing: which one, and which three cells have it in their triangle
 pub record Shows (o : Outline) (x a b d : Point) : Type 0 where
   pub missing : Gap.isMissing o ≡ true
   pub cell : Gap.lowestMissing o ≡ x

@@ -1,4 +1,4 @@
-// The lowest missing cell of an outline, and three enclosed cells that prove it missing: the result (contract 6.5) and theory.
+// The lowest missing cell of an outline, and three enclosed cells whose triangle has it: the result (contract 6.5) and theory.
 use chart::Point;
 use chart::Refusal;
 

@@ -1,4 +1,4 @@
-// The witness call: refusals 1 to 6 and 10, then the lowest missing cell and three enclosed cells that prove it missing (contract 6.5).
+// The witness call: refusals 1 to 6 and 10, then the lowest missing cell and three enclosed cells whose triangle has it (contract 6.5).
 use chart::Point;
 use chart::Refusal;
 use survey::Surveyed;

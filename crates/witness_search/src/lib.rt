@@ -1,4 +1,4 @@
-// Finds the lowest missing cell of an outline, and three cells that prove it missing, in one pass over the rows. Rows may have gaps.
+// Finds the lowest missing cell of an outline, and three cells whose triangle has it, in one pass over the rows. Rows may have gaps.
 use chart::Point;
 use row_sides::pass;
 use rows::mirrored;

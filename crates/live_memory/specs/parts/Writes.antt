@@ -1,5 +1,5 @@
 -- What a call leaves in the arrays: the holder that they stand for, and which heads are unchanged (contract 10.4). Equal holders have equal
--- letters, rows and numbers. They may differ in a head's flag, where only zero or not counts, so the heads are stated apart.
+-- letters, rows and numbers. A head's flag counts only as zero or not, so the heads are stated separately.
 use Prim.Native.Nat.{ℕ, _+_, _≤_, _<_}
 use mathlib.Core.Path.{_≡_}
 use mathlib.Core.Bool.{Bool, false, _&&_, _||_}

@@ -28,7 +28,7 @@ topOf s = side - first (λ k. hasCell (s .first) (s .past) (side - 1 - k)) side
 unfoldable pub reachOf : List Spans → Section
 reachOf ls = record { lo = table (λ l. bottomOf (layerAt ls l)) 0 layers; past = table (λ l. topOf (layerAt ls l)) 0 layers }
 
--- No row before n, and none from n on, has column c
+-- No row before n has column c; no row from n on has it
 unfoldable pub NoneBelow : List ℕ → List ℕ → ℕ → ℕ → Type 0
 NoneBelow begins ends c n = (r : ℕ) → r < n → inRow begins ends c r ≡ false
 
