@@ -61,7 +61,7 @@ module _ (p : ℕ) where
           (rest (answer d c .next) (next-page b c ∙ ap (λ (g : PartyModel). turned g c) e ∙ sym (next-page d c))))
       go false q rest = rw q (rest d (next-page b c ∙ next-other (b p) c q ∙ e))
 
-  -- The replies to a party's calls are those to its calls alone
+  -- The replies to a party's calls are those that its calls alone would get
   pub replies-to : (cs : List Call) → repliesTo p cs (replies cs) ≡ replies (callsOf p cs)
   unfolding replies
   replies-to cs = own-page fresh fresh refl cs

@@ -9,7 +9,7 @@ use Rattle.holder_model.proofs.Parties.{replies-to}
 use Rattle.holder.specs.Run.{handled}
 use Rattle.holder_refinement.proofs.ListTheorem.{list-theorem}
 
--- The replies to a party's calls are those to its calls alone
+-- The replies to a party's calls are those that its calls alone would get
 pub replies-alone : (p : ℕ) (cs : List Call) → repliesTo p cs (handled cs) ≡ handled (callsOf p cs)
 replies-alone p cs = ap (repliesTo p cs) (list-theorem cs) ∙ replies-to p cs ∙ sym (list-theorem (callsOf p cs))
 

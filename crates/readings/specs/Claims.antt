@@ -29,7 +29,7 @@ pub record Answers (a : Point) (es : List ℤ) (r : Reading) : Type 0 where
   pub finite : (e : Edge) → List·Memᴰ e (edgesAlong a es) → T (isFinite (computedSide r e)) × T (fits binary32 (computedSide r e))
   -- rounding moves a side value by less than 1/64
   pub close : (e : Edge) → List·Memᴰ e (edgesAlong a es) → natAbs (value binary32 (computedSide r e) -ℤ exactSide r e) < 2 ^ 143
-  -- "inside" is said only where the reading is exactly inside, and "outside" only where it is not
+  -- "inside" is said only if the reading is exactly inside, and "outside" only if it is not
   pub inside : locatedOf a es r ≡ Inside → exactlyInside a es r ≡ true
   pub outside : locatedOf a es r ≡ Outside → exactlyInside a es r ≡ false
   -- when the answer is "undecided"

@@ -1,4 +1,4 @@
-// A list of calls as bytes, run from a fresh holder (contract 10.3).
+// A list of calls as bytes, run on a fresh holder (contract 10.3).
 use chart::reply::NUMBERS as REPLY;
 use live::respond;
 use live_memory::HEADS;

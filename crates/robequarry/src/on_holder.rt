@@ -40,7 +40,7 @@ pub extern "C" fn rq_fresh_parts(
     );
 }
 
-// Begin.
+// Begin (contract 7.3).
 #[no_mangle]
 pub extern "C" fn rq_begin_parts(
     heads: &mut [u16; HEADS],
@@ -54,7 +54,7 @@ pub extern "C" fn rq_begin_parts(
     live_calls::begin(&mut heads[..], party, Point { col, row }, &mut reply[..]);
 }
 
-// Add.
+// Add (contract 7.4).
 #[no_mangle]
 pub extern "C" fn rq_add_parts(
     letters: &mut [u8; LETTERS],
@@ -74,7 +74,7 @@ pub extern "C" fn rq_add_parts(
     );
 }
 
-// Drop.
+// Drop (contract 7.5).
 #[no_mangle]
 pub extern "C" fn rq_drop_parts(heads: &mut [u16; HEADS], party: u8, reply: &mut [u16; REPLY])
     ensures { λ _. ⌜ ((letters rows : List ℕ) (numbers : List ℤ) → Done (memory letters rows numbers (now (heads .entry))) (memory letters rows numbers (now (heads .exit))) (by party Action.Drop) (now (reply .exit))) ⌝ }
@@ -82,7 +82,7 @@ pub extern "C" fn rq_drop_parts(heads: &mut [u16; HEADS], party: u8, reply: &mut
     live_calls::drop(&mut heads[..], party, &mut reply[..]);
 }
 
-// Clear.
+// Clear (contract 7.6).
 #[no_mangle]
 pub extern "C" fn rq_clear_parts(
     heads: &mut [u16; HEADS],
@@ -95,7 +95,7 @@ pub extern "C" fn rq_clear_parts(
     live_calls::clear(&mut heads[..], party, place, &mut reply[..]);
 }
 
-// Close.
+// Close (contract 7.7).
 #[no_mangle]
 pub extern "C" fn rq_close_parts(
     letters: &[u8; LETTERS],
@@ -119,7 +119,7 @@ pub extern "C" fn rq_close_parts(
     );
 }
 
-// Query.
+// Query (contract 7.8).
 #[no_mangle]
 pub extern "C" fn rq_query_parts(
     rows: &[u8; ROW_BYTES],
@@ -142,7 +142,7 @@ pub extern "C" fn rq_query_parts(
     );
 }
 
-// Row.
+// Row (contract 7.9).
 #[no_mangle]
 pub extern "C" fn rq_row_parts(
     rows: &[u8; ROW_BYTES],
@@ -157,7 +157,7 @@ pub extern "C" fn rq_row_parts(
     live_calls::row(&rows[..], &heads[..], party, place, row, &mut reply[..]);
 }
 
-// Reading.
+// Reading (contract 7.10).
 #[no_mangle]
 pub extern "C" fn rq_reading_parts(
     numbers: &[i16; NUMBERS],
@@ -180,7 +180,7 @@ pub extern "C" fn rq_reading_parts(
     );
 }
 
-// Piece. Writes the point of a move or a line to `point`. Any other path command leaves it unchanged.
+// Piece (contract 7.11). Writes the point of a move or a line to `point`. Any other path command leaves it unchanged.
 #[no_mangle]
 pub extern "C" fn rq_piece_parts(
     numbers: &[i16; NUMBERS],

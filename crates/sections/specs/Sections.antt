@@ -17,7 +17,7 @@ layers = 16
 abbrev pub numbers : List ℕ → ℕ → ℕ
 numbers list l = getD list l 0
 
--- Cells of the chart
+-- Both bounds are within the chart
 abbrev pub Bounded : Reach → Type 0
 Bounded r = (r .low ≤ side) × (r .high ≤ side)
 

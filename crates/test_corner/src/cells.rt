@@ -1,7 +1,7 @@
 // The cells of the chart's lower left 4 by 4 corner. Cell k is in column k % 4 and row k / 4.
 use crate::sets;
 
-// There are this many.
+// How many cells there are.
 pub(crate) const CELLS: u16 = 16;
 
 // No cell.

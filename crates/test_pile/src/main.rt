@@ -1,4 +1,4 @@
-// Makes a stored list of calls on a pile, and writes each reply as a line of seven numbers.
+// Makes a fixed list of calls on a pile, and writes each reply as a line of seven numbers.
 use chart::Fields;
 use chart::Point;
 use libc::STDOUT_FILENO;

@@ -169,7 +169,7 @@ pub fn search<'a>(
     }
 }
 
-// Nothing is missing.
+// No cell is missing.
 fn nothing() -> Shown
     ensures { λ s. ⌜ s .found ≡ false ⌝ }
 {

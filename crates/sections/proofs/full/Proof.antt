@@ -1,4 +1,4 @@
--- The test of the definition.
+-- The test is the definition's.
 use borrow.Author.Needs.{needs}
 use Rattle.sections.specs.Sections.{full}
 use Rattle.sections.proofs.full.Statement.{statement}

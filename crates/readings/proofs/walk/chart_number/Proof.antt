@@ -1,4 +1,4 @@
--- The two tests of the definition.
+-- The two tests are the definition's.
 use borrow.Author.Needs.{needs}
 use mir.Syntax.{w32}
 use mir.ValLaws.{toZ-ofZ}

@@ -1,4 +1,4 @@
--- The tests of the definition, in its order.
+-- The tests are the definition's, in its order.
 use Rattle.readings.specs.parts.Walk.{settled}
 use Rattle.readings.proofs.walk.settle.Statement.{statement}
 use Rattle.readings.proofs.walk.settle.Tie as tie
