@@ -1,5 +1,5 @@
 -- "Inside" and "outside" agree with exactly inside, because rounding moves a side value by less than 1/64: if the computed one is at most
--- -1/64, the exact one is below 0, and if it is at least 1/64, the exact one is above 0.
+-- -1/64, the exact one is below 0, and if it is at least 1/64, the exact one is not below 0.
 use Prim.Native.Nat.{ℕ, _^_}
 use mathlib.Core.Path.{_≡_, refl, sym, ap, _∙_, subst}
 use mathlib.Core.Logic.{_↔_, _⊎_, inl, inr, ⊎-elim}

@@ -1,5 +1,5 @@
--- What a computed value says about an exact one less than K away: at most -K means below 0, at
--- least K means above 0; and an exact value at least 2 K away from 0 is decided.
+-- What a computed value says about an exact one less than K away: at most -K means below 0, at least K means not below 0;
+-- and an exact value at least 2 K away from 0 is decided.
 use Prim.Native.Nat.{ℕ, _+_, _*_, _≤_, _<_}
 use native.Mathlib.Omega.{arith}
 use mathlib.Core.Path.{_≡_, ap}

@@ -93,7 +93,7 @@ module _ (o : Outline) (h : Simple o) where
   pub verdict-same : verdictFields (verdictOf o) .number ≡ 9 → lowestMissing o ≡ cellOf (verdictFields (verdictOf o))
   verdict-same e = lowest-is (cellOf (verdictFields (verdictOf o))) (verdict-named o .missing e)
 
--- The search for rows that are single intervals, with no back-step and with a dent
+-- For an outline with a dent and no back-step, the search of refusal 9 finds the same cell
 pub missing-same : (o : Outline) → Reaches o → dentPiece (border o) < 4
     → lowestMissing o ≡ missingCell (border o) (cornerAt (border o) (cornerPlace (border o) 3) .row) (cornerAt (border o) (cornerPlace (border o) 1) .row)
 missing-same o r d = lowest-is o (r .simple) _ (named-lowest o r d)
