@@ -26,7 +26,7 @@ pub record Fit (p : Polygon) : Type 0 where
   pub passes : badDirections (p .edges) ≡ false
   pub placed : cornersOnChart (p .edges) (pos (p .anchor .col)) (pos (p .anchor .row)) ≡ true
 
--- The cell lies in the hull of the corner cells
+-- The hull of the corner cells holds the cell
 abbrev pub Holds : Polygon → Point → Type 0
 Holds p x = CornersHold (p .anchor) (p .edges) x
 

@@ -40,7 +40,7 @@ looseOf a es x =
     (cond (badDirections es) (Refused Directions)
     (cond (insideEdges a es x) Inside Outside)))
 
--- What the word of a reply says: "inside" that the cell lies in the hull of the corner cells, "outside" that it does not
+-- What the word of a reply says: "inside" that the hull of the corner cells holds the cell, "outside" that it does not
 pub record HullNamed (a : Point) (es : List ℤ) (x : Point) (f : Fields) : Type 0 where
   pub within : f .word ≡ inside → CornersHold a es x
   pub beyond : f .word ≡ outside → CornersHold a es x → ⊥

@@ -154,7 +154,7 @@ pub fn bad_cell(x: Point) -> bool
     SIDE <= x.col || SIDE <= x.row
 }
 
-// The loose query: checks 10, 11 and 16, then says whether the cell lies in the hull of the corner cells.
+// The loose query: checks 10, 11 and 16, then says whether the hull of the corner cells holds the cell.
 pub fn loose_query(anchor: Point, edges: &[i16], cell: Point) -> Position
     ensures answer { λ p. ⌜ p ≡ looseOf anchor (now (edges .entry)) cell ⌝ }
     ensures hull { λ p. ⌜ HullNamed anchor (now (edges .entry)) cell (positionFields p) ⌝ }
