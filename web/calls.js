@@ -44,8 +44,9 @@ export class Calls {
 
   log(name, party, rest, reply) {
     const last = this.lines[this.lines.length - 1];
-    if (name === "add" && reply.done && last?.adding === party) last.letters += rest[0];
-    else this.lines.push({ name, party, rest, reply, adding: name === "add" && reply.done ? party : null, letters: name === "add" ? String(rest[0]) : "" });
+    const adding = name === "add" && reply.done ? party : null;
+    if (adding !== null && last?.adding === party) last.letters += rest[0];
+    else this.lines.push({ name, party, rest, reply, adding, letters: name === "add" ? String(rest[0]) : "" });
   }
 
   // What is at work at a place, by the library's rows: runs of cells. None if nothing is.
@@ -90,9 +91,13 @@ function callWords(name, who, rest, letters) {
   if (name === "begin") return text("log.begin", { who, start: cellOf(rest[0]) });
   if (name === "add") return text(letters.length > 1 ? "log.adds" : "log.add", { who, letters, count: count(letters.length, "letters") });
   if (name === "drop") return text("log.drop", { who });
-  const [place, what] = rest;
-  const values = { who, place, what: typeof what === "object" ? (what.col === undefined ? at([what.angle, what.load]) : cellOf(what)) : what };
-  return text(`log.${name}`, values);
+  return text(`log.${name}`, { who, place: rest[0], what: argument(rest[1]) });
+}
+
+// A cell, a reading, or a number.
+function argument(what) {
+  if (typeof what !== "object") return what;
+  return what.angle === undefined ? cellOf(what) : at([what.angle, what.load]);
 }
 
 function replyWords(reply) {

@@ -119,7 +119,7 @@ def page(library, table_path):
 
 def main():
     parser = argparse.ArgumentParser(prog="page", description="Writes the page as one HTML file.")
-    parser.add_argument("--messages", type=Path, default=HERE / "messages.js", metavar="FILE", help="the table of the page's sentences, to translate it")
+    parser.add_argument("--messages", type=Path, default=HERE / "messages.js", metavar="FILE", help="the table of the page's sentences")
     parser.add_argument("--library", type=Path, default=ROOT / "target/wasm32/robequarry.wasm", help=argparse.SUPPRESS)
     parser.add_argument("-o", "--out", type=Path, default=ROOT / "target/page/robequarry.html", metavar="FILE", help="where to write it")
     arguments = parser.parse_args()

@@ -206,7 +206,8 @@ function tell(drawing, answer) {
 
 // The corners of a drawing, as far as they are on the chart.
 function cornersOf({ start, letters, cells }) {
-  const corners = letters ? walk(start, letters) : (cells?.runs() ?? []).flatMap(([row, first, last]) => [[first, row], [last + 1, row + 1]]);
+  const ends = ([row, first, last]) => [[first, row], [last + 1, row + 1]];
+  const corners = letters ? walk(start, letters) : (cells?.runs() ?? []).flatMap(ends);
   return corners.map((corner) => corner.map((n) => Math.min(SIDE, Math.max(0, n))));
 }
 

@@ -111,7 +111,8 @@ export class Picture {
     const marks = [];
     if (story.start && !more.plain) marks.push(square(this.corner(story.start)));
     if (story.edges) marks.push(...this.anchor(story.edges));
-    if (story.factor && !more.why && this.view.scale > 7) marks.push(...story.factor.map((cell) => circle("point", this.centre(cell), 3.5)));
+    const points = story.factor && !more.why && this.view.scale > 7 ? story.factor : [];
+    marks.push(...points.map((cell) => circle("point", this.centre(cell), 3.5)));
     if (story.triangle && more.why) marks.push(...story.triangle.cells.map((cell) => this.ring("witness", cell)));
     const lowest = story.named ?? (more.why && story.triangle?.missing);
     if (lowest) marks.push(...this.named(lowest));
@@ -167,11 +168,12 @@ export class Picture {
     const { view } = this;
     const step = [1, 2, 5, 10, 20, 50].find((n) => n * view.scale >= 28) ?? 100;
     const bottom = ABOVE + view.height;
-    const shown = (n, low, span) => n + 0.5 >= low && n + 0.5 <= low + span;
+    const shown = (n, low, pixels) => n + 0.5 >= low && n + 0.5 <= low + pixels / view.scale;
     const made = [];
+    const label = (n, place) => made.push(element("text", place, String(n)));
     for (let n = 0; n < SIDE; n += step) {
-      if (shown(n, view.left, view.width / view.scale)) made.push(element("text", { class: "middle", x: view.x(n + 0.5), y: bottom + 16 }, String(n)));
-      if (shown(n, view.bottom, view.height / view.scale)) made.push(element("text", { class: "right", x: LEFT - 6, y: view.y(n + 0.5) + 4 }, String(n)));
+      if (shown(n, view.left, view.width)) label(n, { class: "middle", x: view.x(n + 0.5), y: bottom + 16 });
+      if (shown(n, view.bottom, view.height)) label(n, { class: "right", x: LEFT - 6, y: view.y(n + 0.5) + 4 });
     }
     const turn = `translate(16 ${ABOVE + view.height / 2}) rotate(-90)`;
     made.push(element("text", { class: "axis middle", x: LEFT + view.width / 2, y: bottom + 35 }, text("axis.column")));
@@ -199,8 +201,10 @@ export const circle = (name, [cx, cy], r) => element("circle", { class: name, cx
 
 const square = ([x, y]) => element("rect", { class: "start", x: x - 4.5, y: y - 4.5, width: 9, height: 9 });
 
-const cross = ([x, y], half) =>
-  element("path", { class: "cross", d: `M${x - half} ${y - half}L${x + half} ${y + half}M${x - half} ${y + half}L${x + half} ${y - half}` });
+const cross = ([x, y], half) => {
+  const [left, right, top, bottom] = [x - half, x + half, y - half, y + half];
+  return element("path", { class: "cross", d: `M${left} ${top}L${right} ${bottom}M${left} ${bottom}L${right} ${top}` });
+};
 
 // A step as an arrow that is long enough to be seen.
 function step(from, to) {

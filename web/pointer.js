@@ -1,6 +1,7 @@
 // Mouse, pen and fingers on the chart. One of them draws; two fingers move and zoom the chart, and never draw.
 
-// Calls `on.press`, `on.drag` and `on.release` for a stroke, `on.cancel` where it turns out to be none, `on.hover`, `on.pan` and `on.pinch`.
+// Calls `on.press`, `on.drag` and `on.release` for a stroke, and `on.cancel` where it turns out to be none; `on.hover` and `on.leave` for a
+// pointer that is not down; and `on.pinch` for two fingers.
 export class Pointers {
   constructor(svg, on) {
     this.svg = svg;

@@ -24,7 +24,8 @@ export function verdict(drawing, answer) {
 
 function taken({ anchor, edges }) {
   const shown = edges.slice(0, 12).map(({ dx, dy }) => at([dx, dy])).join(" ");
-  const list = edges.length === 0 ? text("taken.alone") : text(edges.length > 12 ? "taken.more" : "taken.edges", { shown, more: edges.length - 12 });
+  const key = edges.length === 0 ? "taken.alone" : edges.length > 12 ? "taken.more" : "taken.edges";
+  const list = text(key, { shown, more: edges.length - 12 });
   return {
     what: text("taken.what", { edges: count(edges.length, "edge") }),
     meaning: text("taken.meaning"),
@@ -76,18 +77,21 @@ const DETAILS = {
   6: ({ start, letters }, { reply: { refusal } }) => {
     const [col, row] = cornerAt(start, letters, refusal.place);
     const [dc, dr] = STEPS[letters[refusal.place]];
-    return { where: text("where.6", { letter: letterAt(letters, refusal.place), corner: at([col + dc, row + dr]) }), advice: text("advice.once") };
+    const where = text("where.6", { letter: letterAt(letters, refusal.place), corner: at([col + dc, row + dr]) });
+    return { where, advice: text("advice.once") };
   },
   8: (drawing, answer) => {
     const { place, piece: n } = answer.reply.refusal;
-    return { where: `${text("where.8", { letter: onForm(drawing, place), piece: piece(n) })} ${triangle(answer.witness)}`, advice: fill(answer) };
+    const letter = text("where.8", { letter: onForm(drawing, place), piece: piece(n) });
+    return { where: `${letter} ${triangle(answer.witness)}`, advice: fill(answer) };
   },
   9: (drawing, answer) => {
     const { place, piece: n, length, cell } = answer.reply.refusal;
-    const clockwise = clockwiseForm(drawing.start, drawing.letters).clockwise;
+    const key = clockwiseForm(drawing.start, drawing.letters).clockwise ? "where.9" : "where.9.backward";
+    const factor = text(key, { letters: count(length, "letters"), place, piece: piece(n) });
     return {
       meaning: text("meaning.9", { cell: at([cell.col, cell.row]) }),
-      where: `${triangle(answer.witness)} ${text(clockwise ? "where.9" : "where.9.backward", { letters: count(length, "letters"), place, piece: piece(n) })}`,
+      where: `${triangle(answer.witness)} ${factor}`,
       advice: fill(answer),
     };
   },

@@ -54,19 +54,22 @@ const HEIGHT = 104;
 export function drawSection(svg, marks, missing, { piece }) {
   const [low, high] = [Math.min(...marks.map(([, n]) => n)) - 1, Math.max(...marks.map(([, n]) => n)) + 2];
   const [wide, tall] = [(WIDTH - LEFT - 4) / 16, HEIGHT / (high - low)];
-  const tile = (name) => ([layer, n]) =>
-    element("rect", { class: name, x: LEFT + layer * wide, y: (high - n - 1) * tall, width: wide, height: tall, "data-cell": `${layer} ${n}` });
+  const tile = (name) => ([layer, n]) => {
+    const place = { x: LEFT + layer * wide, y: (high - n - 1) * tall, width: wide, height: tall };
+    return element("rect", { class: name, ...place, "data-cell": `${layer} ${n}` });
+  };
   svg.setAttribute("viewBox", `0 0 ${WIDTH} ${HEIGHT + 34}`);
-  const numbers = Array.from({ length: 16 }, (_, n) => element("text", { class: "middle", x: LEFT + (n + 0.5) * wide, y: HEIGHT + 14 }, String(n)));
+  const number = (_, n) => element("text", { class: "middle", x: LEFT + (n + 0.5) * wide, y: HEIGHT + 14 }, String(n));
+  const upward = text(piece === 0 ? "section.row" : "section.column");
   const ends = [low + 1, high - 2].map((n) => element("text", { class: "right", x: LEFT - 4, y: (high - n - 0.5) * tall + 4 }, String(n)));
   svg.replaceChildren(
     element("rect", { class: "field", x: LEFT, width: wide * 16, height: HEIGHT }),
     ...marks.map(tile("cells")),
     ...missing.map(tile("gone")),
     element("path", { class: "side", d: polyline([[LEFT, 0], [LEFT, HEIGHT], [LEFT + wide * 16, HEIGHT]]) }),
-    ...numbers,
+    ...Array.from({ length: 16 }, number),
     ...ends,
     element("text", { class: "middle axis", x: LEFT + wide * 8, y: HEIGHT + 31 }, text("section.speed")),
-    element("text", { class: "middle axis", transform: `translate(10 ${HEIGHT / 2}) rotate(-90)` }, text(piece === 0 ? "section.row" : "section.column")),
+    element("text", { class: "middle axis", transform: `translate(10 ${HEIGHT / 2}) rotate(-90)` }, upward),
   );
 }

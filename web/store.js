@@ -14,14 +14,15 @@ function packed(drawing) {
 }
 
 const isNumber = (n) => Number.isInteger(n) && n >= 0 && n <= 65535;
-const isList = (list, each) => Array.isArray(list) && list.every(each);
+const isStart = (list) => Array.isArray(list) && list.length === 2 && list.every(isNumber);
+const areLetters = (list) => Array.isArray(list) && list.every((letter) => isNumber(letter) && letter < 256);
 
 function unpacked(kept) {
   if (kept === null) return BLANK;
   const name = String(kept.name ?? "");
   if (kept.runs) return ofCells(ofRuns(kept.runs), name);
   const { start, letters } = kept;
-  if (!isList(start, isNumber) || start.length !== 2 || !isList(letters, (letter) => isNumber(letter) && letter < 256)) throw new Error(PLACE);
+  if (!isStart(start) || !areLetters(letters)) throw new Error(PLACE);
   return ofOutline({ name, start, letters });
 }
 

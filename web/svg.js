@@ -40,7 +40,7 @@ export function boxOf(sets) {
 export function thumbnail(cells, box) {
   const made = element("svg", { viewBox: box, "aria-hidden": "true", class: "thumb" });
   const plot = element("g", { transform: "translate(0 255) scale(1 -1)" });
-  plot.append(element("rect", { class: "field", width: 255, height: 255 }), element("path", { class: "cells", d: cells ? cellsPath(cells) : "" }));
+  plot.append(element("path", { class: "cells", d: cells ? cellsPath(cells) : "" }));
   made.append(plot);
   return made;
 }

@@ -76,7 +76,8 @@ export class View {
 
   // Shows these corners, with room round them.
   fit(corners) {
-    const ends = (k) => corners.reduce(([low, high], corner) => [Math.min(low, corner[k]), Math.max(high, corner[k])], [Infinity, -Infinity]);
+    const wider = (k) => ([low, high], corner) => [Math.min(low, corner[k]), Math.max(high, corner[k])];
+    const ends = (k) => corners.reduce(wider(k), [Infinity, -Infinity]);
     const [[left, right], [bottom, top]] = [ends(0), ends(1)];
     const scale = Math.min(this.width / (right - left + 2 * MARGIN), this.height / (top - bottom + 2 * MARGIN));
     this.scale = Math.min(40, Math.max(LEAST, scale));

@@ -20,7 +20,7 @@ export function block(page) {
     more: () => ({}),
     show(drawing) {
       const { records, at: place, file } = app.state;
-      write(by("outline-head"), drawing.letters ? text("outline.head", { start: at(drawing.start), letters: count(drawing.letters.length, "letters") }) : text("outline.none"));
+      write(by("outline-head"), head(drawing));
       const shown = drawing.letters ? drawing.letters.map((letter) => (letter < 10 ? letter : `[${letter}]`)).join("") : "";
       if (by("letters").value !== shown) by("letters").value = shown;
       write(by("record"), text(file ? "record.file" : "record.at", { at: place, count: records.length, file }));
@@ -29,6 +29,10 @@ export function block(page) {
       if (by("name").value !== drawing.name && document.activeElement !== by("name")) by("name").value = drawing.name;
     },
   };
+}
+
+function head({ start, letters }) {
+  return letters ? text("outline.head", { start: at(start), letters: count(letters.length, "letters") }) : text("outline.none");
 }
 
 function list(examples) {
@@ -54,7 +58,10 @@ function listen(page, examples) {
   by("example-on").addEventListener("click", () => example(Number(by("example").value) + 1));
   by("back").addEventListener("click", () => go(-1));
   by("on").addEventListener("click", () => go(1));
-  by("add").addEventListener("click", () => app.change({ ...app.state, records: [...app.state.records, BLANK], at: app.state.records.length }));
+  by("add").addEventListener("click", () => {
+    const { records } = app.state;
+    app.change({ ...app.state, records: [...records, BLANK], at: records.length });
+  });
   by("print").addEventListener("click", () => print());
   by("name").addEventListener("change", () => app.change(app.with({ ...app.drawing, name: by("name").value.replaceAll("#", "").trim() })));
   by("load").addEventListener("change", () => open(page));

@@ -29,13 +29,15 @@ export function holder(page) {
     more(_, answer) {
       const cells = places.cells(places.party, places.place);
       if (!cells) return {};
-      return { plain: answer.kind === "taken", paths: { ghost: cellsPath(cells), inner: polyline(calls.drawing(places.party, places.place)) } };
+      const inner = polyline(calls.drawing(places.party, places.place));
+      return { plain: answer.kind === "taken", paths: { ghost: cellsPath(cells), inner } };
     },
     show(drawing) {
       places.show();
       const draft = calls.drafts[places.party];
       const who = text(places.party === 0 ? "party.knee" : "party.ankle");
-      write(by("draft"), draft ? text("draft.open", { who, start: at(draft.start), letters: count(draft.count, "letters") }) : text("draft.none", { who }));
+      const open = draft && { who, start: at(draft.start), letters: count(draft.count, "letters") };
+      write(by("draft"), open ? text("draft.open", open) : text("draft.none", { who }));
       for (const id of ["call-send", "call-begin", "call-add", "call-rest"]) by(id).disabled = !drawing.letters;
       showLog(calls);
     },
@@ -123,7 +125,8 @@ class Places {
     const known = this.known[n];
     if (known?.change[0] === change[0] && known.change[1] === change[1]) return known.cells;
     const runs = this.calls.rows(party, place);
-    const cells = runs && Cells.of(runs.flatMap(([row, first, last]) => Array.from({ length: last - first + 1 }, (_, i) => [first + i, row])));
+    const run = ([row, first, last]) => Array.from({ length: last - first + 1 }, (_, i) => [first + i, row]);
+    const cells = runs && Cells.of(runs.flatMap(run));
     this.known[n] = { change, cells };
     return cells;
   }

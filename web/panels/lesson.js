@@ -80,8 +80,8 @@ export function lesson(page) {
 }
 
 function list(tasks, { at, done }) {
-  const rows = by("lesson-list").children.length > 0 ? [...by("lesson-list").children] : tasks.map(() => by("lesson-list").appendChild(document.createElement("li")));
-  rows.forEach((row, n) => {
+  tasks.forEach((_, n) => {
+    const row = by("lesson-list").children[n] ?? by("lesson-list").appendChild(document.createElement("li"));
     const name = tasks[n].base.name || text("lesson.empty");
     write(row, text(done.has(n) ? "lesson.row.done" : "lesson.row", { name, goal: text(`goal.${tasks[n].goal}`) }));
     row.className = done.has(n) ? "done" : "";

@@ -75,7 +75,8 @@ function listen(page) {
   };
   by("layer-copy").addEventListener("click", () => {
     const { layer, layers: list } = app.state;
-    if (layer + 1 < LAYERS) app.change({ ...app.state, layers: list.map((old, n) => (n === layer + 1 ? app.drawing : old)), layer: layer + 1 });
+    if (layer + 1 === LAYERS) return;
+    app.change({ ...app.state, layers: list.map((old, n) => (n === layer + 1 ? app.drawing : old)), layer: layer + 1 });
   });
   by("pile-good").addEventListener("click", () => layers(examplePile(false)));
   by("pile-bad").addEventListener("click", () => layers(examplePile(true)));

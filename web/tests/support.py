@@ -35,7 +35,8 @@ RUN = re.compile(r"M(\d+) (\d+)h(\d+)v1h-(\d+)z")
 
 ARGUMENTS = (
     "--headless=new", "--no-sandbox", "--disable-gpu", "--hide-scrollbars", "--disable-dev-shm-usage", "--no-first-run",
-    "--disable-background-networking", "--disable-component-update", "--disable-sync", "--proxy-server=127.0.0.1:1", "--touch-events=enabled",
+    "--disable-background-networking", "--disable-component-update", "--disable-sync", "--proxy-server=127.0.0.1:1",
+    "--touch-events=enabled",
 )
 
 
@@ -75,6 +76,12 @@ def start_browser(folder):
     browser = webdriver.Chrome(service=Service(os.environ.get("CHROMEDRIVER", "/usr/bin/chromedriver")), options=options)
     browser.set_script_timeout(LONGEST)
     return browser
+
+
+# Picks the example of a name.
+PICK = """const list = document.getElementById("example");
+    list.value = [...list.options].find((option) => option.textContent === arguments[0]).value;
+    list.dispatchEvent(new Event("change"))"""
 
 
 class PageTest(unittest.TestCase):
@@ -139,6 +146,10 @@ class PageTest(unittest.TestCase):
 
     def press(self, name):
         self.by(name).click()
+
+    def pick(self, name):
+        self.panel("draw")
+        self.script(PICK, name)
 
     def panel(self, name):
         self.press(f"tab-{name}")

@@ -155,24 +155,20 @@ class Drawing(PageTest):
         self.assertNotEqual(self.point((1, 1)), before)
 
     def test_examples(self):
-        choice = self.by("example")
-        names = self.script("return [...arguments[0].options].map((option) => option.textContent)", choice)
+        names = self.script("return [...document.getElementById('example').options].map((option) => option.textContent)")
         self.assertIn("H3: a plus", names)
-        pick = lambda name: self.script(
-            "arguments[0].value = [...arguments[0].options].find((o) => o.textContent === arguments[1]).value; arguments[0].dispatchEvent(new Event('change'))", choice, name
-        )
-        pick("H6: a dent")
+        self.pick("H6: a dent")
         self.says("Refused, 9: a dent")
         self.press("example-on")
         self.says("Refused, 8: a back-step")
         self.press("example-on")
         self.says("Refused, 6: a corner is met twice")
-        pick("A start off the chart")
+        self.pick("A start off the chart")
         self.says("Refused, 2: the start is off the chart")
-        pick("A block with a notch")
+        self.pick("A block with a notch")
         self.says("Refused, 8: a back-step")
         self.assertIn("letter 2 (left, read backward as right) at place 46, in piece 3", self.text("place"))
-        pick("As many edges as any: 100")
+        self.pick("As many edges as any: 100")
         self.says("Taken, 100 edges")
 
 
@@ -314,7 +310,8 @@ class KeysAlone(PageTest):
             for _ in range(60):
                 self.keys(Keys.TAB)
                 seen.add(self.script("return document.activeElement.id"))
-        shown = "return [...document.querySelectorAll('button, select, input, textarea, [tabindex=\"0\"]')].filter((e) => !e.disabled && !e.closest('fieldset')).map((e) => e.id)"
+        shown = """return [...document.querySelectorAll('button, select, input, textarea, [tabindex="0"]')]
+            .filter((e) => !e.disabled && !e.closest("fieldset")).map((e) => e.id)"""
         hidden = {f"tab-{name}" for name in ("draw", "lesson", "readings", "years", "speeds", "holder")}
         wanted = {name for name in self.script(shown) if name} - hidden
         grouped = set(self.script("return [...document.querySelectorAll('[role=radio]')].map((e) => e.id)"))

@@ -30,6 +30,13 @@ SHOWN = """
 """
 
 
+# Attributes that a screen reader says or a browser shows.
+SPOKEN = ("aria-label", "title", "placeholder", "alt", "aria-roledescription")
+
+# What only a sentence looks like.
+SENTENCE = re.compile(r"[A-Z][a-z]+ [a-z]+|[a-z]{2,} [a-z]{2,} [a-z]{2,}|[a-z]{2,}\.( |$)")
+
+
 def unmarked(words):
     """What is left of a text without its marked parts, which may stand in each other."""
     before = None
@@ -47,7 +54,7 @@ class TheTable(unittest.TestCase):
                 self.words.append(data)
 
             def handle_starttag(self, tag, attributes):
-                self.words.extend(value for name, value in attributes if name in ("aria-label", "title", "placeholder", "alt", "aria-roledescription"))
+                self.words.extend(value for name, value in attributes if name in SPOKEN)
 
         reader = Reader()
         reader.feed(inline.PLACE.sub("", (WEB / "index.html").read_text()))
@@ -61,7 +68,7 @@ class TheTable(unittest.TestCase):
             source = re.sub(r"//.*", "", path.read_text())
             for literal in re.findall(r'"([^"\n]*)"|`([^`]*)`', source):
                 words = "".join(literal)
-                self.assertIsNone(re.search(r"[A-Z][a-z]+ [a-z]+|[a-z]{2,} [a-z]{2,} [a-z]{2,}|[a-z]{2,}\.( |$)", words), f"{path.name}: {words}")
+                self.assertIsNone(SENTENCE.search(words), f"{path.name}: {words}")
 
     def test_every_text_is_used(self):
         sources = "".join(path.read_text() for path in [*WEB.rglob("*.js"), WEB / "index.html"] if path.name != "messages.js")

@@ -7,18 +7,7 @@ from selenium.webdriver.common.keys import Keys
 
 from support import DENTED, PLUS, PageTest, outlines
 
-PICK = """const list = document.getElementById("example");
-    list.value = [...list.options].find((option) => option.textContent === arguments[0]).value;
-    list.dispatchEvent(new Event("change"))"""
-
-
-class Panel(PageTest):
-    def pick(self, name):
-        self.panel("draw")
-        self.script(PICK, name)
-
-
-class Help(Panel):
+class Help(PageTest):
     def test_the_witness_and_the_band(self):
         self.draw(DENTED)
         # H6 of the contract: the cells (2, 0), (0, 2), (0, 1) hold (1, 1).
@@ -54,7 +43,7 @@ class Help(Panel):
         self.assertFalse(self.by("instead").is_enabled())
 
 
-class Readings(Panel):
+class Readings(PageTest):
     def word(self, angle, load):
         for name, number in (("angle", angle), ("shin", load)):
             field = self.by(name)
@@ -85,7 +74,7 @@ class Readings(Panel):
             self.assertTrue(all(abs(n + 0.5 - p) < 0.01 for n, p in zip(near, part)), (near, part))
 
     def test_the_strip_is_where_readings_are_undecided(self):
-        """Each point of the loupe is a reading. Across an edge of H3 the strip is 1/32 over the edge's length wide, a quarter of the loupe."""
+        """Each point of the loupe is a reading. Across an edge of H3 the strip is 1/32 over the edge's length wide: a quarter of it."""
         self.pick("H3: a plus")
         self.panel("readings")
         self.assertNotEqual(self.path("strip-line"), "")
@@ -93,7 +82,8 @@ class Readings(Panel):
         corners = list(zip(numbers[::2], numbers[1::2]))
         self.assertTrue(any(math.isclose(x + y, 2 - 1 / 64) for x, y in corners), corners)
         self.word(0.5, 1.5)
-        count = lambda word: self.script("return document.querySelector(`#loupe .said-${arguments[0]}`).getAttribute('d').split('M').length - 1", word)
+        script = "return document.querySelector(`#loupe .said-${arguments[0]}`).getAttribute('d').split('M').length - 1"
+        count = lambda word: self.script(script, word)
         inside, undecided, outside = (count(word) for word in ("inside", "undecided", "outside"))
         self.assertEqual(inside + undecided + outside, 41 * 41)
         self.assertTrue(0.2 < undecided / 41 / 41 < 0.45 and abs(inside - outside) < 60, (inside, undecided, outside))
@@ -107,7 +97,7 @@ class Readings(Panel):
         self.assertEqual(self.text("reading-word"), "Inside")
 
 
-class Years(Panel):
+class Years(PageTest):
     def rectangle(self, *corners):
         self.tool("rectangle")
         self.drag(*corners)
@@ -141,7 +131,7 @@ class Years(Panel):
         self.assertIn("They cross", self.text("years-word"))
 
 
-class Speeds(Panel):
+class Speeds(PageTest):
     def test_the_check_and_its_section(self):
         self.panel("speeds")
         self.assertEqual(self.text("pile-word"), "The check is passed")
@@ -183,7 +173,7 @@ class Speeds(Panel):
         self.assertEqual(self.text("where"), "Cell (1, 1): not marked. The controller says: outside.")
 
 
-class Holder(Panel):
+class Holder(PageTest):
     def log(self):
         return self.script("return [...document.querySelectorAll('#log li')].map((line) => line.textContent)")
 
@@ -249,7 +239,7 @@ class Holder(Panel):
         self.assertEqual(self.cells("ghost"), set(PLUS))
 
 
-class Lesson(Panel):
+class Lesson(PageTest):
     def state(self):
         return self.text("lesson-state")
 

@@ -5,17 +5,8 @@ from pathlib import Path
 
 from support import SCREENSHOTS, PageTest
 
-PICK = """const list = document.getElementById("example");
-    list.value = [...list.options].find((option) => option.textContent === arguments[0]).value;
-    list.dispatchEvent(new Event("change"))"""
-
-
 @unittest.skipUnless(SCREENSHOTS, "no folder for pictures")
 class Pictures(PageTest):
-    def pick(self, name):
-        self.panel("draw")
-        self.script(PICK, name)
-
     def save(self, name):
         # No pointer over a button, and no focus on one.
         self.script("document.activeElement.blur()")

@@ -33,14 +33,15 @@ RANDOM_EDITS = (
     const below = (n) => Math.floor(((seed = (seed * 48271) % 2147483647) / 2147483647) * n);
     const chart = document.getElementById("chart");
     const click = (id) => document.getElementById(id).click();
-    const key = (name, more = {}) => chart.dispatchEvent(new KeyboardEvent("keydown", { key: name, bubbles: true, cancelable: true, ...more }));
+    const real = { bubbles: true, cancelable: true };
+    const key = (name, more = {}) => chart.dispatchEvent(new KeyboardEvent("keydown", { key: name, ...real, ...more }));
     const cell = () => [2 + below(12), 2 + below(9)];
     const place = ([col, row]) => {
       const plot = chart.querySelector(".plot").getScreenCTM();
       return { clientX: plot.a * (col + 0.5) + plot.e, clientY: plot.d * (row + 0.5) + plot.f };
     };
     const pointer = (kind, at, more) =>
-      chart.dispatchEvent(new PointerEvent(kind, { ...place(at), pointerId: 7, bubbles: true, cancelable: true, pointerType: "mouse", ...more }));
+      chart.dispatchEvent(new PointerEvent(kind, { ...place(at), pointerId: 7, pointerType: "mouse", ...real, ...more }));
     const seen = [];
     const note = () => seen.push(shown());
     const stroke = (more = {}) => {
@@ -81,7 +82,7 @@ RANDOM_EDITS = (
       [2, () => click(["tab-draw", "tab-lesson", "tab-readings", "tab-years", "tab-speeds", "tab-holder"][below(6)])],
       [2, () => click(["lesson-again", "lesson-on", "lesson-back"][below(3)])],
       [2, () => click(["years-keep", "years-swap", "years-drop"][below(3)])],
-      [2, () => (click("tab-speeds"), note(), click(["layer-3", "layer-4", "layer-copy", "pile-bad", "pile-good", "pile-empty"][below(6)]))],
+      [2, () => (click("tab-speeds"), note(), click(["layer-3", "layer-4", "layer-copy", "pile-bad", "pile-empty"][below(5)]))],
       [1, () => (click("tab-holder"), note(), click(["call-send", "call-begin", "call-rest", "call-clear", "log-clear"][below(5)]))],
     ];
     const total = ways.reduce((sum, [weight]) => sum + weight, 0);
