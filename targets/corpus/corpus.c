@@ -455,7 +455,12 @@ static void run_scripts(uint32_t number) {
     while (calls + 700 < MOST_CALLS && calls < 1500) {
         if (once_in(3)) draw_convex(&outline);
         else draw_dented(&outline);
-        if (outline.n < 100 || once_in(8)) draw_on_holder(&outline, any_party(), any_place());
+        const uint8_t party = any_party(), place = any_place();
+        if (outline.n < 100 || once_in(8)) draw_on_holder(&outline, party, place);
+        if (outline.n < 60 && once_in(3)) {
+            rotate(&outline, below(60));
+            draw_on_holder(&outline, party, place);
+        }
         for (uint32_t i = below(60); i > 0; i--) any_call();
     }
     end_script();
@@ -547,26 +552,45 @@ static void check_pile(void) {
     hash_bytes(&pile, sizeof pile);
 }
 
+/* A cell beside the outline's border, or any. */
 static void query_pile(uint8_t layer) {
-    const uint16_t col = near(outline.col), row = near(outline.row);
+    uint16_t col = outline.col, row = outline.row;
     rq_reply reply = blank;
+    for (uint32_t i = below(outline.n + 1u); i > 0; i--) step(&col, &row, outline.letters[i - 1]);
+    col = once_in(8) ? near(col) : (uint16_t)(col - (col > 0 && once_in(2)));
+    row = once_in(8) ? near(row) : (uint16_t)(row - (row > 0 && once_in(2)));
     new_input();
     SAY("layer and cell", layer, col, row);
     rq_pile_query(&pile, layer, col, row, &reply);
     told("pile query", &reply);
 }
 
+/* Layers that are all different, now and then different, sometimes dented, or all the same. */
 static void fill_layers(uint32_t kind) {
     draw_convex(&outline);
     for (uint8_t layer = 0; layer < RQ_LAYERS; layer++) {
         if (kind == 0 || (kind == 1 && once_in(6))) draw_convex(&outline);
         if (kind == 2 && once_in(6)) draw_dented(&outline);
-        if (!once_in(10)) set_layer(layer);
+        if (kind == 3 || !once_in(10)) set_layer(layer);
     }
 }
 
-static void run_piles(uint32_t number) {
+static void empty_pile(uint8_t layer) {
     rq_reply reply = blank;
+    new_input();
+    SAY("layer", layer);
+    rq_pile_empty(&pile, layer, &reply);
+    told("pile empty", &reply);
+}
+
+/* Some layers from the top are emptied: what passed still does. */
+static void lower_pile(void) {
+    const uint8_t top = (uint8_t)below(20);
+    for (uint8_t layer = RQ_LAYERS; layer > top; layer--) empty_pile(layer);
+    check_pile();
+}
+
+static void run_piles(uint32_t number) {
     memset(&pile, 0x5a, sizeof pile);
     rq_pile_fresh(&pile);
     check_pile();
@@ -574,8 +598,8 @@ static void run_piles(uint32_t number) {
         fill_layers((number + times) % 4);
         check_pile();
         for (uint32_t i = 0; i < 60; i++) query_pile((uint8_t)(once_in(16) ? bits() : below(RQ_LAYERS)));
-        rq_pile_empty(&pile, (uint8_t)below(20), &reply);
-        told("pile empty", &reply);
+        if (once_in(2)) lower_pile();
+        empty_pile((uint8_t)below(20));
         check_pile();
     }
 }

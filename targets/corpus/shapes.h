@@ -197,7 +197,7 @@ static void draw_dented(struct outline *o) {
             return;
         default:
             draw_convex(o);
-            for (uint32_t flips = between(1, 3); flips > 0; flips--) flip_cell(o);
+            for (uint32_t flips = once_in(3) ? between(2, 4) : 1; flips > 0; flips--) flip_cell(o);
     }
 }
 
