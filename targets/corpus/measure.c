@@ -82,6 +82,8 @@ static void at_work_lines(void) {
     line("query", count, nothing, call_query, 400);
     line("row", count, nothing, call_row, 400);
     line("reading, inside", count, nothing, call_reading, 400);
+    angle = load = 1.0f;
+    line("reading, outside", count, nothing, call_reading, 400);
     line("loose query, inside", count, nothing, call_loose, 400);
     col = 0;
     line("piece, first", count, nothing, call_piece, 400);
@@ -118,9 +120,21 @@ static void compare_lines(void) {
     line("compare, second within first", one.m / 2u, nothing, call_compare, 40);
     circle_at(&two, 76, 30, 104);
     line("compare, crossing", one.m / 2u, nothing, call_compare, 40);
+    many_directions(&one, 33, 0, 125);
+    many_directions(&two, 33, 1, 126);
+    line("compare, crossing", one.m / 2u, nothing, call_compare, 40);
     circle_at(&one, 50, 0, 100);
     circle_at(&two, 50, 120, 100);
     line("compare, no common cell", one.m / 2u, nothing, call_compare, 40);
+}
+
+/* As long a list as is taken: its hull is far larger than the chart. */
+static void long_list_lines(void) {
+    many_directions(&one, RQ_LIST_NUMBERS / 8, 0, 0);
+    col = row = 120;
+    line("loose query, inside", one.m / 2u, nothing, call_loose, 40);
+    line("border, refusal 17", one.m / 2u, nothing, call_border, 40);
+    line("compare, refusal 11", one.m / 2u, nothing, call_compare, 40);
 }
 
 static int table(void) {
@@ -137,6 +151,7 @@ static int table(void) {
     take_edges(&one);
     at_work_lines();
     holder_lines();
+    long_list_lines();
     circle(74);
     set_all_layers();
     line("pile check, sixteen layers", shape.n, nothing, call_pile_check, 8);

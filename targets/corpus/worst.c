@@ -106,6 +106,7 @@ static void give_position(void) {
     col = now.col % 128;
 }
 
+/* Lists of edges: those of the outlines, moved a little; or lists in more directions than an outline has. */
 static void give_hulls(void) {
     shape = now.second;
     take_edges(&two);
@@ -113,6 +114,8 @@ static void give_hulls(void) {
     take_edges(&one);
     give_numbers();
     if (now.col % 3 == 0) two.col = (uint16_t)(two.col + now.row % 5);
+    if (now.angle % 3 == 0) many_directions(&one, now.load % 5 == 0 ? RQ_LIST_NUMBERS / 8 : 30 + now.load % 7, now.col % 64, now.row % 255);
+    if (now.angle % 5 == 0) many_directions(&two, 30 + now.load / 8 % 7, (uint16_t)(now.col % 64 + now.load % 3), now.row % 255);
 }
 
 static uint32_t count(action *give, action *call, uint32_t times) {
