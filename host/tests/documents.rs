@@ -35,9 +35,6 @@ const WORDS: [&str; 14] = [
 /// Files that a command writes.
 const WRITTEN: [&str; 3] = ["target/staticlib/librobequarry.a", "host/target/release/robequarry", "target/bin/fittings"];
 
-/// Commands that are named before they are there. Take a name out once its file has come.
-const PENDING: [&str; 1] = ["build"];
-
 /// What `rt` can be told to do.
 const RT: [&str; 6] = ["check", "ci", "must-fail", "prove", "staticlib", "version"];
 
@@ -58,7 +55,7 @@ fn command_error(tree: &Tree, line: &str) -> Option<String> {
     }
     let first = *words.first()?;
     if let Some(script) = first.strip_prefix("./") {
-        return (!tree.is_executable(script) && !PENDING.contains(&script)).then(|| format!("no command {first}"));
+        return (!tree.is_executable(script)).then(|| format!("no command {first}"));
     }
     let second = *words.get(1)?;
     match first {
