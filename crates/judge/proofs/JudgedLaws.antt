@@ -32,8 +32,8 @@ use Rattle.verdict.specs.Verdict.{roundVerdict, borderVerdict, afterSurvey, ver
 use Rattle.verdict.proofs.VerdictLaws.{taken-fits}
 use Rattle.cut_places.specs.declared.Cuts.{Cuts}
 use Rattle.cut_places.specs.parts.Cuts.{CutsOf}
-use Rattle.judge.specs.declared.once_round.Round.{Round}
-use Rattle.judge.specs.parts.OnceRound.{readRound, readPlace}
+use Rattle.judge.specs.declared.Round.{Round}
+use Rattle.clockwise_copy.specs.parts.ClockwiseCopy.{readRound, readPlace}
 use Rattle.judge.specs.parts.Round.{RoundOf}
 use Rattle.judge.specs.Judged.{Said, SaidOfRound, SaidOfBorder, zeros, judgedOf}
 use Rattle.judge.proofs.PieceLaws.{from-west, said-refused}
@@ -129,7 +129,7 @@ module _ {o : Outline} {f : Corners} {cuts : Cuts} {v : ℕ} {buffer : List ℕ}
   v-lt = omega (arith, place-is, border-length, length-form o, west-first (clockwiseForm o) (walked (clockwiseForm o) (simple-form o (h .simple))) .below)
 
   abbrev told : Round
-  told = record { forward = forward; place = v; west = p; bottom = f .bottom; top = f .top; at = cuts .at }
+  told = record { cuts = cuts; place = v; west = p; bottom = f .bottom; top = f .top }
 
   ready : RoundOf told (border o)
   ready =

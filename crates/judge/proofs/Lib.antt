@@ -1,9 +1,3 @@
--- The cut and its code; back-steps; edges, words and dents; the judgement.
-pub mod Buffer
-pub mod CutLaws
-pub mod BackStepLaws
-pub mod FrameSizes
-pub mod WordLaws
-pub mod DentLaws
+-- Refusals 8 and 9 and the edges of a border; the judgement of an outline.
 pub mod PieceLaws
 pub mod JudgedLaws

@@ -35,13 +35,14 @@ use Rattle.convexity.proofs.Clockwise.{simple-form}
 use Rattle.convexity.proofs.Bounds.{edges-length}
 use Rattle.convexity.proofs.EdgeBound.{edges-at-most-100}
 use Rattle.verdict.specs.Verdict.{backStepIn, cellFound, dentIn, roundVerdict, withRoom, bufferAfter}
-use Rattle.judge.specs.declared.once_round.Round.{Round}
-use Rattle.judge.specs.parts.OnceRound.{Laid, SentTo}
-use Rattle.judge.specs.parts.BackSteps.{StepIs, FoundAt}
-use Rattle.judge.specs.parts.Dents.{DentIs, EdgesAre, DentRead}
+use Rattle.judge.specs.declared.Round.{Round}
+use Rattle.pieces.specs.parts.Pieces.{Laid}
+use Rattle.clockwise_copy.specs.parts.ClockwiseCopy.{SentTo}
+use Rattle.back_steps.specs.parts.BackSteps.{StepIs, FoundAt}
+use Rattle.dents.specs.parts.Dents.{DentIs, EdgesAre, DentRead}
 use Rattle.judge.specs.parts.Round.{FromWest, RoundOf, dentAs}
-use Rattle.judge.proofs.Buffer.{length-rounds}
-use Rattle.judge.proofs.BackStepLaws.{laid-round, laid-once}
+use Rattle.pieces.proofs.LaidLaws.{length-rounds}
+use Rattle.pieces.proofs.LaidLaws.{laid-round, laid-once}
 use Rattle.judge.specs.Judged.{Written, Said, SaidOfRound, zeros}
 
 -- ---- the turn
@@ -136,14 +137,14 @@ module _ {t : Round} {o : Outline} (h : RoundOf t o) where
   short = round-walked (h .walk) .short
 
   -- 8
-  pub step-said : {forward : Bool} {k i place : ℕ} → FoundAt (rounds (o .letters)) (t .at) k i → SentTo forward (size o) (t .place) i place → (before : List ℤ)
+  pub step-said : {forward : Bool} {k i place : ℕ} → FoundAt (rounds (o .letters)) (t .cuts .at) k i → SentTo forward (size o) (t .place) i place → (before : List ℤ)
       → SaidOfRound forward (t .place) o before before (Refused (BackStep (k + 1) place))
   step-said {forward} {k} {i} {place} e p before =
       let d : place ≡ sentFrom forward (size o) (t .place) i =
       place-sent (h .walk) (h .place) (omega (arith, e .at-le, length-rounds (o .letters), short)) p in
       said-refused (edges o) before (rw d (round-back-step forward (t .place) o (e .step o (laid-round (h .places))) (e .piece-lt)))
 
-  pub none-straight : ((v : Outline) → Laid v (t .at) (rounds (o .letters)) → backStepPiece v ≡ 4) → ltb (backStepPiece o) 4 ≡ false
+  pub none-straight : ((v : Outline) → Laid v (t .cuts .at) (rounds (o .letters)) → backStepPiece v ≡ 4) → ltb (backStepPiece o) 4 ≡ false
   none-straight e = rw (e o (laid-round (h .places)))
 
   module _ (b : ltb (backStepPiece o) 4 ≡ false) where
@@ -151,17 +152,17 @@ module _ {t : Round} {o : Outline} (h : RoundOf t o) where
     clear = round-clear (h .walk) (h .clockwise) b
 
     -- The pieces go once round
-    laid : Laid o (t .at) (o .letters)
+    laid : Laid o (t .cuts .at) (o .letters)
     laid = laid-once (h .places) (shape o clear .round)
 
     -- 9
-    pub dent-said : (forward : Bool) {k i l : ℕ} → DentRead (o .letters) (t .at) k i l → {f : Refusal} → f ≡ dentAs forward (t .place) o k i l → (before : List ℤ)
+    pub dent-said : (forward : Bool) {k i l : ℕ} → DentRead (o .letters) (t .cuts .at) k i l → {f : Refusal} → f ≡ dentAs forward (t .place) o k i l → (before : List ℤ)
         → SaidOfRound forward (t .place) o before before (Refused f)
     dent-said forward e q before =
         said-refused (edges o) before (ap Refused q ∙ round-dent forward (t .place) o b (e .dent o short laid) (e .piece-lt))
 
     -- Taken
-    module _ {numbers : List ℤ} {m : ℕ} (e : (v : Outline) → size v ≤ longest → Laid v (t .at) (o .letters) → EdgesAre v zeros numbers m) where
+    module _ {numbers : List ℤ} {m : ℕ} (e : (v : Outline) → size v ≤ longest → Laid v (t .cuts .at) (o .letters) → EdgesAre v zeros numbers m) where
       abbrev found : EdgesAre o zeros numbers m
       found = e o short laid
 

@@ -1,12 +1,12 @@
 // The border of an outline, cut in four and read as edges: refusals 8 and 9 behind the survey's 1 to 6.
-use crate::back_steps::BackStep;
-use crate::dents::Factored;
-use crate::once_round::Round;
+use back_steps::BackStep;
 use chart::LONGEST;
 use chart::MOST_NUMBERS;
 use chart::Point;
 use chart::Refusal;
 use chart::Verdict;
+use cut_places::Cuts;
+use dents::Factored;
 use survey::Corners;
 use survey::Surveyed;
 ghost use Prim.Native.Nat.{_*_, _≤_, _<_};
@@ -23,12 +23,6 @@ ghost use Rattle.survey.specs.Survey.{cornersOf};
 ghost use Rattle.verdict.specs.Verdict.{verdictOf, edgesAfter};
 ghost use Rattle.judge.specs.parts.Round.{RoundOf, dentAs};
 ghost use Rattle.judge.specs.Judged.{Written, SaidOfRound, SaidOfBorder, judgedOf};
-
-mod back_steps;
-mod dents;
-mod edge;
-mod frame;
-mod once_round;
 
 // Copies the first n numbers of a list to the lent one.
 fn copy_edges(list: &[i16], n: usize, buffer: &mut [i16])
@@ -53,13 +47,22 @@ fn write_edges(list: &[i16], n: usize, buffer: &mut [i16])
     }
 }
 
+// A border: which way its letters are read and its cut places, the place of W's letter in what is read, the corner W, and the rows of S and N.
+struct Round {
+    cuts: Cuts,
+    place: usize,
+    west: Point,
+    bottom: u16,
+    top: u16,
+}
+
 // 9: the dent of `length` letters that stands `at` letters from W on in a piece, counted from 0.
 fn dent(round: Round, letters: &[u8], piece: usize, at: usize, length: usize) -> Refusal
     requires { ⌜ RoundOf round (outline (round .west) (now letters)) ⌝ }
     requires { ⌜ (piece < 4) × (at ≤ 4 * longest) × (length ≤ 4 * longest) ⌝ }
-    ensures { λ r. ⌜ r ≡ dentAs (round .forward) (round .place) (outline (round .west) (now (letters .entry))) piece at length ⌝ }
+    ensures { λ r. ⌜ r ≡ dentAs (round .cuts .forward) (round .place) (outline (round .west) (now (letters .entry))) piece at length ⌝ }
 {
-    let place = once_round::sent(letters.len(), round.place, round.forward, at);
+    let place = clockwise_copy::sent(letters.len(), round.place, round.cuts.forward, at);
     Refusal::Dent {
         piece: (piece + 1) as u16,
         place: place as u16,
@@ -72,10 +75,10 @@ fn dent(round: Round, letters: &[u8], piece: usize, at: usize, length: usize) ->
 fn edges(round: Round, letters: &[u8], buffer: &mut [i16]) -> Verdict
     requires { ⌜ RoundOf round (outline (round .west) (now letters)) ⌝ }
     requires { ⌜ ltb (backStepPiece (outline (round .west) (now letters))) 4 ≡ false ⌝ }
-    ensures { λ r. ⌜ SaidOfRound (round .forward) (round .place) (outline (round .west) (now (letters .entry))) (now (buffer .entry)) (now (buffer .exit)) r ⌝ }
+    ensures { λ r. ⌜ SaidOfRound (round .cuts .forward) (round .place) (outline (round .west) (now (letters .entry))) (now (buffer .entry)) (now (buffer .exit)) r ⌝ }
 {
     let mut numbers = [0i16; MOST_NUMBERS];
-    let factored = dents::read(round, letters, &mut numbers);
+    let factored = dents::read(round.cuts, letters, &mut numbers);
     let anchor = round.west;
     match factored {
         Factored::Dent { piece, at, length } => {
@@ -94,12 +97,12 @@ fn edges(round: Round, letters: &[u8], buffer: &mut [i16]) -> Verdict
 // 8 and 9, of a clockwise turn, or the edges.
 fn pieces(round: Round, letters: &[u8], buffer: &mut [i16]) -> Verdict
     requires { ⌜ RoundOf round (outline (round .west) (now letters)) ⌝ }
-    ensures { λ r. ⌜ SaidOfRound (round .forward) (round .place) (outline (round .west) (now (letters .entry))) (now (buffer .entry)) (now (buffer .exit)) r ⌝ }
+    ensures { λ r. ⌜ SaidOfRound (round .cuts .forward) (round .place) (outline (round .west) (now (letters .entry))) (now (buffer .entry)) (now (buffer .exit)) r ⌝ }
 {
-    let found = back_steps::first(round, letters);
+    let found = back_steps::first(round.cuts, letters);
     match found {
         BackStep::At { piece, at } => {
-            let place = once_round::sent(letters.len(), round.place, round.forward, at);
+            let place = clockwise_copy::sent(letters.len(), round.place, round.cuts.forward, at);
             Verdict::Refused(Refusal::BackStep {
                 piece: (piece + 1) as u16,
                 place: place as u16,
@@ -118,18 +121,16 @@ fn read(start: Point, letters: &[u8], found: Corners, buffer: &mut [i16]) -> Ver
     let count = letters.len();
     let cuts = cut_places::cut_places(letters, found);
     let forward = cuts.forward;
-    let at = cuts.at;
     let west = found.corner;
-    let place = once_round::read_place(count, found.west, forward);
+    let place = clockwise_copy::read_place(count, found.west, forward);
     let mut ring = [0u8; LONGEST];
-    once_round::fill_round(letters, found.west, forward, &mut ring);
+    clockwise_copy::fill_round(letters, found.west, forward, &mut ring);
     let round = Round {
-        forward,
+        cuts,
         place,
         west,
         bottom: found.bottom,
         top: found.top,
-        at,
     };
     pieces(round, &ring[..count], buffer)
 }

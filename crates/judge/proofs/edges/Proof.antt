@@ -2,8 +2,8 @@
 use native.Mathlib.Omega.{arith}
 use mathlib.Core.Path.{_≡_, subst}
 use borrow.Author.Needs.{needs}
-use Rattle.judge.specs.declared.dents.Factored.{Factored}
-use Rattle.judge.specs.parts.Dents.{FactorsRead}
+use Rattle.dents.specs.declared.Factored.{Factored}
+use Rattle.dents.specs.parts.Dents.{FactorsRead}
 use Rattle.judge.specs.Judged.{zeros}
 use Rattle.judge.proofs.PieceLaws.{short, dent-said, count-le, edges-said}
 use Rattle.judge.proofs.edges.Statement.{statement}
@@ -17,7 +17,7 @@ read-requires c κs = search needs
 
 -- What the four pieces are read as
 module _ {f : Factored} (c : tie.After-read) (e : c .read .result ≡ f) where
-  factored : FactorsRead (c .before .before .before .args .letters .now) (c .before .before .before .args .round .at) zeros (c .read .last .1 .1 .0) f
+  factored : FactorsRead (c .before .before .before .args .letters .now) (c .before .before .before .args .round .cuts .at) zeros (c .read .last .1 .1 .0) f
   factored = subst (FactorsRead _ _ _ _) e (c .read .ensures)
 
 enum-known-factored : tie.Need-enum-known-factored

@@ -3,8 +3,8 @@ use native.Mathlib.Omega.{arith}
 use mathlib.Core.Path.{_≡_, subst}
 use borrow.Author.Needs.{needs}
 use Rattle.convexity.specs.Pieces.{rounds}
-use Rattle.judge.specs.declared.back_steps.BackStep.{BackStep}
-use Rattle.judge.specs.parts.BackSteps.{Found}
+use Rattle.back_steps.specs.declared.BackStep.{BackStep}
+use Rattle.back_steps.specs.parts.BackSteps.{Found}
 use Rattle.judge.proofs.PieceLaws.{short, step-said, none-straight}
 use Rattle.judge.proofs.pieces.Statement.{statement}
 use Rattle.judge.proofs.pieces.Tie as tie
@@ -14,7 +14,7 @@ first-requires c κs = short (c .before .pre)
 
 -- What the search for a back-step finds
 module _ {b : BackStep} (c : tie.After-first) (e : c .first .result ≡ b) where
-  found : Found (rounds (c .before .before .args .letters .now)) (c .before .before .args .round .at) b
+  found : Found (rounds (c .before .before .args .letters .now)) (c .before .before .args .round .cuts .at) b
   found = subst (Found _ _) e (c .first .ensures)
 
 enum-known-found : tie.Need-enum-known-found

@@ -14,7 +14,7 @@ cut-places-requires c κs = search needs
 
 read-place-requires : tie.Need-read-place-requires
 read-place-requires c κs =
-    let start = c .before .before .before .before in
+    let start = c .before .before .before in
     omega (arith, found-places (start .pre .0) (start .pre .1) .west)
 
 slice-aggregate-fill-round : tie.Need-slice-aggregate-fill-round
@@ -25,12 +25,12 @@ fill-round-requires c κs = search needs
 
 -- The letters from W on, read clockwise, are in the buffer
 copied : (c : tie.After-fill-round)
-    → let cuts = c .before .before .before .before .before in
+    → let cuts = c .before .before .before .before in
     let start = cuts .before .before in
     Copied (outline (start .args .start) (start .args .letters .now)) (start .args .found) (cuts .cut-places .result) (c .before .before .read-place .result) (c .fill-round .last .1 .1 .1 .0)
 copied c =
     let place = c .before .before in
-    let cuts = place .before .before .before in
+    let cuts = place .before .before in
     let start = cuts .before .before in
     let o = outline (start .args .start) (start .args .letters .now) in
     record {

@@ -12,7 +12,7 @@ use Rattle.convexity.specs.Frame.{frameOf}
 use Rattle.convexity.specs.Cut.{before, cornerPlace, clockwise, cut}
 use Rattle.convexity.specs.Clockwise.{sentFrom}
 use Rattle.verdict.specs.Verdict.{cellFound}
-use Rattle.judge.specs.declared.once_round.Round.{Round}
+use Rattle.judge.specs.declared.Round.{Round}
 
 -- A walk that passes refusals 1 to 6 and begins at W
 pub record FromWest (o : Outline) : Type 0 where
@@ -26,7 +26,7 @@ pub record RoundOf (t : Round) (o : Outline) : Type 0 where
   pub clockwise : clockwise o ≡ true
   pub bottom : t .bottom ≡ cornerAt o (cornerPlace o 3) .row
   pub top : t .top ≡ cornerAt o (cornerPlace o 1) .row
-  pub places : (k : ℕ) → k ≤ 4 → getD (t .at) k 0 ≡ cut o k
+  pub places : (k : ℕ) → k ≤ 4 → getD (t .cuts .at) k 0 ≡ cut o k
 
 -- Refusal 9, from what was found in the letters from W on: in piece k, i letters from W on, l letters long
 unfoldable pub dentAs : Bool → ℕ → Outline → ℕ → ℕ → ℕ → Refusal

@@ -1,0 +1,49 @@
+-- Where no letter is a back-step all are passed, and else the search tells.
+use mathlib.Core.Path.{sym, ap, _∙_}
+use lib.ListN.{length}
+use borrow.Author.Needs.{needs}
+use Rattle.back_steps.specs.parts.BackSteps.{straightFor}
+use Rattle.back_steps.proofs.BackStepLaws.{part-length, part-once}
+use Rattle.back_steps.proofs.straight_for.Statement.{statement}
+use Rattle.back_steps.proofs.straight_for.Tie as tie
+
+sub-some-back-step : tie.Need-sub-some-back-step
+sub-some-back-step c = search needs
+
+part-some-back-step-start : tie.Need-part-some-back-step-start
+part-some-back-step-start c = search needs
+
+part-some-back-step-end : tie.Need-part-some-back-step-end
+part-some-back-step-end c = search needs
+
+some-back-step-requires : tie.Need-some-back-step-requires
+some-back-step-requires c κs = search needs
+
+first-back-step-requires : tie.Need-first-back-step-requires
+first-back-step-requires c κs = search needs
+
+returns : tie.Need-returns
+returns c = search needs
+
+sub-result : tie.Need-sub-result
+sub-result c = search needs
+
+returns-2 : tie.Need-returns-2
+returns-2 c =
+    let inside = c .before .before .before in
+    let start = inside .before .before in
+    let once = part-once (start .pre) (inside .if1 .left) in
+    sym (part-length (start .pre)) ∙ ap length (sym once) ∙ c .before .some-back-step .ensures (c .if2 .left) ∙ ap (straightFor (start .args .k)) once
+
+pub straight-for-spec : {M : Type 1} → statement M
+straight-for-spec =
+    tie.close
+    (tie.spec
+    sub-some-back-step
+    part-some-back-step-start
+    part-some-back-step-end
+    some-back-step-requires
+    first-back-step-requires
+    returns
+    sub-result
+    returns-2)

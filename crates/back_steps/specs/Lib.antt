@@ -1,0 +1,2 @@
+-- What the search for the first back-step finds.
+pub mod parts

@@ -1,0 +1,2 @@
+-- A list copied, and two copied one behind the other.
+pub mod CopyLaws

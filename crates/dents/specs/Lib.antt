@@ -1,0 +1,2 @@
+-- What the factors of the pieces are read as.
+pub mod parts

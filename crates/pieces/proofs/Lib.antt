@@ -1,0 +1,3 @@
+-- The cut places rise; the pieces lie between them.
+pub mod CutLaws
+pub mod LaidLaws

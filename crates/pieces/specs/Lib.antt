@@ -1,0 +1,2 @@
+-- The ordered letters of the pieces, and where the pieces lie in a list of letters.
+pub mod parts
