@@ -47,8 +47,8 @@ fn touched(start: Point, letters: &[u8], place: usize, number: u32) -> Surveyed
     })
 }
 
-// 4, 5 and 6, where 1, 2 and 3 do not apply, and the corners.
-fn walked(start: Point, letters: &[u8]) -> Surveyed
+// 4, 5 and 6, where 1, 2 and 3 do not apply, and the corners, by a walk that marks every corner.
+fn marked(start: Point, letters: &[u8]) -> Surveyed
     requires { ⌜ Begun (outline start (now letters)) ⌝ }
     ensures { λ r. ⌜ r ≡ surveyOf (outline start (now (letters .entry))) ⌝ }
 {
@@ -65,6 +65,24 @@ fn walked(start: Point, letters: &[u8]) -> Surveyed
             Surveyed::Passed(corners)
         }
     }
+}
+
+// The same. Letters that seem not to close are walked without marks first: for 4 and 5 that is enough.
+fn walked(start: Point, letters: &[u8]) -> Surveyed
+    requires { ⌜ Begun (outline start (now letters)) ⌝ }
+    ensures { λ r. ⌜ r ≡ surveyOf (outline start (now (letters .entry))) ⌝ }
+{
+    if walk::seems_open(letters) {
+        let whole = walk::walk_on(letters, 0, walk::col_number(start));
+        let left = whole.leaves;
+        if left < letters.len() {
+            return Surveyed::Refused(Refusal::Leaves { place: left as u16 });
+        }
+        if walk::ends_away(start, whole.end) {
+            return Surveyed::Refused(Refusal::Unclosed);
+        }
+    }
+    marked(start, letters)
 }
 
 // The first of refusals 1 to 6 that applies (contract 5), or W, N, E and S.

@@ -14,7 +14,7 @@ ghost use Rattle.survey.specs.parts.Numbers.{colNumber, colStride, offCh
 ghost use Rattle.survey.specs.parts.Walks.{Begun, Out, RestOf, WalkedAs};
 
 // The numbers of the corner at which a walk begins.
-fn col_number(p: Point) -> u32
+pub(crate) fn col_number(p: Point) -> u32
     requires { ⌜ (p .col ≤ side) × (p .row ≤ side) ⌝ }
     ensures { λ r. ⌜ r ≡ colNumber p 0 ⌝ }
 {
@@ -170,4 +170,39 @@ pub(crate) fn ends_away(s: Point, end: u32) -> bool
     ensures { λ r. ⌜ r ≡ not (eqb (end / 1024) (s .col * 1024 + s .row)) ⌝ }
 {
     end / 1024 != (s.col as u32) * 1024 + (s.row as u32)
+}
+
+// What a letter adds to the columns and to the rows, modulo 256.
+fn col_step(letter: u8) -> u8 {
+    if letter == 0 {
+        1
+    } else if letter == 2 {
+        255
+    } else {
+        0
+    }
+}
+
+fn row_step(letter: u8) -> u8 {
+    if letter == 1 {
+        1
+    } else if letter == 3 {
+        255
+    } else {
+        0
+    }
+}
+
+// Whether the steps of the letters do not add up to zero, modulo 256. It promises nothing: the answer only decides which walk is tried first.
+// All letters are looked at, in a loop that is vectorised.
+pub(crate) fn seems_open(w: &[u8]) -> bool {
+    let mut cols = 0u8;
+    let mut rows = 0u8;
+    let mut i = 0;
+    while i < w.len() {
+        cols = std::num::wrapping_add_u8(cols, col_step(w[i]));
+        rows = std::num::wrapping_add_u8(rows, row_step(w[i]));
+        i += 1;
+    }
+    (cols != 0) | (rows != 0)
 }

@@ -1,81 +1,67 @@
--- A letter leaves the chart, or a corner is met again and the rest decides, or the walk goes all round and is closed or not.
+-- A plain walk from the start tells refusals 4 and 5 by itself, whatever made it the first one tried; for all else the marking walk answers.
 use native.Mathlib.Omega.{arith}
 use mathlib.Core.Path.{sym, _∙_}
 use borrow.Author.Needs.{needs}
-use Rattle.survey.specs.parts.Walks.{WalkedAs}
+use Rattle.chart.specs.Outline.{outline}
+use Rattle.lattice.specs.Refusals.{Stays}
+use Rattle.lattice.proofs.Staying.{start-on-chart}
+use Rattle.survey.specs.parts.Walks.{RestOf}
 use Rattle.survey.proofs.CheckLaws.{counted-short}
-use Rattle.survey.proofs.SurveyLaws.{walk-leaves, walk-unclosed, walk-passed}
+use Rattle.survey.proofs.WalkLaws.{out-start}
+use Rattle.survey.proofs.SurveyLaws.{none-found, walk-leaves, walk-unclosed}
 use Rattle.survey.proofs.walked.Statement.{statement}
 use Rattle.survey.proofs.walked.Tie as tie
 
-along-requires : tie.Need-along-requires
-along-requires c κs = search needs
+seems-open-requires : tie.Need-seems-open-requires
+seems-open-requires c κs = search needs
 
-enum-known-walk : tie.Need-enum-known-walk
-enum-known-walk c = search needs
+col-number-requires : tie.Need-col-number-requires
+col-number-requires c κs = let h = start-on-chart _ (c .before .before .before .pre .started) in (h .col, h .row)
 
-cast-t10 : tie.Need-cast-t10
-unfolding WalkedAs
-cast-t10 c =
-    let told = c .before in
-    let start = told .before .before .before .before in
-    let left = rw (told .walk .given .1) at (told .before .before .along .ensures) in
-    omega (arith, counted-short _ (start .pre .counted), left .0)
+walk-on-requires : tie.Need-walk-on-requires
+walk-on-requires c κs = search needs
 
-enum-known-walk-2 : tie.Need-enum-known-walk-2
-enum-known-walk-2 c = search needs
+-- What the plain walk tells, and that no letter leaves the chart where it says so
+module _ (c : tie.After-walk-on) where
+  abbrev start : tie.Start
+  start = c .before .before .before .before .before
 
-touched-requires : tie.Need-touched-requires
-unfolding WalkedAs
-touched-requires c κs =
-    let told = c .before in
-    (told .before .before .before .before .pre, rw (told .walk2 .given .1) at (told .before .before .along .ensures))
+  rest : RestOf (outline (start .args .start) (start .args .letters .now)) (c .walk-on .result)
+  rest = c .walk-on .ensures (start .args .start) (start .pre) (out-start _ (start .pre) (c .before .col-number .ensures))
 
-enum-known-walk-3 : tie.Need-enum-known-walk-3
-enum-known-walk-3 c = search needs
+stays : (c : tie.Else2) → Stays (outline (start (c .before) .args .start) (start (c .before) .args .letters .now))
+stays c = none-found (rest (c .before) .place) (c .if2 .left)
+
+cast-t9 : tie.Need-cast-t9
+cast-t9 c = omega (arith, counted-short _ (start (c .before) .pre .counted), c .if2 .taken)
+
+returns : tie.Need-returns
+returns c = walk-leaves _ (start (c .before) .pre) (rest (c .before) .place) (c .if2 .taken)
 
 ends-away-requires : tie.Need-ends-away-requires
 ends-away-requires c κs = search needs
 
-returns : tie.Need-returns
-unfolding WalkedAs
-returns c =
-    let told = c .before .before .before in
-    let start = told .before .before .before .before in
-    let round = rw (told .walk3 .given .1) at (told .before .before .along .ensures) in
-    walk-unclosed _ (start .pre) (round .stays) (round .number) (sym (c .before .ends-away .ensures) ∙ c .if1 .taken)
-
 returns-2 : tie.Need-returns-2
-unfolding WalkedAs
 returns-2 c =
-    let told = c .before in
-    let start = told .before .before .before .before in
-    let left = rw (told .walk .given .1) at (told .before .before .along .ensures) in
-    walk-leaves _ (start .pre) (left .1) (left .0)
+    let past = c .before .before in
+    walk-unclosed _ (start (past .before) .pre) (stays past) (rest (past .before) .number (stays past)) (sym (c .before .ends-away .ensures) ∙ c .if3 .taken)
+
+marked-requires : tie.Need-marked-requires
+marked-requires c κs = search needs
 
 returns-3 : tie.Need-returns-3
 returns-3 c = search needs
-
-returns-4 : tie.Need-returns-4
-unfolding WalkedAs
-returns-4 c =
-    let told = c .before .before .before in
-    let start = told .before .before .before .before in
-    let round = rw (told .walk3 .given .1) at (told .before .before .along .ensures) in
-    walk-passed _ (start .pre) (round .stays) (round .number) (sym (c .before .ends-away .ensures) ∙ c .if1 .left) (round .meets) (round .corners)
 
 pub walked-spec : {M : Type 1} → statement M
 walked-spec =
     tie.close
     (tie.spec
-    along-requires
-    enum-known-walk
-    cast-t10
-    enum-known-walk-2
-    touched-requires
-    enum-known-walk-3
-    ends-away-requires
+    seems-open-requires
+    col-number-requires
+    walk-on-requires
+    cast-t9
     returns
+    ends-away-requires
     returns-2
-    returns-3
-    returns-4)
+    marked-requires
+    returns-3)
