@@ -286,7 +286,7 @@ function listen(page) {
   for (const radio of document.querySelectorAll('input[name="tool"], input[name="ink"]')) {
     radio.addEventListener("change", () => page.choose(radio.name, radio.value));
   }
-  document.addEventListener("keydown", (event) => undoByKeys(event, page.app));
+  document.addEventListener("keydown", (event) => undoByKeys(event, page));
   addEventListener("pagehide", () => page.save());
   new ResizeObserver(() => (page.view.measure(), page.show())).observe(chart);
   chart.addEventListener("pointerenter", () => page.view.measure());
@@ -294,11 +294,12 @@ function listen(page) {
   addEventListener("resize", () => page.view.measure());
 }
 
-function undoByKeys(event, app) {
+function undoByKeys(event, { app, tools }) {
   if (!(event.ctrlKey || event.metaKey) || event.target.matches?.('input[type="text"], input[type="number"]')) return;
   const again = event.key === "y" || event.key === "Z";
   if (event.key !== "z" && !again) return;
   event.preventDefault();
+  tools.release();
   if (again) app.redo();
   else app.undo();
 }

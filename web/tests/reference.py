@@ -1,8 +1,10 @@
 """Borders of sets of cells once more, by another way than the page's, and the program's verdict on them."""
 
-import re
+import json
+import os
 import subprocess
 from collections import defaultdict
+from pathlib import Path
 
 from support import ROOT
 
@@ -37,27 +39,18 @@ def border(cells):
 
 
 def program():
-    found = [path for path in PROGRAMS if path.is_file()]
+    named = os.environ.get("ROBEQUARRY_PROGRAM")
+    found = [Path(named)] if named else [path for path in PROGRAMS if path.is_file()]
     if not found:
         raise FileNotFoundError("the program is not built: `cargo build --offline --release --bin robequarry` in host/")
     return max(found, key=lambda path: path.stat().st_mtime)
 
 
 def verdicts(outlines):
-    """What the program says of outlines, a line each, by its standard input."""
+    """What the program says of outlines, by its standard input: number, anchor, edges, cell and witness of each."""
     lines = "".join(f"{start[0]} {start[1]} {letters}\n" for start, letters in outlines)
-    ran = subprocess.run([program(), "check", "-"], input=lines, capture_output=True, text=True, timeout=600)
+    ran = subprocess.run([program(), "check", "--format", "json", "-"], input=lines, capture_output=True, text=True, timeout=600)
     if ran.returncode > 1:
         raise RuntimeError(ran.stderr)
-    said = [line for line in ran.stdout.splitlines() if re.search(r"\boutline \d+\b|^-:\d+", line)]
-    return said[: len(outlines)]
-
-
-def number(line):
-    """The number of a verdict: 0 if it is taken."""
-    refused = re.search(r"refused,? (?:by )?(\d+)", line)
-    if refused:
-        return int(refused[1])
-    if "taken" not in line:
-        raise ValueError(line)
-    return 0
+    said = [json.loads(line) for line in ran.stdout.splitlines()]
+    return [line for line in said if line["type"] == "outline"]

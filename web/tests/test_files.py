@@ -37,7 +37,7 @@ class Files(PageTest):
         self.assertEqual(self.text("record"), f"Outline 0 of {len(specimens)}, counted from 0, in clinic.fit.")
         lines = reference.verdicts(specimens)
         for i, line in enumerate(lines):
-            number = reference.number(line)
+            number = line["number"]
             self.says("Taken" if number == 0 else f"Refused, {number}:")
             if i + 1 < len(lines):
                 self.press("on")

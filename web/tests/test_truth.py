@@ -18,6 +18,10 @@ SHOWN = """
       missing: document.querySelector("#chart path.missing").getAttribute("d"),
       edges: document.querySelector("#chart path.edges").getAttribute("d"),
       outline: document.getElementById("letters-print").textContent,
+      band: document.querySelector("#chart path.band").getAttribute("d"),
+      witness: [...document.querySelectorAll("#chart .witness")].map((ring) => ring.dataset.cell),
+      named: [...document.querySelectorAll("#chart .named[data-cell]")].map((ring) => ring.dataset.cell),
+      why: document.getElementById("why").getAttribute("aria-pressed") === "true",
       said: document.getElementById("said").textContent,
       meaning: document.getElementById("meaning").textContent,
       place: document.getElementById("place").textContent,
@@ -120,6 +124,18 @@ def outline_of(shown):
     return ((int(sent[1]), int(sent[2])), sent[3]) if sent else None
 
 
+def count(edges):
+    return "no edge" if edges == 0 else "1 edge" if edges == 1 else f"{edges} edges"
+
+
+def path(anchor, edges):
+    """Edges from an anchor as the chart draws them, from centre to centre."""
+    corners = [tuple(anchor)]
+    for dx, dy in edges:
+        corners.append((corners[-1][0] + dx, corners[-1][1] + dy))
+    return "M" + "L".join(f"{col}.5 {row}.5" for col, row in corners)
+
+
 class Truth(PageTest):
     def hold(self, moments):
         """Each moment's words are those for what it shows."""
@@ -134,27 +150,28 @@ class Truth(PageTest):
                 counts[kind] = counts.get(kind, 0) + 1
                 continue
             line = next(lines)
-            counts[self.same(shown, line)] = counts.get(reference.number(line), 0) + 1
+            self.same(shown, line)
+            counts[line["number"]] = counts.get(line["number"], 0) + 1
         return counts
 
     def same(self, shown, line):
-        number = reference.number(line)
-        told = f"{shown} {line}"
+        """The page's words, edges, missing cells and witness are those of the program's answer."""
+        number, told = line["number"], f"{shown} {line}"
         if number == 0:
-            edges = re.search(r"(\w+) edges?\b", line)[0]
-            self.assertEqual(shown["said"], f"Taken, {edges}", told)
-            self.assertEqual(shown["color"], "taken", told)
-            self.assertIn(re.search(r"Anchor (\(\d+, \d+\))", shown["place"])[1], line, told)
-            self.assertEqual(shown["missing"], "", told)
-        else:
-            self.assertTrue(shown["said"].startswith(f"Refused, {number}: "), told)
-            self.assertEqual(shown["color"], "refused", told)
-            self.assertEqual(shown["edges"], "", told)
+            self.assertEqual(shown["said"], f"Taken, {count(len(line['edges']))}", told)
+            self.assertEqual((shown["color"], shown["missing"], shown["band"]), ("taken", "", ""), told)
+            self.assertEqual(shown["edges"], path(line["anchor"], line["edges"]), told)
+            return
+        self.assertTrue(shown["said"].startswith(f"Refused, {number}: "), told)
+        self.assertEqual((shown["color"], shown["edges"]), ("refused", ""), told)
         if number == 9:
-            self.assertIn(re.search(r"the cell (\(\d+, \d+\))", shown["meaning"])[1], line, told)
+            self.assertIn("the cell ({}, {}) lies in the hull".format(*line["cell"]), shown["meaning"], told)
         if number in (8, 9):
-            self.assertNotEqual(shown["missing"], "", told)
-        return number
+            self.assertIn(tuple(line["missing"]), cells_of(shown["missing"]), told)
+            rings = [" ".join(map(str, cell)) for cell in line["witness"]] if shown["why"] else []
+            self.assertEqual(shown["witness"], rings, told)
+        if number == 9 or (number == 8 and shown["why"]):
+            self.assertEqual(shown["named"], [" ".join(map(str, line["missing"]))], told)
 
     def now(self):
         return self.script(SHOWN + "return shown()")
