@@ -3,12 +3,10 @@
 mod support;
 
 use std::fs::{self, File};
-use std::os::unix::fs::PermissionsExt;
 use std::path::{Path, PathBuf};
 use std::process::{Command, Output, Stdio};
-use std::sync::OnceLock;
 
-use support::call::{err, file, out, path, status};
+use support::call::{err, out, status};
 
 fn root() -> PathBuf {
     Path::new(env!("CARGO_MANIFEST_DIR")).join("../..")
@@ -20,22 +18,9 @@ fn fittings() -> Command {
     Command::new(program)
 }
 
-/// Folders with an `rt` that only says that it has proved what is linked already, and one that fails.
-fn toolchains() -> &'static [String; 2] {
-    static FOLDERS: OnceLock<[String; 2]> = OnceLock::new();
-    FOLDERS.get_or_init(|| {
-        [("rt-that-proves", 0), ("rt-that-fails", 1)].map(|(name, status)| {
-            let script = format!("#!/bin/sh\necho \"rt: listing proved (1 s)\"\nexit {status}\n");
-            let rt = file(&format!("{name}/rt"), script.as_bytes());
-            fs::set_permissions(&rt, fs::Permissions::from_mode(0o755)).expect("it is ours");
-            path(name)
-        })
-    })
-}
-
-/// `./run` with one of these toolchains.
+/// `./run` with an `rt` that only says that it has proved what is linked already, or with one that fails.
 fn run(arguments: &[&str], proves: bool) -> Output {
-    let folder = &toolchains()[usize::from(!proves)];
+    let folder = format!("{}/tests/toolchains/{}", env!("CARGO_MANIFEST_DIR"), if proves { "proves" } else { "fails" });
     let paths = format!("{folder}:{}", std::env::var("PATH").expect("there is one"));
     let mut command = Command::new(root().join("run"));
     command.args(arguments).env("PATH", paths).stdin(Stdio::null()).output().expect("bash is there")

@@ -10,7 +10,7 @@ use crate::verdict::{count, Said};
 
 pub const COMMAND: Command = Command {
     name: "check",
-    usage: "check FILE... [--format F] [--summary]",
+    usage: "check FILE|FOLDER... [--format F] [--summary]",
     summary: "test every outline of files and folders, and say what each verdict means",
     help: "\
 Tests each outline of each file, and of each file in a folder and its folders, in the order of their names. It writes a line for each

@@ -6,10 +6,12 @@ mod border;
 mod check;
 mod compare;
 mod complete;
+mod completions;
 mod convert;
 mod draw;
 mod explain;
 mod gallery;
+mod manual;
 mod pile;
 mod reading;
 mod row;
@@ -69,12 +71,13 @@ impl From<io::Error> for Failure {
     }
 }
 
-struct Command {
-    name: &'static str,
-    usage: &'static str,
-    summary: &'static str,
-    help: &'static str,
-    options: &'static [&'static str],
+/// A command of the table: help, completions and the manual page go by it.
+pub struct Command {
+    pub name: &'static str,
+    pub usage: &'static str,
+    pub summary: &'static str,
+    pub help: &'static str,
+    pub options: &'static [&'static str],
     run: fn(&Arguments, &mut Console) -> Result<Status, Failure>,
 }
 
@@ -92,6 +95,8 @@ const COMMANDS: &[&Command] = &[
     &pile::COMMAND,
     &bench::COMMAND,
     &gallery::COMMAND,
+    &completions::COMMAND,
+    &manual::COMMAND,
 ];
 
 const INTRODUCTION: &str = "\
@@ -108,10 +113,11 @@ Files hold one or more outlines, numbered from 0, in one of two forms:
   text           an outline a line: the start's column and row, then the letters in a row; a name may follow a #
                      0 1 101030323212    # a plus
   fitting file   records of bytes: 4B 4F, column, row, the count of letters (two bytes, low first), the letters
-A file shows its form by itself; --text or --fitting says it. The file `-` is standard input.
+A file shows its form by itself; --text or --fitting says it. The file `-` is standard input.";
 
+const STATUSES: &str = "\
 Exit status: 0 if every outline is taken, 1 if one, or what is asked of it, is refused, 2 if something is wrong with the call or
-the file.";
+a file.";
 
 /// Runs a call of the program, and gives its exit status.
 pub fn run(words: Vec<OsString>) -> u8 {
@@ -184,14 +190,20 @@ fn help(name: Option<OsString>, console: &mut Console) -> Result<Status, Failure
             let row = |command: &&Command| format!("  {:<48} {}", command.usage, command.summary);
             let rows: Vec<String> = COMMANDS.iter().map(row).collect();
             let more = "`robequarry COMMAND --help` says more of a command.";
-            console.line(format!("{INTRODUCTION}\n\nCommands:\n{}\n\n{FILES}\n\n{more}", rows.join("\n")))?;
+            let rows = rows.join("\n");
+            console.line(format!("{INTRODUCTION}\n\nCommands:\n{rows}\n\n{FILES}\n\n{STATUSES}\n\n{more}"))?;
         }
     }
     Ok(Status::Taken)
 }
 
 fn command_help(command: &Command) -> String {
-    format!("robequarry {}\n\n{}\n\n{}\n\n{FILES}", command.usage, command.help, options::help(command.options))
+    format!(
+        "robequarry {}\n\n{}\n\n{}\n\n{FILES}\n\n{STATUSES}",
+        command.usage,
+        command.help,
+        options::help(command.options)
+    )
 }
 
 /// The plain words of a call, if there are as many as the command takes.
