@@ -57,12 +57,12 @@ impl Reading {
     }
 
     /// The reading whose floats have these bits.
-    pub const fn from_bits(angle: u32, load: u32) -> Self {
+    pub fn from_bits(angle: u32, load: u32) -> Self {
         Reading { angle: f32::from_bits(angle), load: f32::from_bits(load) }
     }
 
     /// The bits of both floats.
-    pub const fn bits(self) -> (u32, u32) {
+    pub fn bits(self) -> (u32, u32) {
         (self.angle.to_bits(), self.load.to_bits())
     }
 }

@@ -176,24 +176,26 @@ const Y: usize = 7;
 mod tests {
     use super::*;
 
-    const CALLS: [(Call, [u8; CALL]); 9] = [
-        (Action::Begin(Corner::new(0x0102, 0x0304)).by(0), [0, 0, 0, 2, 1, 0, 0, 4, 3, 0, 0]),
-        (Action::Add(9).by(1), [1, 1, 0, 9, 0, 0, 0, 0, 0, 0, 0]),
-        (Action::Drop.by(255), [2, 255, 0, 0, 0, 0, 0, 0, 0, 0, 0]),
-        (Action::Clear { place: 3 }.by(1), [3, 1, 3, 0, 0, 0, 0, 0, 0, 0, 0]),
-        (Action::Close { place: 4 }.by(0), [4, 0, 4, 0, 0, 0, 0, 0, 0, 0, 0]),
-        (Action::Query { place: 2, cell: Cell::new(0xff, 0x100) }.by(1), [5, 1, 2, 0xff, 0, 0, 0, 0, 1, 0, 0]),
-        (Action::Row { place: 1, row: 0x201 }.by(0), [6, 0, 1, 1, 2, 0, 0, 0, 0, 0, 0]),
-        (
-            Action::Reading { place: 3, reading: Reading::from_bits(0x4030_2010, 0xff80_0001) }.by(1),
-            [7, 1, 3, 0x10, 0x20, 0x30, 0x40, 1, 0, 0x80, 0xff],
-        ),
-        (Action::Piece { place: 2, position: 0x8001 }.by(0), [8, 0, 2, 1, 0x80, 0, 0, 0, 0, 0, 0]),
-    ];
+    fn calls() -> [(Call, [u8; CALL]); 9] {
+        [
+            (Action::Begin(Corner::new(0x0102, 0x0304)).by(0), [0, 0, 0, 2, 1, 0, 0, 4, 3, 0, 0]),
+            (Action::Add(9).by(1), [1, 1, 0, 9, 0, 0, 0, 0, 0, 0, 0]),
+            (Action::Drop.by(255), [2, 255, 0, 0, 0, 0, 0, 0, 0, 0, 0]),
+            (Action::Clear { place: 3 }.by(1), [3, 1, 3, 0, 0, 0, 0, 0, 0, 0, 0]),
+            (Action::Close { place: 4 }.by(0), [4, 0, 4, 0, 0, 0, 0, 0, 0, 0, 0]),
+            (Action::Query { place: 2, cell: Cell::new(0xff, 0x100) }.by(1), [5, 1, 2, 0xff, 0, 0, 0, 0, 1, 0, 0]),
+            (Action::Row { place: 1, row: 0x201 }.by(0), [6, 0, 1, 1, 2, 0, 0, 0, 0, 0, 0]),
+            (
+                Action::Reading { place: 3, reading: Reading::from_bits(0x4030_2010, 0xff80_0001) }.by(1),
+                [7, 1, 3, 0x10, 0x20, 0x30, 0x40, 1, 0, 0x80, 0xff],
+            ),
+            (Action::Piece { place: 2, position: 0x8001 }.by(0), [8, 0, 2, 1, 0x80, 0, 0, 0, 0, 0, 0]),
+        ]
+    }
 
     #[test]
     fn calls_there_and_back() {
-        for (call, bytes) in CALLS {
+        for (call, bytes) in calls() {
             assert_eq!(call.bytes(), bytes);
             assert_eq!(Call::read(bytes), Some(call));
             assert_eq!(Call::read(call.bytes_over([77; CALL])), Some(call));
@@ -204,7 +206,7 @@ mod tests {
 
     #[test]
     fn a_script_ends_at_what_is_no_call() {
-        let calls = CALLS.map(|(call, _)| call);
+        let calls = calls().map(|(call, _)| call);
         let script = Call::script(calls);
         assert!(Call::each(&script).eq(calls));
         assert!(Call::each(&script[..script.len() - 1]).eq(calls[..8].iter().copied()));

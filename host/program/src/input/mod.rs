@@ -119,7 +119,7 @@ pub fn open(path: &Path) -> io::Result<Box<dyn Read>> {
     }
     let file = File::open(path)?;
     if file.metadata()?.is_dir() {
-        return Err(io::Error::new(io::ErrorKind::IsADirectory, "it is a folder"));
+        return Err(io::Error::other("it is a folder"));
     }
     Ok(Box::new(file))
 }

@@ -84,7 +84,7 @@ impl<R: Read> Pieces<R> {
         read.map(|count| count > 0)
     }
 
-    /// Reads until the form shows: up to the first byte that is no white space.
+    /// Reads until the form shows.
     fn begin(&mut self) -> Result<Option<Piece>, Fault> {
         while self.more().map_err(Fault::Unread)? {
             if self.form.is_some() || self.kept.len() > LONGEST_FILE || shows(&self.kept) {
@@ -199,22 +199,35 @@ fn counted(bytes: &[u8]) -> (usize, usize) {
     (lines().count(), lines().filter(holds).count())
 }
 
-fn significant(bytes: &[u8]) -> Option<u8> {
-    let bytes = bytes.strip_prefix(BYTE_ORDER_MARK).unwrap_or(bytes);
-    bytes.iter().copied().find(|byte| !byte.is_ascii_whitespace())
+/// Where the first byte is that tells the form, after a byte order mark and white space.
+fn telling(bytes: &[u8]) -> Option<usize> {
+    let skipped = if bytes.starts_with(BYTE_ORDER_MARK) { BYTE_ORDER_MARK.len() } else { 0 };
+    bytes[skipped..].iter().position(|byte| !byte.is_ascii_whitespace()).map(|at| skipped + at)
 }
 
-/// Whether the form shows: there is a byte that tells, and not only the beginning of a byte order mark.
+/// Whether a text may begin with this byte.
+fn begins_text(byte: u8) -> bool {
+    byte.is_ascii_digit() || byte == b'#'
+}
+
+/// Whether the form shows: there is a byte that tells, and of a text its first line; more bytes would not change what is seen.
 fn shows(bytes: &[u8]) -> bool {
-    significant(bytes).is_some() && !BYTE_ORDER_MARK.starts_with(bytes) && bytes != &MARK[..1]
+    match telling(bytes) {
+        None => false,
+        Some(at) if begins_text(bytes[at]) => bytes[at..].contains(&b'\n'),
+        Some(_) => !BYTE_ORDER_MARK.starts_with(bytes) && bytes != &MARK[..1],
+    }
 }
 
-/// A text begins with a digit or a `#`, after white space, and has no zero byte; a fitting file begins with its mark. Bytes that are
-/// all white space are a text.
+/// A text begins with a digit or a `#`, after white space, and has no zero byte in that line; a fitting file begins with its mark. Bytes
+/// that are all white space are a text.
 fn form_of(bytes: &[u8]) -> Option<Form> {
-    match significant(bytes) {
+    match telling(bytes) {
         None => Some(Form::Text),
-        Some(byte) if (byte.is_ascii_digit() || byte == b'#') && !bytes.contains(&0) => Some(Form::Text),
+        Some(at) if begins_text(bytes[at]) => {
+            let mut line = bytes[at..].iter().take_while(|&&byte| byte != b'\n');
+            line.all(|&byte| byte != 0).then_some(Form::Text)
+        }
         _ if MARK.starts_with(bytes) || bytes.starts_with(&MARK) => Some(Form::Fitting),
         _ => None,
     }
