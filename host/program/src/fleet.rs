@@ -154,7 +154,7 @@ fn read_one(
     send: &mut impl FnMut(&Arc<Source>, Step) -> bool,
 ) -> bool {
     let mut pieces = Pieces::of(bytes, form);
-    while let Some(piece) = pieces.next() {
+    for piece in pieces.by_ref() {
         if source.ended.load(Ordering::Relaxed) {
             break;
         }

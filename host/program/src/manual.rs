@@ -16,7 +16,7 @@ pub fn page(commands: &[&Command], introduction: &str, files: &str, statuses: &s
     section(&mut page, "DESCRIPTION", introduction);
     page += ".SH COMMANDS\n";
     for command in commands {
-        write!(page, ".SS robequarry {}\n", roff(command.usage)).expect(ROOM);
+        writeln!(page, ".SS robequarry {}", roff(command.usage)).expect(ROOM);
         paragraphs(&mut page, command.help);
         for name in command.options {
             let choice = options::named(name).expect("a command takes options of the table");

@@ -1,4 +1,4 @@
-//! Every option, once: help, completions, the manual page and the reading of a call go by this table.
+//! Every option, once: calls are read by this table, and help, completions and the manual page are made from it.
 
 /// What follows an option.
 #[derive(Clone, Copy, PartialEq)]

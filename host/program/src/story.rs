@@ -1,4 +1,4 @@
-//! What the contract says on the way to a verdict, of an outline that meets none of refusals 1 to 6: the clockwise reading, four
+//! What the contract says on the way to a verdict, of an outline that meets none of refusals 1 to 6: the clockwise form, four
 //! pieces, their factors, the enclosed cells and the missing ones. The verdict itself, the edges, the anchor and the named cell are the
 //! library's; the tests hold this story to them.
 
@@ -20,11 +20,11 @@ const TO_CELL: [Point; 4] = [(0, -1), (-1, -1), (-1, 0), (0, 0)];
 
 pub struct Story {
     pub clockwise: bool,
-    /// The reading begun at W (contract 3.2).
+    /// The clockwise form started at W (contract 3.2).
     pub border: Vec<u8>,
     /// The corners of the border, W at both ends.
     pub corners: Vec<Point>,
-    /// Where W stands in the reading.
+    /// Where W stands in the clockwise form.
     west: usize,
     pub pieces: [Piece; 4],
     pub rows: Rows,
@@ -53,12 +53,12 @@ impl Story {
         let count = outline.letters.len();
         let west_sent = least(&sent[..count], |(col, row)| (col, row));
         let clockwise = outline.letters[west_sent] == 1;
-        let reading: Vec<u8> = match clockwise {
+        let form: Vec<u8> = match clockwise {
             true => outline.letters.clone(),
             false => outline.letters.iter().rev().map(|letter| letter ^ 2).collect(),
         };
         let west = if clockwise { west_sent } else { (count - west_sent) % count };
-        let border = [&reading[west..], &reading[..west]].concat();
+        let border = [&form[west..], &form[..west]].concat();
         let met = corners(sent[west_sent], &border);
         let pieces = pieces(&border, &met);
         let rows = rows(&border, &met);
@@ -68,19 +68,19 @@ impl Story {
     /// The index in the list as sent of the border's letter i (contract 5.3).
     pub fn sent(&self, i: usize) -> usize {
         let count = self.border.len();
-        let reading = (self.west + i) % count;
+        let place = (self.west + i) % count;
         if self.clockwise {
-            reading
+            place
         } else {
-            count - 1 - reading
+            count - 1 - place
         }
     }
 
     /// The border's letter that was sent at a place.
     pub fn on_border(&self, place: usize) -> usize {
         let count = self.border.len();
-        let reading = if self.clockwise { place } else { count - 1 - place };
-        (reading + count - self.west) % count
+        let place = if self.clockwise { place } else { count - 1 - place };
+        (place + count - self.west) % count
     }
 
     /// The corners of the border from a letter on, one more than letters; past W where that is needed.

@@ -26,7 +26,7 @@ impl Read for Cut<'_> {
 fn read(source: impl Read) -> (Vec<String>, bool) {
     let mut pieces = Pieces::of(source, None);
     let mut lines = Vec::new();
-    while let Some(piece) = pieces.next() {
+    for piece in pieces.by_ref() {
         let piece = match piece {
             Ok(piece) => piece,
             Err(fault) => {

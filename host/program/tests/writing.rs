@@ -129,9 +129,8 @@ fn pictures_of_several_things() {
 #[test]
 fn a_png_is_refused_with_what_to_do() {
     let refused = program(&["draw", SPECIMENS, "-o", "plus.png"]);
-    let sentence =
-        "robequarry: plus.png: pictures are SVG, not PNG: draw plus.svg, and turn that into PNG with a browser or with \
-                    `rsvg-convert plus.svg -o plus.png`\n";
+    let sentence = "robequarry: plus.png: pictures are SVG, not PNG: draw plus.svg, and a browser or \
+                    `rsvg-convert plus.svg -o plus.png` makes the PNG\n";
     assert_eq!((err(&refused).as_str(), status(&refused)), (sentence, 2));
     assert!(!std::path::Path::new("plus.png").exists());
 }

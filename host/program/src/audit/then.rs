@@ -71,7 +71,7 @@ pub fn open(path: &Path) -> io::Result<Result<List, Wrong>> {
     }
     Ok(Table::of(lines).map_err(|wrong| Wrong { line: 1, what: What::Csv(wrong) }).and_then(|table| {
         let has = |name: &str| table.names.iter().any(|column| column == name);
-        match ["outline", "number"].into_iter().find(|name| !has(name) && !(*name == "number" && has("anchor"))) {
+        match ["outline", "number"].into_iter().find(|name| !(has(name) || *name == "number" && has("anchor"))) {
             Some(name) => Err(Wrong { line: 1, what: What::Column(name) }),
             None => Ok(List::Table(table)),
         }

@@ -15,8 +15,8 @@ pub const COMMAND: Command = Command {
     help: "\
 Tests each outline of each file, and of each file in a folder and its folders, in the order of their names. It writes a line for each
 outline: taken with its edges and anchor, or refused with the refusal's number, what it means and where. A summary follows: files,
-outlines, how many are taken, how often each refusal occurs, the longest outline and the most edges. A fault of a file is told and ends
-the reading of that file; its lines before the fault stand, and the other files are read. Outlines from standard input are answered
+outlines, how many are taken, how often each refusal occurs, the longest outline and the most edges. A fault of a file is told, and no more of
+that file is read; its lines before the fault stand, and the other files are read. Outlines from standard input are answered
 line by line.
 
 With --format json each outline is an object on a line of its own, and so are each fault and the summary; with --format csv each

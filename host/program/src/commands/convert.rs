@@ -27,13 +27,11 @@ fn run(arguments: &Arguments, console: &mut Console) -> Result<Status, Failure> 
         return Err(Failure::Call("convert needs a form: --to text or --to fitting".to_string()));
     };
     let mut sink = Sink::to(out, form);
-    let mut number = 0;
     let mut reader = read(path, arguments)?;
-    for entry in reader.by_ref() {
+    for (number, entry) in reader.by_ref().enumerate() {
         let entry = entry.map_err(|fault| faulty(path, fault))?;
         put(sink.outline(&entry.outline, entry.name.as_deref().unwrap_or(""), console), path, number)?;
-        number += 1;
-        console.progress(|| count(number, "outline"))?;
+        console.progress(|| count(number + 1, "outline"))?;
     }
     say_empty(path, &reader, console)?;
     written(sink, path, console)?;

@@ -80,7 +80,7 @@ fn refuse_other_formats(out: &Path) -> Result<(), Failure> {
     let (svg, other) = (out.with_extension("svg"), other.to_uppercase());
     let (svg, out_name) = (svg.display(), out.display());
     let sentence = format!(
-        "pictures are SVG, not {other}: draw {svg}, and turn that into {other} with a browser or with `rsvg-convert {svg} -o {out_name}`"
+        "pictures are SVG, not {other}: draw {svg}, and a browser or `rsvg-convert {svg} -o {out_name}` makes the {other}"
     );
     Err(Failure::File(out.to_path_buf(), sentence))
 }
