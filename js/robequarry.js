@@ -97,11 +97,11 @@ function edgesOf(value, name) {
   if (value instanceof Int16Array) return value;
   if (!Array.isArray(value)) throw new TypeError(`${name} must be a list of edges {dx, dy} or an Int16Array, not ${shown(value)}`);
   const numbers = new Int16Array(2 * value.length);
-  value.forEach((edge, place) => {
+  for (const [place, edge] of value.entries()) {
     record(edge, `${name}[${place}]`);
     numbers[2 * place] = i16(edge.dx, `${name}[${place}].dx`);
     numbers[2 * place + 1] = i16(edge.dy, `${name}[${place}].dy`);
-  });
+  }
   return numbers;
 }
 

@@ -190,6 +190,7 @@ test('an argument that is none throws a TypeError that names it', () => {
     [() => rq.test(outline(0, 0, [0, , 1])), 'outline.letters[1]'],
     [() => rq.test(outline(0, 0, 1032)), 'outline.letters must be a string of digits or a list of numbers, not 1032'],
     [() => rq.border({ anchor: cell(0, 0), edges: [1, 2] }), 'hull.edges[0] must be an object'],
+    [() => rq.border({ anchor: cell(0, 0), edges: [, { dx: 1, dy: 1 }] }), 'hull.edges[0] must be an object'],
     [() => rq.border({ anchor: cell(0, 0), edges: edges(1, 40000) }), 'hull.edges[0].dy must be a whole number from -32768 to 32767'],
     [() => rq.compare({ anchor: cell(0, 0), edges: [] }, null), 'second must be an object, not null'],
     [() => rq.looseQuery({ anchor: cell(0, 0), edges: [] }), 'question.cell must be an object'],
