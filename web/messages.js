@@ -129,7 +129,7 @@ export const MESSAGES = {
   "fault.hole": "hole",
   "why": "Why not?",
   "instead": "Draw this instead",
-  "instead.count": "Draw this instead: {cells} more",
+  "instead.count": "Draw this instead (+{n})",
   "instead.back": "Back to what I drew",
 
   "panels": "What to show",

@@ -20,7 +20,7 @@ import { verdict } from "./say.js";
 import { restore, save } from "./store.js";
 import { story } from "./story.js";
 import { Tabs } from "./tabs.js";
-import { at, count, text } from "./text.js";
+import { at, text } from "./text.js";
 import { Tools } from "./tools.js";
 import { View } from "./view.js";
 
@@ -96,7 +96,7 @@ class Page {
     by("why").disabled = !answer.added;
     by("why").setAttribute("aria-pressed", String(this.why));
     if (back) write(by("instead"), text("instead.back"));
-    else write(by("instead"), answer.added ? text("instead.count", { cells: count(answer.added.count, "cell") }) : text("instead"));
+    else write(by("instead"), answer.added ? text("instead.count", { n: answer.added.count }) : text("instead"));
   }
 
   // The cell under the pointer, or else the cursor's, with what the controller says there.

@@ -29,7 +29,7 @@ class Help(PageTest):
 
     def test_draw_this_instead(self):
         self.draw(DENTED)
-        self.assertEqual(self.text("instead"), "Draw this instead: 1 cell more")
+        self.assertEqual(self.text("instead"), "Draw this instead (+1)")
         self.assertEqual(self.cells("missing"), {(1, 1)})
         self.press("instead")
         self.says("Taken, 3 edges")
