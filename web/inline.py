@@ -18,6 +18,7 @@ OUTLINES = ROOT / "host/program"
 
 IMPORT = re.compile(r'^import \{([^}]*)\} from "(\.[^"]+)";\n', re.MULTILINE)
 EXPORT = re.compile(r"^export ((?:async )?function|const|let|class) (\w+)", re.MULTILINE)
+FILLED = re.compile(r"\{(\w+)\}")
 PLACE = re.compile(r"\{\{([^}]+)\}\}|\[\[(\w+)\]\]")
 
 
@@ -32,6 +33,22 @@ def messages(path):
         return json.loads(words[words.index("{", words.index("MESSAGES")) : words.rindex("}") + 1])
     except ValueError as error:
         raise Fault(f"{path}: the table is not one of keys and texts: {error}") from None
+
+
+def check(path, table):
+    """Whether a translated table has every text, and no place that the page does not fill."""
+    own = messages(HERE / "messages.js")
+    missing = sorted(own.keys() - table.keys())
+    if missing:
+        raise Fault(f"{path}: there is no text for {', '.join(missing)}")
+    if not re.fullmatch(r"[A-Za-z]{2,3}(-[A-Za-z0-9]+)*", table["lang"]):
+        raise Fault(f"{path}: {table['lang']!r} is no language, as en or de-CH is")
+    for key, words in table.items():
+        # Any plural may have the number in it, also one that this table does not have.
+        plural = own.get(key.rpartition(".")[0] + ".other", "")
+        unknown = set(FILLED.findall(words)) - set(FILLED.findall(own.get(key, "") + plural))
+        if unknown:
+            raise Fault(f"{path}: the text of {key} has {{{unknown.pop()}}}, which the page does not fill")
 
 
 class Bundle:
@@ -88,9 +105,7 @@ def policy(script, style):
 def page(library, table_path):
     """The whole page as text."""
     table = messages(table_path)
-    missing = sorted(messages(HERE / "messages.js").keys() - table.keys())
-    if missing:
-        raise Fault(f"{table_path}: there is no text for {', '.join(missing)}")
+    check(table_path, table)
     bundle = Bundle({(HERE / "messages.js").resolve(): table_path})
     bundle.add(HERE / "page.js")
     script = bundle.script()

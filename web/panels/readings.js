@@ -4,11 +4,12 @@ import { by, write } from "../dom.js";
 import { atWork } from "../judge.js";
 import { signs } from "../signs.js";
 import { stripPath, widthAt } from "../strip.js";
-import { element, polyline } from "../svg.js";
+import { element, polyline, put } from "../svg.js";
 import { text } from "../text.js";
 
 // Points across the loupe, and how many strips wide it is.
-const ACROSS = 41;
+const ACROSS = 31;
+const MIDDLE = (ACROSS - 1) / 2;
 const STRIPS = 4;
 const WORDS = ["inside", "undecided", "outside"];
 
@@ -17,7 +18,7 @@ export function readings(page) {
   let point = [0, 0];
   const loupe = WORDS.map((word) => element("path", { class: `said-${word}` }));
   by("loupe").append(element("rect", { class: "off", width: ACROSS, height: ACROSS }), ...loupe);
-  by("loupe").append(element("path", { class: "loupe-cross", d: `M${ACROSS / 2} 16v9M16 ${ACROSS / 2}h9` }));
+  by("loupe").append(element("path", { class: "loupe-cross", d: `M${ACROSS / 2} 12v7M12 ${ACROSS / 2}h7` }));
   signs(by("reading-signs"), ["inside", "undecided", "outside", "strip"]);
   for (const id of ["angle", "shin"]) {
     by(id).addEventListener("input", () => {
@@ -65,11 +66,12 @@ export function readings(page) {
   function enlarge(paths, [x, y], step, word) {
     const found = Object.fromEntries(WORDS.map((name) => [name, ""]));
     for (let row = 0; row < ACROSS; row++) {
-      for (let col = 0; col < ACROSS; col++) {
-        const said = word([x + (col - (ACROSS - 1) / 2) * step, y - (row - (ACROSS - 1) / 2) * step]);
-        if (said in found) found[said] += `M${col} ${row}h1v1h-1z`;
+      const said = Array.from({ length: ACROSS }, (_, col) => word([x + (col - MIDDLE) * step, y - (row - MIDDLE) * step]));
+      for (let from = 0, to; from < ACROSS; from = to) {
+        for (to = from + 1; said[to] === said[from]; ) to++;
+        if (said[from] in found) found[said[from]] += `M${from} ${row}h${to - from}v1h${from - to}z`;
       }
     }
-    WORDS.forEach((name, i) => paths[i].setAttribute("d", found[name]));
+    WORDS.forEach((name, i) => put(paths[i], "d", found[name]));
   }
 }

@@ -6,8 +6,7 @@ import tempfile
 import unittest
 from pathlib import Path
 
-import inline
-from support import DENTED, LIBRARY, PLUS, WEB, PageTest, record, table
+from support import DENTED, LIBRARY, PLUS, WEB, PageTest, inline, record, table
 
 PICK = """const list = document.getElementById("example");
     list.value = String(arguments[0]);
@@ -81,12 +80,21 @@ class TheTable(unittest.TestCase):
         allowed = {key for key in unused if key.split(".")[-1] in ("zero", "one", "other") or key.startswith("block.")}
         self.assertEqual(sorted(set(unused) - allowed), [])
 
-    def test_a_table_that_lacks_a_text_is_told(self):
+    def test_a_table_that_does_not_fit_is_told(self):
+        whole = (WEB / "messages.js").read_text()
         with tempfile.TemporaryDirectory() as folder:
             path = Path(folder) / "messages.js"
-            path.write_text('export const MESSAGES = { "lang": "de" }')
-            with self.assertRaisesRegex(inline.Fault, "there is no text for"):
-                inline.page(LIBRARY, path)
+            for words, told in (
+                ('export const MESSAGES = { "lang": "de" }', "there is no text for"),
+                (whole.replace('"en"', '"no language"'), "is no language"),
+                (whole.replace("Anchor {anchor}", "Anker {anker}"), "the text of taken.anchor has {anker}"),
+                (whole.replace('"title":', '"title"'), "is not one of keys and texts"),
+            ):
+                path.write_text(words)
+                with self.assertRaisesRegex(inline.Fault, told):
+                    inline.page(LIBRARY, path)
+            path.write_text("\ufeff" + whole.replace('"cell.other"', '"cell.few": "{n} komórki",\n  "cell.other"').replace('"en"', '"pl"'))
+            self.assertIn("komórki", inline.page(LIBRARY, path))
 
 
 class Marked(PageTest):

@@ -5,7 +5,7 @@ import unittest
 
 from selenium.webdriver.common.keys import Keys
 
-from support import DENTED, PLUS, PageTest, outlines
+from support import DENTED, PLUS, RUN, PageTest, outlines
 
 class Help(PageTest):
     def test_the_witness_and_the_band(self):
@@ -82,11 +82,11 @@ class Readings(PageTest):
         corners = list(zip(numbers[::2], numbers[1::2]))
         self.assertTrue(any(math.isclose(x + y, 2 - 1 / 64) for x, y in corners), corners)
         self.word(0.5, 1.5)
-        script = "return document.querySelector(`#loupe .said-${arguments[0]}`).getAttribute('d').split('M').length - 1"
-        count = lambda word: self.script(script, word)
+        script = "return document.querySelector(`#loupe .said-${arguments[0]}`).getAttribute('d')"
+        count = lambda word: sum(int(width) for _, _, width, _ in RUN.findall(self.script(script, word)))
         inside, undecided, outside = (count(word) for word in ("inside", "undecided", "outside"))
-        self.assertEqual(inside + undecided + outside, 41 * 41)
-        self.assertTrue(0.2 < undecided / 41 / 41 < 0.45 and abs(inside - outside) < 60, (inside, undecided, outside))
+        self.assertEqual(inside + undecided + outside, 31 * 31)
+        self.assertTrue(0.2 < undecided / 31 / 31 < 0.45 and abs(inside - outside) < 60, (inside, undecided, outside))
 
     def test_keys(self):
         self.draw(PLUS)
