@@ -13,19 +13,50 @@ ghost use Rattle.chart.specs.Outline.{outline};
 ghost use Rattle.survey.specs.parts.Numbers.{colNumber, colStride, offChart, rowNumber, rowStride, lowerOf, higherOf, cornersFrom};
 ghost use Rattle.survey.specs.parts.Walks.{Begun, Out, RestOf, WalkedAs};
 
+// A number by columns is column, row and place: ten bits for the place, ten for the row.
+const ROW_UNIT: u32 = 1024;
+
+const COL_UNIT: u32 = 1048576;
+
+// As many rows as a number by columns tells apart.
+const ROWS: u32 = 1024;
+
+// A number by rows is row from the top, column and place: sixteen bits for the place, eight for the column.
+const CORNER_UNIT: u32 = 65536;
+
+const LEVEL_UNIT: u32 = 16777216;
+
+// What a letter adds to a number by columns, modulo 2^32: a step, and one to the place.
+const COL_RIGHT: u32 = COL_UNIT + 1;
+
+const COL_UP: u32 = ROW_UNIT + 1;
+
+const COL_LEFT: u32 = 4294967295 - COL_UNIT + 2;
+
+const COL_DOWN: u32 = 4294967295 - ROW_UNIT + 2;
+
+// The same for a number by rows.
+const ROW_RIGHT: u32 = CORNER_UNIT + 1;
+
+const ROW_UP: u32 = 4294967295 - LEVEL_UNIT + 2;
+
+const ROW_LEFT: u32 = 4294967295 - CORNER_UNIT + 2;
+
+const ROW_DOWN: u32 = LEVEL_UNIT + 1;
+
 // The numbers of the corner at which a walk begins.
 pub(crate) fn col_number(p: Point) -> u32
     requires { ⌜ (p .col ≤ side) × (p .row ≤ side) ⌝ }
     ensures { λ r. ⌜ r ≡ colNumber p 0 ⌝ }
 {
-    (p.col as u32) * 1048576 + (p.row as u32) * 1024
+    (p.col as u32) * COL_UNIT + (p.row as u32) * ROW_UNIT
 }
 
 fn row_number(p: Point) -> u32
     requires { ⌜ (p .col ≤ side) × (p .row ≤ side) ⌝ }
     ensures { λ r. ⌜ r ≡ rowNumber p 0 ⌝ }
 {
-    ((SIDE - p.row) as u32) * 16777216 + (p.col as u32) * 65536
+    ((SIDE - p.row) as u32) * LEVEL_UNIT + (p.col as u32) * CORNER_UNIT
 }
 
 // What a letter adds to either.
@@ -33,10 +64,10 @@ fn col_stride(letter: u8) -> u32
     ensures { λ r. ⌜ r ≡ colStride (letter % 4) ⌝ }
 {
     match letter % 4 {
-        0 => 1048577,
-        1 => 1025,
-        2 => 4293918721,
-        _ => 4294966273,
+        0 => COL_RIGHT,
+        1 => COL_UP,
+        2 => COL_LEFT,
+        _ => COL_DOWN,
     }
 }
 
@@ -44,10 +75,10 @@ fn row_stride(letter: u8) -> u32
     ensures { λ r. ⌜ r ≡ rowStride (letter % 4) ⌝ }
 {
     match letter % 4 {
-        0 => 65537,
-        1 => 4278190081,
-        2 => 4294901761,
-        _ => 16777217,
+        0 => ROW_RIGHT,
+        1 => ROW_UP,
+        2 => ROW_LEFT,
+        _ => ROW_DOWN,
     }
 }
 
@@ -55,7 +86,7 @@ fn row_stride(letter: u8) -> u32
 fn is_off_chart(number: u32) -> bool
     ensures { λ r. ⌜ r ≡ offChart number ⌝ }
 {
-    (255 < number / 1024 % 1024) | (255 < number / 1048576)
+    (255 < number / ROW_UNIT % ROWS) | (255 < number / COL_UNIT)
 }
 
 // The lower and the higher of two numbers.
@@ -76,16 +107,16 @@ fn corners_from(west: u32, north: u32, east: u32, south: u32) -> Corners
     ensures { λ r. ⌜ r ≡ cornersFrom west north east south ⌝ }
 {
     Corners {
-        west: (west % 1024) as usize,
-        north: (north % 65536) as usize,
-        east: (east % 1024) as usize,
-        south: (south % 65536) as usize,
+        west: (west % ROW_UNIT) as usize,
+        north: (north % CORNER_UNIT) as usize,
+        east: (east % ROW_UNIT) as usize,
+        south: (south % CORNER_UNIT) as usize,
         corner: Point {
-            col: (west / 1048576) as u16,
-            row: (west / 1024 % 1024) as u16,
+            col: (west / COL_UNIT) as u16,
+            row: (west / ROW_UNIT % ROWS) as u16,
         },
-        bottom: SIDE - (south / 16777216 % 256) as u16,
-        top: SIDE - (north / 16777216 % 256) as u16,
+        bottom: SIDE - (south / LEVEL_UNIT % 256) as u16,
+        top: SIDE - (north / LEVEL_UNIT % 256) as u16,
     }
 }
 
@@ -113,7 +144,7 @@ pub(crate) fn along(s: Point, w: &[u8]) -> Walk
     let mut south = by_row;
     let mut i = 0;
     while i < w.len() {
-        if flags::mark(&mut met, (by_row / 65536) as usize) {
+        if flags::mark(&mut met, (by_row / CORNER_UNIT) as usize) {
             return Walk::Meets {
                 place: i,
                 number: by_col,
@@ -169,7 +200,7 @@ pub(crate) fn walk_on(w: &[u8], from: usize, number: u32) -> Rest
 pub(crate) fn ends_away(s: Point, end: u32) -> bool
     ensures { λ r. ⌜ r ≡ not (eqb (end / 1024) (s .col * 1024 + s .row)) ⌝ }
 {
-    end / 1024 != (s.col as u32) * 1024 + (s.row as u32)
+    end / ROW_UNIT != (s.col as u32) * ROWS + (s.row as u32)
 }
 
 // What a letter adds to the columns and to the rows, modulo 256.
