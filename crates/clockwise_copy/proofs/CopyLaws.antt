@@ -1,4 +1,4 @@
--- The buffer of letters: a list is copied letter by letter, and two of them, one behind the other, are the turn.
+-- A list is copied letter by letter; the letters from a place on and those before it, one behind the other, are the border.
 use Prim.Native.Nat.{ℕ, _+_, _-_, _≤_, _<_}
 use native.Mathlib.Nat.{zero-add}
 use native.Mathlib.Numerals.{add-one}
@@ -6,7 +6,7 @@ use native.Mathlib.Omega.{arith}
 use mathlib.Core.Path.{_≡_, sym, ap, _∙_}
 use mathlib.Core.Bool.{true, false}
 use mathlib.Core.List.{List, [], _∷_, _++_, append-assoc, append-nil}
-use lib.ListN.{length, getD, take, drop, set, length-append, length-drop}
+use lib.ListN.{length, getD, take, drop, set, length-drop}
 use lib.Seq.{take-all, length-take-le, paste, paste-zero, paste-suc, length-paste, take-paste}
 use Rattle.convexity.specs.Clockwise.{opposite, backward}
 use Rattle.convexity.proofs.Clockwise.{length-backward}
@@ -36,7 +36,7 @@ module _ {s before buffer : List ℕ} {to i : ℕ} (f : Pasting s before buffer 
   pub pasting-end : length s ≤ i → buffer ≡ paste before to s (length s)
   pasting-end h = let all : i ≡ length s = omega (arith, f .within) in f .pasted ∙ ap (paste before to s) all
 
--- ---- the turn
+-- ---- two lists, one behind the other
 
 -- One list behind the other, from the buffer's beginning on
 take-two : (u v before : List ℕ) → length u + length v ≤ length before

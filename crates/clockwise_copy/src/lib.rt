@@ -1,4 +1,4 @@
-// The letters of an outline read from W on, and places in them.
+// The border of an outline as a list: a copy of its letters from W on, clockwise; and its places as places of the list as sent (contract 2.2, 3.2).
 use chart::LONGEST;
 ghost use Prim.Native.Nat.{_+_, _≤_};
 ghost use mathlib.Core.Path.{_≡_};
@@ -7,17 +7,17 @@ ghost use lib.Seq.{paste};
 ghost use Rattle.convexity.specs.Clockwise.{opposite as oppositeOf, backward};
 ghost use Rattle.clockwise_copy.specs.parts.ClockwiseCopy.{Turned, readPlace, SentTo};
 
-// As far as four pieces can reach.
+// Four pieces reach at most this far from W.
 const ROUNDS: usize = 4 * LONGEST;
 
-// The letter of the way back.
+// The opposite direction.
 fn opposite(letter: u8) -> u8
     ensures { λ r. ⌜ r ≡ oppositeOf letter ⌝ }
 {
     if letter < 4 { (letter + 2) % 4 } else { 1 }
 }
 
-// Copies a list into another, from a place of it on.
+// Copies a list into the buffer, from a place of the buffer on.
 fn copy(list: &[u8], round: &mut [u8], to: usize)
     requires { ⌜ to + length (now list) ≤ length (now round) ⌝ }
     ensures { λ _. ⌜ now (round .exit) ≡ paste (now (round .entry)) to (now (list .entry)) (length (now (list .entry))) ⌝ }
@@ -29,7 +29,7 @@ fn copy(list: &[u8], round: &mut [u8], to: usize)
     }
 }
 
-// The same for the walk backward.
+// The same for the walk in the opposite sense: the last letter first, each as its opposite.
 fn copy_back(list: &[u8], round: &mut [u8], to: usize)
     requires { ⌜ to + length (now list) ≤ length (now round) ⌝ }
     ensures { λ _. ⌜ now (round .exit) ≡ paste (now (round .entry)) to (backward (now (list .entry))) (length (now (list .entry))) ⌝ }
@@ -42,7 +42,7 @@ fn copy_back(list: &[u8], round: &mut [u8], to: usize)
     }
 }
 
-// Copies the letters from a place on, past the list's end to its beginning, or the same walk backward.
+// Copies the letters, read cyclically from a place on, or the same walk backward. The buffer is left alone if it is too short.
 pub fn fill_round(w: &[u8], from: usize, forward: bool, round: &mut [u8])
     ensures { λ r. ⌜ Turned forward (now (w .entry)) from (now (round .entry)) (now (round .exit)) ⌝ }
 {
@@ -59,18 +59,20 @@ pub fn fill_round(w: &[u8], from: usize, forward: bool, round: &mut [u8])
     copy_back(&w[from..], round, from);
 }
 
-// The place of the letter that leaves a corner in what is read, from its place in the list as sent.
+// Where the letter that leaves a corner stands in the clockwise form, from its place in the list as sent, of n letters.
 pub fn read_place(n: usize, w: usize, forward: bool) -> usize
-    requires { ⌜ w ≤ n ⌝ }
     ensures { λ r. ⌜ r ≡ readPlace forward n w ⌝ }
 {
     if forward {
         return w;
     }
-    if w == 0 { 0 } else { n - w }
+    if w == 0 {
+        return 0;
+    }
+    if n < w { 0 } else { n - w }
 }
 
-// A place in letters from W on, as a place of the list as sent, of n letters, where W's letter stands at w in what is read.
+// The letter i of the border as a place of the list as sent, of n letters, where W's letter stands at w in the clockwise form.
 pub fn sent(n: usize, w: usize, forward: bool, i: usize) -> usize
     ensures { λ r. ⌜ SentTo forward n w i r ⌝ }
 {

@@ -4,7 +4,7 @@ use mathlib.Core.Path.{sym}
 use lib.Seq.{length-take-le}
 use borrow.Author.Needs.{needs}
 use Rattle.chart.specs.Outline.{outline}
-use Rattle.cut_places.proofs.ReadLaws.{found-places, cuts-of}
+use Rattle.cut_places.proofs.ReadLaws.{cuts-of}
 use Rattle.judge.proofs.JudgedLaws.{Copied, letters-fit, copied-ready, copied-said}
 use Rattle.judge.proofs.read.Statement.{statement}
 use Rattle.judge.proofs.read.Tie as tie
@@ -13,9 +13,7 @@ cut-places-requires : tie.Need-cut-places-requires
 cut-places-requires c κs = search needs
 
 read-place-requires : tie.Need-read-place-requires
-read-place-requires c κs =
-    let start = c .before .before .before in
-    omega (arith, found-places (start .pre .0) (start .pre .1) .west)
+read-place-requires c κs = search needs
 
 slice-aggregate-fill-round : tie.Need-slice-aggregate-fill-round
 slice-aggregate-fill-round c = search needs
