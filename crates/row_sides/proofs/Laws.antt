@@ -1,9 +1,9 @@
 -- The pass, letter by letter: what is kept so far, together with the remaining letters, gives the sides of the rows.
 use Prim.Native.Nat.{ℕ, zero, suc, _+_, _-_, _≤_, _<_, min, max}
 use mathlib.Core.Path.{_≡_, refl, sym, ap, _∙_, subst}
-use mathlib.Core.Bool.{Bool, true, false, cond, _||_, _&&_, true≢false}
+use mathlib.Core.Bool.{Bool, true, false, cond}
 use mathlib.Core.Logic.{_⊎_, inl, inr}
-use mathlib.Core.List.{List, [], _∷_}
+use mathlib.Core.List.{List}
 use native.Mathlib.Decide.{decLt}
 use native.Mathlib.Numerals.{add-one}
 use native.Mathlib.Omega.{arith}
@@ -11,7 +11,7 @@ use lib.Dec.{eqb}
 use lib.ListN.{length, getD, drop, set, replicate, length-set, length-replicate, getD-replicate, drop-of-length-le}
 use lib.Seq.{drop-cons, getD-set-same, getD-set-other}
 use borrow.Author.Tests.{eqb-true, eqb-false, eq-eqb, lt-ltb, le-ltb}
-use Rattle.base.proofs.BelowLaws.{not-held, same-test}
+use Rattle.base.proofs.BelowLaws.{same-test}
 use Rattle.chart.specs.Limits.{side}
 use Rattle.chart.specs.declared.Point.{Point}
 use Rattle.chart.specs.Outline.{Outline}
@@ -19,9 +19,8 @@ use Rattle.lattice.specs.Chart.{step, cornerAt, size, letterAt}
 use Rattle.lattice.specs.Refusals.{Simple}
 use Rattle.lattice.proofs.WalkLaws.{point-eq, walked, corner-zero, corner-suc}
 use Rattle.rows.specs.parts.Rows.{rows}
-use Rattle.completion.specs.parts.Sides.{alongRow, leastOver, greatestOver, firstSide, lastSide, lowestCorner, highestCorner}
+use Rattle.completion.specs.parts.Sides.{alongRow, leastOver, greatestOver, lastSide, lowestCorner, highestCorner}
 use Rattle.completion.proofs.Sides.{along-cases, along-up, along-down}
-use Rattle.witness.specs.Gap.{secondSide}
 use Rattle.witness.specs.parts.Kept.{Two, keepTwo, keptTwo}
 use Rattle.witness.proofs.Kept.{keptSides, kept-first, kept-second-side}
 use Rattle.row_sides.specs.parts.Passed.{Tells, Passed}

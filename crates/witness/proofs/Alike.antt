@@ -1,6 +1,6 @@
 -- Rows with equal ends below the top have the same three cells for every cell of the hull, because they have the same edges (Steps).
 use Prim.Native.Nat.{ℕ, suc, pred, _-_, _≤_, _<_}
-use mathlib.Core.Path.{_≡_, refl, sym, ap, _∙_}
+use mathlib.Core.Path.{_≡_, refl, ap, _∙_}
 use native.Mathlib.Decide.{decLt}
 use native.Mathlib.Omega.{arith}
 use borrow.Author.Tests.{lt-ltb, le-ltb}

@@ -4,12 +4,11 @@ use Prim.Native.Nat.{ℕ, _≤_, _<_}
 use native.Mathlib.Omega.{arith}
 use native.Mathlib.Decide.{decLt}
 use mathlib.Core.Path.{_≡_, refl, sym, ap, _∙_}
-use mathlib.Core.Bool.{Bool, true, false, cond}
-use mathlib.Core.List.{List, _++_}
-use lib.ListN.{length, drop}
+use mathlib.Core.Bool.{Bool, true, false}
+use mathlib.Core.List.{List}
+use lib.ListN.{length}
 use lib.Dec.{ltb}
 use borrow.Author.Tests.{lt-ltb, le-ltb}
-use Rattle.chart.specs.declared.Point.{Point}
 use Rattle.chart.specs.declared.Refusal.{Refusal}
 use Rattle.chart.specs.declared.Refusal.the-variants.{Count, Start, Letter, Leaves, Unclosed, Touches, BackStep, Dent, Room, List as BadList, Cell, Directions}
 use Rattle.chart.specs.Fields.{refusalFields}
@@ -23,11 +22,10 @@ use Rattle.survey.specs.Survey.{surveyOf}
 use Rattle.survey.proofs.SurveyLaws.{survey-passed, survey-simple}
 use Rattle.witness.specs.declared.Witnessed.{Witnessed}
 use Rattle.witness.specs.declared.Witnessed.the-variants.{Found, None, Refused}
-use Rattle.witness.specs.Three.{Three}
 use Rattle.witness.specs.Gap.{isMissing, lowestMissing, witnessOf}
 use Rattle.witness.specs.Witnessed.{sixNumbers, shownIn, pastSurvey, witnessedOf, witnessedFields, threeNumbers, shownAfter, cellsAfter}
 use Rattle.witness.specs.Named.{cellIn, WitnessNamed}
-use Rattle.witness.proofs.Theorem.{missing-lowest, missing-none, full-iff, witness-holds}
+use Rattle.witness.proofs.Theorem.{missing-lowest, missing-none, witness-holds}
 
 -- A refusal has a number above 0
 above : (f : Refusal) → 0 < refusalFields f .number

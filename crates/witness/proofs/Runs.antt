@@ -2,30 +2,30 @@
 -- an enclosed cell on its left runs down, so the cell on its right is not enclosed.
 use Prim.Native.Nat.{ℕ, zero, suc, pred, _+_, _-_, _≤_, _<_}
 use mathlib.Core.Path.{_≡_, refl, sym, ap, _∙_, subst, subst₂}
-use mathlib.Core.Bool.{Bool, true, false, true≢false, _&&_, and-eq-true-iff}
+use mathlib.Core.Bool.{Bool, true, false, _&&_, and-eq-true-iff}
 use mathlib.Core.Logic.{_⊎_, inl, inr}
-use native.Mathlib.Decide.{decLt, decLe}
+use native.Mathlib.Decide.{decLe}
 use native.Mathlib.Omega.{arith}
 use lib.Dec.{ltb}
 use borrow.Author.Tests.{ltb-true, lt-ltb}
 use Rattle.chart.specs.Limits.{side}
 use Rattle.chart.specs.declared.Point.{Point}
 use Rattle.chart.specs.Outline.{Outline}
-use Rattle.lattice.specs.Chart.{cornerAt, size, letterAt}
+use Rattle.lattice.specs.Chart.{cornerAt, letterAt}
 use Rattle.lattice.specs.Refusals.{Simple}
 use Rattle.lattice.specs.Walked.{Walked}
 use Rattle.lattice.proofs.WalkLaws.{point, point-eq, walked}
-use Rattle.lattice.proofs.Jumps.{upsTo, downsTo, upsAt, downsAt, ups-jump-vertical, downs-jump-vertical, ups-found, downs-found}
-use Rattle.lattice.proofs.RightHand.{rightOf, leftOf, Lowest, clockwise-left}
+use Rattle.lattice.proofs.Jumps.{upsAt, downsAt, ups-jump-vertical, downs-jump-vertical, ups-found, downs-found}
+use Rattle.lattice.proofs.RightHand.{leftOf, Lowest, clockwise-left}
 use Rattle.convexity.specs.Cut.{westPlace}
 use Rattle.convexity.specs.Clockwise.{clockwiseForm, border, block}
 use Rattle.convexity.proofs.Clockwise.{simple-form, clockwise-form, west-first, leaving-west}
 use Rattle.convexity.proofs.Levels.{Out, enclosed-level, level-enclosed, level-open, first-lowest, leaves-upwards}
-use Rattle.completion.specs.Complete.{firstCell, pastCell, firstRow, pastRow}
+use Rattle.completion.specs.Complete.{firstCell, pastCell}
 use Rattle.completion.specs.parts.Sides.{alongRow, firstSide, lastSide, lowestCorner, highestCorner}
 use Rattle.completion.proofs.HullRows.{Ends}
-use Rattle.completion.proofs.BlockEnds.{JoinedUp, block-joined, ends}
-use Rattle.completion.proofs.Folds.{Met, least-met, least-is-met, least-le}
+use Rattle.completion.proofs.BlockEnds.{block-joined, ends}
+use Rattle.completion.proofs.Folds.{least-met, least-is-met}
 use Rattle.completion.proofs.Sides.{Side, along-cases, along-up, along-down, side-sent, side-read, first-side, last-side, lowest-corner, highest-corner}
 use Rattle.witness.specs.Gap.{secondSide}
 use Rattle.witness.proofs.Gap.{FirstRun}

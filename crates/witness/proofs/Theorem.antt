@@ -1,10 +1,9 @@
 -- For an outline that passes refusals 1 to 6, in either direction, the search by rows finds a cell exactly if some cell is missing. It is
 -- the lowest one, and three enclosed cells have it in their triangle. Refusal 9 names the same cell.
-use Prim.Native.Nat.{ℕ, _≤_, _<_}
+use Prim.Native.Nat.{ℕ, _<_}
 use mathlib.Core.Path.{_≡_, refl, sym, ap, _∙_}
-use mathlib.Core.Bool.{Bool, true, false, true≢false}
+use mathlib.Core.Bool.{Bool, true, false}
 use mathlib.Core.Logic.{_↔_, _⊎_, inl, inr}
-use native.Mathlib.Omega.{arith}
 use lib.Dec.{ltb}
 use borrow.Author.Tests.{ltb-true, ltb-false}
 use Rattle.chart.specs.declared.Point.{Point}

@@ -1,7 +1,7 @@
 -- Each letter is one step, and any other number is none.
 use mathlib.Core.Logic.{⊎-elim}
 use native.Mathlib.Omega.{arith}
-use borrow.Author.Tests.{ltb-true, ltb-false}
+use borrow.Author.Tests.{ltb-false}
 use borrow.Author.Needs.{needs}
 use Rattle.row_sides.proofs.Laws.{to-right, to-up, to-left, to-down, to-itself}
 use Rattle.row_sides.proofs.moved.Statement.{statement}
