@@ -17,7 +17,6 @@ use Rattle.rows.proofs.Side.{furthest-furthest}
 use Rattle.completion.specs.HullRows.{nextRow, hullLeft, hullRight}
 use Rattle.witness.specs.Three.{Three, lowerEnd, upperEnd, firstIn, lastIn, fromLeft, fromRight, fromRow, threeFor}
 use Rattle.witness.specs.Gap.{openColumn, hasGap, lowestRow, lowestOpen}
-use Rattle.witness.proofs.Three.{Spans}
 use Rattle.witness.proofs.Steps.{row-spans, row-first, row-next, lower-same, upper-same, left-same}
 use Rattle.witness_search.specs.parts.Answers.{threeBy, Shows, Answers}
 

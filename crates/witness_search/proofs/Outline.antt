@@ -1,9 +1,8 @@
 -- What the two passes find for an outline: the arrays have the ends of its block's rows, so the laws for rows apply.
-use Prim.Native.Nat.{ℕ, suc, pred, _+_, _-_, _≤_, _<_}
+use Prim.Native.Nat.{ℕ, pred, _+_, _-_, _≤_, _<_}
 use mathlib.Core.Path.{_≡_, refl, sym, ap, _∙_, subst, subst₂}
 use mathlib.Core.Bool.{Bool, true, false, true≢false, cond}
 use mathlib.Core.List.{List}
-use native.Mathlib.Decide.{decLt}
 use native.Mathlib.Omega.{arith}
 use lib.Dec.{ltb}
 use borrow.Author.Tests.{lt-ltb, le-ltb}
@@ -17,14 +16,13 @@ use Rattle.lattice.specs.Refusals.{Simple}
 use Rattle.lattice.proofs.WalkLaws.{point, point-eq}
 use Rattle.rows.specs.parts.Rows.{rows}
 use Rattle.convexity.specs.Clockwise.{block}
-use Rattle.completion.specs.parts.Sides.{firstSide, lastSide, lowestCorner, highestCorner}
-use Rattle.completion.specs.HullRows.{hullLeft, hullRight}
-use Rattle.completion.specs.Complete.{firstRow, pastRow}
+use Rattle.completion.specs.parts.Sides.{firstSide, lastSide}
+use Rattle.completion.specs.HullRows.{hullRight}
 use Rattle.completion.proofs.HullRows.{Ends, hull-iff}
 use Rattle.completion.proofs.Climb.{lowest-row}
 use Rattle.completion.proofs.BlockEnds.{block-joined, rows-fit}
 use Rattle.completion.proofs.Sides.{highest-corner}
-use Rattle.witness.specs.Three.{Three, firstIn, lastIn, fromRow, threeFor}
+use Rattle.witness.specs.Three.{firstIn, lastIn, fromRow, threeFor}
 use Rattle.witness.specs.Gap.{openColumn, hasGap, lowestRow, lowestOpen, isMissing, lowestMissing, witnessFor, witnessOf}
 use Rattle.witness.proofs.Gap.{FirstRun, finds, none-missing}
 use Rattle.witness.proofs.Alike.{three-alike}

@@ -2,7 +2,6 @@
 use Prim.Native.Nat.{_-_, _*_, _≤_}
 use mathlib.Core.Path.{refl}
 use native.Mathlib.Omega.{arith}
-use denote.Ref.{now}
 use Rattle.rows.specs.Search.{crossing}
 use Rattle.rows.specs.parts.Rows.{rows}
 use Rattle.rows.proofs.SearchLaws.{product-small}

@@ -1,6 +1,5 @@
 -- The test compares two differences that cannot be negative.
 use native.Mathlib.Omega.{arith}
-use mathlib.Core.Path.{sym}
 use Rattle.witness_search.proofs.Laws.{gap-sums, gap-past}
 use borrow.Author.Needs.{needs}
 use Rattle.witness_search.proofs.gap.Statement.{statement}
