@@ -1,18 +1,14 @@
 -- The drawings of the specimens H1, H2 and H3 (contract 9), and some halves, as the checker computes them.
-use Prim.Native.Nat.{ℕ}
 use mathlib.Core.Path.{_≡_, refl}
 use mathlib.Core.Bool.{false}
 use mathlib.Core.List.{[], _∷_}
 use lib.IntN.{pos, negsuc}
 use lib.Ieee.{fin, add, ofInt}
-use Rattle.chart.specs.declared.Point.{Point}
+use Rattle.chart.specs.Outline.{at}
 use Rattle.directions.specs.CornerHull.{chartNumber, onChart}
 use Rattle.drawing.specs.declared.Stroke.the-variants.{Move, Line, Close}
 use Rattle.drawing.specs.Drawing.{lineTo, linesFrom, drawing}
 use Rattle.drawing.specs.Points.{half}
-
-abbrev at : ℕ → ℕ → Point
-at c r = record { col = c; row = r }
 
 -- One cell has no line
 one-cell : drawing (at 0 0) [] ≡ Move (at 0 0) ∷ Close ∷ []

@@ -5,13 +5,11 @@ use mathlib.Core.Bool.{Bool}
 use mathlib.Core.List.{List, [], _∷_}
 use lib.IntN.{ℤ, pos, negsuc}
 use Rattle.chart.specs.declared.Point.{Point}
+use Rattle.chart.specs.Outline.{at}
 use Rattle.chart.specs.declared.Fields.{Fields}
 use Rattle.chart.specs.Fields.{positionFields, numbered, said, inside, outside}
 use Rattle.chart.specs.Same.{sameFields}
 use Rattle.polygon.specs.Loose.{looseOf}
-
-at : ℕ → ℕ → Point
-at c r = record { col = c; row = r }
 
 -- A loose query, and its reply
 pub record Query : Type 0 where
@@ -29,7 +27,7 @@ ask a es x f = record { anchor = a; edges = es; cell = x; fields = f }
 -- H2's edges with a cell in the block, beside it and far across the chart; H3's with
 -- its corner; no edges; refusals 10 and 11 in their order
 unfoldable pub queries : List Query
-unfolding at ask
+unfolding ask
 queries =
     ask (at 0 0) (pos 2 ∷ pos 0 ∷ negsuc 1 ∷ pos 0 ∷ []) (at 1 0) (said inside) ∷
     ask (at 0 0) (pos 2 ∷ pos 0 ∷ negsuc 1 ∷ pos 0 ∷ []) (at 3 0) (said outside) ∷
@@ -44,7 +42,7 @@ queries =
 
 -- Lists that pass 16: one with up as its first direction; a half turn; a hull with rows below the chart
 unfoldable pub passing : List Query
-unfolding at ask
+unfolding ask
 passing =
     ask (at 1 1) (pos 0 ∷ pos 3 ∷ pos 3 ∷ negsuc 2 ∷ negsuc 2 ∷ pos 0 ∷ []) (at 2 3) (said inside) ∷
     ask (at 1 1) (pos 0 ∷ pos 3 ∷ pos 3 ∷ negsuc 2 ∷ negsuc 2 ∷ pos 0 ∷ []) (at 3 3) (said outside) ∷
@@ -56,7 +54,7 @@ passing =
 -- Lists that 16 refuses: a zero edge, among others and alone; edges that do not sum to zero; anticlockwise edges; one direction twice; up
 -- after left; a half turn that starts with its other edge; two full turns. Refusals 10 and 11 come first
 unfoldable pub turnedBack : List Query
-unfolding at ask
+unfolding ask
 turnedBack =
     ask (at 0 0) (pos 0 ∷ pos 2 ∷ pos 0 ∷ pos 0 ∷ pos 0 ∷ negsuc 1 ∷ []) (at 0 0) (numbered 16) ∷
     ask (at 0 0) (pos 0 ∷ pos 0 ∷ []) (at 0 0) (numbered 16) ∷
