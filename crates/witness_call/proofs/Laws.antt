@@ -14,7 +14,7 @@ use Rattle.survey.specs.Survey.{surveyOf}
 use Rattle.witness.specs.declared.Witnessed.{Witnessed}
 use Rattle.witness.specs.declared.Witnessed.the-variants.{Found, None, Refused}
 use Rattle.witness.specs.Three.{Three}
-use Rattle.witness.specs.Gap.{isMissing, witnessOf}
+use Rattle.witness.specs.Gap.{witnessOf}
 use Rattle.witness.specs.Witnessed.{sixNumbers, shownIn, witnessedOf, witnessedFields, threeNumbers, shownAfter, cellsAfter}
 use Rattle.witness.specs.Named.{WitnessNamed}
 use Rattle.witness.proofs.Answer.{answer-stopped, answer-passed, shown-short, shown-none, shown-found, answer-named}
