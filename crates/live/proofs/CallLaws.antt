@@ -2,15 +2,15 @@
 use Prim.Native.Nat.{ℕ, _≤_, _<_}
 use mathlib.Core.Path.{_≡_, refl, sym, ap, _∙_}
 use mathlib.Core.Bool.{Bool, true, false, true≢false}
-use mathlib.Core.List.{List, _++_, append-nil}
+use mathlib.Core.List.{List}
 use native.Mathlib.Omega.{arith}
-use lib.ListN.{length, replicate, length-replicate, drop-of-length-le}
+use lib.ListN.{length, replicate, length-replicate}
 use lib.IntN.{ℤ, pos}
 use lib.Dec.{leb}
 use lib.Ieee.{Float}
 use borrow.Author.Tests.{le-leb, lt-leb}
 use Rattle.chart.specs.declared.Fields.{Fields}
-use Rattle.chart.specs.Fields.{numbersOf, replyAfter}
+use Rattle.chart.specs.Fields.{replyAfter}
 use Rattle.chart.proofs.ReplyLaws.{seven-written}
 use Rattle.calls.specs.Replies.{replyFields, pieceIn}
 use Rattle.calls.specs.declared.Piece.{Piece}
