@@ -6,13 +6,21 @@ use mathlib.Core.Logic.{_↔_, _⊎_, inl, inr}
 use native.Mathlib.Nat.{eq-or-lt-of-le, le-of-suc-le-suc}
 use native.Mathlib.Decide.{decLt}
 use native.Mathlib.Omega.{arith}
-use lib.Dec.{ltb}
-use borrow.Author.Tests.{ltb-true, ltb-false}
+use lib.Dec.{leb, ltb}
+use borrow.Author.Tests.{leb-true, le-leb, ltb-true, ltb-false, lt-ltb}
 use Rattle.base.specs.Below.{every, further, first, some}
 
 -- A number below n + 1 is n or below n
 pub below-suc : (i n : ℕ) → i < suc n → (i ≡ n) ⊎ (i < n)
 below-suc i n h = eq-or-lt-of-le (le-of-suc-le-suc h)
+
+-- A statement about each of four numbers, such as the letters
+pub below-four : (P : ℕ → Type 0) → P 0 → P 1 → P 2 → P 3 → (k : ℕ) → k < 4 → P k
+below-four P a b c d zero h = a
+below-four P a b c d (suc zero) h = b
+below-four P a b c d (suc (suc zero)) h = c
+below-four P a b c d (suc (suc (suc zero))) h = d
+below-four P a b c d (suc (suc (suc (suc k)))) h = absurd (omega arith)
 
 pub and-left : (a b : Bool) → (a && b) ≡ true → a ≡ true
 and-left true b h = refl
@@ -21,6 +29,13 @@ and-left false b h = h
 pub and-right : (a b : Bool) → (a && b) ≡ true → b ≡ true
 and-right true b h = h
 and-right false b h = let z : _≡_ {A = ℕ} 0 1 = cc in absurd (omega arith)
+
+-- The test of an interval
+pub in-interval : (a b c : ℕ) → ((leb a c && ltb c b) ≡ true) ↔ ((a ≤ c) × (c < b))
+in-interval a b c = (
+  λ e. (leb-true a c (and-left (leb a c) (ltb c b) e), ltb-true c b (and-right (leb a c) (ltb c b) e)),
+  λ h. rw (le-leb a c (h .0), lt-ltb c b (h .1)),
+)
 
 pub or-false-iff : (a b : Bool) → ((a || b) ≡ false) ↔ ((a ≡ false) × (b ≡ false))
 or-false-iff true b = ((λ h. absurd (true≢false h)), λ h. h .0)

@@ -11,6 +11,7 @@ use native.Mathlib.Decide.{decLe, ℕ-discrete}
 use native.Mathlib.Omega.{arith}
 use lib.ListN.{take, drop, take-append-drop}
 use borrow.Author.Tests.{eqb-false}
+use Rattle.base.proofs.BelowLaws.{below-four}
 use Rattle.chart.specs.declared.Point.{Point}
 use Rattle.chart.specs.Outline.{Outline}
 use Rattle.lattice.specs.Chart.{step, leaves, walk, cornerAt, size, Closed, letterAt, rotated}
@@ -39,22 +40,15 @@ quarterTurn a = (a + 1) % 4
 abbrev pub opposite : ℕ → ℕ
 opposite a = (a + 2) % 4
 
-letter-cases : (P : ℕ → Type 0) → P 0 → P 1 → P 2 → P 3 → (a : ℕ) → a < 4 → P a
-letter-cases P p₀ p₁ p₂ p₃ zero l = p₀
-letter-cases P p₀ p₁ p₂ p₃ (suc zero) l = p₁
-letter-cases P p₀ p₁ p₂ p₃ (suc (suc zero)) l = p₂
-letter-cases P p₀ p₁ p₂ p₃ (suc (suc (suc zero))) l = p₃
-letter-cases P p₀ p₁ p₂ p₃ (suc (suc (suc (suc a)))) l = absurd (omega arith)
-
 right-of-turn : (p : Point) (a : ℕ) → a < 4 → (b : ℕ) → b ≡ quarterTurn a → rightOf p b ≡ leftOf p a
 unfolding rightOf leftOf
-right-of-turn p a l b e = ap (rightOf p) e ∙ letter-cases (λ a. rightOf p (quarterTurn a) ≡ leftOf p a) refl refl refl refl a l
+right-of-turn p a l b e = ap (rightOf p) e ∙ below-four (λ a. rightOf p (quarterTurn a) ≡ leftOf p a) refl refl refl refl a l
 
 -- The cell to the right of a letter, named from the corner where the letter arrives
 right-arriving : (p : Point) (a : ℕ) → a < 4 → leaves p a ≡ false → rightOf p a ≡ leftOf (step p a) (opposite a)
 unfolding rightOf leftOf leaves step
 right-arriving p =
-    letter-cases (λ a. leaves p a ≡ false → rightOf p a ≡ leftOf (step p a) (opposite a))
+    below-four (λ a. leaves p a ≡ false → rightOf p a ≡ leftOf (step p a) (opposite a))
     (λ e. point-eq (point (suc (p .col)) (p .row)) (point (p .col + 1) (p .row)) (omega arith) refl)
     (λ e. point-eq (point (suc (p .col)) (suc (p .row))) (point (suc (p .col)) (p .row + 1)) refl (omega arith))
     (λ e. let h = eqb-false (p .col) 0 e in point-eq (point (p .col) (suc (p .row))) (point (suc (p .col - 1)) (suc (p .row))) (omega arith) refl)
@@ -63,7 +57,7 @@ right-arriving p =
 step-back : (p : Point) (a : ℕ) → a < 4 → leaves p a ≡ false → step (step p a) (opposite a) ≡ p
 unfolding leaves step
 step-back p =
-    letter-cases (λ a. leaves p a ≡ false → step (step p a) (opposite a) ≡ p)
+    below-four (λ a. leaves p a ≡ false → step (step p a) (opposite a) ≡ p)
     (λ e. point-eq (point (p .col + 1 - 1) (p .row)) p (omega arith) refl)
     (λ e. point-eq (point (p .col) (p .row + 1 - 1)) p refl (omega arith))
     (λ e. let h = eqb-false (p .col) 0 e in point-eq (point (p .col - 1 + 1) (p .row)) p (omega arith) refl)
@@ -113,7 +107,7 @@ module _ (o : Outline) (h : NeverLeaves o) (c : Closed o) where
   jump : (q : Point) (k : ℕ) → k < 4 → Jump q k
   unfolding rightOf leftOf backs rightsAt downsAt
   jump q =
-      letter-cases (Jump q)
+      below-four (Jump q)
       (omega (arith, jump-horizontal o h c (q .col) (q .row)))
       (omega (arith, ups-jump-vertical o (q .col) (suc (q .row)), downs-jump-vertical o (q .col) (suc (q .row)), ups-at-letters o (q .col) (q .row)))
       (jump-left (q .col) (q .row))
@@ -146,7 +140,7 @@ module _ (o : Outline) where
   back-found : (q : Point) (k : ℕ) → k < 4 → 1 ≤ backs o q k → (i : ℕ) × Back o q k i
   unfolding backs step
   back-found q =
-      letter-cases (λ k. 1 ≤ backs o q k → (i : ℕ) × Back o q k i)
+      below-four (λ k. 1 ≤ backs o q k → (i : ℕ) × Back o q k i)
       (λ b.
       let (i, l, e, d) = lefts-found o (q .col) (q .row) b in
       (i, back q 0 i 2 (point (suc (q .col)) (q .row)) l e d refl (sym (step-right (q .col) (q .row))) (step-left (q .col) (q .row))))
@@ -284,7 +278,7 @@ leaving-step :
     (p : Point) (a : ℕ) → a < 4 → leaves p a ≡ false → p .col ≤ step p a .col → (step p a .col ≡ p .col → p .row ≤ step p a .row) → (a ≡ 0) ⊎ (a ≡ 1)
 unfolding leaves step
 leaving-step p =
-    letter-cases (λ a. leaves p a ≡ false → p .col ≤ step p a .col → (step p a .col ≡ p .col → p .row ≤ step p a .row) → (a ≡ 0) ⊎ (a ≡ 1))
+    below-four (λ a. leaves p a ≡ false → p .col ≤ step p a .col → (step p a .col ≡ p .col → p .row ≤ step p a .row) → (a ≡ 0) ⊎ (a ≡ 1))
     (λ e c r. inl refl)
     (λ e c r. inr refl)
     (λ e c r. let h = eqb-false (p .col) 0 e in absurd (omega arith))
@@ -293,7 +287,7 @@ leaving-step p =
 arriving-step : (p : Point) (a : ℕ) → a < 4 → step p a .col ≤ p .col → (p .col ≡ step p a .col → step p a .row ≤ p .row) → (a ≡ 2) ⊎ (a ≡ 3)
 unfolding step
 arriving-step p =
-    letter-cases (λ a. step p a .col ≤ p .col → (p .col ≡ step p a .col → step p a .row ≤ p .row) → (a ≡ 2) ⊎ (a ≡ 3))
+    below-four (λ a. step p a .col ≤ p .col → (p .col ≡ step p a .col → step p a .row ≤ p .row) → (a ≡ 2) ⊎ (a ≡ 3))
     (λ c r. absurd (omega arith))
     (λ c r. absurd (omega (arith, r refl)))
     (λ c r. inl refl)
