@@ -9,7 +9,7 @@ use native.Mathlib.Decide.{decLe}
 use native.Mathlib.Omega.{arith}
 use Rattle.chart.specs.declared.Point.{Point}
 use Rattle.chart.specs.Outline.{Outline}
-use Rattle.lattice.specs.Chart.{step, cornerAt, size, letterAt}
+use Rattle.lattice.specs.Chart.{step, cornerAt, size, letterAt, opposite}
 use Rattle.lattice.specs.Enclosed.{encloses}
 use Rattle.lattice.specs.Refusals.{Simple}
 use Rattle.lattice.specs.Walked.{Walked}
@@ -71,7 +71,7 @@ module _ (o : Outline) (h : WalkFromW o) (up : letterAt o 0 ≡ 1) (r : ℕ) whe
   beside i c s l e d = subst (λ (p : Point). encloses o (p .col) (p .row) ≡ true) d (up-marked o h up i (l, e))
 
   go : (i : ℕ) → i < size o → Good (cornerAt o i) → Shared (encloses o) r ⊎ Good (cornerAt o (suc i))
-  unfolding step cornerOf rightOf leftOf
+  unfolding step cornerOf rightOf leftOf opposite
   go i l (inl low) =
       elim (four (letterAt o i) (w .letter i l)) [
         | inl e ↦ inr (inl (omega (arith, row-is (next-corner i 0 l e))))
@@ -116,7 +116,7 @@ module _ (o : Outline) (h : WalkFromW o) (up : letterAt o 0 ≡ 1) (r : ℕ) whe
             ]
         | inr (inr (inl e)) ↦
             elim (a .kind) [
-              | inl k ↦ absurd (no-back o w j i (a .below) l (a .there) (e ∙ sym (ap (λ (n : ℕ). (n + 2) % 4) k)))
+              | inl k ↦ absurd (no-back o w j i (a .below) l (a .there) (e ∙ sym (ap opposite k)))
               | inr k ↦
                   let d = next-corner j 1 (a .below) k in
                   inl (record {

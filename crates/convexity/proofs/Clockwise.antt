@@ -19,10 +19,10 @@ use Rattle.lattice.specs.Chart.{step, leaves, walk, cornerAt, size, letterAt, r
 use Rattle.lattice.specs.Enclosed.{count, upAlong, downAlong, ups, downs, encloses}
 use Rattle.lattice.specs.Refusals.{Simple}
 use Rattle.lattice.specs.Walked.{Walked, NeverLeaves}
-use Rattle.lattice.proofs.WalkLaws.{OnChart, SameCorners, walked, simple-of-walked, point, point-eq, walk-append, corner-zero, corner-suc}
-use Rattle.lattice.proofs.WalkLaws.{corner-all, corner-injective, length-rotation, letter-rotation-before, outline-eq}
+use Rattle.lattice.proofs.WalkLaws.{OnChart, SameCorners, walked, simple-of-walked, walk-append, corner-zero, corner-suc}
+use Rattle.lattice.proofs.WalkLaws.{corner-all, corner-injective, letter-rotation-before, outline-eq}
 use Rattle.lattice.proofs.Jumps.{tally, tally-append}
-use Rattle.lattice.proofs.RightHand.{Lowest, place-before, leaving-lowest, arriving-up, arriving-right}
+use Rattle.lattice.proofs.RightHand.{step-back, Lowest, place-before, leaving-lowest, arriving-up, arriving-right}
 use Rattle.convexity.specs.Cut.{westPlace, west, fromW, clockwise}
 use Rattle.convexity.specs.Clockwise.{opposite, backward, clockwiseForm, reversed, border}
 use Rattle.convexity.proofs.Levels.{first-lowest, ups-tally, downs-tally}
@@ -51,14 +51,6 @@ opposite-high zero l = absurd (omega arith)
 opposite-high (suc zero) l = absurd (omega arith)
 opposite-high (suc (suc zero)) l = absurd (omega arith)
 opposite-high (suc (suc (suc a))) l = refl
-
-step-back : (p : Point) (a : ℕ) → a < 4 → leaves p a ≡ false → step (step p a) (opposite a) ≡ p
-unfolding leaves step opposite
-step-back p zero l e = point-eq (point (p .col + 1 - 1) (p .row)) p (omega arith) refl
-step-back p (suc zero) l e = point-eq (point (p .col) (p .row + 1 - 1)) p refl (omega arith)
-step-back p (suc (suc zero)) l e = point-eq (point (p .col - 1 + 1) (p .row)) p (omega (arith, eqb-false (p .col) 0 e)) refl
-step-back p (suc (suc (suc zero))) l e = point-eq (point (p .col) (p .row - 1 + 1)) p refl (omega (arith, eqb-false (p .row) 0 e))
-step-back p (suc (suc (suc (suc a)))) l e = absurd (omega arith)
 
 stays-back : (p : Point) (a : ℕ) → OnChart p → a < 4 → leaves p a ≡ false → leaves (step p a) (opposite a) ≡ false
 unfolding leaves step opposite
@@ -366,14 +358,6 @@ module _ (o : Outline) (h : Simple o) where
   pub from-w-backward : fromW (reversed o) ≡ reversed (fromW o)
   from-w-backward = outline-eq (fromW (reversed o)) (reversed (fromW o)) west-backward (turn-back o (walked o h))
 
-  -- So letter i from W backward is the opposite of the letter from W that is followed by i letters
-  pub letter-from-w-backward : (i : ℕ) → i < size o → letterAt (fromW (reversed o)) i ≡ opposite (letterAt (fromW o) (size o - suc i))
-  unfolding fromW
-  letter-from-w-backward i l =
-      let k = westPlace o in
-      let n : size (fromW o) ≡ size o = length-rotation o k (omega (arith, west-first o (walked o h) .below)) in
-      ap (λ (v : Outline). letterAt v i) from-w-backward ∙ letter-backward (fromW o .letters) i (omega arith) ∙ ap (λ (m : ℕ). opposite (letterAt (fromW o) (m - suc i))) n
-
   -- It is clockwise either as sent or backward
   pub clockwise-backward : clockwise (fromW o) ≡ false → clockwise (fromW (reversed o)) ≡ true
   clockwise-backward = clockwise-back o (walked o h)
@@ -439,7 +423,3 @@ module _ (o : Outline) (h : Simple o) where
       by-reading o (λ v. clockwiseForm (reversed o) ≡ v)
       (λ e. form-backward (reversed o) (anticlockwise-backward o h e) ∙ ap (outline (o .start)) (backward-backward o h))
       (λ e. form-clockwise (reversed o) (clockwise-backward o h e))
-
-  -- The clockwise form of a clockwise form is itself
-  pub form-form : clockwiseForm (clockwiseForm o) ≡ clockwiseForm o
-  form-form = form-clockwise (clockwiseForm o) clockwise-form

@@ -11,7 +11,7 @@ use mathlib.Core.List.{List, _++_}
 use lib.ListN.{length, getD, take, drop, length-take, length-drop}
 use lib.Seq.{take-append-le, drop-append-le, getD-take, getD-drop}
 use borrow.Author.Tests.{le-leb, lt-leb, lt-ltb}
-use Rattle.base.proofs.BelowLaws.{below-suc}
+use Rattle.base.proofs.BelowLaws.{below-suc, below-four}
 use Rattle.chart.specs.Outline.{Outline}
 use Rattle.lattice.specs.Chart.{cornerAt, size, letterAt}
 use Rattle.lattice.proofs.RightHand.{arriving-up}
@@ -20,7 +20,7 @@ use Rattle.convexity.specs.Cut.{cornerPlace, ahead, cutCorner, cut}
 use Rattle.convexity.specs.Pieces.{rounds, piece}
 use Rattle.convexity.specs.Clockwise.{opposite}
 use Rattle.convexity.specs.Shape.{WalkFromW}
-use Rattle.convexity.proofs.Ring.{next-lt, below-four, Apart, apart, Turns, turns}
+use Rattle.convexity.proofs.Ring.{next-lt, Apart, apart, Turns, turns}
 use Rattle.convexity.proofs.Levels.{from-w-first, from-w-lowest}
 use Rattle.convexity.proofs.Extreme.{FirstAt, first-at-cornerPlace, Bend, by-later, by-earlier, previous, corner-round, bend}
 

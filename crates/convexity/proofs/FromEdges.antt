@@ -126,18 +126,6 @@ quadrant-step dx dy h =
     let d = signed k (runIn k dx dy) (riseIn k dx dy) (step-lies k (runIn k dx dy) (riseIn k dx dy) .counted) in
     record { rises = q .0; cols = d .0 ∙ q .1; rows = d .1 ∙ q .2 }
 
--- Only (0, 0) has no quadrant
-pub quadrant-nil : (dx dy : ℤ) → quadrantOf dx dy ≡ 4 → (dx ≡ pos 0) × (dy ≡ pos 0)
-unfolding quadrantOf
-quadrant-nil (pos zero) (pos zero) h = (refl, refl)
-quadrant-nil (pos zero) (pos (suc b)) h = absurd (omega arith)
-quadrant-nil (pos (suc a)) (pos zero) h = absurd (omega arith)
-quadrant-nil (pos (suc a)) (pos (suc b)) h = absurd (omega arith)
-quadrant-nil (pos zero) (negsuc b) h = absurd (omega arith)
-quadrant-nil (pos (suc a)) (negsuc b) h = absurd (omega arith)
-quadrant-nil (negsuc a) (pos b) h = absurd (omega arith)
-quadrant-nil (negsuc a) (negsuc b) h = absurd (omega arith)
-
 -- ---- the four lists of edges from the flat one
 
 -- Every factor of the list has a later letter
@@ -213,10 +201,6 @@ module _ (o : Outline) (straight : NoBackStep o) (smooth : dentPiece o ≡ 4) wh
   from-w-from-edges =
       shape o straight .whole
       ∙ rw (piece-from-edges 0 (lit< tt), piece-from-edges 1 (lit< tt), piece-from-edges 2 (lit< tt), piece-from-edges 3 (lit< tt))
-
--- Two borders with the same edges have the same letters
-pub from-w-unique : {o o′ : Outline} → NoBackStep o → NoBackStep o′ → dentPiece o ≡ 4 → dentPiece o′ ≡ 4 → edges o ≡ edges o′ → o .letters ≡ o′ .letters
-from-w-unique {o} {o′} h h′ e e′ same = from-w-from-edges o h e ∙ ap lettersFrom same ∙ sym (from-w-from-edges o′ h′ e′)
 
 -- ---- outlines as sent
 

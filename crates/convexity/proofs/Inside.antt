@@ -13,6 +13,7 @@ use Rattle.words.specs.Word.{earliers, laters}
 use Rattle.words.specs.Lyndon.{Factor, copies, written}
 use Rattle.words.proofs.Factors.{factors-exist}
 use Rattle.words.proofs.Counts.{earliers-append, laters-append, earliers-copies, laters-copies}
+use Rattle.base.proofs.BelowLaws.{below-four}
 use Rattle.chart.specs.declared.Point.{Point}
 use Rattle.chart.specs.Outline.{Outline}
 use Rattle.chart.specs.Limits.{side}
@@ -24,7 +25,7 @@ use Rattle.convexity.specs.Inside.{minℤ, maxℤ, noneOutside, colSteps
 use Rattle.convexity.specs.Shape.{Shape}
 use Rattle.convexity.proofs.Frame.{Sides, run, rise}
 use Rattle.convexity.specs.parts.InFrame.{startOf, startE, startL, cellAlong, cellE, cellL}
-use Rattle.convexity.proofs.Ring.{next-lt, next-suc, next-round, below-four, all-round}
+use Rattle.convexity.proofs.Ring.{next-lt, next-suc, next-round, all-round}
 use Rattle.base.proofs.IntegerOrder.{up, down, at-most-iff, not-at-most}
 use Rattle.base.proofs.Differences.{Is, is-self, is-add, is-unique, le-iff}
 use Rattle.convexity.proofs.Signed.{Counted, Lies, Placed, placed-cell, lies-next, stepCols, stepRows, step-lies, lies-step, reached, lies-end, lies-sides, none-outside-append, cols-append, rows-append, reached-append}

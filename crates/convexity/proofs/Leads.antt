@@ -9,6 +9,7 @@ use lib.ListN.{length, getD, take, drop, length-append, length-drop, List·getD-
 use lib.Seq.{take-append-le, take-append-add, take-add, length-take-le, getD-append-add, getD-take, getD-drop}
 use lib.Dec.{eqb}
 use borrow.Author.Tests.{eq-eqb}
+use Rattle.base.proofs.BelowLaws.{below-four}
 use Rattle.chart.specs.declared.Point.{Point}
 use Rattle.chart.specs.Outline.{Outline}
 use Rattle.lattice.specs.Chart.{walk, cornerAt, size, letterAt, Closed}
@@ -26,7 +27,7 @@ use Rattle.convexity.proofs.Cuts.{ahead-on, ahead-round, cut-step, cut-
 use Rattle.convexity.proofs.Clockwise.{simple-form}
 use Rattle.convexity.proofs.Corners.{four-corners, corner-form}
 use Rattle.convexity.proofs.Border.{west-start}
-use Rattle.convexity.proofs.Ring.{next-lt, below-four}
+use Rattle.convexity.proofs.Ring.{next-lt}
 
 -- ---- several times round
 

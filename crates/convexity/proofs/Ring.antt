@@ -7,6 +7,7 @@ use mathlib.Core.Path.{_≡_, refl, sym, ap, _∙_}
 use mathlib.Core.Logic.{_≢_}
 use Rattle.chart.specs.Limits.{side}
 use Rattle.chart.specs.declared.Point.{Point}
+use Rattle.base.proofs.BelowLaws.{below-four}
 use Rattle.lattice.proofs.WalkLaws.{OnChart}
 use Rattle.convexity.specs.Frame.{Frame, frameOf, next, along}
 use Rattle.convexity.specs.parts.InFrame.{cellAlong, cellE, cellL}
@@ -29,14 +30,6 @@ next-round zero h = refl
 next-round (suc zero) h = refl
 next-round (suc (suc zero)) h = refl
 next-round (suc (suc (suc k))) h = omega arith
-
--- A statement about each of the four
-pub below-four : (P : ℕ → Type 0) → P 0 → P 1 → P 2 → P 3 → (k : ℕ) → k < 4 → P k
-below-four P a b c d zero h = a
-below-four P a b c d (suc zero) h = b
-below-four P a b c d (suc (suc zero)) h = c
-below-four P a b c d (suc (suc (suc zero))) h = d
-below-four P a b c d (suc (suc (suc (suc k)))) h = absurd (omega arith)
 
 -- What holds from each piece to the next, and from the last to the first, holds around the cycle
 pub round-ring : (P : ℕ → ℕ → Type 0) → ((k : ℕ) → k < 3 → P k (suc k)) → P 3 0 → (k : ℕ) → k < 4 → P k (next k)

@@ -10,7 +10,7 @@ use mathlib.Core.List.{List, [], _∷_}
 use lib.ListN.{length, getD}
 use lib.Dec.{leb, eqb}
 use borrow.Author.Tests.{eqb-true, eq-eqb, leb-true, leb-false}
-use Rattle.base.proofs.BelowLaws.{not-held, and-left}
+use Rattle.base.proofs.BelowLaws.{not-held, and-left, below-four}
 use Rattle.chart.specs.declared.Point.{Point}
 use Rattle.chart.specs.Outline.{Outline, outline}
 use Rattle.chart.specs.Limits.{side}
@@ -22,7 +22,6 @@ use Rattle.convexity.specs.Frame.{frameOf, along}
 use Rattle.convexity.specs.Cut.{cut}
 use Rattle.convexity.specs.parts.InFrame.{cellAlong, startOf, startE, cellE, cellL}
 use Rattle.convexity.specs.Shape.{NoBackStep}
-use Rattle.convexity.proofs.Ring.{below-four}
 use Rattle.convexity.proofs.Levels.{ups-tally, downs-tally, tested, leaves-upwards, up-counted, up-marked}
 use Rattle.convexity.proofs.Shape.{shape, cut-le}
 use Rattle.convexity.proofs.Crossings.{UnderPiece, Crossing, crossing, line-bounds}

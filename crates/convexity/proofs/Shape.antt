@@ -15,7 +15,7 @@ use lib.Seq.{take-length, drop-cons, drop-length, drop-drop, getD-append-add, ge
 use lib.Dec.{ltb, eqb}
 use borrow.Author.Tests.{ltb-false, eqb-true, eq-eqb, not-false}
 use Rattle.words.specs.Word.{Word, wordOf, earliers, laters}
-use Rattle.base.proofs.BelowLaws.{first-le, first-before}
+use Rattle.base.proofs.BelowLaws.{first-le, first-before, below-four}
 use Rattle.words.proofs.Counts.{earliers-take-suc, laters-take-suc}
 use Rattle.chart.specs.Limits.{side}
 use Rattle.chart.specs.declared.Point.{Point}
@@ -29,7 +29,7 @@ use Rattle.convexity.specs.Pieces.{rounds, piece, isBackStep, backStepAt
 use Rattle.convexity.specs.parts.InFrame.{spell, startOf, startE, startL}
 use Rattle.convexity.specs.Clockwise.{opposite}
 use Rattle.convexity.specs.Shape.{NoBackStep, Shape}
-use Rattle.convexity.proofs.Ring.{next-lt, next-suc, below-four, round-ring, Apart, apart, Turns, turns, along-next}
+use Rattle.convexity.proofs.Ring.{next-lt, next-suc, round-ring, Apart, apart, Turns, turns, along-next}
 use Rattle.convexity.proofs.Levels.{leaves-upwards}
 use Rattle.convexity.proofs.Cuts.{ahead-round, cut-step, cut-zero, corner-west, cut-on, cut-round, cuts-rise, cuts-fit, piece-part, piece-length, piece-at, previous-zero, previous-pos, corner-first, corners-differ, coming-west, corner-after}
 use Rattle.convexity.proofs.Extreme.{FirstAt, on-chart, Moved, earlier-on, later-on, earlier-back, later-back, Bend, by-later, by-earlier, previous, corner-round, moves, bend}

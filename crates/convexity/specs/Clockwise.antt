@@ -1,20 +1,14 @@
 -- The clockwise form of an outline (contract 2.1 to 2.3): the letters as sent, or the walk read backward if they run anticlockwise.
 -- Everything said of an outline that passes refusals 1 to 6 is said of its clockwise form.
-use Prim.Native.Nat.{ℕ, zero, suc, _-_, _<_}
+use Prim.Native.Nat.{ℕ, suc, _-_, _<_}
 use mathlib.Core.Path.{_≡_}
 use mathlib.Core.Bool.{Bool, true, false, cond}
 use mathlib.Core.List.{List, [], _∷_, _++_}
 use Rattle.chart.specs.Outline.{Outline}
 use Rattle.lattice.specs.Chart.{cornerAt, size, letterAt}
+unfoldable pub use Rattle.lattice.specs.Chart.{opposite}
 use Rattle.lattice.specs.Enclosed.{encloses}
 use Rattle.convexity.specs.Cut.{fromW, westPlace, clockwise, around}
-
--- The opposite letter: right and left, up and down are exchanged
-unfoldable pub opposite : ℕ → ℕ
-opposite zero = 2
-opposite (suc zero) = 3
-opposite (suc (suc zero)) = 0
-opposite (suc (suc (suc a))) = 1
 
 -- The letters of the same walk read backward, from its end to its start
 unfoldable pub backward : List ℕ → List ℕ

@@ -14,7 +14,7 @@ use borrow.Author.Tests.{eqb-false}
 use Rattle.base.proofs.BelowLaws.{below-four}
 use Rattle.chart.specs.declared.Point.{Point}
 use Rattle.chart.specs.Outline.{Outline}
-use Rattle.lattice.specs.Chart.{step, leaves, walk, cornerAt, size, Closed, letterAt, rotated}
+use Rattle.lattice.specs.Chart.{step, leaves, walk, cornerAt, size, Closed, letterAt, rotated, opposite}
 use Rattle.lattice.specs.Enclosed.{ups, downs, encloses}
 use Rattle.lattice.specs.Walked.{Walked, NeverLeaves}
 use Rattle.lattice.proofs.WalkLaws.{point, point-eq, step-right, step-up, step-left, step-down, corner-zero, corner-suc, corner-all}
@@ -37,8 +37,10 @@ rightOf p (suc a) = leftOf p a
 abbrev pub quarterTurn : ℕ → ℕ
 quarterTurn a = (a + 1) % 4
 
-abbrev pub opposite : ℕ → ℕ
-opposite a = (a + 2) % 4
+-- The opposite of a letter is two quarter turns away
+opposite-sum : (a : ℕ) → a < 4 → opposite a ≡ (a + 2) % 4
+unfolding opposite
+opposite-sum = below-four (λ a. opposite a ≡ (a + 2) % 4) refl refl refl refl
 
 right-of-turn : (p : Point) (a : ℕ) → a < 4 → (b : ℕ) → b ≡ quarterTurn a → rightOf p b ≡ leftOf p a
 unfolding rightOf leftOf
@@ -46,7 +48,7 @@ right-of-turn p a l b e = ap (rightOf p) e ∙ below-four (λ a. rightOf p (quar
 
 -- The cell to the right of a letter, named from the corner where the letter arrives
 right-arriving : (p : Point) (a : ℕ) → a < 4 → leaves p a ≡ false → rightOf p a ≡ leftOf (step p a) (opposite a)
-unfolding rightOf leftOf leaves step
+unfolding rightOf leftOf leaves step opposite
 right-arriving p =
     below-four (λ a. leaves p a ≡ false → rightOf p a ≡ leftOf (step p a) (opposite a))
     (λ e. point-eq (point (suc (p .col)) (p .row)) (point (p .col + 1) (p .row)) (omega arith) refl)
@@ -54,8 +56,9 @@ right-arriving p =
     (λ e. let h = eqb-false (p .col) 0 e in point-eq (point (p .col) (suc (p .row))) (point (suc (p .col - 1)) (suc (p .row))) (omega arith) refl)
     (λ e. let h = eqb-false (p .row) 0 e in point-eq p (point (p .col) (suc (p .row - 1))) refl (omega arith))
 
-step-back : (p : Point) (a : ℕ) → a < 4 → leaves p a ≡ false → step (step p a) (opposite a) ≡ p
-unfolding leaves step
+-- A letter and its opposite lead back
+pub step-back : (p : Point) (a : ℕ) → a < 4 → leaves p a ≡ false → step (step p a) (opposite a) ≡ p
+unfolding leaves step opposite
 step-back p =
     below-four (λ a. leaves p a ≡ false → step (step p a) (opposite a) ≡ p)
     (λ e. point-eq (point (p .col + 1 - 1) (p .row)) p (omega arith) refl)
@@ -132,13 +135,13 @@ module _ (o : Outline) where
       }
 
   back-right : (x y : ℕ) → 1 ≤ rightsInto o x y → (i : ℕ) × Back o (point x y) 2 i
-  unfolding rightsInto
+  unfolding rightsInto opposite
   back-right zero y b = absurd (omega arith)
   back-right (suc x) y b =
       let (i, l, e, d) = rights-found o x y b in (i, back (point (suc x) y) 2 i 0 (point x y) l e d refl (sym (step-left x y)) (step-right x y))
 
   back-found : (q : Point) (k : ℕ) → k < 4 → 1 ≤ backs o q k → (i : ℕ) × Back o q k i
-  unfolding backs step
+  unfolding backs step opposite
   back-found q =
       below-four (λ k. 1 ≤ backs o q k → (i : ℕ) × Back o q k i)
       (λ b.
@@ -168,7 +171,7 @@ module _ (o : Outline) (t : Walked o) where
               let (i′, r) = back-found o (corner j) k b a in
               let same : i′ ≡ i = arrival-injective o t i′ i (r .below) l (r .arriving ∙ sym e) in
               let f : letter i ≡ opposite k = ap letter (sym same) ∙ r .letter in
-              absurd (omega arith)
+              absurd (omega (arith, opposite-sum k b, opposite-sum (letter i) (t .letter i l)))
           | no a ↦ omega arith
         ]
 
@@ -203,6 +206,7 @@ module _ (o : Outline) (t : Walked o) where
         let behind = opposite (letter i) in
         let a : letter i < 4 = t .letter i l in
         let b : letter j < 4 = t .letter j m in
+        let s = opposite-sum (letter i) a in
         rw (right-seen, right-of-turn (corner j) (quarterTurn behind) (omega arith) (letter i) (omega arith)) (across-turn behind (omega arith) (omega arith) (omega arith))
 
     right-hand-next : SameLevel o (rightOf (corner i) (letter i)) (rightOf (corner j) (letter j))
@@ -210,6 +214,7 @@ module _ (o : Outline) (t : Walked o) where
         let behind = opposite (letter i) in
         let a : letter i < 4 = t .letter i l in
         let b : letter j < 4 = t .letter j m in
+        let s = opposite-sum (letter i) a in
         elim (ℕ-discrete (letter j) (quarterTurn behind)) [
           | yes f ↦ rw (right-seen, right-of-turn (corner j) behind (omega arith) (letter j) f) (omega arith)
           | no f ↦
@@ -311,10 +316,12 @@ module _ (o : Outline) (t : Walked o) (k : ℕ) (m : Lowest o k) where
 
   -- The letter before place k, cyclically, is at place j
   pub arriving-up : (j : ℕ) → j < size o → cornerAt o (suc j) ≡ cornerAt o k → letterAt o k ≡ 1 → letterAt o j ≡ 2
+  unfolding opposite
   arriving-up j l e f =
       elim (arriving j l e) [ inl g ↦ g | inr g ↦ absurd (no-back o t j k l (m .below) e (f ∙ ap opposite (sym g))) ]
 
   pub arriving-right : (j : ℕ) → j < size o → cornerAt o (suc j) ≡ cornerAt o k → letterAt o k ≡ 0 → letterAt o j ≡ 3
+  unfolding opposite
   arriving-right j l e f =
       elim (arriving j l e) [ inl g ↦ absurd (no-back o t j k l (m .below) e (f ∙ ap opposite (sym g))) | inr g ↦ g ]
 
