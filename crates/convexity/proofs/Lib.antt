@@ -29,5 +29,4 @@ pub mod EdgeBound
 pub mod FromEdges
 pub mod Border
 pub mod Leads
-pub mod Specimens
 pub mod BorderSpecimens
