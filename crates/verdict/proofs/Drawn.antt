@@ -12,7 +12,7 @@ use Rattle.chart.specs.Fields.{verdictFields}
 use Rattle.lattice.specs.Refusals.{Simple}
 use Rattle.survey.proofs.SurveyLaws.{survey-passed}
 use Rattle.convexity.specs.Cut.{fromW}
-use Rattle.convexity.specs.Clockwise.{reversed, clockwiseForm, border, placeSent}
+use Rattle.convexity.specs.Clockwise.{reversed, border, placeSent}
 use Rattle.convexity.specs.Pieces.{backStepPiece, dentPiece, edgeCount}
 use Rattle.convexity.specs.SameBlock.{SameCells}
 use Rattle.convexity.proofs.Clockwise.{simple-backward, form-of-backward}

@@ -10,7 +10,7 @@ use Rattle.base.specs.Each.{all}
 use Rattle.base.proofs.EachLaws.{all-at}
 use Rattle.chart.proofs.Tables.{same-fields}
 use Rattle.verdict.specs.Verdict.{testFields, edgesAfter}
-use Rattle.verdict.specs.Specimens.{Specimen, Holds, specimens, right, buffer, at}
+use Rattle.verdict.specs.Specimens.{Specimen, Holds, specimens, right, buffer}
 use Rattle.verdict.proofs.Computes.{computes}
 
 right-holds : (h : Specimen) → right h ≡ true → Holds h
@@ -23,7 +23,7 @@ right-holds h e =
     record { replied = same-fields _ _ (both .0); written = same-ℤs _ _ (both .1) }
 
 computed : all right specimens ≡ true
-unfolding all right sameFields sameℤs sameℤ specimens at buffer computes
+unfolding all right sameFields sameℤs sameℤ specimens buffer computes
 computed = refl
 
 -- H1 to H12, and the other rows

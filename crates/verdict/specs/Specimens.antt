@@ -8,7 +8,7 @@ use lib.ListN.{length, drop, replicate}
 use lib.IntN.{ℤ, pos, negsuc}
 use Rattle.base.specs.Same.{sameℤs}
 use Rattle.chart.specs.declared.Point.{Point}
-use Rattle.chart.specs.Outline.{Outline}
+use Rattle.chart.specs.Outline.{Outline, at}
 use Rattle.chart.specs.declared.Fields.{Fields}
 use Rattle.chart.specs.Same.{sameFields}
 use Rattle.chart.specs.Fields.{numbered, placed, accepted, no-word}
@@ -35,10 +35,7 @@ pub record Holds (h : Specimen) : Type 0 where
   pub replied : testFields (h .outline) (length buffer) ≡ h .fields
   pub written : edgesAfter (h .outline) buffer ≡ h .edges ++ drop (length (h .edges)) buffer
 
--- A start; a taken outline; a refused one
-unfoldable pub at : ℕ → ℕ → Point
-at c r = record { col = c; row = r }
-
+-- A taken outline; a refused one
 yes-with : Point → List ℕ → ℕ → ℕ → ℕ → List ℤ → Specimen
 yes-with s w n c r es = record { outline = record { start = s; letters = w }; fields = accepted no-word n (at c r); edges = es }
 
@@ -48,7 +45,7 @@ no-with s w f = record { outline = record { start = s; letters = w }; fields = f
 -- H1 to H12 in order; a start above 255 with letters above 3; a walk that leaves the chart and does not close; a dent, the factor 001101,
 -- that a palindrome test alone would accept; H3, H4, H6 and H7 drawn backward
 unfoldable pub specimens : List Specimen
-unfolding at yes-with no-with
+unfolding yes-with no-with
 specimens =
     yes-with (at 0 0) (1 ∷ 0 ∷ 3 ∷ 2 ∷ []) 0 0 0 [] ∷
     yes-with (at 0 0) (1 ∷ 0 ∷ 0 ∷ 0 ∷ 3 ∷ 2 ∷ 2 ∷ 2 ∷ []) 2 0 0 (pos 2 ∷ pos 0 ∷ negsuc 1 ∷ pos 0 ∷ []) ∷
