@@ -5,7 +5,7 @@ use native.Mathlib.Numerals.{add-one}
 use native.Mathlib.Omega.{arith}
 use mathlib.Core.Path.{_≡_, refl, sym, ap, _∙_}
 use mathlib.Core.List.{List, [], _∷_, _++_, append-nil}
-use lib.ListN.{length, take, drop, set, replicate}
+use lib.ListN.{length, take, drop, set, replicate, length-set}
 use lib.Seq.{drop-length}
 use Rattle.windows.specs.Windows.{window, slotsFrom}
 
@@ -29,7 +29,7 @@ module _ {A : Type 0} where
   slots-replicate i (suc n) x = ap (λ (l : List A). x ∷ l) (slots-replicate (suc i) n x)
 
   -- A store of x at i extends i copies to i + 1
-  pub fill-one : (d : List A) (i : ℕ) (x : A) → i < length d → set (replicate i x ++ drop i d) i x ≡ replicate (i + 1) x ++ drop (i + 1) d
+  fill-one : (d : List A) (i : ℕ) (x : A) → i < length d → set (replicate i x ++ drop i d) i x ≡ replicate (i + 1) x ++ drop (i + 1) d
   fill-one d i x l = rw add-one (go i d l)
     where
       go : (i : ℕ) (d : List A) → i < length d → set (replicate i x ++ drop i d) i x ≡ replicate (suc i) x ++ drop (suc i) d
@@ -37,5 +37,14 @@ module _ {A : Type 0} where
       go zero (y ∷ d) l = refl
       go (suc i) (y ∷ d) l = ap (λ (t : List A). x ∷ t) (go i d (le-of-suc-le-suc l))
 
-  pub fill-all : (d : List A) (i : ℕ) (x : A) (l : List A) → i ≡ length d → l ≡ replicate i x ++ drop i d → l ≡ replicate (length d) x
-  fill-all d i x l e q = q ∙ rw (e, drop-length d) (append-nil (replicate (length d) x))
+  -- The first i numbers of d have become x, and the others are unchanged
+  abbrev pub Filled : List A → A → List A → ℕ → Type 0
+  Filled d x l i = (i ≤ length d) × (l ≡ replicate i x ++ drop i d) × (length l ≡ length d)
+
+  pub filled-next : (d : List A) (x : A) (l : List A) (i : ℕ) → Filled d x l i → i < length l → Filled d x (set l i x) (i + 1)
+  filled-next d x l i (n, e, s) h = (omega arith, ap (λ (t : List A). set t i x) e ∙ fill-one d i x (omega arith), length-set l i x ∙ s)
+
+  pub filled-all : (d : List A) (x : A) (l : List A) (i : ℕ) → Filled d x l i → length l ≤ i → l ≡ replicate (length d) x
+  filled-all d x l i (n, e, s) h =
+      let all : i ≡ length d = omega arith in
+      e ∙ rw (all, drop-length d) (append-nil (replicate (length d) x))

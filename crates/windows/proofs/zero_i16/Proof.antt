@@ -1,17 +1,16 @@
 -- After i iterations the first i numbers are zeros.
-use Prim.Native.Nat.{_-_, _≤_}
+use Prim.Native.Nat.{_-_}
 use native.Mathlib.Omega.{arith}
-use mathlib.Core.Path.{_≡_, refl, ap, _∙_}
-use mathlib.Core.List.{List, _++_}
-use lib.ListN.{length, drop, set, replicate, length-set}
-use lib.IntN.{ℤ, pos}
+use mathlib.Core.Path.{refl}
+use lib.ListN.{length}
+use lib.IntN.{pos}
 use borrow.Author.Needs.{needs}
-use Rattle.windows.proofs.Fills.{fill-one, fill-all}
+use Rattle.windows.proofs.Fills.{Filled, filled-next, filled-all}
 use Rattle.windows.proofs.zero_i16.Statement.{statement}
 use Rattle.windows.proofs.zero_i16.Tie as tie
 
 abbrev Inv-loop : tie.InvT-loop
-Inv-loop list₀ i₀ list i = (i ≤ length list₀) × (list ≡ replicate i (pos 0) ++ drop i list₀) × (length list ≡ length list₀)
+Inv-loop list₀ i₀ list i = Filled list₀ (pos 0) list i
 
 abbrev μ-loop : tie.MeasureT-loop
 μ-loop list₀ i₀ list i = length list₀ - i
@@ -32,19 +31,13 @@ loop-less : tie.Need-loop-less Inv-loop μ-loop
 loop-less c = search needs
 
 loop-again : tie.Need-loop-again Inv-loop μ-loop
-loop-again c =
-    let l = c .before .loop in
-    let d = c .before .before .args .list .now in (
-      omega (arith, l .inv .2, c .loop-test .taken),
-      ap (λ (e : List ℤ). set e (l .i) (pos 0)) (l .inv .1) ∙ fill-one d (l .i) (pos 0) (omega (arith, l .inv .2, c .loop-test .taken)),
-      length-set (l .list) (l .i) (pos 0) ∙ l .inv .2,
-    )
+loop-again c = let l = c .before .loop in filled-next _ (pos 0) (l .list) (l .i) (l .inv) (omega (arith, c .loop-test .taken))
 
 same-length : tie.Need-same-length Inv-loop μ-loop
 same-length c = c .before .loop .inv .2
 
 returns : tie.Need-returns Inv-loop μ-loop
-returns c = fill-all (c .before .before .args .list .now) (c .before .loop .i) (pos 0) _ (omega (arith, c .before .loop .inv .0, c .before .loop .inv .2, c .loop-test .left)) (c .before .loop .inv .1)
+returns c = let l = c .before .loop in filled-all _ (pos 0) _ (l .i) (l .inv) (omega (arith, l .inv .2, c .loop-test .left))
 
 pub zero-i16-spec : {M : Type 1} → statement M
 zero-i16-spec =
