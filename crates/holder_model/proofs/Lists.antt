@@ -11,7 +11,7 @@ use lib.Dec.{leb, lit≤}
 use borrow.Author.Tests.{lt-leb}
 use Rattle.base.specs.Put.{put}
 use Rattle.chart.specs.Limits.{side, longest}
-use Rattle.chart.specs.Outline.{Outline}
+use Rattle.chart.specs.Outline.{Outline, at}
 use Rattle.chart.specs.declared.Point.{Point}
 use Rattle.chart.specs.declared.Fields.{Fields}
 use Rattle.chart.specs.Fields.{numbered, placed, said, accepted, no-word, inside, outside, taken, same}
@@ -29,9 +29,6 @@ use Rattle.holder_model.specs.Book
 use Rattle.holder_model.specs.Parties.{actsFrom}
 use Rattle.holder_model.proofs.SameBlock.{same-border-iff}
 use Rattle.holder_model.proofs.Parties.{alone}
-
-unfoldable pub at : ℕ → ℕ → Point
-at c r = record { col = c; row = r }
 
 -- A query at place k
 unfoldable pub query : ℕ → Point → Action
@@ -63,7 +60,7 @@ H6 = 1 ∷ 1 ∷ 1 ∷ 0 ∷ 3 ∷ 3 ∷ 0 ∷ 0 ∷ 3 ∷ 2 ∷ 2 ∷ 2 ∷ []
 
 -- Opens the model for the proofs that compute it
 opened : Bool
-unfolding at query draw replied done H3 H4 H3-back H6 computes replyFields badCell Book.fresh Book.equalsWork Book.begins Book.adds Book.drops Book.closedReply Book.workAfter Book.closes Book.asked Book.askedRow Book.asks Book.acts Book.answer actsFrom put Book.repliesFrom Book.replies
+unfolding query draw replied done H3 H4 H3-back H6 computes replyFields badCell Book.fresh Book.equalsWork Book.begins Book.adds Book.drops Book.closedReply Book.workAfter Book.closes Book.asked Book.askedRow Book.asks Book.acts Book.answer actsFrom put Book.repliesFrom Book.replies
 opened = true
 
 -- The outlines of H3, of H4 and of H3 drawn backward pass 1 to 6 and have the same border

@@ -4,15 +4,13 @@ use mathlib.Core.Bool.{Bool}
 use mathlib.Core.List.{List, [], _∷_}
 use lib.IntN.{ℤ, pos, negsuc}
 use Rattle.chart.specs.declared.Point.{Point}
+use Rattle.chart.specs.Outline.{at}
 use Rattle.chart.specs.declared.Fields.{Fields}
 use Rattle.chart.specs.Fields.{numbered, said, inside, outside, undecided}
 use Rattle.chart.specs.Same.{sameFields}
 use Rattle.readings.specs.Located.{locatedOf, readingOf}
 use Rattle.calls.specs.Replies.{replyFields}
 use Rattle.readings.specs.Replies.{locatedReply}
-
-at : ℕ → ℕ → Point
-at c r = record { col = c; row = r }
 
 H2 : List ℤ
 H2 = pos 2 ∷ pos 0 ∷ negsuc 1 ∷ pos 0 ∷ []
@@ -38,7 +36,7 @@ ask a es x y f = record { anchor = a; edges = es; angle = x; load = y; fields = 
 -- is flat: on its line, at -0, 2 ^ -149 above the line, and past its end. One cell: its centre, -0, 2 ^ -149 beside it, and from the
 -- chart's last cell. Then NaN, infinite, below 0 and above 254, and edges that leave the chart
 unfoldable pub specimens : List Asked
-unfolding at H2 H3 ask
+unfolding H2 H3 ask
 specimens =
     ask (at 0 1) H3 0x3f800000 0x3f800000 (said inside) ∷
     ask (at 0 1) H3 0x3f800000 0x40000000 (said undecided) ∷
