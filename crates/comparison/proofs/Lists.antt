@@ -1,9 +1,8 @@
 -- A list with one number for each row is lowered or raised row by row: the rows so far have their bounds, and the others are unchanged.
 use Prim.Native.Nat.{ℕ, _+_, _≤_, _<_, min, max}
-use native.Mathlib.Decide.{decLe, decLt}
+use native.Mathlib.Decide.{decLe, decLt, ℕ-discrete}
 use native.Mathlib.Omega.{arith}
 use mathlib.Core.Path.{_≡_, refl, sym, ap, _∙_}
-use mathlib.Core.Logic.{_⊎_, inl, inr}
 use mathlib.Core.Bool.{Bool, true, false, cond, _&&_}
 use mathlib.Core.List.{List}
 use lib.Dec.{ltb}
@@ -12,17 +11,6 @@ use lib.Seq.{getD-set-same, getD-set-other}
 use borrow.Author.Tests.{lt-ltb, le-ltb, ltb-true, ltb-false}
 use Rattle.chart.specs.Limits.{side}
 use Rattle.comparison.specs.parts.Rows.{inRows, AllBelow, Lowered, Raised}
-
-same-or-not : (r n : ℕ) → (r ≡ n) ⊎ (r ≡ n → ⊥)
-same-or-not r n =
-    elim (decLe r n) [
-      | yes h ↦
-          elim (decLe n r) [
-            | yes k ↦ inl (omega arith)
-            | no k ↦ inr (λ e. omega arith)
-          ]
-      | no h ↦ inr (λ e. omega arith)
-    ]
 
 -- ---- the rows between two
 
@@ -95,11 +83,11 @@ module _ (a : ℕ) (f : ℕ → ℕ) (before : List ℕ) where
       record {
         long = length-set list n _ ∙ o .long;
         at = λ r l.
-            elim (same-or-not r n) [
-              | inl k ↦
+            elim (ℕ-discrete r n) [
+              | yes k ↦
                   put-here list n _ room r k
                   ∙ rw k (omega (arith, b .at n (omega arith), o .at n (omega arith), off-above a n f side n (omega arith), in-rows a (n + 1) f side n h (omega arith)))
-              | inr k ↦ put-else list n _ room r k ∙ o .at r l ∙ ap (min (getD before r 0)) (sym (one-more a n f side r k))
+              | no k ↦ put-else list n _ room r k ∙ o .at r l ∙ ap (min (getD before r 0)) (sym (one-more a n f side r k))
             ];
       }
 
@@ -123,11 +111,11 @@ module _ (a : ℕ) (f : ℕ → ℕ) (before : List ℕ) where
       record {
         long = length-set list n _ ∙ o .long;
         at = λ r l.
-            elim (same-or-not r n) [
-              | inl k ↦
+            elim (ℕ-discrete r n) [
+              | yes k ↦
                   put-here list n _ room r k
                   ∙ rw k (omega (arith, o .at n (omega arith), off-above a n f 0 n (omega arith), in-rows a (n + 1) f 0 n h (omega arith)))
-              | inr k ↦ put-else list n _ room r k ∙ o .at r l ∙ ap (max (getD before r 0)) (sym (one-more a n f 0 r k))
+              | no k ↦ put-else list n _ room r k ∙ o .at r l ∙ ap (max (getD before r 0)) (sym (one-more a n f 0 r k))
             ];
       }
 
@@ -142,9 +130,9 @@ module _ (f : ℕ → ℕ) (before : List ℕ) (n w : ℕ) (room : n < length be
       record {
         long = length-set before n _;
         at = λ r l.
-            elim (same-or-not r n) [
-              | inl k ↦ put-here before n _ room r k ∙ rw k (omega (arith, b .at r l, ap (λ (i : ℕ). getD before i 0) k))
-              | inr k ↦ put-else before n _ room r k ∙ omega (arith, b .at r l, h r k)
+            elim (ℕ-discrete r n) [
+              | yes k ↦ put-here before n _ room r k ∙ rw k (omega (arith, b .at r l, ap (λ (i : ℕ). getD before i 0) k))
+              | no k ↦ put-else before n _ room r k ∙ omega (arith, b .at r l, h r k)
             ];
       }
 
@@ -153,8 +141,8 @@ module _ (f : ℕ → ℕ) (before : List ℕ) (n w : ℕ) (room : n < length be
       record {
         long = length-set before n _;
         at = λ r l.
-            elim (same-or-not r n) [
-              | inl k ↦ put-here before n _ room r k ∙ rw k (omega arith)
-              | inr k ↦ put-else before n _ room r k ∙ omega (arith, h r k)
+            elim (ℕ-discrete r n) [
+              | yes k ↦ put-here before n _ room r k ∙ rw k (omega arith)
+              | no k ↦ put-else before n _ room r k ∙ omega (arith, h r k)
             ];
       }
