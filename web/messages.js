@@ -282,7 +282,6 @@ export const MESSAGES = {
   "sign.last": "last year's cells",
   "sign.inner": "edges of the inner one",
 
-  "speeds.intro": "A block for each of sixteen speeds. Pick one and draw.",
   "speeds.layers": "Speeds",
   "speeds.copy": "Copy to next",
   "speeds.good": "Example",

@@ -46,9 +46,9 @@ export function missingFrom(engine, marks) {
   return found;
 }
 
-const LEFT = 34;
+const LEFT = 46;
 const WIDTH = 340;
-const HEIGHT = 104;
+const HEIGHT = 92;
 
 // The section as a picture: speeds along, rows or columns up.
 export function drawSection(svg, marks, missing, { piece }) {
