@@ -93,6 +93,8 @@ fn sixteen_layers_from_a_file() {
     assert_eq!((said.lines().nth(1), said.lines().nth(2)), (Some("layer 1: empty"), Some("passed - no section is dented")));
     assert_eq!(status, 0);
     assert_eq!(pile(&"9 1 1032\n".repeat(16)).1, 0);
+    let empty = fed(&["pile", "-"], b"");
+    assert!(err(&empty).ends_with("the file is empty: it holds no outline\n") && out(&empty).starts_with("passed"));
     let (said, status) = pile(&"9 1 1032\n".repeat(17));
     assert!(said.starts_with("refused, 22: the layer is none of the 16 - the file has 17 outlines") && status == 1);
     let (said, status) = pile("9 1 1032\n0 0 111033003222\n");

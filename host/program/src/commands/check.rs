@@ -1,7 +1,7 @@
 use std::io::Write;
-use std::path::{Path, PathBuf};
+use std::path::PathBuf;
 
-use super::{described, Command, Console, Failure, Status};
+use super::{answer, described, Command, Console, Failure, Status};
 use crate::arguments::Arguments;
 use crate::fleet::{self, Done, End, Source};
 use crate::input::{Piece, Walk};
@@ -15,9 +15,9 @@ pub const COMMAND: Command = Command {
     help: "\
 Tests each outline of each file, and of each file in a folder and its folders, in the order of their names. It writes a line for each
 outline: taken with its edges and anchor, or refused with the refusal's number, what it means and where. A summary follows: files,
-outlines, how many are taken, how often each refusal occurs, the longest outline and the most edges. A fault of a file is told, and no more of
-that file is read; its lines before the fault stand, and the other files are read. Outlines from standard input are answered
-line by line.
+outlines, how many are taken, how often each refusal occurs, the longest outline and the most edges. A fault of a file is told, and
+no more of that file is read; its lines before the fault stand, and the other files are read. Outlines from standard input are
+answered line by line.
 
 With --format json each outline is an object on a line of its own, and so are each fault and the summary; with --format csv each
 outline is a line, and the summary goes to standard error. docs/PROGRAM.md describes the fields.",
@@ -130,10 +130,7 @@ fn take(done: Done<Made>, tally: &mut Tally, manner: Manner, console: &mut Conso
         }
         None => {}
     }
-    // Who types lines waits for answers.
-    if source.path == Path::new("-") {
-        console.flush()?;
-    }
+    answer(&source.path, console)?;
     console.progress(|| format!("{}, {}", count(tally.files, "file"), count(tally.outlines, "outline")))?;
     Ok(())
 }

@@ -1,4 +1,4 @@
-use super::{faulty, plain, put, read, say_empty, title, written, Command, Console, Failure, Status};
+use super::{answer, faulty, plain, put, read, say_empty, title, written, Command, Console, Failure, Status};
 use crate::arguments::Arguments;
 use crate::input::Form;
 use crate::output::{form_of, Sink};
@@ -41,6 +41,7 @@ fn run(arguments: &Arguments, console: &mut Console) -> Result<Status, Failure> 
                 all = false;
             }
         }
+        answer(path, console)?;
         number += 1;
         console.progress(|| count(number, "outline"))?;
     }

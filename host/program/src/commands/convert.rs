@@ -1,4 +1,4 @@
-use super::{faulty, plain, put, read, say_empty, written, Command, Console, Failure, Status};
+use super::{answer, faulty, plain, put, read, say_empty, written, Command, Console, Failure, Status};
 use crate::arguments::Arguments;
 use crate::output::{form_of, Sink};
 use crate::verdict::count;
@@ -31,6 +31,7 @@ fn run(arguments: &Arguments, console: &mut Console) -> Result<Status, Failure> 
     for (number, entry) in reader.by_ref().enumerate() {
         let entry = entry.map_err(|fault| faulty(path, fault))?;
         put(sink.outline(&entry.outline, entry.name.as_deref().unwrap_or(""), console), path, number)?;
+        answer(path, console)?;
         console.progress(|| count(number + 1, "outline"))?;
     }
     say_empty(path, &reader, console)?;

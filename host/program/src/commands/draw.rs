@@ -101,8 +101,8 @@ fn outline(path: &Path, arguments: &Arguments, _: &mut Console) -> Result<Drawn,
     Ok((Some(svg), Status::of(verdict.is_ok())))
 }
 
-fn all(path: &Path, arguments: &Arguments, _: &mut Console) -> Result<Drawn, Failure> {
-    let entries = every(path, arguments)?;
+fn all(path: &Path, arguments: &Arguments, console: &mut Console) -> Result<Drawn, Failure> {
+    let entries = every(path, arguments, console)?;
     if entries.is_empty() || entries.len() > MOST_TILES {
         let sentence = match entries.len() {
             0 => "there is no outline to draw".to_string(),

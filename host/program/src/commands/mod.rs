@@ -267,9 +267,20 @@ fn one(path: &Path, arguments: &Arguments, wanted: Option<usize>) -> Result<(usi
     Err(Failure::File(path.to_path_buf(), format!("there is no outline {number}: {holds}")))
 }
 
-/// Every outline of a file. A fault is a fault of the whole.
-fn every(path: &Path, arguments: &Arguments) -> Result<Vec<Entry>, Failure> {
-    read(path, arguments)?.map(|entry| entry.map_err(|fault| faulty(path, fault))).collect()
+/// Every outline of a file. A fault is a fault of the whole; an empty file is said to be empty.
+fn every(path: &Path, arguments: &Arguments, console: &mut Console) -> Result<Vec<Entry>, Failure> {
+    let mut reader = read(path, arguments)?;
+    let entries = reader.by_ref().map(|entry| entry.map_err(|fault| faulty(path, fault))).collect();
+    say_empty(path, &reader, console)?;
+    entries
+}
+
+/// Who types lines waits for answers.
+fn answer(path: &Path, console: &mut Console) -> Result<(), Failure> {
+    if path.as_os_str() == "-" {
+        console.flush()?;
+    }
+    Ok(())
 }
 
 /// Says that a file is empty, where it is.

@@ -46,7 +46,7 @@ fn run(arguments: &Arguments, console: &mut Console) -> Result<Status, Failure> 
 
 /// The layers of a file, each told; none where one is refused.
 pub fn layers(path: &Path, arguments: &Arguments, console: &mut Console) -> Result<Option<Layers>, Failure> {
-    let entries = every(path, arguments)?;
+    let entries = every(path, arguments, console)?;
     let mut lines = Vec::new();
     let tell = arguments.path("--out").is_none();
     let set = Layers::set(&entries, |layer, entry: &Entry, verdict| {
