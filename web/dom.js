@@ -1,4 +1,4 @@
-// Small helpers for the document.
+// Pieces of the document.
 
 export const by = (id) => document.getElementById(id);
 

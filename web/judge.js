@@ -1,4 +1,4 @@
-// What the library says of a drawing. This is the only place that asks it, and everything that is shown of a verdict comes from here.
+// What the library says of a drawing. Every verdict that is shown comes from here.
 
 import { enclosed } from "./border.js";
 

@@ -4,10 +4,10 @@ import { load } from "../js/robequarry.js";
 import { App } from "./app.js";
 import { walk } from "./border.js";
 import { onChart, SIDE } from "./chart.js";
+import { listen } from "./controls.js";
 import { by, write } from "./dom.js";
-import { BLANK, ofOutline } from "./drawing.js";
+import { ofOutline } from "./drawing.js";
 import { judge, saidAt } from "./judge.js";
-import { listen as listenToKeys } from "./keys.js";
 import { block } from "./panels/block.js";
 import { holder } from "./panels/holder.js";
 import { lesson } from "./panels/lesson.js";
@@ -15,7 +15,6 @@ import { readings } from "./panels/readings.js";
 import { speeds } from "./panels/speeds.js";
 import { years } from "./panels/years.js";
 import { Picture } from "./picture.js";
-import { Pointers } from "./pointer.js";
 import { verdict } from "./say.js";
 import { restore, save } from "./store.js";
 import { story } from "./story.js";
@@ -48,34 +47,32 @@ class Page {
     return this.panels[this.app.panel];
   }
 
-  // Everything that is shown of the drawing, worked out from the drawing now.
+  // Everything that is shown of the drawing, worked out from the drawing now. What cannot be worked out is not shown.
   show() {
     this.shows++;
     const { drawing } = this.app;
-    const answer = this.answer(drawing);
-    const { told, words } = this.account(drawing, answer);
-    this.picture.draw(told, drawing.faults, { why: this.why, ...this.panel.more(drawing, answer) }, this.app.cursor);
+    const { answer, told, words } = this.account(drawing);
+    const more = attempt(() => this.panel.more(drawing, answer), {});
+    this.picture.draw(told, drawing.faults, { why: this.why, ...more }, this.app.cursor);
     this.showVerdict(words, answer);
     this.showTools(answer);
-    this.showWhere(drawing, answer);
+    this.showWhere();
     write(by("letters-print"), outlineWords(drawing));
     this.tabs.show();
-    this.panel.show(drawing, answer);
+    if (!attempt(() => (this.panel.show(drawing, answer), true), false)) this.tabs.hide();
   }
 
-  answer(drawing) {
-    try {
-      return judge(this.engine, drawing);
-    } catch (error) {
-      console.error(error);
-      return { kind: "failed" };
-    }
+  // The answer to a drawing, with its picture and its words. They belong to the drawing, so they are made once.
+  account(drawing) {
+    if (this.accounts.has(drawing)) return this.accounts.get(drawing);
+    const made = attempt(() => this.told(drawing), null);
+    if (made !== null) this.accounts.set(drawing, made);
+    return made ?? { answer: { kind: "failed" }, told: { cells: drawing.cells }, words: failure() };
   }
 
-  // The picture and the words of an answer. The answer belongs to one drawing, so they are made once.
-  account(drawing, answer) {
-    if (!this.accounts.has(answer)) this.accounts.set(answer, tell(drawing, answer));
-    return this.accounts.get(answer);
+  told(drawing) {
+    const answer = judge(this.engine, drawing);
+    return { answer, told: story(drawing, answer), words: verdict(drawing, answer) };
   }
 
   showVerdict(words, { kind }) {
@@ -100,15 +97,16 @@ class Page {
   }
 
   // The cell under the pointer, or else the cursor's, with what the controller says there.
-  showWhere(drawing, answer) {
+  showWhere() {
     const cell = this.hover ?? this.app.cursor;
-    write(by("where"), this.tools.note ? text(this.tools.note) : this.whereWords(cell, drawing, answer));
+    write(by("where"), this.tools.note ? text(this.tools.note) : attempt(() => this.whereWords(cell, this.app.drawing), ""));
     // What was spoken last may be true no more.
     write(by("spoken"), "");
   }
 
-  whereWords(cell, drawing, answer) {
+  whereWords(cell, drawing) {
     if (!onChart(...cell)) return text("where.off");
+    const { answer } = this.account(drawing);
     const kind = drawing.cells?.has(...cell) ? "marked" : answer.added?.has(...cell) ? "missing" : "open";
     const said = this.panel.saidAt ? this.panel.saidAt(cell) : saidAt(this.engine, drawing, cell);
     return text(`where.${said}`, { cell: text(`where.${kind}`, { cell: at(cell) }) });
@@ -159,7 +157,7 @@ class Page {
   instead() {
     const { app } = this;
     if (app.state === this.completed) return app.undo();
-    const { completion } = this.answer(app.drawing);
+    const { completion } = this.account(app.drawing).answer;
     app.change(app.with(ofOutline({ ...completion, name: app.drawing.name })));
     this.completed = app.state;
     this.show();
@@ -199,9 +197,16 @@ function outlineWords({ name, start, letters }) {
   return text("outline.print", { name, start: at(start), letters: letters.join("") });
 }
 
-function tell(drawing, answer) {
-  if (answer.kind !== "failed") return { told: story(drawing, answer), words: verdict(drawing, answer) };
-  return { told: { cells: drawing.cells }, words: { what: text("failed.what"), meaning: text("failed.meaning") } };
+const failure = () => ({ what: text("failed.what"), meaning: text("failed.meaning") });
+
+// What comes of some work, or something else where it fails.
+function attempt(work, otherwise) {
+  try {
+    return work();
+  } catch (error) {
+    console.error(error);
+    return otherwise;
+  }
 }
 
 // The corners of a drawing, as far as they are on the chart.
@@ -209,99 +214,6 @@ function cornersOf({ start, letters, cells }) {
   const ends = ([row, first, last]) => [[first, row], [last + 1, row + 1]];
   const corners = letters ? walk(start, letters) : (cells?.runs() ?? []).flatMap(ends);
   return corners.map((corner) => corner.map((n) => Math.min(SIDE, Math.max(0, n))));
-}
-
-// What pointers on the chart do.
-function strokes(page) {
-  const { app, tools, view } = page;
-  let panning = false;
-  const hover = (at) => {
-    page.hover = page.cellAt(at);
-    page.panel.pointed?.(view.point(...at).map((n) => n - 0.5));
-  };
-  // Shows what has become of it, unless a change of the drawing has done so.
-  const shown = (work) => {
-    const before = page.shows;
-    work();
-    if (page.shows === before) page.show();
-  };
-  return {
-    press(at, { pan, erase }) {
-      panning = pan || tools.tool === "hand";
-      hover(at);
-      shown(() => panning || tools.press(page.cellAt(at), erase));
-    },
-    drag(from, to) {
-      if (panning) view.move(to[0] - from[0], to[1] - from[1]);
-      hover(to);
-      shown(() => panning || tools.drag(page.cellAt(to)));
-    },
-    release: () => shown(() => panning || tools.release()),
-    cancel: () => shown(() => tools.cancel()),
-    hover(at) {
-      tools.note = null;
-      hover(at);
-      page.showWhere(app.drawing, page.answer(app.drawing));
-      if (page.panel.pointed) page.show();
-    },
-    leave() {
-      page.hover = null;
-      page.showWhere(app.drawing, page.answer(app.drawing));
-    },
-    pinch([a0, b0], [a1, b1]) {
-      const middle = ([ax, ay], [bx, by_]) => [(ax + bx) / 2, (ay + by_) / 2];
-      const apart = ([ax, ay], [bx, by_]) => Math.max(20, Math.hypot(ax - bx, ay - by_));
-      const [before, after] = [middle(a0, b0), middle(a1, b1)];
-      view.move(after[0] - before[0], after[1] - before[1]);
-      view.zoom(apart(a1, b1) / apart(a0, b0), view.point(...after));
-      page.show();
-    },
-    sameCell: (a, b) => page.cellAt(a).join() === page.cellAt(b).join(),
-  };
-}
-
-const CLICKS = {
-  undo: (page) => page.app.undo(),
-  redo: (page) => page.app.redo(),
-  clear: (page) => page.app.change(page.app.with({ ...BLANK, name: page.app.drawing.name })),
-  in: (page) => page.zoom(1.25),
-  out: (page) => page.zoom(0.8),
-  fit: (page) => page.fit(),
-  whole: (page) => (page.view.fit([[0, 0], [SIDE, SIDE]]), page.show()),
-  why: (page) => ((page.why = !page.why), page.show(), page.keep()),
-  instead: (page) => page.instead(),
-};
-
-function listen(page) {
-  const chart = by("chart");
-  new Pointers(chart, strokes(page));
-  listenToKeys(chart, page.app, page.tools, page);
-  chart.addEventListener("wheel", (event) => {
-    event.preventDefault();
-    page.zoom(event.deltaY < 0 ? 1.15 : 1 / 1.15, page.view.point(event.clientX, event.clientY));
-  }, { passive: false });
-  // A stroke by keys that is not ended yet ends where something else is done.
-  document.addEventListener("click", (event) => event.target.closest("button, select, input") && page.tools.release(), { capture: true });
-  for (const [id, work] of Object.entries(CLICKS)) by(id).addEventListener("click", () => work(page));
-  for (const radio of document.querySelectorAll('input[name="tool"], input[name="ink"]')) {
-    radio.addEventListener("change", () => page.choose(radio.name, radio.value));
-  }
-  document.addEventListener("keydown", (event) => undoByKeys(event, page));
-  addEventListener("pagehide", () => page.save());
-  new ResizeObserver(() => (page.view.measure(), page.show())).observe(chart);
-  chart.addEventListener("pointerenter", () => page.view.measure());
-  addEventListener("scroll", () => page.view.measure(), { capture: true, passive: true });
-  addEventListener("resize", () => page.view.measure());
-}
-
-function undoByKeys(event, { app, tools }) {
-  if (!(event.ctrlKey || event.metaKey) || event.target.matches?.('input[type="text"], input[type="number"]')) return;
-  const again = event.key === "y" || event.key === "Z";
-  if (event.key !== "z" && !again) return;
-  event.preventDefault();
-  tools.release();
-  if (again) app.redo();
-  else app.undo();
 }
 
 async function begin() {

@@ -1,4 +1,4 @@
-// Small helpers for pictures.
+// Pieces of pictures.
 
 const SVG = "http://www.w3.org/2000/svg";
 

@@ -18,6 +18,11 @@ export class Tabs {
       by(`panel-${name(tab)}`).hidden = !chosen;
     }
   }
+
+  // The panel that is chosen shows nothing.
+  hide() {
+    by(`panel-${this.app.panel}`).hidden = true;
+  }
 }
 
 const name = (tab) => tab.id.slice("tab-".length);

@@ -187,6 +187,22 @@ class Truth(PageTest):
         for kind in ("Not one border", "No cell is marked", 0, 8, 9):
             self.assertGreater(counts.get(kind, 0), 50, counts)
 
+    def test_where_the_library_fails_there_is_no_verdict(self):
+        self.draw(PLUS)
+        self.says("Taken, 4 edges")
+        for panel in ("draw", "readings", "years", "lesson"):
+            self.panel(panel)
+            self.script("window.kept = Uint8Array.from; Uint8Array.from = () => { throw new Error('no') }")
+            self.click((3, 1))
+            shown = self.now()
+            self.assertEqual((shown["said"], shown["color"], shown["edges"], shown["band"]), ("No answer", "", "", ""))
+            self.assertEqual(cells_of(shown["cells"]), {*PLUS, (3, 1)})
+            self.script("Uint8Array.from = window.kept")
+            self.press("undo")
+            self.says("Taken, 4 edges")
+        # The browser tells of each failure.
+        self.browser.get_log("browser")
+
     def test_every_way_there_is(self):
         """The ways that need more than one event: files, a reload, panels."""
         moments = []
