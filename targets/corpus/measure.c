@@ -24,6 +24,29 @@ static void dent(void) {
     }
 }
 
+/* Outlines with few edges, the least of all, and the one with the most edges. */
+static void sides(int32_t side, uint8_t first, uint8_t second) {
+    for (int32_t i = 0; i < side; i++) {
+        add_letter(&shape, first);
+        add_letter(&shape, second);
+    }
+}
+
+static void test_lines(void) {
+    shape.col = shape.row = shape.n = 0;
+    for (uint8_t i = 0; i < 4; i++) add_letters(&shape, (uint8_t)((5 - i) % 4), 1);
+    line("test, one cell", shape.n, nothing, call_test, 40);
+    shape.n = 0;
+    for (uint8_t i = 0; i < 4; i++) add_letters(&shape, (uint8_t)((5 - i) % 4), 150);
+    line("test, a square", shape.n, nothing, call_test, 40);
+    shape.n = 0;
+    shape.row = 75;
+    for (uint8_t i = 0; i < 4; i++) sides(75, (uint8_t)((5 - i) % 4), (uint8_t)((4 - i) % 4));
+    line("test, a diamond", shape.n, nothing, call_test, 40);
+    most_edges();
+    line("test, 100 edges", shape.n, nothing, call_test, 40);
+}
+
 static void set_call(uint8_t number, uint8_t x) {
     memset(bytes, 0, sizeof bytes);
     bytes[0] = number;
@@ -141,6 +164,7 @@ static int table(void) {
     seed(7, 7, 7);
     rq_pile_fresh(&pile);
     put("call\tof\tnumber\tword\tinstructions\tstack\n");
+    test_lines();
     outline_lines(12);
     outline_lines(37);
     outline_lines(76);

@@ -11,9 +11,12 @@ const put = (at, count) => {
   const text = Buffer.from(calls.memory.buffer, at, count);
   for (let done = 0; done < count; ) done += writeSync(1, text, done);
 };
-// The library's stack is its first 64 KiB. It is painted, so that one can see how deep the calls went.
+// The library's stack is its first 64 KiB. It is painted, so that one can see how deep the calls went: it holds three times as much.
 const STACK = 65536;
+const BOUND = 20000;
 new Uint8Array(calls.memory.buffer, 0, STACK).fill(0xa5);
 process.exitCode = open(program, { env: { ...calls, port_put: put } }).start(Number(first), Number(second));
 const deepest = new Uint8Array(calls.memory.buffer, 0, STACK).findIndex((byte) => byte !== 0xa5);
-console.error(`the library's stack in WebAssembly: at most ${deepest < 0 ? 0 : STACK - deepest} of ${STACK} bytes were used`);
+const used = deepest < 0 ? 0 : STACK - deepest;
+if (used > BOUND) process.exitCode = 1;
+if (used > BOUND || process.env.SHOW_STACK) console.error(`the library's stack in WebAssembly: ${used} bytes, of at most ${BOUND}`);
