@@ -1,4 +1,4 @@
--- The pieces lie in the buffer between the cut places, and each letter and each piece passed has none.
+-- The search keeps that no letter and no piece passed has a back-step, so where it stops is the first one.
 use Prim.Native.Nat.{ℕ, suc, _+_, _-_, _*_, _≤_, _<_}
 use native.Mathlib.Numerals.{add-one}
 use native.Mathlib.Omega.{arith}
@@ -20,9 +20,9 @@ use Rattle.pieces.specs.parts.Pieces.{PairOf, Laid}
 use Rattle.back_steps.specs.parts.BackSteps.{part, Within, Found, FoundAt}
 use Rattle.pieces.proofs.LaidLaws.{length-rounds, take-rounds, part-of-take, laid-rising, laid-within, laid-piece}
 
--- ---- the letters read round and round
+-- ---- the letters read cyclically
 
--- Read on round and round, a letter is the one a round before
+-- Read cyclically, a letter is the one a round before
 letter-round : (t : List ℕ) (i : ℕ) → length t + i < 4 * length t → getD (rounds t) (length t + i) 0 ≡ getD (rounds t) i 0
 unfolding rounds
 letter-round t i h =
@@ -31,7 +31,7 @@ letter-round t i h =
     let e : u ++ t ≡ t ++ u = simp append-assoc in
     getD-append-add t u i 0 ∙ sym (List·getD-append u t 0 i l) ∙ ap (λ (v : List ℕ). getD v i 0) e
 
--- A letter read on up to three rounds is one of the letters
+-- A letter of any of the four rounds is one of the letters
 module _ (t : List ℕ) (i : ℕ) where
   pub letter-once : i < length t → getD t i 0 ≡ getD (rounds t) i 0
   unfolding rounds
@@ -81,7 +81,7 @@ module _ {f : Frame} {r : Pair} (h : PairOf f r) (a : ℕ) where
       let l : eqb a (r .later) ≡ true = eq-eqb a (r .later) y in
       cc
 
-  -- A letter that is none of the two, as the code asks it
+  -- A letter that is neither of the two, as the code tests it
   pub back-step-is : (not (eqb a (r .earlier)) && not (eqb a (r .later))) ≡ isBackStep f a
   unfolding isBackStep
   back-step-is = rw (h .earlier, h .later) (neither (eqb a (f .earlier)) (eqb a (f .later)))
@@ -111,7 +111,7 @@ module _ {letters : List ℕ} {k i : ℕ} (p : Passed letters k i) where
       let e : i ≡ length letters = omega (arith, p .within) in
       sym (p .none) ∙ ap (first (λ j. isBackStep (frameOf k) (getD letters j 0))) e
 
--- ---- a part of the letters read round and round
+-- ---- a part of the letters read cyclically
 
 module _ {from to : ℕ} {letters : List ℕ} (h : Within from to letters) where
   pub part-length : length (part from to (rounds letters)) ≡ to - from
@@ -187,6 +187,6 @@ pub searched-end : {buffer at : List ℕ} {k : ℕ} → Searched buffer at k →
 unfolding backStepPiece
 searched-end {k = k} p l o h = let e : k ≡ 4 = omega (arith, p .passed) in rw e at (p .none o h)
 
--- The cut places are none of a turn whose pieces lie in the buffer
+-- No border has its pieces in the buffer at these cut places
 pub searched-off : (buffer at : List ℕ) (k : ℕ) → k < 4 → (getD at k 0 ≤ getD at (k + 1) 0 → getD at (k + 1) 0 ≤ length buffer → ⊥) → Found buffer at None
 searched-off buffer at k l off o h = absurd (off (rw add-one (laid-rising h k l)) (rw add-one (laid-within h (suc k) l)))

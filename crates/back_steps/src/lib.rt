@@ -1,4 +1,5 @@
-// The first back-step of the pieces (contract 3.5).
+// The first back-step of the pieces (contract 3.5). `first` requires a list of at most 612 letters; the checker sees it met at the call in
+// `judge`.
 use cut_places::Cuts;
 ghost use Prim.Native.Nat.{_*_, _≤_, _<_};
 ghost use mathlib.Core.Path.{_≡_};
@@ -8,7 +9,7 @@ ghost use Rattle.chart.specs.Limits.{longest};
 ghost use Rattle.convexity.specs.Pieces.{rounds};
 ghost use Rattle.back_steps.specs.parts.BackSteps.{part, straightFor, Within, Found};
 
-// Whether some letter of piece k is a back-step: all are looked at, so that many are at once.
+// Whether some letter of piece k is a back-step. The loop reads every letter, so that it is vectorised.
 fn some_back_step(piece: &[u8], k: usize) -> bool
     ensures { λ r. ⌜ (r ≡ false → length (now (piece .entry)) ≡ straightFor k (now (piece .entry))) ⌝ }
 {
@@ -22,7 +23,7 @@ fn some_back_step(piece: &[u8], k: usize) -> bool
     found
 }
 
-// Letter i of those read on past their end, as often round as four pieces can reach.
+// Letter i of the letters read cyclically, up to four times round.
 fn letter_round(letters: &[u8], i: usize) -> u8
     requires { ⌜ (length (now letters) ≤ longest) × (i < 4 * length (now letters)) ⌝ }
     ensures { λ r. ⌜ r ≡ getD (rounds (now (letters .entry))) i 0 ⌝ }
@@ -40,7 +41,8 @@ fn letter_round(letters: &[u8], i: usize) -> u8
     letters[i - 3 * n]
 }
 
-// How many letters of piece k stand before its first back-step, between two places of the letters read round and round: all of them where it has none.
+// How many letters of piece k come before its first back-step, or all of them. The piece lies between two places of the letters read
+// cyclically.
 fn first_back_step(letters: &[u8], from: usize, to: usize, k: usize) -> usize
     requires { ⌜ Within from to (now letters) ⌝ }
     ensures { λ r. ⌜ r ≡ straightFor k (part from to (rounds (now (letters .entry)))) ⌝ }
@@ -57,7 +59,7 @@ fn first_back_step(letters: &[u8], from: usize, to: usize, k: usize) -> usize
     i
 }
 
-// The same, where the place is looked for only if there is one. Only with a back-step does a piece go on past the end of the letters.
+// The same, but the place is only searched for if there is a back-step. A piece without one ends before the end of the letters.
 fn straight_for(letters: &[u8], from: usize, to: usize, k: usize) -> usize
     requires { ⌜ Within from to (now letters) ⌝ }
     ensures { λ r. ⌜ r ≡ straightFor k (part from to (rounds (now (letters .entry)))) ⌝ }
@@ -70,11 +72,11 @@ fn straight_for(letters: &[u8], from: usize, to: usize, k: usize) -> usize
 
 pub enum BackStep {
     None,
-    // In a piece, counted from 0, so many letters from W on.
+    // Letter `at` of the border, in a piece counted from 0.
     At { piece: usize, at: usize },
 }
 
-// The first back-step along the four pieces, which lie between the cut places in the letters read round and round.
+// The first back-step of the four pieces, which lie between the cut places in the letters read cyclically.
 pub fn first(cuts: Cuts, letters: &[u8]) -> BackStep
     requires { ⌜ length (now letters) ≤ longest ⌝ }
     ensures { λ r. ⌜ Found (rounds (now (letters .entry))) (cuts .at) r ⌝ }

@@ -1,4 +1,5 @@
-// The border of an outline as a list: a copy of its letters from W on, clockwise; and its places as places of the list as sent (contract 2.2, 3.2).
+// The border of an outline as a list: a copy of its letters from W on, clockwise; and its places as places of the list as sent (contract
+// 2.2, 3.2).
 use chart::LONGEST;
 ghost use Prim.Native.Nat.{_+_, _≤_};
 ghost use mathlib.Core.Path.{_≡_};

@@ -4,19 +4,15 @@ use native.Mathlib.Decide.{decLe}
 use native.Mathlib.Omega.{arith}
 use mathlib.Core.Path.{_≡_, refl}
 use lib.ListN.{getD}
-use borrow.Author.Tests.{le-leb, lt-leb}
 use Rattle.chart.specs.Outline.{Outline}
 use Rattle.lattice.specs.Chart.{size}
 use Rattle.convexity.specs.Cut.{ahead, cornerPlace, cutCorner, cut}
+use Rattle.convexity.proofs.Cuts.{ahead-on, ahead-round as ahead-past}
 use Rattle.cut_places.specs.parts.Cuts.{cutsAlong}
 
-pub ahead-on : (n a b : ℕ) → a ≤ b → ahead n a b ≡ b - a
-unfolding ahead
-ahead-on n a b h = rw (le-leb a b h)
-
+-- Past the end of the list, as the code adds it up
 pub ahead-round : (n a b : ℕ) → b < a → a ≤ n → ahead n a b ≡ n - a + b
-unfolding ahead
-ahead-round n a b h l = rw (lt-leb a b h) (omega arith)
+ahead-round n a b h l = omega (arith, ahead-past n a b h)
 
 pub ahead-le : (n a b : ℕ) → a ≤ n → b ≤ n → ahead n a b ≤ n
 ahead-le n a b h l = elim (decLe a b) [ yes m ↦ omega (arith, ahead-on n a b m) | no m ↦ omega (arith, ahead-round n a b (omega arith) h) ]
@@ -27,7 +23,7 @@ pub steps-le : {n north east south : ℕ} → north ≤ n → east ≤ n → sou
 steps-le {n} {north} {east} {south} ln le ls =
     (ahead-le n 0 north (omega arith) ln, ahead-le n north east ln le, ahead-le n east south le ls, ahead-le n south 0 ls (omega arith))
 
--- They are the cut places of a turn v whose N, E and S stand there
+-- They are the cut places of a border v whose N, E and S stand there
 pub cuts-along : (v : Outline) → (k : ℕ) → k ≤ 4
     → getD (cutsAlong (size v) (cornerPlace v 1) (cornerPlace v 2) (cornerPlace v 3)) k 0 ≡ cut v k
 unfolding cutsAlong cut cutCorner

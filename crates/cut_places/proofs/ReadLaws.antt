@@ -1,4 +1,5 @@
--- The border leaves the corners of the outline as sent, so its W, N, E and S stand as far ahead of W as they do there, or, read backward, as far behind it.
+-- The border passes the corners of the outline as sent, so its N, E and S are as far ahead of W as they are there, or, read backward, as
+-- far behind.
 use Prim.Native.Nat.{ℕ, _+_, _-_, _≤_, _<_}
 use native.Mathlib.Decide.{decLe, decLt}
 use native.Mathlib.Omega.{arith}
@@ -20,11 +21,12 @@ use Rattle.convexity.specs.Clockwise.{reversed, clockwiseForm, border}
 use Rattle.convexity.proofs.Extreme.{cornerPlace-lt, from-w-of}
 use Rattle.convexity.proofs.Clockwise.{corner-backward, from-w-form, simple-form, length-backward, leaving-west}
 use Rattle.convexity.proofs.Corners.{corner-form}
+use Rattle.convexity.proofs.Cuts.{ahead-on}
 use Rattle.survey.specs.declared.Corners.{Corners}
 use Rattle.survey.specs.Survey.{cornersOf}
 use Rattle.cut_places.specs.declared.Cuts.{Cuts}
 use Rattle.cut_places.specs.parts.Cuts.{areBelow, isForward, placeRead, cutsAlong, cutPlacesOf, CutsOf}
-use Rattle.cut_places.proofs.CutLaws.{ahead-on, ahead-round, cuts-along}
+use Rattle.cut_places.proofs.CutLaws.{ahead-round, cuts-along}
 
 pub ahead-lt : (n a b : ℕ) → a < n → b < n → ahead n a b < n
 ahead-lt n a b h l = elim (decLe a b) [ yes m ↦ omega (arith, ahead-on n a b m) | no m ↦ omega (arith, ahead-round n a b (omega arith) (omega arith)) ]
@@ -120,7 +122,7 @@ module _ (o : Outline) (simple : Simple o) where
 
 -- ---- from the places found
 
--- All four stand in a list of n letters
+-- All four are places of a list of n letters
 pub record Places (n : ℕ) (f : Corners) : Type 0 where
   pub west : f .west < n
   pub north : f .north < n
@@ -149,7 +151,7 @@ cond-off true x y e = rw e
 cond-off false x y e = refl
 
 module _ (w : List ℕ) (f : Corners) where
-  -- Too many letters, or a place that is none of the list
+  -- Too many letters, or a place past the end of the list
   pub cuts-long : longest < length w → cutPlacesOf w f ≡ record { forward = false; at = replicate 5 0 }
   unfolding cutPlacesOf
   cuts-long h = rw (lt-leb (length w) longest h)
@@ -158,7 +160,7 @@ module _ (w : List ℕ) (f : Corners) where
   unfolding cutPlacesOf
   cuts-off h = cond-off (leb (length w) longest) _ _ h
 
-  -- Else the sums
+  -- Otherwise the sums
   abbrev placed : ℕ → ℕ
   placed p = placeRead (isForward w f) (length w) (f .west) p
 
@@ -219,7 +221,7 @@ module _ {o : Outline} {f : Corners} (simple : Simple o) (h : f ≡ cornersOf o)
       let e = border-place o simple k in
       cc
 
--- So what is answered for them are the cut places of the border
+-- So for these corners the result has the cut places of the border
 pub cuts-of : (o : Outline) → Simple o → CutsOf o (cutPlacesOf (o .letters) (cornersOf o))
 cuts-of o simple =
     rw (cuts-found (o .letters) (cornersOf o) (walked o simple .short) (found-places simple refl))

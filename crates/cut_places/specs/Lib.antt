@@ -1,2 +1,2 @@
--- The way in which a border is read, and its cut places.
+-- Which way an outline is read, and the cut places of its border.
 pub mod parts

@@ -1,4 +1,4 @@
-// Which way the letters are read, and the five cut places of the border (contract 2.2 and 3.2), from the places of W, N, E and S.
+// Which way the letters are read, and the five cut places of the border (contract 2.2 and 3.3), from the places of W, N, E and S.
 use chart::LONGEST;
 use survey::Corners;
 ghost use Prim.Native.Nat.{_≤_};
@@ -6,7 +6,7 @@ ghost use mathlib.Core.Path.{_≡_};
 ghost use Rattle.convexity.specs.Cut.{ahead as aheadOf};
 ghost use Rattle.cut_places.specs.parts.Cuts.{areBelow, placeRead, cutPlacesOf};
 
-// How many letters lead from place a on to place b, past the end of n letters where needed.
+// How many letters lead from place a on to place b of n letters, read cyclically.
 fn ahead(n: usize, a: usize, b: usize) -> usize
     requires { ⌜ a ≤ n ⌝ }
     ensures { λ r. ⌜ r ≡ aheadOf n a b ⌝ }
@@ -25,7 +25,7 @@ fn place_read(n: usize, forward: bool, w: usize, p: usize) -> usize
     ahead(n, p, w)
 }
 
-// Whether all four places stand in a list of n letters.
+// Whether all four are places of a list of n letters.
 fn are_below(n: usize, found: Corners) -> bool
     ensures { λ r. ⌜ r ≡ areBelow n found ⌝ }
 {
@@ -38,7 +38,7 @@ pub struct Cuts {
     pub at: [usize; 5],
 }
 
-// From the letters and their corners. Of other places than those of an outline's corners too it answers by the same sums.
+// From the letters and the places of the corners. For any other four places of the list the result is the same sums.
 pub fn cut_places(letters: &[u8], found: Corners) -> Cuts
     ensures { λ r. ⌜ r ≡ cutPlacesOf (now (letters .entry)) found ⌝ }
 {

@@ -1,4 +1,4 @@
--- The pieces lie in the buffer between the cut places, each piece passed has no dent, and its edges stand behind those before it.
+-- The search keeps that no piece passed has a dent and that the list has the edges of those passed, in their order.
 use Prim.Native.Nat.{ℕ, zero, suc, _+_, _-_, _*_, _≤_, _<_}
 use native.Mathlib.Decide.{decLt}
 use native.Mathlib.Numerals.{add-one}
@@ -112,7 +112,7 @@ unfolding first countUpTo edgesUpTo
 passed-start buffer at before =
     record { passed = omega arith; same = refl; none = λ o h l. refl; beyond = λ o h l room. refl; counted = λ o h l room. refl; edges = λ o h l room. refl }
 
--- Piece k lies in the buffer from x up to y, and is read
+-- Piece k lies in the buffer from x up to y, and its factors are found
 pub record Read (buffer at : List ℕ) (before list : List ℤ) (count k x y : ℕ) (after : List ℤ) (r : InWord) : Type 0 where
   pub pieces : Passed buffer at before list count k
   pub piece-lt : k < 4
@@ -135,7 +135,7 @@ module _ {buffer at : List ℕ} {before list : List ℤ} {count k x y : ℕ} {af
         let b = p .ends ∙ ap (λ (i : ℕ). getD at i 0) (add-one k) ∙ h .places (suc k) (p .piece-lt) in
         p .found .word (omega (arith, cut-le-suc o k)) (omega (arith, cut-le-cut o (suc k) 4 (p .piece-lt), h .within)) (omega (arith, cut-suc-le o k))
 
-  -- Its edges stand behind those of the pieces before it
+  -- Its edges come after those of the pieces before it
   module _ {n : ℕ} (p : Read buffer at before list count k x y after (WordEdges n)) where
     module _ {o : Outline} (short : size o ≤ longest) (h : Laid o at buffer) where
       abbrev put : EdgesPut k (drop 1 (take (y - x) (drop x buffer))) count list after n

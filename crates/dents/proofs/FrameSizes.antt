@@ -1,4 +1,4 @@
--- The steps of a piece's two letters are of size at most 1, as each clause of the frames shows, so a machine reads them back as they are.
+-- Every step of a frame is at most 1 in size, so a number of 16 bits holds it.
 use Prim.Native.Nat.{ℕ, zero, suc, _≤_}
 use native.Mathlib.Omega.{arith}
 use mathlib.Core.Path.{_≡_, _∙_}

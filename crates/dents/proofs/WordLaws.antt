@@ -1,4 +1,4 @@
--- The walk over the factors keeps one sum: what is read off so far, and what the rest of the letters still give, make the whole.
+-- At every factor, what is found so far and what the rest of the letters still give make the whole.
 use Prim.Native.Nat.{ℕ, zero, suc, _+_, _-_, _*_, _/_, _≤_, _<_}
 use native.Mathlib.Nat.{mul-le-mul-left, mul-add}
 use native.Mathlib.Numerals.{add-one}
@@ -34,14 +34,14 @@ take-two l n a b h =
     ap (λ (x : List ℤ). x ++ (b ∷ [])) (take-suc-set l n a (omega arith)) ∙
     append-assoc (take n l) (a ∷ []) (b ∷ [])
 
--- A store before a place leaves what stands from there on
+-- A store before a place changes nothing from that place on
 drop-set-before : (l : List ℤ) (i m : ℕ) (a : ℤ) → i < m → drop m (set l i a) ≡ drop m l
 drop-set-before [] i m a h = refl
 drop-set-before (x ∷ l) i zero a h = absurd (omega arith)
 drop-set-before (x ∷ l) zero (suc m) a h = refl
 drop-set-before (x ∷ l) (suc i) (suc m) a h = drop-set-before l i m a (omega arith)
 
--- What two lists have from a place on they have from any later one on
+-- Lists that agree from a place on agree from any later place on
 pub drop-further : (l m : List ℤ) (a b : ℕ) → a ≤ b → drop a l ≡ drop a m → drop b l ≡ drop b m
 drop-further l m a b h e =
     let d : b ≡ a + (b - a) = omega arith in
@@ -78,7 +78,7 @@ pub tracing-start : (k : ℕ) (letters : List ℕ) (from : ℕ) (before : List �
 tracing-start k letters from before =
     record { same = refl; passed = omega arith; dent-at = omega arith; dent-length = refl; beyond = refl; counted = λ room. refl; edges = λ room. refl }
 
--- A first factor that is a Christoffel word is passed over, and one that is none is the dent
+-- A first factor that is a Christoffel word is passed, and one that is not is the dent
 dentAt-true : (f : Factor) (fs : List Factor) → christoffel (f .word) ≡ true → dentAt (f ∷ fs) ≡ f .times * length (f .word) + dentAt fs
 unfolding dentAt
 dentAt-true f fs e = rw (e, dentAt)

@@ -1,2 +1,2 @@
--- What the factors of the pieces are read as.
+-- Dents and edges of the pieces.
 pub mod parts

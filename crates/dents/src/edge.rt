@@ -1,4 +1,4 @@
-// An edge of a piece: a factor's letters, earlier and later, times its repeats, as one step in columns and rows (contract 3.12).
+// The edge of a factor: the step that all its repeats take together (contract 3.12).
 ghost use mathlib.Core.Path.{_≡_};
 ghost use lib.IntN.{pos, _+ℤ_, _*ℤ_};
 ghost use Rattle.chart.specs.Limits.{longest};

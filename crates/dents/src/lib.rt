@@ -8,7 +8,7 @@ ghost use Rattle.dents.specs.parts.Dents.{Put, WordRead, PieceRead, Fact
 
 mod edge;
 
-// Puts an edge behind the first `count` of a list, where there is room, and says how many there are then.
+// Writes an edge after the first `count` of a list, if there is room, and returns how many there are then.
 fn put(list: &mut [i16], count: usize, dx: i16, dy: i16) -> usize
     ensures { λ r. ⌜ Put (now (list .entry)) count dx dy (now (list .exit)) r ⌝ }
 {
@@ -21,15 +21,15 @@ fn put(list: &mut [i16], count: usize, dx: i16, dy: i16) -> usize
     count
 }
 
-// What a piece's word is read as.
+// The factors of one word.
 enum InWord {
-    // So many edges stand in the list then.
+    // All are Christoffel words. The list has this many edges now.
     Edges { edges: usize },
-    // A factor of this length that is no Christoffel word stands behind so many letters of the word.
+    // The first factor that is not a Christoffel word: its place in the word and its length.
     Dent { at: usize, length: usize },
 }
 
-// Walks over the factors of a word in the letters of piece k, and puts their edges behind the first `from` of the list.
+// Finds the factors of a word of piece k one by one, and writes their edges after the first `from` of the list.
 fn read_word(letters: &[u8], k: usize, list: &mut [i16], from: usize) -> InWord
     requires { ⌜ length (now letters) ≤ longest ⌝ }
     ensures { λ r. ⌜ WordRead k (now (letters .entry)) from (now (list .entry)) (now (list .exit)) r ⌝ }
@@ -54,7 +54,7 @@ fn read_word(letters: &[u8], k: usize, list: &mut [i16], from: usize) -> InWord
     InWord::Edges { edges: count }
 }
 
-// The same for a piece that lies in a buffer between two places: its first letter is dropped, and what remains may be empty.
+// The same for a piece between two places of a buffer. Its word is the piece without its first letter, and may be empty.
 fn read_piece(
     ring: &[u8],
     from: usize,
@@ -74,13 +74,13 @@ fn read_piece(
     InWord::Edges { edges }
 }
 
-// What the four pieces are read as.
+// The factors of the four pieces.
 pub enum Factored {
-    // So many edges.
+    // No dent, and this many edges.
     Edges {
         edges: usize,
     },
-    // The first dent: its piece, counted from 0, its place in letters from W on, and its length.
+    // The first dent: its piece, counted from 0, its place in the border, and its length.
     Dent {
         piece: usize,
         at: usize,
@@ -88,7 +88,7 @@ pub enum Factored {
     },
 }
 
-// The first dent along the four pieces, which lie in the buffer between the cut places, or their edges, which then stand in the list.
+// The first dent of the four pieces, which lie in the buffer between the cut places; or their edges, which are then in the list.
 pub fn read(cuts: Cuts, ring: &[u8], list: &mut [i16]) -> Factored
     ensures { λ r. ⌜ FactorsRead (now (ring .entry)) (cuts .at) (now (list .entry)) (now (list .exit)) r ⌝ }
 {

@@ -1,4 +1,4 @@
--- The letters copied from W's place on, forward or backward, are the border, so what is said of them is said of it.
+-- The letters copied from W's place on, forward or backward, are the border, so the verdict on the copy is the verdict on the border.
 use Prim.Native.Nat.{ℕ, _-_, _*_, _≤_, _<_}
 use native.Mathlib.Decide.{decLt}
 use native.Mathlib.Omega.{arith}
@@ -38,7 +38,8 @@ use Rattle.judge.specs.parts.Round.{RoundOf}
 use Rattle.judge.specs.Judged.{Said, SaidOfRound, SaidOfBorder, zeros, judgedOf}
 use Rattle.judge.proofs.PieceLaws.{from-west, said-refused}
 
--- What the code knows when the letters are copied: the corners, the way that the letters are read and the cut places, W's place v in what is read, and the buffer
+-- What the code knows once the letters are copied: the corners, which way they are read, the cut places, W's place v in the clockwise form,
+-- the buffer
 pub record Copied (o : Outline) (f : Corners) (cuts : Cuts) (v : ℕ) (buffer : List ℕ) : Type 0 where
   pub simple : Simple o
   pub corners : f ≡ cornersOf o
@@ -74,7 +75,7 @@ module _ {o : Outline} {f : Corners} {cuts : Cuts} {v : ℕ} {buffer : List ℕ}
   unfolding westPlace cornersOf
   corner-is = ap (λ (c : Corners). c .corner) (h .corners)
 
-  -- The rows of S and N, as the border is read
+  -- The rows of S and N are those of the border
   bottom-is : f .bottom ≡ cornerAt (border o) (cornerPlace (border o) 3) .row
   unfolding cornersOf
   bottom-is = ap (λ (c : Corners). c .bottom) (h .corners) ∙ ap (λ (q : Point). q .row) (sym (corner-form o (h .simple) 3))
@@ -86,7 +87,7 @@ module _ {o : Outline} {f : Corners} {cuts : Cuts} {v : ℕ} {buffer : List ℕ}
   way-is : forward ≡ clockwise (fromW o)
   way-is = h .cuts-of .way
 
-  -- W's letter stands at v in the reading
+  -- W's letter stands at v in the clockwise form
   place-is : v ≡ westPlace (clockwiseForm o)
   unfolding readPlace
   place-is = go forward way-is (h .place)
@@ -154,7 +155,7 @@ module _ {o : Outline} {f : Corners} {cuts : Cuts} {v : ℕ} {buffer : List ℕ}
 
 -- ---- the judgement
 
--- All that is said of an outline and lent
+-- The verdict on an outline and its edges
 abbrev SaidOf : Outline → List ℤ → List ℤ → Verdict → Type 0
 SaidOf o = Said (verdictOf o) (edges (border o))
 
@@ -171,7 +172,7 @@ module _ (o : Outline) where
   unfolding edgesAfter testOf
   said-edges e = e .buffer
 
-  -- A list of zeros has room for all edges that there can be
+  -- A list of zeros has room for the edges of every outline
   zeros-room : (v : Verdict) → verdictOf o ≡ v → withRoom (length zeros) v ≡ v
   unfolding withRoom
   zeros-room (Refused f) e = refl

@@ -1,4 +1,5 @@
--- One law for each of the refusals 8 and 9 and one for an outline taken: the definition is a list of tests, and the first that holds decides.
+-- One law for each of the refusals 8 and 9 and one for an outline taken: the definition is a list of tests, and the first that holds
+-- decides.
 use Prim.Native.Nat.{ℕ, _+_, _*_, _≤_, _<_}
 use native.Mathlib.Numerals.{add-one}
 use native.Mathlib.Decide.{decLe}
@@ -25,7 +26,7 @@ use Rattle.lattice.proofs.WalkLaws.{walked, simple-of-walked}
 use Rattle.rows.specs.Search.{foundCell}
 use Rattle.rows.proofs.RowLaws.{found-missing}
 use Rattle.convexity.specs.Frame.{frameOf, along}
-use Rattle.convexity.specs.Cut.{cornerPlace, fromW, clockwise}
+use Rattle.convexity.specs.Cut.{cornerPlace, clockwise}
 use Rattle.convexity.specs.Clockwise.{clockwiseForm, border, sentFrom}
 use Rattle.convexity.specs.Pieces.{rounds, backStepPiece, dentPiece, edges, edgeCount}
 use Rattle.convexity.specs.Shape.{NoBackStep}
@@ -45,7 +46,7 @@ use Rattle.pieces.proofs.LaidLaws.{length-rounds}
 use Rattle.pieces.proofs.LaidLaws.{laid-round, laid-once}
 use Rattle.judge.specs.Judged.{Written, Said, SaidOfRound, zeros}
 
--- ---- the turn
+-- ---- the border
 
 pub from-west : (o : Outline) → Simple o → FromWest (border o)
 from-west o h =
@@ -68,14 +69,14 @@ module _ {o : Outline} (h : FromWest o) where
   top-le-side : cornerAt o (cornerPlace o 1) .row ≤ side
   top-le-side = round-walked .row-le (cornerPlace o 1) (omega (arith, round-walked .long, cornerPlace-lt o 1 (omega (arith, round-walked .long))))
 
-  -- A place from W on, as a place of the list as sent
+  -- A letter of the border as a place of the list as sent
   place-sent : {forward : Bool} {v i r : ℕ} → v < size o → i ≤ 4 * longest → SentTo forward (size o) v i r → r ≡ sentFrom forward (size o) v i
   place-sent l k e = e .place (omega (arith, round-walked .long)) (omega (arith, round-walked .short)) l k
 
 -- ---- the cell of a dent
 
 module _ {t : Round} {o : Outline} (h : RoundOf t o) where
-  -- The cell that the search names, between the rows of S and N
+  -- The cell that the search finds between the rows of S and N
   cell-found : {cell : Point} → cell ≡ foundCell o (t .bottom) (t .top) → cell ≡ cellFound o
   unfolding cellFound
   cell-found f =
@@ -90,12 +91,12 @@ module _ {t : Round} {o : Outline} (h : RoundOf t o) where
 
 -- ---- the answers
 
--- A refusal leaves the lent list as it was
+-- A refusal leaves the buffer as it was
 pub said-refused : {v : Verdict} (es before : List ℤ) {f : Refusal} → Refused f ≡ v → Said v es before before (Refused f)
 unfolding withRoom bufferAfter
 said-refused es before e = record { verdict = e; buffer = rw (sym e) refl }
 
--- A taken outline's edges are lent where there is room for them
+-- The edges of a taken outline are written if there is room for them
 said-taken : {v : Verdict} {es before after : List ℤ} {n : ℕ} {a : Point} → Taken n a ≡ v → length es ≡ 2 * n → Written es (2 * n) before after → Said v es before after (Taken n a)
 unfolding withRoom bufferAfter
 said-taken {v} {es} {before} {after} {n} {a} e size l =
@@ -130,7 +131,7 @@ module _ (forward : Bool) (v : ℕ) (o : Outline) where
     unfolding roundVerdict
     round-taken c = rw (b, c)
 
--- ---- what is said of the turn
+-- ---- the verdict on the border
 
 module _ {t : Round} {o : Outline} (h : RoundOf t o) where
   pub short : size o ≤ longest
@@ -151,7 +152,7 @@ module _ {t : Round} {o : Outline} (h : RoundOf t o) where
     clear : NoBackStep o
     clear = round-clear (h .walk) (h .clockwise) b
 
-    -- The pieces go once round
+    -- The four pieces together are the border once
     laid : Laid o (t .cuts .at) (o .letters)
     laid = laid-once (h .places) (shape o clear .round)
 

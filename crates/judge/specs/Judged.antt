@@ -1,4 +1,4 @@
--- What is said of an outline, and what a lent list gets; and the two as one value, with a list of zeros lent.
+-- The verdict on an outline and what becomes of the buffer; and both as one value, with a buffer of zeros.
 use Prim.Native.Nat.{ℕ, _≤_, _<_}
 use mathlib.Core.Path.{_≡_}
 use mathlib.Core.Bool.{Bool}
@@ -14,27 +14,27 @@ use Rattle.convexity.specs.Pieces.{edges}
 use Rattle.verdict.specs.Verdict.{roundVerdict, borderVerdict, verdictOf, withRoom, bufferAfter}
 use Rattle.judge.specs.declared.Judged.{Judged}
 
--- The numbers es, n of them, stand first in a lent list with room for them, and any other is as it was
+-- The numbers es, n of them, are written to the front of a buffer with room for them; any other buffer is as it was
 pub record Written (es : List ℤ) (n : ℕ) (before after : List ℤ) : Type 0 where
   pub room : n ≤ length before → after ≡ es ++ drop n before
   pub none : length before < n → after ≡ before
 
--- The verdict v is said, and the edges es are lent where it takes the outline and there is room
+-- The verdict is v, and the edges es are written if it takes the outline and there is room
 pub record Said (v : Verdict) (es before after : List ℤ) (r : Verdict) : Type 0 where
   pub verdict : r ≡ v
   pub buffer : after ≡ bufferAfter (withRoom (length before) v) es before
 
--- Of a turn o, read forward or backward from the list as sent, where W's letter stands at v in what is read
+-- For a border o, read forward or backward from the list as sent, where W's letter stands at v in the clockwise form
 abbrev pub SaidOfRound : Bool → ℕ → Outline → List ℤ → List ℤ → Verdict → Type 0
 SaidOfRound forward v o = Said (roundVerdict (sentFrom forward (size o) v) o) (edges o)
 
--- Of an outline that passes refusals 1 to 6
+-- For an outline that passes refusals 1 to 6
 abbrev pub SaidOfBorder : Outline → List ℤ → List ℤ → Verdict → Type 0
 SaidOfBorder o = Said (borderVerdict o) (edges (border o))
 
 abbrev pub zeros : List ℤ
 zeros = replicate mostNumbers (pos 0)
 
--- The judgement of every outline as a value
+-- Verdict and edges of every outline as one value (contract 5, 3.12)
 unfoldable pub judgedOf : Outline → Judged
 judgedOf o = record { verdict = verdictOf o; numbers = bufferAfter (verdictOf o) (edges (border o)) zeros }

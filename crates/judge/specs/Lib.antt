@@ -1,3 +1,3 @@
--- The judgement of an outline; then what the functions of src/ promise of their parts.
+-- The judgement of an outline; then what the functions of src/ promise each other.
 pub mod Judged
 pub mod parts

@@ -1,4 +1,4 @@
-// The border of an outline, cut in four and read as edges: refusals 8 and 9 behind the survey's 1 to 6.
+// The judgement of an outline: refusals 1 to 6 by the survey, then 8 and 9 on the four pieces of the border, or its edges.
 use back_steps::BackStep;
 use chart::LONGEST;
 use chart::MOST_NUMBERS;
@@ -24,7 +24,7 @@ ghost use Rattle.verdict.specs.Verdict.{verdictOf, edgesAfter};
 ghost use Rattle.judge.specs.parts.Round.{RoundOf, dentAs};
 ghost use Rattle.judge.specs.Judged.{Written, SaidOfRound, SaidOfBorder, judgedOf};
 
-// Copies the first n numbers of a list to the lent one.
+// Copies the first n numbers of a list to the front of the buffer.
 fn copy_edges(list: &[i16], n: usize, buffer: &mut [i16])
     requires { ⌜ (n ≤ length (now list)) × (n ≤ length (now buffer)) ⌝ }
     ensures { λ _. ⌜ now (buffer .exit) ≡ take n (now (list .entry)) ++ drop n (now (buffer .entry)) ⌝ }
@@ -37,7 +37,7 @@ fn copy_edges(list: &[i16], n: usize, buffer: &mut [i16])
     }
 }
 
-// Lends the first n numbers of a list where there is room for them.
+// The same if the buffer has room for them. Otherwise it is left alone.
 fn write_edges(list: &[i16], n: usize, buffer: &mut [i16])
     requires { ⌜ n ≤ length (now list) ⌝ }
     ensures { λ _. ⌜ Written (take n (now (list .entry))) n (now (buffer .entry)) (now (buffer .exit)) ⌝ }
@@ -47,7 +47,8 @@ fn write_edges(list: &[i16], n: usize, buffer: &mut [i16])
     }
 }
 
-// A border: which way its letters are read and its cut places, the place of W's letter in what is read, the corner W, and the rows of S and N.
+// A border: which way the outline is read and the cut places, the place of W's letter in the clockwise form, the corner W, the rows of S
+// and N.
 struct Round {
     cuts: Cuts,
     place: usize,
@@ -56,7 +57,7 @@ struct Round {
     top: u16,
 }
 
-// 9: the dent of `length` letters that stands `at` letters from W on in a piece, counted from 0.
+// Refusal 9, for a dent of `length` letters that begins at letter `at` of the border, in a piece counted from 0.
 fn dent(round: Round, letters: &[u8], piece: usize, at: usize, length: usize) -> Refusal
     requires { ⌜ RoundOf round (outline (round .west) (now letters)) ⌝ }
     requires { ⌜ (piece < 4) × (at ≤ 4 * longest) × (length ≤ 4 * longest) ⌝ }
@@ -71,7 +72,7 @@ fn dent(round: Round, letters: &[u8], piece: usize, at: usize, length: usize) ->
     }
 }
 
-// 9, of a turn without back-steps, or the edges.
+// Refusal 9 or the edges, for a border without back-steps.
 fn edges(round: Round, letters: &[u8], buffer: &mut [i16]) -> Verdict
     requires { ⌜ RoundOf round (outline (round .west) (now letters)) ⌝ }
     requires { ⌜ ltb (backStepPiece (outline (round .west) (now letters))) 4 ≡ false ⌝ }
@@ -94,7 +95,7 @@ fn edges(round: Round, letters: &[u8], buffer: &mut [i16]) -> Verdict
     }
 }
 
-// 8 and 9, of a clockwise turn, or the edges.
+// Refusals 8 and 9 or the edges, for a border.
 fn pieces(round: Round, letters: &[u8], buffer: &mut [i16]) -> Verdict
     requires { ⌜ RoundOf round (outline (round .west) (now letters)) ⌝ }
     ensures { λ r. ⌜ SaidOfRound (round .cuts .forward) (round .place) (outline (round .west) (now (letters .entry))) (now (buffer .entry)) (now (buffer .exit)) r ⌝ }
@@ -112,7 +113,7 @@ fn pieces(round: Round, letters: &[u8], buffer: &mut [i16]) -> Verdict
     }
 }
 
-// 8 and 9, of an outline that passes 1 to 6, with its corners, or the edges: its letters are read once round from W on into a buffer, clockwise.
+// The same for an outline that passes refusals 1 to 6, with its corners. Its border is copied first.
 fn read(start: Point, letters: &[u8], found: Corners, buffer: &mut [i16]) -> Verdict
     requires { ⌜ Simple (outline start (now letters)) ⌝ }
     requires { ⌜ found ≡ cornersOf (outline start (now letters)) ⌝ }
@@ -135,8 +136,9 @@ fn read(start: Point, letters: &[u8], found: Corners, buffer: &mut [i16]) -> Ver
     pieces(round, &ring[..count], buffer)
 }
 
-// The first of refusals 1 to 9 that applies, or the edges (contract 5 and 3.12), which stand first in a lent list with room for them. The list is
-// unaltered where there is none, and where the outline is refused.
+// The first of refusals 1 to 9 that applies, or the edges (contract 5 and 3.12), which are written to the front of the buffer. The buffer
+// is left
+// alone if it has no room for them, and if the outline is refused.
 pub fn judge(start: Point, letters: &[u8], buffer: &mut [i16]) -> Verdict
     ensures { λ r. ⌜ r ≡ verdictOf (outline start (now (letters .entry))) ⌝ }
     ensures { λ r. ⌜ now (buffer .exit) ≡ edgesAfter (outline start (now (letters .entry))) (now (buffer .entry)) ⌝ }
@@ -148,7 +150,7 @@ pub fn judge(start: Point, letters: &[u8], buffer: &mut [i16]) -> Verdict
     }
 }
 
-// The judgement alone, where no edges are asked for.
+// The verdict alone.
 pub fn verdict_of(start: Point, letters: &[u8]) -> Verdict
     ensures { λ r. ⌜ r ≡ verdictOf (outline start (now (letters .entry))) ⌝ }
 {
@@ -162,13 +164,13 @@ pub fn verdict_of(start: Point, letters: &[u8]) -> Verdict
     }
 }
 
-// What is said of an outline by refusals 1 to 9, and its edges, two numbers an edge and then zeros: all zeros where it is refused.
+// The verdict, and the edges, two numbers each, with zeros after them. They are all zeros if the outline is refused.
 pub struct Judged {
     pub verdict: Verdict,
     pub numbers: [i16; MOST_NUMBERS],
 }
 
-// The judgement as a value.
+// Verdict and edges as one value.
 pub fn judgement(start: Point, letters: &[u8]) -> Judged
     ensures { λ r. ⌜ r ≡ judgedOf (outline start (now (letters .entry))) ⌝ }
 {

@@ -1,4 +1,4 @@
--- The cut places rise, so each piece is the part between two of them, of any list that begins as the border read round and round.
+-- The cut places rise, so each piece is the part between two of them, of any list that begins as the border read cyclically.
 use Prim.Native.Nat.{ℕ, zero, suc, _+_, _-_, _*_, _≤_, _<_}
 use native.Mathlib.Nat.{zero-add, suc-add}
 use native.Mathlib.Omega.{arith}
@@ -43,7 +43,7 @@ module _ {o : Outline} {at buffer : List ℕ} (h : Laid o at buffer) where
   pub laid-within : (k : ℕ) → k ≤ 4 → getD at k 0 ≤ length buffer
   laid-within k l = omega (arith, h .places k l, cut-le-cut o k 4 l, h .within)
 
-  -- Between its cut places in the buffer stands the piece
+  -- The part of the buffer between its cut places is the piece
   pub laid-piece : (k : ℕ) → k < 4 → take (getD at (suc k) 0 - getD at k 0) (drop (getD at k 0) buffer) ≡ piece o k
   unfolding piece
   laid-piece k l =
@@ -56,10 +56,10 @@ module _ {o : Outline} {at buffer : List ℕ} (h : Laid o at buffer) where
       ∙ ap (λ (u : List ℕ). take (cut o (suc k) - cut o k) (drop (cut o k) u)) (h .letters)
       ∙ part-of-take (cut o k) (cut o (suc k)) (cut o 4) (rounds (o .letters)) m n)
 
--- Read round and round, the letters of a turn hold its pieces
+-- The border read four times round has all its pieces
 pub laid-round : {o : Outline} {at : List ℕ} → ((k : ℕ) → k ≤ 4 → getD at k 0 ≡ cut o k) → Laid o at (rounds (o .letters))
 laid-round {o} places = record { places = places; within = omega (arith, length-rounds (o .letters), cut-le o 4); letters = refl }
 
--- Read once, where they go once round
+-- Read once, if the pieces go round once
 pub laid-once : {o : Outline} {at : List ℕ} → ((k : ℕ) → k ≤ 4 → getD at k 0 ≡ cut o k) → cut o 4 ≡ size o → Laid o at (o .letters)
 laid-once {o} places round = record { places = places; within = omega arith; letters = sym (take-rounds (o .letters) (cut o 4) (omega arith)) }

@@ -1,4 +1,5 @@
--- The search up the left and the right side of the hull finds the lowest missing cell, leftmost in its row: each side's climb stops at the first
+-- The search up the left and the right side of the hull finds the lowest missing cell, leftmost in its row: each side's climb stops at the
+-- first
 -- row with a missing cell on that side (proofs/Side.antt), and the right side is the left side's mirror image (proofs/Mirror.antt).
 use Prim.Native.Nat.{ℕ, suc, _-_, _≤_, _<_}
 use mathlib.Core.Path.{_≡_, refl, ap}

@@ -1,4 +1,5 @@
--- A point is on or right of a line up from one point to another iff a determinant of the three is not negative. The laws below are identities
+-- A point is on or right of a line up from one point to another iff a determinant of the three is not negative. The laws below are
+-- identities
 -- between such determinants, with every term on the side where it is positive.
 use Prim.Native.Nat.{ℕ, suc, _+_, _-_, _*_, _≤_, _<_}
 use mathlib.Core.Path.{_≡_, ap}
@@ -170,7 +171,8 @@ right-mean {p} {q} {x} {u} {v} {w} h k l m =
           (m .holds);
     }
 
--- Between p and q, a point right of their line and left of u in the same row is in the triangle of the three: x is y rows above p and z below q,
+-- Between p and q, a point right of their line and left of u in the same row is in the triangle of the three: x is y rows above p and z
+-- below q,
 -- g columns left of u, and w tells how far it is right of the line
 triangle-offsets :
     (p q u x : Point) (y z g w : ℕ) →

@@ -1,4 +1,5 @@
--- The ends of the rows, letter by letter: the columns kept so far and the letters that are left give the last up and the last down along each row. On
+-- The ends of the rows, letter by letter: the columns kept so far and the letters that are left give the last up and the last down along
+-- each row. On
 -- the chart these are the outline's own.
 use Prim.Native.Nat.{ℕ, zero, suc, _+_, _-_, _*_, _%_, _^_, _≤_, _<_}
 use mathlib.Core.Path.{_≡_, refl, sym, ap, _∙_}
@@ -59,7 +60,8 @@ module _ (test : ℕ → Bool) (c : ℕ) (l : List ℕ) (size : length l ≡ 256
       go r true e = absurd (none r e)
       go r false e = refl
 
--- The columns l that are kept of the letters before place i, where the walk stands at corner n, and what the letters from there on make of them
+-- The columns l that are kept of the letters before place i, where the walk stands at corner n, and what the letters from there on make of
+-- them
 pub record Kept (along : Point → ℕ → ℕ → Bool) (n₀ : ℕ) (w : List ℕ) (i n : ℕ) (l : List ℕ) : Type 0 where
   pub size : length l ≡ 256
   pub rest : (r : ℕ) → r < 256 → keptColumn along n (drop i w) r (rows l r) ≡ keptColumn along n₀ w r 0

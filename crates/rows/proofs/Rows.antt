@@ -1,4 +1,5 @@
--- A block of cells given by its rows. Its hull is all the triangles of its cells, so what holds of a triangle if it holds of the corners holds of the hull
+-- A block of cells given by its rows. Its hull is all the triangles of its cells, so what holds of a triangle if it holds of the corners
+-- holds of the hull
 -- if it holds of the cells.
 use Prim.Native.Nat.{ℕ, pred, _≤_, _<_}
 use mathlib.Core.Path.{_≡_, sym, _∙_}

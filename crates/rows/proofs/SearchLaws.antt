@@ -1,4 +1,5 @@
--- Laws of the search for the lowest missing cell: an edge of the hull's side ends in a higher row, so the climb ends, and it reads no row but those below the top.
+-- Laws of the search for the lowest missing cell: an edge of the hull's side ends in a higher row, so the climb ends, and it reads no row
+-- but those below the top.
 use Prim.Native.Nat.{ℕ, zero, suc, _+_, _-_, _*_, _/_, _≤_, _<_}
 use mathlib.Core.Path.{_≡_, refl, sym, ap, _∙_}
 use mathlib.Core.Bool.{Bool, true, false, cond}

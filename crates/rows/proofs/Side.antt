@@ -1,5 +1,7 @@
--- The climb up the left side stops at the first row with a hull cell left of it: all rows are right of the line from each row reached to the row to
--- which the line from it leans furthest left, by the choice of that row for the rows above, and for the rows below because the row reached is a
+-- The climb up the left side stops at the first row with a hull cell left of it: all rows are right of the line from each row reached to
+-- the row to
+-- which the line from it leans furthest left, by the choice of that row for the rows above, and for the rows below because the row reached
+-- is a
 -- corner; so the whole hull is right of that line, and what of a row is right of it and left of the row's first cell is in the hull.
 use Prim.Native.Nat.{ℕ, zero, suc, _+_, _-_, _*_, _/_, _≤_, _<_}
 use mathlib.Core.Path.{_≡_, refl, ap}
@@ -144,7 +146,8 @@ gapRow-gap lo i j l =
           rw e (ltb-false _ _ (first-before f (j - suc i) (s - suc i) (omega arith)));
     }
 
--- What the climb from row i finds: the first cell, in the hull and left of its row, of the first row that has any; and a cell of row t where no
+-- What the climb from row i finds: the first cell, in the hull and left of its row, of the first row that has any; and a cell of row t
+-- where no
 -- row has
 pub record Left (lo hi : ℕ → ℕ) (b t i : ℕ) (g : Point) : Type 0 where
   pub clear : (y : Point) → InHull (inRows lo hi b t) y → i ≤ y .row → y .row < g .row → lo (y .row) ≤ y .col

@@ -1,5 +1,7 @@
--- The row furthest left from row i is met on the way up from row i + 1, each row of it furthest left from the one before. While the line from row i leans
--- at least as far to the next, all rows in between are right of the line to the next; and where it leans less far, so it does to all rows above.
+-- The row furthest left from row i is met on the way up from row i + 1, each row of it furthest left from the one before. While the line
+-- from row i leans
+-- at least as far to the next, all rows in between are right of the line to the next; and where it leans less far, so it does to all rows
+-- above.
 use Prim.Native.Nat.{ℕ, zero, suc, _+_, _-_, _*_, _≤_, _<_}
 use mathlib.Core.Path.{_≡_, refl, sym, ap, _∙_}
 use mathlib.Core.Bool.{Bool, true, false, true≢false}
@@ -26,7 +28,8 @@ unfolding leans
 right-leans lo i j k l m h =
     le-leb _ _ (right-leans-offsets (begin lo i) (begin lo j) (begin lo k) (j - i) (k - i) (omega arith) (omega arith) h)
 
--- The test without a * x on both sides: the second row is x rows above the first, the third y rows above the first and z rows above the second
+-- The test without a * x on both sides: the second row is x rows above the first, the third y rows above the first and z rows above the
+-- second
 leans-offsets : (a b c x y z : ℕ) → y ≡ x + z → leb (c * x + a * z) (b * y) ≡ leb (c * x + a * y) (b * y + a * x)
 leans-offsets a b c x y z e =
     let d : a * y ≡ a * x + a * z = omega (arith, ap (λ n. a * n) e) in

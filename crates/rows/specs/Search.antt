@@ -47,7 +47,8 @@ chain lo t i (suc n) =
     let higher : Point = chain lo t j n in
     cond (leb t (suc i)) (record { col = 0; row = t }) (cond (ltb r j) (record { col = crossing lo i j r; row = r }) higher)
 
--- Of rows b to t - 1, row r from column lo r up to but not including column hi r: the lower of the gaps at the left side and at the right side,
+-- Of rows b to t - 1, row r from column lo r up to but not including column hi r: the lower of the gaps at the left side and at the right
+-- side,
 -- which is the left side's mirror image; the left one in the same row. Of a gap at the right side only the cell next to the row counts
 unfoldable pub lowestGap : (ℕ → ℕ) → (ℕ → ℕ) → ℕ → ℕ → Point
 lowestGap lo hi b t =
@@ -61,7 +62,8 @@ missingCell o b t = lowestGap (λ r. upColumn (o .start) (o .letters) r 0) (λ r
 
 -- ---- for walks of any kind
 
--- The chart's corners by number, row by row, 256 to a row; what a letter below 4 adds to the number, by sums modulo 65536. A letter that would leave the
+-- The chart's corners by number, row by row, 256 to a row; what a letter below 4 adds to the number, by sums modulo 65536. A letter that
+-- would leave the
 -- chart goes on at another of its corners
 abbrev pub numbered : Point → ℕ
 numbered p = p .row % 256 * 256 + p .col % 256
@@ -89,7 +91,8 @@ keptUp o r = keptColumn upAlong (numbered (o .start)) (o .letters) r 0
 abbrev pub keptDown : Outline → ℕ → ℕ
 keptDown o r = keptColumn downAlong (numbered (o .start)) (o .letters) r 0
 
--- The same search for every start, all letters and any two rows: the start itself where the rows are none of the chart's in their order. For an outline
+-- The same search for every start, all letters and any two rows: the start itself where the rows are none of the chart's in their order.
+-- For an outline
 -- it is the lowest missing cell (proofs/RowLaws.antt: `found-missing`)
 unfoldable pub foundCell : Outline → ℕ → ℕ → Point
 foundCell o b t = cond (ltb side t || ltb t b) (o .start) (lowestGap (keptUp o) (keptDown o) b t)

@@ -11,6 +11,17 @@ ghost use Rattle.rows.specs.Search.{furthest as furthestOf, crossing as 
 ghost use Rattle.lattice.specs.Enclosed.{upAlong, downAlong};
 ghost use Rattle.rows.specs.parts.Rows.{rows, Marked, RowEnds, Tangents};
 
+// Arrays have a number for each row of corners.
+const ROWS: usize = 256;
+
+// Corners are numbered row by row, this many to a row.
+const WIDTH: u16 = 256;
+
+// What a left and a down add to the number of a corner, modulo 65,536.
+const LEFT: u16 = 65535;
+
+const DOWN: u16 = 65535 - WIDTH + 1;
+
 // A number of 16 bits as an index.
 fn wide(x: u16) -> usize
     ensures { λ r. ⌜ (r ≡ x) × (r < 65536) ⌝ }
@@ -20,51 +31,51 @@ fn wide(x: u16) -> usize
 
 // The ends of the rows: row `r` of an outline goes from column `lo[r]` up to but not including column `hi[r]`.
 pub struct Ends {
-    pub lo: [u16; 256],
-    pub hi: [u16; 256],
+    pub lo: [u16; ROWS],
+    pub hi: [u16; ROWS],
 }
 
-// What a letter adds to the number of a corner: row by row, 256 to a row, by sums modulo 65536.
+// What a letter adds to the number of a corner.
 fn stride(letter: u8) -> u16
     ensures { λ r. ⌜ r ≡ strideOf (letter % 4) ⌝ }
 {
     match letter % 4 {
         0 => 1,
-        1 => 256,
-        2 => 65535,
-        _ => 65280,
+        1 => WIDTH,
+        2 => LEFT,
+        _ => DOWN,
     }
 }
 
-// An up along a row begins it.
-fn mark_up(lo: &mut [u16; 256], number: u16, letter: u8)
+// An up is the left end of a row.
+fn mark_up(lo: &mut [u16; ROWS], number: u16, letter: u8)
     requires { ⌜ length (now lo) ≡ 256 ⌝ }
     ensures { λ _. ⌜ Marked (upAlong (cornerNumbered number) letter) (number % 256) (now (lo .entry)) (now (lo .exit)) ⌝ }
 {
-    let row = wide(number / 256);
+    let row = wide(number / WIDTH);
     if letter == 1 {
-        lo[row] = number % 256;
+        lo[row] = number % WIDTH;
     }
 }
 
-// A down along a row ends it.
-fn mark_down(hi: &mut [u16; 256], number: u16, letter: u8)
+// A down is the right end of a row.
+fn mark_down(hi: &mut [u16; ROWS], number: u16, letter: u8)
     requires { ⌜ length (now hi) ≡ 256 ⌝ }
     ensures { λ _. ⌜ Marked (downAlong (cornerNumbered number) letter) (number % 256) (now (hi .entry)) (now (hi .exit)) ⌝ }
 {
-    let row = wide(number / 256);
+    let row = wide(number / WIDTH);
     if letter == 3 && 0 < row {
-        hi[row - 1] = number % 256;
+        hi[row - 1] = number % WIDTH;
     }
 }
 
-// The ends of the rows of an outline, by one pass over its letters. The next number is found before the marks are made, apart from their branches.
+// The ends of the rows of an outline, in one pass over its letters. The next number is computed before the branches of the marks.
 pub fn row_ends(s: Point, w: &[u8]) -> Ends
     ensures { λ r. ⌜ RowEnds (outline s (now (w .entry))) (r .lo) (r .hi) ⌝ }
 {
-    let mut lo = [0u16; 256];
-    let mut hi = [0u16; 256];
-    let mut number = s.row % 256 * 256 + s.col % 256;
+    let mut lo = [0u16; ROWS];
+    let mut hi = [0u16; ROWS];
+    let mut number = s.row % WIDTH * WIDTH + s.col % WIDTH;
     let mut i = 0;
     while i < w.len() {
         let letter = w[i];
@@ -78,14 +89,16 @@ pub fn row_ends(s: Point, w: &[u8]) -> Ends
 }
 
 // The column at which row `r` begins.
-fn begins(lo: &[u16; 256], r: usize) -> usize
+fn begins(lo: &[u16; ROWS], r: usize) -> usize
     requires { ⌜ r < 256 ⌝ }
     ensures { λ x. ⌜ (x ≡ rows (now (lo .entry)) r) × (x < 65536) ⌝ }
 {
     wide(lo[r])
 }
 
-// Seen from a row that begins at column `a`, the row `far` rows above it, which begins at `c`, is at least as far left as the row `near` rows above it, which begins at `b`.
+// Row `i` begins at column `a`. Seen from it, the row `far` rows above, which begins at `c`, is at least as far left as the row `near` rows
+// above,
+// which begins at `b`.
 fn leans(a: usize, b: usize, c: usize, near: usize, far: usize) -> bool
     requires { ⌜ (a < 65536) × (b < 65536) × (c < 65536) × (near ≤ far) × (far < 256) ⌝ }
     ensures { λ r. ⌜ r ≡ leb (c * near + a * (far - near)) (b * far) ⌝ }
@@ -93,8 +106,10 @@ fn leans(a: usize, b: usize, c: usize, near: usize, far: usize) -> bool
     c * near + a * (far - near) <= b * far
 }
 
-// Of the rows from `i + 1` to `t - 1`, the one to which the line from row `i` leans furthest left, the last among equals; `next` tells it of the rows above row `i`, and `above` of row `i + 1`.
-fn tangent(lo: &[u16; 256], next: &[u16; 256], i: usize, t: usize, above: usize) -> usize
+// Of the rows from `i + 1` to `t - 1`, the one to which the line from row `i` leans furthest left, the last among equals. `next` has it for
+// the rows
+// above row `i`, and `above` for row `i + 1`.
+fn tangent(lo: &[u16; ROWS], next: &[u16; ROWS], i: usize, t: usize, above: usize) -> usize
     requires { ⌜ (i + 1 < t) × (t ≤ side) × (above ≡ rows (now next) (suc i)) × Tangents (rows (now lo)) (rows (now next)) (suc i) t ⌝ }
     ensures { λ r. ⌜ (r ≡ furthestOf (rows (now (lo .entry))) i (suc i) (suc (suc i)) (t - suc (suc i))) × (i < r) × (r < t) ⌝ }
 {
@@ -114,12 +129,13 @@ fn tangent(lo: &[u16; 256], next: &[u16; 256], i: usize, t: usize, above: usize)
     j
 }
 
-// The same of every row from `b` on, from the top down. The row stored last stays in hand: a load of it would wait for the store.
-pub fn tangents(lo: &[u16; 256], b: usize, t: usize) -> [u16; 256]
+// The same for every row from `b` on, from the top down (monotone chain). The row stored last is kept: a load of it would wait for the
+// store.
+pub fn tangents(lo: &[u16; ROWS], b: usize, t: usize) -> [u16; ROWS]
     requires { ⌜ (b ≤ t) × (t ≤ side) ⌝ }
     ensures { λ r. ⌜ Tangents (rows (now (lo .entry))) (rows r) b t ⌝ }
 {
-    let mut next = [0u16; 256];
+    let mut next = [0u16; ROWS];
     let mut i = t;
     let mut above = 0;
     while b + 1 < i {
@@ -131,7 +147,7 @@ pub fn tangents(lo: &[u16; 256], b: usize, t: usize) -> [u16; 256]
 }
 
 // The first column of row `r` that is not left of the line from row `i` to row `j`.
-fn crossing(lo: &[u16; 256], i: usize, j: usize, r: usize) -> usize
+fn crossing(lo: &[u16; ROWS], i: usize, j: usize, r: usize) -> usize
     requires { ⌜ (i < r) × (r < j) × (j < 256) ⌝ }
     ensures { λ c. ⌜ (c ≡ crossingOf (rows (now (lo .entry))) i j r) × (c < 65536) ⌝ }
 {
@@ -141,8 +157,8 @@ fn crossing(lo: &[u16; 256], i: usize, j: usize, r: usize) -> usize
     ((j - r) * a + (r - i) * b + (height - 1)) / height
 }
 
-// Row `r` begins right of that column: as a product, with no division.
-fn is_gap(lo: &[u16; 256], i: usize, j: usize, r: usize) -> bool
+// Whether row `r` begins right of that column, without a division.
+fn is_gap(lo: &[u16; ROWS], i: usize, j: usize, r: usize) -> bool
     requires { ⌜ (i < r) × (r < j) × (j < 256) ⌝ }
     ensures { λ g. ⌜ g ≡ ltb (crossingOf (rows (now (lo .entry))) i j r) (rows (now (lo .entry)) r) ⌝ }
 {
@@ -154,7 +170,7 @@ fn is_gap(lo: &[u16; 256], i: usize, j: usize, r: usize) -> bool
 }
 
 // The first row after `i` and before `j` that begins right of that column, or `j` where there is none.
-fn gap_row(lo: &[u16; 256], i: usize, j: usize) -> usize
+fn gap_row(lo: &[u16; ROWS], i: usize, j: usize) -> usize
     requires { ⌜ (i < j) × (j < 256) ⌝ }
     ensures { λ r. ⌜ (r ≡ gapRow (rows (now (lo .entry))) i j) × (i < r) × (r ≤ j) ⌝ }
 {
@@ -168,8 +184,9 @@ fn gap_row(lo: &[u16; 256], i: usize, j: usize) -> usize
     j
 }
 
-// Up the left side of the hull from row `b`: the first column of the first row that begins right of that side, or a cell of row `t` where there is none.
-fn chain(lo: &[u16; 256], t: usize, b: usize) -> Point
+// Up the left side of the hull from row `b`: the first column of the first row that begins right of that side, or a cell of row `t` where
+// there is none.
+fn chain(lo: &[u16; ROWS], t: usize, b: usize) -> Point
     requires { ⌜ (b ≤ t) × (t ≤ side) ⌝ }
     ensures { λ r. ⌜ (r ≡ chainOf (rows (now (lo .entry))) t b (t - b)) × (r .row ≤ t) ⌝ }
 {
@@ -199,13 +216,13 @@ fn remaining(x: u16) -> u16
     if x <= SIDE { SIDE - x } else { 0 }
 }
 
-// The rows seen from the right.
-pub fn mirrored(hi: &[u16; 256]) -> [u16; 256]
+// The rows as a mirror shows them: the right ends become left ends.
+pub fn mirrored(hi: &[u16; ROWS]) -> [u16; ROWS]
     ensures { λ r. ⌜ ((k : ℕ) → k < 256 → rows r k ≡ side - rows (now (hi .entry)) k) ⌝ }
 {
-    let mut left = [0u16; 256];
+    let mut left = [0u16; ROWS];
     let mut k = 0;
-    while k < 256 {
+    while k < ROWS {
         left[k] = remaining(hi[k]);
         k += 1;
     }
@@ -232,7 +249,8 @@ fn lowest_gap(ends: Ends, b: usize, t: usize) -> Point
     }
 }
 
-// The lowest missing cell, leftmost in its row, of an outline between the corner rows `bottom` and `top`; the start where these are no rows of the chart.
+// The lowest missing cell, leftmost in its row, of an outline between the corner rows `bottom` and `top`; the start where these are no rows
+// of the chart.
 pub fn missing_cell(s: Point, w: &[u8], bottom: u16, top: u16) -> Point
     ensures { λ r. ⌜ r ≡ foundCell (outline s (now (w .entry))) bottom top ⌝ }
 {

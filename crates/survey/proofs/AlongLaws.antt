@@ -1,4 +1,4 @@
--- The walk keeps four things from letter to letter, each by its own laws: where it stands, the corners met, and of those passed the least and the greatest number of either kind.
+-- The walk keeps the current corner, the corners met, and the least and the greatest number of either kind, each by its own laws.
 use Prim.Native.Nat.{ℕ, _+_, _/_, _%_, _≤_, _<_}
 use native.Mathlib.Decide.{decLt}
 use native.Mathlib.Omega.{arith}
@@ -68,7 +68,7 @@ module _ (o : Outline) (b : Begun o) where
         pub along-leaves : offChart ((n + d) % 4294967296) ≡ true → (i < size o) × (i ≡ leavingPlace o)
         along-leaves f = (l, out-leaves o b (t .out) l e f)
 
-        -- The corner in hand is new: it was not the first of those passed
+        -- The current corner is new: it was not passed before
         module _ (h : isSet met (m / 65536) ≡ false) {g : ℕ} (k : g ≡ rowStride (letterAt o i % 4)) (f : offChart ((n + d) % 4294967296) ≡ false) where
           is-new : isSet met (rowNumber (cornerAt o i) i / 65536) ≡ false
           is-new = rw number at h

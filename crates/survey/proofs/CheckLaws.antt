@@ -1,4 +1,4 @@
--- What a search for a place keeps from letter to letter: no place passed was the one looked for; and what the count of letters is, where 1 does not apply.
+-- A search among no letters finds none; and an outline that passes refusal 1 has at most the longest count of letters.
 use Prim.Native.Nat.{ℕ, _≤_}
 use mathlib.Core.Path.{_≡_}
 use mathlib.Core.Bool.{Bool, false}

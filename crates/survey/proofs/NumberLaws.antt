@@ -1,5 +1,6 @@
--- On the chart a letter's stride leads from a corner's number to the next one's, and off it to a number that shows it. The order of the numbers, from below or from above, is that of a
--- piece's frame: the first digit decides, among equals the second, and the place only between two visits of a corner.
+-- A letter's stride leads to the number of the next corner, or to a number off the chart. Numbers are ordered as the corners are in a
+-- piece's frame:
+-- the first digit decides, then the second, and the place only between two visits of one corner.
 use Prim.Native.Nat.{ℕ, zero, suc, _+_, _-_, _/_, _%_, _≤_, _<_}
 use native.Mathlib.Decide.{decLt}
 use native.Mathlib.Omega.{arith}
@@ -22,28 +23,28 @@ module _ (p : Point) (i : ℕ) (h : OnChart p) (small : i < 1023) where
   unfolding offChart
   col-stays = rw (le-ltb 255 (colNumber p i / 1024 % 1024) (omega arith), le-ltb 255 (colNumber p i / 1048576) (omega arith))
 
+  -- What holds of each of the four letters where there is room for its step holds of every letter that stays on the chart
+  by-letter : (P : ℕ → Type 0) → (p .col < side → P 0) → (p .row < side → P 1) → (0 < p .col → P 2) → (0 < p .row → P 3)
+      → (a : ℕ) → a < 4 → leaves p a ≡ false → P a
+  unfolding leaves
+  by-letter P right up left down zero l e = right (leb-false side (p .col) e)
+  by-letter P right up left down (suc zero) l e = up (leb-false side (p .row) e)
+  by-letter P right up left down (suc (suc zero)) l e = left (omega (arith, eqb-false (p .col) 0 e))
+  by-letter P right up left down (suc (suc (suc zero))) l e = down (omega (arith, eqb-false (p .row) 0 e))
+  by-letter P right up left down (suc (suc (suc (suc a)))) l e = absurd (omega arith)
+
   module _ (a : ℕ) (l : a < 4) where
     pub col-next : leaves p a ≡ false → (colNumber p i + colStride a) % 4294967296 ≡ colNumber (step p a) (i + 1)
-    unfolding leaves step
-    col-next = go a l
-      where
-        go : (a : ℕ) → a < 4 → leaves p a ≡ false → (colNumber p i + colStride a) % 4294967296 ≡ colNumber (step p a) (i + 1)
-        go zero l e = omega (arith, leb-false side (p .col) e)
-        go (suc zero) l e = omega (arith, leb-false side (p .row) e)
-        go (suc (suc zero)) l e = omega (arith, eqb-false (p .col) 0 e)
-        go (suc (suc (suc zero))) l e = omega (arith, eqb-false (p .row) 0 e)
-        go (suc (suc (suc (suc a)))) l e = absurd (omega arith)
+    unfolding step
+    col-next =
+        by-letter (λ a. (colNumber p i + colStride a) % 4294967296 ≡ colNumber (step p a) (i + 1))
+        (λ m. omega arith) (λ m. omega arith) (λ m. omega arith) (λ m. omega arith) a l
 
     pub row-next : leaves p a ≡ false → (rowNumber p i + rowStride a) % 4294967296 ≡ rowNumber (step p a) (i + 1)
-    unfolding leaves step
-    row-next = go a l
-      where
-        go : (a : ℕ) → a < 4 → leaves p a ≡ false → (rowNumber p i + rowStride a) % 4294967296 ≡ rowNumber (step p a) (i + 1)
-        go zero l e = omega (arith, leb-false side (p .col) e)
-        go (suc zero) l e = omega (arith, leb-false side (p .row) e)
-        go (suc (suc zero)) l e = omega (arith, eqb-false (p .col) 0 e)
-        go (suc (suc (suc zero))) l e = omega (arith, eqb-false (p .row) 0 e)
-        go (suc (suc (suc (suc a)))) l e = absurd (omega arith)
+    unfolding step
+    row-next =
+        by-letter (λ a. (rowNumber p i + rowStride a) % 4294967296 ≡ rowNumber (step p a) (i + 1))
+        (λ m. omega arith) (λ m. omega arith) (λ m. omega arith) (λ m. omega arith) a l
 
 -- A number above 255 in its row, or in its column
 off-row : (n : ℕ) → 255 < n / 1024 % 1024 → offChart n ≡ true

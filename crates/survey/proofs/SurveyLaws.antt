@@ -1,4 +1,5 @@
--- One law for each of the refusals 1 to 6, and one for an outline that passes them: the definition is a list of tests, and the first that holds decides.
+-- One law for each of the refusals 1 to 6, and one for an outline that passes them: the definition is a list of tests, and the first that
+-- holds decides.
 use Prim.Native.Nat.{ℕ, _+_, _-_, _*_, _/_, _≤_, _<_}
 use native.Mathlib.Omega.{arith}
 use mathlib.Core.Path.{_≡_, refl, sym, ap, _∙_}

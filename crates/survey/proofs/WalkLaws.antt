@@ -1,4 +1,5 @@
--- While no letter leaves the chart, the numbers in hand are those of the corner reached; the first letter that does leads to a number off the chart.
+-- While no letter leaves the chart, the numbers are those of the current corner; the first letter that leaves it leads to a number off the
+-- chart.
 use Prim.Native.Nat.{ℕ, zero, suc, _+_, _*_, _/_, _%_, _≤_, _<_}
 use native.Mathlib.Numerals.{add-one}
 use native.Mathlib.Omega.{arith}

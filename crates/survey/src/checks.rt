@@ -1,4 +1,4 @@
-// One check for each of the refusals 1 to 3. A place that is not found is the count of what was searched.
+// Refusals 1 to 3, one check each. If nothing is found, the place is the count of letters.
 use chart::LONGEST;
 use chart::Point;
 use chart::SHORTEST;
@@ -22,7 +22,7 @@ pub fn bad_start(s: Point) -> bool
     SIDE < s.col || SIDE < s.row
 }
 
-// Whether some letter is above 3: all are looked at, so that many are at once.
+// Whether some letter is above 3. The loop reads every letter, so that it is vectorised.
 fn some_above(w: &[u8]) -> bool
     ensures { λ r. ⌜ (r ≡ false → letterPlace (now (w .entry)) ≡ length (now (w .entry))) ⌝ }
 {

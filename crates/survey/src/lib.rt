@@ -21,13 +21,13 @@ pub struct Corners {
     pub top: u16,
 }
 
-// What refusals 1 to 6 say.
+// The result of refusals 1 to 6.
 pub enum Surveyed {
     Passed(Corners),
     Refused(Refusal),
 }
 
-// The first of 4, 5 and 6, of a walk that met a corner.
+// The first of refusals 4, 5 and 6, for a walk that met one of its corners again.
 fn touched(start: Point, letters: &[u8], place: usize, number: u32) -> Surveyed
     requires { ⌜ Begun (outline start (now letters)) × MetAt (outline start (now letters)) place number ⌝ }
     ensures { λ r. ⌜ r ≡ surveyOf (outline start (now (letters .entry))) ⌝ }
@@ -47,7 +47,7 @@ fn touched(start: Point, letters: &[u8], place: usize, number: u32) -> Surveyed
     })
 }
 
-// 4, 5 and 6, where 1, 2 and 3 do not apply, and the corners, by a walk that marks every corner.
+// Refusals 4, 5 and 6 and the corners, if 1, 2 and 3 do not apply, by a walk that marks every corner.
 fn marked(start: Point, letters: &[u8]) -> Surveyed
     requires { ⌜ Begun (outline start (now letters)) ⌝ }
     ensures { λ r. ⌜ r ≡ surveyOf (outline start (now (letters .entry))) ⌝ }
@@ -67,7 +67,7 @@ fn marked(start: Point, letters: &[u8]) -> Surveyed
     }
 }
 
-// The same. Letters that seem not to close are walked without marks first: for 4 and 5 that is enough.
+// The same. If the steps do not add up to zero, a walk without marks comes first: it finds refusal 4 or 5.
 fn walked(start: Point, letters: &[u8]) -> Surveyed
     requires { ⌜ Begun (outline start (now letters)) ⌝ }
     ensures { λ r. ⌜ r ≡ surveyOf (outline start (now (letters .entry))) ⌝ }

@@ -1,5 +1,6 @@
-// One walk along the letters as sent, for refusals 4, 5 and 6 and for W, N, E and S. The corner in hand is two numbers with its place in them; the corners met are a set of
-// numbers, and of those passed the least and the greatest number of either kind are kept.
+// One walk along the letters as sent, for refusals 4, 5 and 6 and for W, N, E and S. The current corner is two numbers, by columns and by
+// rows,
+// with its place in both. The corners met are a set of numbers. The least and the greatest number of either kind are kept.
 use crate::Corners;
 use chart::Point;
 use chart::SIDE;
@@ -59,7 +60,7 @@ fn row_number(p: Point) -> u32
     ((SIDE - p.row) as u32) * LEVEL_UNIT + (p.col as u32) * CORNER_UNIT
 }
 
-// What a letter adds to either.
+// What a letter adds to them.
 fn col_stride(letter: u8) -> u32
     ensures { λ r. ⌜ r ≡ colStride (letter % 4) ⌝ }
 {
@@ -82,7 +83,7 @@ fn row_stride(letter: u8) -> u32
     }
 }
 
-// Off the chart the row or the column is above 255, also below 0.
+// Off the chart the row or the column is above 255; one below 0 wraps.
 fn is_off_chart(number: u32) -> bool
     ensures { λ r. ⌜ r ≡ offChart number ⌝ }
 {
@@ -126,11 +127,11 @@ pub(crate) enum Walk {
     Leaves { place: usize },
     // The corner at this place, with this number, was met before: the rest is not walked.
     Meets { place: usize, number: u32 },
-    // All letters are walked, and lead to the corner with this number.
+    // No corner was met again. The walk ends at the corner with this number.
     Round { end: u32, corners: Corners },
 }
 
-// 4, 5 and 6, and the corners, where 1, 2 and 3 do not apply.
+// Refusals 4 and 6, the end of the walk for 5, and the corners, if 1, 2 and 3 do not apply.
 pub(crate) fn along(s: Point, w: &[u8]) -> Walk
     requires { ⌜ Begun (outline s (now w)) ⌝ }
     ensures { λ r. ⌜ WalkedAs (outline s (now (w .entry))) r ⌝ }
@@ -168,13 +169,13 @@ pub(crate) fn along(s: Point, w: &[u8]) -> Walk
     }
 }
 
-// The place of the first letter that leaves the chart, and the number of the corner reached where none does.
+// The place of the first letter that leaves the chart, or the count of letters; and then the number of the last corner.
 pub(crate) struct Rest {
     pub(crate) leaves: usize,
     pub(crate) end: u32,
 }
 
-// 4, and what 5 has to know, of a walk that met a corner: from the corner at a place on, with its number.
+// Refusal 4 and the end of the walk, without marks, from the corner at a place on, with its number.
 pub(crate) fn walk_on(w: &[u8], from: usize, number: u32) -> Rest
     ensures { λ r. ⌜ ((s : Point) → Begun (outline s (now (w .entry))) → Out (outline s (now (w .entry))) from number → RestOf (outline s (now (w .entry))) r) ⌝ }
 {
@@ -224,8 +225,8 @@ fn row_step(letter: u8) -> u8 {
     }
 }
 
-// Whether the steps of the letters do not add up to zero, modulo 256. It promises nothing: the answer only decides which walk is tried first.
-// All letters are looked at, in a loop that is vectorised.
+// Whether the steps of the letters do not add up to zero, modulo 256. This is a hint: it only decides which walk comes first, so nothing is
+// promised. The loop is vectorised.
 pub(crate) fn seems_open(w: &[u8]) -> bool {
     let mut cols = 0u8;
     let mut rows = 0u8;

@@ -51,7 +51,7 @@ returns c =
     (λ rises within.
     ⊎-elim (λ w. omega (arith, w .taken)) (λ w. omega (arith, ltb-true (4 * length (a .letters .now)) (getD (a .cuts .at) (k + 1) 0) (w .1 .taken))) (c .if1 .came))
 
--- Past the guard a piece lies in the letters read round and round
+-- After the test the piece lies in the letters read cyclically
 module _ (c : tie.Else2 Inv-loop μ-loop) where
   abbrev k : ℕ
   k = c .before .before .before .loop .k

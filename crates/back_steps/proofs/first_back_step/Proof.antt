@@ -35,7 +35,7 @@ add-letter-round c = let h = c .before .before .before .before .pre in omega (ar
 letter-round-requires : tie.Need-letter-round-requires Inv-loop μ-loop
 letter-round-requires c κs = let h = c .before .before .before .before .pre in (h .short, omega (arith, h .round, h .rises, c .loop-test .taken))
 
--- The letter read is the piece's
+-- The letter read is a letter of the piece
 module _ (c : tie.After-letter-round Inv-loop μ-loop) where
   abbrev iteration : tie.In-loop Inv-loop μ-loop
   iteration = c .before

@@ -1,4 +1,4 @@
--- Each round read on is one round back: a law for each of the four.
+-- A letter read cyclically is the one a round before: one law for each of the four rounds.
 use borrow.Author.Needs.{needs}
 use Rattle.back_steps.proofs.BackStepLaws.{letter-once, letter-twice, letter-thrice, letter-fourth}
 use Rattle.back_steps.proofs.letter_round.Statement.{statement}

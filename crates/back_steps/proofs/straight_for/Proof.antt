@@ -1,4 +1,4 @@
--- Where no letter is a back-step all are passed, and else the search tells.
+-- Without a back-step the count is the piece's length; with one the search finds it.
 use mathlib.Core.Path.{sym, ap, _∙_}
 use lib.ListN.{length}
 use borrow.Author.Needs.{needs}

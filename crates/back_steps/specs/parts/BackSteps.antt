@@ -1,4 +1,4 @@
--- What the search for the first back-step promises, for every turn whose pieces lie in the buffer between the cut places.
+-- What the search for the first back-step promises, for every border whose pieces lie in the buffer between the cut places.
 use Prim.Native.Nat.{ℕ, _+_, _-_, _*_, _≤_, _<_}
 use mathlib.Core.Path.{_≡_}
 use mathlib.Core.List.{List}
@@ -17,17 +17,17 @@ use Rattle.pieces.specs.parts.Pieces.{Laid}
 abbrev pub part : ℕ → ℕ → List ℕ → List ℕ
 part from to letters = take (to - from) (drop from letters)
 
--- How many letters of piece k stand before its first back-step
+-- How many letters of piece k come before its first back-step (contract 3.5)
 abbrev pub straightFor : ℕ → List ℕ → ℕ
 straightFor k piece = first (λ i. isBackStep (frameOf k) (getD piece i 0)) (length piece)
 
--- Two places of letters read four times round, of which there are not too many
+-- Two places of the letters read four times round; there are at most as many letters as an outline has
 pub record Within (from to : ℕ) (letters : List ℕ) : Type 0 where
   pub short : length letters ≤ longest
   pub rises : from ≤ to
   pub round : to ≤ 4 * length letters
 
--- The first back-step stands in piece k, i letters from W on
+-- The first back-step is in piece k, at letter i of the border
 pub record StepIs (o : Outline) (k i : ℕ) : Type 0 where
   pub piece : k ≡ backStepPiece o
   pub at : i ≡ cut o k + backStepAt o k

@@ -1,4 +1,4 @@
--- After i turns the first i letters of the list stand in the buffer.
+-- After i rounds of the loop the first i letters of the list are in the buffer.
 use Prim.Native.Nat.{_-_}
 use native.Mathlib.Omega.{arith}
 use mathlib.Core.Path.{refl}

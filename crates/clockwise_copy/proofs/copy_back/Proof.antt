@@ -1,4 +1,4 @@
--- After i turns the first i letters of the walk backward stand in the buffer.
+-- After i rounds of the loop the first i letters of the walk backward are in the buffer.
 use Prim.Native.Nat.{ℕ, suc, _+_, _-_, _≤_}
 use native.Mathlib.Omega.{arith}
 use mathlib.Core.Path.{_≡_, sym, ap, _∙_}

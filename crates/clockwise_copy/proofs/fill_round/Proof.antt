@@ -14,7 +14,7 @@ returns : tie.Need-returns
 returns c =
     let a = c .before .before .before .args in λ k short. absurd (⊎-elim (λ w. omega (arith, w .taken)) (λ w. omega (arith, ltb-true (length (a .w .now)) (a .from) (w .1 .taken))) (c .if1 .came))
 
--- Past the test the place is one of the list's, and there is room
+-- After the test the place is one of the list, and there is room
 from-le : (c : tie.Else2) → c .before .before .before .before .args .from ≤ length (c .before .before .before .before .args .w .now)
 from-le c = let a = c .before .before .before .before .args in ltb-false (length (a .w .now)) (a .from) (c .if2 .left)
 

@@ -1,4 +1,4 @@
--- Within the list's length the place is a remainder, and backward as far from the other end; else 0, of which nothing is promised but that it is a place.
+-- The place is a remainder by the count, and backward as far from the other end; for other numbers it is 0, which is below the bound.
 use Prim.Native.Nat.{_+_, _*_}
 use native.Mathlib.Nat.{mod-lt}
 use native.Mathlib.Omega.{arith}

@@ -21,7 +21,7 @@ Turned forward w from before after = from ≤ length w → length w ≤ length b
 unfoldable pub readPlace : Bool → ℕ → ℕ → ℕ
 readPlace forward n w = cond forward w (cond (eqb w 0) 0 (n - w))
 
--- r is letter i of the border as a place of the list as sent, for the numbers that an outline can have; any other r is still below the longest count
+-- r is letter i of the border as a place of the list as sent, for numbers that an outline can have; for others it is only below the bound
 pub record SentTo (forward : Bool) (n w i r : ℕ) : Type 0 where
   pub within : r < longest
   pub place : 0 < n → n ≤ longest → w < n → i ≤ 4 * longest → r ≡ sentFrom forward n w i

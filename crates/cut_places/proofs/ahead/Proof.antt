@@ -1,7 +1,8 @@
--- On the way past the end, n - a + b is b + n - a.
+-- A place before a is reached past the end of the list, n - a letters on and b more.
 use mathlib.Core.Path.{sym}
 use borrow.Author.Needs.{needs}
-use Rattle.cut_places.proofs.CutLaws.{ahead-on, ahead-round}
+use Rattle.convexity.proofs.Cuts.{ahead-on}
+use Rattle.cut_places.proofs.CutLaws.{ahead-round}
 use Rattle.cut_places.proofs.ahead.Statement.{statement}
 use Rattle.cut_places.proofs.ahead.Tie as tie
 

@@ -16,14 +16,14 @@ use Rattle.cut_places.proofs.cut_places.Tie as tie
 are-below-requires : tie.Need-are-below-requires
 are-below-requires c κs = search needs
 
--- Too many letters, or a place that is none of the list
+-- Too many letters, or a place past the end of the list
 returns : tie.Need-returns
 returns c =
     ⊎-elim (λ w. sym (cuts-long _ _ (omega (arith, w .taken))))
     (λ w. sym (cuts-off _ _ (sym (w .1 .ensures) ∙ not-true _ (w .2 .taken))))
     (c .if1 .came)
 
--- Past them the four places stand in the list, which is not too long
+-- After these tests the four are places of a list that is not too long
 places : (c : tie.Else2) → Places (length (c .before .before .before .before .args .letters .now)) (c .before .before .before .before .args .found)
 places c = below-places _ _ (sym (c .before .are-below .ensures) ∙ not-false _ (c .if2 .left))
 
@@ -39,7 +39,7 @@ place-read-requires-2 c κs = let p = places (c .before .before) in (omega (arit
 place-read-requires-3 : tie.Need-place-read-requires-3
 place-read-requires-3 c κs = let p = places (c .before .before .before) in (omega (arith, p .west), omega (arith, p .south))
 
--- So do the three places that are read
+-- So are the three places in the clockwise form
 within : (c : tie.After-place-read3)
     → let n = length (c .before .before .before .before .before .before .before .before .args .letters .now) in
     (c .before .before .place-read .result ≤ n) × (c .before .place-read2 .result ≤ n) × (c .place-read3 .result ≤ n) × (n ≤ longest)

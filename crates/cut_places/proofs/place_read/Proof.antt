@@ -1,4 +1,4 @@
--- Either way it is the definition's distance.
+-- Forward the way leads from W on to the place; backward it leads from the place on to W.
 use borrow.Author.Needs.{needs}
 use Rattle.cut_places.specs.parts.Cuts.{placeRead}
 use Rattle.cut_places.proofs.place_read.Statement.{statement}

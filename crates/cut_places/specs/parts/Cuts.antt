@@ -12,7 +12,7 @@ use Rattle.convexity.specs.Clockwise.{border}
 use Rattle.survey.specs.declared.Corners.{Corners}
 use Rattle.cut_places.specs.declared.Cuts.{Cuts}
 
--- All four places stand in a list of n letters
+-- All four are places of a list of n letters
 abbrev pub areBelow : ℕ → Corners → Bool
 areBelow n f = ltb (f .west) n && (ltb (f .north) n && (ltb (f .east) n && ltb (f .south) n))
 
@@ -24,8 +24,9 @@ isForward w f = eqb (getD w (f .west) 0) 1
 unfoldable pub placeRead : Bool → ℕ → ℕ → ℕ → ℕ
 placeRead forward n w p = cond forward (ahead n w p) (ahead n p w)
 
--- The five cut places of n letters from W on, by the places of N, E and S in them: each lies as far on from the one before it as its
--- corner does
+-- The five cut places of n letters from W on, by the places of N, E and S in them (contract 3.3): each is the one before it, and how far
+-- the
+-- next corner is ahead
 unfoldable pub cutsAlong : ℕ → ℕ → ℕ → ℕ → List ℕ
 cutsAlong n north east south =
     let first = ahead n 0 north in
@@ -33,8 +34,9 @@ cutsAlong n north east south =
     let third = second + ahead n east south in
     0 ∷ first ∷ second ∷ third ∷ (third + ahead n south 0) ∷ []
 
--- The answer for every list of letters and any four places: zeros where there are more letters than an outline has, or a place is none of
--- the list. Of an outline past 1 to 6 and its own corners it is `CutsOf` (proofs/ReadLaws.antt: `cuts-of`)
+-- The result for every list of letters and any four places: zeros if there are more letters than an outline has, or a place is past the
+-- end.
+-- For an outline that passes 1 to 6 and its own corners it is `CutsOf` (proofs/ReadLaws.antt: `cuts-of`)
 unfoldable pub cutPlacesOf : List ℕ → Corners → Cuts
 cutPlacesOf w f =
     let n = length w in

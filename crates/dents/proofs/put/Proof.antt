@@ -1,4 +1,4 @@
--- Two stores behind the edges, where the list's half is longer than their count.
+-- With room for one more edge the two stores come right after the others; without it nothing is stored.
 use native.Mathlib.Omega.{arith}
 use lib.ListN.{length-set}
 use mir.Syntax.{w16}

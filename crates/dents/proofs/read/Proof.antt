@@ -1,4 +1,4 @@
--- No piece passed has a dent, its edges stand behind those before it, and the search stops at the first dent.
+-- No piece passed has a dent, their edges are in the list in order, and the search stops at the first dent.
 use Prim.Native.Nat.{ℕ, _+_, _-_}
 use native.Mathlib.Omega.{arith}
 use mathlib.Core.Path.{_≡_, refl, sym, _∙_}

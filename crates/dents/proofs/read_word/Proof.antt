@@ -1,4 +1,4 @@
--- Each turn passes over one factor that is a Christoffel word and puts its edge behind the others.
+-- Each round of the loop passes one factor that is a Christoffel word and writes its edge after the others.
 use Prim.Native.Nat.{_-_, _*_, _≤_}
 use mir.Syntax.{w16}
 use mir.ValLaws.{toZ-ofZ}

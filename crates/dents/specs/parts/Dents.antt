@@ -1,4 +1,4 @@
--- What the reading of factors as edges promises, over the definitions of the crate convexity.
+-- What the search for the first dent promises of dents and edges (contract 3.9 to 3.12).
 use Prim.Native.Nat.{ℕ, _+_, _-_, _*_, _≤_, _<_}
 use mathlib.Core.Path.{_≡_}
 use mathlib.Core.List.{List, [], _∷_, _++_}
@@ -18,7 +18,7 @@ use Rattle.dents.specs.declared.Factored.{Factored}
 use Rattle.dents.specs.declared.Factored.the-variants.{Edges, Dent}
 use Rattle.pieces.specs.parts.Pieces.{Laid}
 
--- Where the list has room behind its first edges, `count` of them, one more stands there; behind those that it then has, it is as it was
+-- If the list has room after its first `count` edges, one more is there; after those that it has then, it is as it was
 pub record Put (before : List ℤ) (count : ℕ) (dx dy : ℤ) (after : List ℤ) (r : ℕ) : Type 0 where
   pub grows : count ≤ r
   pub one-more : 2 * (count + 1) ≤ length before → r ≡ count + 1
@@ -29,11 +29,11 @@ pub record Put (before : List ℤ) (count : ℕ) (dx dy : ℤ) (after : List ℤ
 abbrev pub factorsIn : ℕ → List ℕ → List Factor
 factorsIn k letters = factorsOf (wordOf (frameOf k .later) letters)
 
--- A list has room for the edges of letters behind its first `from`
+-- A list has room for the edges of letters after its first `from`
 abbrev pub Room : ℕ → List ℕ → ℕ → List ℤ → Type 0
 Room k letters from list = 2 * (from + length (factorsIn k letters)) ≤ length list
 
--- No factor is a dent, and the list has the edges of all behind its first `from`, r in all
+-- No factor is a dent, and the list has the edges of all after its first `from`, r in all
 pub record EdgesPut (k : ℕ) (letters : List ℕ) (from : ℕ) (before after : List ℤ) (r : ℕ) : Type 0 where
   pub none : dentLength (factorsIn k letters) ≡ 0
   pub beyond : drop (2 * r) after ≡ drop (2 * r) before
@@ -56,18 +56,18 @@ abbrev pub InBuffer : List ℕ → ℕ → InWord → Type 0
 InBuffer buffer from (WordEdges r) = from ≡ from
 InBuffer buffer from (WordDent i l) = (from + 1 + i + l ≤ length buffer) × (0 < l)
 
--- Piece k, which lies in a buffer between two places, read without its first letter
+-- The word of piece k, which lies in a buffer between two places
 pub record PieceRead (buffer : List ℕ) (from to k count : ℕ) (before after : List ℤ) (r : InWord) : Type 0 where
   pub within : InBuffer buffer from r
   pub word : from ≤ to → to ≤ length buffer → to - from ≤ longest → WordRead k (drop 1 (take (to - from) (drop from buffer))) count before after r
 
--- The first dent of a turn stands in piece k, i letters from W on, and has l letters
+-- The first dent of a border is in piece k, at letter i of the border, and has l letters
 pub record DentIs (o : Outline) (k i l : ℕ) : Type 0 where
   pub piece : k ≡ dentPiece o
   pub at : i ≡ cut o k + 1 + dentAt (factors o k)
   pub size : l ≡ dentLength (factors o k)
 
--- A turn has no dent, and its edges, r of them, stand first in a list with room for them
+-- A border has no dent, and its edges, r of them, are at the front of a list with room for them
 pub record EdgesAre (o : Outline) (before after : List ℤ) (r : ℕ) : Type 0 where
   pub none : dentPiece o ≡ 4
   pub count : 2 * edgeCount o ≤ length before → r ≡ edgeCount o

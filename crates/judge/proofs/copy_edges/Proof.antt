@@ -1,4 +1,4 @@
--- After i turns the first i numbers are the list's, and the rest is the lent list's.
+-- After i rounds of the loop the buffer begins with the list's first i numbers, and the rest is as it was.
 use Prim.Native.Nat.{ℕ, _-_, _≤_}
 use native.Mathlib.Nat.{zero-add}
 use native.Mathlib.Numerals.{add-one}
@@ -32,7 +32,7 @@ shared-slice-copy-out-number c = search needs
 mul-number-2 : tie.Need-mul-number-2 Inv-loop μ-loop
 mul-number-2 c = search needs
 
--- The lent list keeps its length
+-- The buffer keeps its length
 kept : (c : tie.At-loop Inv-loop μ-loop) → length (c .loop .buffer) ≡ length (c .before .args .buffer .now)
 kept c =
     let a = c .before .args in

@@ -1,4 +1,4 @@
--- The cell is the search's between the rows of S and N, which the turn has, and the place is computed back.
+-- The rows of S and N bound the search for the missing cell, and the place is converted to one of the list as sent.
 use borrow.Author.Needs.{needs}
 use Rattle.judge.proofs.PieceLaws.{dent-named}
 use Rattle.judge.proofs.dent.Statement.{statement}

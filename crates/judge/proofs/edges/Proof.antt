@@ -1,4 +1,4 @@
--- The factors are read as edges into a list of zeros; the first dent is named, and where there is none the edges are lent.
+-- The factors become edges in a list of zeros; the first dent is refused, and without one the edges are written to the buffer.
 use native.Mathlib.Omega.{arith}
 use mathlib.Core.Path.{_≡_, subst}
 use borrow.Author.Needs.{needs}

@@ -1,4 +1,4 @@
--- The survey stops the outline, or it passes 1 to 6 and its reading is judged.
+-- The survey refuses the outline, or it passes refusals 1 to 6 and its border is judged.
 use mathlib.Core.Path.{sym, _∙_}
 use borrow.Author.Needs.{needs}
 use Rattle.survey.proofs.SurveyLaws.{survey-simple, survey-corners}

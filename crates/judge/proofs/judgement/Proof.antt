@@ -1,4 +1,4 @@
--- The list lent is one of zeros, with room for all edges that there can be.
+-- The buffer is all zeros and has room for the edges of every outline, so the edges are always written.
 use borrow.Author.Needs.{needs}
 use Rattle.judge.proofs.JudgedLaws.{judged-of}
 use Rattle.judge.proofs.judgement.Statement.{statement}

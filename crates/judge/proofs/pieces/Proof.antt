@@ -1,4 +1,4 @@
--- The first back-step is named, and where there is none the turn goes on to the dents.
+-- The first back-step is refused; a border without one goes on to the search for dents.
 use native.Mathlib.Omega.{arith}
 use mathlib.Core.Path.{_≡_, subst}
 use borrow.Author.Needs.{needs}

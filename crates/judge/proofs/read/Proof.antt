@@ -1,4 +1,4 @@
--- The buffer holds the border, so the rest of the judgement is the border's.
+-- The copy is the border, so what the pieces of the copy give is the verdict on the border.
 use native.Mathlib.Omega.{arith}
 use mathlib.Core.Path.{sym}
 use lib.Seq.{length-take-le}
@@ -21,7 +21,7 @@ slice-aggregate-fill-round c = search needs
 fill-round-requires : tie.Need-fill-round-requires
 fill-round-requires c κs = search needs
 
--- The letters from W on, read clockwise, are in the buffer
+-- The letters from W on, clockwise, are in the buffer
 copied : (c : tie.After-fill-round)
     → let cuts = c .before .before .before .before in
     let start = cuts .before .before in

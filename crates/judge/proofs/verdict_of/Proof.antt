@@ -1,4 +1,4 @@
--- As a judgement with a list: the survey stops the outline, or it passes 1 to 6 and its reading is judged.
+-- As in `judge`, with an empty buffer: the survey refuses the outline, or its border is judged.
 use mathlib.Core.Path.{sym, _∙_}
 use mathlib.Core.List.{[]}
 use borrow.Author.Needs.{needs}

@@ -1,4 +1,4 @@
--- A list with room has the numbers copied to its front, and any other is left alone.
+-- The one test decides: with room the copy's promise is the promise, and without it nothing is written.
 use native.Mathlib.Omega.{arith}
 use mathlib.Core.Path.{refl}
 use borrow.Author.Needs.{needs}

@@ -1,4 +1,4 @@
--- What the parts of the judgement know of a turn, and what they name of it.
+-- What the functions of the judgement know of a border.
 use Prim.Native.Nat.{ℕ, _+_, _≤_, _<_}
 use mathlib.Core.Path.{_≡_}
 use mathlib.Core.Bool.{Bool, true, false}
@@ -19,7 +19,7 @@ pub record FromWest (o : Outline) : Type 0 where
   pub simple : Simple o
   pub west : (i : ℕ) → i < size o → before (frameOf 0) (cornerAt o i) (o .start) ≡ false
 
--- What a turn t says of a clockwise walk o from W: where W's letter stands in what is read, the rows of S and N, and the cut places
+-- t describes the border o: the place of W's letter in the clockwise form, the rows of S and N, and the cut places
 pub record RoundOf (t : Round) (o : Outline) : Type 0 where
   pub walk : FromWest o
   pub place : t .place < size o
@@ -28,6 +28,6 @@ pub record RoundOf (t : Round) (o : Outline) : Type 0 where
   pub top : t .top ≡ cornerAt o (cornerPlace o 1) .row
   pub places : (k : ℕ) → k ≤ 4 → getD (t .cuts .at) k 0 ≡ cut o k
 
--- Refusal 9, from what was found in the letters from W on: in piece k, i letters from W on, l letters long
+-- Refusal 9 for a dent in piece k, l letters long, that begins at letter i of the border
 unfoldable pub dentAs : Bool → ℕ → Outline → ℕ → ℕ → ℕ → Refusal
 dentAs forward v o k i l = Dent (k + 1) (sentFrom forward (size o) v i) l (cellFound o)

@@ -9,7 +9,7 @@ use Rattle.convexity.specs.Cut.{cut}
 use Rattle.convexity.specs.Pieces.{rounds}
 use Rattle.pieces.specs.declared.Pair.{Pair}
 
--- A pair of letters in the code is a frame
+-- A row of the table has the letters and steps of a frame (contract 3.4)
 pub record PairOf (f : Frame) (r : Pair) : Type 0 where
   pub earlier : r .earlier ≡ f .earlier
   pub later : r .later ≡ f .later
@@ -18,7 +18,7 @@ pub record PairOf (f : Frame) (r : Pair) : Type 0 where
   pub later-cols : r .«later_cols» ≡ f .later-cols
   pub later-rows : r .«later_rows» ≡ f .later-rows
 
--- The pieces of a turn o lie in a buffer between the cut places
+-- The pieces of a border o lie in a buffer between the cut places (contract 3.3)
 pub record Laid (o : Outline) (at buffer : List ℕ) : Type 0 where
   pub places : (k : ℕ) → k ≤ 4 → getD at k 0 ≡ cut o k
   pub within : cut o 4 ≤ length buffer

@@ -1,4 +1,5 @@
--- A block of cells given by its rows; a list of numbers as a function of the row, and what the code keeps of the ends of the rows and of the lines from row to row.
+-- A block of cells given by its rows; a list of numbers as a function of the row, and what the code keeps of the ends of the rows and of
+-- the lines from row to row.
 use Prim.Native.Nat.{ℕ, suc, _-_, _<_, _≤_}
 use mathlib.Core.Path.{_≡_}
 use mathlib.Core.Bool.{Bool, cond, _&&_}
@@ -26,6 +27,7 @@ pub record RowEnds (o : Outline) (lo hi : List ℕ) : Type 0 where
   pub lo-up : (r : ℕ) → r < 256 → rows lo r ≡ keptUp o r
   pub hi-down : (r : ℕ) → r < 256 → rows hi r ≡ keptDown o r
 
--- What next says of rows b to t - 2: of the rows above and below t, the one to which the line from each leans furthest left, the last among equals
+-- What next says of rows b to t - 2: of the rows above and below t, the one to which the line from each leans furthest left, the last among
+-- equals
 pub record Tangents (lo next : ℕ → ℕ) (b t : ℕ) : Type 0 where
   pub furthest-left : (i : ℕ) → b ≤ i → suc i < t → next i ≡ furthest lo i (suc i) (suc (suc i)) (t - suc (suc i))

@@ -1,4 +1,4 @@
--- A letter leaves the chart, or a corner is met again and the rest decides, or the walk goes all round and is closed or not.
+-- A letter leaves the chart, or a corner is met again and the rest of the walk decides, or the end of the walk decides.
 use native.Mathlib.Omega.{arith}
 use mathlib.Core.Path.{sym, _∙_}
 use borrow.Author.Needs.{needs}

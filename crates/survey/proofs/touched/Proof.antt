@@ -1,4 +1,4 @@
--- The rest of the walk leaves the chart, or ends away from the start, or else the letter that reached the corner met again is refused.
+-- The rest of the walk leaves the chart, or ends away from the start; otherwise the letter that led to the corner met again is refused.
 use Prim.Native.Nat.{_≤_}
 use native.Mathlib.Omega.{arith}
 use mathlib.Core.Path.{sym, _∙_}
@@ -16,7 +16,7 @@ use Rattle.survey.proofs.touched.Tie as tie
 walk-on-requires : tie.Need-walk-on-requires
 walk-on-requires c κs = search needs
 
--- What the rest of the walk tells, and that no letter leaves the chart where it says so
+-- What the rest of the walk finds, and that no letter leaves the chart if it finds none
 rest : (c : tie.After-walk-on) → RestOf (outline (c .before .before .args .start) (c .before .before .args .letters .now)) (c .walk-on .result)
 rest c = let start = c .before .before in c .walk-on .ensures (start .args .start) (start .pre .0) (start .pre .1 .out)
 

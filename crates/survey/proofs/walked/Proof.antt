@@ -1,4 +1,4 @@
--- A plain walk from the start tells refusals 4 and 5 by itself, whatever made it the first one tried; for all else the marking walk answers.
+-- A walk without marks from the start decides refusals 4 and 5 whatever the hint said; in every other case the marking walk decides.
 use native.Mathlib.Omega.{arith}
 use mathlib.Core.Path.{sym, _∙_}
 use borrow.Author.Needs.{needs}
@@ -21,7 +21,7 @@ col-number-requires c κs = let h = start-on-chart _ (c .before .before .before 
 walk-on-requires : tie.Need-walk-on-requires
 walk-on-requires c κs = search needs
 
--- What the plain walk tells, and that no letter leaves the chart where it says so
+-- What the walk without marks finds, and that no letter leaves the chart if it finds none
 module _ (c : tie.After-walk-on) where
   abbrev start : tie.Start
   start = c .before .before .before .before .before

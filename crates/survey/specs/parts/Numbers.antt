@@ -1,5 +1,6 @@
--- The corner at a place of a walk as a number of 32 bits, by columns and by rows, with what a letter adds to it, by sums modulo 2^32: 0 right, 1 up, 2 left, 3 down.
--- The place has the lowest bits, and every letter adds one to it.
+-- The corner at a place of a walk as a number of 32 bits, by columns and by rows, and what a letter adds to it, modulo 2^32: 0 right, 1 up,
+-- 2 left,
+-- 3 down. The place has the lowest bits, and every letter adds one to it.
 use Prim.Native.Nat.{ℕ, zero, suc, _+_, _-_, _*_, _/_, _%_}
 use mathlib.Core.Bool.{Bool, cond, _||_}
 use lib.Dec.{ltb}
@@ -17,7 +18,7 @@ colStride (suc zero) = 1025
 colStride (suc (suc zero)) = 4293918721
 colStride (suc (suc (suc a))) = 4294966273
 
--- Off the chart the row or the column is above 255, also below 0
+-- Off the chart the row or the column is above 255; one below 0 wraps
 unfoldable pub offChart : ℕ → Bool
 offChart n = ltb 255 (n / 1024 % 1024) || ltb 255 (n / 1048576)
 
@@ -31,7 +32,7 @@ rowStride (suc zero) = 4278190081
 rowStride (suc (suc zero)) = 4294901761
 rowStride (suc (suc (suc a))) = 16777217
 
--- The lower and the higher of two numbers, the one in hand among equals
+-- The lower and the higher of two numbers
 unfoldable pub lowerOf : ℕ → ℕ → ℕ
 lowerOf best number = cond (ltb number best) number best
 

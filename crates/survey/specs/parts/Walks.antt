@@ -1,4 +1,4 @@
--- What one walk along the letters tells of refusals 4, 5 and 6 and of W, N, E and S, where 1, 2 and 3 do not apply.
+-- What one walk along the letters finds of refusals 4, 5 and 6 and of W, N, E and S, if 1, 2 and 3 do not apply.
 use Prim.Native.Nat.{ℕ, _-_, _≤_, _<_}
 use mathlib.Core.Path.{_≡_}
 use mathlib.Core.Bool.{false}
@@ -26,7 +26,7 @@ pub record Out (o : Outline) (i n : ℕ) : Type 0 where
   pub none : first (λ j. leaves (cornerAt o j) (letterAt o j)) i ≡ i
   pub number : n ≡ colNumber (cornerAt o i) i
 
--- A walk to its end: the first letter that leaves the chart, and the number of the last corner where none does
+-- A walk to its end: the first letter that leaves the chart, and the number of the last corner if none does
 pub record RestOf (o : Outline) (r : Rest) : Type 0 where
   pub place : r .leaves ≡ leavingPlace o
   pub number : Stays o → r .end ≡ colNumber (walk (o .start) (o .letters)) (size o)

@@ -1,4 +1,4 @@
--- The table's steps are the frame's, and each coordinate is one call.
+-- The table has the steps of the frame, and each coordinate is one call of `steps`.
 use borrow.Author.Needs.{needs}
 use mathlib.Core.Path.{_∙_}
 use mir.Syntax.{w16}

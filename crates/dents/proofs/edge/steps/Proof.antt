@@ -1,4 +1,4 @@
--- Each product is a count of at most 612 or its opposite, so the machine's numbers of 16 bits hold the products and their sum as they are.
+-- Each product is at most 612 in size, so numbers of 16 bits hold the products and their sum.
 use Prim.Native.Nat.{_≤_}
 use native.Mathlib.Omega.{arith}
 use mathlib.Core.Path.{_≡_}

@@ -1,4 +1,6 @@
--- The loop keeps where the walk stands, the corners met, and the least and the greatest numbers of those passed; the first letter that leaves the chart, and the first corner met again, end it.
+-- The loop keeps the current corner, the corners met, and the least and greatest numbers of those passed. It ends at the first letter that
+-- leaves
+-- the chart, or at the first corner met again.
 use Prim.Native.Nat.{_-_, _<_}
 use native.Mathlib.Omega.{arith}
 use mathlib.Core.Path.{_≡_, sym, ap, _∙_}

@@ -1,4 +1,4 @@
--- While no letter leaves the chart, the number in hand is that of the corner reached.
+-- While no letter leaves the chart, the number is that of the current corner.
 use Prim.Native.Nat.{_-_}
 use mathlib.Core.Path.{sym, ap, _∙_}
 use lib.ListN.{length}
