@@ -1,6 +1,5 @@
 -- Loose queries with the edges of specimens H2, H3 and others, and refused ones
 -- (contract 9). All rows are proved together (proofs/Specimens.antt).
-use Prim.Native.Nat.{ℕ}
 use mathlib.Core.Bool.{Bool}
 use mathlib.Core.List.{List, [], _∷_}
 use lib.IntN.{ℤ, pos, negsuc}
