@@ -1,12 +1,20 @@
 -- Either 19 refuses the party, or one draft and one work are read, acted on and written back. The party is below two and the place below
 -- four, so both indices are within the holder.
+use Prim.Native.Nat.{_<_}
 use native.Mathlib.Omega.{arith}
 use mathlib.Core.Path.{sym, _∙_}
+use Rattle.calls.specs.Calls.{parties, places}
 use Rattle.holder.specs.Holder.{draftOf, workOf, withDraft, withWork, blankDraft, blankWork, actOf, answerOf}
 use Rattle.holder.proofs.Places.{there-party, there-place}
 use borrow.Author.Needs.{needs}
 use Rattle.holder.proofs.Holder.answer.Statement.{statement}
 use Rattle.holder.proofs.Holder.answer.Tie as tie
+
+-- Once the place is known, both are in range
+there : (s : tie.After-reached) → (s .before .before .before .args .call .party < parties) × (s .reached .result < places)
+there s =
+    let call = s .before .before .before .args .call in
+    (there-party (call .party) (s .before .before .bad-party .ensures) (s .before .if1 .left), there-place (call .action) _ (s .reached .ensures))
 
 bad-party-requires : tie.Need-bad-party-requires
 bad-party-requires c κs = search needs
@@ -25,19 +33,19 @@ reached-requires : tie.Need-reached-requires
 reached-requires c κs = search needs
 
 add-slot : tie.Need-add-slot
-add-slot c = omega (arith, there-party (c .before .before .before .args .call .party) (c .before .before .bad-party .ensures) (c .before .if1 .left), there-place (c .before .before .before .args .call .action) (c .reached .result) (c .reached .ensures))
+add-slot c = omega (arith, there c)
 
 mul-act : tie.Need-mul-act
 mul-act c = search needs
 
 element-copy-out-act : tie.Need-element-copy-out-act
-element-copy-out-act c = omega (arith, there-party (c .before .before .before .args .call .party) (c .before .before .bad-party .ensures) (c .before .if1 .left), there-place (c .before .before .before .args .call .action) (c .reached .result) (c .reached .ensures))
+element-copy-out-act c = omega (arith, there c)
 
 mul-act-2 : tie.Need-mul-act-2
-mul-act-2 c = omega (arith, there-party (c .before .before .before .before .args .call .party) (c .before .before .before .bad-party .ensures) (c .before .before .if1 .left), there-place (c .before .before .before .before .args .call .action) (c .before .reached .result) (c .before .reached .ensures))
+mul-act-2 c = omega (arith, there (c .before))
 
 element-copy-out-act-2 : tie.Need-element-copy-out-act-2
-element-copy-out-act-2 c = omega (arith, there-party (c .before .before .before .before .args .call .party) (c .before .before .before .bad-party .ensures) (c .before .before .if1 .left), there-place (c .before .before .before .before .args .call .action) (c .before .reached .result) (c .before .reached .ensures))
+element-copy-out-act-2 c = omega (arith, there (c .before))
 
 act-requires : tie.Need-act-requires
 act-requires c κs = search needs
@@ -46,13 +54,13 @@ mul-draft : tie.Need-mul-draft
 mul-draft c = search needs
 
 element-set-from-draft : tie.Need-element-set-from-draft
-element-set-from-draft c = omega (arith, there-party (c .before .before .before .before .before .before .before .before .args .call .party) (c .before .before .before .before .before .before .before .bad-party .ensures) (c .before .before .before .before .before .before .if1 .left), there-place (c .before .before .before .before .before .before .before .before .args .call .action) (c .before .before .before .before .before .reached .result) (c .before .before .before .before .before .reached .ensures))
+element-set-from-draft c = omega (arith, there (c .before .before .before .before .before))
 
 mul-work : tie.Need-mul-work
-mul-work c = omega (arith, there-party (c .before .before .before .before .before .before .before .before .args .call .party) (c .before .before .before .before .before .before .before .bad-party .ensures) (c .before .before .before .before .before .before .if1 .left), there-place (c .before .before .before .before .before .before .before .before .args .call .action) (c .before .before .before .before .before .reached .result) (c .before .before .before .before .before .reached .ensures))
+mul-work c = omega (arith, there (c .before .before .before .before .before))
 
 element-set-from-work : tie.Need-element-set-from-work
-element-set-from-work c = omega (arith, there-party (c .before .before .before .before .before .before .before .before .args .call .party) (c .before .before .before .before .before .before .before .bad-party .ensures) (c .before .before .before .before .before .before .if1 .left), there-place (c .before .before .before .before .before .before .before .before .args .call .action) (c .before .before .before .before .before .reached .result) (c .before .before .before .before .before .reached .ensures))
+element-set-from-work c = omega (arith, there (c .before .before .before .before .before))
 
 returns-2 : tie.Need-returns-2
 unfolding answerOf actOf draftOf workOf withDraft withWork blankDraft blankWork
