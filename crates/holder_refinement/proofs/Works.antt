@@ -10,7 +10,6 @@ use mathlib.Core.List.{List}
 use lib.ListN.{length, take, drop, replicate}
 use lib.Seq.{take-at}
 use lib.IntN.{ℤ, pos}
-use borrow.Author.Tests.{eqb-true, eq-eqb}
 use Rattle.base.specs.Same.{sameℤs}
 use Rattle.base.proofs.BelowLaws.{same-test}
 use Rattle.base.proofs.Same.{same-ℤs-iff}
@@ -21,7 +20,7 @@ use Rattle.chart.specs.declared.Refusal.the-variants.{Cell}
 use Rattle.chart.specs.declared.Verdict.{Verdict}
 use Rattle.chart.specs.declared.Verdict.the-variants.{Taken, Refused}
 use Rattle.lattice.specs.Chart.{samePoint}
-use Rattle.lattice.proofs.WalkLaws.{point-eq}
+use Rattle.lattice.proofs.WalkLaws.{same-point, same-point-self}
 use Rattle.convexity.specs.Clockwise.{border, block}
 use Rattle.convexity.specs.Pieces.{edges, dentPiece, Reaches}
 use Rattle.convexity.specs.SameBlock.{SameEdges}
@@ -91,15 +90,6 @@ module _ (o : Outline) (n : ℕ) (a : Point) (e : verdictOf o ≡ Taken n a) whe
 
 -- ---- the same block
 
-same-point-true : (p q : Point) → samePoint p q ≡ true → p ≡ q
-unfolding samePoint
-same-point-true p q e = let both = and-eq-true-iff _ _ .0 e in point-eq p q (eqb-true (p .col) (q .col) (both .0)) (eqb-true (p .row) (q .row) (both .1))
-
-same-point-of : (p q : Point) → p ≡ q → samePoint p q ≡ true
-unfolding samePoint
-same-point-of p q e =
-    and-eq-true-iff _ _ .1 (eq-eqb (p .col) (q .col) (ap (λ (x : Point). x .col) e), eq-eqb (p .row) (q .row) (ap (λ (x : Point). x .row) e))
-
 -- Comparing a taken outline's anchor and edges decides whether it is the block at work
 module _ (w : Work) (v o : Outline) (k : Working w v) (n : ℕ) (a : Point) (e : verdictOf o ≡ Taken n a) where
   abbrev es : List ℤ
@@ -114,7 +104,7 @@ module _ (w : Work) (v o : Outline) (k : Working w v) (n : ℕ) (a : Point) (e :
       cells : (samePoint (w .anchor) a && sameℤs (workEdges w) es) ≡ true → sameBlock o v ≡ true
       cells t =
           let both = and-eq-true-iff (samePoint (w .anchor) a) (sameℤs (workEdges w) es) .0 t in
-          let p : border o .start ≡ border v .start = sym (f .anchor) ∙ sym (same-point-true (w .anchor) a (both .0)) ∙ k .anchor in
+          let p : border o .start ≡ border v .start = sym (f .anchor) ∙ sym (same-point (w .anchor) a (both .0)) ∙ k .anchor in
           let q : edges (border o) ≡ edges (border v) = sym (listed-edges o n a e) ∙ sym (same-ℤs-iff (workEdges w) es .0 (both .1)) ∙ k .edges in
           same-block-iff o v (f .reaches .simple) (k .reaches .simple) .1 (same-cells-iff o v (f .reaches) (k .reaches) (f .undented) (k .undented) .1 (p, q))
 
@@ -123,7 +113,7 @@ module _ (w : Work) (v o : Outline) (k : Working w v) (n : ℕ) (a : Point) (e :
           let same : SameEdges o v =
           same-cells-iff o v (f .reaches) (k .reaches) (f .undented) (k .undented) .0 (same-block-iff o v (f .reaches .simple) (k .reaches .simple) .0 t) in
           and-eq-true-iff (samePoint (w .anchor) a) (sameℤs (workEdges w) es) .1 (
-            same-point-of (w .anchor) a (k .anchor ∙ sym (same .0) ∙ sym (f .anchor)),
+            same-point-self (w .anchor) a (k .anchor ∙ sym (same .0) ∙ sym (f .anchor)),
             same-ℤs-iff (workEdges w) es .1 (k .edges ∙ sym (same .1) ∙ sym (listed-edges o n a e)),
           )
 
