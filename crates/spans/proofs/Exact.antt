@@ -8,9 +8,9 @@ use mathlib.Core.Path.{_≡_, refl, sym, ap, subst, _∙_}
 use mathlib.Core.Logic.{_↔_, _⊎_, inl, inr, ⊎-elim}
 use mathlib.Core.Bool.{Bool, true, false, cond, _&&_}
 use lib.Dec.{leb, ltb}
-use borrow.Author.Tests.{le-leb, lt-leb, lt-ltb, le-ltb, leb-true, ltb-true}
+use borrow.Author.Tests.{le-leb, lt-leb, lt-ltb, le-ltb}
 use Rattle.base.specs.Below.{first, some}
-use Rattle.base.proofs.BelowLaws.{and-left, and-right, not-held, same-test, first-is, first-none}
+use Rattle.base.proofs.BelowLaws.{in-interval, not-held, same-test, first-is, first-none}
 use Rattle.chart.specs.Limits.{side}
 use Rattle.chart.specs.Outline.{Outline}
 use Rattle.lattice.specs.Enclosed.{count, upAlong, downAlong, ups, downs, encloses}
@@ -169,12 +169,6 @@ unfolding spansOf
 past-le o r =
     elim (decLt r side) [ yes l ↦ rw (kept-past o r l) (right-le o r) | no l ↦ omega (arith, table-past (rightSide o) 0 side r (omega arith)) ]
 
-run : (a b c : ℕ) → ((leb a c && ltb c b) ≡ true) ↔ ((a ≤ c) × (c < b))
-run a b c = (
-  λ e. (leb-true a c (and-left (leb a c) (ltb c b) e), ltb-true c b (and-right (leb a c) (ltb c b) e)),
-  λ h. rw (le-leb a c (h .0), lt-ltb c b (h .1)),
-)
-
 -- ---- a search in a row whose marked columns are one interval
 
 found-columns : (marked : ℕ → ℕ → Bool) (r a b : ℕ) → a < side → first (λ c. marked c r) side ≡ a → lastBelow (λ c. marked c r) side ≡ b → rowSpan marked r ≡ Columns a b
@@ -262,7 +256,7 @@ module _ (o : Outline) (h : Reaches o) where
       elim (decLt r side) [
         | yes l ↦
             rw (lt-ltb r side l, kept-first o r l, kept-past o r l)
-            (same-test (leb (leftSide o r) c && ltb c (rightSide o r)) (block o c r) (run (leftSide o r) (rightSide o r) c) (row-exact c r))
+            (same-test (leb (leftSide o r) c && ltb c (rightSide o r)) (block o c r) (in-interval (leftSide o r) (rightSide o r) c) (row-exact c r))
         | no l ↦ rw (le-ltb r side (omega arith), off-chart c r (omega arith))
       ]
 
