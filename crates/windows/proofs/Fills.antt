@@ -1,12 +1,12 @@
--- A list filled with one number, whole or from an index on, by one store at a time.
+-- A list filled with one number, or copied from another from an index on, by one store at a time.
 use Prim.Native.Nat.{ℕ, zero, suc, _+_, _-_, _≤_, _<_}
 use native.Mathlib.Nat.{zero-add, suc-add, not-suc-le-zero, le-of-suc-le-suc}
 use native.Mathlib.Numerals.{add-one}
 use native.Mathlib.Omega.{arith}
 use mathlib.Core.Path.{_≡_, refl, sym, ap, _∙_}
 use mathlib.Core.List.{List, [], _∷_, _++_, append-nil}
-use lib.ListN.{length, take, drop, set, replicate, length-set}
-use lib.Seq.{drop-length}
+use lib.ListN.{length, take, drop, getD, set, replicate, length-set}
+use lib.Seq.{drop-length, paste, paste-suc, length-paste}
 use Rattle.windows.specs.Windows.{window, slotsFrom}
 
 module _ {A : Type 0} where
@@ -48,3 +48,14 @@ module _ {A : Type 0} where
   filled-all d x l i (n, e, s) h =
       let all : i ≡ length d = omega arith in
       e ∙ rw (all, drop-length d) (append-nil (replicate (length d) x))
+
+-- Of the n numbers of s the first i stand in l, from index at on, and l is otherwise d
+module _ {A : Type 0} (d : List A) (at : ℕ) (s : List A) (n : ℕ) (room : at + n ≤ length d) (whole : length s ≡ n) where
+  abbrev pub Pasted : List A → ℕ → Type 0
+  Pasted l i = (i ≤ n) × (l ≡ paste d at s i)
+
+  pub pasted-length : (l : List A) (i : ℕ) → Pasted l i → length l ≡ length d
+  pasted-length l i (h, q) = ap length q ∙ length-paste d at s i (omega arith) (omega arith)
+
+  pub pasted-next : (l : List A) (i : ℕ) (z x : A) → x ≡ getD s i z → Pasted l i → i < n → Pasted (set l (at + i) x) (i + 1)
+  pasted-next l i z x e (h, q) k = (omega arith, rw (q, e, add-one) (paste-suc d at s i z (omega arith) (omega arith)))

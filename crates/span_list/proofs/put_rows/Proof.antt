@@ -1,13 +1,12 @@
 -- After i iterations the first i numbers are copied.
-use Prim.Native.Nat.{ℕ, _+_, _-_, _≤_}
-use native.Mathlib.Numerals.{add-one}
+use Prim.Native.Nat.{_-_, _≤_}
 use native.Mathlib.Omega.{arith}
-use mathlib.Core.Path.{_≡_, sym, ap, _∙_}
-use mathlib.Core.List.{List}
-use lib.ListN.{length, getD, set}
-use lib.Seq.{paste, paste-zero, paste-suc, length-paste}
+use mathlib.Core.Path.{_≡_, refl, _∙_}
+use lib.ListN.{length}
+use lib.Seq.{paste, paste-zero}
 use borrow.Author.Needs.{needs}
 use Rattle.chart.specs.Limits.{side}
+use Rattle.windows.proofs.Fills.{pasted-length, pasted-next}
 use Rattle.span_list.proofs.put_rows.Statement.{statement}
 use Rattle.span_list.proofs.put_rows.Tie as tie
 
@@ -30,7 +29,7 @@ add-rows c = search needs
 kept : (c : tie.At-loop Inv-loop μ-loop) → length (c .loop .rows) ≡ length (c .before .before .args .rows .now)
 kept c =
     let a = c .before .before .args in
-    ap length (c .loop .inv .1) ∙ length-paste (a .rows .now) (a .at) (a .from .now) (c .loop .i) (omega (arith, c .loop .inv .0, c .before .before .pre)) (omega (arith, c .loop .inv .0, c .before .all .given .0))
+    pasted-length (a .rows .now) (a .at) (a .from .now) side (c .before .before .pre) (c .before .all .given .0) _ (c .loop .i) (c .loop .inv)
 
 slice-write-rows : tie.Need-slice-write-rows Inv-loop μ-loop
 slice-write-rows c = omega (arith, kept (c .before .before))
@@ -45,14 +44,8 @@ loop-again : tie.Need-loop-again Inv-loop μ-loop
 loop-again c =
     let iteration = c .before in
     let a = iteration .before .before .before .args in
-    let i = iteration .before .loop .i in
-    let d = a .rows .now in
-    let l = a .from .now in (
-      search needs,
-      ap (λ (e : List ℕ). set e (a .at + i) (getD l i 0)) (iteration .before .loop .inv .1)
-          ∙ paste-suc d (a .at) l i 0 (omega (arith, iteration .loop-test .taken, iteration .before .before .before .pre)) (omega (arith, iteration .loop-test .taken, iteration .before .before .all .given .0))
-          ∙ ap (paste d (a .at) l) (sym (add-one i)),
-    )
+    pasted-next (a .rows .now) (a .at) (a .from .now) side (iteration .before .before .before .pre) (iteration .before .before .all .given .0)
+    _ (iteration .before .loop .i) 0 _ refl (iteration .before .loop .inv) (omega (arith, iteration .loop-test .taken))
 
 same-length : tie.Need-same-length Inv-loop μ-loop
 same-length c = kept (c .before)

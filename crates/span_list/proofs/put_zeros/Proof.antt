@@ -1,13 +1,13 @@
 -- After i iterations the first i numbers are zeros.
-use Prim.Native.Nat.{ℕ, _+_, _-_, _≤_}
-use native.Mathlib.Numerals.{add-one}
+use Prim.Native.Nat.{ℕ, _-_, _≤_}
 use native.Mathlib.Omega.{arith}
-use mathlib.Core.Path.{_≡_, sym, ap, _∙_}
+use mathlib.Core.Path.{_≡_, sym, _∙_}
 use mathlib.Core.List.{List}
-use lib.ListN.{length, getD, set, replicate, length-replicate, getD-replicate}
-use lib.Seq.{paste, paste-zero, paste-suc, length-paste}
+use lib.ListN.{length, replicate, length-replicate, getD-replicate}
+use lib.Seq.{paste, paste-zero}
 use borrow.Author.Needs.{needs}
 use Rattle.chart.specs.Limits.{side}
+use Rattle.windows.proofs.Fills.{pasted-length, pasted-next}
 use Rattle.span_list.proofs.put_zeros.Statement.{statement}
 use Rattle.span_list.proofs.put_zeros.Tie as tie
 
@@ -30,7 +30,7 @@ add-rows c = search needs
 kept : (c : tie.At-loop Inv-loop μ-loop) → length (c .loop .rows) ≡ length (c .before .args .rows .now)
 kept c =
     let a = c .before .args in
-    ap length (c .loop .inv .1) ∙ length-paste (a .rows .now) (a .at) zeros (c .loop .i) (omega (arith, c .loop .inv .0, c .before .pre)) (omega (arith, c .loop .inv .0, length-replicate {A = ℕ} side 0))
+    pasted-length (a .rows .now) (a .at) zeros side (c .before .pre) (length-replicate {A = ℕ} side 0) _ (c .loop .i) (c .loop .inv)
 
 slice-write-rows : tie.Need-slice-write-rows Inv-loop μ-loop
 slice-write-rows c = omega (arith, kept (c .before))
@@ -44,13 +44,9 @@ loop-less c = search needs
 loop-again : tie.Need-loop-again Inv-loop μ-loop
 loop-again c =
     let l = c .before .loop in
-    let a = c .before .before .args in (
-      search needs,
-      ap (λ (e : List ℕ). set e (a .at + l .i) 0) (l .inv .1)
-          ∙ ap (set (paste (a .rows .now) (a .at) zeros (l .i)) (a .at + l .i)) (sym (getD-replicate {A = ℕ} side (l .i) 0 0 (omega (arith, c .loop-test .taken))))
-          ∙ paste-suc (a .rows .now) (a .at) zeros (l .i) 0 (omega (arith, c .loop-test .taken, c .before .before .pre)) (omega (arith, c .loop-test .taken, length-replicate {A = ℕ} side 0))
-          ∙ ap (paste (a .rows .now) (a .at) zeros) (sym (add-one (l .i))),
-    )
+    let a = c .before .before .args in
+    pasted-next (a .rows .now) (a .at) zeros side (c .before .before .pre) (length-replicate {A = ℕ} side 0)
+    _ (l .i) 0 0 (sym (getD-replicate {A = ℕ} side (l .i) 0 0 (omega (arith, c .loop-test .taken)))) (l .inv) (omega (arith, c .loop-test .taken))
 
 same-length : tie.Need-same-length Inv-loop μ-loop
 same-length c = kept (c .before)
