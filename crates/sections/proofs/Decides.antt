@@ -14,6 +14,7 @@ use Rattle.base.specs.Below.{every}
 use Rattle.base.proofs.BelowLaws.{and-left, and-right, or-false-iff, not-held, every-at, every-fails}
 use Rattle.chart.specs.Limits.{side}
 use Rattle.chart.specs.declared.Point.{Point}
+use Rattle.chart.specs.Outline.{at}
 use Rattle.lattice.specs.Hull.{InHull, Missing, Convex}
 use Rattle.sections.specs.declared.Reach.{Reach}
 use Rattle.sections.specs.Sections.{layers, fold, ceiling, above, lowLine, highLine, full, alone, joined, joinedFrom, reached, wholeIn, whole, clear}
@@ -226,9 +227,6 @@ module _ (marked : ℕ → ℕ → Bool) (lo past : ℕ → ℕ) (t : InRuns mar
                 let z′ : suc z ≤ r = omega arith in
                 absurd (omega (arith, mul-le-mul-left d y′, mul-le-mul-left e z′, ap (λ s. s * r) q))
           ]
-
-  abbrev at : ℕ → ℕ → Point
-  at l r = record { col = l; row = r }
 
   -- A cell of the hull lies in the plane of layers and rows
   pub hull-on-plane : (x : Point) → InHull marked x → (x .col < layers) × (x .row < side)

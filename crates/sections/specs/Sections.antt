@@ -9,9 +9,12 @@ use Rattle.base.specs.Below.{every}
 use Rattle.chart.specs.Limits.{side}
 use Rattle.sections.specs.declared.Reach.{Reach}
 
--- How many layers a pile has
+-- How many layers a pile has, and the last of them
 abbrev pub layers : ℕ
 layers = 16
+
+abbrev pub lastLayer : ℕ
+lastLayer = 15
 
 -- The number kept for layer l, and 0 past the last
 abbrev pub numbers : List ℕ → ℕ → ℕ

@@ -7,6 +7,9 @@ ghost use Rattle.sections.specs.Sections.{layers, numbers, Bounded, ceil
 // How many layers a pile has.
 pub const LAYERS: usize = 16;
 
+// The last of them.
+pub const LAST_LAYER: u8 = 15;
+
 // The marked cells of layer `l` are those from `lo[l]` up to but not including `past[l]`.
 pub struct Section {
     pub lo: [u8; LAYERS],
