@@ -18,6 +18,7 @@ use Rattle.verdict.proofs.Cells.{verdict-named}
 use Rattle.polygon.specs.Loose.{badCell}
 use Rattle.spans.specs.declared.Spans.{Spans}
 use Rattle.spans.specs.Spans.{noSpans, spansOf, inSpans}
+use Rattle.sections.specs.Sections.{lastLayer}
 use Rattle.pile.specs.declared.Pile.{Pile}
 use Rattle.pile.specs.declared.Piled.{Piled}
 use Rattle.pile.specs.declared.PileReply.{PileReply}
@@ -31,15 +32,15 @@ says r p = record { reply = r; pile = p }
 -- ---- set
 
 module _ (p : Pile) (l : ℕ) (o : Outline) where
-  pub set-high : 15 < l → says Layer p ≡ setOf p l o
+  pub set-high : lastLayer < l → says Layer p ≡ setOf p l o
   unfolding setOf
-  set-high h = rw (lt-ltb 15 l h)
+  set-high h = rw (lt-ltb lastLayer l h)
 
-  set-as : l ≤ 15 → (v : Verdict) → verdictOf o ≡ v → setAs p l o v ≡ setOf p l o
+  set-as : l ≤ lastLayer → (v : Verdict) → verdictOf o ≡ v → setAs p l o v ≡ setOf p l o
   unfolding setOf
-  set-as h v e = rw (le-ltb 15 l h, e)
+  set-as h v e = rw (le-ltb lastLayer l h, e)
 
-  module _ (h : l ≤ 15) {r : Verdict} (e : r ≡ verdictOf o) where
+  module _ (h : l ≤ lastLayer) {r : Verdict} (e : r ≡ verdictOf o) where
     pub set-refused : (f : Refusal) → r ≡ Refused f → says (Said (Refused f)) p ≡ setOf p l o
     unfolding setAs
     set-refused f g = set-as h (Refused f) (sym e ∙ g)
@@ -57,7 +58,7 @@ module _ (p : Pile) (l : ℕ) (o : Outline) where
 
   pub set-named : (r : Piled) → r ≡ setOf p l o → CellNamed o (pileFields (r .reply))
   unfolding setOf pileFields
-  set-named r e = rw e (go (ltb 15 l))
+  set-named r e = rw e (go (ltb lastLayer l))
     where
       go : (b : Bool) → CellNamed o (pileFields (cond b (says Layer p) (setAs p l o (verdictOf o)) .reply))
       go true = record { anchor = λ e. absurd (omega arith); missing = λ e. absurd (omega arith) }
@@ -70,13 +71,13 @@ module _ (p : Pile) (l : ℕ) (o : Outline) where
 -- ---- set empty
 
 module _ (p : Pile) (l : ℕ) where
-  pub empty-high : 15 < l → says Layer p ≡ emptyOf p l
+  pub empty-high : lastLayer < l → says Layer p ≡ emptyOf p l
   unfolding emptyOf
-  empty-high h = rw (lt-ltb 15 l h)
+  empty-high h = rw (lt-ltb lastLayer l h)
 
-  pub empty-put : l ≤ 15 → (s : Spans) → s ≡ noSpans → (q : Pile) → q ≡ put p l s → says Done q ≡ emptyOf p l
+  pub empty-put : l ≤ lastLayer → (s : Spans) → s ≡ noSpans → (q : Pile) → q ≡ put p l s → says Done q ≡ emptyOf p l
   unfolding emptyOf
-  empty-put h s d q k = rw (le-ltb 15 l h, k, d)
+  empty-put h s d q k = rw (le-ltb lastLayer l h, k, d)
 
 -- ---- check
 
@@ -97,21 +98,21 @@ module _ (p : Pile) where
 -- ---- query
 
 module _ (p : Pile) (l : ℕ) (x : Point) where
-  pub query-high : 15 < l → Layer ≡ queryOf p l x
+  pub query-high : lastLayer < l → Layer ≡ queryOf p l x
   unfolding queryOf
-  query-high h = rw (lt-ltb 15 l h)
+  query-high h = rw (lt-ltb lastLayer l h)
 
-  module _ (h : l ≤ 15) where
+  module _ (h : l ≤ lastLayer) where
     pub query-unpassed : p .passed ≡ false → NotPassed ≡ queryOf p l x
     unfolding queryOf
-    query-unpassed e = rw (le-ltb 15 l h, e)
+    query-unpassed e = rw (le-ltb lastLayer l h, e)
 
     module _ (e : p .passed ≡ true) where
       pub query-bad : badCell x ≡ true → Cell ≡ queryOf p l x
       unfolding queryOf
-      query-bad b = rw (le-ltb 15 l h, e, b)
+      query-bad b = rw (le-ltb lastLayer l h, e, b)
 
       pub query-in : badCell x ≡ false → (t : Bool) → t ≡ inSpans (layerAt (p .layers) l) (x .col) (x .row)
           → cond t Inside Outside ≡ queryOf p l x
       unfolding queryOf locatedIn
-      query-in b t i = rw (le-ltb 15 l h, e, b, i)
+      query-in b t i = rw (le-ltb lastLayer l h, e, b, i)

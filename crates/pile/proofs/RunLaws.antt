@@ -4,11 +4,9 @@ use native.Mathlib.Decide.{decLt}
 use native.Mathlib.Omega.{arith}
 use mathlib.Core.Path.{_≡_, ap, _∙_}
 use mathlib.Core.Logic.{_↔_}
-use mathlib.Core.Bool.{Bool, true, false, _&&_}
+use mathlib.Core.Bool.{Bool, true, false}
 use mathlib.Core.List.{List}
-use lib.Dec.{leb, ltb}
-use borrow.Author.Tests.{le-leb, lt-ltb, leb-true, ltb-true}
-use Rattle.base.proofs.BelowLaws.{and-left, and-right}
+use Rattle.base.proofs.BelowLaws.{in-interval}
 use Rattle.chart.specs.Limits.{side}
 use Rattle.lattice.specs.Hull.{Convex}
 use Rattle.rows.specs.parts.Rows.{rows as rowOf}
@@ -19,12 +17,6 @@ use Rattle.sections.specs.Sections.{layers, numbers, clear}
 use Rattle.sections.proofs.Decides.{InRuns, clear-convex, unclear-missing}
 use Rattle.pile.specs.Pile.{layerAt, lowestRow, afterHighest, columnSection, rowSection, columnClear, rowClear}
 use Rattle.pile.specs.Meaning.{HasDent, runMarks, columnRuns, rowRuns, RowFits}
-
-pub both : (a b c : ℕ) → ((leb a c && ltb c b) ≡ true) ↔ ((a ≤ c) × (c < b))
-both a b c = (
-  λ e. (leb-true a c (and-left (leb a c) (ltb c b) e), ltb-true c b (and-right (leb a c) (ltb c b) e)),
-  λ h. rw (le-leb a c (h .0), lt-ltb c b (h .1)),
-)
 
 -- ---- intervals in two lists, one number for each layer
 
@@ -69,9 +61,9 @@ module _ (ls : List Spans) where
   column-decided c =
       runs-decide
       (listed-runs _ (λ l. lowestRow (layerAt ls l) c) (λ l. afterHighest (layerAt ls l) c) (λ l h. after-le (layerAt ls l) c)
-      (λ l r. both _ _ r))
+      (λ l r. in-interval _ _ r))
 
   pub row-decided : (r : ℕ) → RowFits ls r → Decided (rowClear ls r) (rowRuns ls r)
   unfolding rowClear rowSection runMarks
   row-decided r fits =
-      runs-decide (listed-runs _ (λ l. rowOf (layerAt ls l .first) r) (λ l. rowOf (layerAt ls l .past) r) fits (λ l r. both _ _ r))
+      runs-decide (listed-runs _ (λ l. rowOf (layerAt ls l .first) r) (λ l. rowOf (layerAt ls l .past) r) fits (λ l r. in-interval _ _ r))

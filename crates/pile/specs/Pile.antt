@@ -16,7 +16,7 @@ use Rattle.polygon.specs.Loose.{badCell}
 use Rattle.spans.specs.declared.Spans.{Spans}
 use Rattle.spans.specs.Spans.{table, noSpans, spansOf, inSpans}
 use Rattle.sections.specs.declared.Section.{Section}
-use Rattle.sections.specs.Sections.{layers, numbers, clear}
+use Rattle.sections.specs.Sections.{layers, lastLayer, numbers, clear}
 use Rattle.pile.specs.declared.Pile.{Pile}
 use Rattle.pile.specs.declared.Piled.{Piled}
 use Rattle.pile.specs.declared.PileReply.{PileReply}
@@ -78,10 +78,10 @@ setAs p l o (Refused f) = record { reply = Judged (Refused f); pile = p }
 setAs p l o (Taken n a) = record { reply = Judged (Taken n a); pile = put p l (spansOf o) }
 
 unfoldable pub setOf : Pile → ℕ → Outline → Piled
-setOf p l o = cond (ltb 15 l) (record { reply = Layer; pile = p }) (setAs p l o (verdictOf o))
+setOf p l o = cond (ltb lastLayer l) (record { reply = Layer; pile = p }) (setAs p l o (verdictOf o))
 
 unfoldable pub emptyOf : Pile → ℕ → Piled
-emptyOf p l = cond (ltb 15 l) (record { reply = Layer; pile = p }) (record { reply = Done; pile = put p l noSpans })
+emptyOf p l = cond (ltb lastLayer l) (record { reply = Layer; pile = p }) (record { reply = Done; pile = put p l noSpans })
 
 -- 21 of a column, then of a row; otherwise the check passes
 unfoldable pub checkOf : Pile → Piled
@@ -95,4 +95,4 @@ unfoldable pub locatedIn : Spans → Point → PileReply
 locatedIn s x = cond (inSpans s (x .col) (x .row)) Inside Outside
 
 unfoldable pub queryOf : Pile → ℕ → Point → PileReply
-queryOf p l x = cond (ltb 15 l) Layer (cond (p .passed) (cond (badCell x) Cell (locatedIn (layerAt (p .layers) l) x)) NotPassed)
+queryOf p l x = cond (ltb lastLayer l) Layer (cond (p .passed) (cond (badCell x) Cell (locatedIn (layerAt (p .layers) l) x)) NotPassed)

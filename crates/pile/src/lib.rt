@@ -3,6 +3,7 @@ use chart::Point;
 use chart::Verdict;
 use judge::verdict_of;
 use polygon::bad_cell;
+use sections::LAST_LAYER;
 use sections::LAYERS;
 use spans::Spans;
 use spans::no_spans;
@@ -78,7 +79,7 @@ impl Pile {
         ensures answer { λ r. ⌜ r ≡ setOf self layer (outline start (now (letters .entry))) ⌝ }
         ensures cell { λ r. ⌜ CellNamed (outline start (now (letters .entry))) (pileFields (r .reply)) ⌝ }
     {
-        if 15 < layer {
+        if LAST_LAYER < layer {
             return Piled {
                 reply: PileReply::Layer,
                 pile: self,
@@ -101,7 +102,7 @@ impl Pile {
     pub fn set_empty(self, layer: u8) -> Piled
         ensures { λ r. ⌜ r ≡ emptyOf self layer ⌝ }
     {
-        if 15 < layer {
+        if LAST_LAYER < layer {
             return Piled {
                 reply: PileReply::Layer,
                 pile: self,
@@ -150,7 +151,7 @@ impl Pile {
     pub fn query(self, layer: u8, cell: Point) -> PileReply
         ensures { λ r. ⌜ r ≡ queryOf self layer cell ⌝ }
     {
-        if 15 < layer {
+        if LAST_LAYER < layer {
             return PileReply::Layer;
         }
         if !self.passed {

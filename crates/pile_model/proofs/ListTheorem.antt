@@ -1,10 +1,9 @@
 -- A pile and the model stay in step: each layer has its outline's cells, and both know whether
 -- the last check passed. So each reply is the model's, by induction over the list.
 use Prim.Native.Nat.{ℕ, _≤_, _<_}
-use native.Mathlib.Decide.{decLt}
+use native.Mathlib.Decide.{decLt, ℕ-discrete}
 use native.Mathlib.Omega.{arith}
 use mathlib.Core.Path.{_≡_, refl, sym, ap, _∙_}
-use mathlib.Core.Logic.{_⊎_, inl, inr, _≢_}
 use mathlib.Core.Bool.{Bool, true, false, true≢false, cond}
 use mathlib.Core.Option.{Option, none, some}
 use mathlib.Core.List.{List, [], _∷_}
@@ -29,7 +28,7 @@ use Rattle.polygon.specs.Loose.{badCell}
 use Rattle.spans.specs.declared.Spans.{Spans}
 use Rattle.spans.specs.Spans.{noSpans, spansOf, inSpans}
 use Rattle.spans.proofs.Exact.{spans-exact, past-le}
-use Rattle.sections.specs.Sections.{layers}
+use Rattle.sections.specs.Sections.{layers, lastLayer}
 use Rattle.pile.specs.declared.Pile.{Pile}
 use Rattle.pile.specs.declared.Piled.{Piled}
 use Rattle.pile.specs.declared.PileReply.{PileReply}
@@ -83,15 +82,8 @@ kept-some o n a e =
     }
 
 -- Past the last layer nothing is kept
-past-last : (l : ℕ) → 16 ≤ l → layerAt (replicate 16 noSpans) l ≡ record { first = []; past = [] }
-past-last l h = List·getD-eq-default (replicate 16 noSpans) (record { first = []; past = [] }) {n = l} (omega (arith, length-replicate {A = Spans} 16 noSpans))
-
-same-or-not : (i l : ℕ) → (i ≡ l) ⊎ (i ≢ l)
-same-or-not i l =
-    elim (decLt i l) [
-      | yes h ↦ inr (λ e. omega arith)
-      | no h ↦ elim (decLt l i) [ yes k ↦ inr (λ e. omega arith) | no k ↦ inl (omega arith) ]
-    ]
+past-last : (l : ℕ) → layers ≤ l → layerAt (replicate layers noSpans) l ≡ record { first = []; past = [] }
+past-last l h = List·getD-eq-default (replicate layers noSpans) (record { first = []; past = [] }) {n = l} (omega (arith, length-replicate {A = Spans} layers noSpans))
 
 -- ---- in step
 
@@ -106,10 +98,10 @@ step-fresh : InStep fresh freshPile
 unfolding fresh freshPile
 step-fresh =
     record {
-      size = length-replicate {A = Spans} 16 noSpans;
+      size = length-replicate {A = Spans} layers noSpans;
       kept = λ l.
-          elim (decLt l 16) [
-            | yes h ↦ rw (getD-replicate {A = Spans} 16 l noSpans (record { first = []; past = [] }) h) kept-none
+          elim (decLt l layers) [
+            | yes h ↦ rw (getD-replicate {A = Spans} layers l noSpans (record { first = []; past = [] }) h) kept-none
             | no h ↦ rw (past-last l (omega arith)) (kept-nothing (record { first = []; past = [] }) (λ r. refl))
           ];
       same = refl;
@@ -138,15 +130,15 @@ checked-done r (column c h d f) e = absurd (true≢false (sym e))
 checked-done r (row i h cs d f) e = absurd (true≢false (sym e))
 
 module _ (b : PileBook) (p : Pile) (t : InStep b p) where
-  step-put : (l : ℕ) (v : Option Outline) (s : Spans) → l ≤ 15 → KeptAs v s → InStep (putLayer b l v) (put p l s)
+  step-put : (l : ℕ) (v : Option Outline) (s : Spans) → l ≤ lastLayer → KeptAs v s → InStep (putLayer b l v) (put p l s)
   unfolding putLayer put
   step-put l v s h k =
       record {
         size = length-set (p .layers) l s ∙ t .size;
         kept = λ i.
-            elim (same-or-not i l) [
-              | inl e ↦ rw (e, put-here (b .layers) l v, getD-set-same (p .layers) l s (record { first = []; past = [] }) (omega (arith, t .size))) k
-              | inr e ↦ rw (put-elsewhere (b .layers) l v i e, getD-set-other (p .layers) l i s (record { first = []; past = [] }) e) (t .kept i)
+            elim (ℕ-discrete i l) [
+              | yes e ↦ rw (e, put-here (b .layers) l v, getD-set-same (p .layers) l s (record { first = []; past = [] }) (omega (arith, t .size))) k
+              | no e ↦ rw (put-elsewhere (b .layers) l v i e, getD-set-other (p .layers) l i s (record { first = []; past = [] }) e) (t .kept i)
             ];
         same = refl;
         whole = λ e. absurd (true≢false (sym e));
@@ -154,7 +146,7 @@ module _ (b : PileBook) (p : Pile) (t : InStep b p) where
 
   -- ---- the calls
 
-  set-verdict : (l : ℕ) (o : Outline) → l ≤ 15 → (v : Verdict) → verdictOf o ≡ v → (setAs p l o v .reply ≡ Judged v) × InStep (setBook b l o v) (setAs p l o v .pile)
+  set-verdict : (l : ℕ) (o : Outline) → l ≤ lastLayer → (v : Verdict) → verdictOf o ≡ v → (setAs p l o v .reply ≡ Judged v) × InStep (setBook b l o v) (setAs p l o v .pile)
   unfolding setAs setBook
   set-verdict l o h (Refused f) e = (refl, t)
   set-verdict l o h (Taken n a) e = (refl, step-put l (some o) (spansOf o) h (kept-some o n a e))
@@ -162,17 +154,17 @@ module _ (b : PileBook) (p : Pile) (t : InStep b p) where
   step-set : (l : ℕ) (o : Outline) → Answers b (Set l o) (setOf p l o .reply) × InStep (next b (Set l o) (setOf p l o .reply)) (setOf p l o .pile)
   unfolding Answers next setOf
   step-set l o =
-      elim (decLt 15 l) [
-        | yes h ↦ rw (lt-ltb 15 l h) (refl, t)
-        | no h ↦ rw (le-ltb 15 l (omega arith)) (set-verdict l o (omega arith) (verdictOf o) refl)
+      elim (decLt lastLayer l) [
+        | yes h ↦ rw (lt-ltb lastLayer l h) (refl, t)
+        | no h ↦ rw (le-ltb lastLayer l (omega arith)) (set-verdict l o (omega arith) (verdictOf o) refl)
       ]
 
   step-empty : (l : ℕ) → Answers b (SetEmpty l) (emptyOf p l .reply) × InStep (next b (SetEmpty l) (emptyOf p l .reply)) (emptyOf p l .pile)
   unfolding Answers next emptyOf
   step-empty l =
-      elim (decLt 15 l) [
-        | yes h ↦ rw (lt-ltb 15 l h) (refl, t)
-        | no h ↦ rw (le-ltb 15 l (omega arith)) (refl, step-put l none noSpans (omega arith) kept-none)
+      elim (decLt lastLayer l) [
+        | yes h ↦ rw (lt-ltb lastLayer l h) (refl, t)
+        | no h ↦ rw (le-ltb lastLayer l (omega arith)) (refl, step-put l none noSpans (omega arith) kept-none)
       ]
 
   -- ---- the check
@@ -199,7 +191,7 @@ module _ (b : PileBook) (p : Pile) (t : InStep b p) where
   step-query : (l : ℕ) (x : Point) → queryOf p l x ≡ queried b l x
   unfolding queryOf queried locatedIn located
   step-query l x =
-      rw (t .same) (ap (λ (v : Bool). cond (ltb 15 l) Layer (cond (b .passed) (cond (badCell x) Cell (cond v Inside Outside)) NotPassed)) (t .kept l .exact (x .col) (x .row)))
+      rw (t .same) (ap (λ (v : Bool). cond (ltb lastLayer l) Layer (cond (b .passed) (cond (badCell x) Cell (cond v Inside Outside)) NotPassed)) (t .kept l .exact (x .col) (x .row)))
 
 -- Each call's reply is the model's, and the two stay in step
 call-agrees : (b : PileBook) (p : Pile) → InStep b p → (c : PileCall) → Answers b c (answerOf p c .reply) × InStep (next b c (answerOf p c .reply)) (answerOf p c .pile)
@@ -234,13 +226,13 @@ bookOf cs = bookAfter fresh cs (pileReplies freshPile cs)
 abbrev pub pileOf : List PileCall → Pile
 pileOf cs = pileAfter freshPile cs
 
-passed-query : (b : PileBook) (l : ℕ) (x : Point) → b .passed ≡ true → l ≤ 15 → badCell x ≡ false → queried b l x ≡ located (b .layers l) x
+passed-query : (b : PileBook) (l : ℕ) (x : Point) → b .passed ≡ true → l ≤ lastLayer → badCell x ≡ false → queried b l x ≡ located (b .layers l) x
 unfolding queried
-passed-query b l x e h k = rw (le-ltb 15 l h, e, k)
+passed-query b l x e h k = rw (le-ltb lastLayer l h, e, k)
 
 -- A pile that has passed answers a query exactly as its layers do, and none of its sections is dented
 pub record Passed (cs : List PileCall) : Type 0 where
-  pub answers : (l : ℕ) (x : Point) → l ≤ 15 → badCell x ≡ false → queryOf (pileOf cs) l x ≡ located (bookOf cs .layers l) x
+  pub answers : (l : ℕ) (x : Point) → l ≤ lastLayer → badCell x ≡ false → queryOf (pileOf cs) l x ≡ located (bookOf cs .layers l) x
   pub whole : NoneDented (bookOf cs .layers)
 
 in-step : (cs : List PileCall) → InStep (bookOf cs) (pileOf cs)

@@ -11,7 +11,7 @@ use mathlib.Core.List.{List, []}
 use lib.ListN.{length, List·getD-eq-default}
 use borrow.Author.Tests.{lt-ltb, le-ltb}
 use Rattle.base.specs.Below.{first}
-use Rattle.base.proofs.BelowLaws.{not-held, first-found, first-before}
+use Rattle.base.proofs.BelowLaws.{in-interval, not-held, first-found, first-before}
 use Rattle.chart.specs.Limits.{side}
 use Rattle.chart.specs.declared.Point.{Point}
 use Rattle.chart.specs.Outline.{Outline}
@@ -23,7 +23,7 @@ use Rattle.pile_model.specs.Book.{Layers, marks, columnMarks, rowMarks}
 use Rattle.sections.specs.Sections.{layers, numbers}
 use Rattle.sections.proofs.Decides.{InRuns, hull-on-plane}
 use Rattle.pile.specs.Pile.{layerAt, inRow, lowestRow, afterHighest, columnSection, rowSection, columnClear, rowClear}
-use Rattle.pile.proofs.RunLaws.{both, listed, listed-at, listed-past, listed-runs, Decided, runs-decide, after-le}
+use Rattle.pile.proofs.RunLaws.{listed, listed-at, listed-past, listed-runs, Decided, runs-decide, after-le}
 
 -- ---- an interval of numbers
 
@@ -137,7 +137,7 @@ module _ (v : Option Outline) (s : Spans) (t : KeptAs v s) where
 
   row-exact : (c r : ℕ) → r < side → (marks v c r ≡ true) ↔ ((rows (s .first) r ≤ c) × (c < rows (s .past) r))
   unfolding inRow
-  row-exact c r l = rw (sym (row-marks c r l)) (both (rows (s .first) r) (rows (s .past) r) c)
+  row-exact c r l = rw (sym (row-marks c r l)) (in-interval (rows (s .first) r) (rows (s .past) r) c)
 
 -- ---- the sections
 

@@ -15,6 +15,7 @@ use Rattle.chart.specs.Outline.{Outline}
 use Rattle.convexity.specs.Clockwise.{block}
 use Rattle.verdict.specs.Verdict.{verdictOf}
 use Rattle.polygon.specs.Loose.{badCell}
+use Rattle.sections.specs.Sections.{lastLayer}
 use Rattle.pile.specs.declared.PileReply.{PileReply}
 use Rattle.pile.specs.declared.PileReply.the-variants.{Done, Inside, Outside, Judged, Cell, NotPassed, Dented, Layer}
 use Rattle.pile.specs.Calls.{PileCall, Set, SetEmpty, Check, Query}
@@ -69,12 +70,12 @@ located v x = cond (marks v (x .col) (x .row)) Inside Outside
 
 -- 22, 12 and 11, checked in this order
 unfoldable pub queried : PileBook → ℕ → Point → PileReply
-queried b l x = cond (ltb 15 l) Layer (cond (b .passed) (cond (badCell x) Cell (located (b .layers l) x)) NotPassed)
+queried b l x = cond (ltb lastLayer l) Layer (cond (b .passed) (cond (badCell x) Cell (located (b .layers l) x)) NotPassed)
 
 -- The reply is the model's
 unfoldable pub Answers : PileBook → PileCall → PileReply → Type 0
-Answers b (Set l o) r = r ≡ cond (ltb 15 l) Layer (Judged (verdictOf o))
-Answers b (SetEmpty l) r = r ≡ cond (ltb 15 l) Layer Done
+Answers b (Set l o) r = r ≡ cond (ltb lastLayer l) Layer (Judged (verdictOf o))
+Answers b (SetEmpty l) r = r ≡ cond (ltb lastLayer l) Layer Done
 Answers b Check r = Checked (b .layers) r
 Answers b (Query l x) r = r ≡ queried b l x
 
@@ -97,8 +98,8 @@ isDone (Dented k p) = false
 isDone Layer = false
 
 unfoldable pub next : PileBook → PileCall → PileReply → PileBook
-next b (Set l o) r = cond (ltb 15 l) b (setBook b l o (verdictOf o))
-next b (SetEmpty l) r = cond (ltb 15 l) b (putLayer b l none)
+next b (Set l o) r = cond (ltb lastLayer l) b (setBook b l o (verdictOf o))
+next b (SetEmpty l) r = cond (ltb lastLayer l) b (putLayer b l none)
 next b Check r = record { layers = b .layers; passed = isDone r }
 next b (Query l x) r = b
 
