@@ -3,7 +3,7 @@
 use Prim.Native.Nat.{ℕ, _<_}
 use mathlib.Core.Path.{_≡_, refl, sym, ap, _∙_}
 use mathlib.Core.Bool.{Bool, true, false}
-use mathlib.Core.Logic.{_↔_, _⊎_, inl, inr}
+use mathlib.Core.Logic.{_↔_}
 use lib.Dec.{ltb}
 use borrow.Author.Tests.{ltb-true, ltb-false}
 use Rattle.chart.specs.declared.Point.{Point}
@@ -46,13 +46,6 @@ module _ (o : Outline) (h : Simple o) where
   pub missing-none : isMissing o ≡ false → Convex (block o)
   unfolding isMissing
   missing-none e = none-missing (block o) (firstSide o) (secondSide o) (lastSide o) (lowestCorner o) (highestCorner o) (side-ends o h) (first-run o h) (ltb-false row (highestCorner o) e)
-
-  pub found-or-convex : LowestMissing (block o) (lowestMissing o) ⊎ Convex (block o)
-  found-or-convex = go (isMissing o) refl
-    where
-      go : (a : Bool) → isMissing o ≡ a → LowestMissing (block o) (lowestMissing o) ⊎ Convex (block o)
-      go true e = inl (missing-lowest e)
-      go false e = inr (missing-none e)
 
   pub missing-iff : (isMissing o ≡ true) ↔ ((x : Point) × Missing (block o) x)
   missing-iff = ((λ e. (lowestMissing o, missing-lowest e .missing)), λ m. go (isMissing o) refl m)
