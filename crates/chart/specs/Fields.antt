@@ -17,7 +17,7 @@ use Rattle.chart.specs.declared.Nesting.the-variants.{Equal, FirstWithin
 use Rattle.chart.specs.declared.Comparison.{Comparison}
 use Rattle.chart.specs.declared.Comparison.the-variants.{Found, Refused as TurnedBack}
 
--- The words of a reply (contract 4.3)
+-- The words of a reply (contract 4.3): of a test, a query and a comparison, and of a holder's calls
 abbrev pub no-word : ℕ
 no-word = 0
 
@@ -33,8 +33,23 @@ taken = 3
 abbrev pub same : ℕ
 same = 4
 
+abbrev pub none : ℕ
+none = 5
+
+abbrev pub columns : ℕ
+columns = 6
+
 abbrev pub undecided : ℕ
 undecided = 7
+
+abbrev pub move : ℕ
+move = 8
+
+abbrev pub line : ℕ
+line = 9
+
+abbrev pub close : ℕ
+close = 10
 
 abbrev pub equal : ℕ
 equal = 11
@@ -103,7 +118,10 @@ abbrev pub comparisonFields : Comparison → Fields
 comparisonFields (Found v) = nestingFields v
 comparisonFields (TurnedBack list f) = placed (refusalFields f .number) list
 
--- A reply as seven numbers
+-- How many numbers a reply has, and the reply as these numbers
+abbrev pub replyWidth : ℕ
+replyWidth = 7
+
 unfoldable pub numbersOf : Fields → List ℕ
 numbersOf f = f .number ∷ f .word ∷ f .place ∷ f .piece ∷ f .length ∷ f .col ∷ f .row ∷ []
 
@@ -114,4 +132,4 @@ fieldsOf l =
 
 -- A buffer after a reply is written to it: the seven numbers, then the old content. A buffer with room for fewer than seven is unchanged
 unfoldable pub replyAfter : Fields → List ℕ → List ℕ
-replyAfter f buffer = cond (leb 7 (length buffer)) (numbersOf f ++ drop 7 buffer) buffer
+replyAfter f buffer = cond (leb replyWidth (length buffer)) (numbersOf f ++ drop replyWidth buffer) buffer

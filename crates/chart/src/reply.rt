@@ -9,10 +9,28 @@ use crate::Verdict;
 ghost use mathlib.Core.Path.{_≡_};
 ghost use lib.ListN.{length};
 ghost use lib.Dec.{leb};
-ghost use Rattle.chart.specs.Fields.{numbered as numberedOf, placed as placedOf, said as saidOf, accepted as acceptedOf, refusalFields, verdictFields, positionFields, handing as handingOf, nestingFields, comparisonFields, replyAfter};
+ghost use Rattle.chart.specs.Fields.{numbered as numberedOf, placed as placedOf, said as saidOf, accepted as acceptedOf, refusalFields, verdictFields, positionFields, handing as handingOf, nestingFields, comparisonFields, replyWidth, replyAfter};
 
 // The count of numbers in a reply.
 pub const NUMBERS: usize = 7;
+
+// The words of a reply (contract 4.3).
+pub const NO_WORD: u16 = 0;
+pub const INSIDE: u16 = 1;
+pub const OUTSIDE: u16 = 2;
+pub const TAKEN: u16 = 3;
+pub const SAME: u16 = 4;
+pub const NONE: u16 = 5;
+pub const COLUMNS: u16 = 6;
+pub const UNDECIDED: u16 = 7;
+pub const MOVE: u16 = 8;
+pub const LINE: u16 = 9;
+pub const CLOSE: u16 = 10;
+pub const EQUAL: u16 = 11;
+pub const FIRST_WITHIN: u16 = 12;
+pub const SECOND_WITHIN: u16 = 13;
+pub const NO_COMMON: u16 = 14;
+pub const CROSSING: u16 = 15;
 
 // A reply with a number only.
 pub fn numbered(number: u16) -> Fields
@@ -27,7 +45,7 @@ pub fn placed(number: u16, place: u16) -> Fields
 {
     Fields {
         number,
-        word: 0,
+        word: NO_WORD,
         place,
         piece: 0,
         length: 0,
@@ -70,7 +88,7 @@ pub fn of_refusal(f: Refusal) -> Fields
         Refusal::Touches { place } => placed(6, place),
         Refusal::BackStep { piece, place } => Fields {
             number: 8,
-            word: 0,
+            word: NO_WORD,
             place,
             piece,
             length: 0,
@@ -84,7 +102,7 @@ pub fn of_refusal(f: Refusal) -> Fields
             cell,
         } => Fields {
             number: 9,
-            word: 0,
+            word: NO_WORD,
             place,
             piece,
             length,
@@ -102,7 +120,7 @@ pub fn of_verdict(v: Verdict) -> Fields
     ensures { λ r. ⌜ r ≡ verdictFields v ⌝ }
 {
     match v {
-        Verdict::Taken { edges, anchor } => accepted(0, edges, anchor),
+        Verdict::Taken { edges, anchor } => accepted(NO_WORD, edges, anchor),
         Verdict::Refused(f) => of_refusal(f),
     }
 }
@@ -111,8 +129,8 @@ pub fn of_position(p: Position) -> Fields
     ensures { λ r. ⌜ r ≡ positionFields p ⌝ }
 {
     match p {
-        Position::Inside => said(1),
-        Position::Outside => said(2),
+        Position::Inside => said(INSIDE),
+        Position::Outside => said(OUTSIDE),
         Position::Refused(f) => of_refusal(f),
     }
 }
@@ -136,11 +154,11 @@ pub fn of_nesting(v: Nesting) -> Fields
     ensures { λ r. ⌜ r ≡ nestingFields v ⌝ }
 {
     match v {
-        Nesting::Equal => handing(11, 1),
-        Nesting::FirstWithin => handing(12, 1),
-        Nesting::SecondWithin => handing(13, 2),
-        Nesting::Apart => handing(14, 0),
-        Nesting::Crossing => handing(15, 0),
+        Nesting::Equal => handing(EQUAL, 1),
+        Nesting::FirstWithin => handing(FIRST_WITHIN, 1),
+        Nesting::SecondWithin => handing(SECOND_WITHIN, 2),
+        Nesting::Apart => handing(NO_COMMON, 0),
+        Nesting::Crossing => handing(CROSSING, 0),
     }
 }
 
@@ -155,7 +173,7 @@ pub fn of_comparison(c: Comparison) -> Fields
 
 // Writes a reply's seven numbers to the front of a buffer. Returns whether it has room for them.
 pub fn write(f: Fields, list: &mut [u16]) -> bool
-    ensures room { λ r. ⌜ r ≡ leb 7 (length (now (list .entry))) ⌝ }
+    ensures room { λ r. ⌜ r ≡ leb replyWidth (length (now (list .entry))) ⌝ }
     ensures list { λ r. ⌜ now (list .exit) ≡ replyAfter f (now (list .entry)) ⌝ }
 {
     if list.len() < NUMBERS {
