@@ -5,11 +5,11 @@ use native.Mathlib.Numerals.{add-one}
 use native.Mathlib.Omega.{arith}
 use mathlib.Core.Path.{_≡_, sym, ap, _∙_}
 use mathlib.Core.Bool.{true, false}
-use mathlib.Core.List.{List, [], _∷_, _++_, append-assoc, append-nil}
+use mathlib.Core.List.{List, _++_}
 use lib.ListN.{length, getD, take, drop, set, length-drop}
 use lib.Seq.{take-all, length-take-le, paste, paste-zero, paste-suc, length-paste, take-paste}
-use Rattle.convexity.specs.Clockwise.{opposite, backward}
-use Rattle.convexity.proofs.Clockwise.{length-backward}
+use Rattle.convexity.specs.Clockwise.{backward}
+use Rattle.convexity.proofs.Clockwise.{length-backward, backward-append}
 use Rattle.clockwise_copy.specs.parts.ClockwiseCopy.{readRound}
 
 -- ---- a list copied
@@ -48,12 +48,6 @@ take-two u v before room =
     ap (λ (n : ℕ). take n d) (sym (zero-add (length u))) ∙ take-paste before 0 u (length u) (omega arith) (omega arith) ∙ take-all (length u) u (omega arith) in
     let two : take (length v) v ≡ v = take-all (length v) v (omega arith) in
     take-paste d (length u) v (length v) (omega arith) (omega arith) ∙ (λ z. one z ++ two z)
-
--- Backward, the later list comes first
-backward-append : (u v : List ℕ) → backward (u ++ v) ≡ backward v ++ backward u
-unfolding backward
-backward-append [] v = sym (append-nil (backward v))
-backward-append (a ∷ u) v = ap (λ (w : List ℕ). w ++ (opposite a ∷ [])) (backward-append u v) ∙ append-assoc (backward v) (backward u) (opposite a ∷ [])
 
 -- The letters from a place on and those up to it, as parts of a list
 module _ (w : List ℕ) (from : ℕ) where

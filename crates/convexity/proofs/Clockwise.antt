@@ -294,7 +294,8 @@ tally-closed f g same o k e = ap (λ (q : Point). tally f q (backward (o .letter
 
 -- ---- the walk from W
 
-backward-append : (u v : List ℕ) → backward (u ++ v) ≡ backward v ++ backward u
+-- Backward, the later list comes first
+pub backward-append : (u v : List ℕ) → backward (u ++ v) ≡ backward v ++ backward u
 unfolding backward
 backward-append [] v = sym (append-nil (backward v))
 backward-append (a ∷ u) v = ap (λ (x : List ℕ). x ++ (opposite a ∷ [])) (backward-append u v) ∙ append-assoc (backward v) (backward u) (opposite a ∷ [])
