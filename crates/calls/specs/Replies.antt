@@ -1,28 +1,12 @@
 -- Every case of `Reply` in seven fields: number, word and the rest (contract 4 and 5).
-use Prim.Native.Nat.{ℕ}
 use Rattle.chart.specs.declared.Fields.{Fields}
 use Rattle.chart.specs.Fields.{numbered, said, accepted, refusalFields, no-word, inside, outside, undecided, taken, same}
+pub use Rattle.chart.specs.Fields.{none, columns, move, line, close}
 use Rattle.chart.specs.declared.Point.{Point}
 use Rattle.calls.specs.declared.Piece.{Piece}
 use Rattle.calls.specs.declared.Piece.the-variants.{Move, Line, Close, None as NoPiece}
 use Rattle.calls.specs.declared.Reply.{Reply}
 use Rattle.calls.specs.declared.Reply.the-variants.{Done, Inside, Outside, Undecided, Columns, None, Drawn, Taken, Same, Refused, NothingAtWork, NoDraft, DraftOpen, DraftFull, NoParty, NoPlace}
-
--- The words of a holder's replies; the witness call uses "none" too
-abbrev pub none : ℕ
-none = 5
-
-abbrev pub columns : ℕ
-columns = 6
-
-abbrev pub move : ℕ
-move = 8
-
-abbrev pub line : ℕ
-line = 9
-
-abbrev pub close : ℕ
-close = 10
 
 -- A piece in seven numbers: its word and, for a move or a line, the cell whose centre is the point (contract 7.11)
 unfoldable pub pieceFields : Piece → Point → Fields

@@ -23,10 +23,10 @@ fn of_piece(piece: Piece, cell: Point) -> Fields
     ensures { λ f. ⌜ f ≡ pieceFields piece cell ⌝ }
 {
     match piece {
-        Piece::Move(_, _) => reply::accepted(8, 0, cell),
-        Piece::Line(_, _) => reply::accepted(9, 0, cell),
-        Piece::Close => reply::said(10),
-        Piece::None => reply::said(5),
+        Piece::Move(_, _) => reply::accepted(reply::MOVE, 0, cell),
+        Piece::Line(_, _) => reply::accepted(reply::LINE, 0, cell),
+        Piece::Close => reply::said(reply::CLOSE),
+        Piece::None => reply::said(reply::NONE),
     }
 }
 
@@ -34,22 +34,22 @@ pub fn of_reply(r: Reply) -> Fields
     ensures { λ f. ⌜ f ≡ replyFields r ⌝ }
 {
     match r {
-        Reply::Done => reply::said(0),
-        Reply::Inside => reply::said(1),
-        Reply::Outside => reply::said(2),
-        Reply::Undecided => reply::said(7),
+        Reply::Done => reply::said(reply::NO_WORD),
+        Reply::Inside => reply::said(reply::INSIDE),
+        Reply::Outside => reply::said(reply::OUTSIDE),
+        Reply::Undecided => reply::said(reply::UNDECIDED),
         Reply::Columns { first, last } => reply::accepted(
-            6,
+            reply::COLUMNS,
             0,
             Point {
                 col: first,
                 row: last,
             },
         ),
-        Reply::None => reply::said(5),
+        Reply::None => reply::said(reply::NONE),
         Reply::Drawn { piece, cell } => of_piece(piece, cell),
-        Reply::Taken { edges, anchor } => reply::accepted(3, edges, anchor),
-        Reply::Same { edges, anchor } => reply::accepted(4, edges, anchor),
+        Reply::Taken { edges, anchor } => reply::accepted(reply::TAKEN, edges, anchor),
+        Reply::Same { edges, anchor } => reply::accepted(reply::SAME, edges, anchor),
         Reply::Refused(why) => reply::of_refusal(why),
         Reply::NothingAtWork => reply::numbered(12),
         Reply::NoDraft => reply::numbered(13),

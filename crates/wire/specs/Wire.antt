@@ -5,6 +5,7 @@ use mathlib.Core.List.{List}
 use lib.ListN.{length, getD}
 use lib.Dec.{leb, eqb}
 use Rattle.chart.specs.declared.Point.{Point}
+pub use Rattle.chart.specs.Fields.{replyWidth}
 use Rattle.calls.specs.Calls.{by}
 use Rattle.calls.specs.declared.Action.the-variants.{Begin, Add, Drop, Clear, Close, Ask}
 use Rattle.calls.specs.declared.Question.the-variants.{Cell as OfCell, Row as OfRow, Reading as OfReading, Piece as OfPiece}
@@ -12,12 +13,9 @@ use Rattle.readings.specs.Located.{readingOf}
 use Rattle.wire.specs.declared.Decoded.{Decoded}
 use Rattle.wire.specs.declared.Decoded.the-variants.{Call as Said, Nothing}
 
--- How many bytes a call has, and how many numbers a reply
+-- How many bytes a call has
 abbrev pub callWidth : ℕ
 callWidth = 11
-
-abbrev pub replyWidth : ℕ
-replyWidth = 7
 
 -- A 32-bit number, low byte first; its first two bytes; its first byte
 abbrev pub long : ℕ → ℕ → ℕ → ℕ → ℕ
