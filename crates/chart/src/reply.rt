@@ -16,20 +16,35 @@ pub const NUMBERS: usize = 7;
 
 // The words of a reply (contract 4.3).
 pub const NO_WORD: u16 = 0;
+
 pub const INSIDE: u16 = 1;
+
 pub const OUTSIDE: u16 = 2;
+
 pub const TAKEN: u16 = 3;
+
 pub const SAME: u16 = 4;
+
 pub const NONE: u16 = 5;
+
 pub const COLUMNS: u16 = 6;
+
 pub const UNDECIDED: u16 = 7;
+
 pub const MOVE: u16 = 8;
+
 pub const LINE: u16 = 9;
+
 pub const CLOSE: u16 = 10;
+
 pub const EQUAL: u16 = 11;
+
 pub const FIRST_WITHIN: u16 = 12;
+
 pub const SECOND_WITHIN: u16 = 13;
+
 pub const NO_COMMON: u16 = 14;
+
 pub const CROSSING: u16 = 15;
 
 // A reply with a number only.
