@@ -23,9 +23,16 @@ export class Pointers {
     event.preventDefault();
     this.svg.focus({ preventScroll: true });
     this.capture(event.pointerId);
+    // The first of its kind: others that seem to be down were lifted where the page could not see it.
+    if (event.isPrimary) this.forget();
     this.down.set(event.pointerId, [event.clientX, event.clientY]);
     if (this.down.size > 1) this.begin();
     else if (!this.gesture) this.start(event);
+  }
+
+  forget() {
+    this.down.clear();
+    this.gesture = false;
   }
 
   capture(id) {

@@ -18,6 +18,8 @@ export class Tools {
   // Begins at a cell; `erase` has the pen's other end or the right button.
   press(cell, erase = false) {
     const { app } = this;
+    // A stroke by keys may be open still.
+    this.release();
     const mark = this.ink === "paint" && !erase;
     this.stroke = { before: app.state, drawing: app.drawing, first: cell, last: cell, mark };
     this.note = null;

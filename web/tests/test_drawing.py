@@ -234,6 +234,14 @@ class Fingers(PageTest):
         self.says("No cell is marked")
         self.assertFalse(self.by("undo").is_enabled())
 
+    def test_a_finger_that_was_lifted_unseen_is_forgotten(self):
+        lost = "document.getElementById('chart').dispatchEvent(new PointerEvent('pointerdown', { pointerId: 99, isPrimary: true }))"
+        self.script(lost)
+        x, y = self.point((4, 4))
+        self.touch("touchStart", (x, y))
+        self.touch("touchEnd")
+        self.assertIn((4, 4), self.cells())
+
     def scale(self):
         return self.script("return document.querySelector('#chart .plot').getScreenCTM().a")
 
@@ -294,6 +302,17 @@ class KeysAlone(PageTest):
         self.script("document.getElementById('tab-holder').click(); document.getElementById('place-0-0').focus()")
         self.keys(Keys.ARROW_LEFT)
         self.assertEqual(self.by("place-1-3").get_attribute("aria-checked"), "true")
+
+    def test_a_mouse_ends_a_stroke_by_keys(self):
+        self.to_chart()
+        self.keys("r", Keys.SPACE, Keys.ARROW_RIGHT, Keys.ARROW_UP)
+        self.assertEqual(len(self.cells()), 4)
+        self.click((5, 5))
+        self.assertEqual(len(self.cells()), 5)
+        self.press("undo")
+        self.assertEqual(len(self.cells()), 4)
+        self.press("undo")
+        self.says("No cell is marked")
 
     def test_what_was_spoken_is_not_left_behind(self):
         self.to_chart()
