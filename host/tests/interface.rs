@@ -463,6 +463,16 @@ fn refusals_in_words() {
     assert_eq!(error.to_string(), "there is no draft");
 }
 
+/// Readings are floats, and equal by their bits.
+#[test]
+fn readings_as_values() {
+    let reading = Reading { angle: 1.25, load: 0.75 };
+    assert_eq!((reading, reading.bits()), (Reading::new(1.25, 0.75), (1.25f32.to_bits(), 0.75f32.to_bits())));
+    let none = Reading::from_bits(0x7fc0_0001, 0xff80_0001);
+    assert!(none.angle.is_nan() && none == none && none != Reading::from_bits(0x7fc0_0002, 0xff80_0001));
+    assert_ne!(Reading::new(0.0, 1.0), Reading::new(-0.0, 1.0));
+}
+
 /// The archive that is linked is named by its digest, of which the standard's examples hold.
 #[test]
 fn the_library_says_which_it_is() {

@@ -11,7 +11,7 @@ use super::{too_large, Entries, Fault, Form};
 pub const LONGEST_LINE: usize = LONGEST_FILE;
 
 /// A read asks for this many bytes.
-const READ: usize = 1 << 17;
+const READ: usize = 1 << 16;
 
 /// What some editors put before a text in UTF-8.
 const BYTE_ORDER_MARK: &[u8] = b"\xEF\xBB\xBF";
