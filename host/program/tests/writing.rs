@@ -23,6 +23,8 @@ fn text_to_fitting_file_and_back() {
 
     let unsaid = program(&["convert", &text]);
     assert!(err(&unsaid).starts_with("robequarry: convert needs a form: --to text or --to fitting\n"));
+    let both = program(&["convert", &text, "--to=fitting", "-o", "a.txt"]);
+    assert!(err(&both).starts_with("robequarry: --to fitting and the name a.txt contradict each other\n"));
     let start = fed(&["convert", "-", "--to=fitting"], b"0 0 1032\n256 0 1032\n");
     assert!(err(&start).starts_with("robequarry: -: outline 1: a record has a byte for each number"), "{}", err(&start));
     assert_eq!((status(&start), start.stdout.len()), (2, 0));
@@ -144,6 +146,7 @@ fn contradictions_in_a_picture() {
         (&["--complete", "--witness"], "--complete and --witness contradict each other: give one of them"),
         (&["--pile", "--column=1", "--row=1"], "--column and --row contradict each other: give one of them"),
         (&["--column=1"], "--column goes with --pile"),
+        (&["--second=1"], "--second goes with --compare"),
         (&["--pile", "--row=255"], "--row is a number from 0 to 254"),
     ] {
         let called = program(&[&["draw", &file("writing/one.txt", b"0 0 1032\n"), "-o", "x.svg"], arguments].concat());

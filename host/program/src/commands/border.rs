@@ -3,12 +3,12 @@ use std::path::Path;
 
 use robequarry::{text, Cell, Edges};
 
-use super::{number, put, refused, written, Command, Console, Failure, Status};
+use super::{form_to_write, number, put, refused, written, Command, Console, Failure, Status};
 use crate::arguments::Arguments;
 use crate::audit;
 use crate::engine;
 use crate::input::Form;
-use crate::output::{form_of, Sink};
+use crate::output::Sink;
 
 pub const COMMAND: Command = Command {
     name: "border",
@@ -43,13 +43,12 @@ fn run(arguments: &Arguments, console: &mut Console) -> Result<Status, Failure> 
     }
 }
 
-fn sink(arguments: &Arguments) -> Sink {
-    let out = arguments.path("--out");
-    Sink::to(out, arguments.to().or(out.and_then(form_of)).unwrap_or(Form::Text))
+fn sink(arguments: &Arguments) -> Result<Sink, Failure> {
+    Ok(Sink::to(arguments.path("--out"), form_to_write(arguments)?.unwrap_or(Form::Text)))
 }
 
 fn from_numbers(edges: &Edges, arguments: &Arguments, console: &mut Console) -> Result<Status, Failure> {
-    let mut sink = sink(arguments);
+    let mut sink = sink(arguments)?;
     match engine::border(edges) {
         Ok(outline) => {
             put(sink.outline(&outline, "", console), Path::new("border"), 0)?;
@@ -63,7 +62,7 @@ fn from_numbers(edges: &Edges, arguments: &Arguments, console: &mut Console) -> 
 fn from_file(path: &Path, arguments: &Arguments, console: &mut Console) -> Result<Status, Failure> {
     let faulty = |sentence: String| Failure::File(path.to_path_buf(), sentence);
     let lines = audit::open(path).map_err(|error| faulty(format!("cannot be read: {error}")))?;
-    let mut sink = sink(arguments);
+    let mut sink = sink(arguments)?;
     let mut all = true;
     for line in lines.map_err(|wrong| faulty(wrong.to_string()))? {
         let line = line.map_err(|wrong| faulty(wrong.to_string()))?;

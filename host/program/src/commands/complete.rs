@@ -1,7 +1,7 @@
-use super::{answer, faulty, plain, put, read, say_empty, title, written, Command, Console, Failure, Status};
+use super::{answer, faulty, form_to_write, plain, put, read, say_empty, title, written, Command, Console, Failure, Status};
 use crate::arguments::Arguments;
 use crate::input::Form;
-use crate::output::{form_of, Sink};
+use crate::output::Sink;
 use crate::verdict::{count, Said};
 
 pub const COMMAND: Command = Command {
@@ -23,7 +23,7 @@ Here the exit status is 0 if every outline has a completion, also where the test
 fn run(arguments: &Arguments, console: &mut Console) -> Result<Status, Failure> {
     let [path] = plain(arguments, "complete takes one file")?;
     let out = arguments.path("--out");
-    let form = arguments.to().or(out.and_then(form_of)).unwrap_or(Form::Text);
+    let form = form_to_write(arguments)?.unwrap_or(Form::Text);
     let mut sink = Sink::to(out, form);
     let (mut number, mut all) = (0, true);
     let mut reader = read(path, arguments)?;

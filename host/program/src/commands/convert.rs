@@ -1,6 +1,6 @@
-use super::{answer, faulty, plain, put, read, say_empty, written, Command, Console, Failure, Status};
+use super::{answer, faulty, form_to_write, plain, put, read, say_empty, written, Command, Console, Failure, Status};
 use crate::arguments::Arguments;
-use crate::output::{form_of, Sink};
+use crate::output::Sink;
 use crate::verdict::count;
 
 pub const COMMAND: Command = Command {
@@ -23,7 +23,7 @@ Here the exit status is 0 if every outline was written, and 2 if not.",
 fn run(arguments: &Arguments, console: &mut Console) -> Result<Status, Failure> {
     let [path] = plain(arguments, "convert takes one file")?;
     let out = arguments.path("--out");
-    let Some(form) = arguments.to().or(out.and_then(form_of)) else {
+    let Some(form) = form_to_write(arguments)? else {
         return Err(Failure::Call("convert needs a form: --to text or --to fitting".to_string()));
     };
     let mut sink = Sink::to(out, form);

@@ -52,6 +52,9 @@ fn run(arguments: &Arguments, console: &mut Console) -> Result<Status, Failure> 
     let Some(out) = arguments.path("--out") else {
         return Err(Failure::Call("draw needs a name for its picture: -o OUT.svg".to_string()));
     };
+    if arguments.has("--second") && !arguments.has("--compare") {
+        return Err(Failure::Call("--second goes with --compare".to_string()));
+    }
     refuse_other_formats(out)?;
     let draw = match () {
         () if arguments.has("--all") => all,

@@ -27,7 +27,7 @@ use robequarry::Refusal;
 use crate::arguments::{nearest, Arguments};
 use crate::console;
 use crate::engine::AtWork;
-use crate::input::{Entry, Fault, Reader};
+use crate::input::{Entry, Fault, Form, Reader};
 use crate::options;
 use crate::output::{self, Sink};
 use crate::verdict::Said;
@@ -301,6 +301,18 @@ fn at_work(path: &Path, arguments: &Arguments, console: &mut Console) -> Result<
         return Ok(None);
     }
     Ok(Some(AtWork::of(&entry.outline).expect("what a test takes a holder takes")))
+}
+
+/// The form in which outlines are written: that of --to, or that of the file's name. The two must agree.
+fn form_to_write(arguments: &Arguments) -> Result<Option<Form>, Failure> {
+    let name = arguments.path("--out").and_then(|out| Some((out, output::form_of(out)?)));
+    match (arguments.to(), name) {
+        (Some(to), Some((out, form))) if to != form => {
+            let word = if to == Form::Text { "text" } else { "fitting" };
+            Err(Failure::Call(format!("--to {word} and the name {} contradict each other", out.display())))
+        }
+        (to, name) => Ok(to.or(name.map(|(_, form)| form))),
+    }
 }
 
 /// What became of writing an outline of a file.
