@@ -1,16 +1,15 @@
 -- After i iterations the first i numbers are copied.
-use Prim.Native.Nat.{_+_, _-_, _≤_}
-use native.Mathlib.Numerals.{add-one}
+use Prim.Native.Nat.{_-_, _≤_}
 use native.Mathlib.Omega.{arith}
-use mathlib.Core.Path.{_≡_, sym, ap, _∙_}
-use mathlib.Core.List.{List}
-use lib.ListN.{length, getD, set}
-use lib.IntN.{ℤ, pos}
+use mathlib.Core.Path.{_≡_, _∙_}
+use lib.ListN.{length, getD}
+use lib.IntN.{pos}
 use mir.Syntax.{w16}
 use mir.ValLaws.{toZ-ofZ}
-use lib.Seq.{paste, paste-zero, paste-suc, length-paste}
+use lib.Seq.{paste, paste-zero}
 use borrow.Author.Needs.{needs}
 use Rattle.chart.specs.Limits.{mostNumbers}
+use Rattle.windows.proofs.Fills.{pasted-length, pasted-next}
 use Rattle.live_works.proofs.put_numbers.Statement.{statement}
 use Rattle.live_works.proofs.put_numbers.Tie as tie
 
@@ -39,7 +38,7 @@ mul-number-2 c = search needs
 kept : (c : tie.At-loop Inv-loop μ-loop) → length (c .loop .buffer) ≡ length (c .before .before .args .buffer .now)
 kept c =
     let a = c .before .before .args in
-    ap length (c .loop .inv .1) ∙ length-paste (a .buffer .now) (a .at) (a .list .now) (c .loop .i) (omega (arith, c .loop .inv .0, c .before .before .pre)) (omega (arith, c .loop .inv .0, c .before .all .given .0))
+    pasted-length (a .buffer .now) (a .at) (a .list .now) mostNumbers (c .before .before .pre) (c .before .all .given .0) _ (c .loop .i) (c .loop .inv)
 
 slice-set-from-number : tie.Need-slice-set-from-number Inv-loop μ-loop
 slice-set-from-number c = omega (arith, kept (c .before .before))
@@ -55,14 +54,9 @@ loop-again c =
     let iteration = c .before in
     let a = iteration .before .before .before .args in
     let i = iteration .before .loop .i in
-    let d = a .buffer .now in
-    let l = a .list .now in (
-      search needs,
-      rw (toZ-ofZ w16 (getD l i (pos 0)) (record { sfits = c .number .given }))
-          (ap (λ (e : List ℤ). set e (a .at + i) (getD l i (pos 0))) (iteration .before .loop .inv .1)
-          ∙ paste-suc d (a .at) l i (pos 0) (omega (arith, iteration .loop-test .taken, iteration .before .before .before .pre)) (omega (arith, iteration .loop-test .taken, iteration .before .before .all .given .0))
-          ∙ ap (paste d (a .at) l) (sym (add-one i))),
-    )
+    pasted-next (a .buffer .now) (a .at) (a .list .now) mostNumbers (iteration .before .before .before .pre) (iteration .before .before .all .given .0)
+    _ i (pos 0) _ (toZ-ofZ w16 (getD (a .list .now) i (pos 0)) (record { sfits = c .number .given }))
+    (iteration .before .loop .inv) (omega (arith, iteration .loop-test .taken))
 
 same-length : tie.Need-same-length Inv-loop μ-loop
 same-length c = kept (c .before)
