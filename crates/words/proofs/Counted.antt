@@ -4,7 +4,7 @@ use Prim.Native.Nat.{ℕ, zero, suc, _+_, _*_, _/_, _%_, _≤_, _<_}
 use mathlib.Core.Path.{_≡_, refl, sym, ap, _∙_}
 use mathlib.Core.Logic.{_↔_}
 use mathlib.Core.Bool.{Bool, true, false, not, false≢true}
-use mathlib.Core.List.{List, [], _∷_, _++_, append-nil, append-assoc}
+use mathlib.Core.List.{List, [], _∷_, _++_, append-assoc}
 use native.Mathlib.Decide.{decLe}
 use native.Mathlib.Nat.{zero-add, suc-add, zero-mul, suc-mul, add-mul, mul-left-comm, mod-lt, mod-eq-of-lt, mod-add-mod, add-mul-mod-self-left, mul-add-mod-self-left, mul-lt-mul-of-pos-left, lt-of-mul-lt-mul-left, mul-zero, mul-one, one-mul, mul-add, mul-pos, mul-le-mul-left, le-of-mul-le-mul-left, zero-div, mul-mod-right, mod-add-div, le-dest, mul-div-cancel-left, eq-of-mul-eq-mul-right}
 use native.Mathlib.Omega.{arith}
@@ -355,7 +355,3 @@ unfolding edgesWord
 edgesWord-append [] fs = refl
 edgesWord-append (e ∷ es) fs =
     ap (λ (w : Word). edgeWord (e .0) (e .1) ++ w) (edgesWord-append es fs) ∙ sym (append-assoc (edgeWord (e .0) (e .1)) (edgesWord es) (edgesWord fs))
-
-pub edgesWord-one : (run rise : ℕ) → edgesWord ((run, rise) ∷ []) ≡ edgeWord run rise
-unfolding edgesWord
-edgesWord-one run rise = append-nil (edgeWord run rise)
