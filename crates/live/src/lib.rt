@@ -1,9 +1,9 @@
 // The calls on a holder in the caller's arrays (contract 10.4): close and clear, any call, one call as bytes, and a fresh holder.
 use calls::Action;
-use calls::Call;
 use calls::PARTIES;
 use calls::PLACES;
 use calls::Question;
+use calls::Reading;
 use calls::Reply;
 use calls::written::of_reply;
 use chart::MOST_NUMBERS;
@@ -19,24 +19,27 @@ use live_memory::HEADS;
 use live_memory::LETTERS;
 use live_memory::NUMBERS;
 use live_memory::ROW_BYTES;
-use live_works::answered;
 use live_works::has;
 use live_works::remove;
 use live_works::replace;
+use readings::from_bits;
 use windows::zero_i16;
 use windows::zero_u8;
 use windows::zero_u16;
-use wire::Decoded;
-use wire::received;
+use wire::BYTES;
+use wire::letter;
+use wire::long;
+use wire::point;
+use wire::short;
 ghost use mathlib.Core.Path.{_≡_};
 ghost use mathlib.Core.Bool.{cond};
 ghost use mathlib.Core.List.{List};
-ghost use Prim.Native.Nat.{ℕ, _<_};
+ghost use Prim.Native.Nat.{ℕ, _<_, _≤_};
 ghost use lib.ListN.{length};
 ghost use lib.IntN.{ℤ};
-ghost use Rattle.calls.specs.Calls.{parties, places};
-ghost use Rattle.wire.specs.Wire.{received as receivedOf};
-ghost use Rattle.live_memory.specs.Layout.{memory, Fits, WorksFit};
+ghost use Rattle.calls.specs.Calls.{by, parties, places};
+ghost use Rattle.wire.specs.Wire.{callOf, replyWidth, received as receivedOf};
+ghost use Rattle.live_memory.specs.Layout.{memory, DraftsFit, Fits};
 ghost use Rattle.live_memory.specs.parts.Writes.{Acts, Answers};
 ghost use Rattle.live.specs.Called.{Called, Freshened};
 
@@ -133,48 +136,177 @@ pub fn clear(heads: &mut [u16], party: usize, place: u8) -> Reply
     Reply::Done
 }
 
-// 20, or the reply of the work at the place.
-pub fn ask(
-    rows: &[u8],
-    numbers: &[i16],
-    heads: &[u16],
-    party: usize,
-    place: u8,
-    question: Question,
-) -> Reply
-    requires { ⌜ (party < parties) × WorksFit (now rows) (now numbers) (now heads) ⌝ }
-    ensures { λ r. ⌜ ((letters : List ℕ) → Acts (memory letters (now (rows .entry)) (now (numbers .entry)) (now (heads .entry))) (memory letters (now (rows .entry)) (now (numbers .entry)) (now (heads .entry))) party (Action.Ask place question) r) ⌝ }
+// 19, or a begin.
+pub fn begin_of(heads: &mut [u16], party: u8, start: Point) -> Reply
+    requires { ⌜ length (now heads) ≡ 40 ⌝ }
+    ensures { λ r. ⌜ ((letters rows : List ℕ) (numbers : List ℤ) → Answers (memory letters rows numbers (now (heads .entry))) (memory letters rows numbers (now (heads .exit))) (by party (Action.Begin start)) r) ⌝ }
 {
-    let at = place as usize;
-    if PLACES <= at {
-        return Reply::NoPlace;
+    let at = party as usize;
+    if PARTIES <= at {
+        return Reply::NoParty;
     }
-    answered(rows, numbers, heads, 4 * party + at, question)
+    begin(heads, at, start)
 }
 
-// A call on the holder in the arrays.
-pub fn answer(
+// 19, or an add.
+pub fn add_of(letters: &mut [u8], heads: &mut [u16], party: u8, letter: u8) -> Reply
+    requires { ⌜ DraftsFit (now letters) (now heads) ⌝ }
+    ensures { λ r. ⌜ ((rows : List ℕ) (numbers : List ℤ) → Answers (memory (now (letters .entry)) rows numbers (now (heads .entry))) (memory (now (letters .exit)) rows numbers (now (heads .exit))) (by party (Action.Add letter)) r) ⌝ }
+{
+    let at = party as usize;
+    if PARTIES <= at {
+        return Reply::NoParty;
+    }
+    add(letters, heads, at, letter)
+}
+
+// 19, or a drop.
+pub fn drop_of(heads: &mut [u16], party: u8) -> Reply
+    requires { ⌜ length (now heads) ≡ 40 ⌝ }
+    ensures { λ r. ⌜ ((letters rows : List ℕ) (numbers : List ℤ) → Answers (memory letters rows numbers (now (heads .entry))) (memory letters rows numbers (now (heads .exit))) (by party Action.Drop) r) ⌝ }
+{
+    let at = party as usize;
+    if PARTIES <= at {
+        return Reply::NoParty;
+    }
+    drop(heads, at)
+}
+
+// 19, or a clear.
+pub fn clear_of(heads: &mut [u16], party: u8, place: u8) -> Reply
+    requires { ⌜ length (now heads) ≡ 40 ⌝ }
+    ensures { λ r. ⌜ ((letters rows : List ℕ) (numbers : List ℤ) → Answers (memory letters rows numbers (now (heads .entry))) (memory letters rows numbers (now (heads .exit))) (by party (Action.Clear place)) r) ⌝ }
+{
+    let at = party as usize;
+    if PARTIES <= at {
+        return Reply::NoParty;
+    }
+    clear(heads, at, place)
+}
+
+// 19, or a close.
+pub fn close_of(
+    letters: &[u8],
+    rows: &mut [u8],
+    numbers: &mut [i16],
+    heads: &mut [u16],
+    party: u8,
+    place: u8,
+) -> Reply
+    requires { ⌜ Fits (memory (now letters) (now rows) (now numbers) (now heads)) ⌝ }
+    ensures { λ r. ⌜ Answers (memory (now (letters .entry)) (now (rows .entry)) (now (numbers .entry)) (now (heads .entry))) (memory (now (letters .entry)) (now (rows .exit)) (now (numbers .exit)) (now (heads .exit))) (by party (Action.Close place)) r ⌝ }
+{
+    let at = party as usize;
+    if PARTIES <= at {
+        return Reply::NoParty;
+    }
+    close_at(letters, rows, numbers, heads, at, place)
+}
+
+// 19, 20, or where the cell lies.
+pub fn query_of(rows: &[u8], heads: &[u16], party: u8, place: u8, cell: Point) -> Reply
+    requires { ⌜ (length (now rows) ≡ 4080) × (length (now heads) ≡ 40) ⌝ }
+    ensures { λ r. ⌜ ((letters : List ℕ) (numbers : List ℤ) → Answers (memory letters (now (rows .entry)) numbers (now (heads .entry))) (memory letters (now (rows .entry)) numbers (now (heads .entry))) (by party (Action.Ask place (Question.Cell cell))) r) ⌝ }
+{
+    let at = party as usize;
+    if PARTIES <= at {
+        return Reply::NoParty;
+    }
+    let k = place as usize;
+    if PLACES <= k {
+        return Reply::NoPlace;
+    }
+    live_works::query(rows, heads, 4 * at + k, cell)
+}
+
+// 19, 20, or the columns of the row.
+pub fn row_of(rows: &[u8], heads: &[u16], party: u8, place: u8, row: u16) -> Reply
+    requires { ⌜ (length (now rows) ≡ 4080) × (length (now heads) ≡ 40) ⌝ }
+    ensures { λ r. ⌜ ((letters : List ℕ) (numbers : List ℤ) → Answers (memory letters (now (rows .entry)) numbers (now (heads .entry))) (memory letters (now (rows .entry)) numbers (now (heads .entry))) (by party (Action.Ask place (Question.Row row))) r) ⌝ }
+{
+    let at = party as usize;
+    if PARTIES <= at {
+        return Reply::NoParty;
+    }
+    let k = place as usize;
+    if PLACES <= k {
+        return Reply::NoPlace;
+    }
+    live_works::row(rows, heads, 4 * at + k, row)
+}
+
+// 19, 20, or where the reading lies.
+pub fn reading_of(numbers: &[i16], heads: &[u16], party: u8, place: u8, reading: Reading) -> Reply
+    requires { ⌜ (length (now numbers) ≡ 1600) × (length (now heads) ≡ 40) ⌝ }
+    ensures { λ r. ⌜ ((letters : List ℕ) (rows : List ℕ) → Answers (memory letters rows (now (numbers .entry)) (now (heads .entry))) (memory letters rows (now (numbers .entry)) (now (heads .entry))) (by party (Action.Ask place (Question.Reading reading))) r) ⌝ }
+{
+    let at = party as usize;
+    if PARTIES <= at {
+        return Reply::NoParty;
+    }
+    let k = place as usize;
+    if PLACES <= k {
+        return Reply::NoPlace;
+    }
+    live_works::reading(numbers, heads, 4 * at + k, reading)
+}
+
+// 19, 20, or the path command at the position.
+pub fn piece_of(numbers: &[i16], heads: &[u16], party: u8, place: u8, position: u16) -> Reply
+    requires { ⌜ (length (now numbers) ≡ 1600) × (length (now heads) ≡ 40) ⌝ }
+    ensures { λ r. ⌜ ((letters : List ℕ) (rows : List ℕ) → Answers (memory letters rows (now (numbers .entry)) (now (heads .entry))) (memory letters rows (now (numbers .entry)) (now (heads .entry))) (by party (Action.Ask place (Question.Piece position))) r) ⌝ }
+{
+    let at = party as usize;
+    if PARTIES <= at {
+        return Reply::NoParty;
+    }
+    let k = place as usize;
+    if PLACES <= k {
+        return Reply::NoPlace;
+    }
+    live_works::piece(numbers, heads, 4 * at + k, position)
+}
+
+// The call of this number, with its reply in a buffer that has room. Each arm acts and writes by itself: no call and no reply that could be
+// of any kind goes through memory.
+fn act(
     letters: &mut [u8],
     rows: &mut [u8],
     numbers: &mut [i16],
     heads: &mut [u16],
-    call: Call,
-) -> Reply
-    requires { ⌜ Fits (memory (now letters) (now rows) (now numbers) (now heads)) ⌝ }
-    ensures { λ r. ⌜ Answers (memory (now (letters .entry)) (now (rows .entry)) (now (numbers .entry)) (now (heads .entry))) (memory (now (letters .exit)) (now (rows .exit)) (now (numbers .exit)) (now (heads .exit))) call r ⌝ }
+    number: u8,
+    party: u8,
+    place: u8,
+    x: u32,
+    y: u32,
+    reply: &mut [u16],
+) -> bool
+    requires { ⌜ Fits (memory (now letters) (now rows) (now numbers) (now heads)) × (replyWidth ≤ length (now reply)) ⌝ }
+    ensures { λ r. ⌜ Called (Fits (memory (now (letters .entry)) (now (rows .entry)) (now (numbers .entry)) (now (heads .entry)))) (memory (now (letters .entry)) (now (rows .entry)) (now (numbers .entry)) (now (heads .entry))) (memory (now (letters .exit)) (now (rows .exit)) (now (numbers .exit)) (now (heads .exit))) (callOf number party place x y) (now (reply .entry)) (now (reply .exit)) r ⌝ }
 {
-    let party = call.party as usize;
-    if PARTIES <= party {
-        return Reply::NoParty;
-    }
-    let action = call.action;
-    match action {
-        Action::Begin { start } => begin(heads, party, start),
-        Action::Add { letter } => add(letters, heads, party, letter),
-        Action::Drop => drop(heads, party),
-        Action::Clear { place } => clear(heads, party, place),
-        Action::Close { place } => close_at(letters, rows, numbers, heads, party, place),
-        Action::Ask { place, question } => ask(rows, numbers, heads, party, place, question),
+    match number {
+        0 => reply::write(of_reply(begin_of(heads, party, point(x, y))), reply),
+        1 => reply::write(of_reply(add_of(letters, heads, party, letter(x))), reply),
+        2 => reply::write(of_reply(drop_of(heads, party)), reply),
+        3 => reply::write(of_reply(clear_of(heads, party, place)), reply),
+        4 => {
+            let said = close_of(letters, rows, numbers, heads, party, place);
+            reply::write(of_reply(said), reply)
+        }
+        5 => reply::write(
+            of_reply(query_of(rows, heads, party, place, point(x, y))),
+            reply,
+        ),
+        6 => reply::write(of_reply(row_of(rows, heads, party, place, short(x))), reply),
+        7 => {
+            let said = reading_of(numbers, heads, party, place, from_bits(x, y));
+            reply::write(of_reply(said), reply)
+        }
+        8 => reply::write(
+            of_reply(piece_of(numbers, heads, party, place, short(x))),
+            reply,
+        ),
+        _ => false,
     }
 }
 
@@ -201,13 +333,26 @@ pub fn respond(
     if heads.len() != HEADS {
         return false;
     }
-    let decoded = received(bytes, reply.len());
-    let Decoded::Call(call) = decoded else {
+    if reply.len() < reply::NUMBERS {
         return false;
-    };
-    let said = answer(letters, rows, numbers, heads, call);
-    reply::write(of_reply(said), reply);
-    true
+    }
+    if bytes.len() != BYTES {
+        return false;
+    }
+    let x = long(bytes[3], bytes[4], bytes[5], bytes[6]);
+    let y = long(bytes[7], bytes[8], bytes[9], bytes[10]);
+    act(
+        letters,
+        rows,
+        numbers,
+        heads,
+        bytes[0],
+        bytes[1],
+        bytes[2],
+        x,
+        y,
+        reply,
+    )
 }
 
 // Makes arrays of the right lengths a fresh holder.

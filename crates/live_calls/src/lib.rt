@@ -1,11 +1,8 @@
 // One call by its arguments, on a holder in the caller's arrays (contract 10.4). Each function takes only the arrays that its call needs,
 // so that it uses no more stack than that call.
 use calls::Action;
-use calls::PARTIES;
-use calls::PLACES;
 use calls::Question;
 use calls::Reading;
-use calls::Reply;
 use calls::written::of_reply;
 use calls::written::piece_in;
 use chart::Point;
@@ -22,70 +19,7 @@ ghost use lib.ListN.{length};
 ghost use lib.IntN.{ℤ};
 ghost use Rattle.calls.specs.Calls.{by};
 ghost use Rattle.live_memory.specs.Layout.{DraftsFit, Fits, memory};
-ghost use Rattle.live_memory.specs.parts.Writes.{Answers};
 ghost use Rattle.live.specs.Called.{spoken, Called, PointDrawn};
-
-fn begin_of(heads: &mut [u16], party: u8, start: Point) -> Reply
-    requires { ⌜ length (now heads) ≡ 40 ⌝ }
-    ensures { λ r. ⌜ ((letters rows : List ℕ) (numbers : List ℤ) → Answers (memory letters rows numbers (now (heads .entry))) (memory letters rows numbers (now (heads .exit))) (by party (Action.Begin start)) r) ⌝ }
-{
-    let at = party as usize;
-    if PARTIES <= at {
-        return Reply::NoParty;
-    }
-    live_drafts::begin(heads, at, start)
-}
-
-fn add_of(letters: &mut [u8], heads: &mut [u16], party: u8, letter: u8) -> Reply
-    requires { ⌜ DraftsFit (now letters) (now heads) ⌝ }
-    ensures { λ r. ⌜ ((rows : List ℕ) (numbers : List ℤ) → Answers (memory (now (letters .entry)) rows numbers (now (heads .entry))) (memory (now (letters .exit)) rows numbers (now (heads .exit))) (by party (Action.Add letter)) r) ⌝ }
-{
-    let at = party as usize;
-    if PARTIES <= at {
-        return Reply::NoParty;
-    }
-    live_drafts::add(letters, heads, at, letter)
-}
-
-fn drop_of(heads: &mut [u16], party: u8) -> Reply
-    requires { ⌜ length (now heads) ≡ 40 ⌝ }
-    ensures { λ r. ⌜ ((letters rows : List ℕ) (numbers : List ℤ) → Answers (memory letters rows numbers (now (heads .entry))) (memory letters rows numbers (now (heads .exit))) (by party Action.Drop) r) ⌝ }
-{
-    let at = party as usize;
-    if PARTIES <= at {
-        return Reply::NoParty;
-    }
-    live_drafts::drop(heads, at)
-}
-
-fn clear_of(heads: &mut [u16], party: u8, place: u8) -> Reply
-    requires { ⌜ length (now heads) ≡ 40 ⌝ }
-    ensures { λ r. ⌜ ((letters rows : List ℕ) (numbers : List ℤ) → Answers (memory letters rows numbers (now (heads .entry))) (memory letters rows numbers (now (heads .exit))) (by party (Action.Clear place)) r) ⌝ }
-{
-    let at = party as usize;
-    if PARTIES <= at {
-        return Reply::NoParty;
-    }
-    live::clear(heads, at, place)
-}
-
-fn close_of(
-    letters: &[u8],
-    rows: &mut [u8],
-    numbers: &mut [i16],
-    heads: &mut [u16],
-    party: u8,
-    place: u8,
-) -> Reply
-    requires { ⌜ Fits (memory (now letters) (now rows) (now numbers) (now heads)) ⌝ }
-    ensures { λ r. ⌜ Answers (memory (now (letters .entry)) (now (rows .entry)) (now (numbers .entry)) (now (heads .entry))) (memory (now (letters .entry)) (now (rows .exit)) (now (numbers .exit)) (now (heads .exit))) (by party (Action.Close place)) r ⌝ }
-{
-    let at = party as usize;
-    if PARTIES <= at {
-        return Reply::NoParty;
-    }
-    live::close_at(letters, rows, numbers, heads, at, place)
-}
 
 pub fn begin(heads: &mut [u16], party: u8, start: Point, reply: &mut [u16]) -> bool
     ensures { λ r. ⌜ ((letters rows : List ℕ) (numbers : List ℤ) → Called (length (now (heads .entry)) ≡ 40) (memory letters rows numbers (now (heads .entry))) (memory letters rows numbers (now (heads .exit))) (spoken (by party (Action.Begin start)) (length (now (reply .entry)))) (now (reply .entry)) (now (reply .exit)) r) ⌝ }
@@ -96,7 +30,7 @@ pub fn begin(heads: &mut [u16], party: u8, start: Point, reply: &mut [u16]) -> b
     if reply.len() < reply::NUMBERS {
         return false;
     }
-    let said = begin_of(heads, party, start);
+    let said = live::begin_of(heads, party, start);
     reply::write(of_reply(said), reply)
 }
 
@@ -112,7 +46,7 @@ pub fn add(letters: &mut [u8], heads: &mut [u16], party: u8, letter: u8, reply: 
     if reply.len() < reply::NUMBERS {
         return false;
     }
-    let said = add_of(letters, heads, party, letter);
+    let said = live::add_of(letters, heads, party, letter);
     reply::write(of_reply(said), reply)
 }
 
@@ -125,7 +59,7 @@ pub fn drop(heads: &mut [u16], party: u8, reply: &mut [u16]) -> bool
     if reply.len() < reply::NUMBERS {
         return false;
     }
-    let said = drop_of(heads, party);
+    let said = live::drop_of(heads, party);
     reply::write(of_reply(said), reply)
 }
 
@@ -138,7 +72,7 @@ pub fn clear(heads: &mut [u16], party: u8, place: u8, reply: &mut [u16]) -> bool
     if reply.len() < reply::NUMBERS {
         return false;
     }
-    let said = clear_of(heads, party, place);
+    let said = live::clear_of(heads, party, place);
     reply::write(of_reply(said), reply)
 }
 
@@ -168,23 +102,8 @@ pub fn close(
     if reply.len() < reply::NUMBERS {
         return false;
     }
-    let said = close_of(letters, rows, numbers, heads, party, place);
+    let said = live::close_of(letters, rows, numbers, heads, party, place);
     reply::write(of_reply(said), reply)
-}
-
-fn query_of(rows: &[u8], heads: &[u16], party: u8, place: u8, cell: Point) -> Reply
-    requires { ⌜ (length (now rows) ≡ 4080) × (length (now heads) ≡ 40) ⌝ }
-    ensures { λ r. ⌜ ((letters : List ℕ) (numbers : List ℤ) → Answers (memory letters (now (rows .entry)) numbers (now (heads .entry))) (memory letters (now (rows .entry)) numbers (now (heads .entry))) (by party (Action.Ask place (Question.Cell cell))) r) ⌝ }
-{
-    let at = party as usize;
-    if PARTIES <= at {
-        return Reply::NoParty;
-    }
-    let k = place as usize;
-    if PLACES <= k {
-        return Reply::NoPlace;
-    }
-    live_works::query(rows, heads, 4 * at + k, cell)
 }
 
 pub fn query(
@@ -206,23 +125,8 @@ pub fn query(
     if reply.len() < reply::NUMBERS {
         return false;
     }
-    let said = query_of(rows, heads, party, place, cell);
+    let said = live::query_of(rows, heads, party, place, cell);
     reply::write(of_reply(said), reply)
-}
-
-fn row_of(rows: &[u8], heads: &[u16], party: u8, place: u8, row: u16) -> Reply
-    requires { ⌜ (length (now rows) ≡ 4080) × (length (now heads) ≡ 40) ⌝ }
-    ensures { λ r. ⌜ ((letters : List ℕ) (numbers : List ℤ) → Answers (memory letters (now (rows .entry)) numbers (now (heads .entry))) (memory letters (now (rows .entry)) numbers (now (heads .entry))) (by party (Action.Ask place (Question.Row row))) r) ⌝ }
-{
-    let at = party as usize;
-    if PARTIES <= at {
-        return Reply::NoParty;
-    }
-    let k = place as usize;
-    if PLACES <= k {
-        return Reply::NoPlace;
-    }
-    live_works::row(rows, heads, 4 * at + k, row)
 }
 
 pub fn row(rows: &[u8], heads: &[u16], party: u8, place: u8, row: u16, reply: &mut [u16]) -> bool
@@ -237,23 +141,8 @@ pub fn row(rows: &[u8], heads: &[u16], party: u8, place: u8, row: u16, reply: &m
     if reply.len() < reply::NUMBERS {
         return false;
     }
-    let said = row_of(rows, heads, party, place, row);
+    let said = live::row_of(rows, heads, party, place, row);
     reply::write(of_reply(said), reply)
-}
-
-fn reading_of(numbers: &[i16], heads: &[u16], party: u8, place: u8, reading: Reading) -> Reply
-    requires { ⌜ (length (now numbers) ≡ 1600) × (length (now heads) ≡ 40) ⌝ }
-    ensures { λ r. ⌜ ((letters : List ℕ) (rows : List ℕ) → Answers (memory letters rows (now (numbers .entry)) (now (heads .entry))) (memory letters rows (now (numbers .entry)) (now (heads .entry))) (by party (Action.Ask place (Question.Reading reading))) r) ⌝ }
-{
-    let at = party as usize;
-    if PARTIES <= at {
-        return Reply::NoParty;
-    }
-    let k = place as usize;
-    if PLACES <= k {
-        return Reply::NoPlace;
-    }
-    live_works::reading(numbers, heads, 4 * at + k, reading)
 }
 
 pub fn reading(
@@ -275,23 +164,8 @@ pub fn reading(
     if reply.len() < reply::NUMBERS {
         return false;
     }
-    let said = reading_of(numbers, heads, party, place, reading);
+    let said = live::reading_of(numbers, heads, party, place, reading);
     reply::write(of_reply(said), reply)
-}
-
-fn piece_of(numbers: &[i16], heads: &[u16], party: u8, place: u8, position: u16) -> Reply
-    requires { ⌜ (length (now numbers) ≡ 1600) × (length (now heads) ≡ 40) ⌝ }
-    ensures { λ r. ⌜ ((letters : List ℕ) (rows : List ℕ) → Answers (memory letters rows (now (numbers .entry)) (now (heads .entry))) (memory letters rows (now (numbers .entry)) (now (heads .entry))) (by party (Action.Ask place (Question.Piece position))) r) ⌝ }
-{
-    let at = party as usize;
-    if PARTIES <= at {
-        return Reply::NoParty;
-    }
-    let k = place as usize;
-    if PLACES <= k {
-        return Reply::NoPlace;
-    }
-    live_works::piece(numbers, heads, 4 * at + k, position)
 }
 
 // Also writes the point of a move or a line to the front of a buffer (contract 10.5).
@@ -316,7 +190,7 @@ pub fn piece(
     if reply.len() < reply::NUMBERS {
         return false;
     }
-    let said = piece_of(numbers, heads, party, place, position);
+    let said = live::piece_of(numbers, heads, party, place, position);
     write_point(piece_in(said), point);
     reply::write(of_reply(said), reply)
 }

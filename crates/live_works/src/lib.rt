@@ -1,5 +1,4 @@
 // An outline at work in the caller's arrays: questions, removal and replacement.
-use calls::Question;
 use calls::Reading;
 use calls::Reply;
 use chart::MOST_NUMBERS;
@@ -22,7 +21,7 @@ ghost use Rattle.chart.specs.Limits.{mostNumbers};
 ghost use Rattle.chart.specs.Outline.{outline};
 ghost use Rattle.spans.specs.Spans.{spansOf};
 ghost use Rattle.calls.specs.Calls.{parties, places};
-ghost use Rattle.work.specs.Work.{listed, removed, replaced, hasEdges, located, spanned, readAt, drawnAt, answered as answeredOf};
+ghost use Rattle.work.specs.Work.{listed, removed, replaced, hasEdges, located, spanned, readAt, drawnAt};
 ghost use Rattle.windows.specs.Windows.{window};
 ghost use Rattle.live_memory.specs.Layout.{workAt, WorksFit};
 ghost use Rattle.live_memory.specs.parts.Writes.{WorkPut};
@@ -131,25 +130,6 @@ pub fn piece(numbers: &[i16], heads: &[u16], slot: usize, position: u16) -> Repl
     let edges = heads[at + 3] as usize;
     let list = edges_at(numbers, slot, edges);
     drawing::drawn_at(anchor, list, position)
-}
-
-// The reply to a question about the work at a slot.
-pub fn answered(
-    rows: &[u8],
-    numbers: &[i16],
-    heads: &[u16],
-    slot: usize,
-    question: Question,
-) -> Reply
-    requires { ⌜ (slot < parties * places) × WorksFit (now rows) (now numbers) (now heads) ⌝ }
-    ensures { λ r. ⌜ r ≡ answeredOf (workAt (now (rows .entry)) (now (numbers .entry)) (now (heads .entry)) slot) question ⌝ }
-{
-    match question {
-        Question::Cell(cell) => query(rows, heads, slot, cell),
-        Question::Row(n) => row(rows, heads, slot, n),
-        Question::Reading(x) => reading(numbers, heads, slot, x),
-        Question::Piece(position) => piece(numbers, heads, slot, position),
-    }
 }
 
 // Copies the numbers of edges into a buffer, from an index on.

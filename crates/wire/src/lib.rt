@@ -19,27 +19,27 @@ pub enum Decoded {
 }
 
 // A 32-bit number, low byte first.
-fn long(a: u8, b: u8, c: u8, d: u8) -> u32
+pub fn long(a: u8, b: u8, c: u8, d: u8) -> u32
     ensures { λ r. ⌜ r ≡ longOf a b c d ⌝ }
 {
     a as u32 + 256 * (b as u32) + 65536 * (c as u32) + 16777216 * (d as u32)
 }
 
 // Its first two bytes.
-fn short(x: u32) -> u16
+pub fn short(x: u32) -> u16
     ensures { λ r. ⌜ r ≡ shortOf x ⌝ }
 {
     (x % 65536) as u16
 }
 
 // Its first byte.
-fn letter(x: u32) -> u8
+pub fn letter(x: u32) -> u8
     ensures { λ r. ⌜ r ≡ letterOf x ⌝ }
 {
     (x % 256) as u8
 }
 
-fn point(x: u32, y: u32) -> Point
+pub fn point(x: u32, y: u32) -> Point
     ensures { λ r. ⌜ r ≡ pointOf x y ⌝ }
 {
     Point {
