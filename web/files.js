@@ -11,35 +11,33 @@ export class Fault extends Error {}
 
 const fault = (key, values) => new Fault(text(`fault.${key}`, values));
 
-// The outlines of a file, with their names, and its form. A byte order mark is passed over.
+// The outlines of a file, with their names.
 export function outlines(bytes) {
   const words = textOf(bytes);
   const found = words === null ? records(bytes) : lines(words);
   if (found.length === 0) throw fault("none");
-  return { found, form: words === null ? "fitting" : "text" };
+  return found;
 }
 
-// The text of a file in the text form, else null. A text begins with a digit or a `#` and has no control characters but white space.
+// The text of a file in the text form, else null: one that begins with a digit or a `#` and has no zero byte in that line.
 function textOf(bytes) {
   const [a, b] = bytes;
-  const wide = (a === 0xff && b === 0xfe) || (a === 0xfe && b === 0xff);
-  const name = wide ? (a === 0xff ? "utf-16le" : "utf-16be") : "utf-8";
-  let words = "";
+  // Windows writes texts of two bytes a letter too, and says so by its byte order mark.
+  if ((a === 0xff && b === 0xfe) || (a === 0xfe && b === 0xff)) return new TextDecoder(a === 0xff ? "utf-16le" : "utf-16be").decode(bytes);
+  if (!/^(\xef\xbb\xbf)?\s*([0-9#][^\0\n]*(\n|$)|$)/.test(new TextDecoder("latin1").decode(bytes))) return null;
   try {
     // The decoder leaves out the byte order mark.
-    words = new TextDecoder(name, { fatal: true }).decode(bytes);
+    return new TextDecoder("utf-8", { fatal: true }).decode(bytes);
   } catch {
-    if (!looksLikeText(new TextDecoder("latin1").decode(bytes))) return null;
     throw fault("utf8");
   }
-  return wide || looksLikeText(words) ? words : null;
 }
-
-const looksLikeText = (words) => /^\s*[0-9#]/.test(words) && !/[\0-\x08\x0b\x0e-\x1f\x7f]/.test(words);
 
 // The outlines of a fitting file.
 function records(bytes) {
   if (bytes.length > LARGEST) throw fault("25", { most: LARGEST });
+  const marked = bytes[0] === MARK[0] && (bytes.length === 1 || bytes[1] === MARK[1]);
+  if (!marked) throw fault("neither");
   const found = [];
   for (let position = 0; position < bytes.length; ) {
     const values = { n: found.length, position };
@@ -63,7 +61,7 @@ function entry(line, i) {
   if (fields.length === 0) return null;
   if (fields.length === 1 || fields.length > 3) throw fault("line", { line: i + 1 });
   const [col, row, letters = ""] = fields;
-  for (const number of [col, row]) if (!/^\+?\d+$/.test(number) || Number(number) > 65535) throw fault("start", { line: i + 1, number });
+  for (const number of [col, row]) if (!/^\d+$/.test(number) || Number(number) > 65535) throw fault("start", { line: i + 1, number });
   const wrong = [...letters].find((letter) => !/^\d$/.test(letter));
   if (wrong !== undefined) throw fault("letter", { line: i + 1, letter: wrong });
   return { name: line.slice(cut + 1).trim(), start: [Number(col), Number(row)], letters: [...letters].map(Number) };

@@ -161,6 +161,7 @@ export const MESSAGES = {
   "letters": "Letters of the border, as the tablet sends them",
   "letters.hint": "0 right, 1 up, 2 left, 3 down",
   "fault.none": "The file holds no outline.",
+  "fault.neither": "The file is neither text nor a fitting file: a text begins with a digit or a #, a fitting file with the bytes 4B 4F.",
   "fault.utf8": "The text is not UTF-8.",
   "fault.23": "Fault 23: outline {n} has no mark (4B 4F) at byte {position}.",
   "fault.24": "Fault 24: outline {n}, whose mark is at byte {position}, is truncated.",

@@ -86,8 +86,7 @@ async function open(page) {
   const bytes = new Uint8Array(await file.arrayBuffer());
   by("load").value = "";
   told(() => {
-    const { found } = outlines(bytes);
-    page.app.change({ ...page.app.state, records: found.map(ofOutline), at: 0, file: file.name });
+    page.app.change({ ...page.app.state, records: outlines(bytes).map(ofOutline), at: 0, file: file.name });
     page.visit();
   });
 }

@@ -9,6 +9,9 @@ from support import DENTED, PLUS, PageTest, outlines, record
 TEXT = "# specimens\n0 1 101030323212  # H3: a plus\n0 0 111033003222  # Größe 2, links\n256 0 7777\n3 4\n"
 
 
+NEITHER = "The file is neither text nor a fitting file: a text begins with a digit or a #, a fitting file with the bytes 4B 4F."
+
+
 class Files(PageTest):
     def load(self, name, content):
         path = self.folder / name
@@ -90,7 +93,11 @@ class Files(PageTest):
             ("mark.fit", whole + b"K", "Fault 23: outline 1 has no mark (4B 4F) at byte 18."),
             ("cut.fit", whole[:-1], "Fault 24: outline 0, whose mark is at byte 0, is truncated."),
             ("large.fit", whole * 4000, "Fault 25: a fitting file has at most 65536 bytes."),
+            ("half.fit", b"K", "Fault 23: outline 0 has no mark (4B 4F) at byte 0."),
+            ("other.pdf", b"%PDF-1.7", NEITHER),
+            ("zero.txt", b"#\0", NEITHER),
             ("empty.fit", b"", "The file holds no outline."),
+            ("plus.txt", b"0 +1 1032\n", "Line 1: a start has numbers up to 65535, not +1."),
             ("empty.txt", b"# nothing\n", "The file holds no outline."),
             ("x.txt", b"0 0 1032\n\n0 0 10x2\n", "Line 3: letters are 0 right, 1 up, 2 left and 3 down, not x."),
             ("start.txt", b"0 -1 1032\n", "Line 1: a start has numbers up to 65535, not -1."),
