@@ -142,7 +142,9 @@ def main():
         made = page(arguments.library, arguments.messages)
         arguments.out.parent.mkdir(parents=True, exist_ok=True)
         arguments.out.write_text(made)
-    except (OSError, Fault) as fault:
+    except OSError as error:
+        sys.exit(f"page: {error.filename}: {error.strerror}")
+    except Fault as fault:
         sys.exit(f"page: {fault}")
     print(f"page: {arguments.out.resolve()} ({len(made.encode()) // 1024} KB): open it in a browser")
 
