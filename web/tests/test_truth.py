@@ -183,7 +183,8 @@ class Truth(PageTest):
             moments += len(seen)
             for kind, n in self.hold(seen).items():
                 counts[kind] = counts.get(kind, 0) + n
-        print(f"\nweb: {moments} random edits, each with the program's verdict: {counts}")
+        sent = sum(n for kind, n in counts.items() if isinstance(kind, int))
+        print(f"\nweb: {moments} moments of random edits, {sent} held to the program, the others have nothing to send: {counts}")
         for kind in ("Not one border", "No cell is marked", 0, 8, 9):
             self.assertGreater(counts.get(kind, 0), 50, counts)
 
