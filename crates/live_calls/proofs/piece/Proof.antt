@@ -3,7 +3,7 @@ use Rattle.live.proofs.CallLaws.{unfit-made, short-made, told-made, undrawn-poi
 use borrow.Author.Needs.{needs}
 use Rattle.live_calls.proofs.piece.Statement.{statement}
 use Rattle.live_calls.proofs.piece.Tie as tie
-use Rattle.live_calls.proofs.piece_of.Reads as piece-of-reads′
+use Rattle.live.proofs.piece_of.Reads as piece-of-reads′
 
 returns : tie.Need-returns
 returns c = (λ l r. unfit-made _ _ _ _ (λ f. c .if1 .taken (f .0)), λ l r. undrawn-point _ _ _)
