@@ -8,11 +8,12 @@ use Rattle.words.specs.Lyndon
 use Rattle.words.specs.Counted
 use Rattle.convexity.specs.Frame
 use Rattle.convexity.specs.parts.InFrame
+use Rattle.convexity.specs.Edges
 use Rattle.convexity.specs.FromEdges
 
 -- A name to unfold all definitions at once in the rows below
 opened : Bool
-unfolding Lyndon.copies Counted.listed Counted.countedLetter Counted.christoffelWord Counted.dividesBoth Counted.commonUpTo Counted.common Counted.edgeWord Counted.edgesWord Frame.frameOf InFrame.spell FromEdges.quadrantOf FromEdges.runIn FromEdges.riseIn FromEdges.sizesIn FromEdges.pieceFrom FromEdges.lettersFrom
+unfolding Lyndon.copies Counted.listed Counted.countedLetter Counted.christoffelWord Counted.dividesBoth Counted.commonUpTo Counted.common Counted.edgeWord Counted.edgesWord Frame.frameOf InFrame.spell FromEdges.quadrantOf FromEdges.runIn FromEdges.riseIn Edges.pairs FromEdges.sizesIn FromEdges.pieceFrom FromEdges.lettersFrom
 opened = true
 
 -- No edges: one cell

@@ -17,12 +17,14 @@ use Rattle.words.proofs.Counts.{laters-copies, length-copies, laters-next-later
 use Rattle.words.proofs.Factors.{factors-exist}
 use Rattle.chart.specs.Outline.{Outline}
 use Rattle.convexity.specs.Frame.{frameOf}
+use Rattle.convexity.specs.Edges.{Edge, pairs}
 use Rattle.convexity.specs.Pieces.{word, factors, edgesOf, edges, dentPiece}
 use Rattle.convexity.specs.Directions.{edgeCols, edgeRows}
 use Rattle.convexity.specs.Shape.{NoBackStep}
 use Rattle.convexity.proofs.Frame.{run, rise, Falls, EdgesFall}
 use Rattle.convexity.proofs.Shape.{shape}
 use Rattle.convexity.proofs.Smooth.{smooth-edges}
+use Rattle.convexity.proofs.Inside.{edge-pairs}
 use Rattle.convexity.proofs.Signed.{Lies, stepCols, stepRows, step-lies}
 
 -- ---- the directions of the frames
@@ -48,11 +50,11 @@ slope-trans e l a b c d h k =
 -- ---- lists of edges with increasing directions
 
 -- Each edge of the list is beyond the one before it, and the first is beyond the bound
-pub data Increasing : ℕ → ℕ → ℕ → List ℤ → Type 0 where
+pub data Increasing : ℕ → ℕ → ℕ → List Edge → Type 0 where
   none : {n e l : ℕ} → Increasing n e l []
   more :
-      {n e l k e′ l′ : ℕ} {dx dy : ℤ} {es : List ℤ} → After n e l k e′ l′ → Points k e′ l′ dx dy → Increasing (suc k) e′ l′ es
-      → Increasing n e l (dx ∷ dy ∷ es)
+      {n e l k e′ l′ : ℕ} {dx dy : ℤ} {es : List Edge} → After n e l k e′ l′ → Points k e′ l′ dx dy → Increasing (suc k) e′ l′ es
+      → Increasing n e l ((dx, dy) ∷ es)
 
 pub cols-next : (dx dy : ℤ) (es : List ℤ) (i : ℕ) → edgeCols (dx ∷ dy ∷ es) (suc i) ≡ edgeCols es i
 unfolding edgeCols
@@ -63,7 +65,7 @@ unfolding edgeRows
 rows-next dx dy es i = let d : 2 * suc i + 1 ≡ suc (suc (2 * i + 1)) = omega arith in rw d
 
 -- A bound that only gives the number of frames begun
-turning-from : {n m e l : ℕ} {es : List ℤ} → n ≤ m → Increasing m 0 0 es → Increasing n e l es
+turning-from : {n m e l : ℕ} {es : List Edge} → n ≤ m → Increasing m 0 0 es → Increasing n e l es
 turning-from h none = none
 turning-from h (more (later-frame m) p r) = more (later-frame (le-trans h m)) p r
 turning-from h (more (same-frame m s) p r) = absurd (omega arith)
@@ -103,7 +105,7 @@ ends-later-rest f fs ends x b e =
     let w : Word = copies (f .times) (f .word) in
     ends (w ++ x) b (ap (λ (v : Word). w ++ v) e ∙ sym (append-assoc w x (b ∷ [])))
 
-module _ (k : ℕ) (small : k < 4) {es : List ℤ} (rest : Increasing (suc k) 0 0 es) where
+module _ (k : ℕ) (small : k < 4) {es : List Edge} (rest : Increasing (suc k) 0 0 es) where
   points :
       (f : Factor) (fs : List Factor) → EdgesFall (f ∷ fs) → EndsLater (written (f ∷ fs))
       → Points k (run f) (rise f) (stepCols (frameOf k) (run f) (rise f)) (stepRows (frameOf k) (run f) (rise f))
@@ -111,28 +113,27 @@ module _ (k : ℕ) (small : k < 4) {es : List ℤ} (rest : Increasing (suc k) 0 
 
   turning-factors :
       (f : Factor) (fs : List Factor) → EdgesFall (f ∷ fs) → EndsLater (written (f ∷ fs)) → {n e l : ℕ} → After n e l k (run f) (rise f)
-      → Increasing n e l (edgesOf (frameOf k) (f ∷ fs) ++ es)
-  unfolding EdgesFall Falls edgesOf
+      → Increasing n e l (pairs (edgesOf (frameOf k) (f ∷ fs)) ++ es)
+  unfolding EdgesFall Falls pairs edgesOf
   turning-factors f [] h ends a = more a (points f [] h ends) (turning-from (le-refl (suc k)) rest)
   turning-factors f (g ∷ gs) h ends a =
       more a (points f (g ∷ gs) h ends)
       (turning-factors g gs (h .2) (ends-later-rest f (g ∷ gs) ends) (same-frame refl (edge-falls f g (h .0 .repeated) (h .2 .0 .repeated) (h .1))))
 
-  turning-piece : (fs : List Factor) → EdgesFall fs → EndsLater (written fs) → Increasing k 0 0 (edgesOf (frameOf k) fs ++ es)
-  unfolding edgesOf
+  turning-piece : (fs : List Factor) → EdgesFall fs → EndsLater (written fs) → Increasing k 0 0 (pairs (edgesOf (frameOf k) fs) ++ es)
+  unfolding pairs edgesOf
   turning-piece [] h ends = turning-from (omega arith) rest
   turning-piece (f ∷ fs) h ends = turning-factors f fs h ends (later-frame (le-refl k))
 
 -- ---- the four pieces
 
 module _ (o : Outline) (straight : NoBackStep o) (smooth : dentPiece o ≡ 4) where
-  piece-turning : (k : ℕ) → k < 4 → {es : List ℤ} → Increasing (suc k) 0 0 es → Increasing k 0 0 (edgesOf (frameOf k) (factors o k) ++ es)
+  piece-turning : (k : ℕ) → k < 4 → {es : List Edge} → Increasing (suc k) 0 0 es → Increasing k 0 0 (pairs (edgesOf (frameOf k) (factors o k)) ++ es)
   unfolding factors
   piece-turning k h rest =
       turning-piece k h rest (factors o k) (smooth-edges o smooth k h) (rw (factors-exist (word o k) .whole) (shape o straight .ends k h))
 
   -- Directions increase clockwise from up, included, to just short of up again
-  pub edges-turning : Increasing 0 0 0 (edges o)
-  unfolding edges
+  pub edges-turning : Increasing 0 0 0 (pairs (edges o))
   edges-turning =
-      piece-turning 0 (lit< tt) (piece-turning 1 (lit< tt) (piece-turning 2 (lit< tt) (rw append-nil at (piece-turning 3 (lit< tt) none))))
+      rw (edge-pairs o) (piece-turning 0 (lit< tt) (piece-turning 1 (lit< tt) (piece-turning 2 (lit< tt) (rw append-nil at (piece-turning 3 (lit< tt) none)))))

@@ -19,6 +19,7 @@ use Rattle.words.proofs.Counted.{factor-edge, edge-length}
 use Rattle.chart.specs.Outline.{Outline}
 use Rattle.convexity.specs.Frame.{frameOf}
 use Rattle.convexity.specs.Clockwise.{border}
+use Rattle.convexity.specs.Edges.{Edge, pairs}
 use Rattle.convexity.specs.Pieces.{Reaches, piece, word, factors, dentLength, dentPiece, edgesOf, edges}
 use Rattle.convexity.specs.parts.InFrame.{spell}
 use Rattle.convexity.specs.FromEdges.{quadrantOf, runIn, riseIn, sizesIn, pieceFrom, lettersFrom, stepCount}
@@ -30,6 +31,7 @@ use Rattle.base.proofs.Differences.{Is, is-self, is-neg, is-unique}
 use Rattle.convexity.proofs.Signed.{Counted, stepCols, stepRows, step-lies}
 use Rattle.convexity.proofs.Directions.{EndsLater, first-rises, ends-later-rest}
 use Rattle.convexity.proofs.AsSent.{clear-of}
+use Rattle.convexity.proofs.Inside.{piecePairs, edge-pairs}
 
 -- ---- a piece from the runs and rises of its edges
 
@@ -126,7 +128,7 @@ quadrant-step dx dy h =
     let d = signed k (runIn k dx dy) (riseIn k dx dy) (step-lies k (runIn k dx dy) (riseIn k dx dy) .counted) in
     record { rises = q .0; cols = d .0 ∙ q .1; rows = d .1 ∙ q .2 }
 
--- ---- the four lists of edges from the flat one
+-- ---- the edges of each piece from the whole list
 
 -- Every factor of the list has a later letter
 unfoldable AllRise : List Factor → Type 0
@@ -138,16 +140,16 @@ unfolding AllRise EdgesFall
 all-rise [] h ends = tt
 all-rise (f ∷ fs) h ends = (first-rises f fs h ends, all-rise fs (h .2) (ends-later-rest f fs ends))
 
-module _ (k : ℕ) (small : k < 4) (es : List ℤ) where
-  own-sizes : (fs : List Factor) → AllRise fs → sizesIn k (edgesOf (frameOf k) fs ++ es) ≡ sizes fs ++ sizesIn k es
-  unfolding AllRise edgesOf sizesIn sizes
+module _ (k : ℕ) (small : k < 4) (es : List Edge) where
+  own-sizes : (fs : List Factor) → AllRise fs → sizesIn k (pairs (edgesOf (frameOf k) fs) ++ es) ≡ sizes fs ++ sizesIn k es
+  unfolding AllRise pairs edgesOf sizesIn sizes
   own-sizes [] h = refl
   own-sizes (f ∷ fs) h =
       let s = step-sits k (run f) (rise f) small (h .0) in
       rw (eq-eqb _ k (s .quadrant), s .across, s .upward, own-sizes fs (h .1))
 
-  other-sizes : (j : ℕ) → (k ≡ j → ⊥) → (fs : List Factor) → AllRise fs → sizesIn j (edgesOf (frameOf k) fs ++ es) ≡ sizesIn j es
-  unfolding AllRise edgesOf sizesIn
+  other-sizes : (j : ℕ) → (k ≡ j → ⊥) → (fs : List Factor) → AllRise fs → sizesIn j (pairs (edgesOf (frameOf k) fs) ++ es) ≡ sizesIn j es
+  unfolding AllRise pairs edgesOf sizesIn
   other-sizes j apart [] h = refl
   other-sizes j apart (f ∷ fs) h =
       let s = step-sits k (run f) (rise f) small (h .0) in
@@ -156,42 +158,38 @@ module _ (k : ℕ) (small : k < 4) (es : List ℤ) where
 -- ---- the four pieces
 
 module _ (o : Outline) (straight : NoBackStep o) (smooth : dentPiece o ≡ 4) where
-  abbrev flat : ℕ → List ℤ
-  flat k = edgesOf (frameOf k) (factors o k)
-
   rises : (k : ℕ) → k < 4 → AllRise (factors o k)
   unfolding factors
   rises k h = all-rise (factors o k) (smooth-edges o smooth k h) (rw (factors-exist (word o k) .whole) (shape o straight .ends k h))
 
-  keep : (k : ℕ) → k < 4 → (es : List ℤ) → sizesIn k (flat k ++ es) ≡ sizes (factors o k) ++ sizesIn k es
+  keep : (k : ℕ) → k < 4 → (es : List Edge) → sizesIn k (piecePairs o k ++ es) ≡ sizes (factors o k) ++ sizesIn k es
   keep k h es = own-sizes k h es (factors o k) (rises k h)
 
-  skip : (j k : ℕ) → k < 4 → (k ≡ j → ⊥) → (es : List ℤ) → sizesIn j (flat k ++ es) ≡ sizesIn j es
+  skip : (j k : ℕ) → k < 4 → (k ≡ j → ⊥) → (es : List Edge) → sizesIn j (piecePairs o k ++ es) ≡ sizesIn j es
   skip j k h apart es = other-sizes k h es j apart (factors o k) (rises k h)
 
-  flat-edges : edges o ≡ flat 0 ++ (flat 1 ++ (flat 2 ++ (flat 3 ++ [])))
-  unfolding edges
-  flat-edges = rw append-nil
+  all-pieces : pairs (edges o) ≡ piecePairs o 0 ++ (piecePairs o 1 ++ (piecePairs o 2 ++ (piecePairs o 3 ++ [])))
+  all-pieces = edge-pairs o ∙ rw append-nil
 
-  -- The flat list determines the runs and rises of each piece's edges
-  pub edges-sizes : (k : ℕ) → k < 4 → sizesIn k (edges o) ≡ sizes (factors o k)
+  -- The list determines the runs and rises of each piece's edges
+  pub edges-sizes : (k : ℕ) → k < 4 → sizesIn k (pairs (edges o)) ≡ sizes (factors o k)
   unfolding sizesIn
   edges-sizes zero h =
-      rw (flat-edges, keep 0 (lit< tt), skip 0 1 (lit< tt) (λ e. omega arith), skip 0 2 (lit< tt) (λ e. omega arith), skip 0 3 (lit< tt) (λ e. omega arith))
+      rw (all-pieces, keep 0 (lit< tt), skip 0 1 (lit< tt) (λ e. omega arith), skip 0 2 (lit< tt) (λ e. omega arith), skip 0 3 (lit< tt) (λ e. omega arith))
       (append-nil _)
   edges-sizes (suc zero) h =
-      rw (flat-edges, skip 1 0 (lit< tt) (λ e. omega arith), keep 1 (lit< tt), skip 1 2 (lit< tt) (λ e. omega arith), skip 1 3 (lit< tt) (λ e. omega arith))
+      rw (all-pieces, skip 1 0 (lit< tt) (λ e. omega arith), keep 1 (lit< tt), skip 1 2 (lit< tt) (λ e. omega arith), skip 1 3 (lit< tt) (λ e. omega arith))
       (append-nil _)
   edges-sizes (suc (suc zero)) h =
-      rw (flat-edges, skip 2 0 (lit< tt) (λ e. omega arith), skip 2 1 (lit< tt) (λ e. omega arith), keep 2 (lit< tt), skip 2 3 (lit< tt) (λ e. omega arith))
+      rw (all-pieces, skip 2 0 (lit< tt) (λ e. omega arith), skip 2 1 (lit< tt) (λ e. omega arith), keep 2 (lit< tt), skip 2 3 (lit< tt) (λ e. omega arith))
       (append-nil _)
   edges-sizes (suc (suc (suc zero))) h =
-      rw (flat-edges, skip 3 0 (lit< tt) (λ e. omega arith), skip 3 1 (lit< tt) (λ e. omega arith), skip 3 2 (lit< tt) (λ e. omega arith), keep 3 (lit< tt))
+      rw (all-pieces, skip 3 0 (lit< tt) (λ e. omega arith), skip 3 1 (lit< tt) (λ e. omega arith), skip 3 2 (lit< tt) (λ e. omega arith), keep 3 (lit< tt))
       (append-nil _)
   edges-sizes (suc (suc (suc (suc k)))) h = absurd (omega arith)
 
   -- So it determines each piece, and the border
-  pub piece-from-edges : (k : ℕ) → k < 4 → piece o k ≡ pieceFrom k (edges o)
+  pub piece-from-edges : (k : ℕ) → k < 4 → piece o k ≡ pieceFrom k (pairs (edges o))
   unfolding pieceFrom
   piece-from-edges k h =
       shape o straight .spelled k h ∙ ap (λ (w : Word). spell (frameOf k) (true ∷ w)) (word-sizes o smooth k h ∙ ap edgesWord (sym (edges-sizes k h)))
@@ -210,10 +208,10 @@ sent-from-edges o h smooth = from-w-from-edges (border o) (clear-of o h) smooth
 -- ---- the number of letters that a list gives
 
 -- The number of letters of quadrant k, without the first
-abbrev count : ℕ → List ℤ → ℕ
+abbrev count : ℕ → List Edge → ℕ
 count k es = length (edgesWord (sizesIn k es))
 
-abbrev Counts : List ℤ → Type 0
+abbrev Counts : List Edge → Type 0
 Counts es = count 0 es + count 1 es + count 2 es + count 3 es ≡ stepCount es
 
 -- One more edge
@@ -221,7 +219,7 @@ longer : (a b : ℕ) (l : List (ℕ × ℕ)) → 0 < a + b → length (edgesWord
 unfolding edgesWord
 longer a b l h = omega (arith, length-append (edgeWord a b) (edgesWord l), edge-length a b h)
 
-counts-next : (dx dy : ℤ) (es : List ℤ) → Counts es → Counts (dx ∷ dy ∷ es)
+counts-next : (dx dy : ℤ) (es : List Edge) → Counts es → Counts ((dx, dy) ∷ es)
 unfolding sizesIn quadrantOf runIn riseIn stepCount
 counts-next (pos zero) (pos zero) es h = omega arith
 counts-next (pos zero) (pos (suc b)) es h = omega (arith, longer 0 (suc b) (sizesIn 0 es) (omega arith))
@@ -232,20 +230,20 @@ counts-next (pos (suc a)) (negsuc b) es h = omega (arith, longer (suc b) (suc a)
 counts-next (negsuc a) (pos b) es h = omega (arith, longer b (suc a) (sizesIn 3 es) (omega arith))
 counts-next (negsuc a) (negsuc b) es h = omega (arith, longer (suc a) (suc b) (sizesIn 2 es) (omega arith))
 
-counts : (es : List ℤ) → Counts es
+counts : (es : List Edge) → Counts es
 unfolding sizesIn stepCount edgesWord
 counts [] = refl
-counts (dx ∷ []) = refl
-counts (dx ∷ dy ∷ es) = counts-next dx dy es (counts es)
+counts ((dx, dy) ∷ es) = counts-next dx dy es (counts es)
 
-length-piece : (k : ℕ) (es : List ℤ) → length (pieceFrom k es) ≡ suc (count k es)
+length-piece : (k : ℕ) (es : List Edge) → length (pieceFrom k es) ≡ suc (count k es)
 unfolding pieceFrom
 length-piece k es = length-spell (frameOf k) (true ∷ edgesWord (sizesIn k es))
 
 -- Any list gives four letters and one for each column and row of its edges
-pub length-letters : (es : List ℤ) → length (lettersFrom es) ≡ 4 + stepCount es
+pub length-letters : (ns : List ℤ) → length (lettersFrom ns) ≡ 4 + stepCount (pairs ns)
 unfolding lettersFrom
-length-letters es =
+length-letters ns =
+    let es = pairs ns in
     omega (
       arith,
       counts es,

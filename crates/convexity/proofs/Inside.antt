@@ -20,6 +20,7 @@ use Rattle.chart.specs.Limits.{side}
 use Rattle.lattice.specs.Chart.{walk, cornerAt}
 use Rattle.convexity.specs.Frame.{Frame, frameOf, along, next}
 use Rattle.convexity.specs.Cut.{cut}
+use Rattle.convexity.specs.Edges.{Edge, pairs}
 use Rattle.convexity.specs.Pieces.{word, factors, edgesOf, edges}
 use Rattle.convexity.specs.Inside.{minℤ, maxℤ, noneOutside, colSteps, rowSteps, total, lowestMet, highestMet, within, insideAt, insideEdges}
 use Rattle.convexity.specs.Shape.{Shape}
@@ -28,15 +29,14 @@ use Rattle.convexity.specs.parts.InFrame.{startOf, startE, startL, cellA
 use Rattle.convexity.proofs.Ring.{next-lt, next-suc, next-round, all-round}
 use Rattle.base.proofs.IntegerOrder.{up, down, at-most-iff, not-at-most}
 use Rattle.base.proofs.Differences.{Is, is-self, is-add, is-unique, le-iff}
-use Rattle.convexity.proofs.Signed.{Counted, Lies, Placed, placed-cell, lies-next, stepCols, stepRows, step-lies, lies-step, reached, lies-end, lies-sides, none-outside-append, cols-append, rows-append, reached-append}
+use Rattle.convexity.proofs.Signed.{Counted, Lies, Placed, placed-cell, lies-next, stepCols, stepRows, step-lies, lies-step, reached, lies-end, lies-sides, pairs-append, none-outside-append, cols-append, rows-append, reached-append}
 
 -- ---- the vertices of a list of edges
 
 -- P holds for some vertex of the edges es from (x, y)
-unfoldable pub Meets : (ℤ → ℤ → Type 0) → List ℤ → ℤ → ℤ → Type 0
+unfoldable pub Meets : (ℤ → ℤ → Type 0) → List Edge → ℤ → ℤ → Type 0
 Meets P [] x y = P x y
-Meets P (dx ∷ []) x y = P x y
-Meets P (dx ∷ dy ∷ es) x y = P x y ⊎ Meets P es (x +ℤ dx) (y +ℤ dy)
+Meets P ((dx, dy) ∷ es) x y = P x y ⊎ Meets P es (x +ℤ dx) (y +ℤ dy)
 
 min-iff : (a b c : ℤ) → (leZ (minℤ a b) c ≡ true) ↔ ((leZ a c ≡ true) ⊎ (leZ b c ≡ true))
 unfolding minℤ
@@ -65,7 +65,7 @@ or-assoc f = (
 
 -- The test of the extreme along the earlier letter of frame k. For frames 0 to 3: the lowest column is at most that of the cell x, the
 -- highest row at least that of x, the highest column at least, the lowest row at most. Without edges it tests one vertex
-unfoldable spans : ℕ → Point → List ℤ → ℤ → ℤ → Bool
+unfoldable spans : ℕ → Point → List Edge → ℤ → ℤ → Bool
 spans zero x es v w = leZ (lowestMet (colSteps es) v) (pos (x .col))
 spans (suc zero) x es v w = leZ (pos (x .row)) (highestMet (rowSteps es) w)
 spans (suc (suc zero)) x es v w = leZ (pos (x .col)) (highestMet (colSteps es) v)
@@ -73,21 +73,19 @@ spans (suc (suc (suc k))) x es v w = leZ (lowestMet (rowSteps es) w) (pos (x .ro
 
 -- If Q of a list holds exactly if Q holds at the first vertex or for the rest, then Q holds exactly if it holds at some vertex
 meets-iff :
-    (Q : List ℤ → ℤ → ℤ → Type 0) → ((d v w : ℤ) → Q (d ∷ []) v w ↔ Q [] v w)
-    → ((d e : ℤ) (es : List ℤ) (v w : ℤ) → Q (d ∷ e ∷ es) v w ↔ (Q [] v w ⊎ Q es (v +ℤ d) (w +ℤ e)))
-    → (es : List ℤ) (v w : ℤ) → Q es v w ↔ Meets (Q []) es v w
+    (Q : List Edge → ℤ → ℤ → Type 0) → ((d e : ℤ) (es : List Edge) (v w : ℤ) → Q ((d, e) ∷ es) v w ↔ (Q [] v w ⊎ Q es (v +ℤ d) (w +ℤ e)))
+    → (es : List Edge) (v w : ℤ) → Q es v w ↔ Meets (Q []) es v w
 unfolding Meets
-meets-iff Q one more [] v w = Iff·rfl
-meets-iff Q one more (d ∷ []) v w = one d v w
-meets-iff Q one more (d ∷ e ∷ es) v w = either (more d e es v w) (meets-iff Q one more es (v +ℤ d) (w +ℤ e))
+meets-iff Q more [] v w = Iff·rfl
+meets-iff Q more ((d, e) ∷ es) v w = either (more d e es v w) (meets-iff Q more es (v +ℤ d) (w +ℤ e))
 
 -- The extreme passes exactly if some vertex does
-spans-iff : (k : ℕ) (x : Point) (es : List ℤ) (v w : ℤ) → (spans k x es v w ≡ true) ↔ Meets (λ a b. spans k x [] a b ≡ true) es v w
+spans-iff : (k : ℕ) (x : Point) (es : List Edge) (v w : ℤ) → (spans k x es v w ≡ true) ↔ Meets (λ a b. spans k x [] a b ≡ true) es v w
 unfolding spans lowestMet highestMet colSteps rowSteps
-spans-iff zero x = meets-iff (λ es v w. spans 0 x es v w ≡ true) (λ d v w. Iff·rfl) λ d e es v w. min-iff v (lowestMet (colSteps es) (v +ℤ d)) (pos (x .col))
-spans-iff (suc zero) x = meets-iff (λ es v w. spans 1 x es v w ≡ true) (λ d v w. Iff·rfl) λ d e es v w. max-iff w (highestMet (rowSteps es) (w +ℤ e)) (pos (x .row))
-spans-iff (suc (suc zero)) x = meets-iff (λ es v w. spans 2 x es v w ≡ true) (λ d v w. Iff·rfl) λ d e es v w. max-iff v (highestMet (colSteps es) (v +ℤ d)) (pos (x .col))
-spans-iff (suc (suc (suc k))) x = meets-iff (λ es v w. spans 3 x es v w ≡ true) (λ d v w. Iff·rfl) λ d e es v w. min-iff w (lowestMet (rowSteps es) (w +ℤ e)) (pos (x .row))
+spans-iff zero x = meets-iff (λ es v w. spans 0 x es v w ≡ true) λ d e es v w. min-iff v (lowestMet (colSteps es) (v +ℤ d)) (pos (x .col))
+spans-iff (suc zero) x = meets-iff (λ es v w. spans 1 x es v w ≡ true) λ d e es v w. max-iff w (highestMet (rowSteps es) (w +ℤ e)) (pos (x .row))
+spans-iff (suc (suc zero)) x = meets-iff (λ es v w. spans 2 x es v w ≡ true) λ d e es v w. max-iff v (highestMet (colSteps es) (v +ℤ d)) (pos (x .col))
+spans-iff (suc (suc (suc k))) x = meets-iff (λ es v w. spans 3 x es v w ≡ true) λ d e es v w. min-iff w (lowestMet (rowSteps es) (w +ℤ e)) (pos (x .row))
 
 -- A vertex in frame k
 placed-spans : (k : ℕ) (x : Point) → x .col < side → x .row < side → {p q : ℕ} {v w : ℤ} → Placed k p q v w → (spans k x [] v w ≡ true) ↔ (p ≤ cellE k x)
@@ -97,19 +95,18 @@ placed-spans (suc zero) x c r h = Iff·trans (le-iff (is-self (pos (x .row))) (h
 placed-spans (suc (suc zero)) x c r h = Iff·trans (le-iff (is-self (pos (x .col))) (h .counted .0)) (omega arith)
 placed-spans (suc (suc (suc k))) x c r h = Iff·trans (le-iff (h .counted .1) (is-self (pos (x .row)))) (omega arith)
 
-meets-here : (P : ℤ → ℤ → Type 0) (es : List ℤ) (x y : ℤ) → P x y → Meets P es x y
+meets-here : (P : ℤ → ℤ → Type 0) (es : List Edge) (x y : ℤ) → P x y → Meets P es x y
 unfolding Meets
 meets-here P [] x y h = h
-meets-here P (dx ∷ []) x y h = h
-meets-here P (dx ∷ dy ∷ es) x y h = inl h
+meets-here P ((dx, dy) ∷ es) x y h = inl h
 
--- A vertex of a piece's edges followed by others is one of the piece's, or one of the others
+-- A vertex of some edges followed by others is one of the first, or one of the others
 meets-append :
-    (P : ℤ → ℤ → Type 0) (f : Frame) (fs : List Factor) (es : List ℤ) (x y : ℤ)
-    → Meets P (edgesOf f fs ++ es) x y ↔ (Meets P (edgesOf f fs) x y ⊎ Meets P es (reached (colSteps (edgesOf f fs)) x) (reached (rowSteps (edgesOf f fs)) y))
-unfolding Meets edgesOf colSteps rowSteps reached
-meets-append P f [] es x y = (inr, ⊎-elim (meets-here P es x y) λ h. h)
-meets-append P f (g ∷ gs) es x y = or-assoc (meets-append P f gs es (x +ℤ stepCols f (run g) (rise g)) (y +ℤ stepRows f (run g) (rise g)))
+    (P : ℤ → ℤ → Type 0) (ds es : List Edge) (x y : ℤ)
+    → Meets P (ds ++ es) x y ↔ (Meets P ds x y ⊎ Meets P es (reached (colSteps ds) x) (reached (rowSteps ds) y))
+unfolding Meets colSteps rowSteps reached
+meets-append P [] es x y = (inr, ⊎-elim (meets-here P es x y) λ h. h)
+meets-append P ((dx, dy) ∷ ds) es x y = or-assoc (meets-append P ds es (x +ℤ dx) (y +ℤ dy))
 
 -- A vertex on the way along a piece that starts at vp along the earlier letter and vq along the later, after e and l letters
 pub record Passed (k o vp vq e l : ℕ) (v w : ℤ) : Type 0 where
@@ -127,8 +124,8 @@ passed-start {vp = vp} {vq = vq} e l h = record { p = vp; q = vq; lies = h; p-fr
 -- What P implies at every vertex along a piece holds if P holds at one of them
 meets-passed :
     (P : ℤ → ℤ → Type 0) (N : Type 0) (k : ℕ) (fs : List Factor) {o vp vq : ℕ} {x y : ℤ} → Lies k o vp vq x y
-    → ((v w : ℤ) → Passed k o vp vq (earliers (written fs)) (laters (written fs)) v w → P v w → N) → Meets P (edgesOf (frameOf k) fs) x y → N
-unfolding Meets edgesOf written
+    → ((v w : ℤ) → Passed k o vp vq (earliers (written fs)) (laters (written fs)) v w → P v w → N) → Meets P (pairs (edgesOf (frameOf k) fs)) x y → N
+unfolding Meets pairs edgesOf written
 meets-passed P N k [] {x = x} {y = y} h f m = f x y (passed-start _ _ h) m
 meets-passed P N k (g ∷ gs) {o = o} {vp = vp} {vq = vq} {x = x} {y = y} h f m =
     ⊎-elim (f x y (passed-start _ _ h)) (meets-passed P N k gs (lies-step k h (step-lies k (run g) (rise g))) λ v w i. f v w (further i)) m
@@ -146,14 +143,22 @@ meets-passed P N k (g ∷ gs) {o = o} {vp = vp} {vq = vq} {x = x} {y = y} h f m 
 -- ---- the cycle of the four pieces
 
 module _ (o : Outline) where
+  -- The edges of piece k
+  abbrev pub piecePairs : ℕ → List Edge
+  piecePairs k = pairs (edgesOf (frameOf k) (factors o k))
+
+  pub edge-pairs : pairs (edges o) ≡ piecePairs 0 ++ (piecePairs 1 ++ (piecePairs 2 ++ piecePairs 3))
+  unfolding edges
+  edge-pairs = simp pairs-append
+
   -- The first cell of piece k, reached along the edges
   unfoldable pub firstCol : ℕ → ℤ
   firstCol zero = pos (o .start .col)
-  firstCol (suc k) = reached (colSteps (edgesOf (frameOf k) (factors o k))) (firstCol k)
+  firstCol (suc k) = reached (colSteps (piecePairs k)) (firstCol k)
 
   unfoldable pub firstRow : ℕ → ℤ
   firstRow zero = pos (o .start .row)
-  firstRow (suc k) = reached (rowSteps (edgesOf (frameOf k) (factors o k))) (firstRow k)
+  firstRow (suc k) = reached (rowSteps (piecePairs k)) (firstRow k)
 
   whole-piece : (k : ℕ) → written (factors o k) ≡ word o k
   unfolding factors
@@ -181,14 +186,14 @@ module _ (o : Outline) where
 
   -- P holds for some vertex of piece k
   abbrev MeetsPiece : (ℤ → ℤ → Type 0) → ℕ → Type 0
-  MeetsPiece P k = Meets P (edgesOf (frameOf k) (factors o k)) (firstCol k) (firstRow k)
+  MeetsPiece P k = Meets P (piecePairs k) (firstCol k) (firstRow k)
 
   abbrev MeetsSome : (ℤ → ℤ → Type 0) → Type 0
   MeetsSome P = MeetsPiece P 0 ⊎ (MeetsPiece P 1 ⊎ (MeetsPiece P 2 ⊎ MeetsPiece P 3))
 
-  meets-edges : (P : ℤ → ℤ → Type 0) → Meets P (edges o) (pos (o .start .col)) (pos (o .start .row)) ↔ MeetsSome P
-  unfolding edges firstCol firstRow
-  meets-edges P = either (meets-append P _ _ _ _ _) (either (meets-append P _ _ _ _ _) (meets-append P _ _ _ _ _))
+  meets-edges : (P : ℤ → ℤ → Type 0) → Meets P (pairs (edges o)) (pos (o .start .col)) (pos (o .start .row)) ↔ MeetsSome P
+  unfolding firstCol firstRow
+  meets-edges P = rw edge-pairs (either (meets-append P _ _ _ _) (either (meets-append P _ _ _ _) (meets-append P _ _ _ _)))
 
   among : (P : ℤ → ℤ → Type 0) (j : ℕ) → j < 4 → MeetsPiece P j → MeetsSome P
   among P = below-four (λ j. MeetsPiece P j → MeetsSome P) inl (λ m. inr (inl m)) (λ m. inr (inr (inl m))) (λ m. inr (inr (inr m)))
@@ -216,9 +221,9 @@ module _ (o : Outline) where
         (λ m. omega (arith, placed-spans (next (next (next j))) x x-col x-row back .0 m, rw (next-round j h) at (g .next-later (next (next (next j))) (next-lt (next (next j))))))
 
     -- So the extreme along each frame's earlier letter is that of its piece's first cell
-    extreme : (k : ℕ) → k < 4 → (spans k x (edges o) (pos (o .start .col)) (pos (o .start .row)) ≡ true) ↔ (startE o k ≤ cellE k x)
+    extreme : (k : ℕ) → k < 4 → (spans k x (pairs (edges o)) (pos (o .start .col)) (pos (o .start .row)) ≡ true) ↔ (startE o k ≤ cellE k x)
     extreme k l =
-        Iff·trans (spans-iff k x (edges o) (pos (o .start .col)) (pos (o .start .row))) (
+        Iff·trans (spans-iff k x (pairs (edges o)) (pos (o .start .col)) (pos (o .start .row))) (
           λ m. ⊎-elim (passes 0 (omega arith)) (⊎-elim (passes 1 (omega arith)) (⊎-elim (passes 2 (omega arith)) (passes 3 (omega arith)))) (meets-edges P .0 m),
           λ n. meets-edges P .1 (among P k l (meets-here P _ _ _ (placed-spans k x x-col x-row (first-placed g k l) .1 n))),
         )
@@ -230,18 +235,18 @@ module _ (o : Outline) where
         passes j h = meets-passed P _ j (factors o j) (first-placed g j h) λ v w i. none-before j h (rw whole-piece at i) k l
 
     none-outside-iff :
-        (noneOutside (edges o) (pos (o .start .col)) (pos (o .start .row)) (pos (x .col)) (pos (x .row)) ≡ true)
+        (noneOutside (pairs (edges o)) (pos (o .start .col)) (pos (o .start .row)) (pos (x .col)) (pos (x .row)) ≡ true)
         ↔ (RightSide x 0 × (RightSide x 1 × (RightSide x 2 × RightSide x 3)))
-    unfolding edges firstCol firstRow
-    none-outside-iff = split 0 _ (omega arith) (split 1 _ (omega arith) (split 2 _ (omega arith) (sides 3 (omega arith))))
+    unfolding firstCol firstRow
+    none-outside-iff = rw edge-pairs (split 0 _ (omega arith) (split 1 _ (omega arith) (split 2 _ (omega arith) (sides 3 (omega arith)))))
       where
-        sides : (k : ℕ) → k < 4 → (noneOutside (edgesOf (frameOf k) (factors o k)) (firstCol k) (firstRow k) (pos (x .col)) (pos (x .row)) ≡ true) ↔ RightSide x k
+        sides : (k : ℕ) → k < 4 → (noneOutside (piecePairs k) (firstCol k) (firstRow k) (pos (x .col)) (pos (x .row)) ≡ true) ↔ RightSide x k
         sides k l = lies-sides k (factors o k) (first-placed g k l) (placed-cell k x x-col x-row)
 
         split :
-            (k : ℕ) (es : List ℤ) → k < 4 → {A : Type 0} → (noneOutside es (firstCol (suc k)) (firstRow (suc k)) (pos (x .col)) (pos (x .row)) ≡ true) ↔ A
-            → (noneOutside (edgesOf (frameOf k) (factors o k) ++ es) (firstCol k) (firstRow k) (pos (x .col)) (pos (x .row)) ≡ true) ↔ (RightSide x k × A)
-        split k es l i = rw (none-outside-append (frameOf k) es) (Iff·trans (and-eq-true-iff _ _) (Iff·and (sides k l) i))
+            (k : ℕ) (es : List Edge) → k < 4 → {A : Type 0} → (noneOutside es (firstCol (suc k)) (firstRow (suc k)) (pos (x .col)) (pos (x .row)) ≡ true) ↔ A
+            → (noneOutside (piecePairs k ++ es) (firstCol k) (firstRow k) (pos (x .col)) (pos (x .row)) ≡ true) ↔ (RightSide x k × A)
+        split k es l i = rw (none-outside-append (piecePairs k) es) (Iff·trans (and-eq-true-iff _ _) (Iff·and (sides k l) i))
 
 -- Columns, then rows, then side values: two facts about each piece
 gather : (A B : ℕ → Type 0) → (((A 0 × A 2) × (A 3 × A 1)) × (B 0 × (B 1 × (B 2 × B 3)))) ↔ ((k : ℕ) → k < 4 → A k × B k)
@@ -280,17 +285,18 @@ total-nil ds x e =
     is-unique (is-self (total ds)) (is-self (pos 0)) (omega (arith, sum .eq, ap up (sym (reached-total ds x) ∙ e), ap down (sym (reached-total ds x) ∙ e)))
 
 module _ (o : Outline) where
-  cols-reached : reached (colSteps (edges o)) (pos (o .start .col)) ≡ firstCol o 4
-  unfolding edges firstCol
-  cols-reached = simp (cols-append, reached-append)
+  cols-reached : reached (colSteps (pairs (edges o))) (pos (o .start .col)) ≡ firstCol o 4
+  unfolding firstCol
+  cols-reached = simp (edge-pairs, cols-append, reached-append)
 
-  rows-reached : reached (rowSteps (edges o)) (pos (o .start .row)) ≡ firstRow o 4
-  unfolding edges firstRow
-  rows-reached = simp (rows-append, reached-append)
+  rows-reached : reached (rowSteps (pairs (edges o))) (pos (o .start .row)) ≡ firstRow o 4
+  unfolding firstRow
+  rows-reached = simp (edge-pairs, rows-append, reached-append)
 
   -- The edges lead back to the anchor
   pub edges-return :
-      Shape o → (reached (colSteps (edges o)) (pos (o .start .col)) ≡ pos (o .start .col)) × (reached (rowSteps (edges o)) (pos (o .start .row)) ≡ pos (o .start .row))
+      Shape o → let es = pairs (edges o) in
+      (reached (colSteps es) (pos (o .start .col)) ≡ pos (o .start .col)) × (reached (rowSteps es) (pos (o .start .row)) ≡ pos (o .start .row))
   unfolding Counted firstCol firstRow
   edges-return h =
       let start = first-placed-0 o .counted in
@@ -298,7 +304,7 @@ module _ (o : Outline) where
       (cols-reached ∙ is-unique (stop .0) (start .0) refl, rows-reached ∙ is-unique (stop .1) (start .1) refl)
 
   -- The edges sum to zero
-  pub edges-close : Shape o → (total (colSteps (edges o)) ≡ pos 0) × (total (rowSteps (edges o)) ≡ pos 0)
+  pub edges-close : Shape o → (total (colSteps (pairs (edges o))) ≡ pos 0) × (total (rowSteps (pairs (edges o))) ≡ pos 0)
   edges-close h = (total-nil _ _ (edges-return h .0), total-nil _ _ (edges-return h .1))
 
 -- ---- the vertices are on the chart
@@ -330,7 +336,7 @@ placed-is-cell k {p} {q} {v} {w} l m h = go k (h .counted)
 
 -- A vertex is a cell of the chart
 pub vertex-is-cell :
-    (o : Outline) → Shape o → (P : ℤ → ℤ → Type 0) → Meets P (edges o) (pos (o .start .col)) (pos (o .start .row)) → (v : ℤ) × (w : ℤ) × IsCell v w × P v w
+    (o : Outline) → Shape o → (P : ℤ → ℤ → Type 0) → Meets P (pairs (edges o)) (pos (o .start .col)) (pos (o .start .row)) → (v : ℤ) × (w : ℤ) × IsCell v w × P v w
 vertex-is-cell o g P m =
     ⊎-elim (passes 0 (omega arith)) (⊎-elim (passes 1 (omega arith)) (⊎-elim (passes 2 (omega arith)) (passes 3 (omega arith)))) (meets-edges o P .0 m)
   where

@@ -16,6 +16,7 @@ use Rattle.words.proofs.Counts.{earliers-append, laters-append, earliers-copies
 use Rattle.chart.specs.declared.Point.{Point}
 use Rattle.chart.specs.Limits.{side}
 use Rattle.convexity.specs.Frame.{Frame, frameOf, next}
+use Rattle.convexity.specs.Edges.{Edge, pairs}
 use Rattle.convexity.specs.Pieces.{edgesOf}
 use Rattle.convexity.specs.Inside.{notNegative, sideValue, noneOutside, colSteps, rowSteps}
 use Rattle.convexity.proofs.Frame.{Sides, run, rise}
@@ -125,8 +126,9 @@ reached (d ∷ ds) x = reached ds (x +ℤ d)
 -- The edges of a piece lead as far along its two letters as its word has letters
 pub lies-end :
     (k : ℕ) (fs : List Factor) {o vp vq : ℕ} {x y : ℤ} → Lies k o vp vq x y
-    → Lies k o (vp + earliers (written fs)) (vq + laters (written fs)) (reached (colSteps (edgesOf (frameOf k) fs)) x) (reached (rowSteps (edgesOf (frameOf k) fs)) y)
-unfolding reached colSteps rowSteps edgesOf written earliers laters
+    → let es = pairs (edgesOf (frameOf k) fs) in
+    Lies k o (vp + earliers (written fs)) (vq + laters (written fs)) (reached (colSteps es) x) (reached (rowSteps es) y)
+unfolding reached colSteps rowSteps pairs edgesOf written earliers laters
 lies-end k [] {vp = vp} {vq = vq} h = rw (add-zero vp, add-zero vq) h
 lies-end k (f ∷ fs) {vp = vp} {vq = vq} h =
     let w : Word = copies (f .times) (f .word) in
@@ -138,37 +140,38 @@ lies-end k (f ∷ fs) {vp = vp} {vq = vq} h =
 
 pub lies-sides :
     (k : ℕ) (fs : List Factor) {o vp vq p q : ℕ} {x y c r : ℤ} → Lies k o vp vq x y → Lies k o p q c r
-    → (noneOutside (edgesOf (frameOf k) fs) x y c r ≡ true) ↔ Sides fs vp vq p q
-unfolding noneOutside edgesOf Sides
+    → (noneOutside (pairs (edgesOf (frameOf k) fs)) x y c r ≡ true) ↔ Sides fs vp vq p q
+unfolding noneOutside pairs edgesOf Sides
 lies-sides k [] h g = ((λ e. tt), λ s. refl)
 lies-sides k (f ∷ fs) h g =
     let d = step-lies k (run f) (rise f) in
     Iff·trans (and-eq-true-iff _ _) (Iff·and (side-iff k h d g) (lies-sides k fs (lies-step k h d) g))
 
--- ---- the edges of a piece and those after it, which start where the piece ends
+-- ---- two lists of edges, one after the other: the second starts where the first ends
 
-module _ (f : Frame) (es : List ℤ) where
-  pub none-outside-append :
-      (fs : List Factor) (x y c r : ℤ)
-      → noneOutside (edgesOf f fs ++ es) x y c r
-      ≡ (noneOutside (edgesOf f fs) x y c r && noneOutside es (reached (colSteps (edgesOf f fs)) x) (reached (rowSteps (edgesOf f fs)) y) c r)
-  unfolding noneOutside edgesOf reached colSteps rowSteps
-  none-outside-append [] x y c r = refl
-  none-outside-append (g ∷ gs) x y c r =
-      let dx : ℤ = stepCols f (run g) (rise g) in
-      let dy : ℤ = stepRows f (run g) (rise g) in
-      ap (λ (b : Bool). notNegative (sideValue dx dy x y c r) && b) (none-outside-append gs (x +ℤ dx) (y +ℤ dy) c r)
-      ∙ sym (and-assoc (notNegative (sideValue dx dy x y c r)) (noneOutside (edgesOf f gs) (x +ℤ dx) (y +ℤ dy) c r) _)
+pub pairs-append : (f : Frame) (fs : List Factor) (ns : List ℤ) → pairs (edgesOf f fs ++ ns) ≡ pairs (edgesOf f fs) ++ pairs ns
+unfolding pairs edgesOf
+pairs-append f [] ns = refl
+pairs-append f (g ∷ gs) ns = rw (pairs-append f gs ns)
 
-  pub cols-append : (fs : List Factor) → colSteps (edgesOf f fs ++ es) ≡ colSteps (edgesOf f fs) ++ colSteps es
-  unfolding edgesOf colSteps
-  cols-append [] = refl
-  cols-append (g ∷ gs) = rw (cols-append gs)
+pub none-outside-append :
+    (ds es : List Edge) (x y c r : ℤ)
+    → noneOutside (ds ++ es) x y c r ≡ (noneOutside ds x y c r && noneOutside es (reached (colSteps ds) x) (reached (rowSteps ds) y) c r)
+unfolding noneOutside reached colSteps rowSteps
+none-outside-append [] es x y c r = refl
+none-outside-append ((dx, dy) ∷ ds) es x y c r =
+    ap (λ (b : Bool). notNegative (sideValue dx dy x y c r) && b) (none-outside-append ds es (x +ℤ dx) (y +ℤ dy) c r)
+    ∙ sym (and-assoc (notNegative (sideValue dx dy x y c r)) (noneOutside ds (x +ℤ dx) (y +ℤ dy) c r) _)
 
-  pub rows-append : (fs : List Factor) → rowSteps (edgesOf f fs ++ es) ≡ rowSteps (edgesOf f fs) ++ rowSteps es
-  unfolding edgesOf rowSteps
-  rows-append [] = refl
-  rows-append (g ∷ gs) = rw (rows-append gs)
+pub cols-append : (ds es : List Edge) → colSteps (ds ++ es) ≡ colSteps ds ++ colSteps es
+unfolding colSteps
+cols-append [] es = refl
+cols-append ((dx, dy) ∷ ds) es = rw (cols-append ds es)
+
+pub rows-append : (ds es : List Edge) → rowSteps (ds ++ es) ≡ rowSteps ds ++ rowSteps es
+unfolding rowSteps
+rows-append [] es = refl
+rows-append ((dx, dy) ∷ ds) es = rw (rows-append ds es)
 
 pub reached-append : (ds es : List ℤ) (x : ℤ) → reached (ds ++ es) x ≡ reached es (reached ds x)
 unfolding reached

@@ -6,6 +6,7 @@ use mathlib.Core.List.{List, [], _∷_, _++_}
 use lib.Dec.{eqb}
 use lib.IntN.{ℤ, pos, negsuc, natAbs}
 use Rattle.words.specs.Counted.{edgesWord}
+use Rattle.convexity.specs.Edges.{Edge, pairs}
 use Rattle.convexity.specs.Frame.{frameOf}
 use Rattle.convexity.specs.parts.InFrame.{spell}
 
@@ -32,21 +33,19 @@ unfoldable pub riseIn : ℕ → ℤ → ℤ → ℕ
 riseIn k dx dy = runIn (suc k) dx dy
 
 -- The edges of quadrant k in their order, each as its run and its rise in frame k
-unfoldable pub sizesIn : ℕ → List ℤ → List (ℕ × ℕ)
+unfoldable pub sizesIn : ℕ → List Edge → List (ℕ × ℕ)
 sizesIn k [] = []
-sizesIn k (dx ∷ []) = []
-sizesIn k (dx ∷ dy ∷ es) = cond (eqb (quadrantOf dx dy) k) ((runIn k dx dy, riseIn k dx dy) ∷ sizesIn k es) (sizesIn k es)
+sizesIn k ((dx, dy) ∷ es) = cond (eqb (quadrantOf dx dy) k) ((runIn k dx dy, riseIn k dx dy) ∷ sizesIn k es) (sizesIn k es)
 
 -- The letters of piece k: its later letter, then the letters of its edges
-unfoldable pub pieceFrom : ℕ → List ℤ → List ℕ
+unfoldable pub pieceFrom : ℕ → List Edge → List ℕ
 pieceFrom k es = spell (frameOf k) (true ∷ edgesWord (sizesIn k es))
 
 -- The letters of the border: 1, the letters of quadrant 0; 0, quadrant 1; 3, quadrant 2; 2, quadrant 3
 unfoldable pub lettersFrom : List ℤ → List ℕ
-lettersFrom es = pieceFrom 0 es ++ (pieceFrom 1 es ++ (pieceFrom 2 es ++ pieceFrom 3 es))
+lettersFrom es = let ps = pairs es in pieceFrom 0 ps ++ (pieceFrom 1 ps ++ (pieceFrom 2 ps ++ pieceFrom 3 ps))
 
 -- The sum of the absolute column and row steps of all edges
-unfoldable pub stepCount : List ℤ → ℕ
+unfoldable pub stepCount : List Edge → ℕ
 stepCount [] = 0
-stepCount (dx ∷ []) = 0
-stepCount (dx ∷ dy ∷ es) = natAbs dx + natAbs dy + stepCount es
+stepCount ((dx, dy) ∷ es) = natAbs dx + natAbs dy + stepCount es

@@ -4,6 +4,7 @@ use native.Mathlib.Omega.{arith}
 use mathlib.Core.Path.{_≡_, refl, ap}
 use mathlib.Core.List.{List}
 use lib.IntN.{ℤ, pos, negsuc, negℤ, _+ℤ_, _-ℤ_, _*ℤ_, *ℤ-comm}
+use Rattle.convexity.specs.Edges.{Edge}
 use Rattle.convexity.specs.Inside.{sideValue}
 use Rattle.directions.specs.Round.{cross}
 use Rattle.directions.specs.CornerHull.{Met, InCornerHull}
@@ -84,7 +85,7 @@ module _ (x y c r : ℤ) where
 
     -- The cell is in the triangle of the anchor, the corner cell (u, v) and the next one
     pub triangle :
-        {es : List ℤ} → Met es x y u v → Met es x y (u +ℤ dx) (v +ℤ dy) → Least0 (sideValue dx dy u v c r) → Most0 (Seen (u +ℤ dx) (v +ℤ dy)) → Least0 (Seen u v)
+        {es : List Edge} → Met es x y u v → Met es x y (u +ℤ dx) (v +ℤ dy) → Least0 (sideValue dx dy u v c r) → Most0 (Seen (u +ℤ dx) (v +ℤ dy)) → Least0 (Seen u v)
         → Above (sideValue dx dy u v x y) → InCornerHull es x y c r
     unfolding Seen
     triangle m m′ s n l g =

@@ -4,13 +4,14 @@ use mathlib.Core.Path.{_≡_, refl}
 use mathlib.Core.Bool.{true, false, and-eq-true-iff}
 use mathlib.Core.List.{List}
 use lib.IntN.{ℤ}
+use Rattle.convexity.specs.Edges.{Edge}
 use Rattle.convexity.specs.Inside.{colSteps, rowSteps, within, insideAt}
-use Rattle.directions.specs.Increasing.{badDirections}
+use Rattle.directions.specs.Increasing.{badEdges}
 use Rattle.directions.specs.CornerHull.{InCornerHull}
 use Rattle.directions.proofs.Passing.{Passed, passes-iff, Inner, none-outside, corner-inner}
 use Rattle.directions.proofs.Means.{Meanℤ, mean-side, mean-least, met-col, met-row, mean-within}
 
-module _ {es : List ℤ} {x y c r : ℤ} (h : InCornerHull es x y c r) where
+module _ {es : List Edge} {x y c r : ℤ} (h : InCornerHull es x y c r) where
   cols : Meanℤ (h .i + h .j + h .k) (h .i) (h .j) (h .k) c (h .p .col) (h .q .col) (h .t .col)
   cols = record { is = h .cols }
 
@@ -33,7 +34,7 @@ module _ {es : List ℤ} {x y c r : ℤ} (h : InCornerHull es x y c r) where
   hull-rows = mean-within (h .some) refl (rowSteps es) rows (met-row (h .p .met)) (met-row (h .q .met)) (met-row (h .t .met))
 
 pub hull-inside :
-    (x y : ℤ) (es : List ℤ) (c r : ℤ) → badDirections es ≡ false → InCornerHull es x y c r → insideAt es x y c r ≡ true
+    (x y : ℤ) (es : List Edge) (c r : ℤ) → badEdges es ≡ false → InCornerHull es x y c r → insideAt es x y c r ≡ true
 unfolding insideAt
 hull-inside x y es c r a h =
     and-eq-true-iff _ _ .1 (and-eq-true-iff _ _ .1 (hull-cols h, hull-rows h), none-outside es x y c r (hull-inner h (passes-iff es x y .0 a)))

@@ -10,6 +10,7 @@ use lib.Signed.{leZ}
 use Rattle.base.proofs.IntegerOrder.{up, down, AtMost, at-most-iff, not-at-most}
 use Rattle.base.proofs.Differences.{Is, is-self, is-eq, is-unique, is-add, is-minus, is-mul}
 use Rattle.base.proofs.IntegerRing.{times-left, times-minus, times-sum, sum-minus}
+use Rattle.convexity.specs.Edges.{Edge}
 use Rattle.convexity.specs.Inside.{minℤ, maxℤ, sideValue, colSteps, rowSteps, lowestMet, highestMet, within}
 use Rattle.directions.specs.CornerHull.{Met}
 use Rattle.directions.proofs.Directions.{Least0}
@@ -80,12 +81,12 @@ pub data Reach : List ℤ → ℤ → ℤ → Type 0 where
   start : {ds : List ℤ} {x : ℤ} → Reach ds x x
   after : {ds : List ℤ} {d x u : ℤ} → Reach ds (x +ℤ d) u → Reach (d ∷ ds) x u
 
-pub met-col : {es : List ℤ} {x y u v : ℤ} → Met es x y u v → Reach (colSteps es) x u
+pub met-col : {es : List Edge} {x y u v : ℤ} → Met es x y u v → Reach (colSteps es) x u
 unfolding colSteps
 met-col Met.start = Reach.start
 met-col (Met.after m) = Reach.after (met-col m)
 
-pub met-row : {es : List ℤ} {x y u v : ℤ} → Met es x y u v → Reach (rowSteps es) y v
+pub met-row : {es : List Edge} {x y u v : ℤ} → Met es x y u v → Reach (rowSteps es) y v
 unfolding rowSteps
 met-row Met.start = Reach.start
 met-row (Met.after m) = Reach.after (met-row m)

@@ -12,10 +12,11 @@ use borrow.Author.Tests.{not-false}
 use Rattle.base.proofs.BelowLaws.{or-false-iff}
 use Rattle.base.proofs.IntegerOrder.{up, down}
 use Rattle.base.proofs.Differences.{is-self, is-add}
+use Rattle.convexity.specs.Edges.{Edge}
 use Rattle.convexity.specs.Inside.{notNegative, sideValue, noneOutside, colSteps, rowSteps, total}
 use Rattle.convexity.proofs.Signed.{not-negative-iff}
 use Rattle.directions.specs.Round.{positive, isNil, firstHalf, precedes}
-use Rattle.directions.specs.Increasing.{someZero, sumsToZero, precedesFirst, rising, badDirections}
+use Rattle.directions.specs.Increasing.{someZero, sumsToZero, precedesFirst, rising, badEdges}
 use Rattle.directions.specs.CornerHull.{Met}
 use Rattle.directions.proofs.Directions.{Above, Least0, Forward, Backward, Sooner, halves, forwards, backwards, precedes-trans}
 use Rattle.directions.proofs.Corners.{Facing, ahead, back, AllAfter, Rising, Ends, Leaves, first, later, inner-side}
@@ -74,54 +75,47 @@ of-precedes (backwards d e h) = rw (backward-first d, backward-first e) (above-p
 
 -- ---- no edge is zero, and directions increase
 
-all-after : {dx dy ex ey : ℤ} {es : List ℤ} → Sooner dx dy ex ey → AllAfter ex ey es → AllAfter dx dy es
+all-after : {dx dy ex ey : ℤ} {es : List Edge} → Sooner dx dy ex ey → AllAfter ex ey es → AllAfter dx dy es
 all-after b AllAfter.none = AllAfter.none
-all-after b AllAfter.odd = AllAfter.odd
 all-after b (AllAfter.next c a) = AllAfter.next (precedes-trans b c) (all-after b a)
 
 -- An edge that comes before the first of an increasing list comes before all of it
-after-first : {dx dy : ℤ} {es : List ℤ} → Facing dx dy → Rising es → precedesFirst dx dy es ≡ true → AllAfter dx dy es
+after-first : {dx dy : ℤ} {es : List Edge} → Facing dx dy → Rising es → precedesFirst dx dy es ≡ true → AllAfter dx dy es
 unfolding precedesFirst
 after-first f Rising.none s = AllAfter.none
-after-first f Rising.odd s = AllAfter.odd
 after-first f (Rising.next g a r) s = let b = precedes-of f g s in AllAfter.next b (all-after b a)
 
-rises-of : (es : List ℤ) → someZero es ≡ false → rising es ≡ true → Rising es
+rises-of : (es : List Edge) → someZero es ≡ false → rising es ≡ true → Rising es
 unfolding someZero rising
 rises-of [] n t = Rising.none
-rises-of (dx ∷ []) n t = Rising.odd
-rises-of (dx ∷ dy ∷ es) n t =
+rises-of ((dx, dy) ∷ es) n t =
     let ns = or-false-iff _ _ .0 n in
     let ts = and-eq-true-iff _ _ .0 t in
     let f = facing dx dy (ns .0) in
     let r = rises-of es (ns .1) (ts .1) in
     Rising.next f (after-first f r (ts .0)) r
 
-rises-none-nil : {es : List ℤ} → Rising es → someZero es ≡ false
+rises-none-nil : {es : List Edge} → Rising es → someZero es ≡ false
 unfolding someZero
 rises-none-nil Rising.none = refl
-rises-none-nil Rising.odd = refl
 rises-none-nil (Rising.next f a r) = or-false-iff _ _ .1 (facing-not-nil f, rises-none-nil r)
 
-rises-first : {dx dy : ℤ} {es : List ℤ} → AllAfter dx dy es → precedesFirst dx dy es ≡ true
+rises-first : {dx dy : ℤ} {es : List Edge} → AllAfter dx dy es → precedesFirst dx dy es ≡ true
 unfolding precedesFirst
 rises-first AllAfter.none = refl
-rises-first AllAfter.odd = refl
 rises-first (AllAfter.next b a) = of-precedes b
 
-rises-rising : {es : List ℤ} → Rising es → rising es ≡ true
+rises-rising : {es : List Edge} → Rising es → rising es ≡ true
 unfolding rising
 rises-rising Rising.none = refl
-rises-rising Rising.odd = refl
 rises-rising (Rising.next f a r) = and-eq-true-iff _ _ .1 (rises-first a, rises-rising r)
 
 -- ---- the end of the walk
 
-ends : (es : List ℤ) (x y : ℤ) → Ends es x y (x +ℤ total (colSteps es)) (y +ℤ total (rowSteps es))
+ends : (es : List Edge) (x y : ℤ) → Ends es x y (x +ℤ total (colSteps es)) (y +ℤ total (rowSteps es))
 unfolding total colSteps rowSteps
 ends [] x y = rw (+ℤ-idr x, +ℤ-idr y) Ends.none
-ends (dx ∷ []) x y = rw (+ℤ-idr x, +ℤ-idr y) Ends.odd
-ends (dx ∷ dy ∷ es) x y =
+ends ((dx, dy) ∷ es) x y =
     rw (← (+ℤ-assoc x dx (total (colSteps es))), ← (+ℤ-assoc y dy (total (rowSteps es)))) (Ends.next (ends es (x +ℤ dx) (y +ℤ dy)))
 
 nil-is : (z : ℤ) → isNil z ≡ true → z ≡ pos 0
@@ -136,18 +130,17 @@ is-zero x (pos zero) e = refl
 is-zero x (pos (suc n)) e = absurd (omega (arith, is-add (is-self x) (is-self (pos (suc n))) .eq, ap up e, ap down e))
 is-zero x (negsuc n) e = absurd (omega (arith, is-add (is-self x) (is-self (negsuc n)) .eq, ap up e, ap down e))
 
-returns-of : (es : List ℤ) (x y : ℤ) → sumsToZero es ≡ true → Ends es x y x y
+returns-of : (es : List Edge) (x y : ℤ) → sumsToZero es ≡ true → Ends es x y x y
 unfolding sumsToZero
 returns-of es x y c =
     let cs = and-eq-true-iff _ _ .0 c in
     rw (nil-is _ (cs .0), nil-is _ (cs .1), +ℤ-idr x, +ℤ-idr y) at (ends es x y)
 
-ends-unique : {es : List ℤ} {x y u v s t : ℤ} → Ends es x y u v → Ends es x y s t → (u ≡ s) × (v ≡ t)
+ends-unique : {es : List Edge} {x y u v s t : ℤ} → Ends es x y u v → Ends es x y s t → (u ≡ s) × (v ≡ t)
 ends-unique Ends.none Ends.none = (refl, refl)
-ends-unique Ends.odd Ends.odd = (refl, refl)
 ends-unique (Ends.next w) (Ends.next v) = ends-unique w v
 
-returns-sum : (es : List ℤ) (x y : ℤ) → Ends es x y x y → sumsToZero es ≡ true
+returns-sum : (es : List Edge) (x y : ℤ) → Ends es x y x y → sumsToZero es ≡ true
 unfolding sumsToZero
 returns-sum es x y w =
     let e = ends-unique (ends es x y) w in
@@ -156,13 +149,13 @@ returns-sum es x y w =
 -- ---- refusal 16
 
 -- The list passes: directions increase, and the edges from (x, y) on return to it
-pub record Passed (es : List ℤ) (x y : ℤ) : Type 0 where
+pub record Passed (es : List Edge) (x y : ℤ) : Type 0 where
   pub rises : Rising es
   pub returns : Ends es x y x y
 
 -- The test decides this
-pub passes-iff : (es : List ℤ) (x y : ℤ) → (badDirections es ≡ false) ↔ Passed es x y
-unfolding badDirections
+pub passes-iff : (es : List Edge) (x y : ℤ) → (badEdges es ≡ false) ↔ Passed es x y
+unfolding badEdges
 passes-iff es x y = (
   λ e.
       let n = or-false-iff _ _ .0 e in
@@ -178,37 +171,36 @@ passes-iff es x y = (
 -- ---- the rule, edge by edge
 
 -- (c, r) is on the inner side of every edge
-pub record Inner (es : List ℤ) (x y c r : ℤ) : Type 0 where
-  pub side : (ex ey p q : ℤ) (fs : List ℤ) → Leaves es x y ex ey p q fs → Least0 (sideValue ex ey p q c r)
+pub record Inner (es : List Edge) (x y c r : ℤ) : Type 0 where
+  pub side : (ex ey p q : ℤ) (fs : List Edge) → Leaves es x y ex ey p q fs → Least0 (sideValue ex ey p q c r)
 
-pub none-outside : (es : List ℤ) (x y c r : ℤ) → Inner es x y c r → noneOutside es x y c r ≡ true
+pub none-outside : (es : List Edge) (x y c r : ℤ) → Inner es x y c r → noneOutside es x y c r ≡ true
 unfolding noneOutside
 none-outside [] x y c r h = refl
-none-outside (dx ∷ []) x y c r h = refl
-none-outside (dx ∷ dy ∷ es) x y c r h =
+none-outside ((dx, dy) ∷ es) x y c r h =
     and-eq-true-iff _ _ .1 (
       not-negative-iff (is-self _) .1 (h .side dx dy x y es first),
       none-outside es (x +ℤ dx) (y +ℤ dy) c r (record { side = λ ex ey p q fs l. h .side ex ey p q fs (later l) }),
     )
 
 outside-both :
-    (dx dy : ℤ) (es : List ℤ) (x y c r : ℤ) → noneOutside (dx ∷ dy ∷ es) x y c r ≡ true
+    (dx dy : ℤ) (es : List Edge) (x y c r : ℤ) → noneOutside ((dx, dy) ∷ es) x y c r ≡ true
     → Least0 (sideValue dx dy x y c r) × (noneOutside es (x +ℤ dx) (y +ℤ dy) c r ≡ true)
 unfolding noneOutside
 outside-both dx dy es x y c r n =
     let k = and-eq-true-iff (notNegative (sideValue dx dy x y c r)) (noneOutside es (x +ℤ dx) (y +ℤ dy) c r) .0 n in
     (not-negative-iff (is-self (sideValue dx dy x y c r)) .0 (k .0), k .1)
 
-pub inner : (es : List ℤ) (x y c r : ℤ) → noneOutside es x y c r ≡ true → Inner es x y c r
+pub inner : (es : List Edge) (x y c r : ℤ) → noneOutside es x y c r ≡ true → Inner es x y c r
 inner es x y c r n = record { side = λ ex ey p q fs l. go n l }
   where
-    go : {es fs : List ℤ} {x y ex ey p q : ℤ} → noneOutside es x y c r ≡ true → Leaves es x y ex ey p q fs → Least0 (sideValue ex ey p q c r)
+    go : {es fs : List Edge} {x y ex ey p q : ℤ} → noneOutside es x y c r ≡ true → Leaves es x y ex ey p q fs → Least0 (sideValue ex ey p q c r)
     go n (first {es = es} {ex = ex} {ey = ey} {x = x} {y = y}) = outside-both ex ey es x y c r n .0
     go n (later {es = es} {dx = dx} {dy = dy} {x = x} {y = y} l) = go (outside-both dx dy es x y c r n .1) l
 
 -- Every corner cell is on the inner side of every edge
-pub corner-inner : {es : List ℤ} {x y u v : ℤ} → Passed es x y → Met es x y u v → Inner es x y u v
+pub corner-inner : {es : List Edge} {x y u v : ℤ} → Passed es x y → Met es x y u v → Inner es x y u v
 corner-inner h m = record { side = λ ex ey p q fs l. inner-side (h .rises) (h .returns) m l }
 
-pub corner-none-outside : (es : List ℤ) (x y : ℤ) {u v : ℤ} → badDirections es ≡ false → Met es x y u v → noneOutside es x y u v ≡ true
+pub corner-none-outside : (es : List Edge) (x y : ℤ) {u v : ℤ} → badEdges es ≡ false → Met es x y u v → noneOutside es x y u v ≡ true
 corner-none-outside es x y {u} {v} a m = none-outside es x y u v (corner-inner (passes-iff es x y .0 a) m)

@@ -5,6 +5,7 @@ use mathlib.Core.Path.{_≡_, refl, ap}
 use mathlib.Core.Bool.{true}
 use mathlib.Core.List.{List, [], _∷_}
 use lib.IntN.{ℤ, pos, _+ℤ_, _-ℤ_}
+use Rattle.convexity.specs.Edges.{Edge}
 use Rattle.convexity.specs.Inside.{sideValue, within}
 use Rattle.directions.specs.Round.{cross}
 use Rattle.directions.specs.CornerHull.{Met, Corner, InCornerHull}
@@ -18,7 +19,7 @@ use Rattle.directions.proofs.InsideHull.{last}
 
 -- ---- the anchor alone
 
-alone : {es : List ℤ} (x y c r : ℤ) → AtMost x c × AtMost c x → AtMost y r × AtMost r y → InCornerHull es x y c r
+alone : {es : List Edge} (x y c r : ℤ) → AtMost x c × AtMost c x → AtMost y r × AtMost r y → InCornerHull es x y c r
 alone {es} x y c r h k =
     let a : Corner es x y = record { col = x; row = y; met = Met.start } in
     record {
@@ -43,12 +44,12 @@ one-reached : {d x u : ℤ} → x +ℤ d ≡ x → Reach (d ∷ []) x u → u �
 one-reached e Reach.start = refl
 one-reached e (Reach.after Reach.start) = e
 
-pub inside-none : {es : List ℤ} (x y c r : ℤ) → within [] x c ≡ true → within [] y r ≡ true → InCornerHull es x y c r
+pub inside-none : {es : List Edge} (x y c r : ℤ) → within [] x c ≡ true → within [] y r ≡ true → InCornerHull es x y c r
 inside-none x y c r h k =
     alone x y c r (between [] x x x c (λ u m. low-refl x u (none-reached m)) h) (between [] y y y r (λ u m. low-refl y u (none-reached m)) k)
 
 pub inside-one :
-    {es : List ℤ} (x y c r dx dy : ℤ) → x +ℤ dx ≡ x → y +ℤ dy ≡ y → within (dx ∷ []) x c ≡ true → within (dy ∷ []) y r ≡ true → InCornerHull es x y c r
+    {es : List Edge} (x y c r dx dy : ℤ) → x +ℤ dx ≡ x → y +ℤ dy ≡ y → within (dx ∷ []) x c ≡ true → within (dy ∷ []) y r ≡ true → InCornerHull es x y c r
 inside-one x y c r dx dy p q h k =
     alone x y c r (between (dx ∷ []) x x x c (λ u m. low-refl x u (one-reached p m)) h) (between (dy ∷ []) y y y r (λ u m. low-refl y u (one-reached q m)) k)
 
@@ -56,9 +57,9 @@ inside-one x y c r dx dy p q h k =
 
 -- The vector to the cell is k/w of the vector to the next corner cell
 segment :
-    {es : List ℤ} (x y c r dx dy : ℤ) (w i k : ℕ) → 0 < w → w ≡ i + 0 + k
+    {es : List Edge} (x y c r dx dy : ℤ) (w i k : ℕ) → 0 < w → w ≡ i + 0 + k
     → w * up (c -ℤ x) + k * down dx ≡ k * up dx + w * down (c -ℤ x) → w * up (r -ℤ y) + k * down dy ≡ k * up dy + w * down (r -ℤ y)
-    → InCornerHull (dx ∷ dy ∷ es) x y c r
+    → InCornerHull ((dx, dy) ∷ es) x y c r
 segment {es} x y c r dx dy w i k g e h l =
     record {
       p = record { col = x; row = y; met = Met.start };
@@ -109,8 +110,8 @@ module _
 
 -- An edge to the right of the anchor: count its columns
 across-segment :
-    {es : List ℤ} (x y c r dy : ℤ) (n : ℕ) → Least0 (c -ℤ x) → up (c -ℤ x) ≤ suc n + down (c -ℤ x) → Is (cross (pos (suc n)) dy (c -ℤ x) (r -ℤ y)) 0 0
-    → InCornerHull (pos (suc n) ∷ dy ∷ es) x y c r
+    {es : List Edge} (x y c r dy : ℤ) (n : ℕ) → Least0 (c -ℤ x) → up (c -ℤ x) ≤ suc n + down (c -ℤ x) → Is (cross (pos (suc n)) dy (c -ℤ x) (r -ℤ y)) 0 0
+    → InCornerHull ((pos (suc n), dy) ∷ es) x y c r
 across-segment x y c r dy n l h o =
     let k : ℕ = up (c -ℤ x) in
     let z : down (c -ℤ x) ≡ 0 = least-down (c -ℤ x) l in
@@ -120,16 +121,16 @@ across-segment x y c r dy n l h o =
 
 -- An edge straight up: count its rows
 upward-segment :
-    {es : List ℤ} (x y c r : ℤ) (n : ℕ) → Is (c -ℤ x) 0 0 → Least0 (r -ℤ y) → up (r -ℤ y) ≤ suc n + down (r -ℤ y)
-    → InCornerHull (pos zero ∷ pos (suc n) ∷ es) x y c r
+    {es : List Edge} (x y c r : ℤ) (n : ℕ) → Is (c -ℤ x) 0 0 → Least0 (r -ℤ y) → up (r -ℤ y) ≤ suc n + down (r -ℤ y)
+    → InCornerHull ((pos zero, pos (suc n)) ∷ es) x y c r
 upward-segment x y c r n o l h =
     let k : ℕ = up (r -ℤ y) in
     let z : down (r -ℤ y) ≡ 0 = least-down (r -ℤ y) l in
     segment x y c r (pos zero) (pos (suc n)) (suc n) (suc n - k) k (omega arith) (omega arith) (omega (arith, ap (λ (m : ℕ). n * m) (o .eq))) (omega (arith, ap (λ (m : ℕ). n * m) z))
 
 forward-two :
-    {es : List ℤ} {dx dy : ℤ} (x y c r ex ey : ℤ) → Forward dx dy → x +ℤ dx +ℤ ex ≡ x → y +ℤ dy +ℤ ey ≡ y → Is (cross dx dy (c -ℤ x) (r -ℤ y)) 0 0
-    → within (dx ∷ ex ∷ []) x c ≡ true → within (dy ∷ ey ∷ []) y r ≡ true → InCornerHull (dx ∷ dy ∷ es) x y c r
+    {es : List Edge} {dx dy : ℤ} (x y c r ex ey : ℤ) → Forward dx dy → x +ℤ dx +ℤ ex ≡ x → y +ℤ dy +ℤ ey ≡ y → Is (cross dx dy (c -ℤ x) (r -ℤ y)) 0 0
+    → within (dx ∷ ex ∷ []) x c ≡ true → within (dy ∷ ey ∷ []) y r ≡ true → InCornerHull ((dx, dy) ∷ es) x y c r
 forward-two x y c r ex ey (Forward.across {n = n} {dy = dy}) p q o h k =
     let a = far x c (pos (suc n)) ex p (omega arith) h in
     across-segment x y c r dy n (a .0) (omega arith) o
@@ -139,9 +140,9 @@ forward-two x y c r ex ey (Forward.upward {n = n}) p q o h k =
     upward-segment x y c r n (record { eq = omega arith }) (b .0) (omega arith)
 
 pub inside-two :
-    {es : List ℤ} (x y c r dx dy ex ey : ℤ) → x +ℤ dx +ℤ ex ≡ x → y +ℤ dy +ℤ ey ≡ y → Sooner dx dy ex ey
+    {es : List Edge} (x y c r dx dy ex ey : ℤ) → x +ℤ dx +ℤ ex ≡ x → y +ℤ dy +ℤ ey ≡ y → Sooner dx dy ex ey
     → Least0 (sideValue dx dy x y c r) → Least0 (sideValue ex ey (x +ℤ dx) (y +ℤ dy) c r)
-    → within (dx ∷ ex ∷ []) x c ≡ true → within (dy ∷ ey ∷ []) y r ≡ true → InCornerHull (dx ∷ dy ∷ es) x y c r
+    → within (dx ∷ ex ∷ []) x c ≡ true → within (dy ∷ ey ∷ []) y r ≡ true → InCornerHull ((dx, dy) ∷ es) x y c r
 inside-two x y c r dx dy ex ey p q (halves d e) s t h k = forward-two x y c r ex ey d p q (on-line x y c r dx dy ex ey p q s t) h k
 inside-two x y c r dx dy ex ey p q (forwards d e a) s t h k = absurd (not-turned x y c r dx dy ex ey p q s t a)
 inside-two x y c r dx dy ex ey p q (backwards d e a) s t h k = absurd (not-turned x y c r dx dy ex ey p q s t a)

@@ -10,6 +10,7 @@ use lib.IntN.{ℤ, pos, negsuc}
 use Rattle.base.proofs.BelowLaws.{or-false-iff}
 use Rattle.base.proofs.Differences.{Is}
 use Rattle.chart.specs.Outline.{Outline}
+use Rattle.convexity.specs.Edges.{Edge, pairs}
 use Rattle.convexity.specs.Clockwise.{border}
 use Rattle.convexity.specs.Pieces.{Reaches, dentPiece, edges, edgeCount}
 use Rattle.convexity.specs.Directions.{edgeCols, edgeRows, SameDirection}
@@ -21,7 +22,7 @@ use Rattle.convexity.proofs.Inside.{edges-close}
 use Rattle.convexity.proofs.AsSent.{clear-of}
 use Rattle.convexity.proofs.Directions.{Points, After, Increasing, edges-turning}
 use Rattle.directions.specs.Round.{cross, isNil}
-use Rattle.directions.specs.Increasing.{someZero, sumsToZero, precedesFirst, rising, badDirections}
+use Rattle.directions.specs.Increasing.{someZero, sumsToZero, precedesFirst, rising, badEdges, badDirections}
 use Rattle.directions.proofs.Cross.{is-cross}
 use Rattle.directions.proofs.Directions.{Above, Least0, Most0, Forward, Backward, Sooner, halves, forwards, backwards}
 use Rattle.directions.proofs.Corners.{Facing, ahead, back}
@@ -108,12 +109,12 @@ after-precedes {k} {k′} (After.same-frame h s) p q =
 
 -- ---- the edges of an outline
 
-turning-first : {k e l : ℕ} {dx dy : ℤ} {es : List ℤ} → Points k e l dx dy → Increasing (suc k) e l es → precedesFirst dx dy es ≡ true
+turning-first : {k e l : ℕ} {dx dy : ℤ} {es : List Edge} → Points k e l dx dy → Increasing (suc k) e l es → precedesFirst dx dy es ≡ true
 unfolding precedesFirst
 turning-first p Increasing.none = refl
 turning-first p (Increasing.more a q r) = of-precedes (after-precedes a p q)
 
-turning-rises : {n e l : ℕ} {es : List ℤ} → Increasing n e l es → (someZero es ≡ false) × (rising es ≡ true)
+turning-rises : {n e l : ℕ} {es : List Edge} → Increasing n e l es → (someZero es ≡ false) × (rising es ≡ true)
 unfolding someZero rising
 turning-rises Increasing.none = (refl, refl)
 turning-rises (Increasing.more {k = k} a p r) =
@@ -122,12 +123,12 @@ turning-rises (Increasing.more {k = k} a p r) =
 
 -- A border that passes 1 to 8 and has no dent
 module _ (o : Outline) (straight : NoBackStep o) (smooth : dentPiece o ≡ 4) where
-  sums : sumsToZero (edges o) ≡ true
+  sums : sumsToZero (pairs (edges o)) ≡ true
   unfolding sumsToZero isNil
   sums = let c = edges-close o (shape o straight) in rw (c .0, c .1)
 
   pub from-w-passes : badDirections (edges o) ≡ false
-  unfolding badDirections
+  unfolding badEdges
   from-w-passes =
       let t = turning-rises (edges-turning o straight smooth) in
       or-false-iff _ _ .1 (t .0, or-false-iff _ _ .1 (ap not sums, ap not (t .1)))

@@ -13,6 +13,7 @@ use Rattle.chart.specs.declared.Point.{Point}
 use Rattle.chart.specs.declared.Nesting.{Nesting}
 use Rattle.chart.specs.declared.Nesting.the-variants.{Equal, FirstWithin, SecondWithin, Apart, Crossing}
 use Rattle.chart.specs.Outline.{Outline}
+use Rattle.convexity.specs.Edges.{pairs}
 use Rattle.convexity.specs.Clockwise.{border}
 use Rattle.convexity.specs.Pieces.{edges}
 use Rattle.convexity.specs.Border.{HasEdges}
@@ -67,7 +68,7 @@ module _ {o : Outline} {a : Point} {es : List ℤ} (h : HasEdges o a es) where
   own-fit =
       record {
         passes = taken-passes o (h .reaches) (h .smooth);
-        placed = met-every onChart (edges (border o)) _ _ (λ u v m. cell-on (corner-is-cell (border o) (clear-of o (h .reaches)) u v m));
+        placed = met-every onChart (pairs (edges (border o))) _ _ (λ u v m. cell-on (corner-is-cell (border o) (clear-of o (h .reaches)) u v m));
       }
 
   pub taken-fit : Fit (polygon a es)

@@ -7,13 +7,14 @@ use mathlib.Core.List.{List}
 use lib.IntN.{ℤ}
 use lib.Signed.{leZ}
 use Rattle.base.proofs.IntegerOrder.{AtMost, at-most-iff}
+use Rattle.convexity.specs.Edges.{Edge}
 use Rattle.convexity.specs.Inside.{colSteps, rowSteps, lowestMet, highestMet, noneOutside, within, insideAt}
 use Rattle.directions.proofs.Passing.{Inner, inner, none-outside}
 use Rattle.directions.proofs.Means.{Meanℤ, mean-least, mean-side, mean-low, mean-high}
 
 -- The parts of "inside"
 pub inside-parts :
-    (es : List ℤ) (x y c r : ℤ) → insideAt es x y c r ≡ true
+    (es : List Edge) (x y c r : ℤ) → insideAt es x y c r ≡ true
     → (within (colSteps es) x c ≡ true) × (within (rowSteps es) y r ≡ true) × (noneOutside es x y c r ≡ true)
 unfolding insideAt
 inside-parts es x y c r h =
@@ -22,7 +23,7 @@ inside-parts es x y c r h =
     (l .0, l .1, k .1)
 
 pub inside-of-parts :
-    (es : List ℤ) (x y c r : ℤ) → within (colSteps es) x c ≡ true → within (rowSteps es) y r ≡ true → noneOutside es x y c r ≡ true
+    (es : List Edge) (x y c r : ℤ) → within (colSteps es) x c ≡ true → within (rowSteps es) y r ≡ true → noneOutside es x y c r ≡ true
     → insideAt es x y c r ≡ true
 unfolding insideAt
 inside-of-parts es x y c r k l n = and-eq-true-iff _ _ .1 (and-eq-true-iff _ _ .1 (k, l), n)
@@ -47,7 +48,7 @@ module _ {w i j k : ℕ} (g : 0 < w) (e : w ≡ i + j + k) where
       within-of ds x c (mean-low g e (lowestMet ds x) h (a .0) (b .0) (d .0)) (mean-high g e (highestMet ds x) h (a .1) (b .1) (d .1))
 
   mean-inner :
-      {es : List ℤ} {x y c r cp rp cq rq ct rt : ℤ} → Meanℤ w i j k c cp cq ct → Meanℤ w i j k r rp rq rt → Inner es x y cp rp → Inner es x y cq rq
+      {es : List Edge} {x y c r cp rp cq rq ct rt : ℤ} → Meanℤ w i j k c cp cq ct → Meanℤ w i j k r rp rq rt → Inner es x y cp rp → Inner es x y cq rq
       → Inner es x y ct rt → Inner es x y c r
   mean-inner h l p q t =
       record {
@@ -55,7 +56,7 @@ module _ {w i j k : ℕ} (g : 0 < w) (e : w ≡ i + j + k) where
       }
 
   pub mean-inside :
-      (es : List ℤ) (x y c r cp rp cq rq ct rt : ℤ) → Meanℤ w i j k c cp cq ct → Meanℤ w i j k r rp rq rt → insideAt es x y cp rp ≡ true
+      (es : List Edge) (x y c r cp rp cq rq ct rt : ℤ) → Meanℤ w i j k c cp cq ct → Meanℤ w i j k r rp rq rt → insideAt es x y cp rp ≡ true
       → insideAt es x y cq rq ≡ true → insideAt es x y ct rt ≡ true → insideAt es x y c r ≡ true
   mean-inside es x y c r cp rp cq rq ct rt h l p q t =
       let a = inside-parts es x y cp rp p in

@@ -10,6 +10,7 @@ use lib.IntN.{ℤ, pos, negsuc, _+ℤ_, _-ℤ_}
 use Rattle.chart.specs.Limits.{side}
 use Rattle.base.proofs.IntegerOrder.{up, down, AtMost}
 use Rattle.base.proofs.Differences.{Is, is-self, is-minus}
+use Rattle.convexity.specs.Edges.{Edge}
 use Rattle.convexity.specs.Inside.{notNegative, sideValue, noneOutside, colSteps, rowSteps, lowestMet, highestMet, within, insideAt}
 use Rattle.convexity.proofs.Signed.{not-negative-iff}
 use Rattle.directions.proofs.Cross.{is-cross, side-cross}
@@ -50,32 +51,29 @@ in-edge (negsuc n) (pos b) c h = omega (arith, le-div-iff-mul-le {k = suc n} {x 
 in-edge (negsuc n) (negsuc b) c h = absurd (omega arith)
 
 -- All edges
-edges-in : (es : List ℤ) (x y r : ℤ) (c : ℕ) → c < side → noneOutside es x y (pos c) r ≡ true → In (edgesFrom es x y r) (edgesTo es x y r) c
+edges-in : (es : List Edge) (x y r : ℤ) (c : ℕ) → c < side → noneOutside es x y (pos c) r ≡ true → In (edgesFrom es x y r) (edgesTo es x y r) c
 unfolding noneOutside edgesFrom edgesTo
 edges-in [] x y r c l e = omega arith
-edges-in (dx ∷ []) x y r c l e = omega arith
-edges-in (dx ∷ dy ∷ es) x y r c l e =
+edges-in ((dx, dy) ∷ es) x y r c l e =
     let k = and-eq-true-iff (notNegative (sideValue dx dy x y (pos c) r)) (noneOutside es (x +ℤ dx) (y +ℤ dy) (pos c) r) .0 e in
     let b = sideValue dx dy x y (pos 0) r in
     let here = edge-in dy b c l (not-negative-iff (side-column dx dy x y r c) .0 (k .0)) in
     let rest = edges-in es (x +ℤ dx) (y +ℤ dy) r c l (k .1) in
     omega (arith, here .0, here .1, rest .0, rest .1)
 
-in-edges : (es : List ℤ) (x y r : ℤ) (c : ℕ) → In (edgesFrom es x y r) (edgesTo es x y r) c → noneOutside es x y (pos c) r ≡ true
+in-edges : (es : List Edge) (x y r : ℤ) (c : ℕ) → In (edgesFrom es x y r) (edgesTo es x y r) c → noneOutside es x y (pos c) r ≡ true
 unfolding noneOutside edgesFrom edgesTo
 in-edges [] x y r c h = refl
-in-edges (dx ∷ []) x y r c h = refl
-in-edges (dx ∷ dy ∷ es) x y r c h =
+in-edges ((dx, dy) ∷ es) x y r c h =
     let b = sideValue dx dy x y (pos 0) r in
     let here : In (edgeFrom dy b) (edgeTo dy b) c = omega arith in
     let rest : In (edgesFrom es (x +ℤ dx) (y +ℤ dy) r) (edgesTo es (x +ℤ dx) (y +ℤ dy) r) c = omega arith in
     and-eq-true-iff _ _ .1 (not-negative-iff (side-column dx dy x y r c) .1 (in-edge dy b c here), in-edges es (x +ℤ dx) (y +ℤ dy) r c rest)
 
-pub edges-below : (es : List ℤ) (x y r : ℤ) → edgesTo es x y r ≤ side
+pub edges-below : (es : List Edge) (x y r : ℤ) → edgesTo es x y r ≤ side
 unfolding edgesTo
 edges-below [] x y r = omega arith
-edges-below (dx ∷ []) x y r = omega arith
-edges-below (dx ∷ dy ∷ es) x y r = omega (arith, edges-below es (x +ℤ dx) (y +ℤ dy) r)
+edges-below ((dx, dy) ∷ es) x y r = omega (arith, edges-below es (x +ℤ dx) (y +ℤ dy) r)
 
 -- The extremes
 pub start-iff : (z : ℤ) (c : ℕ) → AtMost z (pos c) ↔ (startAt z ≤ c)
@@ -89,7 +87,7 @@ end-iff (pos n) c = ((λ l. omega arith), λ l. omega arith)
 end-iff (negsuc n) c = ((λ l. absurd (omega arith)), λ l. absurd (omega arith))
 
 module _ (p : Polygon) (r c : ℕ) where
-  abbrev es : List ℤ
+  abbrev es : List Edge
   es = p .edges
 
   abbrev x : ℤ

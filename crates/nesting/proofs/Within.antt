@@ -7,6 +7,7 @@ use mathlib.Core.Logic.{_↔_}
 use mathlib.Core.Bool.{Bool, true, false, true≢false}
 use mathlib.Core.List.{List}
 use lib.IntN.{ℤ, pos}
+use Rattle.convexity.specs.Edges.{Edge}
 use Rattle.convexity.specs.Inside.{insideAt}
 use Rattle.directions.specs.CornerHull.{Met, Corner, InCornerHull}
 use Rattle.directions.proofs.Means.{Meanℤ, mean-of}
@@ -21,14 +22,14 @@ use Rattle.nesting.proofs.Means.{mean-inside}
 alone : (z : ℤ) → Meanℤ 1 1 0 0 z z z z
 alone z = mean-of (omega arith)
 
-pub corner-hull : {es : List ℤ} {x y u v : ℤ} → Met es x y u v → InCornerHull es x y u v
+pub corner-hull : {es : List Edge} {x y u v : ℤ} → Met es x y u v → InCornerHull es x y u v
 corner-hull {es} {x} {y} {u} {v} m =
     let p : Corner es x y = record { col = u; row = v; met = m } in
     record { p = p; q = p; t = p; i = 1; j = 0; k = 0; some = omega arith; cols = alone u .is; rows = alone v .is }
 
 -- A cell inside the first polygon is a mean of its corner cells, so it is inside any polygon that contains them
 corners-hold :
-    (es : List ℤ) (x y : ℤ) (fs : List ℤ) (a b c r : ℤ) → ((u v : ℤ) → Met es x y u v → insideAt fs a b u v ≡ true) → InCornerHull es x y c r
+    (es : List Edge) (x y : ℤ) (fs : List Edge) (a b c r : ℤ) → ((u v : ℤ) → Met es x y u v → insideAt fs a b u v ≡ true) → InCornerHull es x y c r
     → insideAt fs a b c r ≡ true
 corners-hold es x y fs a b c r h m =
     mean-inside (m .some) refl fs a b c r (m .p .col) (m .p .row) (m .q .col) (m .q .row) (m .t .col) (m .t .row) (record { is = m .cols })

@@ -8,27 +8,28 @@ use Rattle.chart.specs.declared.Point.{Point}
 use Rattle.chart.specs.Outline.{Outline}
 use Rattle.chart.specs.declared.Nesting.{Nesting}
 use Rattle.chart.specs.declared.Nesting.the-variants.{Equal, FirstWithin, SecondWithin, Apart, Crossing}
+use Rattle.convexity.specs.Edges.{Edge, pairs}
 use Rattle.convexity.specs.Clockwise.{block}
-use Rattle.directions.specs.Increasing.{badDirections}
-use Rattle.directions.specs.CornerHull.{CornersHold}
+use Rattle.directions.specs.Increasing.{badEdges}
+use Rattle.directions.specs.CornerHull.{InCornerHull}
 use Rattle.nesting.specs.Corners.{cornersOnChart}
 
--- An anchor and a list of edges
+-- An anchor and edges
 pub record Polygon : Type 0 where
   pub anchor : Point
-  pub edges : List ℤ
+  pub edges : List Edge
 
 abbrev pub polygon : Point → List ℤ → Polygon
-polygon a es = record { anchor = a; edges = es }
+polygon a es = record { anchor = a; edges = pairs es }
 
 -- What a polygon must satisfy: its edges pass refusal 16, and its corner cells are on the chart
 pub record Fit (p : Polygon) : Type 0 where
-  pub passes : badDirections (p .edges) ≡ false
+  pub passes : badEdges (p .edges) ≡ false
   pub placed : cornersOnChart (p .edges) (pos (p .anchor .col)) (pos (p .anchor .row)) ≡ true
 
 -- The hull of the corner cells holds the cell
 abbrev pub Holds : Polygon → Point → Type 0
-Holds p x = CornersHold (p .anchor) (p .edges) x
+Holds p x = InCornerHull (p .edges) (pos (p .anchor .col)) (pos (p .anchor .row)) (pos (x .col)) (pos (x .row))
 
 -- ---- two sets of cells
 

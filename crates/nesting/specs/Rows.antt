@@ -7,6 +7,7 @@ use lib.Dec.{ltb}
 use lib.IntN.{ℤ, pos, negsuc, _+ℤ_}
 use Rattle.chart.specs.Limits.{side}
 use Rattle.base.specs.Below.{some}
+use Rattle.convexity.specs.Edges.{Edge}
 use Rattle.convexity.specs.Inside.{sideValue, colSteps, rowSteps, lowestMet, highestMet, within}
 use Rattle.nesting.specs.Cells.{Polygon}
 
@@ -26,15 +27,13 @@ edgeTo (negsuc n) (pos b) = suc (b / suc n)
 edgeTo (negsuc n) (negsuc b) = 0
 
 -- The bounds by all edges from (x, y) on
-unfoldable pub edgesFrom : List ℤ → ℤ → ℤ → ℤ → ℕ
+unfoldable pub edgesFrom : List Edge → ℤ → ℤ → ℤ → ℕ
 edgesFrom [] x y r = 0
-edgesFrom (dx ∷ []) x y r = 0
-edgesFrom (dx ∷ dy ∷ es) x y r = max (edgeFrom dy (sideValue dx dy x y (pos 0) r)) (edgesFrom es (x +ℤ dx) (y +ℤ dy) r)
+edgesFrom ((dx, dy) ∷ es) x y r = max (edgeFrom dy (sideValue dx dy x y (pos 0) r)) (edgesFrom es (x +ℤ dx) (y +ℤ dy) r)
 
-unfoldable pub edgesTo : List ℤ → ℤ → ℤ → ℤ → ℕ
+unfoldable pub edgesTo : List Edge → ℤ → ℤ → ℤ → ℕ
 edgesTo [] x y r = side
-edgesTo (dx ∷ []) x y r = side
-edgesTo (dx ∷ dy ∷ es) x y r = min (edgeTo dy (sideValue dx dy x y (pos 0) r)) (edgesTo es (x +ℤ dx) (y +ℤ dy) r)
+edgesTo ((dx, dy) ∷ es) x y r = min (edgeTo dy (sideValue dx dy x y (pos 0) r)) (edgesTo es (x +ℤ dx) (y +ℤ dy) r)
 
 -- The smallest natural number not below z; the smallest above z
 unfoldable pub startAt : ℤ → ℕ

@@ -2,9 +2,10 @@
 use Prim.Native.Nat.{ℕ}
 use mathlib.Core.List.{List, [], _∷_}
 use lib.IntN.{ℤ, pos, negsuc}
+use Rattle.chart.specs.Outline.{at}
 use Rattle.chart.specs.declared.Nesting.{Nesting}
 use Rattle.chart.specs.declared.Nesting.the-variants.{Equal, FirstWithin, SecondWithin, Apart, Crossing}
-use Rattle.nesting.specs.Cells.{Polygon}
+use Rattle.nesting.specs.Cells.{Polygon, polygon}
 
 -- Two polygons, and the answer
 pub record Pair : Type 0 where
@@ -13,7 +14,7 @@ pub record Pair : Type 0 where
   pub answer : Nesting
 
 from : ℕ → ℕ → List ℤ → Polygon
-from c r es = record { anchor = record { col = c; row = r }; edges = es }
+from c r es = polygon (at c r) es
 
 -- A square of nine cells, and the triangle of three cells in its corner
 square : List ℤ
@@ -27,9 +28,9 @@ pair p q v = record { first = p; second = q; answer = v }
 
 -- The square with itself, and with a cell of its border; segments that cross between cells, and in a cell that is a corner cell of
 -- neither; triangles side by side, and with a common corner cell; the last cell of the chart
-unfoldable pub pairs : List Pair
+unfoldable pub specimens : List Pair
 unfolding from square triangle pair
-pairs =
+specimens =
     pair (from 1 1 square) (from 1 1 square) Equal ∷
     pair (from 2 3 []) (from 1 1 square) FirstWithin ∷
     pair (from 1 1 square) (from 2 3 []) SecondWithin ∷

@@ -12,6 +12,7 @@ use mathlib.Core.Bool.{true}
 use mathlib.Core.List.{List}
 use lib.IntN.{ℤ, pos, _+ℤ_}
 use Rattle.base.proofs.IntegerOrder.{AtMost}
+use Rattle.convexity.specs.Edges.{Edge}
 use Rattle.convexity.specs.Inside.{colSteps, rowSteps, lowestMet, highestMet, insideAt}
 use Rattle.directions.specs.CornerHull.{Met, start, after}
 use Rattle.directions.proofs.Corners.{Leaves, first, later}
@@ -24,20 +25,20 @@ use Rattle.sweep.proofs.Chords.{Passes, grows, falls, Natural, side-pas
 
 -- ---- the ends of an edge are corner cells
 
-pub leaves-start : {es fs : List ℤ} {x y ex ey p q : ℤ} → Leaves es x y ex ey p q fs → Met es x y p q
+pub leaves-start : {es fs : List Edge} {x y ex ey p q : ℤ} → Leaves es x y ex ey p q fs → Met es x y p q
 leaves-start first = start
 leaves-start (later l) = after (leaves-start l)
 
-pub leaves-finish : {es fs : List ℤ} {x y ex ey p q : ℤ} → Leaves es x y ex ey p q fs → Met es x y (p +ℤ ex) (q +ℤ ey)
+pub leaves-finish : {es fs : List Edge} {x y ex ey p q : ℤ} → Leaves es x y ex ey p q fs → Met es x y (p +ℤ ex) (q +ℤ ey)
 leaves-finish first = after start
 leaves-finish (later l) = after (leaves-finish l)
 
 -- The edges of a polygon
-abbrev pub EdgeOf : Polygon → ℤ → ℤ → ℤ → ℤ → List ℤ → Type 0
+abbrev pub EdgeOf : Polygon → ℤ → ℤ → ℤ → ℤ → List Edge → Type 0
 EdgeOf p ex ey a b fs = Leaves (p .edges) (pos (p .anchor .col)) (pos (p .anchor .row)) ex ey a b fs
 
 module _ (p : Polygon) (fit : Fit p) where
-  pub natural : {ex ey a b : ℤ} {fs : List ℤ} → EdgeOf p ex ey a b fs → Natural ex ey a b
+  pub natural : {ex ey a b : ℤ} {fs : List Edge} → EdgeOf p ex ey a b fs → Natural ex ey a b
   natural l =
       let s = corner-place p fit (leaves-start l) in
       let t = corner-place p fit (leaves-finish l) in
@@ -96,7 +97,7 @@ not-below m t x u c some l =
     ]
 
 module _ (p : Polygon) (fit : Fit p) {r : ℕ} (c : ℕ) (left right : Chord p r) (l : NotLeft left c) (h : NotRight right c) where
-  abbrev es : List ℤ
+  abbrev es : List Edge
   es = p .edges
 
   abbrev X : ℤ
@@ -109,7 +110,7 @@ module _ (p : Polygon) (fit : Fit p) {r : ℕ} (c : ℕ) (left right : Chord p r
   passed = passes-iff es X Y .0 (fit .passes)
 
   -- A corner cell passes the test of an edge
-  corner-passes : {ex ey a b : ℤ} {fs : List ℤ} (e : EdgeOf p ex ey a b fs) {c r : ℕ} → MetBy p (pos c) (pos r) →
+  corner-passes : {ex ey a b : ℤ} {fs : List Edge} (e : EdgeOf p ex ey a b fs) {c r : ℕ} → MetBy p (pos c) (pos r) →
       let n = natural p fit e in
       Passes (n .v) (n .y) (n .x) (n .u) (n .u * n .y) (n .v * n .x) c r
   corner-passes e {c} {r} m = side-passes (natural p fit e) c r .0 (corner-inner passed m .side _ _ _ _ _ e)
@@ -117,7 +118,7 @@ module _ (p : Polygon) (fit : Fit p) {r : ℕ} (c : ℕ) (left right : Chord p r
   chords-inner : Inner es X Y (pos c) (pos r)
   chords-inner = record { side = λ ex ey a b fs e. side-passes (natural p fit e) c r .1 (go e) }
     where
-      go : {ex ey a b : ℤ} {fs : List ℤ} (e : EdgeOf p ex ey a b fs) →
+      go : {ex ey a b : ℤ} {fs : List Edge} (e : EdgeOf p ex ey a b fs) →
           let n = natural p fit e in
           Passes (n .v) (n .y) (n .x) (n .u) (n .u * n .y) (n .v * n .x) c r
       go e =

@@ -15,6 +15,7 @@ use lib.Signed.{leZ}
 use borrow.Author.Tests.{ltb-true, lt-ltb}
 use Rattle.base.proofs.IntegerOrder.{up, down, AtMost, at-most-iff, not-at-most}
 use Rattle.chart.specs.Limits.{side}
+use Rattle.convexity.specs.Edges.{Edge}
 use Rattle.convexity.specs.Inside.{sideValue, colSteps, rowSteps, minℤ, maxℤ, lowestMet, highestMet, insideAt}
 use Rattle.directions.specs.CornerHull.{Met, start, after}
 use Rattle.directions.proofs.Directions.{Least0}
@@ -90,24 +91,22 @@ reach-high (d ∷ ds) x = go (leZ x (highestMet ds (x +ℤ d))) (reach-high ds (
     go true m = Reach.after m
     go false m = Reach.start
 
-row-met : (es : List ℤ) {x y v : ℤ} → Reach (rowSteps es) y v → (u : ℤ) × Met es x y u v
+row-met : (es : List Edge) {x y v : ℤ} → Reach (rowSteps es) y v → (u : ℤ) × Met es x y u v
 unfolding rowSteps
 row-met [] {x} Reach.start = (x, start)
-row-met (dx ∷ []) {x} Reach.start = (x, start)
-row-met (dx ∷ dy ∷ es) {x} Reach.start = (x, start)
-row-met (dx ∷ dy ∷ es) (Reach.after m) = let k = row-met es m in (k .0, after (k .1))
+row-met ((dx, dy) ∷ es) {x} Reach.start = (x, start)
+row-met ((dx, dy) ∷ es) (Reach.after m) = let k = row-met es m in (k .0, after (k .1))
 
-col-met : (es : List ℤ) {x y u : ℤ} → Reach (colSteps es) x u → (v : ℤ) × Met es x y u v
+col-met : (es : List Edge) {x y u : ℤ} → Reach (colSteps es) x u → (v : ℤ) × Met es x y u v
 unfolding colSteps
 col-met [] {y = y} Reach.start = (y, start)
-col-met (dx ∷ []) {y = y} Reach.start = (y, start)
-col-met (dx ∷ dy ∷ es) {y = y} Reach.start = (y, start)
-col-met (dx ∷ dy ∷ es) (Reach.after m) = let k = col-met es m in (k .0, after (k .1))
+col-met ((dx, dy) ∷ es) {y = y} Reach.start = (y, start)
+col-met ((dx, dy) ∷ es) (Reach.after m) = let k = col-met es m in (k .0, after (k .1))
 
 -- ---- a row of a polygon that passes
 
 module _ (p : Polygon) (fit : Fit p) (r c : ℕ) (l : c < side) where
-  abbrev es : List ℤ
+  abbrev es : List Edge
   es = p .edges
 
   abbrev X : ℤ
@@ -201,7 +200,7 @@ module _ (p : Polygon) (fit : Fit p) (r c : ℕ) (l : c < side) where
   -- ---- a corner cell or edge at the cell or left of it, and one at the cell or right of it, in a row that the edges reach
 
   -- An edge that goes up through the row, to it or from it
-  rising-item : {ex ey a b : ℤ} {fs : List ℤ} (d : EdgeOf p ex ey a b fs) (n : Natural ex ey a b) → n .y ≤ r → r ≤ n .v → n .y < n .v
+  rising-item : {ex ey a b : ℤ} {fs : List Edge} (d : EdgeOf p ex ey a b fs) (n : Natural ex ey a b) → n .y ≤ r → r ≤ n .v → n .y < n .v
       → Least0 (sideValue ex ey a b (pos c) (pos r)) → FromItem es X Y r c
   unfolding startAt
   rising-item {ex} {ey} {a} {b} d n low high rises h =
@@ -226,7 +225,7 @@ module _ (p : Polygon) (fit : Fit p) (r c : ℕ) (l : c < side) where
             ]
       ]
 
-  falling-item : {ex ey a b : ℤ} {fs : List ℤ} (d : EdgeOf p ex ey a b fs) (n : Natural ex ey a b) → n .v ≤ r → r ≤ n .y → n .v < n .y
+  falling-item : {ex ey a b : ℤ} {fs : List Edge} (d : EdgeOf p ex ey a b fs) (n : Natural ex ey a b) → n .v ≤ r → r ≤ n .y → n .v < n .y
       → Least0 (sideValue ex ey a b (pos c) (pos r)) → ToItem es X Y r c
   unfolding endAfter
   falling-item {ex} {ey} {a} {b} d n low high falls h =

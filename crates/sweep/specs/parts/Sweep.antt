@@ -8,6 +8,7 @@ use lib.IntN.{ℤ, pos, _+ℤ_}
 use lib.Signed.{ltZ}
 use Rattle.base.specs.Same.{sameℤ}
 use Rattle.chart.specs.Limits.{side}
+use Rattle.convexity.specs.Edges.{Edge}
 use Rattle.convexity.specs.Inside.{sideValue}
 use Rattle.nesting.specs.Cells.{Polygon}
 use Rattle.nesting.specs.Rows.{edgeFrom, edgeTo, startAt, endAfter}
@@ -31,15 +32,13 @@ unfoldable pub fallTo : ℤ → ℤ → ℤ → ℤ → ℕ → ℕ
 fallTo dx dy x y r = cond (between (y +ℤ dy) y r) (min (edgeTo dy (sideValue dx dy x y (pos 0) (pos r))) side) 0
 
 -- The least, and the greatest, along the edges es from (x, y)
-unfoldable pub sweptFrom : List ℤ → ℤ → ℤ → ℕ → ℕ
+unfoldable pub sweptFrom : List Edge → ℤ → ℤ → ℕ → ℕ
 sweptFrom [] x y r = cornerFrom x y r
-sweptFrom (dx ∷ []) x y r = cornerFrom x y r
-sweptFrom (dx ∷ dy ∷ es) x y r = min (min (cornerFrom x y r) (riseFrom dx dy x y r)) (sweptFrom es (x +ℤ dx) (y +ℤ dy) r)
+sweptFrom ((dx, dy) ∷ es) x y r = min (min (cornerFrom x y r) (riseFrom dx dy x y r)) (sweptFrom es (x +ℤ dx) (y +ℤ dy) r)
 
-unfoldable pub sweptTo : List ℤ → ℤ → ℤ → ℕ → ℕ
+unfoldable pub sweptTo : List Edge → ℤ → ℤ → ℕ → ℕ
 sweptTo [] x y r = cornerTo x y r
-sweptTo (dx ∷ []) x y r = cornerTo x y r
-sweptTo (dx ∷ dy ∷ es) x y r = max (max (cornerTo x y r) (fallTo dx dy x y r)) (sweptTo es (x +ℤ dx) (y +ℤ dy) r)
+sweptTo ((dx, dy) ∷ es) x y r = max (max (cornerTo x y r) (fallTo dx dy x y r)) (sweptTo es (x +ℤ dx) (y +ℤ dy) r)
 
 -- The interval of columns of a polygon's row
 unfoldable pub rowFrom : Polygon → ℕ → ℕ
