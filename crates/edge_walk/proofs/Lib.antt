@@ -1,0 +1,3 @@
+-- The sizes of corner cells; a loop over the edges in a list.
+pub mod Sizes
+pub mod Loop

@@ -1,0 +1,26 @@
+-- The column and the row are tested alike.
+use borrow.Author.Needs.{needs}
+use mathlib.Core.Path.{ap₂}
+use mathlib.Core.Bool.{_&&_}
+use mir.Syntax.{w32}
+use mir.ValLaws.{toZ-ofZ}
+use Rattle.directions.specs.CornerHull.{onChart}
+use Rattle.edge_walk.proofs.on_chart.Statement.{statement}
+use Rattle.edge_walk.proofs.on_chart.Tie as tie
+
+chart-number-requires : tie.Need-chart-number-requires
+chart-number-requires c κs = search needs
+
+chart-number-requires-2 : tie.Need-chart-number-requires-2
+chart-number-requires-2 c κs = search needs
+
+returns : tie.Need-returns
+unfolding onChart
+returns c =
+    let at = c .before .before .before .before .args .at in
+    ap₂ _&&_
+    (simp (toZ-ofZ w32 (at .col) (record { sfits = c .before .before .before .struct-told .given .0 .1 })) at (c .before .before .chart-number .ensures))
+    (simp (toZ-ofZ w32 (at .row) (record { sfits = c .before .struct-told2 .given .1 .0 .1 })) at (c .chart-number2 .ensures))
+
+pub on-chart-spec : {M : Type 1} → statement M
+on-chart-spec = tie.close (tie.spec chart-number-requires chart-number-requires-2 returns)

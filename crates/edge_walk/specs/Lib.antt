@@ -1,0 +1,2 @@
+-- The walk along edges.
+pub mod parts
