@@ -1,4 +1,4 @@
--- The loose query, one coordinate along a list of edges, two consecutive edges, specimens.
+-- The loose query, extremes, two consecutive edges, specimens.
 pub mod Loose
 pub mod Specimens
 pub mod parts

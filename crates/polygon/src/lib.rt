@@ -4,46 +4,41 @@ use chart::Point;
 use chart::Position;
 use chart::Refusal;
 use chart::SIDE;
+use edge_walk::Corner;
 ghost use mathlib.Core.Path.{_≡_};
-ghost use Prim.Native.Nat.{_+_, _^_, _≤_, _<_};
+ghost use Prim.Native.Nat.{_+_, _<_};
 ghost use lib.ListN.{length, drop};
-ghost use lib.IntN.{pos, natAbs, _-ℤ_, _*ℤ_};
+ghost use lib.IntN.{pos, _-ℤ_, _*ℤ_};
 ghost use Rattle.chart.specs.Fields.{positionFields};
+ghost use Rattle.convexity.specs.Edges.{pairs};
 ghost use Rattle.convexity.specs.Inside.{notNegative, sideValue};
-ghost use Rattle.polygon.specs.parts.Span.{begun, stepped, spans};
+ghost use Rattle.polygon.specs.parts.Span.{begun, met, spans};
 ghost use Rattle.polygon.specs.parts.Turns.{turnsOn};
 ghost use Rattle.polygon.specs.Loose.{insideList, badList, badCell, badDirectionsList, looseOf, HullNamed};
 
 mod round;
 mod signed;
 
-// One coordinate along a list of edges: the current number, and the lowest and the highest so far.
+// The lowest and the highest of some numbers.
 struct Span {
-    at: i64,
     low: i64,
     high: i64,
 }
 
-// The coordinate at the start.
-fn begin(x: u16) -> Span
-    ensures { λ r. ⌜ r ≡ begun (pos x) ⌝ }
+// One number alone.
+fn begin(n: i32) -> Span
+    ensures { λ r. ⌜ r ≡ begun n ⌝ }
 {
-    let at = signed::whole(x);
-    Span {
-        at: at,
-        low: at,
-        high: at,
-    }
+    let at = signed::long(n);
+    Span { low: at, high: at }
 }
 
-// The coordinate after one more step.
-fn step(s: Span, d: i16) -> Span
-    requires { ⌜ natAbs (s .at) ≤ 2 ^ 27 ⌝ }
-    ensures { λ r. ⌜ r ≡ stepped s d ⌝ }
+// With one more number.
+fn meet(s: Span, n: i32) -> Span
+    ensures { λ r. ⌜ r ≡ met s n ⌝ }
 {
-    let at = signed::further(s.at, d);
+    let at = signed::long(n);
     Span {
-        at: at,
         low: signed::lower(s.low, at),
         high: signed::higher(s.high, at),
     }
@@ -58,20 +53,21 @@ fn spanned(s: Span, c: u16) -> bool
 }
 
 // A step in one coordinate times the cell's distance in the other: one of the two products of a side value.
-fn moment(d: i16, s: Span, c: u16) -> i64
-    requires { ⌜ natAbs (s .at) ≤ 2 ^ 27 ⌝ }
-    ensures { λ r. ⌜ (r ≡ d *ℤ (pos c -ℤ s .at)) × (natAbs r ≤ 2 ^ 43) ⌝ }
+fn moment(d: i16, n: i32, c: u16) -> i64
+    ensures { λ r. ⌜ r ≡ d *ℤ (pos c -ℤ n) ⌝ }
 {
-    signed::product(signed::widen(d), signed::difference(signed::whole(c), s.at))
+    signed::product(
+        signed::widen(d),
+        signed::difference(signed::whole(c), signed::long(n)),
+    )
 }
 
-// The side value of the edge (dx, dy) at the cell is not negative. The edge starts where the walk stands.
-fn beside(dx: i16, dy: i16, cols: Span, rows: Span, cell: Point) -> bool
-    requires { ⌜ (natAbs (cols .at) ≤ 2 ^ 27) × (natAbs (rows .at) ≤ 2 ^ 27) ⌝ }
-    ensures { λ b. ⌜ b ≡ notNegative (sideValue dx dy (cols .at) (rows .at) (pos (cell .col)) (pos (cell .row))) ⌝ }
+// The side value at the cell of the edge (dx, dy) that starts at a corner cell is not negative.
+fn beside(dx: i16, dy: i16, at: Corner, cell: Point) -> bool
+    ensures { λ b. ⌜ b ≡ notNegative (sideValue dx dy (at .col) (at .row) (pos (cell .col)) (pos (cell .row))) ⌝ }
 {
-    let across = moment(dy, cols, cell.col);
-    let up = moment(dx, rows, cell.row);
+    let across = moment(dy, at.col, cell.col);
+    let up = moment(dx, at.row, cell.row);
     signed::at_most(up, across)
 }
 
@@ -82,17 +78,19 @@ pub fn inside(anchor: Point, edges: &[i16], cell: Point) -> bool
     if LONGEST_LIST < edges.len() {
         return false;
     }
-    let mut cols = begin(anchor.col);
-    let mut rows = begin(anchor.row);
+    let mut at = edge_walk::start(anchor);
+    let mut cols = begin(at.col);
+    let mut rows = begin(at.row);
     let mut i = 0;
     while i + 1 < edges.len() {
         let dx = edges[i];
         let dy = edges[i + 1];
-        if !beside(dx, dy, cols, rows, cell) {
+        if !beside(dx, dy, at, cell) {
             return false;
         }
-        cols = step(cols, dx);
-        rows = step(rows, dy);
+        at = edge_walk::further(at, dx, dy);
+        cols = meet(cols, at.col);
+        rows = meet(rows, at.row);
         i += 2;
     }
     spanned(cols, cell.col) && spanned(rows, cell.row)
@@ -108,7 +106,7 @@ pub fn bad_list(edges: &[i16]) -> bool
 // The edge at i is not zero, and its direction comes before that of the next one, if there is one.
 fn turns_on(edges: &[i16], i: usize) -> bool
     requires { ⌜ i + 1 < length (now edges) ⌝ }
-    ensures { λ b. ⌜ b ≡ turnsOn (drop i (now (edges .entry))) ⌝ }
+    ensures { λ b. ⌜ b ≡ turnsOn (pairs (drop i (now (edges .entry)))) ⌝ }
 {
     let dx = edges[i];
     let dy = edges[i + 1];
@@ -125,26 +123,23 @@ fn turns_on(edges: &[i16], i: usize) -> bool
 }
 
 // 16: an edge is zero, the edges do not sum to zero, or directions do not increase strictly. A list that is too long is refused.
+// The edges sum to zero if the walk from (0, 0) ends there.
 pub fn bad_directions(edges: &[i16]) -> bool
     ensures { λ b. ⌜ b ≡ badDirectionsList (now (edges .entry)) ⌝ }
 {
     if LONGEST_LIST < edges.len() {
         return true;
     }
-    let mut across: i64 = 0;
-    let mut up: i64 = 0;
+    let mut at = edge_walk::start(Point { col: 0, row: 0 });
     let mut i = 0;
     while i + 1 < edges.len() {
         if !turns_on(edges, i) {
             return true;
         }
-        let dx = edges[i];
-        let dy = edges[i + 1];
-        across = signed::further(across, dx);
-        up = signed::further(up, dy);
+        at = edge_walk::further(at, edges[i], edges[i + 1]);
         i += 2;
     }
-    !signed::is_zero(across) || !signed::is_zero(up)
+    !signed::is_zero(signed::long(at.col)) || !signed::is_zero(signed::long(at.row))
 }
 
 // 11: a number of the cell is above 254.

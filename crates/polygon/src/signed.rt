@@ -1,7 +1,7 @@
 // Signed arithmetic with promises in whole numbers. Callers prove the bounds, so nothing wraps.
 ghost use mathlib.Core.Path.{_≡_};
 ghost use Prim.Native.Nat.{_^_, _≤_};
-ghost use lib.IntN.{pos, natAbs, _+ℤ_, _-ℤ_, _*ℤ_};
+ghost use lib.IntN.{pos, natAbs, _-ℤ_, _*ℤ_};
 ghost use lib.Signed.{leZ};
 ghost use mir.Syntax.{w64};
 ghost use mir.Val.{SFits};
@@ -20,19 +20,10 @@ pub(crate) fn whole(n: u16) -> i64
     n as i64
 }
 
-fn sum(a: i64, b: i64) -> i64
-    requires { ⌜ SFits w64 (a +ℤ b) ⌝ }
-    ensures { λ r. ⌜ r ≡ a +ℤ b ⌝ }
+pub(crate) fn long(n: i32) -> i64
+    ensures { λ r. ⌜ r ≡ n ⌝ }
 {
-    a + b
-}
-
-// A sum of steps, with one more step. A sum of 1,016 numbers of 16 bits is at most 2^27 in size.
-pub(crate) fn further(a: i64, d: i16) -> i64
-    requires { ⌜ natAbs a ≤ 2 ^ 27 ⌝ }
-    ensures { λ r. ⌜ r ≡ a +ℤ d ⌝ }
-{
-    sum(a, widen(d))
+    n as i64
 }
 
 pub(crate) fn difference(a: i64, b: i64) -> i64

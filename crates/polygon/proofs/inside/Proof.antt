@@ -1,81 +1,109 @@
 -- The invariant: the loop's answer for the remaining edges is its answer for all.
 use Prim.Native.Nat.{_+_, _-_}
 use native.Mathlib.Omega.{arith}
-use mathlib.Core.Path.{_≡_, refl, sym, _∙_}
+use mathlib.Core.Path.{_≡_, refl, sym, ap, _∙_}
 use mathlib.Core.List.{List}
-use lib.ListN.{length, getD}
+use lib.ListN.{length}
 use lib.IntN.{ℤ, pos}
-use mir.Syntax.{w16}
+use mir.Syntax.{w16, w32}
 use mir.Val.{SFits}
 use mir.ValLaws.{toZ-ofZ}
 use borrow.Author.Needs.{needs}
 use borrow.Author.Tests.{not-true, not-false}
+use Rattle.convexity.specs.Edges.{Edge, pairs}
 use Rattle.convexity.specs.Inside.{notNegative, sideValue}
+use Rattle.edge_walk.specs.declared.Corner.{Corner}
+use Rattle.edge_walk.specs.parts.Walk.{started, stepped}
+use Rattle.edge_walk.proofs.Loop.{edgeAt}
+use Rattle.edge_walk.proofs.Sizes.{after-start, after-fits}
 use Rattle.polygon.specs.Loose.{insideList}
-use Rattle.polygon.specs.parts.Span.{begun, stepped}
-use Rattle.base.proofs.Sizes.{size-16}
+use Rattle.polygon.specs.parts.Span.{begun, met}
 use Rattle.polygon.proofs.Spans.{insideFrom, Walked, walked-edge, walked-outside, walked-end, inside-from-anchor}
 use Rattle.polygon.proofs.LooseCases.{inside-long, inside-short}
 use Rattle.polygon.proofs.inside.Statement.{statement}
 use Rattle.polygon.proofs.inside.Tie as tie
 
 abbrev Inv-loop : tie.InvT-loop
-Inv-loop edges cell cols₀ rows₀ i₀ cols rows i = Walked edges (pos (cell .col)) (pos (cell .row)) cols₀ rows₀ cols rows i
+Inv-loop edges cell at₀ cols₀ rows₀ i₀ at cols rows i = Walked edges (pos (cell .col)) (pos (cell .row)) at₀ cols₀ rows₀ at cols rows i
 
 abbrev μ-loop : tie.MeasureT-loop
-μ-loop edges cell cols₀ rows₀ i₀ cols rows i = length edges - i
+μ-loop edges cell at₀ cols₀ rows₀ i₀ at cols rows i = length edges - i
 
--- The edge of an iteration, the current coordinates, and the cell
+-- The list, the edge of an iteration, and the side value of that edge at the cell
 abbrev Iteration : Type 0
 Iteration = tie.In-loop Inv-loop μ-loop
 
+abbrev start : Iteration → tie.Start Inv-loop μ-loop
+start t = t .before .before .before .before .before .before .before .before
+
 abbrev list : Iteration → List ℤ
-list t = t .before .before .before .before .before .args .edges .now
+list t = start t .args .edges .now
 
-abbrev stepX : Iteration → ℤ
-stepX t = getD (list t) (t .before .loop .i) (pos 0)
-
-abbrev stepY : Iteration → ℤ
-stepY t = getD (list t) (t .before .loop .i + 1) (pos 0)
+abbrev edge : Iteration → Edge
+edge t = edgeAt (list t) (t .before .loop .i)
 
 abbrev side : Iteration → ℤ
 side t =
-    let x = t .before .before .before .before .before .args .cell in
-    sideValue (stepX t) (stepY t) (t .before .loop .cols .at) (t .before .loop .rows .at) (pos (x .col)) (pos (x .row))
+    let k = t .before .loop .at in
+    let x = start t .args .cell in
+    sideValue (edge t .0) (edge t .1) (k .col) (k .row) (pos (x .col)) (pos (x .row))
 
 -- The two numbers fit in 16 bits, so the machine keeps their values
-fits-x : (c : tie.After-dx Inv-loop μ-loop) → SFits w16 (stepX (c .before))
+fits-x : (c : tie.After-dx Inv-loop μ-loop) → SFits w16 (edge (c .before) .0)
 fits-x c = record { sfits = c .dx .given }
 
-fits-y : (c : tie.After-dy Inv-loop μ-loop) → SFits w16 (stepY (c .before .before))
+fits-y : (c : tie.After-dy Inv-loop μ-loop) → SFits w16 (edge (c .before .before) .1)
 fits-y c = record { sfits = c .dy .given }
 
 beside-is : (c : tie.After-beside Inv-loop μ-loop) → c .beside .result ≡ notNegative (side (c .before .before .before))
 beside-is c = simp (toZ-ofZ w16 _ (fits-x (c .before .before)), toZ-ofZ w16 _ (fits-y (c .before))) at (c .beside .ensures)
 
-cols-are :
-    (c : tie.After-step Inv-loop μ-loop) →
+further-is :
+    (c : tie.After-further Inv-loop μ-loop) →
     let t = c .before .before .before .before .before in
-    c .step .result ≡ stepped (t .before .loop .cols) (stepX t)
-cols-are c = simp (toZ-ofZ w16 _ (fits-x (c .before .before .before .before))) at (c .step .ensures)
+    c .further .result ≡ stepped (t .before .loop .at) (edge t .0) (edge t .1)
+further-is c =
+    let dy = c .before .before .before in
+    simp (toZ-ofZ w16 _ (fits-x (dy .before)), toZ-ofZ w16 _ (fits-y dy)) at (c .further .ensures)
 
-rows-are :
-    (c : tie.After-step2 Inv-loop μ-loop) →
-    let t = c .before .before .before .before .before .before in
-    c .step2 .result ≡ stepped (t .before .loop .rows) (stepY t)
-rows-are c = simp (toZ-ofZ w16 _ (fits-y (c .before .before .before .before))) at (c .step2 .ensures)
+cols-are : (c : tie.After-meet Inv-loop μ-loop) → let f = c .before .before in
+    c .meet .result ≡ met (f .before .before .before .before .before .before .loop .cols) (f .further .result .col)
+cols-are c = simp (toZ-ofZ w32 (c .before .before .further .result .col) (record { sfits = c .before .struct-told3 .given .0 .1 })) at (c .meet .ensures)
+
+rows-are : (c : tie.After-meet2 Inv-loop μ-loop) → let f = c .before .before .before .before in
+    c .meet2 .result ≡ met (f .before .before .before .before .before .before .loop .rows) (f .further .result .row)
+rows-are c = simp (toZ-ofZ w32 (c .before .before .before .before .further .result .row) (record { sfits = c .before .struct-told4 .given .1 .0 .1 })) at (c .meet2 .ensures)
+
+-- The walk starts at the anchor, and there the extremes are the anchor's own numbers
+started-is : (c : tie.After-begin2 Inv-loop μ-loop) →
+    let s = c .before .before .before .before in
+    let a = s .before .before .args .anchor in
+    (s .start .result ≡ started a) × (c .before .before .begin .result ≡ begun (pos (a .col))) × (c .begin2 .result ≡ begun (pos (a .row)))
+started-is c =
+    let s = c .before .before .before .before in
+    let one = c .before .before in
+    let at = s .start .ensures in (
+      at,
+      simp (toZ-ofZ w32 (s .start .result .col) (record { sfits = one .before .struct-told .given .0 .1 })) at (one .begin .ensures) ∙ ap (λ (k : Corner). begun (k .col)) at,
+      simp (toZ-ofZ w32 (s .start .result .row) (record { sfits = c .before .struct-told2 .given .1 .0 .1 })) at (c .begin2 .ensures) ∙ ap (λ (k : Corner). begun (k .row)) at,
+    )
 
 -- The rule of the edges is the loop's answer for all of them
 rule : (c : tie.After-begin2 Inv-loop μ-loop) →
-    let s = c .before .before .before .args in
-    insideList (s .anchor) (s .edges .now) (s .cell)
-    ≡ insideFrom (s .edges .now) (c .before .begin .result) (c .begin2 .result) (pos (s .cell .col)) (pos (s .cell .row))
+    let s = c .before .before .before .before in
+    let a = s .before .before .args in
+    insideList (a .anchor) (a .edges .now) (a .cell)
+    ≡ insideFrom (pairs (a .edges .now)) (s .start .result) (c .before .before .begin .result) (c .begin2 .result) (pos (a .cell .col)) (pos (a .cell .row))
 rule c =
-    let s = c .before .before .before .args in
-    rw (inside-short (s .anchor) (s .edges .now) (s .cell) (omega arith), c .before .begin .ensures, c .begin2 .ensures) (inside-from-anchor _ _ _)
+    let e = started-is c in
+    let a = c .before .before .before .before .before .before .args in
+    rw (inside-short (a .anchor) (a .edges .now) (a .cell) (omega arith), e .0, e .1, e .2) (inside-from-anchor _ _ _)
 
 returns : tie.Need-returns Inv-loop μ-loop
 returns c = inside-long _ _ _ (omega arith)
+
+start-requires : tie.Need-start-requires Inv-loop μ-loop
+start-requires c κs = search needs
 
 begin-requires : tie.Need-begin-requires Inv-loop μ-loop
 begin-requires c κs = search needs
@@ -84,13 +112,12 @@ begin-requires-2 : tie.Need-begin-requires-2 Inv-loop μ-loop
 begin-requires-2 c κs = search needs
 
 loop-holds : tie.Need-loop-holds Inv-loop μ-loop
-unfolding begun
 loop-holds c =
+    let s = c .before .before .before .before .before .before in
     record {
       short = omega arith;
       passed = omega arith;
-      col-size = rw (c .before .begin .ensures) (omega (arith, c .before .before .before .good .0));
-      row-size = rw (c .begin2 .ensures) (omega (arith, c .before .before .before .good .0));
+      near = rw (started-is c .0) (after-start (s .args .anchor) (omega (arith, s .good .0)) (omega (arith, s .good .0)) 0);
       left = refl;
     }
 
@@ -113,18 +140,24 @@ shared-slice-copy-out-dy : tie.Need-shared-slice-copy-out-dy Inv-loop μ-loop
 shared-slice-copy-out-dy c = omega arith
 
 beside-requires : tie.Need-beside-requires Inv-loop μ-loop
-beside-requires c κs = omega arith
+beside-requires c κs = search needs
 
 returns-2 : tie.Need-returns-2 Inv-loop μ-loop
 returns-2 c =
     let t = c .before .before .before .before in
     sym (rule (t .before .before) ∙ walked-outside (t .before .loop .inv) (omega arith) (sym (beside-is (c .before)) ∙ not-true _ (c .if2 .taken)))
 
-step-requires : tie.Need-step-requires Inv-loop μ-loop
-step-requires c κs = omega arith
+further-requires : tie.Need-further-requires Inv-loop μ-loop
+further-requires c κs =
+    let dy = c .before .before in
+    let t = dy .before .before in
+    simp (toZ-ofZ w16 _ (fits-x (dy .before)), toZ-ofZ w16 _ (fits-y dy)) (after-fits (t .before .loop .inv .near) (fits-x (dy .before)) (fits-y dy) (omega arith))
 
-step-requires-2 : tie.Need-step-requires-2 Inv-loop μ-loop
-step-requires-2 c κs = omega arith
+meet-requires : tie.Need-meet-requires Inv-loop μ-loop
+meet-requires c κs = search needs
+
+meet-requires-2 : tie.Need-meet-requires-2 Inv-loop μ-loop
+meet-requires-2 c κs = search needs
 
 add-i : tie.Need-add-i Inv-loop μ-loop
 add-i c = omega arith
@@ -134,11 +167,11 @@ loop-less c = omega arith
 
 loop-again : tie.Need-loop-again Inv-loop μ-loop
 loop-again c =
-    let t = c .before .before .before .before .before .before in
-    let x = size-16 (stepX t) (fits-x (c .before .before .before .before .before)) in
-    let y = size-16 (stepY t) (fits-y (c .before .before .before .before)) in
-    let inward = sym (beside-is (c .before .before .before)) ∙ not-false _ (c .before .before .if2 .left) in
-    rw (cols-are (c .before), rows-are c) (walked-edge (t .before .loop .inv) (omega arith) x y inward)
+    let f = c .before .before .before .before in
+    let dy = f .before .before .before in
+    let t = dy .before .before in
+    let inward = sym (beside-is (f .before .before)) ∙ not-false _ (f .before .if2 .left) in
+    rw (cols-are (c .before .before), rows-are c, further-is f) (walked-edge (t .before .loop .inv) (omega arith) (fits-x (dy .before)) (fits-y dy) inward)
 
 spanned-requires : tie.Need-spanned-requires Inv-loop μ-loop
 spanned-requires c κs = search needs
@@ -167,6 +200,7 @@ inside-spec =
     Inv-loop
     μ-loop
     returns
+    start-requires
     begin-requires
     begin-requires-2
     loop-holds
@@ -178,8 +212,9 @@ inside-spec =
     shared-slice-copy-out-dy
     beside-requires
     returns-2
-    step-requires
-    step-requires-2
+    further-requires
+    meet-requires
+    meet-requires-2
     add-i
     loop-less
     loop-again

@@ -16,7 +16,7 @@ cell-read c = read-back (c .whole .result) (c .whole .ok) ∙ c .whole .ensures
 
 low-is : (c : tie.After-at-most) → c .at-most .result ≡ leZ (c .before .before .before .args .s .low) (pos (c .before .before .before .args .c))
 low-is c =
-    simp (read-back (c .before .before .before .args .s .low) (c .before .struct-told .given .1 .0 .1), cell-read (c .before .before)) at (c .at-most .ensures)
+    simp (read-back (c .before .before .before .args .s .low) (c .before .struct-told .given .0 .1), cell-read (c .before .before)) at (c .at-most .ensures)
 
 high-is :
     (c : tie.After-at-most2)
@@ -24,7 +24,7 @@ high-is :
     ≡ leZ (pos (c .before .before .before .before .before .before .args .c)) (c .before .before .before .before .before .before .args .s .high)
 high-is c =
     simp (
-      read-back (c .before .before .before .before .before .before .args .s .high) (c .before .struct-told2 .given .1 .1 .0 .1),
+      read-back (c .before .before .before .before .before .before .args .s .high) (c .before .struct-told2 .given .1 .0 .1),
       cell-read (c .before .before .before .before .before),
     ) at (c .at-most2 .ensures)
 
