@@ -84,33 +84,33 @@ module _ (o : Outline) (h : Simple o) where
     left-is : hullLeft lo b t (m .at) ≡ lo (first-row .at)
     left-is =
         let f = first-row in
-        let k = hull-left (point (hullLeft lo b t (m .at)) (m .at)) (hull-cell _ (m .at) (m .low) (m .high) (omega arith) (wide .full (m .at) (m .low) (m .high))) in
+        let k = hull-left (point (hullLeft lo b t (m .at)) (m .at)) (hull-cell _ (m .at) (m .low) (m .high) (omega arith) (wide .nonempty (m .at) (m .low) (m .high))) in
         omega (arith, k, m .least (f .at) (f .low) (f .high), wider-left lo hi b t (e .rows) (f .at) (f .low) (f .high))
 
     right-is : hullRight hi b t (n .at) ≡ hi (last-row .at)
     unfolding hullRight
     right-is =
         let f = last-row in
-        let full = wide .full (n .at) (n .low) (n .high) in
+        let nonempty = wide .nonempty (n .at) (n .low) (n .high) in
         let k : pred (hullRight hi b t (n .at)) < hi (last-row .at) = hull-right (point (pred (hullRight hi b t (n .at))) (n .at)) (hull-cell _ (n .at) (n .low) (n .high) (omega arith) (omega arith)) in
         let l : hullLeft (λ s. side - hi s) b t (n .at) ≤ hullLeft (λ s. side - hi s) b t (f .at) = n .least (f .at) (f .low) (f .high) in
-        omega (arith, full, wider-right lo hi b t (e .rows) (f .at) (f .low) (f .high))
+        omega (arith, nonempty, wider-right lo hi b t (e .rows) (f .at) (f .low) (f .high))
 
   leftmost : leftmostCorner o ≡ lo (first-row .at)
   unfolding leftmostCorner
   leftmost =
       let f = first-row in
-      let full = e .rows .full (f .at) (f .low) (f .high) in
+      let nonempty = e .rows .nonempty (f .at) (f .low) (f .high) in
       least-is (λ p a. true) (λ p. p .col) (o .start) (o .letters) side (lo (f .at))
       (λ n k. let (c, r, d, l, _) = col-cell o h n k in omega (arith, cell-left c r d))
       (inl (first-col o h (f .at) (e .first (f .at) (f .low) (f .high))))
-      (omega (arith, full, e .rows .fits (f .at) (f .low) (f .high)))
+      (omega (arith, nonempty, e .rows .fits (f .at) (f .low) (f .high)))
 
   rightmost : rightmostCorner o ≡ hi (last-row .at)
   unfolding rightmostCorner
   rightmost =
       let f = last-row in
-      let full = e .rows .full (f .at) (f .low) (f .high) in
+      let nonempty = e .rows .nonempty (f .at) (f .low) (f .high) in
       greatest-is (λ p a. true) (λ p. p .col) (o .start) (o .letters) 0 (hi (f .at))
       (λ n k. let (c, r, d, _, l) = col-cell o h n k in omega (arith, cell-right c r d))
       (inl (last-col o h (f .at) (omega arith) (e .last (f .at) (f .low) (f .high))))

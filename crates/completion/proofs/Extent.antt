@@ -71,14 +71,14 @@ module _ (lo hi : ℕ → ℕ) (b t : ℕ) (rows : Rows lo hi b t) where
   unfolding hullRight
   hull-letters m n =
       let l : b < t = rows .below in
-      let full = hull-rows lo hi b t rows .full in
+      let nonempty = hull-rows lo hi b t rows .nonempty in
       sums (size (outlineOf (hullLeft lo b t) (hullRight hi b t) b t)) (2 * (t - b)) (hullLeft lo b t b) (hullLeft lo b t (pred t)) (hullLeft lo b t (m .at))
       (mirrorLeft b) (mirrorLeft (pred t)) (mirrorLeft (n .at))
       (travel (hullLeft lo b t) b (t - suc b)) (travel (hullRight hi b t) b (t - suc b)) (travel mirrorLeft b (t - suc b))
       (mirror-fits b (omega arith) l)
       (mirror-fits (pred t) (omega arith) (omega arith))
       (mirror-fits (n .at) (n .low) (n .high))
-      (length-outline (hullLeft lo b t) (hullRight hi b t) b t l (full b (omega arith) l) (full (pred t) (omega arith) (omega arith)))
+      (length-outline (hullLeft lo b t) (hullRight hi b t) b t l (nonempty b (omega arith) l) (nonempty (pred t) (omega arith) (omega arith)))
       (travel-hollow (hullLeft lo b t) b t l (left-hollow lo b t) m)
       (travel-mirror (hullLeft (λ s. side - hi s) b t) b (t - suc b) (λ r h k. mirror-fits r h (omega arith)))
       (travel-hollow (hullLeft (λ s. side - hi s) b t) b t l (left-hollow (λ s. side - hi s) b t) n)
@@ -220,12 +220,12 @@ module _ (o : Outline) (h : Simple o) (lo hi : ℕ → ℕ) (b t : ℕ) (e : End
       let l : b < t = e .rows .below in
       let m = least-of (hullLeft lo b t) b t l in
       let n = least-of (hullLeft (λ s. side - hi s) b t) b t l in
-      let full = wide .full (n .at) (n .low) (n .high) in
+      let nonempty = wide .nonempty (n .at) (n .low) (n .high) in
       let (j, j-le, right) = corner-right (pred (hullRight hi b t (n .at))) (n .at) (hull-at _ (n .at) (n .low) (n .high) (omega arith) (omega arith)) in
       let (k, k-le, low) = corner-low l in
       let (i, i-le, high) = corner-high l in
       sums l (omega arith) (hull-letters lo hi b t (e .rows) m n)
-      (corner-left (hullLeft lo b t (m .at)) (m .at) (hull-at _ (m .at) (m .low) (m .high) (omega arith) (wide .full (m .at) (m .low) (m .high))))
+      (corner-left (hullLeft lo b t (m .at)) (m .at) (hull-at _ (m .at) (m .low) (m .high) (omega arith) (wide .nonempty (m .at) (m .low) (m .high))))
       right low high
       (perimeter (border o) (is-from-w .walked .closed) 0 j k i (omega arith) j-le k-le i-le)
       (length-border o h)

@@ -26,7 +26,7 @@ module _ (lo hi : ℕ → ℕ) where
   hood-long : (y k : ℕ) → Stack lo hi y k → 3 ≤ length (hood lo hi y k)
   unfolding hood
   hood-long y zero h =
-      omega (arith, h .full y (omega arith) (omega arith), length-capped (across (lo y) (hi y)), length-across (lo y) (hi y))
+      omega (arith, h .nonempty y (omega arith) (omega arith), length-capped (across (lo y) (hi y)), length-across (lo y) (hi y))
   hood-long y (suc k) h =
       let w = across (hi (suc y)) (hi y) in
       let v = across (lo y) (lo (suc y)) in
@@ -44,7 +44,7 @@ module _ (lo hi : ℕ → ℕ) where
         let l : b < t = rows .below in
         record {
           high = omega arith;
-          full = λ r m n. rows .full r m (omega arith);
+          nonempty = λ r m n. rows .nonempty r m (omega arith);
           fits = λ r m n. rows .fits r m (omega arith);
           shares = λ r m n. shares r m (omega arith);
         }
@@ -52,8 +52,8 @@ module _ (lo hi : ℕ → ℕ) where
     abbrev o : Outline
     o = outlineOf lo hi b t
 
-    first-full : lo b < hi b
-    first-full = rows .full b (omega arith) (rows .below)
+    first-nonempty : lo b < hi b
+    first-nonempty = rows .nonempty b (omega arith) (rows .below)
 
     first-fits : hi b ≤ side
     first-fits = rows .fits b (omega arith) (rows .below)
@@ -62,7 +62,7 @@ module _ (lo hi : ℕ → ℕ) where
     round = hooded lo hi b (t - suc b) stack
 
     pub bottom : Path (point (hi b) b) (point (lo b) b) (across (hi b) (lo b))
-    bottom = path-across b (hi b) (lo b) first-fits (omega (arith, first-full, first-fits))
+    bottom = path-across b (hi b) (lo b) first-fits (omega (arith, first-nonempty, first-fits))
 
     apart : Apart (point (lo b) b) (hood lo hi b (t - suc b) ++ across (hi b) (lo b))
     apart =
@@ -71,7 +71,7 @@ module _ (lo hi : ℕ → ℕ) where
         (λ x h k. disjoint x (round .above x h) (visits-across b (hi b) (lo b) x (subst (λ (z : Point). Visits z (across (hi b) (lo b)) x) (round .path .ends) k)))
       where
         disjoint : (x : Point) → (point (lo b) b ≡ x) ⊎ (b < x .row) → Between b (hi b) (lo b) x → ⊥
-        disjoint x (inl e) c = ⊎-elim (λ m. omega (arith, first-full, same-col e)) (λ m. omega (arith, same-col e)) (c .column)
+        disjoint x (inl e) c = ⊎-elim (λ m. omega (arith, first-nonempty, same-col e)) (λ m. omega (arith, same-col e)) (c .column)
         disjoint x (inr g) c = omega (arith, c .height)
 
     keeps : Keeps (point (lo b) b) (hood lo hi b (t - suc b) ++ across (hi b) (lo b))
@@ -92,7 +92,7 @@ module _ (lo hi : ℕ → ℕ) where
         omega (
           arith,
           hood-long b (t - suc b) stack,
-          first-full,
+          first-nonempty,
           length-append (hood lo hi b (t - suc b)) (across (hi b) (lo b)),
           length-across (hi b) (lo b),
         )
@@ -103,7 +103,7 @@ module _ (lo hi : ℕ → ℕ) where
 
     on-chart : (i : ℕ) → i ≤ size (outlineOf lo hi b t) → OnChart (cornerAt (outlineOf lo hi b t) i)
     unfolding outlineOf
-    on-chart = corners-on-chart o (record { col = omega (arith, first-full, first-fits); row = omega (arith, rows .below) }) outline-stays
+    on-chart = corners-on-chart o (record { col = omega (arith, first-nonempty, first-fits); row = omega (arith, rows .below) }) outline-stays
 
     pub outline-walked : size (outlineOf lo hi b t) ≤ longest → Walked (outlineOf lo hi b t)
     unfolding outlineOf cornerAt

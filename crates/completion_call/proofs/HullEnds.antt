@@ -140,12 +140,12 @@ module _ (o : Outline) (h : Simple o) where
 
       -- The row n is that of E
       module _ (n : ℕ) (e : Lowest over b t n) where
-        full : left o h n < right o h n
-        full = hull-rows lo (pastCell (block o)) (firstRow (block o)) (pastRow (block o)) block-rows .full n (omega (arith, s .low, e .low)) (omega (arith, s .high, e .high))
+        nonempty : left o h n < right o h n
+        nonempty = hull-rows lo (pastCell (block o)) (firstRow (block o)) (pastRow (block o)) block-rows .nonempty n (omega (arith, s .low, e .low)) (omega (arith, s .high, e .high))
 
         pub sided-gap : begins m ≤ ends n
         sided-gap =
-            omega (arith, full, left-is n (e .low) (e .high), right-is n (e .low) (e .high), w .least n (e .low) (e .high))
+            omega (arith, nonempty, left-is n (e .low) (e .high), right-is n (e .low) (e .high), w .least n (e .low) (e .high))
 
         west : Least (left o h) (firstRow (block o)) (pastRow (block o))
         west =

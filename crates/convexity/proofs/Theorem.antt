@@ -154,7 +154,7 @@ module _ (o : Outline) (straight : NoBackStep o) where
   hi r = downColumn (o .start) (o .letters) r 0
 
   block-rows : Rows lo hi (bottom o) (top o)
-  block-rows = record { below = bottom-lt-top o straight; full = row-convex o straight; fits = row-fits o straight }
+  block-rows = record { below = bottom-lt-top o straight; nonempty = row-convex o straight; fits = row-fits o straight }
 
   -- The cells of these rows are the enclosed ones
   enclosed-rows : (c r : ℕ) → encloses o c r ≡ inRows lo hi (bottom o) (top o) c r

@@ -1,6 +1,5 @@
--- The search up the left and the right side of the hull finds the lowest missing cell, leftmost in its row: each side's climb stops at the
--- first
--- row with a missing cell on that side (proofs/Side.antt), and the right side is the left side's mirror image (proofs/Mirror.antt).
+-- The search finds the lowest missing cell, leftmost in its row, because on each side it stops at the first row with a missing cell there
+-- (proofs/Side.antt). The right side is the left side of the mirror image (proofs/Mirror.antt).
 use Prim.Native.Nat.{ℕ, suc, _-_, _≤_, _<_}
 use mathlib.Core.Path.{_≡_, refl, ap}
 use mathlib.Core.Bool.{Bool, true, false, cond}
@@ -19,12 +18,12 @@ use Rattle.rows.proofs.Rows.{Rows, Within, open-outside, outside-open, 
 use Rattle.rows.proofs.Side.{Left, chain-bottom}
 use Rattle.rows.proofs.Mirror.{Mirrored, mirror, mirrored-back, mirrored-rows, mirrored-hull}
 
--- No cell of the hull below row r is right of its row, and the cell next to row r on the right is in the hull
+-- Below row r, no hull cell is right of its row. The cell just right of row r is in the hull
 record RightRow (lo hi : ℕ → ℕ) (b t r : ℕ) : Type 0 where
   clear : (y : Point) → InHull (inRows lo hi b t) y → y .row < r → y .col < hi (y .row)
   reach : r < t → InHull (inRows lo hi b t) (record { col = hi r; row = r })
 
--- In the same row or a higher one, and in the same row no further left, is the same or after
+-- If y is in a higher row than g, or in the same row and no further left, then y is g or comes after g
 same-or-after : (g y : Point) → g .row ≤ y .row → (y .row ≡ g .row → g .col ≤ y .col) → (y ≡ g) ⊎ After g y
 unfolding After
 same-or-after g y h k =
@@ -44,9 +43,9 @@ same-or-after-row g y (inr (inr p)) = omega arith
 
 module _ (lo hi : ℕ → ℕ) (b t : ℕ) (rows : Rows lo hi b t) where
   mirrored : Mirrored lo hi (λ r. side - hi r) (λ r. side - lo r) b t
-  mirrored = record { begins = λ r h l. omega (arith, rows .full r h l, rows .fits r h l); ends = λ r h l. omega (arith, rows .fits r h l) }
+  mirrored = record { begins = λ r h l. omega (arith, rows .nonempty r h l, rows .fits r h l); ends = λ r h l. omega (arith, rows .fits r h l) }
 
-  -- A gap at the left of the mirror image is one at the right
+  -- A gap on the left of the mirror image is a gap on the right of the block
   left-right : (g : Point) → Left (λ r. side - hi r) (λ r. side - lo r) b t b g → RightRow lo hi b t (g .row)
   left-right g l =
       let k = mirrored-rows mirrored rows in
@@ -71,12 +70,12 @@ module _ (lo hi : ℕ → ℕ) (b t : ℕ) (rows : Rows lo hi b t) where
   chain-right = left-right _ (chain-bottom _ _ b t (mirrored-rows mirrored rows))
 
   module _ (g : Point) (r : ℕ) (left : Left lo hi b t b g) (right : RightRow lo hi b t r) where
-    -- A cell of the hull below both rows is in the block
+    -- A hull cell below both gaps is in the block
     below-within : (y : Point) → InHull (inRows lo hi b t) y → y .row < g .row → y .row < r → Within lo hi b t y
     below-within y h l m =
         record { above = hull-above rows h; below = hull-below rows h; begun = left .clear y h (hull-above rows h) l; before = right .clear y h m }
 
-    -- The lower of both, the left one in the same row
+    -- The lower gap is missing; in the same row, the left one
     lower-gap : (a : Bool) → leb (g .row) r ≡ a → cond a g (record { col = hi r; row = r }) .row < t → Missing (inRows lo hi b t) (cond a g (record { col = hi r; row = r }))
     lower-gap true e l =
         record { hull = left .reach l (g .col) (omega arith) (left .left l); open-cell = outside-open g (λ w. omega (arith, left .left l, w .begun)) }
@@ -102,19 +101,19 @@ module _ (lo hi : ℕ → ℕ) (b t : ℕ) (rows : Rows lo hi b t) where
           | no m ↦ omega arith
         ])
 
--- What the search finds in a row of the block is a missing cell
+-- If the search stops below row t, it has found a missing cell
 pub search-sound : {lo hi : ℕ → ℕ} {b t : ℕ} → Rows lo hi b t → lowestGap lo hi b t .row < t → Missing (inRows lo hi b t) (lowestGap lo hi b t)
 unfolding lowestGap
 search-sound {lo} {hi} {b} {t} rows = lower-gap lo hi b t rows _ _ (chain-bottom lo hi b t rows) (chain-right lo hi b t rows) _ refl
 
--- Every missing cell is the one found or after it
+-- Every missing cell is the one found or comes after it
 pub search-first :
     {lo hi : ℕ → ℕ} {b t : ℕ} → Rows lo hi b t → (y : Point) → Missing (inRows lo hi b t) y
     → (y ≡ lowestGap lo hi b t) ⊎ After (lowestGap lo hi b t) y
 unfolding lowestGap
 search-first {lo} {hi} {b} {t} rows = lower-first lo hi b t rows _ _ (chain-bottom lo hi b t rows) (chain-right lo hi b t rows) _ refl
 
--- Where a cell is missing, the search finds the lowest, leftmost in its row
+-- If a cell is missing, the search finds the lowest one, leftmost in its row
 pub search-lowest :
     {lo hi : ℕ → ℕ} {b t : ℕ} → Rows lo hi b t → (x : Point) → Missing (inRows lo hi b t) x → LowestMissing (inRows lo hi b t) (lowestGap lo hi b t)
 search-lowest rows x m =

@@ -1,4 +1,4 @@
--- Lines and rows; one side of a hull, its mirror image, the climb; the laws of the code.
+-- First lines and rows, then one side of a hull and its mirror image, then the search, then the laws that the code uses.
 pub mod Line
 pub mod Rows
 pub mod Side

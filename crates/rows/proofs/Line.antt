@@ -1,6 +1,5 @@
--- A point is on or right of a line up from one point to another iff a determinant of the three is not negative. The laws below are
--- identities
--- between such determinants, with every term on the side where it is positive.
+-- Each law is an identity between determinants: x is on or right of the line from p up to q exactly if their determinant is not negative.
+-- The numbers are natural, so each term stands on the side where it is positive.
 use Prim.Native.Nat.{ℕ, suc, _+_, _-_, _*_, _≤_, _<_}
 use mathlib.Core.Path.{_≡_, ap}
 use native.Mathlib.Nat.{mul-le-mul-right, le-of-mul-le-mul-right}
@@ -33,7 +32,7 @@ trans-offsets p q u x y z w i j k l h h′ =
     let v : z * p .col + w * u .col ≤ z * x .col + w * p .col = le-of-mul-le-mul-right o l in
     omega (arith, times (p .col), times (u .col), times (x .col))
 
--- Seen from p, x is right of u if it is right of a point that is right of u
+-- Seen from p: if x is right of q and q is right of u, then x is right of u
 pub right-trans : {p q u x : Point} → p .row < q .row → p .row ≤ u .row → p .row ≤ x .row → Right p u q → Right p q x → Right p u x
 right-trans {p} {q} {u} {x} l m n =
     trans-offsets p q u x (q .row - p .row) (u .row - p .row) (x .row - p .row) (omega arith) (omega arith) (omega arith) (omega arith)
@@ -58,7 +57,7 @@ from-w-offsets p q u v x y z i j k l h h′ =
     let w : z * q .col + y * q .col ≤ z * u .col + y * v .col = le-of-mul-le-mul-right o l in
     omega (arith, times (u .col), times (q .col), times (v .col))
 
--- Points below and above q that are right of a line up to q: the higher is right of the line from the lower to q
+-- If u below q and v above q are both right of the line from p up to q, then v is right of the line from u to q
 pub right-turn : {p q u v : Point} → p .row < q .row → u .row ≤ q .row → q .row ≤ v .row → Right p q u → Right p q v → Right u q v
 right-turn {p} {q} {u} {v} l m n h k =
     from-w-offsets p q u v (q .row - p .row) (q .row - u .row) (v .row - q .row) (omega arith) (omega arith) (omega arith) (omega arith) h k
@@ -83,7 +82,7 @@ below-offsets p q u v x y z i j k l h h′ =
     let w : z * p .col + x * q .col ≤ x * v .col + z * q .col = le-of-mul-le-mul-right o l in
     omega (arith, times (p .col), times (q .col), times (v .col))
 
--- Below q, a point is right of a line up to q if it is right of the line from a point that is
+-- For points below q: if u is right of the line from p to q and v is right of the line from u to q, then v is right of the line from p to q
 pub right-below : {p q u v : Point} → p .row ≤ q .row → u .row < q .row → v .row ≤ q .row → Right p q u → Right u q v → Right p q v
 right-below {p} {q} {u} {v} l m n =
     below-offsets p q u v (q .row - p .row) (q .row - u .row) (q .row - v .row) (omega arith) (omega arith) (omega arith) (omega arith)
@@ -108,7 +107,7 @@ over-offsets p q u v x y z i j k l h h′ =
     let w : z * p .col + x * v .col ≤ x * q .col + z * q .col = le-of-mul-le-mul-right o l in
     omega (arith, times (p .col), times (q .col), times (v .col))
 
--- Where q is right of a line from p up to u, it is right of every line from p up to a point that u is right of, seen from q
+-- If q is right of the line from p to u, and u is right of the line from q to v, then q is right of the line from p to v
 pub right-over : {p q u v : Point} → p .row ≤ q .row → q .row < u .row → q .row ≤ v .row → Right p u q → Right q v u → Right p v q
 right-over {p} {q} {u} {v} l m n =
     over-offsets p q u v (q .row - p .row) (u .row - q .row) (v .row - q .row) (omega arith) (omega arith) (omega arith) (omega arith)
@@ -119,11 +118,11 @@ right-start = omega arith
 pub right-end : {p q : Point} → Right p q q
 right-end = omega arith
 
--- The same three points, counted from another
+-- The test does not depend on which of the three points comes first
 pub right-cycle : {p q x : Point} → Right x p q → Right p q x
 right-cycle h = omega arith
 
--- Further right in the same row is right of the line too
+-- Every point further right in the same row is right of the line too
 beyond-offsets : (p q : Point) (r c y z : ℕ) → q .row ≡ p .row + z → Right p q (record { col = c; row = r }) → Right p q (record { col = c + y; row = r })
 beyond-offsets p q r c y z i h = omega (arith, ap (λ n. n * y) i, h .holds)
 
@@ -132,7 +131,7 @@ right-beyond {p} {q} {x} c l m h =
     let e : x .col ≡ c + (x .col - c) = omega arith in
     rw e (beyond-offsets p q (x .row) c (x .col - c) (q .row - p .row) (omega arith) h)
 
--- In the row of an end of the line, right of the line is right of that end
+-- In the row of an end of the line, a point right of the line is right of that end
 start-offsets : (p q x : Point) (z : ℕ) → q .row ≡ p .row + suc z → x .row ≡ p .row → Right p q x → p .col ≤ x .col
 start-offsets p q x z i j h =
     let l : p .col * suc z ≤ x .col * suc z =
@@ -151,14 +150,14 @@ end-offsets p q x z i j h =
 pub right-of-end : {p q x : Point} → p .row < q .row → x .row ≡ q .row → Right p q x → q .col ≤ x .col
 right-of-end {p} {q} {x} l = end-offsets p q x (q .row - suc (p .row)) (omega arith)
 
--- A sum of multiples of the coordinates and a number
+-- The mean of a linear function of the coordinates
 mean-sum :
     (i k j : ℕ) {x u v w : Point} (h : InTriangle x u v w) →
     Mean (h .a) (h .b) (h .c) (i * x .col + k + j * x .row) (i * u .col + k + j * u .row) (i * v .col + k + j * v .row) (i * w .col + k + j * w .row)
 mean-sum i k j h =
     mean-add (h .a) (h .b) (h .c) _ _ _ _ _ _ _ _ (mean-line i k (h .a) (h .b) (h .c) _ _ _ _ (h .cols)) (mean-times j (h .a) (h .b) (h .c) _ _ _ _ (h .rows))
 
--- A triangle is right of a line if its corners are
+-- A triangle is right of a line if its three corners are
 pub right-mean : {p q x u v w : Point} → InTriangle x u v w → Right p q u → Right p q v → Right p q w → Right p q x
 right-mean {p} {q} {x} {u} {v} {w} h k l m =
     record {
@@ -171,9 +170,8 @@ right-mean {p} {q} {x} {u} {v} {w} h k l m =
           (m .holds);
     }
 
--- Between p and q, a point right of their line and left of u in the same row is in the triangle of the three: x is y rows above p and z
--- below q,
--- g columns left of u, and w tells how far it is right of the line
+-- A point x between the rows of p and q, right of their line and left of u in its row, is in the triangle of p, q and u. Here x is y rows
+-- above p, z rows below q and g + 1 columns left of u, and w is its determinant with p and q
 triangle-offsets :
     (p q u x : Point) (y z g w : ℕ) →
     x .row ≡ p .row + y →
@@ -202,7 +200,7 @@ right-in-triangle {p} {q} {u} {x} l m n e k h = go (x .row - p .row) (q .row - x
         omega (arith, ap (λ n. n * p .col) i, ap (λ n. n * q .col) i, ap (λ n. n * x .col) i, ap (λ n. n * p .col) j, ap (λ n. n * q .col) j, ap (λ n. n * x .col) j) in
         triangle-offsets p q u x y z (u .col - suc (x .col)) ((y + z) * x .col - (z * p .col + y * q .col)) i j e (omega arith) (omega arith) (omega arith)
 
--- A triangle is within the rows of its corners
+-- A triangle lies within the rows and columns of its corners
 pub triangle-above : {x p q u : Point} (k : ℕ) → InTriangle x p q u → k ≤ p .row → k ≤ q .row → k ≤ u .row → k ≤ x .row
 triangle-above k h = mean-at-least (h .a) (h .b) (h .c) _ _ _ _ k (h .some) (h .rows)
 

@@ -1,4 +1,5 @@
--- The block seen from its other side: column c becomes column 254 - c, and a mean of columns becomes the mean of their mirror images.
+-- The mirror image of a block's hull is the hull of its mirror image, because the mirror image of a mean is the mean of the mirror images.
+-- Column c becomes column 254 - c.
 use Prim.Native.Nat.{ℕ, suc, _+_, _-_, _≤_, _<_}
 use mathlib.Core.Path.{_≡_}
 use native.Mathlib.Omega.{arith}
@@ -12,7 +13,7 @@ use Rattle.rows.proofs.Rows.{Rows, Within, within-marked, within-cols, 
 abbrev pub mirror : Point → Point
 mirror x = record { col = side - suc (x .col); row = x .row }
 
--- Each row of the one block is the mirror image of that row of the other
+-- Each row of one block is the mirror image of the same row of the other
 pub record Mirrored (lo hi lo′ hi′ : ℕ → ℕ) (b t : ℕ) : Type 0 where
   pub begins : (r : ℕ) → b ≤ r → r < t → lo r + hi′ r ≡ side
   pub ends : (r : ℕ) → b ≤ r → r < t → hi r + lo′ r ≡ side
@@ -25,7 +26,7 @@ module _ {lo hi lo′ hi′ : ℕ → ℕ} {b t : ℕ} (m : Mirrored lo hi lo′
   mirrored-rows k =
       record {
         below = k .below;
-        full = λ r h l. omega (arith, k .full r h l, m .begins r h l, m .ends r h l);
+        nonempty = λ r h l. omega (arith, k .nonempty r h l, m .begins r h l, m .ends r h l);
         fits = λ r h l. omega (arith, m .begins r h l);
       }
 

@@ -1,6 +1,5 @@
--- The ends of the rows, letter by letter: the columns kept so far and the letters that are left give the last up and the last down along
--- each row. On
--- the chart these are the outline's own.
+-- The pass over the letters keeps the column of the last up and of the last down along each row, because each letter changes at most one
+-- row's entry. For an outline these columns are the ends of its rows, because no letter leaves the chart.
 use Prim.Native.Nat.{ℕ, zero, suc, _+_, _-_, _*_, _%_, _^_, _≤_, _<_}
 use mathlib.Core.Path.{_≡_, refl, sym, ap, _∙_}
 use mathlib.Core.Bool.{Bool, true, false, cond, _||_, true≢false}
@@ -25,7 +24,7 @@ use Rattle.lattice.proofs.WalkLaws.{walked, point-eq, corner-zero, corner-suc}
 use Rattle.lattice.proofs.Staying.{stays-right, stays-up, stays-left, stays-down}
 use Rattle.rows.proofs.SearchLaws.{lowestGap-same}
 
--- An up (a down) along row r, and the row of one
+-- What it means that a letter is an up, or a down, along row r
 pub up-along : (p : Point) (a r : ℕ) → upAlong p a r ≡ true → (a ≡ 1) × (p .row ≡ r)
 unfolding upAlong
 up-along p a r e =
@@ -44,7 +43,7 @@ pub along-down : (p : Point) (a r : ℕ) → a ≡ 3 → p .row ≡ suc r → do
 unfolding downAlong
 along-down p a r h k = rw (eq-eqb a 3 h) (eq-eqb (p .row) (suc r) k)
 
--- A store at the one row of which the test holds, and none where it holds of no row
+-- The test holds for one row, and the store is at that row; or it holds for no row, and there is no store
 module _ (test : ℕ → Bool) (c : ℕ) (l : List ℕ) (size : length l ≡ 256) where
   pub marked-set : (x : ℕ) → x < 256 → test x ≡ true → ((r : ℕ) → test r ≡ true → r ≡ x) → Marked test c l (set l x c)
   marked-set x h t only = record { size = length-set l x c ∙ size; marked = λ r n. go r (test r) refl }
@@ -60,13 +59,12 @@ module _ (test : ℕ → Bool) (c : ℕ) (l : List ℕ) (size : length l ≡ 256
       go r true e = absurd (none r e)
       go r false e = refl
 
--- The columns l that are kept of the letters before place i, where the walk stands at corner n, and what the letters from there on make of
--- them
+-- l has the columns kept from the letters before place i, where the walk is at corner n. The remaining letters complete them
 pub record Kept (along : Point → ℕ → ℕ → Bool) (n₀ : ℕ) (w : List ℕ) (i n : ℕ) (l : List ℕ) : Type 0 where
   pub size : length l ≡ 256
   pub rest : (r : ℕ) → r < 256 → keptColumn along n (drop i w) r (rows l r) ≡ keptColumn along n₀ w r 0
 
--- The same for ups and downs
+-- One proof for ups and downs: `along` is the test
 module _ (along : Point → ℕ → ℕ → Bool) (n₀ : ℕ) (w : List ℕ) where
   kept-start : Kept along n₀ w 0 n₀ (replicate 256 0)
   kept-start =
@@ -89,12 +87,12 @@ module _ (along : Point → ℕ → ℕ → Bool) (n₀ : ℕ) (w : List ℕ) wh
   unfolding keptColumn
   kept-end i n l h k r b = rw (drop-of-length-le w h) at (k .rest r b)
 
--- All that the loop over the letters keeps
+-- What the loop over the letters keeps
 pub record Marks (n₀ : ℕ) (w : List ℕ) (i n : ℕ) (lo hi : List ℕ) : Type 0 where
   pub ups : Kept upAlong n₀ w i n lo
   pub downs : Kept downAlong n₀ w i n hi
 
--- The number of the next corner as it is added up
+-- The wrapping sum in the code is the number of the next corner
 pub wrapped-sum : (n a b m : ℕ) → b ≡ stride (a % 4) → m ≡ (n + b) % 2 ^ 16 → m ≡ wrapped n a
 unfolding wrapped
 wrapped-sum n a b m h e = rw (e, h)
@@ -114,7 +112,7 @@ pub marks-end : (o : Outline) (i n : ℕ) (lo hi : List ℕ) → size o ≤ i �
 marks-end o i n lo hi h t =
     record { lo-up = kept-end upAlong _ (o .letters) i n lo h (t .ups); hi-down = kept-end downAlong _ (o .letters) i n hi h (t .downs) }
 
--- ---- the search, by the order of its rows
+-- ---- the three cases of foundCell
 
 or-true : (a : Bool) → (a || true) ≡ true
 or-true true = refl
@@ -135,7 +133,7 @@ module _ (o : Outline) (b t : ℕ) where
 
 -- ---- outlines
 
--- A corner of the chart has its number, and a letter that does not leave the chart reaches the number of the next
+-- A corner of the chart is given by its number. A letter that does not leave the chart leads to the number of the next corner
 corner-numbered : (p : Point) → p .col ≤ side → p .row ≤ side → cornerNumbered (numbered p) ≡ p
 corner-numbered p h k = point-eq (cornerNumbered (numbered p)) p (omega arith) (omega arith)
 
@@ -163,7 +161,7 @@ module _ (o : Outline) (simple : Simple o) where
   walk : Walked o
   walk = walked o simple
 
-  -- No letter of an outline leaves the chart, so each reaches its own corner
+  -- No letter of an outline leaves the chart, so each number is that of the walk's corner
   kept-column : (along : Point → ℕ → ℕ → Bool) (column : Point → List ℕ → ℕ → ℕ → ℕ) → ((p : Point) (r d : ℕ) → column p [] r d ≡ d) →
       ((p : Point) (a : ℕ) (v : List ℕ) (r d : ℕ) → column p (a ∷ v) r d ≡ column (step p a) v r (cond (along p a r) (p .col) d)) →
       (r m i d : ℕ) → i + m ≡ size o → keptColumn along (numbered (cornerAt o i)) (drop i (o .letters)) r d ≡ column (cornerAt o i) (drop i (o .letters)) r d

@@ -1,6 +1,5 @@
--- A block of cells given by its rows. Its hull is all the triangles of its cells, so what holds of a triangle if it holds of the corners
--- holds of the hull
--- if it holds of the cells.
+-- Bounds and lines that hold for the cells of a block hold for its hull, because the hull is the union of the triangles of its cells.
+-- A block of cells is given by its rows.
 use Prim.Native.Nat.{ℕ, pred, _≤_, _<_}
 use mathlib.Core.Path.{_≡_, sym, _∙_}
 use mathlib.Core.Bool.{true, false, _&&_, and-eq-true-iff, true≢false}
@@ -14,12 +13,13 @@ use Rattle.lattice.specs.Hull.{InHull}
 use Rattle.rows.specs.parts.Rows.{inRows}
 use Rattle.rows.proofs.Line.{Right, right-beyond, right-mean, triangle-above, triangle-below, triangle-cols}
 
+-- Each of rows b to t - 1 has a cell and ends on the chart
 pub record Rows (lo hi : ℕ → ℕ) (b t : ℕ) : Type 0 where
   pub below : b < t
-  pub full : (r : ℕ) → b ≤ r → r < t → lo r < hi r
+  pub nonempty : (r : ℕ) → b ≤ r → r < t → lo r < hi r
   pub fits : (r : ℕ) → b ≤ r → r < t → hi r ≤ side
 
--- The cell x is in the block
+-- Cell x is in the block
 pub record Within (lo hi : ℕ → ℕ) (b t : ℕ) (x : Point) : Type 0 where
   pub above : b ≤ x .row
   pub below : x .row < t
@@ -60,13 +60,13 @@ abbrev pub begin : (ℕ → ℕ) → ℕ → Point
 begin lo r = record { col = lo r; row = r }
 
 pub begin-marked : {lo hi : ℕ → ℕ} {b t : ℕ} → Rows lo hi b t → (r : ℕ) → b ≤ r → r < t → inRows lo hi b t (lo r) r ≡ true
-begin-marked {lo} k r h l = within-marked (begin lo r) (record { above = h; below = l; begun = omega arith; before = k .full r h l })
+begin-marked {lo} k r h l = within-marked (begin lo r) (record { above = h; below = l; begun = omega arith; before = k .nonempty r h l })
 
 pub within-cols : {lo hi : ℕ → ℕ} {b t : ℕ} {x : Point} → Rows lo hi b t → Within lo hi b t x → x .col < side
 within-cols {x = x} k h = omega (arith, k .fits (x .row) (h .above) (h .below))
 
 module _ {lo hi : ℕ → ℕ} {b t : ℕ} {x : Point} (k : Rows lo hi b t) (h : InHull (inRows lo hi b t) x) where
-  -- The three cells of its triangle
+  -- The corners of the triangle are cells of the block
   pub p-within : Within lo hi b t (h .p)
   p-within = marked-within (h .p) (h .p-marked)
 
@@ -90,7 +90,7 @@ module _ {lo hi : ℕ → ℕ} {b t : ℕ} {x : Point} (k : Rows lo hi b t) (h :
       triangle-cols (pred side) (h .triangle) (omega (arith, within-cols k p-within)) (omega (arith, within-cols k q-within)) (omega (arith, within-cols k t-within)) in
       omega arith
 
-  -- A line that every row begins right of has the whole hull right of it
+  -- If every row begins right of a line, then the whole hull is right of the line
   pub hull-right : {p q : Point} → p .row ≤ q .row → ((r : ℕ) → b ≤ r → r < t → Right p q (begin lo r)) → Right p q x
   hull-right {p} {q} l f = right-mean (h .triangle) (cell (h .p) p-within) (cell (h .q) q-within) (cell (h .t) t-within)
     where

@@ -1,5 +1,5 @@
--- Laws of the search for the lowest missing cell: an edge of the hull's side ends in a higher row, so the climb ends, and it reads no row
--- but those below the top.
+-- The search up one side ends because each edge ends in a higher row. It reads only rows below the top, so rows that agree there give the
+-- same result.
 use Prim.Native.Nat.{ℕ, zero, suc, _+_, _-_, _*_, _/_, _≤_, _<_}
 use mathlib.Core.Path.{_≡_, refl, sym, ap, _∙_}
 use mathlib.Core.Bool.{Bool, true, false, cond}
@@ -11,18 +11,18 @@ use lib.Dec.{ltb}
 use borrow.Author.Tests.{le-leb, lt-leb, lt-ltb, le-ltb}
 use Rattle.base.proofs.BelowLaws.{below-suc, first-same, first-none, first-is}
 use Rattle.chart.specs.declared.Point.{Point}
-use Rattle.rows.specs.Search.{leans, furthest, crossing, gapRow, chain, lowestGap}
+use Rattle.rows.specs.Search.{asFarLeft, furthest, crossing, gapRow, chain, lowestGap}
 use Rattle.chart.specs.Limits.{side}
 use Rattle.lattice.proofs.WalkLaws.{point}
 
--- A number of 16 bits times a count of rows
+-- A 16-bit number times a count of rows
 pub product-small : (a d : ℕ) → a < 65536 → d < 256 → a * d ≤ 16711425
 product-small a d h k =
     let x : a ≤ 65535 = omega arith in
     let y : d ≤ side = omega arith in
     mul-le-mul x y
 
--- A mean of two numbers, rounded up, is below what bounds both
+-- A mean of two numbers below b, rounded up, is below b
 mean-small : (u v x y b : ℕ) → 0 < u + v → x < b → y < b → (u * x + v * y + (u + v - 1)) / (u + v) < b
 mean-small u v x y b pos h k = div-lt-iff-lt-mul pos .1 (omega (arith, mul-le-mul-left u h, mul-le-mul-left v k))
 
@@ -35,7 +35,7 @@ module _ (lo : ℕ → ℕ) (i : ℕ) where
   pub furthest-above : (j k n : ℕ) → i < j → i < k → i < furthest lo i j k n
   unfolding furthest
   furthest-above j k zero h l = h
-  furthest-above j k (suc n) h l = go (leans lo i j k) (λ m. λ (g : i < m). furthest-above m (suc k) n g (omega arith))
+  furthest-above j k (suc n) h l = go (asFarLeft lo i j k) (λ m. λ (g : i < m). furthest-above m (suc k) n g (omega arith))
     where
       go : (b : Bool) → ((m : ℕ) → i < m → i < furthest lo i m (suc k) n) → i < furthest lo i (cond b k j) (suc k) n
       go true rest = rest k l
@@ -44,28 +44,28 @@ module _ (lo : ℕ → ℕ) (i : ℕ) where
   pub furthest-below : (t j k n : ℕ) → j < t → k + n ≤ t → furthest lo i j k n < t
   unfolding furthest
   furthest-below t j k zero h l = h
-  furthest-below t j k (suc n) h l = go (leans lo i j k) (λ m. λ (g : m < t). furthest-below t m (suc k) n g (omega arith))
+  furthest-below t j k (suc n) h l = go (asFarLeft lo i j k) (λ m. λ (g : m < t). furthest-below t m (suc k) n g (omega arith))
     where
       go : (b : Bool) → ((m : ℕ) → m < t → furthest lo i m (suc k) n < t) → furthest lo i (cond b k j) (suc k) n < t
       go true rest = rest k (omega arith)
       go false rest = rest j h
 
-  -- Where no row is left, and where row k is the next
+  -- If no row is left, and if row k is the next
   pub furthest-end : (t j k : ℕ) → t ≤ k → furthest lo i j k (t - k) ≡ j
   unfolding furthest
   furthest-end t j k h = let e : t - k ≡ 0 = omega arith in rw e
 
   pub furthest-next :
-      (t j k : ℕ) (b : Bool) → k < t → leans lo i j k ≡ b → furthest lo i j k (t - k) ≡ furthest lo i (cond b k j) (k + 1) (t - (k + 1))
+      (t j k : ℕ) (b : Bool) → k < t → asFarLeft lo i j k ≡ b → furthest lo i j k (t - k) ≡ furthest lo i (cond b k j) (k + 1) (t - (k + 1))
   unfolding furthest
   furthest-next t j k b h l =
       let n = t - (k + 1) in
       let e : t - k ≡ suc n = omega arith in
       let d : suc k ≡ k + 1 = omega arith in
-      let s : furthest lo i j k (suc n) ≡ furthest lo i (cond (leans lo i j k) k j) (suc k) n = refl in
+      let s : furthest lo i j k (suc n) ≡ furthest lo i (cond (asFarLeft lo i j k) k j) (suc k) n = refl in
       cc
 
--- The upper end of the hull's edge that leaves row i
+-- The upper end of the hull edge that starts at row i
 abbrev pub edgeEnd : (ℕ → ℕ) → ℕ → ℕ → ℕ
 edgeEnd lo t i = furthest lo i (suc i) (suc (suc i)) (t - suc (suc i))
 
@@ -109,11 +109,11 @@ module _ (lo : ℕ → ℕ) (i j : ℕ) where
       (rw e (lt-ltb (crossing lo i j r) (lo r) f)))
       ∙ e
 
--- The first row of that edge that begins right of it, or its upper end
+-- The first row across that edge that begins right of it, or the edge's upper end
 abbrev pub edgeGap : (ℕ → ℕ) → ℕ → ℕ → ℕ
 edgeGap lo t i = gapRow lo i (edgeEnd lo t i)
 
--- One edge of the climb: there is no row above, a gap is found, or the climb goes on
+-- One step of the search: there is no row above, a gap is found, or the search goes on from the edge's upper end
 data Edge (lo : ℕ → ℕ) (t i : ℕ) : Type 0 where
   done : t ≤ suc i → Edge lo t i
   gap : suc i < t → edgeGap lo t i < edgeEnd lo t i → Edge lo t i
@@ -146,7 +146,7 @@ module _ (lo : ℕ → ℕ) (t i : ℕ) where
   unfolding chain
   chain-on n h g = simp (lt-leb t (suc i) h, le-ltb (edgeGap lo t i) (edgeEnd lo t i) g)
 
--- More edges than there are rows above change nothing
+-- Any bound on the number of edges gives the same result if it is at least the number of rows above
 pub chain-fuel : (lo : ℕ → ℕ) (t i m n : ℕ) → t ≤ i + m → t ≤ i + n → chain lo t i m ≡ chain lo t i n
 chain-fuel lo t i zero n h k = chain-done lo t i 0 (omega arith) ∙ sym (chain-done lo t i n (omega arith))
 chain-fuel lo t i (suc m) zero h k = chain-done lo t i (suc m) (omega arith) ∙ sym (chain-done lo t i 0 (omega arith))
@@ -160,7 +160,7 @@ chain-fuel lo t i (suc m) (suc n) h k =
           ∙ sym (chain-on lo t i n l g)
     ]
 
--- An edge from row i to row j, and the first row r right of it
+-- An edge from row i to row j, and the first row r that begins right of it
 module _ (lo : ℕ → ℕ) (t i j r : ℕ) (above : suc i < t) (end : j ≡ edgeEnd lo t i) (next : r ≡ gapRow lo i j) where
   at-edge : r ≡ edgeGap lo t i
   at-edge = next ∙ ap (gapRow lo i) end
@@ -180,7 +180,7 @@ module _ (lo : ℕ → ℕ) (t i j r : ℕ) (above : suc i < t) (end : j ≡ edg
       let g = chain-fuel lo t j (t - suc i) (t - j) (omega (arith, edge-above lo t i)) (omega arith) in
       cc
 
--- The climb ends in a row up to the top
+-- The search ends at row t or below
 pub chain-row-le : (lo : ℕ → ℕ) (t i n : ℕ) → chain lo t i n .row ≤ t
 chain-row-le lo t i zero = rw chain-zero (omega arith)
 chain-row-le lo t i (suc n) =
@@ -190,16 +190,16 @@ chain-row-le lo t i (suc n) =
       | on l g ↦ rw (chain-on lo t i n l g) (chain-row-le lo t (edgeEnd lo t i) n)
     ]
 
--- Rows that begin alike below the top give the same climb
+-- Rows with the same first columns below the top give the same result
 module _ (f g : ℕ → ℕ) (t : ℕ) (same : (r : ℕ) → r < t → f r ≡ g r) where
-  leans-same : (i j k : ℕ) → i < t → j < t → k < t → leans f i j k ≡ leans g i j k
-  unfolding leans
-  leans-same i j k a b c = rw (same i a, same j b, same k c)
+  as-far-left-same : (i j k : ℕ) → i < t → j < t → k < t → asFarLeft f i j k ≡ asFarLeft g i j k
+  unfolding asFarLeft
+  as-far-left-same i j k a b c = rw (same i a, same j b, same k c)
 
   furthest-same : (i j k n : ℕ) → i < t → j < t → k + n ≤ t → furthest f i j k n ≡ furthest g i j k n
   unfolding furthest
   furthest-same i j k zero a b c = refl
-  furthest-same i j k (suc n) a b c = rw (leans-same i j k a b (omega arith)) (go (leans g i j k) (λ m. λ (l : m < t). furthest-same i m (suc k) n a l (omega arith)))
+  furthest-same i j k (suc n) a b c = rw (as-far-left-same i j k a b (omega arith)) (go (asFarLeft g i j k) (λ m. λ (l : m < t). furthest-same i m (suc k) n a l (omega arith)))
     where
       go :
           (b : Bool) → ((m : ℕ) → m < t → furthest f i m (suc k) n ≡ furthest g i m (suc k) n) →
@@ -247,7 +247,7 @@ module _ (f g : ℕ → ℕ) (t : ℕ) (same : (r : ℕ) → r < t → f r ≡ g
             ∙ sym (chain-on g t i n l (omega arith))
       ]
 
--- The lower gap, from the climb p up the left side and the climb q up the mirror image m of the right side
+-- The lower gap, from the result p of the search up the left side and the result q of the search up the mirror image m of the right side
 module _ (lo hi m : ℕ → ℕ) (b t : ℕ) (p q : Point) (mirror : (r : ℕ) → r < t → m r ≡ side - hi r) (left : p ≡ chain lo t b (t - b)) (right : q ≡ chain m t b (t - b)) where
   right-row : q ≡ chain (λ r. side - hi r) t b (t - b)
   right-row = right ∙ chain-same m (λ r. side - hi r) t mirror b (t - b)
@@ -260,7 +260,7 @@ module _ (lo hi m : ℕ → ℕ) (b t : ℕ) (p q : Point) (mirror : (r : ℕ) �
   unfolding lowestGap
   lowestGap-right h = rw (← left, ← right-row, lt-leb (p .row) (q .row) h)
 
--- Rows that begin and end alike below the top have the same lower gap
+-- Rows with the same ends below the top have the same lower gap
 pub lowestGap-same :
     (lo hi lo′ hi′ : ℕ → ℕ) (b t : ℕ) → ((r : ℕ) → r < t → lo r ≡ lo′ r) → ((r : ℕ) → r < t → hi r ≡ hi′ r) → lowestGap lo hi b t ≡ lowestGap lo′ hi′ b t
 lowestGap-same lo hi lo′ hi′ b t begin end =

@@ -1,8 +1,6 @@
--- The climb up the left side stops at the first row with a hull cell left of it: all rows are right of the line from each row reached to
--- the row to
--- which the line from it leans furthest left, by the choice of that row for the rows above, and for the rows below because the row reached
--- is a
--- corner; so the whole hull is right of that line, and what of a row is right of it and left of the row's first cell is in the hull.
+-- The search up the left side finds the lowest row with a hull cell left of it, because the whole hull is right of each edge of that side.
+-- An edge goes from row i to the row j that is furthest left, seen from row i. The rows above i are right of this line by the choice of j,
+-- and the rows below because row i is a corner of the hull. A cell right of the line and left of its row's first cell is in the hull.
 use Prim.Native.Nat.{ℕ, zero, suc, _+_, _-_, _*_, _/_, _≤_, _<_}
 use mathlib.Core.Path.{_≡_, refl, ap}
 use mathlib.Core.Bool.{Bool, true, false, cond}
@@ -16,42 +14,42 @@ use Rattle.base.proofs.BelowLaws.{below-suc, first-le, first-found, first-befor
 use Rattle.chart.specs.declared.Point.{Point}
 use Rattle.lattice.specs.Hull.{InHull}
 use Rattle.rows.specs.parts.Rows.{inRows}
-use Rattle.rows.specs.Search.{leans, furthest, crossing, gapRow, chain}
+use Rattle.rows.specs.Search.{asFarLeft, furthest, crossing, gapRow, chain}
 use Rattle.rows.proofs.Line.{Right, right-trans, right-turn, right-start, right-end, right-cycle, right-of-start, right-of-end, right-in-triangle}
 use Rattle.rows.proofs.Rows.{Rows, begin, begin-marked, hull-right}
 
--- Of rows i + 1 to k - 1, row j is one to which the line from row i leans furthest left
+-- Of rows i + 1 to k - 1, row j is the furthest left, seen from row i
 pub record Furthest (lo : ℕ → ℕ) (i j k : ℕ) : Type 0 where
   pub above : i < j
   pub below : j < k
   pub right : (r : ℕ) → i < r → r < k → Right (begin lo i) (begin lo j) (begin lo r)
 
--- Seen from p, with q x rows above it and u y rows above it, u is at least as far left as q
-leans-right :
+-- Here q is x rows above p, and u is y rows above p. Seen from p, u is at least as far left as q
+as-far-left-right :
     (p q u : Point) (x y : ℕ) → q .row ≡ p .row + x → u .row ≡ p .row + y → u .col * x + p .col * y ≤ q .col * y + p .col * x → Right p u q
-leans-right p q u x y i j h =
+as-far-left-right p q u x y i j h =
     omega (arith, ap (λ n. n * p .col) i, ap (λ n. n * u .col) i, ap (λ n. n * p .col) j, ap (λ n. n * q .col) j)
 
-pub leans-true : (lo : ℕ → ℕ) (i j k : ℕ) → i ≤ j → i ≤ k → leans lo i j k ≡ true → Right (begin lo i) (begin lo k) (begin lo j)
-unfolding leans
-leans-true lo i j k l m e = leans-right (begin lo i) (begin lo j) (begin lo k) (j - i) (k - i) (omega arith) (omega arith) (leb-true _ _ e)
+pub as-far-left-true : (lo : ℕ → ℕ) (i j k : ℕ) → i ≤ j → i ≤ k → asFarLeft lo i j k ≡ true → Right (begin lo i) (begin lo k) (begin lo j)
+unfolding asFarLeft
+as-far-left-true lo i j k l m e = as-far-left-right (begin lo i) (begin lo j) (begin lo k) (j - i) (k - i) (omega arith) (omega arith) (leb-true _ _ e)
 
-leans-false : (lo : ℕ → ℕ) (i j k : ℕ) → i ≤ j → i ≤ k → leans lo i j k ≡ false → Right (begin lo i) (begin lo j) (begin lo k)
-unfolding leans
-leans-false lo i j k l m e =
-    leans-right (begin lo i) (begin lo k) (begin lo j) (k - i) (j - i) (omega arith) (omega arith) (le-of-lt (leb-false _ _ e))
+as-far-left-false : (lo : ℕ → ℕ) (i j k : ℕ) → i ≤ j → i ≤ k → asFarLeft lo i j k ≡ false → Right (begin lo i) (begin lo j) (begin lo k)
+unfolding asFarLeft
+as-far-left-false lo i j k l m e =
+    as-far-left-right (begin lo i) (begin lo k) (begin lo j) (k - i) (j - i) (omega arith) (omega arith) (le-of-lt (leb-false _ _ e))
 
-furthest-step : (lo : ℕ → ℕ) (i j k : ℕ) → Furthest lo i j k → Furthest lo i (cond (leans lo i j k) k j) (suc k)
-furthest-step lo i j k f = go (leans lo i j k) refl
+furthest-step : (lo : ℕ → ℕ) (i j k : ℕ) → Furthest lo i j k → Furthest lo i (cond (asFarLeft lo i j k) k j) (suc k)
+furthest-step lo i j k f = go (asFarLeft lo i j k) refl
   where
-    go : (b : Bool) → leans lo i j k ≡ b → Furthest lo i (cond b k j) (suc k)
+    go : (b : Bool) → asFarLeft lo i j k ≡ b → Furthest lo i (cond b k j) (suc k)
     go true e =
         record {
           above = omega arith;
           below = omega arith;
           right = λ r l m. elim (below-suc r k m) [
             | inl d ↦ rw d right-end
-            | inr m′ ↦ right-trans (f .above) (omega arith) (omega arith) (leans-true lo i j k (omega arith) (omega arith) e) (f .right r l m′)
+            | inr m′ ↦ right-trans (f .above) (omega arith) (omega arith) (as-far-left-true lo i j k (omega arith) (omega arith) e) (f .right r l m′)
           ];
         }
     go false e =
@@ -59,7 +57,7 @@ furthest-step lo i j k f = go (leans lo i j k) refl
           above = f .above;
           below = omega arith;
           right = λ r l m. elim (below-suc r k m) [
-            | inl d ↦ rw d (leans-false lo i j k (omega arith) (omega arith) e)
+            | inl d ↦ rw d (as-far-left-false lo i j k (omega arith) (omega arith) e)
             | inr m′ ↦ f .right r l m′
           ];
         }
@@ -69,7 +67,7 @@ unfolding furthest
 furthest-more lo i j k zero t e f =
     let e′ : k ≡ t = omega arith in
     rw e′ at f
-furthest-more lo i j k (suc n) t e f = furthest-more lo i (cond (leans lo i j k) k j) (suc k) n t (omega arith) (furthest-step lo i j k f)
+furthest-more lo i j k (suc n) t e f = furthest-more lo i (cond (asFarLeft lo i j k) k j) (suc k) n t (omega arith) (furthest-step lo i j k f)
 
 pub furthest-start : (lo : ℕ → ℕ) (i : ℕ) → Furthest lo i (suc i) (suc (suc i))
 furthest-start lo i = record { above = omega arith; below = omega arith; right = λ r l m. let e : r ≡ suc i = omega arith in rw e right-end }
@@ -77,7 +75,7 @@ furthest-start lo i = record { above = omega arith; below = omega arith; right =
 pub furthest-furthest : (lo : ℕ → ℕ) (i t : ℕ) → suc i < t → Furthest lo i (furthest lo i (suc i) (suc (suc i)) (t - suc (suc i))) t
 furthest-furthest lo i t h = furthest-more lo i (suc i) (suc (suc i)) (t - suc (suc i)) t (omega arith) (furthest-start lo i)
 
--- x is y rows above p and z rows below q
+-- Here x is y rows above p and z rows below q
 crossing-offsets :
     (p q x : Point) (y z : ℕ) →
     x .row ≡ p .row + y →
@@ -97,7 +95,7 @@ crossing-offsets p q x y z i j l =
           omega arith,
     )
 
--- The cells of row r right of the line from row i to row j are those from the crossing on
+-- A cell of row r is right of the line from row i to row j exactly if its column is at least the crossing
 crossing-le : (lo : ℕ → ℕ) (i j r c : ℕ) → i < j → i ≤ r → r ≤ j → (crossing lo i j r ≤ c) ↔ Right (begin lo i) (begin lo j) (record { col = c; row = r })
 unfolding crossing
 crossing-le lo i j r c l m n =
@@ -108,7 +106,7 @@ crossing-le lo i j r c l m n =
 abbrev Corner : (ℕ → ℕ) → ℕ → ℕ → ℕ → Type 0
 Corner lo b t i = (r k : ℕ) → b ≤ r → r < i → i < k → k < t → Right (begin lo r) (begin lo i) (begin lo k)
 
--- All rows are right of the line from row i to row j
+-- Every row is right of the line from row i to row j
 abbrev Edge : (ℕ → ℕ) → ℕ → ℕ → ℕ → ℕ → Type 0
 Edge lo b t i j = (r : ℕ) → b ≤ r → r < t → Right (begin lo i) (begin lo j) (begin lo r)
 
@@ -125,7 +123,7 @@ furthest-edge lo b t i j c f r h l =
 edge-corner : (lo : ℕ → ℕ) (b t i j : ℕ) → i < j → Edge lo b t i j → Corner lo b t j
 edge-corner lo b t i j l e r k h m n o = right-turn {p = begin lo i} l (omega arith) (omega arith) (e r h (omega arith)) (e k (omega arith) o)
 
--- The first row r between i and j that begins right of the line, or j
+-- r is the first row after i and before j that begins right of the line, or j if there is none
 record GapRow (lo : ℕ → ℕ) (i j r : ℕ) : Type 0 where
   above : i < r
   below : r ≤ j
@@ -146,9 +144,8 @@ gapRow-gap lo i j l =
           rw e (ltb-false _ _ (first-before f (j - suc i) (s - suc i) (omega arith)));
     }
 
--- What the climb from row i finds: the first cell, in the hull and left of its row, of the first row that has any; and a cell of row t
--- where no
--- row has
+-- What the search from row i finds: in the first row that has hull cells left of it, the leftmost of these. If there is no such row, a cell
+-- of row t
 pub record Left (lo hi : ℕ → ℕ) (b t i : ℕ) (g : Point) : Type 0 where
   pub clear : (y : Point) → InHull (inRows lo hi b t) y → i ≤ y .row → y .row < g .row → lo (y .row) ≤ y .col
   pub left : g .row < t → g .col < lo (g .row)
@@ -156,15 +153,15 @@ pub record Left (lo hi : ℕ → ℕ) (b t i : ℕ) (g : Point) : Type 0 where
   pub furthest : g .row < t → (y : Point) → InHull (inRows lo hi b t) y → y .row ≡ g .row → g .col ≤ y .col
 
 module _ (lo hi : ℕ → ℕ) (b t : ℕ) (rows : Rows lo hi b t) where
-  -- No cell of the hull is left of row i
+  -- No hull cell is left of row i
   abbrev Clear : ℕ → Type 0
   Clear i = (y : Point) → InHull (inRows lo hi b t) y → y .row ≡ i → lo i ≤ y .col
 
-  -- No cell of the hull is before the crossing in its row
+  -- No hull cell is left of the crossing in its row
   edge-crossing : (i j : ℕ) → i < j → Edge lo b t i j → (y : Point) → InHull (inRows lo hi b t) y → i ≤ y .row → y .row ≤ j → crossing lo i j (y .row) ≤ y .col
   edge-crossing i j l e y h m n = crossing-le lo i j (y .row) (y .col) l m n .1 (hull-right rows h (omega arith) e)
 
-  -- What is from the crossing on, and left of its row, is in the hull
+  -- A cell at or right of the crossing and left of its row is in the hull
   crossing-reach : (i j r : ℕ) → i < r → r < j → b ≤ i → j < t → (c : ℕ) → crossing lo i j r ≤ c → c < lo r → InHull (inRows lo hi b t) (record { col = c; row = r })
   crossing-reach i j r l m h k c n o =
       record {
@@ -180,7 +177,7 @@ module _ (lo hi : ℕ → ℕ) (b t : ℕ) (rows : Rows lo hi b t) where
   bottom-corner : Corner lo b t b
   bottom-corner r k h l m n = absurd (omega arith)
 
-  -- The bottom row is the start of an edge, or the only row
+  -- An edge starts at the bottom row, or it is the only row
   bottom-clear : Clear b
   bottom-clear y h e =
       elim (decLt (suc b) t) [
@@ -193,7 +190,7 @@ module _ (lo hi : ℕ → ℕ) (b t : ℕ) (rows : Rows lo hi b t) where
             right-of-start {q = record { col = lo b; row = suc b }} (omega arith) e (hull-right rows h (omega arith) right)
       ]
 
-  -- The climb passes the edge from row i to row j, or stops at row r of it
+  -- The search stops at row r of the edge from row i to row j, or goes on from row j
   chain-edge : (i j r : ℕ) (g : Point) → b ≤ i → j < t → Edge lo b t i j → GapRow lo i j r → Clear i →
       (Corner lo b t j → Clear j → Left lo hi b t j g) →
       Left lo hi b t i (cond (ltb r j) (record { col = crossing lo i j r; row = r }) g)

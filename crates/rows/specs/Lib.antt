@@ -1,3 +1,3 @@
--- The lowest missing cell from the ends of the rows, and what the code keeps of them.
+-- The search for the lowest missing cell, and what the arrays of the code hold.
 pub mod Search
 pub mod parts

@@ -1,4 +1,4 @@
-// The lowest missing cell, from the ends of the rows.
+// Finds the lowest missing cell from the ends of the rows.
 use chart::Point;
 use chart::SIDE;
 ghost use Prim.Native.Nat.{ℕ, suc, _+_, _-_, _*_, _%_, _<_, _≤_};
@@ -11,25 +11,25 @@ ghost use Rattle.rows.specs.Search.{furthest as furthestOf, crossing as 
 ghost use Rattle.lattice.specs.Enclosed.{upAlong, downAlong};
 ghost use Rattle.rows.specs.parts.Rows.{rows, Marked, RowEnds, Tangents};
 
-// Arrays have a number for each row of corners.
+// An array has one number for each row of corners.
 const ROWS: usize = 256;
 
 // Corners are numbered row by row, this many to a row.
 const WIDTH: u16 = 256;
 
-// What a left and a down add to the number of a corner, modulo 65,536.
+// What a left adds to the number of a corner, and what a down adds, modulo 65,536.
 const LEFT: u16 = 65535;
 
 const DOWN: u16 = 65535 - WIDTH + 1;
 
-// A number of 16 bits as an index.
+// A 16-bit number as an index.
 fn wide(x: u16) -> usize
     ensures { λ r. ⌜ (r ≡ x) × (r < 65536) ⌝ }
 {
     x as usize
 }
 
-// The ends of the rows: row `r` of an outline goes from column `lo[r]` up to but not including column `hi[r]`.
+// The ends of the rows. Row `r` of an outline goes from column `lo[r]` up to but not including column `hi[r]`.
 pub struct Ends {
     pub lo: [u16; ROWS],
     pub hi: [u16; ROWS],
@@ -47,7 +47,7 @@ fn stride(letter: u8) -> u16
     }
 }
 
-// An up is the left end of a row.
+// Stores the column of an up, which is the left end of a row.
 fn mark_up(lo: &mut [u16; ROWS], number: u16, letter: u8)
     requires { ⌜ length (now lo) ≡ 256 ⌝ }
     ensures { λ _. ⌜ Marked (upAlong (cornerNumbered number) letter) (number % 256) (now (lo .entry)) (now (lo .exit)) ⌝ }
@@ -58,7 +58,7 @@ fn mark_up(lo: &mut [u16; ROWS], number: u16, letter: u8)
     }
 }
 
-// A down is the right end of a row.
+// Stores the column of a down, which is the right end of a row.
 fn mark_down(hi: &mut [u16; ROWS], number: u16, letter: u8)
     requires { ⌜ length (now hi) ≡ 256 ⌝ }
     ensures { λ _. ⌜ Marked (downAlong (cornerNumbered number) letter) (number % 256) (now (hi .entry)) (now (hi .exit)) ⌝ }
@@ -69,7 +69,7 @@ fn mark_down(hi: &mut [u16; ROWS], number: u16, letter: u8)
     }
 }
 
-// The ends of the rows of an outline, in one pass over its letters. The next number is computed before the branches of the marks.
+// Finds the ends of the rows of an outline in one pass over its letters. The next number is computed before the branches, which is faster.
 pub fn row_ends(s: Point, w: &[u8]) -> Ends
     ensures { λ r. ⌜ RowEnds (outline s (now (w .entry))) (r .lo) (r .hi) ⌝ }
 {
@@ -96,19 +96,17 @@ fn begins(lo: &[u16; ROWS], r: usize) -> usize
     wide(lo[r])
 }
 
-// Row `i` begins at column `a`. Seen from it, the row `far` rows above, which begins at `c`, is at least as far left as the row `near` rows
-// above,
-// which begins at `b`.
-fn leans(a: usize, b: usize, c: usize, near: usize, far: usize) -> bool
+// A row begins at column `a`, the row `near` rows above it at `b`, and the row `far` rows above it at `c`. Whether the third, seen from the
+// first, is at least as far left as the second.
+fn as_far_left(a: usize, b: usize, c: usize, near: usize, far: usize) -> bool
     requires { ⌜ (a < 65536) × (b < 65536) × (c < 65536) × (near ≤ far) × (far < 256) ⌝ }
     ensures { λ r. ⌜ r ≡ leb (c * near + a * (far - near)) (b * far) ⌝ }
 {
     c * near + a * (far - near) <= b * far
 }
 
-// Of the rows from `i + 1` to `t - 1`, the one to which the line from row `i` leans furthest left, the last among equals. `next` has it for
-// the rows
-// above row `i`, and `above` for row `i + 1`.
+// Of rows `i + 1` to `t - 1`, the one that is furthest left, seen from row `i`. Among equals it is the highest. `next` has the same for the
+// rows above row `i`, and `above` is its entry for row `i + 1`.
 fn tangent(lo: &[u16; ROWS], next: &[u16; ROWS], i: usize, t: usize, above: usize) -> usize
     requires { ⌜ (i + 1 < t) × (t ≤ side) × (above ≡ rows (now next) (suc i)) × Tangents (rows (now lo)) (rows (now next)) (suc i) t ⌝ }
     ensures { λ r. ⌜ (r ≡ furthestOf (rows (now (lo .entry))) i (suc i) (suc (suc i)) (t - suc (suc i))) × (i < r) × (r < t) ⌝ }
@@ -119,7 +117,7 @@ fn tangent(lo: &[u16; ROWS], next: &[u16; ROWS], i: usize, t: usize, above: usiz
     let mut k = above;
     while j + 1 < t {
         let c = begins(lo, k);
-        if !leans(a, b, c, j - i, k - i) {
+        if !as_far_left(a, b, c, j - i, k - i) {
             return j;
         }
         j = k;
@@ -129,8 +127,8 @@ fn tangent(lo: &[u16; ROWS], next: &[u16; ROWS], i: usize, t: usize, above: usiz
     j
 }
 
-// The same for every row from `b` on, from the top down (monotone chain). The row stored last is kept: a load of it would wait for the
-// store.
+// The same for every row from `b` up, computed from the top row down (monotone chain). The last row stored is kept in a variable, because
+// loading it again would have to wait for the store.
 pub fn tangents(lo: &[u16; ROWS], b: usize, t: usize) -> [u16; ROWS]
     requires { ⌜ (b ≤ t) × (t ≤ side) ⌝ }
     ensures { λ r. ⌜ Tangents (rows (now (lo .entry))) (rows r) b t ⌝ }
@@ -157,7 +155,7 @@ fn crossing(lo: &[u16; ROWS], i: usize, j: usize, r: usize) -> usize
     ((j - r) * a + (r - i) * b + (height - 1)) / height
 }
 
-// Whether row `r` begins right of that column, without a division.
+// Whether row `r` begins right of that column. It needs no division.
 fn is_gap(lo: &[u16; ROWS], i: usize, j: usize, r: usize) -> bool
     requires { ⌜ (i < r) × (r < j) × (j < 256) ⌝ }
     ensures { λ g. ⌜ g ≡ ltb (crossingOf (rows (now (lo .entry))) i j r) (rows (now (lo .entry)) r) ⌝ }
@@ -169,7 +167,7 @@ fn is_gap(lo: &[u16; ROWS], i: usize, j: usize, r: usize) -> bool
     (j - r) * a + (r - i) * b + (height - 1) < c * height
 }
 
-// The first row after `i` and before `j` that begins right of that column, or `j` where there is none.
+// The first row after `i` and before `j` that begins right of that column, or `j` if there is none.
 fn gap_row(lo: &[u16; ROWS], i: usize, j: usize) -> usize
     requires { ⌜ (i < j) × (j < 256) ⌝ }
     ensures { λ r. ⌜ (r ≡ gapRow (rows (now (lo .entry))) i j) × (i < r) × (r ≤ j) ⌝ }
@@ -184,8 +182,8 @@ fn gap_row(lo: &[u16; ROWS], i: usize, j: usize) -> usize
     j
 }
 
-// Up the left side of the hull from row `b`: the first column of the first row that begins right of that side, or a cell of row `t` where
-// there is none.
+// Goes up the left side of the hull from row `b`. In the first row that begins right of the side, the first column inside the hull. If
+// there is no such row, a cell of row `t`.
 fn chain(lo: &[u16; ROWS], t: usize, b: usize) -> Point
     requires { ⌜ (b ≤ t) × (t ≤ side) ⌝ }
     ensures { λ r. ⌜ (r ≡ chainOf (rows (now (lo .entry))) t b (t - b)) × (r .row ≤ t) ⌝ }
@@ -209,14 +207,14 @@ fn chain(lo: &[u16; ROWS], t: usize, b: usize) -> Point
     }
 }
 
-// What is left of the chart's columns from column `x` on.
+// The number of the chart's columns from column `x` on.
 fn remaining(x: u16) -> u16
     ensures { λ r. ⌜ r ≡ side - x ⌝ }
 {
     if x <= SIDE { SIDE - x } else { 0 }
 }
 
-// The rows as a mirror shows them: the right ends become left ends.
+// The left ends of the mirror image, from the right ends of the rows.
 pub fn mirrored(hi: &[u16; ROWS]) -> [u16; ROWS]
     ensures { λ r. ⌜ ((k : ℕ) → k < 256 → rows r k ≡ side - rows (now (hi .entry)) k) ⌝ }
 {
@@ -229,7 +227,7 @@ pub fn mirrored(hi: &[u16; ROWS]) -> [u16; ROWS]
     left
 }
 
-// The lower of the gaps at the left side and at the right side of rows `b` to `t - 1`; the left one in the same row.
+// The lower of the gaps on the left and on the right side of rows `b` to `t - 1`. In the same row, the left one.
 fn lowest_gap(ends: Ends, b: usize, t: usize) -> Point
     requires { ⌜ (b ≤ t) × (t ≤ side) ⌝ }
     ensures { λ r. ⌜ r ≡ lowestGap (rows (ends .lo)) (rows (ends .hi)) b t ⌝ }
@@ -249,8 +247,8 @@ fn lowest_gap(ends: Ends, b: usize, t: usize) -> Point
     }
 }
 
-// The lowest missing cell, leftmost in its row, of an outline between the corner rows `bottom` and `top`; the start where these are no rows
-// of the chart.
+// The lowest missing cell, leftmost in its row, of an outline between corner rows `bottom` and `top`. If these are not rows of the chart in
+// order, the start.
 pub fn missing_cell(s: Point, w: &[u8], bottom: u16, top: u16) -> Point
     ensures { λ r. ⌜ r ≡ foundCell (outline s (now (w .entry))) bottom top ⌝ }
 {

@@ -24,7 +24,7 @@ use Rattle.witness.specs.Witnessed
 
 -- Opens the definitions for what follows
 opened : Bool
-unfolding Below.first Below.further Chart.step Enclosed.upAlong Enclosed.downAlong Search.leans Search.furthest Search.crossing HullRows.leftFrom HullRows.hullLeft HullRows.hullRight Sides.alongRow Sides.leastOver Sides.greatestOver Sides.firstSide Sides.lastSide Sides.lowestCorner Sides.highestCorner Three.edgeRow Three.lowerEnd Three.upperEnd Three.firstIn Three.lastIn Three.fromLeft Three.fromRight Three.fromRow Three.threeFor Gap.openColumn Gap.hasGap Gap.lowestRow Gap.lowestOpen Gap.secondSide Gap.isMissing Gap.lowestMissing Gap.witnessFor Gap.witnessOf
+unfolding Below.first Below.further Chart.step Enclosed.upAlong Enclosed.downAlong Search.asFarLeft Search.furthest Search.crossing HullRows.leftFrom HullRows.hullLeft HullRows.hullRight Sides.alongRow Sides.leastOver Sides.greatestOver Sides.firstSide Sides.lastSide Sides.lowestCorner Sides.highestCorner Three.edgeRow Three.lowerEnd Three.upperEnd Three.firstIn Three.lastIn Three.fromLeft Three.fromRight Three.fromRow Three.threeFor Gap.openColumn Gap.hasGap Gap.lowestRow Gap.lowestOpen Gap.secondSide Gap.isMissing Gap.lowestMissing Gap.witnessFor Gap.witnessOf
 opened = true
 
 called : Bool

@@ -47,7 +47,7 @@ module _ (o : Outline) (h : Simple o) (lo en hi : List ℕ) (b t : ℕ) (p : Pas
         rows =
             record {
               below = sent .rows .below;
-              full = λ r l m. omega (arith, sent .rows .full r l m, p .first r (inner r m), p .last r (inner r m));
+              nonempty = λ r l m. omega (arith, sent .rows .nonempty r l m, p .first r (inner r m), p .last r (inner r m));
               fits = λ r l m. omega (arith, sent .rows .fits r l m, p .last r (inner r m));
             };
         inside = λ x e.

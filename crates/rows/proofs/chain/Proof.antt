@@ -1,4 +1,4 @@
--- The loop's invariant: the climb from row `i` is the climb from row `b`; each edge ends in a higher row.
+-- Loop invariant: the search from row `i` finds the same cell as the search from row `b`. It ends because each edge ends in a higher row.
 use Prim.Native.Nat.{_-_, _≤_, _<_}
 use mathlib.Core.Path.{_≡_, refl, sym, _∙_}
 use native.Mathlib.Omega.{arith}
@@ -33,7 +33,7 @@ array-read-wide c = omega arith
 wide-requires : tie.Need-wide-requires Inv-loop μ-loop
 wide-requires c κs = tt
 
--- The row read is the edge's upper end
+-- The row read from the table is the upper end of the edge
 record End (c : tie.After-wide Inv-loop μ-loop) : Type 0 where
   end : c .wide .result ≡ edgeEnd (rows (now (c .before .before .before .before .args .lo))) (c .before .before .before .before .args .t) (c .before .before .loop .i)
   above : c .before .before .loop .i < c .wide .result

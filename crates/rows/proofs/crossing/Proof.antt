@@ -1,4 +1,4 @@
--- Each product is of a number of 16 bits and a count of rows, and the mean of two such numbers is one.
+-- No operation overflows, because each product is a 16-bit number times a count of rows. The mean of two 16-bit numbers has 16 bits too.
 use Prim.Native.Nat.{_-_, _*_, _≤_}
 use mathlib.Core.Path.{refl}
 use denote.Ref.{now}
@@ -22,7 +22,7 @@ sub-height c = search needs
 sub-result : tie.Need-sub-result
 sub-result c = search needs
 
--- The two products
+-- Bounds of the two products
 record Products (c : tie.After-begins2) : Type 0 where
   lower : c .before .begins .result * (c .before .before .args .j - c .before .before .args .r) ≤ 16711425
   upper : c .begins2 .result * (c .before .before .args .r - c .before .before .args .i) ≤ 16711425

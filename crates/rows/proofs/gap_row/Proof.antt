@@ -1,4 +1,4 @@
--- The loop's invariant: no row passed begins right of the line.
+-- Loop invariant: none of the rows visited so far begins right of the line.
 use Prim.Native.Nat.{_-_, _≤_, _<_}
 use mathlib.Core.Path.{_≡_, sym, _∙_}
 use borrow.Author.Tests.{ltb-true, ltb-false}

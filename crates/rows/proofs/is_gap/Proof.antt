@@ -1,4 +1,4 @@
--- A quotient is below a number exactly if the dividend is below that number times the divisor.
+-- A quotient is below a number exactly if the dividend is below that number times the divisor, so no division is needed.
 use Prim.Native.Nat.{ℕ, _+_, _-_, _*_, _/_, _≤_, _<_}
 use native.Mathlib.Nat.{div-lt-iff-lt-mul}
 use native.Mathlib.Decide.{decLt}
@@ -40,7 +40,7 @@ sub-height c = search needs
 sub-result : tie.Need-sub-result
 sub-result c = search needs
 
--- The three products
+-- Bounds of the three products
 record Products (c : tie.After-begins3) : Type 0 where
   lower : c .before .before .begins .result * (c .before .before .before .args .j - c .before .before .before .args .r) ≤ 16711425
   upper : c .before .begins2 .result * (c .before .before .before .args .r - c .before .before .before .args .i) ≤ 16711425

@@ -1,4 +1,4 @@
--- The climb up the mirror image finds the gap at the right side.
+-- The right side is the left side of the mirror image, so the same search finds the gaps on both sides.
 use native.Mathlib.Omega.{arith}
 use Rattle.rows.specs.parts.Rows.{rows}
 use Rattle.rows.proofs.SearchLaws.{lowestGap-left, lowestGap-right}

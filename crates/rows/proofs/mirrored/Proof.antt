@@ -1,4 +1,4 @@
--- The loop's invariant: every row passed has its mirror image.
+-- Loop invariant: the entries below `k` are the mirror images of the right ends.
 use Prim.Native.Nat.{ℕ, _-_, _≤_, _<_}
 use mathlib.Core.Path.{_≡_, refl, _∙_}
 use mathlib.Core.Logic.{inl, inr}

@@ -1,4 +1,4 @@
--- The rows that are searched end where the definition keeps their columns.
+-- The arrays hold the columns that the definition keeps for each row, so both search the same rows.
 use mathlib.Core.Path.{_∙_}
 use denote.Ref.{now}
 use native.Mathlib.Omega.{arith}

@@ -1,4 +1,4 @@
--- The loop's invariant: the columns kept so far and the letters that are left give the ends of the rows.
+-- Loop invariant: the columns kept so far, updated by the remaining letters, are the ends of the rows.
 use Prim.Native.Nat.{_-_}
 use native.Mathlib.Omega.{arith}
 use denote.Ref.{now}

@@ -1,4 +1,4 @@
--- Each arm is the definition's; the last is that of the letters from 3 on.
+-- Each arm of the match is one clause of the definition. The last arm is the clause for 3 and above.
 use Prim.Native.Nat.{_%_}
 use native.Mathlib.Omega.{arith}
 use mathlib.Core.Path.{refl}

@@ -1,13 +1,13 @@
--- The loop's invariant: of the rows up to row `j`, it is furthest left from row `i`, `b` is its column, and `k` is what `next` tells of it.
+-- Loop invariant: seen from row `i`, row `j` is the furthest left of the rows up to it. `b` is its column, and `k` is its entry in `next`.
 use Prim.Native.Nat.{suc, _+_, _-_, _<_}
 use mathlib.Core.Path.{_≡_, sym, _∙_}
 use native.Mathlib.Omega.{arith}
 use borrow.Author.Tests.{not-true, not-false}
 use denote.Ref.{now}
 use Rattle.rows.specs.parts.Rows.{rows}
-use Rattle.rows.specs.Search.{leans}
+use Rattle.rows.specs.Search.{asFarLeft}
 use Rattle.rows.proofs.Side.{Furthest, furthest-start, furthest-furthest}
-use Rattle.rows.proofs.TangentLaws.{leans-columns, furthest-on, furthest-off, furthest-is}
+use Rattle.rows.proofs.TangentLaws.{as-far-left-columns, furthest-on, furthest-off, furthest-is}
 use Rattle.rows.proofs.tangent.Statement.{statement}
 use Rattle.rows.proofs.tangent.Tie as tie
 
@@ -35,79 +35,79 @@ loop-holds c =
 add-loop : tie.Need-add-loop Inv-loop μ-loop
 add-loop c = omega arith
 
--- The row in hand is furthest left from row `j`
-hand-furthest :
+-- Row `k` is the furthest left, seen from row `j`
+next-furthest :
     (c : tie.In-loop Inv-loop μ-loop) →
     let start = c .before .before .before .before .args in
     let iteration = c .before .loop in
     Furthest (rows (now (start .lo))) (iteration .j) (iteration .k) (start .t)
-hand-furthest c =
+next-furthest c =
     let start = c .before .before .before .before in
     let iteration = c .before .loop in
     let e = iteration .inv .4 ∙ start .pre .3 .furthest-left (iteration .j) (omega arith) (omega arith) in
     rw e (furthest-furthest (rows (now (start .args .lo))) (iteration .j) (start .args .t) (omega arith))
 
 begins-requires-3 : tie.Need-begins-requires-3 Inv-loop μ-loop
-begins-requires-3 c κs = omega (arith, hand-furthest c)
+begins-requires-3 c κs = omega (arith, next-furthest c)
 
-sub-leans : tie.Need-sub-leans Inv-loop μ-loop
-sub-leans c = omega arith
+sub-as-far-left : tie.Need-sub-as-far-left Inv-loop μ-loop
+sub-as-far-left c = omega arith
 
-sub-leans-2 : tie.Need-sub-leans-2 Inv-loop μ-loop
-sub-leans-2 c = omega (arith, hand-furthest (c .before))
+sub-as-far-left-2 : tie.Need-sub-as-far-left-2 Inv-loop μ-loop
+sub-as-far-left-2 c = omega (arith, next-furthest (c .before))
 
-leans-requires : tie.Need-leans-requires Inv-loop μ-loop
-leans-requires c κs = omega (arith, hand-furthest (c .before))
+as-far-left-requires : tie.Need-as-far-left-requires Inv-loop μ-loop
+as-far-left-requires c κs = omega (arith, next-furthest (c .before))
 
--- The test of the columns is that of the rows
-test-leans :
-    (c : tie.After-leans Inv-loop μ-loop) →
+-- The test in the code is the test of the definition
+test-as-far-left :
+    (c : tie.After-as-far-left Inv-loop μ-loop) →
     let start = c .before .before .before .before .before .before .args in
     let iteration = c .before .before .before .loop in
-    c .leans .result ≡ leans (rows (now (start .lo))) (start .i) (iteration .j) (iteration .k)
-test-leans c =
+    c .as-far-left .result ≡ asFarLeft (rows (now (start .lo))) (start .i) (iteration .j) (iteration .k)
+test-as-far-left c =
     let start = c .before .before .before .before .before .before .args in
     let iteration = c .before .before .before .loop in
     let a = c .before .before .before .before .before .begins .ensures in
     let d = c .before .begins3 .ensures in
-    let hand = hand-furthest (c .before .before) in
-    c .leans .ensures
-    ∙ rw (a .0, iteration .inv .2, d .0) (leans-columns (rows (now (start .lo))) (start .i) (iteration .j) (iteration .k) (omega arith) (omega arith))
+    let next = next-furthest (c .before .before) in
+    c .as-far-left .ensures
+    ∙ rw (a .0, iteration .inv .2, d .0) (as-far-left-columns (rows (now (start .lo))) (start .i) (iteration .j) (iteration .k) (omega arith) (omega arith))
 
 returns : tie.Need-returns Inv-loop μ-loop
 returns c =
     let args = c .before .before .before .before .before .before .before .args in
     let iteration = c .before .before .before .before .loop in
     let lo = rows (now (args .lo)) in
-    let hand = hand-furthest (c .before .before .before) in
-    let off = furthest-off lo (args .t) (args .i) (iteration .j) (iteration .k) (iteration .inv .5) hand (sym (test-leans (c .before)) ∙ not-true _ (c .if1 .taken)) in
+    let next = next-furthest (c .before .before .before) in
+    let off = furthest-off lo (args .t) (args .i) (iteration .j) (iteration .k) (iteration .inv .5) next (sym (test-as-far-left (c .before)) ∙ not-true _ (c .if1 .taken)) in
     (furthest-is lo (args .t) (args .i) (iteration .j) (iteration .inv .5) (omega arith) off, omega arith, omega arith)
 
 mul-wide : tie.Need-mul-wide Inv-loop μ-loop
-mul-wide c = omega (arith, hand-furthest (c .before .before .before))
+mul-wide c = omega (arith, next-furthest (c .before .before .before))
 
 element-copy-out-wide : tie.Need-element-copy-out-wide Inv-loop μ-loop
-element-copy-out-wide c = omega (arith, hand-furthest (c .before .before .before))
+element-copy-out-wide c = omega (arith, next-furthest (c .before .before .before))
 
 wide-requires : tie.Need-wide-requires Inv-loop μ-loop
 wide-requires c κs = tt
 
 loop-less : tie.Need-loop-less Inv-loop μ-loop
-loop-less c = omega (arith, hand-furthest (c .before .before .before .before .before))
+loop-less c = omega (arith, next-furthest (c .before .before .before .before .before))
 
 loop-again : tie.Need-loop-again Inv-loop μ-loop
 loop-again c =
     let args = c .before .before .before .before .before .before .before .before .before .args in
     let iteration = c .before .before .before .before .before .before .loop in
     let column = c .before .before .before .before .begins3 .ensures in
-    let hand = hand-furthest (c .before .before .before .before .before) in
-    let test = sym (test-leans (c .before .before .before)) ∙ not-false _ (c .before .before .if1 .left) in (
+    let next = next-furthest (c .before .before .before .before .before) in
+    let test = sym (test-as-far-left (c .before .before .before)) ∙ not-false _ (c .before .before .if1 .left) in (
       omega arith,
       omega arith,
       column .0,
       column .1,
       c .wide .ensures .0,
-      furthest-on (rows (now (args .lo))) (args .t) (args .i) (iteration .j) (iteration .k) (iteration .inv .5) hand test,
+      furthest-on (rows (now (args .lo))) (args .t) (args .i) (iteration .j) (iteration .k) (iteration .inv .5) next test,
     )
 
 returns-2 : tie.Need-returns-2 Inv-loop μ-loop
@@ -128,9 +128,9 @@ tangent-spec =
     loop-holds
     add-loop
     begins-requires-3
-    sub-leans
-    sub-leans-2
-    leans-requires
+    sub-as-far-left
+    sub-as-far-left-2
+    as-far-left-requires
     returns
     mul-wide
     element-copy-out-wide

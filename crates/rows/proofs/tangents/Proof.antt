@@ -1,4 +1,4 @@
--- The loop's invariant: the table is made for the rows from row `i - 1` on, and `above` is what it tells of row `i - 1`.
+-- Loop invariant: `next` is complete for all rows from row `i - 1` up, and `above` is its entry at row `i - 1`.
 use Prim.Native.Nat.{ℕ, suc, _-_, _≤_}
 use mathlib.Core.Path.{_≡_, refl, sym, _∙_}
 use native.Mathlib.Decide.{decLt}

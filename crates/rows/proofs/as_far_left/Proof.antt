@@ -1,13 +1,13 @@
--- Each product is of a number of 16 bits and a count of rows, so no sum of two wraps.
+-- No sum overflows, because each product is a 16-bit number times a count of rows.
 use Prim.Native.Nat.{_-_, _*_, _≤_}
 use mathlib.Core.Path.{refl}
 use borrow.Author.Needs.{needs}
 use native.Mathlib.Omega.{arith}
 use Rattle.rows.proofs.SearchLaws.{product-small}
-use Rattle.rows.proofs.leans.Statement.{statement}
-use Rattle.rows.proofs.leans.Tie as tie
+use Rattle.rows.proofs.as_far_left.Statement.{statement}
+use Rattle.rows.proofs.as_far_left.Tie as tie
 
--- The three products
+-- Bounds of the three products
 record Products (c : tie.Start) : Type 0 where
   c-near : c .args .c * c .args .near ≤ 16711425
   a-between : c .args .a * (c .args .far - c .args .near) ≤ 16711425
@@ -39,8 +39,8 @@ mul-result-3 c = omega (arith, products c)
 returns : tie.Need-returns
 returns c = refl
 
-pub leans-spec : {M : Type 1} → statement M
-leans-spec =
+pub as-far-left-spec : {M : Type 1} → statement M
+as-far-left-spec =
     tie.close
     (tie.spec
     mul-result
