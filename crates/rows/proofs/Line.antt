@@ -1,7 +1,9 @@
--- Each law is an identity between determinants: x is on or right of the line from p up to q exactly if their determinant is not negative.
--- The numbers are natural, so each term stands on the side where it is positive.
+-- The laws of lines hold because slopes compare transitively. A point x is on or right of the line from p up to q exactly if the determinant
+-- of the three is not negative, and the determinant compares the slopes of any two of their segments. The numbers are natural, so each term
+-- stands on the side where it is positive.
 use Prim.Native.Nat.{ℕ, suc, _+_, _-_, _*_, _≤_, _<_}
 use mathlib.Core.Path.{_≡_, ap}
+use mathlib.Core.Logic.{_↔_}
 use native.Mathlib.Nat.{mul-le-mul-right, le-of-mul-le-mul-right}
 use native.Mathlib.Omega.{arith}
 use Rattle.chart.specs.declared.Point.{Point}
@@ -12,105 +14,81 @@ use Rattle.base.proofs.Mean.{Mean, mean-times, mean-line, mean-add, mean-le, me
 pub record Right (p q x : Point) : Type 0 where
   pub holds : p .row * x .col + q .row * p .col + q .col * x .row ≤ q .row * x .col + p .row * q .col + p .col * x .row
 
--- q is y rows above p, u is z and x is w rows above it
-trans-offsets :
-    (p q u x : Point) (y z w : ℕ) →
-    q .row ≡ p .row + y →
-    u .row ≡ p .row + z →
-    x .row ≡ p .row + w →
-    0 < y →
-    Right p u q →
-    Right p q x →
-    Right p u x
-trans-offsets p q u x y z w i j k l h h′ =
-    let times : (e : ℕ) → (q .row * e ≡ (p .row + y) * e) × (u .row * e ≡ (p .row + z) * e) × (x .row * e ≡ (p .row + w) * e)
-    = λ e. (ap (λ n. n * e) i, ap (λ n. n * e) j, ap (λ n. n * e) k) in
-    let m : z * p .col + y * u .col ≤ z * q .col + y * p .col = omega (arith, times (p .col), times (q .col), times (u .col)) in
-    let n : y * p .col + w * q .col ≤ y * x .col + w * p .col = omega (arith, times (p .col), times (q .col), times (x .col)) in
-    let o : (z * p .col + w * u .col) * y ≤ (z * x .col + w * p .col) * y =
-    omega (arith, mul-le-mul-right w m, mul-le-mul-right z n) in
-    let v : z * p .col + w * u .col ≤ z * x .col + w * p .col = le-of-mul-le-mul-right o l in
-    omega (arith, times (p .col), times (u .col), times (x .col))
+-- The segment from p up to q has at most the slope, in columns per row, of the segment from u up to v
+pub record SlopeLe (p q u v : Point) : Type 0 where
+  pub le : q .col * (v .row - u .row) + u .col * (q .row - p .row) ≤ v .col * (q .row - p .row) + p .col * (v .row - u .row)
 
--- Seen from p: if x is right of q and q is right of u, then x is right of u
-pub right-trans : {p q u x : Point} → p .row < q .row → p .row ≤ u .row → p .row ≤ x .row → Right p u q → Right p q x → Right p u x
-right-trans {p} {q} {u} {x} l m n =
-    trans-offsets p q u x (q .row - p .row) (u .row - p .row) (x .row - p .row) (omega arith) (omega arith) (omega arith) (omega arith)
+slope-trans : {p q u v x y : Point} → u .row < v .row → SlopeLe p q u v → SlopeLe u v x y → SlopeLe p q x y
+slope-trans {p} {q} {u} {v} {x} {y} l i j =
+    record {
+      le =
+          le-of-mul-le-mul-right {k = v .row - u .row}
+          (omega (arith, mul-le-mul-right (y .row - x .row) (i .le), mul-le-mul-right (q .row - p .row) (j .le)))
+          (omega arith);
+    }
 
--- The point q with x rows down to p, y rows down to u and z rows up to v
-from-w-offsets :
-    (p q u v : Point) (x y z : ℕ) →
-    q .row ≡ p .row + x →
-    q .row ≡ u .row + y →
-    v .row ≡ q .row + z →
-    0 < x →
-    Right p q u →
-    Right p q v →
-    Right u q v
-from-w-offsets p q u v x y z i j k l h h′ =
-    let times : (e : ℕ) → (q .row * e ≡ (p .row + x) * e) × (q .row * e ≡ (u .row + y) * e) × (v .row * e ≡ (q .row + z) * e)
-    = λ e. (ap (λ n. n * e) i, ap (λ n. n * e) j, ap (λ n. n * e) k) in
-    let m : y * p .col + x * q .col ≤ x * u .col + y * q .col = omega (arith, times (p .col), times (q .col), times (u .col)) in
-    let n : z * q .col + x * q .col ≤ z * p .col + x * v .col = omega (arith, times (p .col), times (q .col), times (v .col)) in
-    let o : (z * q .col + y * q .col) * x ≤ (z * u .col + y * v .col) * x =
-    omega (arith, mul-le-mul-right z m, mul-le-mul-right y n) in
-    let w : z * q .col + y * q .col ≤ z * u .col + y * v .col = le-of-mul-le-mul-right o l in
-    omega (arith, times (u .col), times (q .col), times (v .col))
+-- The rows of the ends of a segment, times a number
+height : (p q : Point) → p .row ≤ q .row → (n : ℕ) → q .row * n ≡ p .row * n + (q .row - p .row) * n
+height p q l n =
+    let e : q .row ≡ p .row + (q .row - p .row) = omega arith in
+    omega (arith, ap (λ m. m * n) e)
 
--- If u below q and v above q are both right of the line from p up to q, then v is right of the line from u to q
-pub right-turn : {p q u v : Point} → p .row < q .row → u .row ≤ q .row → q .row ≤ v .row → Right p q u → Right p q v → Right u q v
-right-turn {p} {q} {u} {v} l m n h k =
-    from-w-offsets p q u v (q .row - p .row) (q .row - u .row) (v .row - q .row) (omega arith) (omega arith) (omega arith) (omega arith) h k
+-- The test of three points compares the slopes of two segments that share an end
+module _ {p q x : Point} where
+  -- Both go up from p
+  pub right-from : p .row ≤ q .row → p .row ≤ x .row → Right p q x ↔ SlopeLe p q p x
+  right-from l m =
+      let f = height p q l in
+      let g = height p x m in
+      (λ h. omega (arith, f (p .col), f (x .col), g (p .col), g (q .col)), λ h. omega (arith, f (p .col), f (x .col), g (p .col), g (q .col)))
 
--- The point q with x rows down to p, y rows down to u and z rows down to v
-below-offsets :
-    (p q u v : Point) (x y z : ℕ) →
-    q .row ≡ p .row + x →
-    q .row ≡ u .row + y →
-    q .row ≡ v .row + z →
-    0 < y →
-    Right p q u →
-    Right u q v →
-    Right p q v
-below-offsets p q u v x y z i j k l h h′ =
-    let times : (e : ℕ) → (q .row * e ≡ (p .row + x) * e) × (q .row * e ≡ (u .row + y) * e) × (q .row * e ≡ (v .row + z) * e)
-    = λ e. (ap (λ n. n * e) i, ap (λ n. n * e) j, ap (λ n. n * e) k) in
-    let m : y * p .col + x * q .col ≤ x * u .col + y * q .col = omega (arith, times (p .col), times (q .col), times (u .col)) in
-    let n : z * u .col + y * q .col ≤ y * v .col + z * q .col = omega (arith, times (u .col), times (q .col), times (v .col)) in
-    let o : (z * p .col + x * q .col) * y ≤ (x * v .col + z * q .col) * y =
-    omega (arith, mul-le-mul-right z m, mul-le-mul-right x n) in
-    let w : z * p .col + x * q .col ≤ x * v .col + z * q .col = le-of-mul-le-mul-right o l in
-    omega (arith, times (p .col), times (q .col), times (v .col))
+  -- Both go up to q
+  pub right-to : p .row ≤ q .row → x .row ≤ q .row → Right p q x ↔ SlopeLe x q p q
+  right-to l m =
+      let f = height p q l in
+      let g = height x q m in
+      (λ h. omega (arith, f (q .col), f (x .col), g (q .col), g (p .col)), λ h. omega (arith, f (q .col), f (x .col), g (q .col), g (p .col)))
 
--- For points below q: if u is right of the line from p to q and v is right of the line from u to q, then v is right of the line from p to q
-pub right-below : {p q u v : Point} → p .row ≤ q .row → u .row < q .row → v .row ≤ q .row → Right p q u → Right u q v → Right p q v
-right-below {p} {q} {u} {v} l m n =
-    below-offsets p q u v (q .row - p .row) (q .row - u .row) (q .row - v .row) (omega arith) (omega arith) (omega arith) (omega arith)
+  -- One goes from p up to x, the other from x up to q
+  pub right-between : p .row ≤ x .row → x .row ≤ q .row → Right p q x ↔ SlopeLe x q p x
+  right-between l m =
+      let f = height p x l in
+      let g = height x q m in
+      (λ h. omega (arith, f (p .col), f (q .col), f (x .col), g (p .col), g (x .col)), λ h. omega (arith, f (p .col), f (q .col), f (x .col), g (p .col), g (x .col)))
 
--- The point q with x rows down to p, y rows up to u and z rows up to v
-over-offsets :
-    (p q u v : Point) (x y z : ℕ) →
-    q .row ≡ p .row + x →
-    u .row ≡ q .row + y →
-    v .row ≡ q .row + z →
-    0 < y →
-    Right p u q →
-    Right q v u →
-    Right p v q
-over-offsets p q u v x y z i j k l h h′ =
-    let times : (e : ℕ) → (q .row * e ≡ (p .row + x) * e) × (u .row * e ≡ (q .row + y) * e) × (v .row * e ≡ (q .row + z) * e)
-    = λ e. (ap (λ n. n * e) i, ap (λ n. n * e) j, ap (λ n. n * e) k) in
-    let m : y * p .col + x * u .col ≤ x * q .col + y * q .col = omega (arith, times (p .col), times (q .col), times (u .col)) in
-    let n : z * q .col + y * v .col ≤ z * u .col + y * q .col = omega (arith, times (u .col), times (q .col), times (v .col)) in
-    let o : (z * p .col + x * v .col) * y ≤ (x * q .col + z * q .col) * y =
-    omega (arith, mul-le-mul-right z m, mul-le-mul-right x n) in
-    let w : z * p .col + x * v .col ≤ x * q .col + z * q .col = le-of-mul-le-mul-right o l in
-    omega (arith, times (p .col), times (q .col), times (v .col))
+  -- One goes from p up to q, the other from q up to x
+  pub right-on : p .row ≤ q .row → q .row ≤ x .row → Right p q x ↔ SlopeLe p q q x
+  right-on l m =
+      let f = height p q l in
+      let g = height q x m in
+      (λ h. omega (arith, f (p .col), f (q .col), f (x .col), g (p .col), g (q .col)), λ h. omega (arith, f (p .col), f (q .col), f (x .col), g (p .col), g (q .col)))
 
--- If q is right of the line from p to u, and u is right of the line from q to v, then q is right of the line from p to v
-pub right-over : {p q u v : Point} → p .row ≤ q .row → q .row < u .row → q .row ≤ v .row → Right p u q → Right q v u → Right p v q
-right-over {p} {q} {u} {v} l m n =
-    over-offsets p q u v (q .row - p .row) (u .row - q .row) (v .row - q .row) (omega arith) (omega arith) (omega arith) (omega arith)
+-- Four points: each law is `slope-trans`, with the segments in another place
+
+module _ {p q u v : Point} where
+  -- Seen from p: if v is right of q and q is right of u, then v is right of u
+  pub right-trans : p .row < q .row → p .row ≤ u .row → p .row ≤ v .row → Right p u q → Right p q v → Right p u v
+  right-trans l m n h k =
+      let l′ : p .row ≤ q .row = omega arith in
+      right-from m n .1 (slope-trans l (right-from m l′ .0 h) (right-from l′ n .0 k))
+
+  -- If u below q and v above q are both right of the line from p up to q, then v is right of the line from u to q
+  pub right-turn : p .row < q .row → u .row ≤ q .row → q .row ≤ v .row → Right p q u → Right p q v → Right u q v
+  right-turn l m n h k =
+      let l′ : p .row ≤ q .row = omega arith in
+      right-on m n .1 (slope-trans l (right-to l′ m .0 h) (right-on l′ n .0 k))
+
+  -- If u is right of the line from p up to q and v, below q, is right of the line from u up to q, then v is right of the line from p up to q
+  pub right-below : p .row ≤ q .row → u .row < q .row → v .row ≤ q .row → Right p q u → Right u q v → Right p q v
+  right-below l m n h k =
+      let m′ : u .row ≤ q .row = omega arith in
+      right-to l n .1 (slope-trans m (right-to m′ n .0 k) (right-to l m′ .0 h))
+
+  -- If q is right of the line from p to u, and u is right of the line from q to v, then q is right of the line from p to v
+  pub right-over : p .row ≤ q .row → q .row < u .row → q .row ≤ v .row → Right p u q → Right q v u → Right p v q
+  right-over l m n h k =
+      let m′ : q .row ≤ u .row = omega arith in
+      right-between l n .1 (slope-trans m (right-from n m′ .0 k) (right-between l m′ .0 h))
 
 pub right-start : {p q : Point} → Right p q p
 right-start = omega arith
@@ -132,23 +110,17 @@ right-beyond {p} {q} {x} c l m h =
     rw e (beyond-offsets p q (x .row) c (x .col - c) (q .row - p .row) (omega arith) h)
 
 -- In the row of an end of the line, a point right of the line is right of that end
-start-offsets : (p q x : Point) (z : ℕ) → q .row ≡ p .row + suc z → x .row ≡ p .row → Right p q x → p .col ≤ x .col
-start-offsets p q x z i j h =
-    let l : p .col * suc z ≤ x .col * suc z =
-    omega (arith, ap (λ n. n * p .col) i, ap (λ n. n * x .col) i, ap (λ n. n * p .col) j, ap (λ n. n * q .col) j) in
-    le-of-mul-le-mul-right l (omega arith)
-
 pub right-of-start : {p q x : Point} → p .row < q .row → x .row ≡ p .row → Right p q x → p .col ≤ x .col
-right-of-start {p} {q} {x} l = start-offsets p q x (q .row - suc (p .row)) (omega arith)
-
-end-offsets : (p q x : Point) (z : ℕ) → q .row ≡ p .row + suc z → x .row ≡ q .row → Right p q x → q .col ≤ x .col
-end-offsets p q x z i j h =
-    let l : q .col * suc z ≤ x .col * suc z =
-    omega (arith, ap (λ n. n * q .col) i, ap (λ n. n * x .col) i, ap (λ n. n * p .col) j, ap (λ n. n * q .col) j) in
-    le-of-mul-le-mul-right l (omega arith)
+right-of-start {p} {q} {x} l e h =
+    let d : x .row - p .row ≡ 0 = omega arith in
+    let k = right-from {p = p} {q = q} {x = x} (omega arith) (omega arith) .0 h .le in
+    le-of-mul-le-mul-right {k = q .row - p .row} (omega (arith, rw d at k)) (omega arith)
 
 pub right-of-end : {p q x : Point} → p .row < q .row → x .row ≡ q .row → Right p q x → q .col ≤ x .col
-right-of-end {p} {q} {x} l = end-offsets p q x (q .row - suc (p .row)) (omega arith)
+right-of-end {p} {q} {x} l e h =
+    let d : q .row - x .row ≡ 0 = omega arith in
+    let k = right-to {p = p} {q = q} {x = x} (omega arith) (omega arith) .0 h .le in
+    le-of-mul-le-mul-right {k = q .row - p .row} (omega (arith, rw d at k)) (omega arith)
 
 -- The mean of a linear function of the coordinates
 mean-sum :
@@ -192,13 +164,11 @@ triangle-offsets p q u x y z g w i j k l e h =
     }
 
 pub right-in-triangle : {p q u x : Point} → p .row < q .row → p .row ≤ x .row → x .row ≤ q .row → u .row ≡ x .row → x .col < u .col → Right p q x → InTriangle x p q u
-right-in-triangle {p} {q} {u} {x} l m n e k h = go (x .row - p .row) (q .row - x .row) (omega arith) (omega arith)
-  where
-    go : (y z : ℕ) → x .row ≡ p .row + y → q .row ≡ x .row + z → InTriangle x p q u
-    go y z i j =
-        let d : z * p .col + y * q .col ≤ (y + z) * x .col =
-        omega (arith, ap (λ n. n * p .col) i, ap (λ n. n * q .col) i, ap (λ n. n * x .col) i, ap (λ n. n * p .col) j, ap (λ n. n * q .col) j, ap (λ n. n * x .col) j) in
-        triangle-offsets p q u x y z (u .col - suc (x .col)) ((y + z) * x .col - (z * p .col + y * q .col)) i j e (omega arith) (omega arith) (omega arith)
+right-in-triangle {p} {q} {u} {x} l m n e k h =
+    let d = right-between m n .0 h .le in
+    let y = x .row - p .row in
+    let z = q .row - x .row in
+    triangle-offsets p q u x y z (u .col - suc (x .col)) ((y + z) * x .col - (z * p .col + y * q .col)) (omega arith) (omega arith) e (omega arith) (omega arith) (omega arith)
 
 -- A triangle lies within the rows and columns of its corners
 pub triangle-above : {x p q u : Point} (k : ℕ) → InTriangle x p q u → k ≤ p .row → k ≤ q .row → k ≤ u .row → k ≤ x .row

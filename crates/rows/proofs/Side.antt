@@ -1,7 +1,7 @@
 -- The search up the left side finds the lowest row with a hull cell left of it, because the whole hull is right of each edge of that side.
 -- An edge goes from row i to the row j that is furthest left, seen from row i. The rows above i are right of this line by the choice of j,
 -- and the rows below because row i is a corner of the hull. A cell right of the line and left of its row's first cell is in the hull.
-use Prim.Native.Nat.{ℕ, zero, suc, _+_, _-_, _*_, _/_, _≤_, _<_}
+use Prim.Native.Nat.{ℕ, zero, suc, _+_, _-_, _*_, _≤_, _<_}
 use mathlib.Core.Path.{_≡_, refl, ap}
 use mathlib.Core.Bool.{Bool, true, false, cond}
 use mathlib.Core.Logic.{inl, inr, _↔_}
@@ -15,7 +15,7 @@ use Rattle.chart.specs.declared.Point.{Point}
 use Rattle.lattice.specs.Hull.{InHull}
 use Rattle.rows.specs.parts.Rows.{inRows}
 use Rattle.rows.specs.Search.{asFarLeft, furthest, crossing, gapRow, chain}
-use Rattle.rows.proofs.Line.{Right, right-trans, right-turn, right-start, right-end, right-cycle, right-of-start, right-of-end, right-in-triangle}
+use Rattle.rows.proofs.Line.{Right, SlopeLe, right-from, right-between, right-trans, right-turn, right-start, right-end, right-cycle, right-of-start, right-of-end, right-in-triangle}
 use Rattle.rows.proofs.Rows.{Rows, begin, begin-marked, hull-right}
 
 -- Of rows i + 1 to k - 1, row j is the furthest left, seen from row i
@@ -24,20 +24,13 @@ pub record Furthest (lo : ℕ → ℕ) (i j k : ℕ) : Type 0 where
   pub below : j < k
   pub right : (r : ℕ) → i < r → r < k → Right (begin lo i) (begin lo j) (begin lo r)
 
--- Here q is x rows above p, and u is y rows above p. Seen from p, u is at least as far left as q
-as-far-left-right :
-    (p q u : Point) (x y : ℕ) → q .row ≡ p .row + x → u .row ≡ p .row + y → u .col * x + p .col * y ≤ q .col * y + p .col * x → Right p u q
-as-far-left-right p q u x y i j h =
-    omega (arith, ap (λ n. n * p .col) i, ap (λ n. n * u .col) i, ap (λ n. n * p .col) j, ap (λ n. n * q .col) j)
-
 pub as-far-left-true : (lo : ℕ → ℕ) (i j k : ℕ) → i ≤ j → i ≤ k → asFarLeft lo i j k ≡ true → Right (begin lo i) (begin lo k) (begin lo j)
 unfolding asFarLeft
-as-far-left-true lo i j k l m e = as-far-left-right (begin lo i) (begin lo j) (begin lo k) (j - i) (k - i) (omega arith) (omega arith) (leb-true _ _ e)
+as-far-left-true lo i j k l m e = right-from m l .1 (record { le = leb-true _ _ e })
 
 as-far-left-false : (lo : ℕ → ℕ) (i j k : ℕ) → i ≤ j → i ≤ k → asFarLeft lo i j k ≡ false → Right (begin lo i) (begin lo j) (begin lo k)
 unfolding asFarLeft
-as-far-left-false lo i j k l m e =
-    as-far-left-right (begin lo i) (begin lo k) (begin lo j) (k - i) (j - i) (omega arith) (omega arith) (le-of-lt (leb-false _ _ e))
+as-far-left-false lo i j k l m e = right-from l m .1 (record { le = le-of-lt (leb-false _ _ e) })
 
 furthest-step : (lo : ℕ → ℕ) (i j k : ℕ) → Furthest lo i j k → Furthest lo i (cond (asFarLeft lo i j k) k j) (suc k)
 furthest-step lo i j k f = go (asFarLeft lo i j k) refl
@@ -75,32 +68,15 @@ furthest-start lo i = record { above = omega arith; below = omega arith; right =
 pub furthest-furthest : (lo : ℕ → ℕ) (i t : ℕ) → suc i < t → Furthest lo i (furthest lo i (suc i) (suc (suc i)) (t - suc (suc i))) t
 furthest-furthest lo i t h = furthest-more lo i (suc i) (suc (suc i)) (t - suc (suc i)) t (omega arith) (furthest-start lo i)
 
--- Here x is y rows above p and z rows below q
-crossing-offsets :
-    (p q x : Point) (y z : ℕ) →
-    x .row ≡ p .row + y →
-    q .row ≡ x .row + z →
-    0 < y + z →
-    ((z * p .col + y * q .col + (y + z - 1)) / (y + z) ≤ x .col) ↔ Right p q x
-crossing-offsets p q x y z i j l =
-    let times : (e : ℕ) → (x .row * e ≡ (p .row + y) * e) × (q .row * e ≡ (x .row + z) * e) = λ e. (ap (λ n. n * e) i, ap (λ n. n * e) j) in
-    let d = div-lt-iff-lt-mul {x = z * p .col + y * q .col + (y + z - 1)} {y = suc (x .col)} l in (
-      λ h.
-          let k = d .0 (omega arith) in
-          let k′ : z * p .col + y * q .col ≤ x .col * (y + z) = omega arith in
-          omega (arith, times (p .col), times (q .col), times (x .col)),
-      λ h.
-          let k′ : z * p .col + y * q .col ≤ x .col * (y + z) = omega (arith, times (p .col), times (q .col), times (x .col)) in
-          let k = d .1 (omega arith) in
-          omega arith,
-    )
-
 -- A cell of row r is right of the line from row i to row j exactly if its column is at least the crossing
 crossing-le : (lo : ℕ → ℕ) (i j r c : ℕ) → i < j → i ≤ r → r ≤ j → (crossing lo i j r ≤ c) ↔ Right (begin lo i) (begin lo j) (record { col = c; row = r })
 unfolding crossing
 crossing-le lo i j r c l m n =
-    let e : j - i ≡ r - i + (j - r) = omega arith in
-    rw e (crossing-offsets (begin lo i) (begin lo j) (record { col = c; row = r }) (r - i) (j - r) (omega arith) (omega arith) (omega arith))
+    let e = right-between {p = begin lo i} {q = begin lo j} {x = record { col = c; row = r }} m n in
+    let d = div-lt-iff-lt-mul {k = j - i} {x = (j - r) * lo i + (r - i) * lo j + (j - i - 1)} {y = suc c} (omega arith) in
+    let s : j - i ≡ r - i + (j - r) = omega arith in
+    let f = ap (λ n. c * n) s in
+    (λ h. e .1 (record { le = omega (arith, f, d .0 (omega arith)) }), λ h. omega (arith, d .1 (omega (arith, f, e .0 h))))
 
 -- Row i is a corner of the left side: no line from a row below it to a row above it passes left of its first cell
 abbrev Corner : (ℕ → ℕ) → ℕ → ℕ → ℕ → Type 0

@@ -8,23 +8,15 @@ use native.Mathlib.Omega.{arith}
 use lib.Dec.{leb}
 use borrow.Author.Tests.{le-leb, lt-leb}
 use Rattle.base.proofs.BelowLaws.{not-held}
-use Rattle.chart.specs.declared.Point.{Point}
 use Rattle.rows.specs.Search.{asFarLeft, furthest}
-use Rattle.rows.proofs.Line.{Right, right-trans, right-below, right-over}
+use Rattle.rows.proofs.Line.{Right, SlopeLe, right-from, right-trans, right-below, right-over}
 use Rattle.rows.proofs.Rows.{begin}
 use Rattle.rows.proofs.SearchLaws.{edgeEnd, furthest-end, furthest-next}
 use Rattle.rows.proofs.Side.{Furthest, as-far-left-true}
 
--- Here q is x rows above p, and u is y rows above p. q is right of the line from p to u
-right-as-far-left-offsets :
-    (p q u : Point) (x y : ℕ) → q .row ≡ p .row + x → u .row ≡ p .row + y → Right p u q → u .col * x + p .col * y ≤ q .col * y + p .col * x
-right-as-far-left-offsets p q u x y i j h =
-    omega (arith, ap (λ n. n * p .col) i, ap (λ n. n * u .col) i, ap (λ n. n * p .col) j, ap (λ n. n * q .col) j)
-
 right-as-far-left : (lo : ℕ → ℕ) (i j k : ℕ) → i ≤ j → i ≤ k → Right (begin lo i) (begin lo k) (begin lo j) → asFarLeft lo i j k ≡ true
 unfolding asFarLeft
-right-as-far-left lo i j k l m h =
-    le-leb _ _ (right-as-far-left-offsets (begin lo i) (begin lo j) (begin lo k) (j - i) (k - i) (omega arith) (omega arith) h)
+right-as-far-left lo i j k l m h = le-leb _ _ (right-from m l .0 h .le)
 
 -- The test without the term a * x on both sides. The second row is x rows above the first. The third is y rows above the first and z rows
 -- above the second
