@@ -8,11 +8,10 @@ use native.Mathlib.Omega.{arith}
 use Rattle.base.proofs.Mean.{mean-at-least, mean-at-most}
 use Rattle.chart.specs.Limits.{side}
 use Rattle.chart.specs.declared.Point.{Point}
-use Rattle.chart.specs.Outline.{Outline}
+use Rattle.chart.specs.Outline.{Outline, at}
 use Rattle.lattice.specs.Chart.{size}
 use Rattle.lattice.specs.Hull.{InHull}
 use Rattle.lattice.specs.Refusals.{Simple}
-use Rattle.lattice.proofs.WalkLaws.{point}
 use Rattle.rows.proofs.Rows.{Rows}
 use Rattle.convexity.specs.Clockwise.{block}
 use Rattle.completion.specs.HullRows.{hullLeft, hullRight}
@@ -54,16 +53,16 @@ module _ (o : Outline) (h : Simple o) where
   last-row : Least mirror (firstRow (block o)) (pastRow (block o))
   last-row = least-of mirror b t (e .rows .below)
 
-  hull-cell : (c r : ℕ) → b ≤ r → r < t → hullLeft lo b t r ≤ c → c < hullRight hi b t r → InHull (block o) (point c r)
-  hull-cell c r k l m n = hull-iff (block o) lo hi b t e (point c r) .1 (record { above = k; below = l; begun = m; before = n })
+  hull-cell : (c r : ℕ) → b ≤ r → r < t → hullLeft lo b t r ≤ c → c < hullRight hi b t r → InHull (block o) (at c r)
+  hull-cell c r k l m n = hull-iff (block o) lo hi b t e (at c r) .1 (record { above = k; below = l; begun = m; before = n })
 
   -- No cell of the block is further left, and none further right
   cell-left : (c r : ℕ) → block o c r ≡ true → lo (first-row .at) ≤ c
-  cell-left c r m = let k = e .inside (point c r) m in omega (arith, k .begun, first-row .least r (k .above) (k .below))
+  cell-left c r m = let k = e .inside (at c r) m in omega (arith, k .begun, first-row .least r (k .above) (k .below))
 
   cell-right : (c r : ℕ) → block o c r ≡ true → c < hi (last-row .at)
   cell-right c r m =
-      let k = e .inside (point c r) m in
+      let k = e .inside (at c r) m in
       omega (arith, k .before, last-row .least r (k .above) (k .below), e .rows .fits r (k .above) (k .below), e .rows .fits (last-row .at) (last-row .low) (last-row .high))
 
   hull-left : (x : Point) → InHull (block o) x → lo (first-row .at) ≤ x .col
@@ -84,7 +83,7 @@ module _ (o : Outline) (h : Simple o) where
     left-is : hullLeft lo b t (m .at) ≡ lo (first-row .at)
     left-is =
         let f = first-row in
-        let k = hull-left (point (hullLeft lo b t (m .at)) (m .at)) (hull-cell _ (m .at) (m .low) (m .high) (omega arith) (wide .nonempty (m .at) (m .low) (m .high))) in
+        let k = hull-left (at (hullLeft lo b t (m .at)) (m .at)) (hull-cell _ (m .at) (m .low) (m .high) (omega arith) (wide .nonempty (m .at) (m .low) (m .high))) in
         omega (arith, k, m .least (f .at) (f .low) (f .high), wider-left lo hi b t (e .rows) (f .at) (f .low) (f .high))
 
     right-is : hullRight hi b t (n .at) ≡ hi (last-row .at)
@@ -92,7 +91,7 @@ module _ (o : Outline) (h : Simple o) where
     right-is =
         let f = last-row in
         let nonempty = wide .nonempty (n .at) (n .low) (n .high) in
-        let k : pred (hullRight hi b t (n .at)) < hi (last-row .at) = hull-right (point (pred (hullRight hi b t (n .at))) (n .at)) (hull-cell _ (n .at) (n .low) (n .high) (omega arith) (omega arith)) in
+        let k : pred (hullRight hi b t (n .at)) < hi (last-row .at) = hull-right (at (pred (hullRight hi b t (n .at))) (n .at)) (hull-cell _ (n .at) (n .low) (n .high) (omega arith) (omega arith)) in
         let l : hullLeft (λ s. side - hi s) b t (n .at) ≤ hullLeft (λ s. side - hi s) b t (f .at) = n .least (f .at) (f .low) (f .high) in
         omega (arith, nonempty, wider-right lo hi b t (e .rows) (f .at) (f .low) (f .high))
 

@@ -8,12 +8,12 @@ use native.Mathlib.Omega.{arith}
 use Rattle.base.proofs.Mean.{mean-at-least, mean-at-most}
 use Rattle.chart.specs.Limits.{side}
 use Rattle.chart.specs.declared.Point.{Point}
-use Rattle.chart.specs.Outline.{Outline}
+use Rattle.chart.specs.Outline.{Outline, at}
 use Rattle.lattice.specs.Chart.{step, cornerAt, size, letterAt}
 use Rattle.lattice.specs.Enclosed.{encloses}
 use Rattle.lattice.specs.Hull.{InHull}
 use Rattle.lattice.specs.Refusals.{Simple}
-use Rattle.lattice.proofs.WalkLaws.{point, walked, corner-zero, corner-suc, length-rotation}
+use Rattle.lattice.proofs.WalkLaws.{walked, corner-zero, corner-suc, length-rotation}
 use Rattle.lattice.proofs.Jumps.{downsAt, ups-jump-vertical, downs-jump-vertical, downs-found}
 use Rattle.lattice.proofs.RightHand.{level}
 use Rattle.rows.proofs.Rows.{Rows}
@@ -38,12 +38,12 @@ straddle i j k d e h l = omega (arith, ap (λ n. e * n) h, ap (λ n. d * n) l)
 
 pub left-hollow : (lo : ℕ → ℕ) (b t : ℕ) → Hollow (hullLeft lo b t) b t
 left-hollow lo b t i j k c h l m n f g =
-    left-hull lo b t (point c j) (point c i) (point c k) (point c k)
+    left-hull lo b t (at c j) (at c i) (at c k) (at c k)
     (record { a = k - j; b = j - i; c = 0; some = omega arith; cols = omega arith; rows = straddle i j k (j - i) (k - j) (omega arith) (omega arith) })
     (omega arith) (omega arith)
-    (beyond-lines lo b t (point c i) h (omega arith) f)
-    (beyond-lines lo b t (point c k) (omega arith) n g)
-    (beyond-lines lo b t (point c k) (omega arith) n g)
+    (beyond-lines lo b t (at c i) h (omega arith) f)
+    (beyond-lines lo b t (at c k) (omega arith) n g)
+    (beyond-lines lo b t (at c k) (omega arith) n g)
 
 travel-mirror : (f : ℕ → ℕ) (y k : ℕ) → ((r : ℕ) → y ≤ r → r ≤ y + k → f r ≤ side) → travel (λ r. side - f r) y k ≡ travel f y k
 unfolding travel
@@ -104,7 +104,7 @@ module _ (o : Outline) (h : WalkFromW o) (up : letterAt o 0 ≡ 1) where
           → (i : ℕ) × (i < size o) × (c < cornerAt o i .col)
       go true f more = let (i, l, k) = more f in (i, l, omega arith)
       go false f more =
-          let a = enclosed-level o (point c r) m in
+          let a = enclosed-level o (at c r) m in
           let u = ups-jump-vertical o (suc c) (suc r) in
           let v = downs-jump-vertical o (suc c) (suc r) in
           elim (decLe 1 (downsAt o (suc c) (suc r))) [
@@ -114,7 +114,7 @@ module _ (o : Outline) (h : WalkFromW o) (up : letterAt o 0 ≡ 1) where
             | no k ↦
                 elim (level o (h .walked) 0 (from-w-lowest o h) up (suc (suc c)) (suc r)) [
                   | inl z ↦ absurd (omega arith)
-                  | inr z ↦ absurd (true≢false (sym (level-enclosed o (point (suc c) r) z) ∙ f))
+                  | inr z ↦ absurd (true≢false (sym (level-enclosed o (at (suc c) r) z) ∙ f))
                 ]
           ]
 
@@ -196,18 +196,18 @@ module _ (o : Outline) (h : Simple o) (lo hi : ℕ → ℕ) (b t : ℕ) (e : End
             | no l ↦ absurd (true≢false (sym (encl (y .col) (y .row) m) ∙ left-of-anchor (border o) is-from-w (y .col) (y .row) (omega arith)))
           ]
 
-  hull-at : (c r : ℕ) → b ≤ r → r < t → hullLeft lo b t r ≤ c → c < hullRight hi b t r → InHull (block o) (point c r)
-  hull-at c r k l m n = hull-iff (block o) lo hi b t e (point c r) .1 (record { above = k; below = l; begun = m; before = n })
+  hull-at : (c r : ℕ) → b ≤ r → r < t → hullLeft lo b t r ≤ c → c < hullRight hi b t r → InHull (block o) (at c r)
+  hull-at c r k l m n = hull-iff (block o) lo hi b t e (at c r) .1 (record { above = k; below = l; begun = m; before = n })
 
   -- The border has corners on all sides of the hull's cells
-  corner-right : (c r : ℕ) → InHull (block o) (point c r) → (i : ℕ) × (i ≤ size (border o)) × (suc c ≤ cornerAt (border o) i .col)
+  corner-right : (c r : ℕ) → InHull (block o) (at c r) → (i : ℕ) × (i ≤ size (border o)) × (suc c ≤ cornerAt (border o) i .col)
   corner-right c r k =
-      let (y, m, far) = furthest-right (block o) (point c r) k in
+      let (y, m, far) = furthest-right (block o) (at c r) k in
       let (i, l, right) = right-of-cell (border o) is-from-w is-up (y .col) (y .row) (encl (y .col) (y .row) m) in
       (i, omega arith, omega arith)
 
-  corner-left : (c r : ℕ) → InHull (block o) (point c r) → cornerAt (border o) 0 .col ≤ c
-  corner-left c r k = rw corner-zero (not-left (point c r) k)
+  corner-left : (c r : ℕ) → InHull (block o) (at c r) → cornerAt (border o) 0 .col ≤ c
+  corner-left c r k = rw corner-zero (not-left (at c r) k)
 
   corner-low : b < t → (i : ℕ) × (i ≤ size (border o)) × (cornerAt (border o) i .row ≡ b)
   corner-low l = below-cell (border o) is-from-w is-up (lo b) b (encl (lo b) b (e .first b (omega arith) l))

@@ -8,12 +8,12 @@ use mathlib.Core.Logic.{_⊎_, inl, inr}
 use native.Mathlib.Decide.{decLe}
 use native.Mathlib.Omega.{arith}
 use Rattle.chart.specs.declared.Point.{Point}
-use Rattle.chart.specs.Outline.{Outline}
+use Rattle.chart.specs.Outline.{Outline, at}
 use Rattle.lattice.specs.Chart.{step, cornerAt, size, letterAt, opposite}
 use Rattle.lattice.specs.Enclosed.{encloses}
 use Rattle.lattice.specs.Refusals.{Simple}
 use Rattle.lattice.specs.Walked.{Walked}
-use Rattle.lattice.proofs.WalkLaws.{point, point-eq, corner-zero, corner-suc, corner-all}
+use Rattle.lattice.proofs.WalkLaws.{point-eq, corner-zero, corner-suc, corner-all}
 use Rattle.lattice.proofs.RightHand.{rightOf, leftOf, cornerOf, no-back, clockwise-left-turn}
 use Rattle.convexity.specs.Clockwise.{clockwiseForm, border, block}
 use Rattle.convexity.specs.Shape.{WalkFromW}
@@ -61,13 +61,13 @@ module _ (o : Outline) (h : WalkFromW o) (up : letterAt o 0 ≡ 1) (r : ℕ) whe
 
   -- The cell ahead on the right of a letter before a left turn
   ahead : (i j a : ℕ) (c s : ℕ) → i < size o → j < size o → cornerAt o (suc i) ≡ cornerAt o j → letterAt o i ≡ a → letterAt o j ≡ (letterAt o i + 1) % 4
-      → cornerOf (cornerAt o i) a ≡ point (suc c) (suc s) → encloses o c s ≡ true
+      → cornerOf (cornerAt o i) a ≡ at (suc c) (suc s) → encloses o c s ≡ true
   ahead i j a c s l m e f g d =
-      level-enclosed o (point c s)
+      level-enclosed o (at c s)
       (subst (In o) (ap (cornerOf (cornerAt o i)) f ∙ d) (clockwise-left-turn o w 0 (from-w-lowest o h) up i j l m e g))
 
   -- The cell right of an up
-  beside : (i c s : ℕ) → i < size o → letterAt o i ≡ 1 → cornerAt o i ≡ point c s → encloses o c s ≡ true
+  beside : (i c s : ℕ) → i < size o → letterAt o i ≡ 1 → cornerAt o i ≡ at c s → encloses o c s ≡ true
   beside i c s l e d = subst (λ (p : Point). encloses o (p .col) (p .row) ≡ true) d (up-marked o h up i (l, e))
 
   go : (i : ℕ) → i < size o → Good (cornerAt o i) → Shared (encloses o) r ⊎ Good (cornerAt o (suc i))
@@ -99,10 +99,10 @@ module _ (o : Outline) (h : WalkFromW o) (up : letterAt o 0 ≡ 1) (r : ℕ) whe
                     column = p .col;
                     lower =
                         ahead j i 0 (p .col) r (a .below) l (a .there) k (e ∙ sym (ap (λ (n : ℕ). (n + 1) % 4) k))
-                        (point-eq (cornerOf (cornerAt o j) 0) (point (suc (p .col)) (suc r))
+                        (point-eq (cornerOf (cornerAt o j) 0) (at (suc (p .col)) (suc r))
                         (omega (arith, col-is (sym d ∙ a .there)))
                         (omega (arith, row-is (sym d ∙ a .there), a .height)));
-                    upper = beside i (p .col) (suc r) l e (point-eq p (point (p .col) (suc r)) refl (a .height));
+                    upper = beside i (p .col) (suc r) l e (point-eq p (at (p .col) (suc r)) refl (a .height));
                   })
               | inr k ↦
                   let d = next-corner j 1 (a .below) k in
@@ -110,8 +110,8 @@ module _ (o : Outline) (h : WalkFromW o) (up : letterAt o 0 ≡ 1) (r : ℕ) whe
                     column = p .col;
                     lower =
                         beside j (p .col) r (a .below) k
-                        (point-eq (cornerAt o j) (point (p .col) r) (omega (arith, col-is (sym d ∙ a .there))) (omega (arith, row-is (sym d ∙ a .there), a .height)));
-                    upper = beside i (p .col) (suc r) l e (point-eq p (point (p .col) (suc r)) refl (a .height));
+                        (point-eq (cornerAt o j) (at (p .col) r) (omega (arith, col-is (sym d ∙ a .there))) (omega (arith, row-is (sym d ∙ a .there), a .height)));
+                    upper = beside i (p .col) (suc r) l e (point-eq p (at (p .col) (suc r)) refl (a .height));
                   })
             ]
         | inr (inr (inl e)) ↦
@@ -123,10 +123,10 @@ module _ (o : Outline) (h : WalkFromW o) (up : letterAt o 0 ≡ 1) (r : ℕ) whe
                     column = p .col;
                     lower =
                         beside j (p .col) r (a .below) k
-                        (point-eq (cornerAt o j) (point (p .col) r) (omega (arith, col-is (sym d ∙ a .there))) (omega (arith, row-is (sym d ∙ a .there), a .height)));
+                        (point-eq (cornerAt o j) (at (p .col) r) (omega (arith, col-is (sym d ∙ a .there))) (omega (arith, row-is (sym d ∙ a .there), a .height)));
                     upper =
                         ahead j i 1 (p .col) (suc r) (a .below) l (a .there) k (e ∙ sym (ap (λ (n : ℕ). (n + 1) % 4) k))
-                        (point-eq (cornerOf (cornerAt o j) 1) (point (suc (p .col)) (suc (suc r)))
+                        (point-eq (cornerOf (cornerAt o j) 1) (at (suc (p .col)) (suc (suc r)))
                         (omega (arith, col-is (sym d ∙ a .there)))
                         (omega (arith, row-is (sym d ∙ a .there), a .height)));
                   })

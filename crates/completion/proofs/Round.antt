@@ -7,11 +7,11 @@ use native.Mathlib.Omega.{arith}
 use lib.ListN.{length, length-append}
 use Rattle.chart.specs.Limits.{side, longest}
 use Rattle.chart.specs.declared.Point.{Point}
-use Rattle.chart.specs.Outline.{Outline}
+use Rattle.chart.specs.Outline.{Outline, at}
 use Rattle.lattice.specs.Chart.{walk, cornerAt, size, Closed}
 use Rattle.lattice.specs.Refusals.{Simple}
 use Rattle.lattice.specs.Walked.{NeverLeaves, Walked}
-use Rattle.lattice.proofs.WalkLaws.{point, walk-append, OnChart, corners-on-chart, simple-of-walked}
+use Rattle.lattice.proofs.WalkLaws.{walk-append, OnChart, corners-on-chart, simple-of-walked}
 use Rattle.rows.proofs.Rows.{Rows}
 use Rattle.completion.specs.Runs.{across, capped, hood, outlineOf, Overlapping}
 use Rattle.completion.proofs.Paths.{Visits, Apart, Keeps, Path, apart-append, keeps-append, apart-at, keeps-at}
@@ -61,28 +61,28 @@ module _ (lo hi : ℕ → ℕ) where
     pub round : Hooded lo hi b (t - suc b)
     round = hooded lo hi b (t - suc b) stack
 
-    pub bottom : Path (point (hi b) b) (point (lo b) b) (across (hi b) (lo b))
+    pub bottom : Path (at (hi b) b) (at (lo b) b) (across (hi b) (lo b))
     bottom = path-across b (hi b) (lo b) first-fits (omega (arith, first-nonempty, first-fits))
 
-    apart : Apart (point (lo b) b) (hood lo hi b (t - suc b) ++ across (hi b) (lo b))
+    apart : Apart (at (lo b) b) (hood lo hi b (t - suc b) ++ across (hi b) (lo b))
     apart =
-        apart-append (point (lo b) b) (hood lo hi b (t - suc b)) (across (hi b) (lo b)) (round .path .apart)
+        apart-append (at (lo b) b) (hood lo hi b (t - suc b)) (across (hi b) (lo b)) (round .path .apart)
         (subst (λ (z : Point). Apart z (across (hi b) (lo b))) (sym (round .path .ends)) (bottom .apart))
         (λ x h k. disjoint x (round .above x h) (visits-across b (hi b) (lo b) x (subst (λ (z : Point). Visits z (across (hi b) (lo b)) x) (round .path .ends) k)))
       where
-        disjoint : (x : Point) → (point (lo b) b ≡ x) ⊎ (b < x .row) → Between b (hi b) (lo b) x → ⊥
+        disjoint : (x : Point) → (at (lo b) b ≡ x) ⊎ (b < x .row) → Between b (hi b) (lo b) x → ⊥
         disjoint x (inl e) c = ⊎-elim (λ m. omega (arith, first-nonempty, same-col e)) (λ m. omega (arith, same-col e)) (c .column)
         disjoint x (inr g) c = omega (arith, c .height)
 
-    keeps : Keeps (point (lo b) b) (hood lo hi b (t - suc b) ++ across (hi b) (lo b))
+    keeps : Keeps (at (lo b) b) (hood lo hi b (t - suc b) ++ across (hi b) (lo b))
     keeps =
-        keeps-append (point (lo b) b) (hood lo hi b (t - suc b)) (across (hi b) (lo b)) (round .path .keeps)
+        keeps-append (at (lo b) b) (hood lo hi b (t - suc b)) (across (hi b) (lo b)) (round .path .keeps)
         (subst (λ (z : Point). Keeps z (across (hi b) (lo b))) (sym (round .path .ends)) (bottom .keeps))
 
     pub outline-closed : Closed (outlineOf lo hi b t)
     unfolding outlineOf
     outline-closed =
-        walk-append (point (lo b) b) (hood lo hi b (t - suc b)) (across (hi b) (lo b))
+        walk-append (at (lo b) b) (hood lo hi b (t - suc b)) (across (hi b) (lo b))
         ∙ ap (λ (z : Point). walk z (across (hi b) (lo b))) (round .path .ends)
         ∙ bottom .ends
 
@@ -99,7 +99,7 @@ module _ (lo hi : ℕ → ℕ) where
 
     outline-stays : NeverLeaves (outlineOf lo hi b t)
     unfolding outlineOf cornerAt
-    outline-stays i l = keeps-at (point (lo b) b) (hood lo hi b (t - suc b) ++ across (hi b) (lo b)) keeps i l .1
+    outline-stays i l = keeps-at (at (lo b) b) (hood lo hi b (t - suc b) ++ across (hi b) (lo b)) keeps i l .1
 
     on-chart : (i : ℕ) → i ≤ size (outlineOf lo hi b t) → OnChart (cornerAt (outlineOf lo hi b t) i)
     unfolding outlineOf
@@ -111,12 +111,12 @@ module _ (lo hi : ℕ → ℕ) where
         record {
           long = outline-long;
           short = short;
-          letter = λ i l. keeps-at (point (lo b) b) (hood lo hi b (t - suc b) ++ across (hi b) (lo b)) keeps i l .0;
+          letter = λ i l. keeps-at (at (lo b) b) (hood lo hi b (t - suc b) ++ across (hi b) (lo b)) keeps i l .0;
           col-le = λ i l. on-chart i l .col;
           row-le = λ i l. on-chart i l .row;
           stays = outline-stays;
           closed = outline-closed;
-          distinct = apart-at (point (lo b) b) (hood lo hi b (t - suc b) ++ across (hi b) (lo b)) apart;
+          distinct = apart-at (at (lo b) b) (hood lo hi b (t - suc b) ++ across (hi b) (lo b)) apart;
         }
 
     pub outline-simple : size (outlineOf lo hi b t) ≤ longest → Simple (outlineOf lo hi b t)

@@ -13,12 +13,12 @@ use Rattle.base.specs.Below.{first}
 use Rattle.base.proofs.BelowLaws.{first-le, first-found}
 use Rattle.chart.specs.Limits.{side}
 use Rattle.chart.specs.declared.Point.{Point}
-use Rattle.chart.specs.Outline.{Outline}
+use Rattle.chart.specs.Outline.{Outline, at}
 use Rattle.lattice.specs.Chart.{step, leaves, cornerAt, size, letterAt}
 use Rattle.lattice.specs.Enclosed.{upAlong, downAlong}
 use Rattle.lattice.specs.Refusals.{Simple}
 use Rattle.lattice.specs.Walked.{Walked}
-use Rattle.lattice.proofs.WalkLaws.{point, walked, corner-suc, SameCorners, outline-eq}
+use Rattle.lattice.proofs.WalkLaws.{walked, corner-suc, SameCorners, outline-eq}
 use Rattle.lattice.proofs.Jumps.{upsTo, downsTo, upsAt, downsAt, ups-jump-vertical, downs-jump-vertical, ups-column-zero, downs-column-zero, ups-row-zero, ups-found, downs-found, next}
 use Rattle.lattice.proofs.RightHand.{rightOf, leftOf, Lowest, level, clockwise-right}
 use Rattle.convexity.specs.Cut.{westPlace}
@@ -144,7 +144,7 @@ module _ (o : Outline) (h : Simple o) where
       go : (x y : ℕ) → q .col ≡ x → q .row ≡ y → upsTo (clockwiseForm o) x y ≡ downsTo (clockwiseForm o) x y + 1 → (c : ℕ) × (r : ℕ) × (q .col ≡ suc c) × (q .row ≡ suc r) × (block o c r ≡ true)
       go zero y f g d = absurd (omega (arith, ups-column-zero (clockwiseForm o) y))
       go (suc x) zero f g d = absurd (omega (arith, ups-row-zero (clockwiseForm o) (suc x)))
-      go (suc x) (suc y) f g d = (x, y, f, g, level-enclosed (clockwiseForm o) (point x y) d)
+      go (suc x) (suc y) f g d = (x, y, f, g, level-enclosed (clockwiseForm o) (at x y) d)
 
   right-cell : (i : ℕ) → i < size (clockwiseForm o) → (c : ℕ) × (r : ℕ) × (rightOf (cornerAt (clockwiseForm o) i) (letterAt (clockwiseForm o) i) .col ≡ suc c) × (rightOf (cornerAt (clockwiseForm o) i) (letterAt (clockwiseForm o) i) .row ≡ suc r) × (block o c r ≡ true)
   right-cell i l = cell-of (rightOf (cornerAt (clockwiseForm o) i) (letterAt (clockwiseForm o) i)) (clockwise-right (clockwiseForm o) w (westPlace (clockwiseForm o)) lowest up i l)
@@ -190,7 +190,7 @@ module _ (o : Outline) (h : Simple o) where
           subst (Side (clockwiseForm o) r) (sym d)
           (found 0 (omega (
             arith,
-            enclosed-level (clockwiseForm o) (point 0 r) (ap (λ (c : ℕ). block o c r) (sym d) ∙ e),
+            enclosed-level (clockwiseForm o) (at 0 r) (ap (λ (c : ℕ). block o c r) (sym d) ∙ e),
             ups-jump-vertical (clockwiseForm o) 0 (suc r),
             downs-jump-vertical (clockwiseForm o) 0 (suc r),
             ups-column-zero (clockwiseForm o) (suc r),
@@ -203,12 +203,12 @@ module _ (o : Outline) (h : Simple o) where
             | inl z ↦
                 omega (
                   arith,
-                  enclosed-level (clockwiseForm o) (point (suc f) r) (ap (λ (c : ℕ). block o c r) (sym d) ∙ e),
+                  enclosed-level (clockwiseForm o) (at (suc f) r) (ap (λ (c : ℕ). block o c r) (sym d) ∙ e),
                   ups-jump-vertical (clockwiseForm o) (suc f) (suc r),
                   downs-jump-vertical (clockwiseForm o) (suc f) (suc r),
                   z,
                 )
-            | inr z ↦ absurd (omega (arith, d, cell-after (block o) joined-up f r (level-enclosed (clockwiseForm o) (point f r) z)))
+            | inr z ↦ absurd (omega (arith, d, cell-after (block o) joined-up f r (level-enclosed (clockwiseForm o) (at f r) z)))
           ]
           ))
 
@@ -218,12 +218,12 @@ module _ (o : Outline) (h : Simple o) where
       go : (f : ℕ) → pastCell (block o) r ≡ suc f → block o f r ≡ true → Side (clockwiseForm o) r (pastCell (block o) r)
       go f d g =
           elim (level (clockwiseForm o) w (westPlace (clockwiseForm o)) lowest up (suc (suc f)) (suc r)) [
-            | inr z ↦ absurd (omega (arith, d, cell-before (block o) joined-up (suc f) r (level-enclosed (clockwiseForm o) (point (suc f) r) z)))
+            | inr z ↦ absurd (omega (arith, d, cell-before (block o) joined-up (suc f) r (level-enclosed (clockwiseForm o) (at (suc f) r) z)))
             | inl z ↦
                 let k : 1 ≤ downsAt (clockwiseForm o) (suc f) (suc r) =
                 omega (
                   arith,
-                  enclosed-level (clockwiseForm o) (point f r) g,
+                  enclosed-level (clockwiseForm o) (at f r) g,
                   ups-jump-vertical (clockwiseForm o) (suc f) (suc r),
                   downs-jump-vertical (clockwiseForm o) (suc f) (suc r),
                   z,

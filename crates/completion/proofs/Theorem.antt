@@ -7,12 +7,12 @@ use mathlib.Core.Logic.{_↔_}
 use native.Mathlib.Omega.{arith}
 use Rattle.chart.specs.Limits.{side, longest}
 use Rattle.chart.specs.declared.Point.{Point}
-use Rattle.chart.specs.Outline.{Outline, outline}
+use Rattle.chart.specs.Outline.{Outline, outline, at}
 use Rattle.chart.specs.Fields.{verdictFields}
 use Rattle.lattice.specs.Chart.{size}
 use Rattle.lattice.specs.Hull.{InHull, Convex}
 use Rattle.lattice.specs.Refusals.{Simple}
-use Rattle.lattice.proofs.WalkLaws.{point, walked}
+use Rattle.lattice.proofs.WalkLaws.{walked}
 use Rattle.lattice.proofs.HullLaws.{enclosed-in-hull, missing-same}
 use Rattle.rows.specs.parts.Rows.{inRows}
 use Rattle.rows.proofs.Rows.{Rows, within-marked, marked-within}
@@ -128,7 +128,7 @@ module _ (o : Outline) (h : Simple o) where
       )
 
   pub complete-holds : (c r : ℕ) → block o c r ≡ true → block (complete o) c r ≡ true
-  complete-holds c r m = complete-hull (point c r) .1 (enclosed-in-hull (block o) (point c r) m)
+  complete-holds c r m = complete-hull (at c r) .1 (enclosed-in-hull (block o) (at c r) m)
 
   -- It is convex: the hull of the hull is the hull
   pub complete-convex : Convex (block (complete o))
@@ -145,7 +145,7 @@ module _ (o : Outline) (h : Simple o) where
   pub complete-least :
       (v : Outline) → Simple v → verdictFields (verdictOf v) .number ≡ 0 → ((c r : ℕ) → block o c r ≡ true → block v c r ≡ true)
       → (c r : ℕ) → block (complete o) c r ≡ true → block v c r ≡ true
-  complete-least v k taken part c r m = full-holds (block o) (block v) (taken-iff-convex v k .0 taken) part (point c r) (complete-hull (point c r) .0 m)
+  complete-least v k taken part c r m = full-holds (block o) (block v) (taken-iff-convex v k .0 taken) part (at c r) (complete-hull (at c r) .0 m)
 
   -- The completion of a taken outline encloses its own block, and has its border
   pub complete-own : verdictFields (verdictOf o) .number ≡ 0 → SameCells (complete o) o
@@ -163,7 +163,7 @@ module _ (o : Outline) (h : Simple o) where
   -- Its border as the loops write it. W is the lower left corner of row m, the lowest of the hull's rows that begin furthest left
   pub complete-border :
       (m : ℕ) → b o h ≤ m → m < t o h → ((r : ℕ) → b o h ≤ r → r < t o h → left o h m ≤ left o h r) → ((r : ℕ) → b o h ≤ r → r < m → left o h m < left o h r)
-      → border (complete o) ≡ outline (point (left o h m) m) (writtenFrom (left o h) (right o h) (b o h) (t o h) m)
+      → border (complete o) ≡ outline (at (left o h m) m) (writtenFrom (left o h) (right o h) (b o h) (t o h) m)
   unfolding complete hullOutline
   complete-border = from-west (left o h) (right o h) (b o h) (t o h) (rows o h) (high o h) (shares o h) (short o h)
 

@@ -14,11 +14,10 @@ use Rattle.chart.specs.declared.Refusal.{Refusal}
 use Rattle.chart.specs.declared.Refusal.the-variants.{Count, Start, Letter, Leaves, Unclosed, Touches, BackStep, Dent, Room, List as BadList, Cell, Directions}
 use Rattle.chart.specs.declared.Verdict.{Verdict}
 use Rattle.chart.specs.declared.Verdict.the-variants.{Taken, Refused as TurnedBack}
-use Rattle.chart.specs.Outline.{Outline, outline}
+use Rattle.chart.specs.Outline.{Outline, outline, at}
 use Rattle.chart.specs.Fields.{refusalFields, verdictFields}
 use Rattle.lattice.specs.Chart.{size}
 use Rattle.lattice.specs.Refusals.{Simple}
-use Rattle.lattice.proofs.WalkLaws.{point}
 use Rattle.survey.specs.declared.Surveyed.{Surveyed}
 use Rattle.survey.specs.declared.Surveyed.the-variants.{Refused as Stopped}
 use Rattle.survey.specs.Survey.{surveyOf}
@@ -183,9 +182,9 @@ module _ (o : Outline) (buffer : List ℕ) where
     pub hull-answers :
         (after : List ℕ) → n ≤ length buffer
         → after ≡ writtenFrom (rows begins) (rows ends) b t m ++ drop (length (writtenFrom (rows begins) (rows ends) b t m)) buffer
-        → Answers o buffer after (Written n (point (rows begins m) m))
+        → Answers o buffer after (Written n (at (rows begins m) m))
     hull-answers after l e =
         let w : writtenFrom (rows begins) (rows ends) b t m ≡ border (completionOf o) .letters = ap (λ (v : Outline). v .letters) (sym (f .round)) in
-        let s : point (rows begins m) m ≡ border (completionOf o) .start = ap (λ (v : Outline). v .start) (sym (f .round)) in
+        let s : at (rows begins m) m ≡ border (completionOf o) .start = ap (λ (v : Outline). v .start) (sym (f .round)) in
         subst (Answers o buffer after) (λ i. Written (sym (f .count) i) (sym s i))
         (written-answers after h (omega (arith, f .count)) (e ∙ ap (λ (u : List ℕ). u ++ drop (length u) buffer) w))

@@ -5,10 +5,10 @@ use mathlib.Core.List.{List}
 use native.Mathlib.Decide.{decLt}
 use native.Mathlib.Omega.{arith}
 use Rattle.chart.specs.Limits.{side, longest}
-use Rattle.chart.specs.Outline.{Outline, outline}
+use Rattle.chart.specs.Outline.{Outline, outline, at}
 use Rattle.lattice.specs.Chart.{size}
 use Rattle.lattice.specs.Refusals.{Simple}
-use Rattle.lattice.proofs.WalkLaws.{point, walked}
+use Rattle.lattice.proofs.WalkLaws.{walked}
 use Rattle.rows.specs.parts.Rows.{rows}
 use Rattle.rows.proofs.Rows.{Rows}
 use Rattle.convexity.specs.Clockwise.{border, block}
@@ -118,7 +118,7 @@ module _ (o : Outline) (h : Simple o) where
 
     -- The row m is that of W
     module _ (m : ℕ) (w : Lowest begins b t m) where
-      sided-border : border (complete o) ≡ outline (point (begins m) m) (writtenFrom begins ends b t m)
+      sided-border : border (complete o) ≡ outline (at (begins m) m) (writtenFrom begins ends b t m)
       sided-border =
           complete-border o h m (omega (arith, s .low, w .low)) (omega (arith, s .high, w .high))
           (λ r k l.
@@ -135,8 +135,8 @@ module _ (o : Outline) (h : Simple o) where
             left-is r (omega (arith, s .low)) (omega (arith, w .high)),
             w .lowest r (omega (arith, s .low)) l,
           ))
-          ∙ sym (λ i. outline (point (left-is m (w .low) (w .high) i) m) (writtenFrom (left o h) (right o h) (s .low i) (s .high i) m))
-          ∙ ap (outline (point (begins m) m)) (sym (written-same begins (left o h) ends (right o h) b t m (w .low) (w .high) left-is right-is))
+          ∙ sym (λ i. outline (at (left-is m (w .low) (w .high) i) m) (writtenFrom (left o h) (right o h) (s .low i) (s .high i) m))
+          ∙ ap (outline (at (begins m) m)) (sym (written-same begins (left o h) ends (right o h) b t m (w .low) (w .high) left-is right-is))
 
       -- The row n is that of E
       module _ (n : ℕ) (e : Lowest over b t n) where

@@ -11,10 +11,10 @@ use lib.Dec.{leb, eqb}
 use borrow.Author.Tests.{leb-true, eqb-true, eq-eqb, ne-eqb}
 use Rattle.base.proofs.BelowLaws.{and-left, and-right}
 use Rattle.chart.specs.declared.Point.{Point}
-use Rattle.chart.specs.Outline.{Outline}
+use Rattle.chart.specs.Outline.{Outline, at}
 use Rattle.lattice.specs.Chart.{step, cornerAt, size, letterAt}
 use Rattle.lattice.specs.Enclosed.{upAlong, downAlong, ups, downs, encloses}
-use Rattle.lattice.proofs.WalkLaws.{point, corner-zero}
+use Rattle.lattice.proofs.WalkLaws.{corner-zero}
 use Rattle.lattice.proofs.Jumps.{tally, tally-found, upsTo, downsTo, ups-to, downs-to}
 use Rattle.lattice.proofs.RightHand.{leftOf, rightOf, Lowest, clockwise-right, clockwise-left}
 use Rattle.convexity.specs.Frame.{frameOf, along}
@@ -66,7 +66,7 @@ abbrev pub Out : Outline → Point → Type 0
 Out o p = upsTo o (p .col) (p .row) ≡ downsTo o (p .col) (p .row)
 
 abbrev pub shifted : Point → Point
-shifted x = point (suc (x .col)) (suc (x .row))
+shifted x = at (suc (x .col)) (suc (x .row))
 
 module _ (o : Outline) where
   pub enclosed-level : (x : Point) → encloses o (x .col) (x .row) ≡ true → In o (shifted x)

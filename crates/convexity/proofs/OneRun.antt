@@ -7,10 +7,10 @@ use native.Mathlib.Omega.{arith}
 use mathlib.Core.Path.{_≡_, sym, ap, subst}
 use mathlib.Core.Logic.{_≢_}
 use Rattle.chart.specs.declared.Point.{Point}
-use Rattle.chart.specs.Outline.{Outline}
+use Rattle.chart.specs.Outline.{Outline, at}
 use Rattle.lattice.specs.Chart.{cornerAt, letterAt}
 use Rattle.lattice.specs.Hull.{InTriangle, Missing}
-use Rattle.lattice.proofs.WalkLaws.{point, point-eq, corner-injective}
+use Rattle.lattice.proofs.WalkLaws.{point-eq, corner-injective}
 use Rattle.lattice.proofs.Jumps.{upsTo, ups-column-zero, ups-row-zero}
 use Rattle.lattice.proofs.RightHand.{leftOf, rightOf}
 use Rattle.convexity.specs.Frame.{frameOf, along}
@@ -59,7 +59,7 @@ between-col p x q e f h k l =
 
 -- The cell for which a point stands
 abbrev cell : Point → Point
-cell p = point (p .col - 1) (p .row - 1)
+cell p = at (p .col - 1) (p .row - 1)
 
 unshifted : (p : Point) → 0 < p .col → 0 < p .row → p ≡ shifted (cell p)
 unshifted p h k = point-eq p (shifted (cell p)) (omega arith) (omega arith)

@@ -12,10 +12,10 @@ use Rattle.words.specs.Word.{Word, earliers, laters}
 use Rattle.words.proofs.Counts.{earliers-take-le, laters-take-le, earliers-next-later, laters-next-later}
 use Rattle.chart.specs.Limits.{side}
 use Rattle.chart.specs.declared.Point.{Point}
-use Rattle.chart.specs.Outline.{Outline}
+use Rattle.chart.specs.Outline.{Outline, at}
 use Rattle.lattice.specs.Chart.{cornerAt, letterAt}
 use Rattle.lattice.specs.Enclosed.{encloses}
-use Rattle.lattice.proofs.WalkLaws.{point, point-eq, corner-suc}
+use Rattle.lattice.proofs.WalkLaws.{point-eq, corner-suc}
 use Rattle.lattice.proofs.RightHand.{leftOf, rightOf, cornerOf, quarterTurn, clockwise-left-turn}
 use Rattle.convexity.specs.Frame.{frameOf, along, next}
 use Rattle.convexity.specs.Cut.{cut}
@@ -30,10 +30,10 @@ use Rattle.convexity.proofs.Shape.{shape, letterOf, CornerIn, place-lt,
 
 -- The cell at P along the earlier letter of frame k and Q along the later one
 unfoldable pub cellOf : ℕ → ℕ → ℕ → Point
-cellOf zero P Q = point P Q
-cellOf (suc zero) P Q = point Q (side - 1 - P)
-cellOf (suc (suc zero)) P Q = point (side - 1 - P) (side - 1 - Q)
-cellOf (suc (suc (suc k))) P Q = point (side - 1 - Q) P
+cellOf zero P Q = at P Q
+cellOf (suc zero) P Q = at Q (side - 1 - P)
+cellOf (suc (suc zero)) P Q = at (side - 1 - P) (side - 1 - Q)
+cellOf (suc (suc (suc k))) P Q = at (side - 1 - Q) P
 
 pub cellE-cellOf : (k P Q : ℕ) → P ≤ side - 1 → cellE k (cellOf k P Q) ≡ P
 unfolding cellE cellAlong frameOf cellOf
@@ -68,24 +68,24 @@ row-cellOf (suc (suc (suc k))) P Q h l = h
 -- The later letter that leaves (P, Q) has the cell (P, Q) to its right
 pub right-later : (k : ℕ) (p : Point) (P Q : ℕ) → CornerIn k p P Q → P ≤ side - 1 → Q ≤ side - 1 → rightOf p (frameOf k .later) ≡ shifted (cellOf k P Q)
 unfolding frameOf along cellOf rightOf leftOf
-right-later zero p P Q c h l = point-eq (shifted p) (shifted (point P Q)) (ap suc (c .across)) (ap suc (c .up))
+right-later zero p P Q c h l = point-eq (shifted p) (shifted (at P Q)) (ap suc (c .across)) (ap suc (c .up))
 right-later (suc zero) p P Q c h l =
-    point-eq (point (suc (p .col)) (p .row)) (shifted (point Q (side - 1 - P))) (ap suc (c .up)) (omega arith)
+    point-eq (at (suc (p .col)) (p .row)) (shifted (at Q (side - 1 - P))) (ap suc (c .up)) (omega arith)
 right-later (suc (suc zero)) p P Q c h l =
-    point-eq p (shifted (point (side - 1 - P) (side - 1 - Q))) (omega arith) (omega arith)
+    point-eq p (shifted (at (side - 1 - P) (side - 1 - Q))) (omega arith) (omega arith)
 right-later (suc (suc (suc k))) p P Q c h l =
-    point-eq (point (p .col) (suc (p .row))) (shifted (point (side - 1 - Q) P)) (omega arith) (ap suc (c .across))
+    point-eq (at (p .col) (suc (p .row))) (shifted (at (side - 1 - Q) P)) (omega arith) (ap suc (c .across))
 
 -- So has the earlier letter that leaves (P, Q + 1). Where an earlier letter arrives and
 -- the walk turns left, the cell is in the corner of that turn
 pub right-earlier : (k : ℕ) (p : Point) (P Q : ℕ) → CornerIn k p P (suc Q) → P ≤ side - 1 → Q ≤ side - 1 → rightOf p (frameOf k .earlier) ≡ shifted (cellOf k P Q)
 unfolding frameOf along cellOf rightOf leftOf
-right-earlier zero p P Q c h l = point-eq (point (suc (p .col)) (p .row)) (shifted (point P Q)) (ap suc (c .across)) (c .up)
-right-earlier (suc zero) p P Q c h l = point-eq p (shifted (point Q (side - 1 - P))) (c .up) (omega arith)
+right-earlier zero p P Q c h l = point-eq (at (suc (p .col)) (p .row)) (shifted (at P Q)) (ap suc (c .across)) (c .up)
+right-earlier (suc zero) p P Q c h l = point-eq p (shifted (at Q (side - 1 - P))) (c .up) (omega arith)
 right-earlier (suc (suc zero)) p P Q c h l =
-    point-eq (point (p .col) (suc (p .row))) (shifted (point (side - 1 - P) (side - 1 - Q))) (omega arith) (omega arith)
+    point-eq (at (p .col) (suc (p .row))) (shifted (at (side - 1 - P) (side - 1 - Q))) (omega arith) (omega arith)
 right-earlier (suc (suc (suc k))) p P Q c h l =
-    point-eq (shifted p) (shifted (point (side - 1 - Q) P)) (omega arith) (ap suc (c .across))
+    point-eq (shifted p) (shifted (at (side - 1 - Q) P)) (omega arith) (ap suc (c .across))
 
 -- From the earlier letter to the later one is a left turn
 left-turn-letters : (k : ℕ) → frameOf k .later ≡ quarterTurn (frameOf k .earlier)

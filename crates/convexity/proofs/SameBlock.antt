@@ -10,12 +10,12 @@ use lib.Seq.{ext-getD}
 use borrow.Author.Tests.{leb-false, eqb-false, ne-eqb}
 use Rattle.chart.specs.Limits.{side}
 use Rattle.chart.specs.declared.Point.{Point}
-use Rattle.chart.specs.Outline.{Outline}
+use Rattle.chart.specs.Outline.{Outline, at}
 use Rattle.lattice.specs.Chart.{step, leaves, cornerAt, size, Closed, letterAt, rotated}
 use Rattle.lattice.specs.Enclosed.{ups, downs, encloses}
 use Rattle.lattice.specs.Refusals.{Simple}
 use Rattle.lattice.specs.Walked.{Walked}
-use Rattle.lattice.proofs.WalkLaws.{walked, point, point-eq, corner-zero, corner-suc, corner-all, corner-injective, rotated-corners}
+use Rattle.lattice.proofs.WalkLaws.{walked, point-eq, corner-zero, corner-suc, corner-all, corner-injective, rotated-corners}
 use Rattle.lattice.proofs.WalkLaws.{rotated-walked, rotated-simple, outline-eq}
 use Rattle.lattice.proofs.Jumps.{rises, falls, upsTo, downsTo, upsAt, rightsAt, leftsAt, ups-to, downs-to, ups-jump-vertical, downs-jump-vertical, ups-column-zero, downs-column-zero, ups-row-zero, downs-row-zero, jump-horizontal, ups-found, downs-found, rights-found, lefts-found, ups-none, rights-none, lefts-none}
 use Rattle.lattice.proofs.RightHand.{leftOf, rightOf, OneAbove, left-hand, level, tally-rotation}
@@ -37,7 +37,7 @@ abbrev pub Leaves : Outline → Point → ℕ → Type 0
 Leaves o q a = (j : ℕ) × (j < size o) × (letterAt o j ≡ a) × (cornerAt o j ≡ q)
 
 left-from : (o : Outline) (x : ℕ) (q : Point) → suc x ≡ q .col → 1 ≤ leftsAt o x (q .row) → Leaves o q 2
-left-from o x q e h = let (j, m, f, d) = lefts-found o x (q .row) h in (j, m, f, d ∙ point-eq (point (suc x) (q .row)) q e refl)
+left-from o x q e h = let (j, m, f, d) = lefts-found o x (q .row) h in (j, m, f, d ∙ point-eq (at (suc x) (q .row)) q e refl)
 
 -- If the cell to the right of a letter is one level above the cell to its left, the walk has that letter
 pub side-walked : (o : Outline) → Walked o → (q : Point) (a : ℕ) → a < 4 → leaves q a ≡ false
@@ -48,7 +48,7 @@ side-walked o t q (suc zero) l e h =
     let x = q .col in
     let y = suc (q .row) in
     let (j, m, f, d, _) = ups-found o x y (omega (arith, ups-jump-vertical o x y, downs-jump-vertical o x y)) in
-    (j, m, f, d ∙ point-eq (point x (y - 1)) q refl (omega arith))
+    (j, m, f, d ∙ point-eq (at x (y - 1)) q refl (omega arith))
 side-walked o t q (suc (suc zero)) l e h =
     let x = q .col - 1 in
     let n : suc x ≡ q .col = omega (arith, eqb-false (q .col) 0 e) in
@@ -168,9 +168,9 @@ module _ (o o′ : Outline) (d : UpTurn o) (d′ : UpTurn o′) (same : SameEncl
         | inl f ↦
             elim (level o′ (d′ .walk .walked) 0 (from-w-lowest o′ (d′ .walk)) (d′ .up) (suc c) (suc r)) [
               | inl g ↦ omega arith
-              | inr g ↦ absurd (omega (arith, enclosed-level o (point c r) (same c r ∙ level-enclosed o′ (point c r) g)))
+              | inr g ↦ absurd (omega (arith, enclosed-level o (at c r) (same c r ∙ level-enclosed o′ (at c r) g)))
             ]
-        | inr f ↦ omega (arith, enclosed-level o′ (point c r) (sym (same c r) ∙ level-enclosed o (point c r) f))
+        | inr f ↦ omega (arith, enclosed-level o′ (at c r) (sym (same c r) ∙ level-enclosed o (at c r) f))
       ]
 
   same-turns : o ≡ o′
@@ -178,11 +178,11 @@ module _ (o o′ : Outline) (d : UpTurn o) (d′ : UpTurn o′) (same : SameEncl
 
 -- ---- cells off the chart are not enclosed
 
-right-leaves : (x y : ℕ) → leaves (point x y) 0 ≡ false → x < side
+right-leaves : (x y : ℕ) → leaves (at x y) 0 ≡ false → x < side
 unfolding leaves
 right-leaves x y e = leb-false side x e
 
-up-leaves : (x y : ℕ) → leaves (point x y) 1 ≡ false → y < side
+up-leaves : (x y : ℕ) → leaves (at x y) 1 ≡ false → y < side
 unfolding leaves
 up-leaves x y e = leb-false side y e
 
@@ -190,7 +190,7 @@ module _ (o : Outline) (t : Walked o) where
   no-right : (x y : ℕ) → side ≤ x → rightsAt o x y ≡ 0
   no-right x y h = rights-none o x y (λ i l e d. off i (t .stays i l) e d)
     where
-      off : (i : ℕ) → leaves (cornerAt o i) (letterAt o i) ≡ false → letterAt o i ≡ 0 → cornerAt o i ≡ point x y → ⊥
+      off : (i : ℕ) → leaves (cornerAt o i) (letterAt o i) ≡ false → letterAt o i ≡ 0 → cornerAt o i ≡ at x y → ⊥
       off i f e d = omega (arith, right-leaves x y (rw (e, d) at f))
 
   no-left : (x y : ℕ) → side ≤ x → leftsAt o x y ≡ 0
@@ -199,7 +199,7 @@ module _ (o : Outline) (t : Walked o) where
   no-up : (x y : ℕ) → side ≤ y → upsAt o x (suc y) ≡ 0
   no-up x y h = ups-none o x y (λ i l e d. off i (t .stays i l) e d)
     where
-      off : (i : ℕ) → leaves (cornerAt o i) (letterAt o i) ≡ false → letterAt o i ≡ 1 → cornerAt o i ≡ point x y → ⊥
+      off : (i : ℕ) → leaves (cornerAt o i) (letterAt o i) ≡ false → letterAt o i ≡ 1 → cornerAt o i ≡ at x y → ⊥
       off i f e d = omega (arith, up-leaves x y (rw (e, d) at f))
 
   -- Right of the chart the level is the same in every row
@@ -261,9 +261,9 @@ module _ (o o′ : Outline) (h : Reaches o) (h′ : Reaches o′)
         | yes a ↦
             elim (decLt r side) [
               | yes b ↦
-                  sym (edges-answer-sent o h d (point c r) a b)
-                  ∙ (λ z. insideEdges (p z) (q z) (point c r))
-                  ∙ edges-answer-sent o′ h′ d′ (point c r) a b
+                  sym (edges-answer-sent o h d (at c r) a b)
+                  ∙ (λ z. insideEdges (p z) (q z) (at c r))
+                  ∙ edges-answer-sent o′ h′ d′ (at c r) a b
               | no b ↦ open-past c r (inr (omega arith))
             ]
         | no a ↦ open-past c r (inl (omega arith))

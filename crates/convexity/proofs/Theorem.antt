@@ -12,7 +12,7 @@ use Rattle.words.specs.Word.{Word, laters}
 use Rattle.words.proofs.Factors.{factors-exist}
 use Rattle.base.proofs.BelowLaws.{same-test, first-le}
 use Rattle.chart.specs.declared.Point.{Point}
-use Rattle.chart.specs.Outline.{Outline}
+use Rattle.chart.specs.Outline.{Outline, at}
 use Rattle.chart.specs.Limits.{side}
 use Rattle.lattice.specs.Enclosed.{encloses}
 use Rattle.lattice.specs.Hull.{InTriangle, InHull, Missing, LowestMissing}
@@ -23,7 +23,6 @@ use Rattle.convexity.specs.Inside.{insideEdges}
 use Rattle.base.proofs.Mean.{mean-mirror, mean-at-least}
 use Rattle.lattice.proofs.HullLaws.{missing-same, lowest-same}
 use Rattle.rows.specs.parts.Rows.{inRows}
-use Rattle.lattice.proofs.WalkLaws.{point}
 use Rattle.convexity.specs.Shape.{NoBackStep, Shape}
 use Rattle.convexity.proofs.Frame.{Sides}
 use Rattle.convexity.specs.parts.InFrame.{startE, startL, cellE, cellL, cellAlong, UnderFrom}
@@ -158,15 +157,15 @@ module _ (o : Outline) (straight : NoBackStep o) where
 
   -- The cells of these rows are the enclosed ones
   enclosed-rows : (c r : ℕ) → encloses o c r ≡ inRows lo hi (bottom o) (top o) c r
-  enclosed-rows c r = same-test (encloses o c r) (inRows lo hi (bottom o) (top o) c r) (there, back) (marked-within (point c r), within-marked (point c r))
+  enclosed-rows c r = same-test (encloses o c r) (inRows lo hi (bottom o) (top o) c r) (there, back) (marked-within (at c r), within-marked (at c r))
     where
-      there : encloses o c r ≡ true → Within lo hi (bottom o) (top o) (point c r)
+      there : encloses o c r ≡ true → Within lo hi (bottom o) (top o) (at c r)
       there e =
           let row = enclosed-row o straight c r e in
           let ends = row-ends o straight r (row .0) (row .1) c .0 e in
           record { above = row .0; below = row .1; begun = ends .0; before = ends .1 }
 
-      back : Within lo hi (bottom o) (top o) (point c r) → encloses o c r ≡ true
+      back : Within lo hi (bottom o) (top o) (at c r) → encloses o c r ≡ true
       back h = row-ends o straight r (h .above) (h .below) c .1 (h .begun, h .before)
 
   -- E3: the search finds the lowest missing cell, leftmost in its row

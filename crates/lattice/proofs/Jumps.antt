@@ -16,12 +16,12 @@ use lib.Dec.{ltb, eqb, leb·suc-suc, leb·suc-zero, eqb·suc-suc, eqb·suc-zero}
 use borrow.Author.Tests.{eqb-true, eqb-false, lt-ltb, le-ltb, eq-eqb, ne-eqb}
 use Rattle.base.proofs.BelowLaws.{and-left, and-right, not-held}
 use Rattle.chart.specs.declared.Point.{Point}
-use Rattle.chart.specs.Outline.{Outline, outline}
+use Rattle.chart.specs.Outline.{Outline, outline, at}
 use Rattle.chart.specs.Limits.{shortest}
 use Rattle.lattice.specs.Chart.{step, leaves, walk, cornerAt, size, Closed, letterAt}
 use Rattle.lattice.specs.Enclosed.{count, upAlong, downAlong, ups, downs}
 use Rattle.lattice.specs.Walked.{Walked, NeverLeaves}
-use Rattle.lattice.proofs.WalkLaws.{point, point-eq, step-right, step-up, step-left, step-down, corner-zero, corner-suc, corner-all}
+use Rattle.lattice.proofs.WalkLaws.{point-eq, step-right, step-up, step-left, step-down, corner-zero, corner-suc, corner-all}
 use Rattle.lattice.proofs.WalkLaws.{corner-injective}
 
 -- The number of letters, starting at p, that pass a test of themselves and of the corner that they leave
@@ -55,13 +55,13 @@ unfoldable pub upsAt : Outline → ℕ → ℕ → ℕ
 upsAt o x R = tally (λ p a. eqb a 1 && eqb (suc (p .row)) R && eqb (p .col) x) (o .start) (o .letters)
 
 unfoldable pub downsAt : Outline → ℕ → ℕ → ℕ
-downsAt o x R = lettersAt o 3 (point x R)
+downsAt o x R = lettersAt o 3 (at x R)
 
 unfoldable pub rightsAt : Outline → ℕ → ℕ → ℕ
-rightsAt o x y = lettersAt o 0 (point x y)
+rightsAt o x y = lettersAt o 0 (at x y)
 
 unfoldable pub leftsAt : Outline → ℕ → ℕ → ℕ
-leftsAt o x y = lettersAt o 2 (point (suc x) y)
+leftsAt o x y = lettersAt o 2 (at (suc x) y)
 
 -- Laws of tallies, by induction on the letters
 
@@ -216,13 +216,13 @@ module _ (x R : ℕ) where
   abbrev Passes : Point → ℕ → Type 0
   Passes p a = inBand x R p + enters (outline p (a ∷ [])) x R ≡ inBand x R (step p a) + exits (outline p (a ∷ [])) x R
 
-  band-left : (c r : ℕ) → leaves (point c r) 2 ≡ false → Passes (point c r) 2
+  band-left : (c r : ℕ) → leaves (at c r) 2 ≡ false → Passes (at c r) 2
   unfolding upsTo downsTo leftsAt rightsAt lettersAt tally rises falls letterFrom leaves step inBand count
   band-left zero r h = let z : _≡_ {A = ℕ} 0 1 = cc in absurd (omega arith)
   band-left (suc c) r h =
       let e : suc c - 1 ≡ c = omega arith in rw (e, eqb·suc-suc c x, leb·suc-suc (suc c) x) (omega (arith, count-split (eqb r R) c x))
 
-  band-down : (c r : ℕ) → leaves (point c r) 3 ≡ false → Passes (point c r) 3
+  band-down : (c r : ℕ) → leaves (at c r) 3 ≡ false → Passes (at c r) 3
   unfolding upsTo downsTo leftsAt rightsAt lettersAt tally rises falls letterFrom leaves step inBand count
   band-down c zero h = let z : _≡_ {A = ℕ} 0 1 = cc in absurd (omega arith)
   band-down c (suc r) h = let e : suc r - 1 ≡ r = omega arith in rw (e, eqb·suc-suc r R) (omega arith)
@@ -281,9 +281,9 @@ module _ (o : Outline) where
       tally-some (letterFrom (letterAt o i) (cornerAt o i)) (o .start) (o .letters) i l (from-letter (letterAt o i) (cornerAt o i) (cornerAt o i) (letterAt o i) refl refl)
 
   -- An up along a side leaves the side's lower end
-  pub ups-at-letters : (x y : ℕ) → upsAt o x (suc y) ≡ lettersAt o 1 (point x y)
+  pub ups-at-letters : (x y : ℕ) → upsAt o x (suc y) ≡ lettersAt o 1 (at x y)
   unfolding upsAt lettersAt letterFrom
-  ups-at-letters x y = tally-same _ (letterFrom 1 (point x y)) (λ p a. rw eqb·suc-suc) (o .start) (o .letters)
+  ups-at-letters x y = tally-same _ (letterFrom 1 (at x y)) (λ p a. rw eqb·suc-suc) (o .start) (o .letters)
 
   pub ups-at-zero : (x : ℕ) → upsAt o x 0 ≡ 0
   ups-at-zero x = omega (arith, ups-jump-vertical o x 0, ups-row-zero o (suc x))
@@ -291,33 +291,33 @@ module _ (o : Outline) where
 -- A side with a count is used by the letter at some place; a side that no letter uses has count 0
 
 module _ (o : Outline) where
-  pub ups-found : (x R : ℕ) → 1 ≤ upsAt o x R → (i : ℕ) × (i < size o) × (letterAt o i ≡ 1) × (cornerAt o i ≡ point x (R - 1)) × (0 < R)
+  pub ups-found : (x R : ℕ) → 1 ≤ upsAt o x R → (i : ℕ) × (i < size o) × (letterAt o i ≡ 1) × (cornerAt o i ≡ at x (R - 1)) × (0 < R)
   ups-found x zero h = absurd (omega (arith, ups-at-zero o x))
   ups-found x (suc y) h =
-      let (i, l, e, d) = letters-found o 1 (point x y) (rw ups-at-letters at h) in (i, l, e, d ∙ ap (point x) (omega arith), omega arith)
+      let (i, l, e, d) = letters-found o 1 (at x y) (rw ups-at-letters at h) in (i, l, e, d ∙ ap (at x) (omega arith), omega arith)
 
-  pub downs-found : (x R : ℕ) → 1 ≤ downsAt o x R → (i : ℕ) × (i < size o) × (letterAt o i ≡ 3) × (cornerAt o i ≡ point x R)
+  pub downs-found : (x R : ℕ) → 1 ≤ downsAt o x R → (i : ℕ) × (i < size o) × (letterAt o i ≡ 3) × (cornerAt o i ≡ at x R)
   unfolding downsAt
-  downs-found x R = letters-found o 3 (point x R)
+  downs-found x R = letters-found o 3 (at x R)
 
-  pub rights-found : (x y : ℕ) → 1 ≤ rightsAt o x y → (i : ℕ) × (i < size o) × (letterAt o i ≡ 0) × (cornerAt o i ≡ point x y)
+  pub rights-found : (x y : ℕ) → 1 ≤ rightsAt o x y → (i : ℕ) × (i < size o) × (letterAt o i ≡ 0) × (cornerAt o i ≡ at x y)
   unfolding rightsAt
-  rights-found x y = letters-found o 0 (point x y)
+  rights-found x y = letters-found o 0 (at x y)
 
-  pub lefts-found : (x y : ℕ) → 1 ≤ leftsAt o x y → (i : ℕ) × (i < size o) × (letterAt o i ≡ 2) × (cornerAt o i ≡ point (suc x) y)
+  pub lefts-found : (x y : ℕ) → 1 ≤ leftsAt o x y → (i : ℕ) × (i < size o) × (letterAt o i ≡ 2) × (cornerAt o i ≡ at (suc x) y)
   unfolding leftsAt
-  lefts-found x y = letters-found o 2 (point (suc x) y)
+  lefts-found x y = letters-found o 2 (at (suc x) y)
 
-  pub ups-none : (x y : ℕ) → ((i : ℕ) → i < size o → letterAt o i ≡ 1 → cornerAt o i ≡ point x y → ⊥) → upsAt o x (suc y) ≡ 0
-  ups-none x y h = ups-at-letters o x y ∙ letters-none o 1 (point x y) h
+  pub ups-none : (x y : ℕ) → ((i : ℕ) → i < size o → letterAt o i ≡ 1 → cornerAt o i ≡ at x y → ⊥) → upsAt o x (suc y) ≡ 0
+  ups-none x y h = ups-at-letters o x y ∙ letters-none o 1 (at x y) h
 
-  pub rights-none : (x y : ℕ) → ((i : ℕ) → i < size o → letterAt o i ≡ 0 → cornerAt o i ≡ point x y → ⊥) → rightsAt o x y ≡ 0
+  pub rights-none : (x y : ℕ) → ((i : ℕ) → i < size o → letterAt o i ≡ 0 → cornerAt o i ≡ at x y → ⊥) → rightsAt o x y ≡ 0
   unfolding rightsAt
-  rights-none x y = letters-none o 0 (point x y)
+  rights-none x y = letters-none o 0 (at x y)
 
-  pub lefts-none : (x y : ℕ) → ((i : ℕ) → i < size o → letterAt o i ≡ 2 → cornerAt o i ≡ point (suc x) y → ⊥) → leftsAt o x y ≡ 0
+  pub lefts-none : (x y : ℕ) → ((i : ℕ) → i < size o → letterAt o i ≡ 2 → cornerAt o i ≡ at (suc x) y → ⊥) → leftsAt o x y ≡ 0
   unfolding leftsAt
-  lefts-none x y = letters-none o 2 (point (suc x) y)
+  lefts-none x y = letters-none o 2 (at (suc x) y)
 
 -- Each side is used at most once: two letters along it, in the same direction or in both, would meet a corner twice
 
@@ -388,10 +388,10 @@ module _ (o : Outline) (t : Walked o) where
 
   pub vertical-sides-once : (x R : ℕ) → upsAt o x R + downsAt o x R ≤ 1
   unfolding downsAt
-  vertical-sides-once x zero = omega (arith, ups-at-zero o x, letters-once 3 (point x 0))
+  vertical-sides-once x zero = omega (arith, ups-at-zero o x, letters-once 3 (at x 0))
   vertical-sides-once x (suc y) =
-      rw (ups-at-letters o x y) (side-once 1 3 (point x y) (point x (suc y)) (step-up x y) (step-down x y))
+      rw (ups-at-letters o x y) (side-once 1 3 (at x y) (at x (suc y)) (step-up x y) (step-down x y))
 
   pub horizontal-sides-once : (x y : ℕ) → rightsAt o x y + leftsAt o x y ≤ 1
   unfolding rightsAt leftsAt
-  horizontal-sides-once x y = side-once 0 2 (point x y) (point (suc x) y) (step-right x y) (step-left x y)
+  horizontal-sides-once x y = side-once 0 2 (at x y) (at (suc x) y) (step-right x y) (step-left x y)

@@ -13,21 +13,21 @@ use lib.ListN.{take, drop, take-append-drop}
 use borrow.Author.Tests.{eqb-false}
 use Rattle.base.proofs.BelowLaws.{below-four}
 use Rattle.chart.specs.declared.Point.{Point}
-use Rattle.chart.specs.Outline.{Outline}
+use Rattle.chart.specs.Outline.{Outline, at}
 use Rattle.lattice.specs.Chart.{step, leaves, walk, cornerAt, size, Closed, letterAt, rotated, opposite}
 use Rattle.lattice.specs.Enclosed.{ups, downs, encloses}
 use Rattle.lattice.specs.Walked.{Walked, NeverLeaves}
-use Rattle.lattice.proofs.WalkLaws.{point, point-eq, step-right, step-up, step-left, step-down, corner-zero, corner-suc, corner-all}
+use Rattle.lattice.proofs.WalkLaws.{point-eq, step-right, step-up, step-left, step-down, corner-zero, corner-suc, corner-all}
 use Rattle.lattice.proofs.WalkLaws.{corner-injective, walk-append}
 use Rattle.lattice.proofs.Jumps.{tally, rises, falls, tally-append, upsTo, downsTo, lettersAt, upsAt, downsAt, rightsAt, leftsAt, ups-to, downs-to, ups-jump-vertical, downs-jump-vertical, ups-column-zero, downs-column-zero, jump-horizontal, letters-none, letters-one, ups-at-letters, ups-found, downs-found, rights-found, lefts-found, next, arrival-injective, no-return}
 
 -- The four cells around a corner, anticlockwise: cell k lies between the sides along which letters k and k + 1 leave. So it is to the
 -- left of letter k and to the right of letter k + 1
 unfoldable pub leftOf : Point → ℕ → Point
-leftOf p zero = point (suc (p .col)) (suc (p .row))
-leftOf p (suc zero) = point (p .col) (suc (p .row))
+leftOf p zero = at (suc (p .col)) (suc (p .row))
+leftOf p (suc zero) = at (p .col) (suc (p .row))
 leftOf p (suc (suc zero)) = p
-leftOf p (suc (suc (suc zero))) = point (suc (p .col)) (p .row)
+leftOf p (suc (suc (suc zero))) = at (suc (p .col)) (p .row)
 leftOf p (suc (suc (suc (suc a)))) = p
 
 unfoldable pub rightOf : Point → ℕ → Point
@@ -51,20 +51,20 @@ right-arriving : (p : Point) (a : ℕ) → a < 4 → leaves p a ≡ false → ri
 unfolding rightOf leftOf leaves step opposite
 right-arriving p =
     below-four (λ a. leaves p a ≡ false → rightOf p a ≡ leftOf (step p a) (opposite a))
-    (λ e. point-eq (point (suc (p .col)) (p .row)) (point (p .col + 1) (p .row)) (omega arith) refl)
-    (λ e. point-eq (point (suc (p .col)) (suc (p .row))) (point (suc (p .col)) (p .row + 1)) refl (omega arith))
-    (λ e. let h = eqb-false (p .col) 0 e in point-eq (point (p .col) (suc (p .row))) (point (suc (p .col - 1)) (suc (p .row))) (omega arith) refl)
-    (λ e. let h = eqb-false (p .row) 0 e in point-eq p (point (p .col) (suc (p .row - 1))) refl (omega arith))
+    (λ e. point-eq (at (suc (p .col)) (p .row)) (at (p .col + 1) (p .row)) (omega arith) refl)
+    (λ e. point-eq (at (suc (p .col)) (suc (p .row))) (at (suc (p .col)) (p .row + 1)) refl (omega arith))
+    (λ e. let h = eqb-false (p .col) 0 e in point-eq (at (p .col) (suc (p .row))) (at (suc (p .col - 1)) (suc (p .row))) (omega arith) refl)
+    (λ e. let h = eqb-false (p .row) 0 e in point-eq p (at (p .col) (suc (p .row - 1))) refl (omega arith))
 
 -- A letter and its opposite lead back
 pub step-back : (p : Point) (a : ℕ) → a < 4 → leaves p a ≡ false → step (step p a) (opposite a) ≡ p
 unfolding leaves step opposite
 step-back p =
     below-four (λ a. leaves p a ≡ false → step (step p a) (opposite a) ≡ p)
-    (λ e. point-eq (point (p .col + 1 - 1) (p .row)) p (omega arith) refl)
-    (λ e. point-eq (point (p .col) (p .row + 1 - 1)) p refl (omega arith))
-    (λ e. let h = eqb-false (p .col) 0 e in point-eq (point (p .col - 1 + 1) (p .row)) p (omega arith) refl)
-    (λ e. let h = eqb-false (p .row) 0 e in point-eq (point (p .col) (p .row - 1 + 1)) p refl (omega arith))
+    (λ e. point-eq (at (p .col + 1 - 1) (p .row)) p (omega arith) refl)
+    (λ e. point-eq (at (p .col) (p .row + 1 - 1)) p refl (omega arith))
+    (λ e. let h = eqb-false (p .col) 0 e in point-eq (at (p .col - 1 + 1) (p .row)) p (omega arith) refl)
+    (λ e. let h = eqb-false (p .row) 0 e in point-eq (at (p .col) (p .row - 1 + 1)) p refl (omega arith))
 
 -- The cell in the corner of a left turn after the letter a, which leaves p: it would be
 -- to the right of the next letter if the walk went straight on
@@ -97,14 +97,14 @@ module _ (o : Outline) (h : NeverLeaves o) (c : Closed o) where
       upsTo o (rightOf q k .col) (rightOf q k .row) + downsTo o (leftOf q k .col) (leftOf q k .row) + backs o q k
       ≡ downsTo o (rightOf q k .col) (rightOf q k .row) + upsTo o (leftOf q k .col) (leftOf q k .row) + lettersAt o k q
 
-  jump-left : (x y : ℕ) → Jump (point x y) 2
+  jump-left : (x y : ℕ) → Jump (at x y) 2
   unfolding rightOf leftOf backs rightsInto leftsAt leaves
   jump-left zero y =
-      let e : lettersAt o 2 (point 0 y) ≡ 0 = letters-none o 2 (point 0 y) (λ i l e d. off i (h i l) e d) in
+      let e : lettersAt o 2 (at 0 y) ≡ 0 = letters-none o 2 (at 0 y) (λ i l e d. off i (h i l) e d) in
       omega (arith, ups-column-zero o y, ups-column-zero o (suc y), downs-column-zero o y, downs-column-zero o (suc y))
     where
-      off : (i : ℕ) → leaves (cornerAt o i) (letterAt o i) ≡ false → letterAt o i ≡ 2 → cornerAt o i ≡ point 0 y → ⊥
-      off i f e d = let g : leaves (point 0 y) 2 ≡ false = rw (e, d) at f in let z : _≡_ {A = ℕ} 0 1 = cc in omega arith
+      off : (i : ℕ) → leaves (cornerAt o i) (letterAt o i) ≡ false → letterAt o i ≡ 2 → cornerAt o i ≡ at 0 y → ⊥
+      off i f e d = let g : leaves (at 0 y) 2 ≡ false = rw (e, d) at f in let z : _≡_ {A = ℕ} 0 1 = cc in omega arith
   jump-left (suc x) y = omega (arith, jump-horizontal o h c x y)
 
   jump : (q : Point) (k : ℕ) → k < 4 → Jump q k
@@ -134,11 +134,11 @@ module _ (o : Outline) where
         arriving = corner-suc o i l ∙ (λ z. step (d z) (e z)) ∙ r;
       }
 
-  back-right : (x y : ℕ) → 1 ≤ rightsInto o x y → (i : ℕ) × Back o (point x y) 2 i
+  back-right : (x y : ℕ) → 1 ≤ rightsInto o x y → (i : ℕ) × Back o (at x y) 2 i
   unfolding rightsInto opposite
   back-right zero y b = absurd (omega arith)
   back-right (suc x) y b =
-      let (i, l, e, d) = rights-found o x y b in (i, back (point (suc x) y) 2 i 0 (point x y) l e d refl (sym (step-left x y)) (step-right x y))
+      let (i, l, e, d) = rights-found o x y b in (i, back (at (suc x) y) 2 i 0 (at x y) l e d refl (sym (step-left x y)) (step-right x y))
 
   back-found : (q : Point) (k : ℕ) → k < 4 → 1 ≤ backs o q k → (i : ℕ) × Back o q k i
   unfolding backs step opposite
@@ -146,14 +146,14 @@ module _ (o : Outline) where
       below-four (λ k. 1 ≤ backs o q k → (i : ℕ) × Back o q k i)
       (λ b.
       let (i, l, e, d) = lefts-found o (q .col) (q .row) b in
-      (i, back q 0 i 2 (point (suc (q .col)) (q .row)) l e d refl (sym (step-right (q .col) (q .row))) (step-left (q .col) (q .row))))
+      (i, back q 0 i 2 (at (suc (q .col)) (q .row)) l e d refl (sym (step-right (q .col) (q .row))) (step-left (q .col) (q .row))))
       (λ b.
       let (i, l, e, d) = downs-found o (q .col) (suc (q .row)) b in
-      (i, back q 1 i 3 (point (q .col) (suc (q .row))) l e d refl (sym (step-up (q .col) (q .row))) (step-down (q .col) (q .row))))
+      (i, back q 1 i 3 (at (q .col) (suc (q .row))) l e d refl (sym (step-up (q .col) (q .row))) (step-down (q .col) (q .row))))
       (back-right (q .col) (q .row))
       (λ b.
       let (i, l, e, d, m) = ups-found o (q .col) (q .row) b in
-      (i, back q 3 i 1 (point (q .col) (q .row - 1)) l e d refl refl (point-eq (point (q .col) (q .row - 1 + 1)) q refl (omega arith))))
+      (i, back q 3 i 1 (at (q .col) (q .row - 1)) l e d refl refl (point-eq (at (q .col) (q .row - 1 + 1)) q refl (omega arith))))
 
 module _ (o : Outline) (t : Walked o) where
   abbrev corner : ℕ → Point
@@ -387,13 +387,13 @@ module _ (o : Outline) (t : Walked o) (k : ℕ) (m : Lowest o k) where
         elim (decLe 1 (upsAt o C R)) [
           | yes a ↦
               let (i, b, e, d, c) = ups-found o C R a in
-              let cell : rightOf (cornerAt o i) (letterAt o i) ≡ point (suc C) R = (λ z. rightOf (d z) (e z)) ∙ ap (point (suc C)) (omega arith) in
+              let cell : rightOf (cornerAt o i) (letterAt o i) ≡ at (suc C) R = (λ z. rightOf (d z) (e z)) ∙ ap (at (suc C)) (omega arith) in
               inr (rw cell at (clockwise-right i b))
           | no a ↦
               elim (decLe 1 (downsAt o C R)) [
                 | yes a′ ↦
                     let (i, b, e, d) = downs-found o C R a′ in
-                    let cell : leftOf (cornerAt o i) (letterAt o i) ≡ point (suc C) R = λ z. leftOf (d z) (e z) in
+                    let cell : leftOf (cornerAt o i) (letterAt o i) ≡ at (suc C) R = λ z. leftOf (d z) (e z) in
                     inl (rw cell at (clockwise-left i b))
                 | no a′ ↦
                     let u = ups-jump-vertical o C R in

@@ -14,7 +14,7 @@ use witness::written::of_witnessed;
 ghost use mathlib.Core.Path.{_≡_};
 ghost use lib.ListN.{length};
 ghost use Rattle.chart.specs.Fields.{numbersOf, fieldsOf, positionFields, comparisonFields};
-ghost use Rattle.chart.specs.Outline.{outline};
+ghost use Rattle.chart.specs.Outline.{at, outline};
 ghost use Rattle.verdict.specs.Verdict.{testFields, edgesAfter};
 ghost use Rattle.verdict.specs.Named.{CellNamed};
 ghost use Rattle.polygon.specs.Loose.{looseOf, HullNamed};
@@ -27,7 +27,6 @@ ghost use Rattle.comparison.specs.Compared.{comparisonOf, CellsNamed};
 ghost use Rattle.witness.specs.Witnessed.{witnessedOf, witnessedFields, cellsAfter};
 ghost use Rattle.witness.specs.Named.{WitnessNamed};
 ghost use Rattle.replay.specs.Script.{callsRead, repliesAfter};
-ghost use Rattle.robequarry.specs.At.{at};
 
 pub mod on_holder;
 pub mod on_pile;

@@ -12,6 +12,7 @@ ghost use mathlib.Core.List.{List};
 ghost use Prim.Native.Nat.{ℕ};
 ghost use lib.IntN.{ℤ};
 ghost use Rattle.chart.specs.Fields.{numbersOf};
+ghost use Rattle.chart.specs.Outline.{at};
 ghost use Rattle.calls.specs.Calls.{by};
 ghost use Rattle.calls.specs.declared.Action.{Action};
 ghost use Rattle.calls.specs.declared.Question.{Question};
@@ -19,7 +20,6 @@ ghost use Rattle.holder.specs.Holder.{freshHolder};
 ghost use Rattle.wire.specs.Wire.{received};
 ghost use Rattle.live_memory.specs.Layout.{memory, holderIn, Fits};
 ghost use Rattle.live.specs.Called.{Called, Done, pieceDrawn};
-ghost use Rattle.robequarry.specs.At.{at};
 
 // Makes the arrays a fresh holder, whatever they held.
 #[no_mangle]

@@ -5,7 +5,7 @@ use chart::reply::NUMBERS as REPLY;
 use live_pile::ROW_BYTES;
 use live_pile::STATE_BYTES;
 ghost use mathlib.Core.Path.{_≡_};
-ghost use Rattle.chart.specs.Outline.{outline};
+ghost use Rattle.chart.specs.Outline.{at, outline};
 ghost use Rattle.chart.specs.Fields.{fieldsOf};
 ghost use Rattle.verdict.specs.Named.{CellNamed};
 ghost use Rattle.pile.specs.Pile.{freshPile};
@@ -14,7 +14,6 @@ ghost use Rattle.pile.specs.Meaning.{CheckedRuns, NoDent};
 ghost use Rattle.live_sections.specs.Layers.{layersOf};
 ghost use Rattle.live_pile.specs.Layout.{memory, pileIn, Fits};
 ghost use Rattle.live_pile.specs.Called.{Done, CheckWritten};
-ghost use Rattle.robequarry.specs.At.{at};
 
 // Makes the arrays a fresh pile, whatever they held.
 #[no_mangle]

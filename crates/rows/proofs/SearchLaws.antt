@@ -13,7 +13,7 @@ use Rattle.base.proofs.BelowLaws.{below-suc, first-same, first-none, first-is}
 use Rattle.chart.specs.declared.Point.{Point}
 use Rattle.rows.specs.Search.{asFarLeft, furthest, crossing, gapRow, chain, lowestGap}
 use Rattle.chart.specs.Limits.{side}
-use Rattle.lattice.proofs.WalkLaws.{point}
+use Rattle.chart.specs.Outline.{at}
 
 -- A 16-bit number times a count of rows
 pub product-small : (a d : ℕ) → a < 65536 → d < 256 → a * d ≤ 16711425
@@ -127,18 +127,18 @@ module _ (lo : ℕ → ℕ) (t i : ℕ) where
         | yes l ↦ elim (decLt (edgeGap lo t i) (edgeEnd lo t i)) [ yes g ↦ gap l g | no g ↦ on l (omega arith) ]
       ]
 
-  chain-zero : chain lo t i 0 ≡ point 0 t
+  chain-zero : chain lo t i 0 ≡ at 0 t
   unfolding chain
   chain-zero = refl
 
-  pub chain-done : (n : ℕ) → t ≤ suc i → chain lo t i n ≡ point 0 t
+  pub chain-done : (n : ℕ) → t ≤ suc i → chain lo t i n ≡ at 0 t
   unfolding chain
   chain-done zero h = refl
   chain-done (suc n) h = simp (le-leb t (suc i) h)
 
   pub chain-gap :
       (n : ℕ) → suc i < t → edgeGap lo t i < edgeEnd lo t i →
-      chain lo t i (suc n) ≡ point (crossing lo i (edgeEnd lo t i) (edgeGap lo t i)) (edgeGap lo t i)
+      chain lo t i (suc n) ≡ at (crossing lo i (edgeEnd lo t i) (edgeGap lo t i)) (edgeGap lo t i)
   unfolding chain
   chain-gap n h g = simp (lt-leb t (suc i) h, lt-ltb (edgeGap lo t i) (edgeEnd lo t i) g)
 
@@ -165,7 +165,7 @@ module _ (lo : ℕ → ℕ) (t i j r : ℕ) (above : suc i < t) (end : j ≡ edg
   at-edge : r ≡ edgeGap lo t i
   at-edge = next ∙ ap (gapRow lo i) end
 
-  pub chain-stops : r < j → chain lo t i (t - i) ≡ point (crossing lo i j r) r
+  pub chain-stops : r < j → chain lo t i (t - i) ≡ at (crossing lo i j r) r
   chain-stops h =
       let d : t - i ≡ suc (t - suc i) = omega arith in
       let e = at-edge in
@@ -256,7 +256,7 @@ module _ (lo hi m : ℕ → ℕ) (b t : ℕ) (p q : Point) (mirror : (r : ℕ) �
   unfolding lowestGap
   lowestGap-left h = rw (← left, ← right-row, le-leb (p .row) (q .row) h)
 
-  pub lowestGap-right : q .row < p .row → point (hi (q .row)) (q .row) ≡ lowestGap lo hi b t
+  pub lowestGap-right : q .row < p .row → at (hi (q .row)) (q .row) ≡ lowestGap lo hi b t
   unfolding lowestGap
   lowestGap-right h = rw (← left, ← right-row, lt-leb (p .row) (q .row) h)
 
@@ -274,6 +274,6 @@ lowestGap-same lo hi lo′ hi′ b t begin end =
           sym (lowestGap-left lo hi m b t p q (λ r l. refl) refl refl (omega arith)) ∙ lowestGap-left lo′ hi′ m b t p q mirror left refl (omega arith)
       | yes h ↦
           sym (lowestGap-right lo hi m b t p q (λ r l. refl) refl refl h)
-          ∙ ap (λ (x : ℕ). point x (q .row)) (end (q .row) (omega (arith, chain-row-le lo t b (t - b))))
+          ∙ ap (λ (x : ℕ). at x (q .row)) (end (q .row) (omega (arith, chain-row-le lo t b (t - b))))
           ∙ lowestGap-right lo′ hi′ m b t p q mirror left refl h
     ]

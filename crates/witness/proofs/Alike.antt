@@ -6,7 +6,8 @@ use native.Mathlib.Omega.{arith}
 use borrow.Author.Tests.{lt-ltb, le-ltb}
 use Rattle.chart.specs.Limits.{side}
 use Rattle.chart.specs.declared.Point.{Point}
-use Rattle.lattice.proofs.WalkLaws.{point, point-eq}
+use Rattle.chart.specs.Outline.{at}
+use Rattle.lattice.proofs.WalkLaws.{point-eq}
 use Rattle.rows.proofs.Rows.{Within}
 use Rattle.completion.specs.HullRows.{hullLeft, hullRight}
 use Rattle.witness.specs.Three.{Three, lowerEnd, upperEnd, firstIn, lastIn, fromLeft, fromRight, fromRow, threeFor}
@@ -39,11 +40,11 @@ ended f g b t same r h l k =
 module _ (f g p q : ℕ → ℕ) (b t : ℕ) (begins : (r : ℕ) → r < t → f r ≡ g r) (ends : (r : ℕ) → r < t → p r ≡ q r) where
   first-alike : (i j : ℕ) → i < t → i ≡ j → firstIn f p b t i ≡ firstIn g q b t j
   unfolding firstIn
-  first-alike i j l e = point-eq (point (f i) i) (point (g j) j) (begins i l ∙ ap g e) e
+  first-alike i j l e = point-eq (at (f i) i) (at (g j) j) (begins i l ∙ ap g e) e
 
   last-alike : (i j : ℕ) → i < t → i ≡ j → lastIn f p b t i ≡ lastIn g q b t j
   unfolding lastIn
-  last-alike i j l e = point-eq (point (pred (p i)) i) (point (pred (q j)) j) (ap pred (ends i l ∙ ap q e)) e
+  last-alike i j l e = point-eq (at (pred (p i)) i) (at (pred (q j)) j) (ap pred (ends i l ∙ ap q e)) e
 
   left-alike : (r : ℕ) → b ≤ r → r < t → hullLeft f b t r < f r → fromLeft f p b t r ≡ fromLeft g q b t r
   unfolding fromLeft

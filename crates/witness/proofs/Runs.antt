@@ -10,11 +10,11 @@ use lib.Dec.{ltb}
 use borrow.Author.Tests.{ltb-true, lt-ltb}
 use Rattle.chart.specs.Limits.{side}
 use Rattle.chart.specs.declared.Point.{Point}
-use Rattle.chart.specs.Outline.{Outline}
+use Rattle.chart.specs.Outline.{Outline, at}
 use Rattle.lattice.specs.Chart.{cornerAt, letterAt}
 use Rattle.lattice.specs.Refusals.{Simple}
 use Rattle.lattice.specs.Walked.{Walked}
-use Rattle.lattice.proofs.WalkLaws.{point, point-eq, walked}
+use Rattle.lattice.proofs.WalkLaws.{point-eq, walked}
 use Rattle.lattice.proofs.Jumps.{upsAt, downsAt, ups-jump-vertical, downs-jump-vertical, ups-found, downs-found}
 use Rattle.lattice.proofs.RightHand.{leftOf, Lowest, clockwise-left}
 use Rattle.convexity.specs.Cut.{westPlace}
@@ -49,8 +49,8 @@ module _ (o : Outline) (h : Simple o) where
   -- Without a side the next cell is like the one before it
   goes-on : (c r : ℕ) → block o c r ≡ true → (Side o r (suc c) → ⊥) → block o (suc c) r ≡ true
   goes-on c r e n =
-      level-enclosed (clockwiseForm o) (point (suc c) r)
-      (omega (arith, enclosed-level (clockwiseForm o) (point c r) e, ups-jump-vertical (clockwiseForm o) (suc c) (suc r), downs-jump-vertical (clockwiseForm o) (suc c) (suc r), no-ups, no-downs))
+      level-enclosed (clockwiseForm o) (at (suc c) r)
+      (omega (arith, enclosed-level (clockwiseForm o) (at c r) e, ups-jump-vertical (clockwiseForm o) (suc c) (suc r), downs-jump-vertical (clockwiseForm o) (suc c) (suc r), no-ups, no-downs))
     where
       no-ups : upsAt (clockwiseForm o) (suc c) (suc r) ≡ 0
       no-ups =
@@ -81,11 +81,11 @@ module _ (o : Outline) (h : Simple o) where
       let k : Out (clockwiseForm o) (leftOf p a) = clockwise-left (clockwiseForm o) w (westPlace (clockwiseForm o)) lowest up i (m .below) in
       elim (along-cases r p a (m .passes)) [
         | inl (d, q) ↦
-            let cell : leftOf p a ≡ point (suc c) (suc r) = ap (leftOf p) d ∙ point-eq (point (p .col) (suc (p .row))) (point (suc c) (suc r)) (m .said) (ap suc q) in
-            absurd (omega (arith, enclosed-level (clockwiseForm o) (point c r) e, subst (Out (clockwiseForm o)) cell k))
+            let cell : leftOf p a ≡ at (suc c) (suc r) = ap (leftOf p) d ∙ point-eq (at (p .col) (suc (p .row))) (at (suc c) (suc r)) (m .said) (ap suc q) in
+            absurd (omega (arith, enclosed-level (clockwiseForm o) (at c r) e, subst (Out (clockwiseForm o)) cell k))
         | inr (d, q) ↦
-            let cell : leftOf p a ≡ point (suc (suc c)) (suc r) = ap (leftOf p) d ∙ point-eq (point (suc (p .col)) (p .row)) (point (suc (suc c)) (suc r)) (ap suc (m .said)) q in
-            level-open (clockwiseForm o) (point (suc c) r) (subst (Out (clockwiseForm o)) cell k)
+            let cell : leftOf p a ≡ at (suc (suc c)) (suc r) = ap (leftOf p) d ∙ point-eq (at (suc (p .col)) (p .row)) (at (suc (suc c)) (suc r)) (ap suc (m .said)) q in
+            level-open (clockwiseForm o) (at (suc c) r) (subst (Out (clockwiseForm o)) cell k)
       ]
 
   -- ---- the rows as the letters give them

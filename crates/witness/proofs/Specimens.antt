@@ -9,11 +9,10 @@ use Rattle.base.specs.Below
 use Rattle.chart.specs.declared.Point.{Point}
 use Rattle.chart.specs.declared.Fields.{Fields}
 use Rattle.chart.specs.Fields.{no-word, numbered, placed, said, accepted}
-use Rattle.chart.specs.Outline.{Outline, outline}
+use Rattle.chart.specs.Outline.{Outline, outline, at}
 use Rattle.calls.specs.Replies.{none}
 use Rattle.lattice.specs.Chart
 use Rattle.lattice.specs.Enclosed
-use Rattle.lattice.proofs.WalkLaws.{point}
 use Rattle.rows.specs.Search
 use Rattle.completion.specs.HullRows
 use Rattle.completion.specs.parts.Sides
@@ -38,36 +37,36 @@ pub record Shows (o : Outline) (x a b d : Point) : Type 0 where
   pub three : Gap.witnessOf o ≡ record { a = a; b = b; d = d }
 
 abbrev drawn : List ℕ → Outline
-drawn w = outline (point 0 0) w
+drawn w = outline (at 0 0) w
 
 -- H6: a row of three and a tower of three at its left
-h6 : Shows (drawn (1 ∷ 1 ∷ 1 ∷ 0 ∷ 3 ∷ 3 ∷ 0 ∷ 0 ∷ 3 ∷ 2 ∷ 2 ∷ 2 ∷ [])) (point 1 1) (point 2 0) (point 0 2) (point 0 1)
+h6 : Shows (drawn (1 ∷ 1 ∷ 1 ∷ 0 ∷ 3 ∷ 3 ∷ 0 ∷ 0 ∷ 3 ∷ 2 ∷ 2 ∷ 2 ∷ [])) (at 1 1) (at 2 0) (at 0 2) (at 0 1)
 unfolding opened
 h6 = record { missing = refl; cell = refl; three = refl }
 
 -- Its mirror image
-h6-left : Shows (drawn (1 ∷ 0 ∷ 0 ∷ 1 ∷ 1 ∷ 0 ∷ 3 ∷ 3 ∷ 3 ∷ 2 ∷ 2 ∷ 2 ∷ [])) (point 1 1) (point 0 0) (point 2 2) (point 2 1)
+h6-left : Shows (drawn (1 ∷ 0 ∷ 0 ∷ 1 ∷ 1 ∷ 0 ∷ 3 ∷ 3 ∷ 3 ∷ 2 ∷ 2 ∷ 2 ∷ [])) (at 1 1) (at 0 0) (at 2 2) (at 2 1)
 unfolding opened
 h6-left = record { missing = refl; cell = refl; three = refl }
 
 -- H7: two towers of two on a row of three, a gap within a row; and backward
-h7 : Shows (drawn (1 ∷ 1 ∷ 0 ∷ 3 ∷ 0 ∷ 1 ∷ 0 ∷ 3 ∷ 3 ∷ 2 ∷ 2 ∷ 2 ∷ [])) (point 1 1) (point 0 1) (point 2 1) (point 2 1)
+h7 : Shows (drawn (1 ∷ 1 ∷ 0 ∷ 3 ∷ 0 ∷ 1 ∷ 0 ∷ 3 ∷ 3 ∷ 2 ∷ 2 ∷ 2 ∷ [])) (at 1 1) (at 0 1) (at 2 1) (at 2 1)
 unfolding opened
 h7 = record { missing = refl; cell = refl; three = refl }
 
-h7-back : Shows (drawn (0 ∷ 0 ∷ 0 ∷ 1 ∷ 1 ∷ 2 ∷ 3 ∷ 2 ∷ 1 ∷ 2 ∷ 3 ∷ 3 ∷ [])) (point 1 1) (point 0 1) (point 2 1) (point 2 1)
+h7-back : Shows (drawn (0 ∷ 0 ∷ 0 ∷ 1 ∷ 1 ∷ 2 ∷ 3 ∷ 2 ∷ 1 ∷ 2 ∷ 3 ∷ 3 ∷ [])) (at 1 1) (at 0 1) (at 2 1) (at 2 1)
 unfolding opened
 h7-back = record { missing = refl; cell = refl; three = refl }
 
 -- Three towers of three on a row of five: two gaps in each row, of which the first is found
 comb :
     Shows (drawn (1 ∷ 1 ∷ 1 ∷ 0 ∷ 3 ∷ 3 ∷ 0 ∷ 1 ∷ 1 ∷ 0 ∷ 3 ∷ 3 ∷ 0 ∷ 1 ∷ 1 ∷ 0 ∷ 3 ∷ 3 ∷ 3 ∷ 2 ∷ 2 ∷ 2 ∷ 2 ∷ 2 ∷ []))
-    (point 1 1) (point 0 1) (point 4 1) (point 4 1)
+    (at 1 1) (at 0 1) (at 4 1) (at 4 1)
 unfolding opened
 comb = record { missing = refl; cell = refl; three = refl }
 
 -- Row 0 of columns 2 and 3, row 1 of column 3, row 2 of columns 0 to 3: the line from (2, 0) to (0, 2) meets row 1 at column 1
-hook : Shows (outline (point 2 0) (1 ∷ 0 ∷ 1 ∷ 2 ∷ 2 ∷ 2 ∷ 1 ∷ 0 ∷ 0 ∷ 0 ∷ 0 ∷ 3 ∷ 3 ∷ 3 ∷ 2 ∷ 2 ∷ [])) (point 1 1) (point 2 0) (point 0 2) (point 3 1)
+hook : Shows (outline (at 2 0) (1 ∷ 0 ∷ 1 ∷ 2 ∷ 2 ∷ 2 ∷ 1 ∷ 0 ∷ 0 ∷ 0 ∷ 0 ∷ 3 ∷ 3 ∷ 3 ∷ 2 ∷ 2 ∷ [])) (at 1 1) (at 2 0) (at 0 2) (at 3 1)
 unfolding opened
 hook = record { missing = refl; cell = refl; three = refl }
 
@@ -85,7 +84,7 @@ pub record Answers (o : Outline) (n : ℕ) (f : Fields) (after : List ℕ) : Typ
 
 -- H6 with a buffer of eight numbers and of five; H1, one cell; H8, which meets a corner twice
 h6-answer :
-    Answers (drawn (1 ∷ 1 ∷ 1 ∷ 0 ∷ 3 ∷ 3 ∷ 0 ∷ 0 ∷ 3 ∷ 2 ∷ 2 ∷ 2 ∷ [])) 8 (accepted no-word 0 (point 1 1)) (2 ∷ 0 ∷ 0 ∷ 2 ∷ 0 ∷ 1 ∷ 0 ∷ 0 ∷ [])
+    Answers (drawn (1 ∷ 1 ∷ 1 ∷ 0 ∷ 3 ∷ 3 ∷ 0 ∷ 0 ∷ 3 ∷ 2 ∷ 2 ∷ 2 ∷ [])) 8 (accepted no-word 0 (at 1 1)) (2 ∷ 0 ∷ 0 ∷ 2 ∷ 0 ∷ 1 ∷ 0 ∷ 0 ∷ [])
 unfolding opened computes called
 h6-answer = record { replied = refl; written = refl }
 

@@ -11,7 +11,8 @@ use Rattle.base.specs.Below.{first}
 use Rattle.base.proofs.BelowLaws.{below-suc, first-is, first-none}
 use Rattle.chart.specs.Limits.{side}
 use Rattle.chart.specs.declared.Point.{Point}
-use Rattle.lattice.proofs.WalkLaws.{point, point-eq}
+use Rattle.chart.specs.Outline.{at}
+use Rattle.lattice.proofs.WalkLaws.{point-eq}
 use Rattle.rows.specs.Search.{crossing}
 use Rattle.rows.proofs.Side.{furthest-furthest}
 use Rattle.completion.specs.HullRows.{nextRow, hullLeft, hullRight}
@@ -37,8 +38,8 @@ gap-past c x l = sym (le-ltb c (side - x) (omega arith))
 abbrev pub At : Point → ℕ → ℕ → Type 0
 At p c r = (p .col ≡ c) × (p .row ≡ r)
 
-is-at : (p : Point) (c r : ℕ) → At p c r → p ≡ point c r
-is-at p c r h = point-eq p (point c r) (h .0) (h .1)
+is-at : (p : Point) (c r : ℕ) → At p c r → p ≡ at c r
+is-at p c r h = point-eq p (at c r) (h .0) (h .1)
 
 module _ (lo hi : ℕ → ℕ) (i j k n c r : ℕ) (x a b d : Point) where
   cells : (p q u : Point) → a ≡ p → b ≡ q → d ≡ u → _≡_ {A = Three} (record { a = p; b = q; d = u }) (record { a = a; b = b; d = d })
@@ -50,7 +51,7 @@ module _ (lo hi : ℕ → ℕ) (i j k n c r : ℕ) (x a b d : Point) where
       record {
         is-found = refl;
         is-cell = is-at x c r e;
-        three = rw (lt-ltb c (lo r) l) (cells (point (lo i) i) (point (lo j) j) (point (lo r) r) (is-at a (lo i) i f) (is-at b (lo j) j g) (is-at d (lo r) r h));
+        three = rw (lt-ltb c (lo r) l) (cells (at (lo i) i) (at (lo j) j) (at (lo r) r) (is-at a (lo i) i f) (is-at b (lo j) j g) (is-at d (lo r) r h));
       }
 
   pub shows-row : lo r ≤ c → c < hi r → (p : ℕ) → p ≡ pred (hi r) → At x c r → At a (lo r) r → At b p r → At d p r → Shows lo hi i j k n c r true x a b d
@@ -61,7 +62,7 @@ module _ (lo hi : ℕ → ℕ) (i j k n c r : ℕ) (x a b d : Point) where
         is-cell = is-at x c r e;
         three =
             rw (le-ltb c (lo r) l, lt-ltb c (hi r) m)
-            (cells (point (lo r) r) (point (pred (hi r)) r) (point (pred (hi r)) r) (is-at a (lo r) r f) (is-at b (pred (hi r)) r (g .0 ∙ q, g .1)) (is-at d (pred (hi r)) r (h .0 ∙ q, h .1)));
+            (cells (at (lo r) r) (at (pred (hi r)) r) (at (pred (hi r)) r) (is-at a (lo r) r f) (is-at b (pred (hi r)) r (g .0 ∙ q, g .1)) (is-at d (pred (hi r)) r (h .0 ∙ q, h .1)));
       }
 
   pub shows-right : lo r ≤ c → hi r ≤ c → (p q u : ℕ) → p ≡ pred (hi k) → q ≡ pred (hi n) → u ≡ pred (hi r) → At x c r → At a p k → At b q n → At d u r → Shows lo hi i j k n c r true x a b d
@@ -72,7 +73,7 @@ module _ (lo hi : ℕ → ℕ) (i j k n c r : ℕ) (x a b d : Point) where
         is-cell = is-at x c r e;
         three =
             rw (le-ltb c (lo r) l, le-ltb c (hi r) m)
-            (cells (point (pred (hi k)) k) (point (pred (hi n)) n) (point (pred (hi r)) r) (is-at a (pred (hi k)) k (f .0 ∙ s, f .1)) (is-at b (pred (hi n)) n (g .0 ∙ t, g .1)) (is-at d (pred (hi r)) r (h .0 ∙ v, h .1)));
+            (cells (at (pred (hi k)) k) (at (pred (hi n)) n) (at (pred (hi r)) r) (is-at a (pred (hi k)) k (f .0 ∙ s, f .1)) (is-at b (pred (hi n)) n (g .0 ∙ t, g .1)) (is-at d (pred (hi r)) r (h .0 ∙ v, h .1)));
       }
 
 -- ---- a current edge
@@ -168,7 +169,7 @@ module _ (lo en hi m : ℕ → ℕ) (b t : ℕ) (two : suc b < t) (mirrors : (s 
         let d : b + (r - b) ≡ r = omega arith in
         ap (λ (z : ℕ). b + z) (first-is (λ z. hasGap lo en hi b t (b + z)) (t - b) (r - b) (omega arith) (λ z q. clear (b + z) (omega arith) (omega arith)) (ap (hasGap lo en hi b t) d ∙ sym (gap-is _ refl) ∙ g)) ∙ d
 
-    same-three : threeBy lo hi i j k n c r ≡ threeFor lo hi b t (point c r)
+    same-three : threeBy lo hi i j k n c r ≡ threeFor lo hi b t (at c r)
     unfolding threeBy threeFor fromLeft fromRight fromRow firstIn lastIn upperEnd
     same-three =
         let p = right .is-low ∙ lower-same m mirrored b t mirrors two r h l in
@@ -182,7 +183,7 @@ module _ (lo en hi m : ℕ → ℕ) (b t : ℕ) (two : suc b < t) (mirrors : (s 
         record {
           none = λ z. absurd (true≢false (sym (s .is-found) ∙ z));
           some = λ z. omega arith;
-          lowest = λ z. s .is-cell ∙ point-eq (point c r) (point (openColumn lo en hi b t (lowestRow lo en hi b t)) (lowestRow lo en hi b t)) (opened ∙ ap (openColumn lo en hi b t) (sym e)) (sym e);
+          lowest = λ z. s .is-cell ∙ point-eq (at c r) (at (openColumn lo en hi b t (lowestRow lo en hi b t)) (lowestRow lo en hi b t)) (opened ∙ ap (openColumn lo en hi b t) (sym e)) (sym e);
           three = λ z. ap (threeFor lo hi b t) (s .is-cell) ∙ sym same-three ∙ s .three;
         }
 

@@ -10,10 +10,10 @@ use Rattle.base.specs.Below.{first}
 use Rattle.base.proofs.BelowLaws.{first-is, first-none}
 use Rattle.chart.specs.Limits.{side}
 use Rattle.chart.specs.declared.Point.{Point}
-use Rattle.chart.specs.Outline.{Outline}
+use Rattle.chart.specs.Outline.{Outline, at}
 use Rattle.lattice.specs.Hull.{InHull, LowestMissing}
 use Rattle.lattice.specs.Refusals.{Simple}
-use Rattle.lattice.proofs.WalkLaws.{point, point-eq}
+use Rattle.lattice.proofs.WalkLaws.{point-eq}
 use Rattle.rows.specs.parts.Rows.{rows}
 use Rattle.convexity.specs.Clockwise.{block}
 use Rattle.completion.specs.parts.Sides.{firstSide, lastSide}
@@ -120,7 +120,7 @@ module _ (lo en hi : ℕ → ℕ) (b : ℕ) (fits : hi b ≤ side) (run : lo b <
       let e = first-none (λ z. hasGap lo en hi b (b + 1) (b + z)) (b + 1 - b) (λ z a. test-is z a ∙ le-ltb (en b) (hi b) l) in
       record { none = λ z. omega arith; some = λ z. absurd (true≢false (sym z ∙ f)); lowest = λ z. absurd (true≢false (sym z ∙ f)); three = λ z. absurd (true≢false (sym z ∙ f)) }
 
-  same : en b < hi b → threeFor lo hi b (b + 1) (point (en b) b) ≡ threeBy lo hi b b b b (en b) b
+  same : en b < hi b → threeFor lo hi b (b + 1) (at (en b) b) ≡ threeBy lo hi b b b b (en b) b
   unfolding threeFor threeBy fromRow firstIn lastIn
   same l = rw (le-ltb (en b) (lo b) (omega arith), lt-ltb (en b) (hi b) l) refl
 
@@ -132,6 +132,6 @@ module _ (lo en hi : ℕ → ℕ) (b : ℕ) (fits : hi b ≤ side) (run : lo b <
       record {
         none = λ z. absurd (true≢false (sym (s .is-found) ∙ z));
         some = λ z. omega arith;
-        lowest = λ z. s .is-cell ∙ point-eq (point (en b) b) (lowestOpen lo en hi b (b + 1)) (sym column-is ∙ ap (openColumn lo en hi b (b + 1)) (sym e)) (sym e);
+        lowest = λ z. s .is-cell ∙ point-eq (at (en b) b) (lowestOpen lo en hi b (b + 1)) (sym column-is ∙ ap (openColumn lo en hi b (b + 1)) (sym e)) (sym e);
         three = λ z. ap (threeFor lo hi b (b + 1)) (s .is-cell) ∙ same l ∙ s .three;
       }

@@ -1,2 +1,0 @@
--- The calls for C.
-pub mod At
