@@ -1,11 +1,10 @@
 -- The pass up a side keeps one edge. It goes across the current row, or it ends in the
 -- row before and the next edge does. It crosses the row where the hull begins.
-use Prim.Native.Nat.{ℕ, suc, pred, _+_, _-_, _*_, _/_, _≤_, _<_}
+use Prim.Native.Nat.{ℕ, suc, pred, _+_, _-_, _≤_, _<_}
 use mathlib.Core.Path.{_≡_, refl, sym, ap, _∙_, subst}
 use mathlib.Core.Bool.{cond}
 use mathlib.Core.Logic.{inl, inr}
 use native.Mathlib.Decide.{decLe}
-use native.Mathlib.Nat.{mul-le-mul-left, div-lt-iff-lt-mul}
 use native.Mathlib.Omega.{arith}
 use mathlib.Core.List.{List}
 use lib.Dec.{leb}
@@ -22,15 +21,6 @@ use Rattle.completion.specs.HullRows.{nextRow, hullLeft}
 use Rattle.completion.proofs.Climb.{Climbed, climbed-start, climbed-writes, climbed-next, lowest-row}
 use Rattle.completion.proofs.Edges.{crossing-le}
 use Rattle.hull_rows.specs.parts.Ends.{Lowest}
-
--- A mean of two numbers, rounded up, is below a bound of both
-mean-small : (u v x y b : ℕ) → 0 < u + v → x < b → y < b → (u * x + v * y + (u + v - 1)) / (u + v) < b
-mean-small u v x y b pos h k = div-lt-iff-lt-mul pos .1 (omega (arith, mul-le-mul-left u h, mul-le-mul-left v k))
-
-pub crossing-fits : (lo : ℕ → ℕ) (i j r b : ℕ) → i < r → r ≤ j → lo i < b → lo j < b → crossing lo i j r < b
-unfolding crossing
-crossing-fits lo i j r b ir rj h k =
-    let d : j - i ≡ (j - r) + (r - i) = omega arith in rw d (mean-small (j - r) (r - i) (lo i) (lo j) b (omega arith) h k)
 
 module _ (lo : ℕ → ℕ) (b t : ℕ) where
   -- The edge from row i goes across the row below row r, and row r is above row i

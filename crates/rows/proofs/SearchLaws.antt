@@ -26,9 +26,9 @@ product-small a d h k =
 mean-small : (u v x y b : ℕ) → 0 < u + v → x < b → y < b → (u * x + v * y + (u + v - 1)) / (u + v) < b
 mean-small u v x y b pos h k = div-lt-iff-lt-mul pos .1 (omega (arith, mul-le-mul-left u h, mul-le-mul-left v k))
 
-pub crossing-small : (lo : ℕ → ℕ) (i j r b : ℕ) → i < r → r < j → lo i < b → lo j < b → crossing lo i j r < b
+pub crossing-small : (lo : ℕ → ℕ) (i j r b : ℕ) → i < j → i ≤ r → r ≤ j → lo i < b → lo j < b → crossing lo i j r < b
 unfolding crossing
-crossing-small lo i j r b ir rj h k =
+crossing-small lo i j r b l m n h k =
     let d : j - i ≡ (j - r) + (r - i) = omega arith in rw d (mean-small (j - r) (r - i) (lo i) (lo j) b (omega arith) h k)
 
 module _ (lo : ℕ → ℕ) (i : ℕ) where

@@ -3,6 +3,7 @@ use chart::Point;
 use chart::SIDE;
 ghost use Prim.Native.Nat.{ℕ, suc, _+_, _-_, _*_, _%_, _<_, _≤_};
 ghost use mathlib.Core.Path.{_≡_};
+ghost use mathlib.Core.Bool.{cond};
 ghost use lib.ListN.{length};
 ghost use lib.Dec.{leb, ltb};
 ghost use Rattle.chart.specs.Limits.{side};
@@ -144,9 +145,19 @@ pub fn tangents(lo: &[u16; ROWS], b: usize, t: usize) -> [u16; ROWS]
     next
 }
 
+// The row where the hull edge across row `r` starts. `i` is the row where the edge across the row below starts, and `next` has the row where
+// each edge ends.
+pub fn edge_start(next: &[u16; ROWS], i: usize, r: usize) -> usize
+    requires { ⌜ i < 256 ⌝ }
+    ensures { λ e. ⌜ e ≡ cond (leb r (rows (now (next .entry)) i)) i (rows (now (next .entry)) i) ⌝ }
+{
+    let j = wide(next[i]);
+    if r <= j { i } else { j }
+}
+
 // The first column of row `r` that is not left of the line from row `i` to row `j`.
-fn crossing(lo: &[u16; ROWS], i: usize, j: usize, r: usize) -> usize
-    requires { ⌜ (i < r) × (r < j) × (j < 256) ⌝ }
+pub fn crossing(lo: &[u16; ROWS], i: usize, j: usize, r: usize) -> usize
+    requires { ⌜ (i < j) × (i ≤ r) × (r ≤ j) × (j < 256) ⌝ }
     ensures { λ c. ⌜ (c ≡ crossingOf (rows (now (lo .entry))) i j r) × (c < 65536) ⌝ }
 {
     let a = begins(lo, i);

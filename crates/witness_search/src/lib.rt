@@ -1,15 +1,16 @@
 // Finds the lowest missing cell of an outline, and three cells whose triangle has it, in one pass over the rows. Rows may have gaps.
 use chart::Point;
 use row_sides::pass;
+use rows::crossing;
+use rows::edge_start;
 use rows::mirrored;
 use rows::tangents;
 ghost use Prim.Native.Nat.{ℕ, pred, _+_, _-_, _<_, _≤_};
 ghost use mathlib.Core.Path.{_≡_};
 ghost use mathlib.Core.Bool.{false, cond};
-ghost use lib.Dec.{leb, ltb};
+ghost use lib.Dec.{ltb};
 ghost use Rattle.chart.specs.Limits.{side};
 ghost use Rattle.rows.specs.parts.Rows.{rows};
-ghost use Rattle.rows.specs.Search.{crossing as crossingOf};
 ghost use Rattle.chart.specs.Outline.{outline};
 ghost use Rattle.lattice.specs.Refusals.{Simple};
 ghost use Rattle.witness_search.specs.parts.Answers.{Answers, Shows, Finds};
@@ -26,26 +27,6 @@ fn prior(x: u16) -> u16
     ensures { λ r. ⌜ r ≡ pred x ⌝ }
 {
     if 0 < x { x - 1 } else { 0 }
-}
-
-// The first column of row `r` that is not left of the line from row `i` to row `j`. `r` may be `i` or `j`.
-fn crossed(lo: &[u16; 256], i: usize, j: usize, r: usize) -> usize
-    requires { ⌜ (i < j) × (i ≤ r) × (r ≤ j) × (j < 256) ⌝ }
-    ensures { λ c. ⌜ c ≡ crossingOf (rows (now (lo .entry))) i j r ⌝ }
-{
-    let a = wide(lo[i]);
-    let b = wide(lo[j]);
-    let height = j - i;
-    ((j - r) * a + (r - i) * b + (height - 1)) / height
-}
-
-// The row where the edge across row `r` starts. `i` is the row where the edge across the row below starts.
-fn edge(next: &[u16; 256], i: usize, r: usize) -> usize
-    requires { ⌜ i < 256 ⌝ }
-    ensures { λ e. ⌜ e ≡ cond (leb r (rows (now (next .entry)) i)) i (rows (now (next .entry)) i) ⌝ }
-{
-    let j = wide(next[i]);
-    if r <= j { i } else { j }
 }
 
 // Whether a cell is missing, the lowest such cell, and three cells whose triangle has it.
@@ -147,12 +128,12 @@ pub fn search<'a>(
     let mut k = b;
     let mut r = b;
     while r < t {
-        i = edge(&left, i, r);
-        k = edge(&right, k, r);
+        i = edge_start(&left, i, r);
+        k = edge_start(&right, k, r);
         let j = wide(left[i]);
         let n = wide(right[k]);
-        let l = crossed(lo, i, j, r);
-        let x = crossed(&m, k, n, r);
+        let l = crossing(lo, i, j, r);
+        let x = crossing(&m, k, n, r);
         let c = column(l, lo[r], en[r]);
         if gap(c, x) {
             return display(lo, hi, i, j, k, n, c, r);

@@ -27,17 +27,17 @@ loop-holds c =
     let fits : args .t ≤ 256 = omega (arith, c .before .before .pre) in
     (fits, leftward-start (rows (now (args .lo))) (args .b) (args .t) fits (now (args .lo)) (c .before .before .pre .0) (c .before .before .pre .1) (λ s. refl))
 
-edge-requires : tie.Need-edge-requires Inv-loop μ-loop
-edge-requires c κs = let iteration = c .before .before .loop .inv in omega (arith, iteration .1 .climbing .above, iteration .1 .high, iteration .0)
+edge-start-requires : tie.Need-edge-start-requires Inv-loop μ-loop
+edge-start-requires c κs = let iteration = c .before .before .loop .inv in omega (arith, iteration .1 .climbing .above, iteration .1 .high, iteration .0)
 
 -- The edge that is found goes across the current row
-record Found (c : tie.After-edge Inv-loop μ-loop) : Type 0 where
-  low : c .before .before .before .before .before .before .args .b ≤ c .edge .result
-  high : suc (c .edge .result) < c .before .before .before .before .before .before .args .t
-  spans : Spanning (rows (now (c .before .before .before .before .before .before .args .lo))) (c .before .before .before .before .before .before .args .b) (c .before .before .before .before .before .before .args .t) (c .edge .result) (c .before .before .before .loop .r)
-  corner : rows (c .before .before .before .loop .lo) (c .edge .result) ≡ rows (now (c .before .before .before .before .before .before .args .lo)) (c .edge .result)
+record Found (c : tie.After-edge-start Inv-loop μ-loop) : Type 0 where
+  low : c .before .before .before .before .before .before .args .b ≤ c .edge-start .result
+  high : suc (c .edge-start .result) < c .before .before .before .before .before .before .args .t
+  spans : Spanning (rows (now (c .before .before .before .before .before .before .args .lo))) (c .before .before .before .before .before .before .args .b) (c .before .before .before .before .before .before .args .t) (c .edge-start .result) (c .before .before .before .loop .r)
+  corner : rows (c .before .before .before .loop .lo) (c .edge-start .result) ≡ rows (now (c .before .before .before .before .before .before .args .lo)) (c .edge-start .result)
 
-found : (c : tie.After-edge Inv-loop μ-loop) → Found c
+found : (c : tie.After-edge-start Inv-loop μ-loop) → Found c
 found c =
     let args = c .before .before .before .before .before .before .args in
     let start = rows (now (args .lo)) in
@@ -45,26 +45,26 @@ found c =
     let climbing = iteration .inv .1 .climbing in
     let next = c .before .before .before .before .tangents .ensures .furthest-left (iteration .i) (climbing .climbed .low) (omega (arith, climbing .above)) in
     let l : iteration .r < args .t = c .before .before .loop-test .taken in
-    let s = climbing-edge start (args .b) (args .t) (iteration .i) (iteration .r) _ (c .edge .result) climbing l next (c .edge .ensures) in
+    let s = climbing-edge start (args .b) (args .t) (iteration .i) (iteration .r) _ (c .edge-start .result) climbing l next (c .edge-start .ensures) in
     record {
-      low = spanning-low start (args .b) (args .t) (c .edge .result) (iteration .r) s l;
-      high = spanning-two start (args .b) (args .t) (c .edge .result) (iteration .r) s l;
+      low = spanning-low start (args .b) (args .t) (c .edge-start .result) (iteration .r) s l;
+      high = spanning-two start (args .b) (args .t) (c .edge-start .result) (iteration .r) s l;
       spans = s;
-      corner = leftward-corner start (args .b) (args .t) (iteration .inv .0) (iteration .lo) (iteration .i) (iteration .r) (iteration .inv .1) l (c .edge .result) _ next (c .edge .ensures);
+      corner = leftward-corner start (args .b) (args .t) (iteration .inv .0) (iteration .lo) (iteration .i) (iteration .r) (iteration .inv .1) l (c .edge-start .result) _ next (c .edge-start .ensures);
     }
 
 -- The row that is read is the one where it ends
 record Read (c : tie.After-wide Inv-loop μ-loop) : Type 0 where
-  ends : (c .before .edge .result < c .before .before .before .before .loop .r) × (c .before .before .before .before .loop .r ≤ c .wide .result) × (c .wide .result < c .before .before .before .before .before .before .before .args .t)
-  at : c .wide .result ≡ nextRow (rows (now (c .before .before .before .before .before .before .before .args .lo))) (c .before .before .before .before .before .before .before .args .t) (c .before .edge .result)
+  ends : (c .before .edge-start .result < c .before .before .before .before .loop .r) × (c .before .before .before .before .loop .r ≤ c .wide .result) × (c .wide .result < c .before .before .before .before .before .before .before .args .t)
+  at : c .wide .result ≡ nextRow (rows (now (c .before .before .before .before .before .before .before .args .lo))) (c .before .before .before .before .before .before .before .args .t) (c .before .edge-start .result)
 
 read : (c : tie.After-wide Inv-loop μ-loop) → Read c
 read c =
     let f = found (c .before) in
     let args = c .before .before .before .before .before .before .before .args in
-    let e = c .wide .ensures .0 ∙ c .before .before .before .before .before .tangents .ensures .furthest-left (c .before .edge .result) (f .low) (f .high) in
+    let e = c .wide .ensures .0 ∙ c .before .before .before .before .before .tangents .ensures .furthest-left (c .before .edge-start .result) (f .low) (f .high) in
     record {
-      ends = spanning-end (rows (now (args .lo))) (args .b) (args .t) (c .before .edge .result) (c .before .before .before .before .loop .r) (f .spans) (c .before .before .before .loop-test .taken) (c .wide .result) e;
+      ends = spanning-end (rows (now (args .lo))) (args .b) (args .t) (c .before .edge-start .result) (c .before .before .before .before .loop .r) (f .spans) (c .before .before .before .loop-test .taken) (c .wide .result) e;
       at = e;
     }
 
@@ -77,8 +77,11 @@ array-read-wide c = omega (arith, found c .high, c .before .before .before .loop
 wide-requires : tie.Need-wide-requires Inv-loop μ-loop
 wide-requires c κs = omega arith
 
-crossed-requires : tie.Need-crossed-requires Inv-loop μ-loop
-crossed-requires c κs = omega (arith, read (c .before) .ends, c .before .before .before .before .before .loop .inv .0)
+crossing-requires : tie.Need-crossing-requires Inv-loop μ-loop
+crossing-requires c κs = omega (arith, read (c .before) .ends, c .before .before .before .before .before .loop .inv .0)
+
+cast-lo : tie.Need-cast-lo Inv-loop μ-loop
+cast-lo c = omega arith
 
 mul-lo : tie.Need-mul-lo Inv-loop μ-loop
 mul-lo c = omega arith
@@ -98,8 +101,8 @@ loop-again c =
     let args = c .before .before .before .before .before .before .before .before .before .args in
     let iteration = c .before .before .before .before .before .before .loop in (
       iteration .inv .0,
-      leftward-next (rows (now (args .lo))) (args .b) (args .t) (iteration .inv .0) (iteration .lo) (iteration .i) (iteration .r) (iteration .inv .1) (c .before .before .before .before .before .loop-test .taken) (c .before .before .before .edge .result)
-          (f .spans) (c .before .before .wide .result) (c .crossed .result) (f .corner) (read (c .before .before) .at) (c .crossed .ensures),
+      leftward-next (rows (now (args .lo))) (args .b) (args .t) (iteration .inv .0) (iteration .lo) (iteration .i) (iteration .r) (iteration .inv .1) (c .before .before .before .before .before .loop-test .taken) (c .before .before .before .edge-start .result)
+          (f .spans) (c .before .before .wide .result) (c .crossing .result) (f .corner) (read (c .before .before) .at) (c .crossing .ensures .0),
     )
 
 returns : tie.Need-returns Inv-loop μ-loop
@@ -114,11 +117,12 @@ left-spec =
     tangents-requires
     add-r
     loop-holds
-    edge-requires
+    edge-start-requires
     mul-wide
     array-read-wide
     wide-requires
-    crossed-requires
+    crossing-requires
+    cast-lo
     mul-lo
     element-write-lo
     add-r-2

@@ -34,22 +34,22 @@ loop-holds c =
     let mirrors : (s : ℕ) → s < args .t → rows (c .before .before .before .mirrored .result) s ≡ side - rows (now (args .hi)) s = λ s l. c .before .before .before .mirrored .ensures s (omega arith) in
     (two, mirrors, searching-start (rows (now (args .lo))) (rows (now (args .en))) (rows (now (args .hi))) (rows (c .before .before .before .mirrored .result)) (args .b) (args .t) two mirrors)
 
-edge-requires : tie.Need-edge-requires Inv-loop μ-loop
-edge-requires c κs = omega (arith, c .before .before .loop .inv .2 .left)
+edge-start-requires : tie.Need-edge-start-requires Inv-loop μ-loop
+edge-start-requires c κs = omega (arith, c .before .before .loop .inv .2 .left)
 
-edge-requires-2 : tie.Need-edge-requires-2 Inv-loop μ-loop
-edge-requires-2 c κs = omega (arith, c .before .before .before .before .loop .inv .2 .right)
+edge-start-requires-2 : tie.Need-edge-start-requires-2 Inv-loop μ-loop
+edge-start-requires-2 c κs = omega (arith, c .before .before .before .before .loop .inv .2 .right)
 
 -- The rows where the current edges start and end
-record Rows (c : tie.After-edge2 Inv-loop μ-loop) : Type 0 where
+record Rows (c : tie.After-edge-start2 Inv-loop μ-loop) : Type 0 where
   low : c .before .before .before .before .before .before .before .before .before .before .args .b ≤ c .before .before .before .before .before .loop .r
   high : c .before .before .before .before .before .loop .r < c .before .before .before .before .before .before .before .before .before .before .args .t
-  i-is : c .before .before .edge .result ≡ lowerEnd (rows (now (c .before .before .before .before .before .before .before .before .before .before .args .lo))) (c .before .before .before .before .before .before .before .before .before .before .args .b) (c .before .before .before .before .before .before .before .before .before .before .args .t) (c .before .before .before .before .before .loop .r)
-  k-is : c .edge2 .result ≡ lowerEnd (rows (c .before .before .before .before .before .before .before .before .before .mirrored .result)) (c .before .before .before .before .before .before .before .before .before .before .args .b) (c .before .before .before .before .before .before .before .before .before .before .args .t) (c .before .before .before .before .before .loop .r)
-  i-within : (c .before .before .before .before .before .before .before .before .before .before .args .b ≤ c .before .before .edge .result) × (suc (c .before .before .edge .result) < c .before .before .before .before .before .before .before .before .before .before .args .t)
-  k-within : (c .before .before .before .before .before .before .before .before .before .before .args .b ≤ c .edge2 .result) × (suc (c .edge2 .result) < c .before .before .before .before .before .before .before .before .before .before .args .t)
+  i-is : c .before .before .edge-start .result ≡ lowerEnd (rows (now (c .before .before .before .before .before .before .before .before .before .before .args .lo))) (c .before .before .before .before .before .before .before .before .before .before .args .b) (c .before .before .before .before .before .before .before .before .before .before .args .t) (c .before .before .before .before .before .loop .r)
+  k-is : c .edge-start2 .result ≡ lowerEnd (rows (c .before .before .before .before .before .before .before .before .before .mirrored .result)) (c .before .before .before .before .before .before .before .before .before .before .args .b) (c .before .before .before .before .before .before .before .before .before .before .args .t) (c .before .before .before .before .before .loop .r)
+  i-within : (c .before .before .before .before .before .before .before .before .before .before .args .b ≤ c .before .before .edge-start .result) × (suc (c .before .before .edge-start .result) < c .before .before .before .before .before .before .before .before .before .before .args .t)
+  k-within : (c .before .before .before .before .before .before .before .before .before .before .args .b ≤ c .edge-start2 .result) × (suc (c .edge-start2 .result) < c .before .before .before .before .before .before .before .before .before .before .args .t)
 
-rows-of : (c : tie.After-edge2 Inv-loop μ-loop) → Rows c
+rows-of : (c : tie.After-edge-start2 Inv-loop μ-loop) → Rows c
 rows-of c =
     let args = c .before .before .before .before .before .before .before .before .before .before .args in
     let iteration = c .before .before .before .before .before .loop in
@@ -58,21 +58,21 @@ rows-of c =
     let lo = rows (now (args .lo)) in
     let m = rows (c .before .before .before .before .before .before .before .before .before .mirrored .result) in
     let l : iteration .r < args .t = omega arith in
-    let a = on-edge lo (args .b) (args .t) two (iteration .i) (iteration .r) _ (c .before .before .edge .result) (s .left) l (c .before .before .before .before .before .before .before .before .tangents .ensures .furthest-left (iteration .i) (s .left .low) (s .left .high)) (c .before .before .edge .ensures) in
-    let z = on-edge m (args .b) (args .t) two (iteration .k) (iteration .r) _ (c .edge2 .result) (s .right) l (c .before .before .before .before .before .before .tangents2 .ensures .furthest-left (iteration .k) (s .right .low) (s .right .high)) (c .edge2 .ensures) in
+    let a = on-edge lo (args .b) (args .t) two (iteration .i) (iteration .r) _ (c .before .before .edge-start .result) (s .left) l (c .before .before .before .before .before .before .before .before .tangents .ensures .furthest-left (iteration .i) (s .left .low) (s .left .high)) (c .before .before .edge-start .ensures) in
+    let z = on-edge m (args .b) (args .t) two (iteration .k) (iteration .r) _ (c .edge-start2 .result) (s .right) l (c .before .before .before .before .before .before .tangents2 .ensures .furthest-left (iteration .k) (s .right .low) (s .right .high)) (c .edge-start2 .ensures) in
     record {
       low = s .low;
       high = l;
       i-is = a;
       k-is = z;
-      i-within = edge-within lo (args .b) (args .t) two (iteration .r) (c .before .before .edge .result) (s .low) l a;
-      k-within = edge-within m (args .b) (args .t) two (iteration .r) (c .edge2 .result) (s .low) l z;
+      i-within = edge-within lo (args .b) (args .t) two (iteration .r) (c .before .before .edge-start .result) (s .low) l a;
+      k-within = edge-within m (args .b) (args .t) two (iteration .r) (c .edge-start2 .result) (s .low) l z;
     }
 
 -- The current edges
 record Here (c : tie.After-wide2 Inv-loop μ-loop) : Type 0 where
-  left : Edge (rows (now (c .before .before .before .before .before .before .before .before .before .before .before .before .args .lo))) (c .before .before .before .before .before .before .before .before .before .before .before .before .args .b) (c .before .before .before .before .before .before .before .before .before .before .before .before .args .t) (c .before .before .before .before .before .before .before .loop .inv .0) (c .before .before .before .before .before .before .before .loop .r) (c .before .before .before .before .edge .result) (c .before .wide .result)
-  right : Edge (rows (c .before .before .before .before .before .before .before .before .before .before .before .mirrored .result)) (c .before .before .before .before .before .before .before .before .before .before .before .before .args .b) (c .before .before .before .before .before .before .before .before .before .before .before .before .args .t) (c .before .before .before .before .before .before .before .loop .inv .0) (c .before .before .before .before .before .before .before .loop .r) (c .before .before .edge2 .result) (c .wide2 .result)
+  left : Edge (rows (now (c .before .before .before .before .before .before .before .before .before .before .before .before .args .lo))) (c .before .before .before .before .before .before .before .before .before .before .before .before .args .b) (c .before .before .before .before .before .before .before .before .before .before .before .before .args .t) (c .before .before .before .before .before .before .before .loop .inv .0) (c .before .before .before .before .before .before .before .loop .r) (c .before .before .before .before .edge-start .result) (c .before .wide .result)
+  right : Edge (rows (c .before .before .before .before .before .before .before .before .before .before .before .mirrored .result)) (c .before .before .before .before .before .before .before .before .before .before .before .before .args .b) (c .before .before .before .before .before .before .before .before .before .before .before .before .args .t) (c .before .before .before .before .before .before .before .loop .inv .0) (c .before .before .before .before .before .before .before .loop .r) (c .before .before .edge-start2 .result) (c .wide2 .result)
 
 here : (c : tie.After-wide2 Inv-loop μ-loop) → Here c
 here c =
@@ -81,8 +81,8 @@ here c =
     let two = iteration .inv .0 in
     let e = rows-of (c .before .before) in
     record {
-      left = edge-of (rows (now (args .lo))) (args .b) (args .t) two (iteration .r) (c .before .before .before .before .edge .result) (c .before .wide .result) (e .low) (e .high) (e .i-is) (c .before .wide .ensures .0 ∙ c .before .before .before .before .before .before .before .before .before .before .tangents .ensures .furthest-left (c .before .before .before .before .edge .result) (e .i-within .0) (e .i-within .1));
-      right = edge-of (rows (c .before .before .before .before .before .before .before .before .before .before .before .mirrored .result)) (args .b) (args .t) two (iteration .r) (c .before .before .edge2 .result) (c .wide2 .result) (e .low) (e .high) (e .k-is) (c .wide2 .ensures .0 ∙ c .before .before .before .before .before .before .before .before .tangents2 .ensures .furthest-left (c .before .before .edge2 .result) (e .k-within .0) (e .k-within .1));
+      left = edge-of (rows (now (args .lo))) (args .b) (args .t) two (iteration .r) (c .before .before .before .before .edge-start .result) (c .before .wide .result) (e .low) (e .high) (e .i-is) (c .before .wide .ensures .0 ∙ c .before .before .before .before .before .before .before .before .before .before .tangents .ensures .furthest-left (c .before .before .before .before .edge-start .result) (e .i-within .0) (e .i-within .1));
+      right = edge-of (rows (c .before .before .before .before .before .before .before .before .before .before .before .mirrored .result)) (args .b) (args .t) two (iteration .r) (c .before .before .edge-start2 .result) (c .wide2 .result) (e .low) (e .high) (e .k-is) (c .wide2 .ensures .0 ∙ c .before .before .before .before .before .before .before .before .tangents2 .ensures .furthest-left (c .before .before .edge-start2 .result) (e .k-within .0) (e .k-within .1));
     }
 
 mul-wide : tie.Need-mul-wide Inv-loop μ-loop
@@ -103,11 +103,11 @@ array-read-wide-2 c = omega (arith, rows-of (c .before))
 wide-requires-2 : tie.Need-wide-requires-2 Inv-loop μ-loop
 wide-requires-2 c κs = search needs
 
-crossed-requires : tie.Need-crossed-requires Inv-loop μ-loop
-crossed-requires c κs = omega (arith, here c .left)
+crossing-requires : tie.Need-crossing-requires Inv-loop μ-loop
+crossing-requires c κs = omega (arith, here c .left)
 
-crossed-requires-2 : tie.Need-crossed-requires-2 Inv-loop μ-loop
-crossed-requires-2 c κs = omega (arith, here (c .before .before) .right)
+crossing-requires-2 : tie.Need-crossing-requires-2 Inv-loop μ-loop
+crossing-requires-2 c κs = omega (arith, here (c .before .before) .right)
 
 mul-column : tie.Need-mul-column Inv-loop μ-loop
 mul-column c = omega arith
@@ -139,8 +139,8 @@ returns c =
     let e = rows-of (c .before .before .before .before .before .before .before .before .before .before .before) in
     let g = here w in
     answers-found (rows (now (args .lo))) (rows (now (args .en))) (rows (now (args .hi))) (rows (c .before .before .before .before .before .before .before .before .before .before .before .before .before .before .before .before .before .before .before .before .mirrored .result)) (args .b) (args .t) (iteration .inv .0) (iteration .inv .1) (iteration .r) (e .low) (e .high)
-    (c .before .before .before .before .before .before .before .before .before .before .before .before .before .edge .result) (c .before .before .before .before .before .before .before .before .before .before .wide .result) (c .before .before .before .before .before .before .before .before .before .before .before .edge2 .result) (c .before .before .before .before .before .before .before .before .before .wide2 .result) (g .left) (g .right) (c .before .before .before .before .before .before .before .before .crossed .result) (c .before .before .before .before .before .before .crossed2 .result) (c .before .before .before .column .result)
-    (c .before .before .before .before .before .before .before .before .crossed .ensures) (c .before .before .before .before .before .before .crossed2 .ensures) (c .before .before .before .column .ensures)
+    (c .before .before .before .before .before .before .before .before .before .before .before .before .before .edge-start .result) (c .before .before .before .before .before .before .before .before .before .before .wide .result) (c .before .before .before .before .before .before .before .before .before .before .before .edge-start2 .result) (c .before .before .before .before .before .before .before .before .before .wide2 .result) (g .left) (g .right) (c .before .before .before .before .before .before .before .before .crossing .result) (c .before .before .before .before .before .before .crossing2 .result) (c .before .before .before .column .result)
+    (c .before .before .before .before .before .before .before .before .crossing .ensures .0) (c .before .before .before .before .before .before .crossing2 .ensures .0) (c .before .before .before .column .ensures)
     (c .display .result .found) (c .display .result .cell) (c .display .result .a) (c .display .result .b) (c .display .result .d) (iteration .inv .2 .clear) (sym (c .before .before .gap .ensures) ∙ c .before .if1 .taken) (c .display .ensures)
 
 add-r : tie.Need-add-r Inv-loop μ-loop
@@ -160,8 +160,8 @@ loop-again c =
       iteration .inv .0,
       iteration .inv .1,
       searching-next (rows (now (args .lo))) (rows (now (args .en))) (rows (now (args .hi))) (rows (c .before .before .before .before .before .before .before .before .before .before .before .before .before .before .before .before .before .before .before .mirrored .result)) (args .b) (args .t) (iteration .inv .0) (iteration .inv .1) (iteration .r) (e .low) (e .high)
-          (c .before .before .before .before .before .before .before .before .before .before .before .before .edge .result) (c .before .before .before .before .before .before .before .before .before .wide .result) (c .before .before .before .before .before .before .before .before .before .before .edge2 .result) (c .before .before .before .before .before .before .before .before .wide2 .result) (g .left) (g .right) (c .before .before .before .before .before .before .before .crossed .result) (c .before .before .before .before .before .crossed2 .result) (c .before .before .column .result)
-          (c .before .before .before .before .before .before .before .crossed .ensures) (c .before .before .before .before .before .crossed2 .ensures) (c .before .before .column .ensures) (iteration .inv .2 .clear) (sym (c .before .gap .ensures) ∙ c .if1 .left),
+          (c .before .before .before .before .before .before .before .before .before .before .before .before .edge-start .result) (c .before .before .before .before .before .before .before .before .before .wide .result) (c .before .before .before .before .before .before .before .before .before .before .edge-start2 .result) (c .before .before .before .before .before .before .before .before .wide2 .result) (g .left) (g .right) (c .before .before .before .before .before .before .before .crossing .result) (c .before .before .before .before .before .crossing2 .result) (c .before .before .column .result)
+          (c .before .before .before .before .before .before .before .crossing .ensures .0) (c .before .before .before .before .before .crossing2 .ensures .0) (c .before .before .column .ensures) (iteration .inv .2 .clear) (sym (c .before .gap .ensures) ∙ c .if1 .left),
     )
 
 returns-2 : tie.Need-returns-2 Inv-loop μ-loop
@@ -180,16 +180,16 @@ search-spec =
     tangents-requires
     tangents-requires-2
     loop-holds
-    edge-requires
-    edge-requires-2
+    edge-start-requires
+    edge-start-requires-2
     mul-wide
     array-read-wide
     wide-requires
     mul-wide-2
     array-read-wide-2
     wide-requires-2
-    crossed-requires
-    crossed-requires-2
+    crossing-requires
+    crossing-requires-2
     mul-column
     element-copy-out-column
     mul-column-2

@@ -1,12 +1,12 @@
--- The edge goes across the row, or the next edge does.
+-- The edge ends at the row or above it and goes across the row, or it ends below and the next edge goes across.
 use mathlib.Core.Path.{refl}
 use native.Mathlib.Omega.{arith}
 use denote.Ref.{now}
 use borrow.Author.Tests.{le-leb, lt-leb}
 use Rattle.rows.specs.parts.Rows.{rows}
 use borrow.Author.Needs.{needs}
-use Rattle.hull_rows.proofs.edge.Statement.{statement}
-use Rattle.hull_rows.proofs.edge.Tie as tie
+use Rattle.rows.proofs.edge_start.Statement.{statement}
+use Rattle.rows.proofs.edge_start.Tie as tie
 
 mul-wide : tie.Need-mul-wide
 mul-wide c = search needs
@@ -25,5 +25,5 @@ returns-2 : tie.Need-returns-2
 returns-2 c =
     let args = c .before .before .before .args in rw (lt-leb (args .r) (rows (now (args .next)) (args .i)) (omega (arith, c .before .wide .ensures))) (c .before .wide .ensures .0)
 
-pub edge-spec : {M : Type 1} → statement M
-edge-spec = tie.close (tie.spec mul-wide element-copy-out-wide wide-requires returns returns-2)
+pub edge-start-spec : {M : Type 1} → statement M
+edge-start-spec = tie.close (tie.spec mul-wide element-copy-out-wide wide-requires returns returns-2)
