@@ -14,6 +14,7 @@ use Rattle.chart.specs.declared.Point.{Point}
 use Rattle.chart.specs.Outline.{at}
 use Rattle.lattice.proofs.WalkLaws.{point-eq}
 use Rattle.rows.specs.Search.{crossing}
+use Rattle.rows.specs.parts.Rows.{Tangents}
 use Rattle.rows.proofs.Side.{furthest-furthest}
 use Rattle.completion.specs.HullRows.{nextRow, hullLeft, hullRight}
 use Rattle.witness.specs.Three.{Three, lowerEnd, upperEnd, firstIn, lastIn, fromLeft, fromRight, fromRow, threeFor}
@@ -41,39 +42,39 @@ At p c r = (p .col ≡ c) × (p .row ≡ r)
 is-at : (p : Point) (c r : ℕ) → At p c r → p ≡ at c r
 is-at p c r h = point-eq p (at c r) (h .0) (h .1)
 
-module _ (lo hi : ℕ → ℕ) (i j k n c r : ℕ) (x a b d : Point) where
-  cells : (p q u : Point) → a ≡ p → b ≡ q → d ≡ u → _≡_ {A = Three} (record { a = p; b = q; d = u }) (record { a = a; b = b; d = d })
-  cells p q u e f g z = record { a = sym e z; b = sym f z; d = sym g z }
+cells : {a b d p q u : Point} → a ≡ p → b ≡ q → d ≡ u → _≡_ {A = Three} (record { a = p; b = q; d = u }) (record { a = a; b = b; d = d })
+cells e f g z = record { a = sym e z; b = sym f z; d = sym g z }
 
+module _ {lo hi : ℕ → ℕ} {i j k n c r : ℕ} {x a b d : Point} where
   pub shows-left : c < lo r → At x c r → At a (lo i) i → At b (lo j) j → At d (lo r) r → Shows lo hi i j k n c r true x a b d
   unfolding threeBy firstIn lastIn
   shows-left l e f g h =
       record {
         is-found = refl;
         is-cell = is-at x c r e;
-        three = rw (lt-ltb c (lo r) l) (cells (at (lo i) i) (at (lo j) j) (at (lo r) r) (is-at a (lo i) i f) (is-at b (lo j) j g) (is-at d (lo r) r h));
+        three = rw (lt-ltb c (lo r) l) (cells (is-at a (lo i) i f) (is-at b (lo j) j g) (is-at d (lo r) r h));
       }
 
-  pub shows-row : lo r ≤ c → c < hi r → (p : ℕ) → p ≡ pred (hi r) → At x c r → At a (lo r) r → At b p r → At d p r → Shows lo hi i j k n c r true x a b d
+  pub shows-row : lo r ≤ c → c < hi r → {p : ℕ} → p ≡ pred (hi r) → At x c r → At a (lo r) r → At b p r → At d p r → Shows lo hi i j k n c r true x a b d
   unfolding threeBy firstIn lastIn
-  shows-row l m p q e f g h =
+  shows-row l m q e f g h =
       record {
         is-found = refl;
         is-cell = is-at x c r e;
         three =
             rw (le-ltb c (lo r) l, lt-ltb c (hi r) m)
-            (cells (at (lo r) r) (at (pred (hi r)) r) (at (pred (hi r)) r) (is-at a (lo r) r f) (is-at b (pred (hi r)) r (g .0 ∙ q, g .1)) (is-at d (pred (hi r)) r (h .0 ∙ q, h .1)));
+            (cells (is-at a (lo r) r f) (is-at b (pred (hi r)) r (g .0 ∙ q, g .1)) (is-at d (pred (hi r)) r (h .0 ∙ q, h .1)));
       }
 
-  pub shows-right : lo r ≤ c → hi r ≤ c → (p q u : ℕ) → p ≡ pred (hi k) → q ≡ pred (hi n) → u ≡ pred (hi r) → At x c r → At a p k → At b q n → At d u r → Shows lo hi i j k n c r true x a b d
+  pub shows-right : lo r ≤ c → hi r ≤ c → {p q u : ℕ} → p ≡ pred (hi k) → q ≡ pred (hi n) → u ≡ pred (hi r) → At x c r → At a p k → At b q n → At d u r → Shows lo hi i j k n c r true x a b d
   unfolding threeBy firstIn lastIn
-  shows-right l m p q u s t v e f g h =
+  shows-right l m s t v e f g h =
       record {
         is-found = refl;
         is-cell = is-at x c r e;
         three =
             rw (le-ltb c (lo r) l, le-ltb c (hi r) m)
-            (cells (at (pred (hi k)) k) (at (pred (hi n)) n) (at (pred (hi r)) r) (is-at a (pred (hi k)) k (f .0 ∙ s, f .1)) (is-at b (pred (hi n)) n (g .0 ∙ t, g .1)) (is-at d (pred (hi r)) r (h .0 ∙ v, h .1)));
+            (cells (is-at a (pred (hi k)) k (f .0 ∙ s, f .1)) (is-at b (pred (hi n)) n (g .0 ∙ t, g .1)) (is-at d (pred (hi r)) r (h .0 ∙ v, h .1)));
       }
 
 -- ---- a current edge
@@ -95,12 +96,6 @@ module _ (f : ℕ → ℕ) (b t : ℕ) (two : suc b < t) where
       subst (λ (z : ℕ). On z (r + 1)) (sym e)
       (record { low = s .from; high = omega (arith, s .rises, s .below); row = λ k. rw d (sym (row-next f b t two r h (omega arith))) })
 
-  pub on-edge : (i r q e : ℕ) → On i r → r < t → q ≡ nextRow f t i → e ≡ cond (leb r q) i q → e ≡ lowerEnd f b t r
-  on-edge i r q e o l d g = g ∙ ap (λ (z : ℕ). cond (leb r z) i z) d ∙ o .row l
-
-  pub edge-within : (r i : ℕ) → b ≤ r → r < t → i ≡ lowerEnd f b t r → (b ≤ i) × (suc i < t)
-  edge-within r i h l e = let s = row-spans f b t two r h l in (omega (arith, s .from), omega (arith, s .rises, s .below))
-
   -- It goes across the row, and crosses it where the hull begins
   pub record Edge (r i j : ℕ) : Type 0 where
     pub is-low : i ≡ lowerEnd f b t r
@@ -111,19 +106,27 @@ module _ (f : ℕ → ℕ) (b t : ℕ) (two : suc b < t) where
     pub below : j < t
     pub starts : b ≤ i
 
-  pub edge-of : (r i j : ℕ) → b ≤ r → r < t → i ≡ lowerEnd f b t r → j ≡ nextRow f t i → Edge r i j
-  edge-of r i j h l e d =
-      let s = row-spans f b t two r h l in
-      let g : j ≡ nextRow f t (lowerEnd f b t r) = d ∙ ap (nextRow f t) e in
-      record {
-        is-low = e;
-        is-high = g;
-        rises = omega (arith, s .rises);
-        above = omega (arith, s .above);
-        under = omega (arith, s .under);
-        below = omega (arith, s .below);
-        starts = omega (arith, s .from);
-      }
+  -- The next row of the table leads to it
+  module _ {next : ℕ → ℕ} {i r e : ℕ} (known : Tangents f next b t) (o : On i r) (h : b ≤ r) (l : r < t) (g : e ≡ cond (leb r (next i)) i (next i)) where
+    is-lower : e ≡ lowerEnd f b t r
+    is-lower = g ∙ ap (λ (z : ℕ). cond (leb r z) i z) (known .furthest-left i (o .low) (o .high)) ∙ o .row l
+
+    pub edge-within : (b ≤ e) × (suc e < t)
+    edge-within = let s = row-spans f b t two r h l in (omega (arith, is-lower, s .from), omega (arith, is-lower, s .rises, s .below))
+
+    pub edge-of : (j : ℕ) → j ≡ next e → Edge r e j
+    edge-of j q =
+        let s = row-spans f b t two r h l in
+        let d : j ≡ nextRow f t (lowerEnd f b t r) = q ∙ known .furthest-left e (edge-within .0) (edge-within .1) ∙ ap (nextRow f t) is-lower in
+        record {
+          is-low = is-lower;
+          is-high = d;
+          rises = omega (arith, is-lower, s .rises);
+          above = omega (arith, is-lower, s .above);
+          under = omega (arith, s .under);
+          below = omega (arith, s .below);
+          starts = omega (arith, is-lower, s .from);
+        }
 
   pub edge-crosses : (r i j x : ℕ) → b ≤ r → r < t → Edge r i j → x ≡ crossing f i j r → x ≡ hullLeft f b t r
   edge-crosses r i j x h l g e = e ∙ (λ z. crossing f (g .is-low z) (g .is-high z) r) ∙ sym (row-spans f b t two r h l .crosses)
@@ -141,40 +144,50 @@ module _ (lo en hi m : ℕ → ℕ) (b t : ℕ) (two : suc b < t) (mirrors : (s 
   pub searching-start : Searching b b b
   searching-start = record { low = omega arith; high = omega arith; left = on-start lo b t two; right = on-start m b t two; clear = λ s h l. absurd (omega arith) }
 
-  module _ (r : ℕ) (h : b ≤ r) (l : r < t) (i j k n : ℕ) (left : Edge lo b t two r i j) (right : Edge m b t two r k n) (u x c : ℕ) (crosses : u ≡ crossing lo i j r) (crosses′ : x ≡ crossing m k n r) (is-column : c ≡ cond (ltb u (lo r)) u (en r)) where
+  -- The edges across row r, the columns u and x where they cross it, and the column c to test
+  pub record Across (r i j k n u x c : ℕ) : Type 0 where
+    pub low : b ≤ r
+    pub high : r < t
+    pub left : Edge lo b t two r i j
+    pub right : Edge m b t two r k n
+    pub crosses-left : u ≡ crossing lo i j r
+    pub crosses-right : x ≡ crossing m k n r
+    pub is-column : c ≡ cond (ltb u (lo r)) u (en r)
+
+  module _ {r i j k n u x c : ℕ} (a : Across r i j k n u x c) where
     abbrev mirrored : ℕ → ℕ
     mirrored s = side - hi s
 
     opened : c ≡ openColumn lo en hi b t r
     unfolding openColumn
-    opened = is-column ∙ ap (λ (z : ℕ). cond (ltb z (lo r)) z (en r)) (edge-crosses lo b t two r i j u h l left crosses)
+    opened = a .is-column ∙ ap (λ (z : ℕ). cond (ltb z (lo r)) z (en r)) (edge-crosses lo b t two r i j u (a .low) (a .high) (a .left) (a .crosses-left))
 
     gap-is : (g : Bool) → g ≡ ltb c (side - x) → g ≡ hasGap lo en hi b t r
     unfolding hasGap hullRight
-    gap-is g e = e ∙ (λ z. ltb (opened z) (side - (edge-crosses m b t two r k n x h l right crosses′ ∙ left-same m mirrored b t mirrors two r h l) z))
+    gap-is g e = e ∙ (λ z. ltb (opened z) (side - (edge-crosses m b t two r k n x (a .low) (a .high) (a .right) (a .crosses-right) ∙ left-same m mirrored b t mirrors two r (a .low) (a .high)) z))
 
     pub searching-next : ((s : ℕ) → b ≤ s → s < r → hasGap lo en hi b t s ≡ false) → ltb c (side - x) ≡ false → Searching i k (r + 1)
     searching-next clear g =
         record {
-          low = omega arith;
-          high = omega arith;
-          left = on-next lo b t two r i h l (left .is-low);
-          right = on-next m b t two r k h l (right .is-low);
-          clear = λ s a z. elim (below-suc s r (omega arith)) [ inl e ↦ rw e (sym (gap-is _ refl) ∙ g) | inr q ↦ clear s a q ];
+          low = omega (arith, a .low);
+          high = omega (arith, a .high);
+          left = on-next lo b t two r i (a .low) (a .high) (a .left .is-low);
+          right = on-next m b t two r k (a .low) (a .high) (a .right .is-low);
+          clear = λ s h z. elim (below-suc s r (omega arith)) [ inl e ↦ rw e (sym (gap-is _ refl) ∙ g) | inr q ↦ clear s h q ];
         }
 
     lowest-row : ((s : ℕ) → b ≤ s → s < r → hasGap lo en hi b t s ≡ false) → ltb c (side - x) ≡ true → lowestRow lo en hi b t ≡ r
     unfolding lowestRow
     lowest-row clear g =
-        let d : b + (r - b) ≡ r = omega arith in
-        ap (λ (z : ℕ). b + z) (first-is (λ z. hasGap lo en hi b t (b + z)) (t - b) (r - b) (omega arith) (λ z q. clear (b + z) (omega arith) (omega arith)) (ap (hasGap lo en hi b t) d ∙ sym (gap-is _ refl) ∙ g)) ∙ d
+        let d : b + (r - b) ≡ r = omega (arith, a .low) in
+        ap (λ (z : ℕ). b + z) (first-is (λ z. hasGap lo en hi b t (b + z)) (t - b) (r - b) (omega (arith, a .low, a .high)) (λ z q. clear (b + z) (omega arith) (omega arith)) (ap (hasGap lo en hi b t) d ∙ sym (gap-is _ refl) ∙ g)) ∙ d
 
     same-three : threeBy lo hi i j k n c r ≡ threeFor lo hi b t (at c r)
     unfolding threeBy threeFor fromLeft fromRight fromRow firstIn lastIn upperEnd
     same-three =
-        let p = right .is-low ∙ lower-same m mirrored b t mirrors two r h l in
-        let q = right .is-high ∙ upper-same m mirrored b t mirrors two r h l in
-        λ z. threeBy lo hi (left .is-low z) (left .is-high z) (p z) (q z) c r
+        let p = a .right .is-low ∙ lower-same m mirrored b t mirrors two r (a .low) (a .high) in
+        let q = a .right .is-high ∙ upper-same m mirrored b t mirrors two r (a .low) (a .high) in
+        λ z. threeBy lo hi (a .left .is-low z) (a .left .is-high z) (p z) (q z) c r
 
     pub answers-found : (found : Bool) (cell p q v : Point) → ((s : ℕ) → b ≤ s → s < r → hasGap lo en hi b t s ≡ false) → ltb c (side - x) ≡ true → Shows lo hi i j k n c r found cell p q v → Answers lo en hi b t found cell p q v
     unfolding lowestOpen
@@ -182,7 +195,7 @@ module _ (lo en hi m : ℕ → ℕ) (b t : ℕ) (two : suc b < t) (mirrors : (s 
         let e = lowest-row clear g in
         record {
           none = λ z. absurd (true≢false (sym (s .is-found) ∙ z));
-          some = λ z. omega arith;
+          some = λ z. omega (arith, a .high);
           lowest = λ z. s .is-cell ∙ point-eq (at c r) (at (openColumn lo en hi b t (lowestRow lo en hi b t)) (lowestRow lo en hi b t)) (opened ∙ ap (openColumn lo en hi b t) (sym e)) (sym e);
           three = λ z. ap (threeFor lo hi b t) (s .is-cell) ∙ sym same-three ∙ s .three;
         }

@@ -1,7 +1,5 @@
 -- The cell is left of the row, within it, or right of it.
 use native.Mathlib.Omega.{arith}
-use denote.Ref.{now}
-use Rattle.rows.specs.parts.Rows.{rows}
 use Rattle.witness_search.proofs.Laws.{shows-left, shows-row, shows-right}
 use borrow.Author.Needs.{needs}
 use Rattle.witness_search.proofs.display.Statement.{statement}
@@ -45,11 +43,9 @@ cell-requires-4 c κs = search needs
 
 returns : tie.Need-returns
 returns c =
-    let after = c .before .before .before .before .before .before .before .before in
-    let args = after .before .args in
-    let two = c .before .before .before .before .cell2 in
-    let three = c .before .before .cell3 in
-    shows-left (rows (now (args .lo))) (rows (now (args .hi))) (args .i) (args .j) (args .k) (args .n) (args .c) (args .r) (after .cell .result) (two .result) (three .result) (c .cell4 .result) (omega arith) (after .cell .ensures) (two .ensures) (three .ensures) (c .cell4 .ensures)
+    let two = c .before .before .before .before in
+    let first = two .before .before .before .before in
+    shows-left (omega arith) (first .cell .ensures) (two .cell2 .ensures) (c .before .before .cell3 .ensures) (c .cell4 .ensures)
 
 mul-prior : tie.Need-mul-prior
 mul-prior c = search needs
@@ -78,13 +74,14 @@ element-copy-out-cell-4 c = search needs
 cell-requires-6 : tie.Need-cell-requires-6
 cell-requires-6 c κs = search needs
 
+-- The cell itself is made first
+abbrev first : (c : tie.After-cell5) → tie.After-cell
+first c = c .before .before .before .before .before
+
 returns-2 : tie.Need-returns-2
 returns-2 c =
-    let after = c .before .before .before .before .before .before .before .before .before in
-    let args = after .before .args in
-    let last = c .before .before .before .before .cell5 in
-    let prior = c .before .before .before .before .before .prior in
-    shows-row (rows (now (args .lo))) (rows (now (args .hi))) (args .i) (args .j) (args .k) (args .n) (args .c) (args .r) (after .cell .result) (c .cell6 .result) (last .result) (last .result) (omega arith) (omega arith) (prior .result) (prior .ensures) (after .cell .ensures) (c .cell6 .ensures) (last .ensures) (last .ensures)
+    let last = c .before .before .before .before in
+    shows-row (omega arith) (omega arith) (last .before .prior .ensures) (first last .cell .ensures) (c .cell6 .ensures) (last .cell5 .ensures) (last .cell5 .ensures)
 
 mul-prior-2 : tie.Need-mul-prior-2
 mul-prior-2 c = search needs
@@ -112,14 +109,9 @@ cell-requires-8 c κs = search needs
 
 returns-3 : tie.Need-returns-3
 returns-3 c =
-    let after = c .before .before .before .before .before .before .before .before .before .before .before .before .before in
-    let args = after .before .args in
-    let last = c .before .before .before .before .before .before .before .before .cell5 in
-    let prior = c .before .before .before .before .before .before .before .before .before .prior in
-    let low = c .before .before .before .cell7 in
-    let prior2 = c .before .before .before .before .prior2 in
-    let prior3 = c .before .prior3 in
-    shows-right (rows (now (args .lo))) (rows (now (args .hi))) (args .i) (args .j) (args .k) (args .n) (args .c) (args .r) (after .cell .result) (low .result) (c .cell8 .result) (last .result) (omega (arith, c .before .before .before .before .before .before .before .before .before .before .before .if1 .left)) (omega arith) (prior2 .result) (prior3 .result) (prior .result) (prior2 .ensures) (prior3 .ensures) (prior .ensures) (after .cell .ensures) (low .ensures) (c .cell8 .ensures) (last .ensures)
+    let low = c .before .before .before in
+    let last = low .before .before .before .before .before in
+    shows-right (omega (arith, last .before .before .before .if1 .left)) (omega arith) (low .before .prior2 .ensures) (c .before .prior3 .ensures) (last .before .prior .ensures) (first last .cell .ensures) (low .cell7 .ensures) (c .cell8 .ensures) (last .cell5 .ensures)
 
 pub display-spec : {M : Type 1} → statement M
 display-spec =
