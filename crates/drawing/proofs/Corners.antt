@@ -5,6 +5,7 @@ use mathlib.Core.Logic.{_↔_, ⊎-elim}
 use mathlib.Core.List.{List, [], _∷_, _++_, map, List·Memᴰ, List·Memᴰ·head, List·Memᴰ·tail, List·Memᴰ·not-nil, List·Memᴰ·cases-cons, List·Memᴰ·append-cases, List·Memᴰ·eq-of-singleton, Memᴰ·append-left, Memᴰ·map, Memᴰ·of-map}
 use lib.IntN.{ℤ, pos, natAbs, _+ℤ_, _*ℤ_}
 use Rattle.chart.specs.declared.Point.{Point}
+use Rattle.convexity.specs.Edges.{Edge, pairs}
 use Rattle.convexity.specs.Inside.{colSteps, rowSteps}
 use Rattle.convexity.proofs.Signed.{reached}
 use Rattle.convexity.proofs.Inside.{IsCell}
@@ -29,63 +30,55 @@ point-cell c = rw (c .col-is, c .row-is)
 -- ---- the lines
 
 -- The cells where the edges end, without the last
-unfoldable pub endsFrom : List ℤ → ℤ → ℤ → List Point
+unfoldable pub endsFrom : List Edge → ℤ → ℤ → List Point
 endsFrom [] x y = []
-endsFrom (dx ∷ []) x y = []
-endsFrom (dx ∷ dy ∷ []) x y = []
-endsFrom (dx ∷ dy ∷ ex ∷ []) x y = []
-endsFrom (dx ∷ dy ∷ ex ∷ ey ∷ es) x y = point (x +ℤ dx) (y +ℤ dy) ∷ endsFrom (ex ∷ ey ∷ es) (x +ℤ dx) (y +ℤ dy)
+endsFrom (d ∷ []) x y = []
+endsFrom ((dx, dy) ∷ e ∷ es) x y = point (x +ℤ dx) (y +ℤ dy) ∷ endsFrom (e ∷ es) (x +ℤ dx) (y +ℤ dy)
 
 -- Every corner cell is on the chart
-abbrev pub Stays : List ℤ → ℤ → ℤ → Type 0
+abbrev pub Stays : List Edge → ℤ → ℤ → Type 0
 Stays es x y = (u v : ℤ) → Met es x y u v → IsCell u v
 
-pub lines-are : (es : List ℤ) (x y : ℤ) → Stays es x y → linesFrom es x y ≡ map Line (endsFrom es x y)
+pub lines-are : (es : List Edge) (x y : ℤ) → Stays es x y → linesFrom es x y ≡ map Line (endsFrom es x y)
 unfolding linesFrom endsFrom
 lines-are [] x y s = refl
-lines-are (dx ∷ []) x y s = refl
-lines-are (dx ∷ dy ∷ []) x y s = refl
-lines-are (dx ∷ dy ∷ ex ∷ []) x y s = refl
-lines-are (dx ∷ dy ∷ ex ∷ ey ∷ es) x y s = ap₂ _∷_ (line-cell (s _ _ (after start))) (lines-are (ex ∷ ey ∷ es) (x +ℤ dx) (y +ℤ dy) (λ u v m. s u v (after m)))
+lines-are (d ∷ []) x y s = refl
+lines-are ((dx, dy) ∷ e ∷ es) x y s = ap₂ _∷_ (line-cell (s _ _ (after start))) (lines-are (e ∷ es) (x +ℤ dx) (y +ℤ dy) (λ u v m. s u v (after m)))
 
 -- After an edge: the ends, and where the walk arrives
 corners-behind :
-    (dx dy : ℤ) (es : List ℤ) (x y : ℤ) → Stays (dx ∷ dy ∷ es) x y
-    → cornersFrom es (x +ℤ dx) (y +ℤ dy) ≡ map cellOf (endsFrom (dx ∷ dy ∷ es) x y) ++ ((reached (colSteps es) (x +ℤ dx), reached (rowSteps es) (y +ℤ dy)) ∷ [])
+    (dx dy : ℤ) (es : List Edge) (x y : ℤ) → Stays ((dx, dy) ∷ es) x y
+    → cornersFrom es (x +ℤ dx) (y +ℤ dy) ≡ map cellOf (endsFrom ((dx, dy) ∷ es) x y) ++ ((reached (colSteps es) (x +ℤ dx), reached (rowSteps es) (y +ℤ dy)) ∷ [])
 unfolding cornersFrom endsFrom colSteps rowSteps reached
 corners-behind dx dy [] x y s = refl
-corners-behind dx dy (ex ∷ []) x y s = refl
-corners-behind dx dy (ex ∷ ey ∷ es) x y s =
+corners-behind dx dy ((ex, ey) ∷ es) x y s =
     ap₂ _∷_ (sym (point-cell (s _ _ (after start)))) (corners-behind ex ey es (x +ℤ dx) (y +ℤ dy) (λ u v m. s u v (after m)))
 
 -- The anchor and the ends are the corner cells without the last, which is the anchor again
 pub corners-are :
-    (a : Point) (es : List ℤ) → Stays es (pos (a .col)) (pos (a .row))
+    (a : Point) (es : List Edge) → Stays es (pos (a .col)) (pos (a .row))
     → reached (colSteps es) (pos (a .col)) ≡ pos (a .col) → reached (rowSteps es) (pos (a .row)) ≡ pos (a .row)
-    → corners a es ≡ map cellOf (a ∷ endsFrom es (pos (a .col)) (pos (a .row))) ++ again a es
+    → cornersFrom es (pos (a .col)) (pos (a .row)) ≡ map cellOf (a ∷ endsFrom es (pos (a .col)) (pos (a .row))) ++ again a es
 unfolding cornersFrom endsFrom again colSteps rowSteps reached
 corners-are a [] s p q = refl
-corners-are a (dx ∷ []) s p q = refl
-corners-are a (dx ∷ dy ∷ es) s p q =
+corners-are a ((dx, dy) ∷ es) s p q =
     ap (λ (cs : List Cell). cellOf a ∷ cs) (rw (p, q) at (corners-behind dx dy es (pos (a .col)) (pos (a .row)) s))
 
 -- ---- the hull
 
-met-here : (es : List ℤ) {x y u v : ℤ} → _≡_ {A = Cell} (u, v) (x, y) → Met es x y u v
+met-here : (es : List Edge) {x y u v : ℤ} → _≡_ {A = Cell} (u, v) (x, y) → Met es x y u v
 met-here es {x} {y} e = subst₂ (Met es x y) (sym (ap (λ (c : Cell). c .0) e)) (sym (ap (λ (c : Cell). c .1) e)) start
 
-listed-met : {u v : ℤ} (es : List ℤ) (x y : ℤ) → List·Memᴰ {A = Cell} (u, v) (cornersFrom es x y) → Met es x y u v
+listed-met : {u v : ℤ} (es : List Edge) (x y : ℤ) → List·Memᴰ {A = Cell} (u, v) (cornersFrom es x y) → Met es x y u v
 unfolding cornersFrom
 listed-met [] x y m = met-here [] (List·Memᴰ·eq-of-singleton m)
-listed-met (dx ∷ []) x y m = met-here (dx ∷ []) (List·Memᴰ·eq-of-singleton m)
-listed-met (dx ∷ dy ∷ es) x y m = ⊎-elim (met-here (dx ∷ dy ∷ es)) (λ n. after (listed-met es (x +ℤ dx) (y +ℤ dy) n)) (List·Memᴰ·cases-cons m)
+listed-met ((dx, dy) ∷ es) x y m = ⊎-elim (met-here ((dx, dy) ∷ es)) (λ n. after (listed-met es (x +ℤ dx) (y +ℤ dy) n)) (List·Memᴰ·cases-cons m)
 
-met-listed : {u v : ℤ} (es : List ℤ) (x y : ℤ) → Met es x y u v → List·Memᴰ {A = Cell} (u, v) (cornersFrom es x y)
+met-listed : {u v : ℤ} (es : List Edge) (x y : ℤ) → Met es x y u v → List·Memᴰ {A = Cell} (u, v) (cornersFrom es x y)
 unfolding cornersFrom
 met-listed [] x y start = List·Memᴰ·head refl
-met-listed (dx ∷ []) x y start = List·Memᴰ·head refl
-met-listed (dx ∷ dy ∷ es) x y start = List·Memᴰ·head refl
-met-listed (dx ∷ dy ∷ es) x y (after m) = List·Memᴰ·tail (met-listed es (x +ℤ dx) (y +ℤ dy) m)
+met-listed ((dx, dy) ∷ es) x y start = List·Memᴰ·head refl
+met-listed ((dx, dy) ∷ es) x y (after m) = List·Memᴰ·tail (met-listed es (x +ℤ dx) (y +ℤ dy) m)
 
 -- One of these points has the column u and the row v
 record PointAt (ps : List Point) (u v : ℤ) : Type 0 where
@@ -104,24 +97,23 @@ mean :
 mean i j k c p q t e f g h = ap natAbs (rw (sym e, sym f, sym g) at h)
 
 -- The points are the corner cells
-module _ (a : Point) (es : List ℤ) (ps : List Point) (met : corners a es ≡ map cellOf (a ∷ ps) ++ again a es) where
-  again-cell : (fs : List ℤ) {c : Cell} → List·Memᴰ c (again a fs) → c ≡ cellOf a
+module _ (a : Point) (es : List ℤ) (ps : List Point) (met : corners a es ≡ map cellOf (a ∷ ps) ++ again a (pairs es)) where
+  again-cell : (fs : List Edge) {c : Cell} → List·Memᴰ c (again a fs) → c ≡ cellOf a
   unfolding again
   again-cell [] m = absurd (List·Memᴰ·not-nil m)
-  again-cell (dx ∷ []) m = absurd (List·Memᴰ·not-nil m)
-  again-cell (dx ∷ dy ∷ fs) m = List·Memᴰ·eq-of-singleton m
+  again-cell (e ∷ fs) m = List·Memᴰ·eq-of-singleton m
 
-  point-of : {u v : ℤ} → Met es (pos (a .col)) (pos (a .row)) u v → PointAt (a ∷ ps) u v
+  point-of : {u v : ℤ} → Met (pairs es) (pos (a .col)) (pos (a .row)) u v → PointAt (a ∷ ps) u v
   point-of {u} {v} m =
       ⊎-elim
       (λ n. let (p, l, e) = Memᴰ·of-map cellOf (a ∷ ps) n in point-at p l e)
-      (λ n. point-at a (List·Memᴰ·head refl) (sym (again-cell es n)))
-      (List·Memᴰ·append-cases (map cellOf (a ∷ ps)) (subst (λ (cs : List Cell). List·Memᴰ {A = Cell} (u, v) cs) met (met-listed es (pos (a .col)) (pos (a .row)) m)))
+      (λ n. point-at a (List·Memᴰ·head refl) (sym (again-cell (pairs es) n)))
+      (List·Memᴰ·append-cases (map cellOf (a ∷ ps)) (subst (λ (cs : List Cell). List·Memᴰ {A = Cell} (u, v) cs) met (met-listed (pairs es) (pos (a .col)) (pos (a .row)) m)))
 
-  pub met-point : {p : Point} → List·Memᴰ p (a ∷ ps) → Met es (pos (a .col)) (pos (a .row)) (pos (p .col)) (pos (p .row))
+  pub met-point : {p : Point} → List·Memᴰ p (a ∷ ps) → Met (pairs es) (pos (a .col)) (pos (a .row)) (pos (p .col)) (pos (p .row))
   met-point {p} m =
-      listed-met es (pos (a .col)) (pos (a .row))
-      (subst (λ (cs : List Cell). List·Memᴰ (cellOf p) cs) (sym met) (Memᴰ·append-left (again a es) (Memᴰ·map cellOf m)))
+      listed-met (pairs es) (pos (a .col)) (pos (a .row))
+      (subst (λ (cs : List Cell). List·Memᴰ (cellOf p) cs) (sym met) (Memᴰ·append-left (again a (pairs es)) (Memᴰ·map cellOf m)))
 
   -- So both have the same hull
   pub hull-iff : (x : Point) → CornersHold a es x ↔ InHullOf (a ∷ ps) x

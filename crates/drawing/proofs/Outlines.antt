@@ -12,6 +12,7 @@ use Rattle.chart.specs.Limits.{side}
 use Rattle.chart.specs.declared.Point.{Point}
 use Rattle.chart.specs.Outline.{Outline}
 use Rattle.convexity.specs.Clockwise.{border, block}
+use Rattle.convexity.specs.Edges.{pairs}
 use Rattle.convexity.specs.Pieces.{Reaches, dentPiece, edges}
 use Rattle.convexity.proofs.Shape.{shape}
 use Rattle.convexity.proofs.Inside.{IsCell, edges-return}
@@ -38,17 +39,17 @@ module _ (o : Outline) (h : Reaches o) (smooth : dentPiece (border o) ≡ 4) whe
   es = edges (border o)
 
   abbrev ends : List Point
-  ends = endsFrom es (pos (a .col)) (pos (a .row))
+  ends = endsFrom (pairs es) (pos (a .col)) (pos (a .row))
 
-  stays : Stays es (pos (a .col)) (pos (a .row))
+  stays : Stays (pairs es) (pos (a .col)) (pos (a .row))
   stays = corner-is-cell (border o) (clear-of o h)
 
   drawn : drawing a es ≡ Move a ∷ map Line ends ++ (Close ∷ [])
   unfolding drawing
-  drawn = ap (λ (ss : List Stroke). Move a ∷ ss ++ (Close ∷ [])) (lines-are es (pos (a .col)) (pos (a .row)) stays)
+  drawn = ap (λ (ss : List Stroke). Move a ∷ ss ++ (Close ∷ [])) (lines-are (pairs es) (pos (a .col)) (pos (a .row)) stays)
 
-  met : corners a es ≡ map cellOf (a ∷ ends) ++ again a es
-  met = let back = edges-return (border o) (shape (border o) (clear-of o h)) in corners-are a es stays (back .0) (back .1)
+  met : corners a es ≡ map cellOf (a ∷ ends) ++ again a (pairs es)
+  met = let back = edges-return (border o) (shape (border o) (clear-of o h)) in corners-are a (pairs es) stays (back .0) (back .1)
 
   enclosed-iff : (x : Point) → x .col < side → x .row < side → (block o (x .col) (x .row) ≡ true) ↔ InHullOf (a ∷ ends) x
   enclosed-iff x c r = rw (sym (edges-answer-sent o h smooth x c r)) (Iff·trans (inside-iff-hull a es x (taken-passes o h smooth)) (hull-iff a es ends met x))

@@ -13,6 +13,7 @@ use Rattle.rounding.specs.Units.{value}
 use Rattle.chart.specs.Limits.{side}
 use Rattle.chart.specs.declared.Point.{Point}
 use Rattle.lattice.specs.Hull.{InTriangle}
+use Rattle.convexity.specs.Edges.{Edge, pairs}
 use Rattle.directions.specs.Increasing.{badDirections}
 use Rattle.drawing.specs.declared.Stroke.the-variants.{Move, Line, Close}
 use Rattle.drawing.specs.Drawing.{drawing}
@@ -32,19 +33,17 @@ abbrev pub cellOf : Point → Cell
 cellOf p = (pos (p .col), pos (p .row))
 
 -- The corner cells in the order of the walk: where it starts, and where each edge ends
-unfoldable pub cornersFrom : List ℤ → ℤ → ℤ → List Cell
+unfoldable pub cornersFrom : List Edge → ℤ → ℤ → List Cell
 cornersFrom [] x y = (x, y) ∷ []
-cornersFrom (dx ∷ []) x y = (x, y) ∷ []
-cornersFrom (dx ∷ dy ∷ es) x y = (x, y) ∷ cornersFrom es (x +ℤ dx) (y +ℤ dy)
+cornersFrom ((dx, dy) ∷ es) x y = (x, y) ∷ cornersFrom es (x +ℤ dx) (y +ℤ dy)
 
 abbrev pub corners : Point → List ℤ → List Cell
-corners a es = cornersFrom es (pos (a .col)) (pos (a .row))
+corners a es = cornersFrom (pairs es) (pos (a .col)) (pos (a .row))
 
 -- If there is an edge, the walk ends at the anchor again
-unfoldable pub again : Point → List ℤ → List Cell
+unfoldable pub again : Point → List Edge → List Cell
 again a [] = []
-again a (dx ∷ []) = []
-again a (dx ∷ dy ∷ es) = cellOf a ∷ []
+again a (e ∷ es) = cellOf a ∷ []
 
 -- x lies in the triangle of some three of these cells, which need not differ
 pub record InHullOf (ps : List Point) (x : Point) : Type 0 where
@@ -61,7 +60,7 @@ pub record Draws (a : Point) (es : List ℤ) (marked : ℕ → ℕ → Bool) : T
   pub ends : List Point
   pub pieces : drawing a es ≡ Move a ∷ map Line ends ++ (Close ∷ [])
   -- the move's cell and these are the corner cells in the order of the walk, without the last, which is the anchor again
-  pub met : corners a es ≡ map cellOf (a ∷ ends) ++ again a es
+  pub met : corners a es ≡ map cellOf (a ∷ ends) ++ again a (pairs es)
   -- they are cells of the chart, and their floats are exact
   pub on-chart : (p : Point) → List·Memᴰ p (a ∷ ends) → (p .col < side) × (p .row < side)
   pub raised : (p : Point) → List·Memᴰ p (a ∷ ends) → Raised (p .col) (half (p .col)) × Raised (p .row) (half (p .row))

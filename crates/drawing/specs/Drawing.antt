@@ -6,6 +6,7 @@ use mathlib.Core.List.{List, [], _∷_, _++_}
 use lib.ListN.{getD}
 use lib.IntN.{ℤ, pos, natAbs, _+ℤ_}
 use Rattle.chart.specs.declared.Point.{Point}
+use Rattle.convexity.specs.Edges.{Edge, pairs}
 use Rattle.directions.specs.CornerHull.{onChart}
 use Rattle.drawing.specs.declared.Stroke.{Stroke}
 use Rattle.drawing.specs.declared.Stroke.the-variants.{Move, Line, Close, None}
@@ -14,17 +15,14 @@ use Rattle.drawing.specs.declared.Stroke.the-variants.{Move, Line, Close
 unfoldable pub lineTo : ℤ → ℤ → Stroke
 lineTo x y = cond (onChart x y) (Line (record { col = natAbs x; row = natAbs y })) None
 
--- The lines of the walk from (x, y): for each edge but the last, a line to the cell where it ends.
--- An edge is two numbers, columns then rows. An odd number at the end is not an edge
-unfoldable pub linesFrom : List ℤ → ℤ → ℤ → List Stroke
+-- The lines of the walk from (x, y): for each edge but the last, a line to the cell where it ends
+unfoldable pub linesFrom : List Edge → ℤ → ℤ → List Stroke
 linesFrom [] x y = []
-linesFrom (dx ∷ []) x y = []
-linesFrom (dx ∷ dy ∷ []) x y = []
-linesFrom (dx ∷ dy ∷ ex ∷ []) x y = []
-linesFrom (dx ∷ dy ∷ ex ∷ ey ∷ es) x y = lineTo (x +ℤ dx) (y +ℤ dy) ∷ linesFrom (ex ∷ ey ∷ es) (x +ℤ dx) (y +ℤ dy)
+linesFrom (d ∷ []) x y = []
+linesFrom ((dx, dy) ∷ e ∷ es) x y = lineTo (x +ℤ dx) (y +ℤ dy) ∷ linesFrom (e ∷ es) (x +ℤ dx) (y +ℤ dy)
 
 unfoldable pub drawing : Point → List ℤ → List Stroke
-drawing a es = Move a ∷ linesFrom es (pos (a .col)) (pos (a .row)) ++ (Close ∷ [])
+drawing a es = Move a ∷ linesFrom (pairs es) (pos (a .col)) (pos (a .row)) ++ (Close ∷ [])
 
 -- The path command at a position, counted from 0. None after the last
 unfoldable pub strokeAt : Point → List ℤ → ℕ → Stroke

@@ -2,16 +2,10 @@
 use calls::Piece;
 use calls::Reply;
 use chart::Point;
-use chart::SIDE;
+use edge_walk::Corner;
 ghost use mathlib.Core.Path.{_≡_};
-ghost use Prim.Native.Nat.{_^_, _≤_};
-ghost use lib.IntN.{natAbs, _+ℤ_};
-ghost use Rattle.directions.specs.CornerHull.{chartNumber};
 ghost use Rattle.drawing.specs.Drawing.{lineTo, strokeAt};
 ghost use Rattle.drawing.specs.Points.{half as halfOf, pieceOf, cellIn, drawnReply, pairAfter, pointAfter};
-
-// The last column and the last row.
-const LAST: u16 = SIDE - 1;
 
 // One path command, by the cell whose centre is its point.
 pub enum Stroke {
@@ -22,50 +16,31 @@ pub enum Stroke {
     None,
 }
 
-// One number of a cell after a step. A position has 16 bits, so the sum of the steps before it stays within 2^32.
-fn further(n: i64, d: i16) -> i64
-    requires { ⌜ natAbs n ≤ 2 ^ 32 ⌝ }
-    ensures { λ r. ⌜ r ≡ n +ℤ d ⌝ }
-{
-    n + (d as i64)
-}
-
-// A column or a row of the chart.
-fn chart_number(z: i64) -> bool
-    ensures { λ b. ⌜ b ≡ chartNumber z ⌝ }
-{
-    (0 <= z) & (z <= LAST as i64)
-}
-
 // A line to a cell of the chart, and nothing for a cell off the chart.
-fn line_to(x: i64, y: i64) -> Stroke
-    ensures { λ r. ⌜ r ≡ lineTo x y ⌝ }
+fn line_to(at: Corner) -> Stroke
+    ensures { λ r. ⌜ r ≡ lineTo (at .col) (at .row) ⌝ }
 {
-    if chart_number(x) & chart_number(y) {
-        return Stroke::Line(Point {
-            col: x as u16,
-            row: y as u16,
-        });
+    if edge_walk::on_chart(at) {
+        return Stroke::Line(edge_walk::cell(at));
     }
     Stroke::None
 }
 
 // The path command at a position of the drawing of an anchor and a list of edges: a line for each edge but the last, and a close.
+// A position has 16 bits, so the walk to it takes at most 65,535 edges.
 fn stroke_at(anchor: Point, edges: &[i16], position: u16) -> Stroke
     ensures { λ r. ⌜ r ≡ strokeAt anchor (now (edges .entry)) position ⌝ }
 {
     if position == 0 {
         return Stroke::Move(anchor);
     }
-    let mut x = anchor.col as i64;
-    let mut y = anchor.row as i64;
+    let mut at = edge_walk::start(anchor);
     let mut left = position - 1;
     let mut i = 0;
     while i + 3 < edges.len() {
-        x = further(x, edges[i]);
-        y = further(y, edges[i + 1]);
+        at = edge_walk::further(at, edges[i], edges[i + 1]);
         if left == 0 {
-            return line_to(x, y);
+            return line_to(at);
         }
         left -= 1;
         i += 2;
