@@ -7,6 +7,7 @@ use Rattle.chart.specs.declared.Point.{Point}
 use Rattle.chart.specs.declared.Comparison.the-variants.{Found, Refused}
 use Rattle.chart.specs.declared.Refusal.{Refusal}
 use Rattle.chart.specs.declared.Refusal.the-variants.{List as BadList, Cell, Directions}
+use Rattle.convexity.specs.Edges.{pairs}
 use Rattle.directions.specs.Increasing.{badDirections}
 use Rattle.polygon.specs.Loose.{badList, badCell}
 use Rattle.nesting.specs.Cells.{polygon, Fit as Passing}
@@ -32,11 +33,11 @@ module _ (a : Point) (es : List ℤ) where
       checked-turning e = rw (l, c, e)
 
       module _ (t : badDirections es ≡ false) where
-        pub checked-walk : cornersOnChart es (pos (a .col)) (pos (a .row)) ≡ false → Unfit Cell ≡ checkedOf a es
+        pub checked-walk : cornersOnChart (pairs es) (pos (a .col)) (pos (a .row)) ≡ false → Unfit Cell ≡ checkedOf a es
         unfolding checkedOf
         checked-walk e = rw (l, c, t, e)
 
-        pub checked-fit : cornersOnChart es (pos (a .col)) (pos (a .row)) ≡ true → Fit ≡ checkedOf a es
+        pub checked-fit : cornersOnChart (pairs es) (pos (a .col)) (pos (a .row)) ≡ true → Fit ≡ checkedOf a es
         unfolding checkedOf
         checked-fit e = rw (l, c, t, e)
 
@@ -47,10 +48,10 @@ fits (Unfit f) = false
 
 pub fit-passes : (a : Point) (es : List ℤ) → Fit ≡ checkedOf a es → Passing (polygon a es)
 unfolding checkedOf
-fit-passes a es e = go (badList es) (badCell a) (badDirections es) (cornersOnChart es (pos (a .col)) (pos (a .row))) refl refl (sym (ap fits e))
+fit-passes a es e = go (badList es) (badCell a) (badDirections es) (cornersOnChart (pairs es) (pos (a .col)) (pos (a .row))) refl refl (sym (ap fits e))
   where
     go :
-        (l c t p : Bool) → badDirections es ≡ t → cornersOnChart es (pos (a .col)) (pos (a .row)) ≡ p
+        (l c t p : Bool) → badDirections es ≡ t → cornersOnChart (pairs es) (pos (a .col)) (pos (a .row)) ≡ p
         → fits (cond l (Unfit BadList) (cond c (Unfit Cell) (cond t (Unfit Directions) (cond p Fit (Unfit Cell))))) ≡ true → Passing (polygon a es)
     go true c t p v w h = absurd (false≢true h)
     go false true t p v w h = absurd (false≢true h)

@@ -12,6 +12,7 @@ use Rattle.chart.specs.declared.Comparison.{Comparison}
 use Rattle.chart.specs.declared.Comparison.the-variants.{Found, Refused}
 use Rattle.chart.specs.declared.Refusal.the-variants.{List as BadList, Cell, Directions}
 use Rattle.chart.specs.Fields.{nestingFields}
+use Rattle.convexity.specs.Edges.{pairs}
 use Rattle.directions.specs.Increasing.{badDirections}
 use Rattle.polygon.specs.Loose.{badList, badCell}
 use Rattle.nesting.specs.Cells.{Polygon, polygon, Says}
@@ -28,7 +29,7 @@ checkedOf a es =
     cond (badList es) (Unfit BadList)
     (cond (badCell a) (Unfit Cell)
     (cond (badDirections es) (Unfit Directions)
-    (cond (cornersOnChart es (pos (a .col)) (pos (a .row))) Fit (Unfit Cell))))
+    (cond (cornersOnChart (pairs es) (pos (a .col)) (pos (a .row))) Fit (Unfit Cell))))
 
 -- All of the first list comes before the second
 unfoldable pub decided : Checked → Checked → Nesting → Comparison

@@ -13,6 +13,7 @@ ghost use mathlib.Core.Path.{_≡_};
 ghost use mathlib.Core.Bool.{not, _&&_};
 ghost use lib.IntN.{pos};
 ghost use Rattle.base.specs.Same.{sameℤs};
+ghost use Rattle.convexity.specs.Edges.{pairs};
 ghost use Rattle.lattice.specs.Chart.{samePoint};
 ghost use Rattle.chart.specs.Fields.{comparisonFields, numbersOf, fieldsOf};
 ghost use Rattle.nesting.specs.Cells.{polygon, Fit};
@@ -21,22 +22,21 @@ ghost use Rattle.nesting.specs.Answer.{byTests, nesting};
 ghost use Rattle.comparison.specs.Compared.{checkedOf, comparisonOf, CellsNamed, handedBy, HandedBack};
 
 mod rows;
-mod step;
 
 // 11 of a list: some corner cell is off the chart.
 fn leaves_chart(anchor: Point, edges: &[i16]) -> bool
-    ensures { λ b. ⌜ b ≡ not (cornersOnChart (now (edges .entry)) (pos (anchor .col)) (pos (anchor .row))) ⌝ }
+    ensures { λ b. ⌜ b ≡ not (cornersOnChart (pairs (now (edges .entry))) (pos (anchor .col)) (pos (anchor .row))) ⌝ }
 {
-    let mut at = anchor;
+    let mut at = edge_walk::start(anchor);
     let mut i = 0;
     while i + 1 < edges.len() {
-        if polygon::bad_cell(at) {
+        if !edge_walk::on_chart(at) {
             return true;
         }
-        at = step::further(at, edges[i], edges[i + 1]);
+        at = edge_walk::further(at, edges[i], edges[i + 1]);
         i += 2;
     }
-    polygon::bad_cell(at)
+    !edge_walk::on_chart(at)
 }
 
 // A list's refusal, or none.

@@ -1,9 +1,8 @@
 // Finds the rows of a polygon in one walk along its edges, and compares two polygons row by row.
-use crate::step;
 use chart::Point;
 use chart::SIDE;
 ghost use mathlib.Core.Path.{_≡_};
-ghost use Prim.Native.Nat.{_≤_, _<_, _*_, min, max};
+ghost use Prim.Native.Nat.{_<_, _*_, min, max};
 ghost use lib.IntN.{pos, _-ℤ_};
 ghost use lib.ListN.{length, replicate};
 ghost use Rattle.chart.specs.Limits.{side};
@@ -151,7 +150,11 @@ fn sweep(anchor: Point, edges: &[i16], first: &mut [u8; ROWS], end: &mut [u8; RO
     while i + 1 < edges.len() {
         corner_first(at, first);
         corner_end(at, end);
-        let next = step::further(at, edges[i], edges[i + 1]);
+        let next = edge_walk::cell(edge_walk::further(
+            edge_walk::start(at),
+            edges[i],
+            edges[i + 1],
+        ));
         rise(at, next, first);
         fall(at, next, end);
         at = next;
