@@ -17,7 +17,7 @@ use Rattle.nesting.specs.Cells.{polygon, Fit}
 use Rattle.nesting.specs.Rows.{startAt, endAfter}
 use Rattle.sweep.specs.parts.Sweep.{between, cornerFrom, cornerTo, riseFrom, fallTo, sweptFrom, sweptTo, rowFrom, rowTo}
 use Rattle.sweep.proofs.Items.{swept-from-below}
-use Rattle.comparison.specs.parts.Rows.{firstAt, endAt, inRows, metFrom, metTo, risenFrom, fallenTo, AllBelow, Lowered, Raised, Swept}
+use Rattle.comparison.specs.parts.Rows.{firstOf, endOf, inRows, metFrom, metTo, risenFrom, fallenTo, AllBelow, Lowered, Raised, Swept}
 use Rattle.comparison.proofs.Columns.{rise-is, side-is}
 use Rattle.comparison.proofs.Steps.{nextCorner, Standing, next-cell, standing-next}
 use Rattle.comparison.proofs.Lists.{lowered-below}
@@ -51,7 +51,7 @@ module _ (dx dy : ℤ) (p q : Point) (e : stepped (started p) dx dy ≡ started 
   is-row = ap (λ (k : Corner). k .row) e
 
   rise-told : (r : ℕ) → riseFrom dx dy (pos (p .col)) (pos (p .row)) r ≡ risenFrom p q r
-  unfolding riseFrom inRows between firstAt
+  unfolding riseFrom inRows between firstOf
   rise-told r =
       rw (
         is-row,
@@ -60,7 +60,7 @@ module _ (dx dy : ℤ) (p q : Point) (e : stepped (started p) dx dy ≡ started 
       ) refl
 
   fall-told : (r : ℕ) → fallTo dx dy (pos (p .col)) (pos (p .row)) r ≡ fallenTo p q r
-  unfolding fallTo inRows between endAt
+  unfolding fallTo inRows between endOf
   fall-told r =
       rw (
         is-row,

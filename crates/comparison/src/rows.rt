@@ -3,12 +3,10 @@ use chart::Point;
 use chart::SIDE;
 ghost use mathlib.Core.Path.{_≡_};
 ghost use Prim.Native.Nat.{_<_, _*_, min, max};
-ghost use lib.IntN.{pos, _-ℤ_};
 ghost use lib.ListN.{length, replicate};
 ghost use Rattle.chart.specs.Limits.{side};
 ghost use Rattle.nesting.specs.Cells.{polygon, Fit};
-ghost use Rattle.nesting.specs.Rows.{edgeFrom, edgeTo};
-ghost use Rattle.comparison.specs.parts.Rows.{firstAt, endAt, metFrom, metTo, risenFrom, fallenTo, AllBelow, Lowered, Raised, Swept, testsOf, compared};
+ghost use Rattle.comparison.specs.parts.Rows.{edgeAtRow, firstOf, endOf, metFrom, metTo, risenFrom, fallenTo, AllBelow, Lowered, Raised, Swept, testsOf, compared};
 
 // One number for each row of the chart, and one more.
 pub(crate) const ROWS: usize = 256;
@@ -31,58 +29,59 @@ fn greater(a: u32, b: u32) -> u32
     if a < b { b } else { a }
 }
 
-// The first column inside an edge from row y to row v, whose side value at column 0 is plus - minus.
-fn first_column(y: u32, v: u32, plus: u32, minus: u32) -> u32
-    ensures { λ r. ⌜ r ≡ edgeFrom (pos v -ℤ pos y) (pos plus -ℤ pos minus) ⌝ }
-{
-    if v <= y {
-        return 0;
-    }
-    if minus <= plus {
-        return 0;
-    }
-    (minus - plus - 1) / (v - y) + 1
+// An edge at a row: it goes from row y to row v, and its side value at column 0 is plus - minus.
+struct EdgeAtRow {
+    y: u32,
+    v: u32,
+    plus: u32,
+    minus: u32,
 }
 
-// The column past the last one inside the edge.
-fn end_column(y: u32, v: u32, plus: u32, minus: u32) -> u32
-    requires { ⌜ plus < 2 * 65536 ⌝ }
-    ensures { λ r. ⌜ r ≡ edgeTo (pos v -ℤ pos y) (pos plus -ℤ pos minus) ⌝ }
-{
-    if y < v {
-        return END;
-    }
-    if plus < minus {
-        return 0;
-    }
-    if y == v {
-        return END;
-    }
-    (plus - minus) / (y - v) + 1
-}
-
-// The first column of a row inside the edge from p to q.
-fn first_at(p: Point, q: Point, row: u32) -> u32
+// The edge from p to q at a row.
+fn edge_at_row(p: Point, q: Point, row: u32) -> EdgeAtRow
     requires { ⌜ (p .col < side) × (p .row < side) × (q .col < side) × (q .row < side) × (row < side) ⌝ }
-    ensures { λ r. ⌜ r ≡ firstAt p q row ⌝ }
+    ensures { λ r. ⌜ (r ≡ edgeAtRow p q row) × (r .plus < 2 * 65536) ⌝ }
 {
     let x = p.col as u32;
     let y = p.row as u32;
     let u = q.col as u32;
     let v = q.row as u32;
-    first_column(y, v, u * y + x * row, v * x + u * row)
+    EdgeAtRow {
+        y,
+        v,
+        plus: u * y + x * row,
+        minus: v * x + u * row,
+    }
+}
+
+// The first column of the row inside the edge.
+fn first_column(e: EdgeAtRow) -> u32
+    ensures { λ r. ⌜ r ≡ firstOf e ⌝ }
+{
+    if e.v <= e.y {
+        return 0;
+    }
+    if e.minus <= e.plus {
+        return 0;
+    }
+    (e.minus - e.plus - 1) / (e.v - e.y) + 1
 }
 
 // The column past the last one.
-fn end_at(p: Point, q: Point, row: u32) -> u32
-    requires { ⌜ (p .col < side) × (p .row < side) × (q .col < side) × (q .row < side) × (row < side) ⌝ }
-    ensures { λ r. ⌜ r ≡ endAt p q row ⌝ }
+fn end_column(e: EdgeAtRow) -> u32
+    requires { ⌜ e .plus < 2 * 65536 ⌝ }
+    ensures { λ r. ⌜ r ≡ endOf e ⌝ }
 {
-    let x = p.col as u32;
-    let y = p.row as u32;
-    let u = q.col as u32;
-    let v = q.row as u32;
-    end_column(y, v, u * y + x * row, v * x + u * row)
+    if e.y < e.v {
+        return END;
+    }
+    if e.plus < e.minus {
+        return 0;
+    }
+    if e.y == e.v {
+        return END;
+    }
+    (e.plus - e.minus) / (e.y - e.v) + 1
 }
 
 // The minimum of a byte and a number.
@@ -123,7 +122,7 @@ fn rise(p: Point, q: Point, first: &mut [u8; ROWS])
 {
     let mut row = p.row as usize + 1;
     while row < q.row as usize {
-        first[row] = lower(first[row], first_at(p, q, row as u32));
+        first[row] = lower(first[row], first_column(edge_at_row(p, q, row as u32)));
         row += 1;
     }
 }
@@ -135,7 +134,7 @@ fn fall(p: Point, q: Point, end: &mut [u8; ROWS])
 {
     let mut row = q.row as usize + 1;
     while row < p.row as usize {
-        end[row] = higher(end[row], end_at(p, q, row as u32));
+        end[row] = higher(end[row], end_column(edge_at_row(p, q, row as u32)));
         row += 1;
     }
 }

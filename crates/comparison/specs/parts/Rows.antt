@@ -14,14 +14,25 @@ use Rattle.nesting.specs.Cells.{Polygon}
 use Rattle.nesting.specs.Rows.{edgeFrom, edgeTo}
 use Rattle.sweep.specs.parts.Sweep.{cornerFrom, cornerTo, rowFrom, rowTo}
 use Rattle.sweep.specs.parts.Tests.{runWithin, runsMeet, rowsWithin, rowsApart}
+use Rattle.comparison.specs.declared.rows.EdgeAtRow.{EdgeAtRow}
 use Rattle.comparison.specs.declared.rows.Tests.{Tests}
 
--- The first column of row r inside the edge from p to q, and the column past the last, from the edge's side value at column 0
-unfoldable pub firstAt : Point → Point → ℕ → ℕ
-firstAt p q r = edgeFrom (pos (q .row) -ℤ pos (p .row)) (pos (q .col * p .row + p .col * r) -ℤ pos (q .row * p .col + q .col * r))
+-- The edge from p to q at row r: its rows, and its side value at column 0 as a difference
+abbrev pub edgeAtRow : Point → Point → ℕ → EdgeAtRow
+edgeAtRow p q r = record { y = p .row; v = q .row; plus = q .col * p .row + p .col * r; minus = q .row * p .col + q .col * r }
 
-unfoldable pub endAt : Point → Point → ℕ → ℕ
-endAt p q r = edgeTo (pos (q .row) -ℤ pos (p .row)) (pos (q .col * p .row + p .col * r) -ℤ pos (q .row * p .col + q .col * r))
+-- The first column of the row inside the edge, and the column past the last
+unfoldable pub firstOf : EdgeAtRow → ℕ
+firstOf e = edgeFrom (pos (e .v) -ℤ pos (e .y)) (pos (e .plus) -ℤ pos (e .minus))
+
+unfoldable pub endOf : EdgeAtRow → ℕ
+endOf e = edgeTo (pos (e .v) -ℤ pos (e .y)) (pos (e .plus) -ℤ pos (e .minus))
+
+abbrev pub firstAt : Point → Point → ℕ → ℕ
+firstAt p q r = firstOf (edgeAtRow p q r)
+
+abbrev pub endAt : Point → Point → ℕ → ℕ
+endAt p q r = endOf (edgeAtRow p q r)
 
 -- f in the rows strictly between a and b, and d in the others
 unfoldable pub inRows : ℕ → ℕ → (ℕ → ℕ) → ℕ → ℕ → ℕ

@@ -1,11 +1,11 @@
 -- The rows so far are raised to the edge's end in each, and the others are unchanged.
 use Prim.Native.Nat.{ℕ, _+_, _-_, _≤_, _<_, min, max}
 use native.Mathlib.Omega.{arith}
-use mathlib.Core.Path.{_≡_, sym, ap}
+use mathlib.Core.Path.{_≡_, sym, ap, _∙_}
 use lib.ListN.{length}
 use borrow.Author.Needs.{needs}
 use Rattle.chart.specs.Limits.{side}
-use Rattle.comparison.specs.parts.Rows.{endAt, inRows, Raised}
+use Rattle.comparison.specs.parts.Rows.{endOf, endAt, inRows, Raised}
 use Rattle.comparison.proofs.Lists.{high-start, high-next, high-end}
 use Rattle.comparison.proofs.rows.fall.Statement.{statement}
 use Rattle.comparison.proofs.rows.fall.Tie as tie
@@ -31,11 +31,14 @@ cast-if1 c = search needs
 element-copy-out-higher : tie.Need-element-copy-out-higher Inv-loop μ-loop
 element-copy-out-higher c = search needs
 
-cast-end-at : tie.Need-cast-end-at Inv-loop μ-loop
-cast-end-at c = search needs
+cast-edge-at-row : tie.Need-cast-edge-at-row Inv-loop μ-loop
+cast-edge-at-row c = search needs
 
-end-at-requires : tie.Need-end-at-requires Inv-loop μ-loop
-end-at-requires c κs = search needs
+edge-at-row-requires : tie.Need-edge-at-row-requires Inv-loop μ-loop
+edge-at-row-requires c κs = search needs
+
+end-column-requires : tie.Need-end-column-requires Inv-loop μ-loop
+end-column-requires c κs = c .edge-at-row .ensures .1
 
 higher-requires : tie.Need-higher-requires Inv-loop μ-loop
 higher-requires c κs = search needs
@@ -51,10 +54,13 @@ loop-less c = omega arith
 
 loop-again : tie.Need-loop-again Inv-loop μ-loop
 loop-again c =
-    let t = c .before .before .before .before .before in
+    let found = c .before in
+    let t = found .before .before .before .before .before in
     let v = t .loop .inv in
     let s = t .before .before in
-    (omega (arith, v .0), omega (arith, v .1), v .2, rw (c .higher .ensures) (high-next (s .args .q .row) (λ n. min (endAt (s .args .p) (s .args .q) n) side) (s .args .end .now) (min (c .before .end-at .result) side) (v .3) (v .0) (omega (arith, v .2, v .3 .long)) (ap (λ (k : ℕ). min k side) (sym (c .before .end-at .ensures)))))
+    let bound = ap (λ (k : ℕ). min k side) (sym (found .end-column .ensures ∙ ap endOf (found .before .edge-at-row .ensures .0))) in
+    let raised = high-next (s .args .q .row) _ (s .args .end .now) (min (found .end-column .result) side) (v .3) (v .0) (omega (arith, v .2, v .3 .long)) bound in
+    (omega (arith, v .0), omega (arith, v .1), v .2, rw (c .higher .ensures) raised)
 
 returns : tie.Need-returns Inv-loop μ-loop
 returns c =
@@ -72,8 +78,9 @@ fall-spec =
     loop-holds
     cast-if1
     element-copy-out-higher
-    cast-end-at
-    end-at-requires
+    cast-edge-at-row
+    edge-at-row-requires
+    end-column-requires
     higher-requires
     element-write-end
     add-row-2

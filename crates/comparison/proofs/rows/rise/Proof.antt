@@ -1,10 +1,10 @@
 -- The rows so far are lowered to the edge's first column in each, and the others are unchanged.
 use Prim.Native.Nat.{ℕ, _+_, _-_, _≤_, _<_, min, max}
 use native.Mathlib.Omega.{arith}
-use mathlib.Core.Path.{sym, ap}
+use mathlib.Core.Path.{sym, ap, _∙_}
 use borrow.Author.Needs.{needs}
 use Rattle.chart.specs.Limits.{side}
-use Rattle.comparison.specs.parts.Rows.{firstAt, inRows, AllBelow, Lowered}
+use Rattle.comparison.specs.parts.Rows.{firstOf, firstAt, inRows, AllBelow, Lowered}
 use Rattle.comparison.proofs.Lists.{low-start, low-next, low-end}
 use Rattle.comparison.proofs.rows.rise.Statement.{statement}
 use Rattle.comparison.proofs.rows.rise.Tie as tie
@@ -30,11 +30,14 @@ cast-if1 c = search needs
 element-copy-out-lower : tie.Need-element-copy-out-lower Inv-loop μ-loop
 element-copy-out-lower c = search needs
 
-cast-first-at : tie.Need-cast-first-at Inv-loop μ-loop
-cast-first-at c = search needs
+cast-edge-at-row : tie.Need-cast-edge-at-row Inv-loop μ-loop
+cast-edge-at-row c = search needs
 
-first-at-requires : tie.Need-first-at-requires Inv-loop μ-loop
-first-at-requires c κs = search needs
+edge-at-row-requires : tie.Need-edge-at-row-requires Inv-loop μ-loop
+edge-at-row-requires c κs = search needs
+
+first-column-requires : tie.Need-first-column-requires Inv-loop μ-loop
+first-column-requires c κs = search needs
 
 lower-requires : tie.Need-lower-requires Inv-loop μ-loop
 lower-requires c κs = search needs
@@ -50,10 +53,13 @@ loop-less c = omega arith
 
 loop-again : tie.Need-loop-again Inv-loop μ-loop
 loop-again c =
-    let t = c .before .before .before .before .before in
+    let found = c .before in
+    let t = found .before .before .before .before .before in
     let v = t .loop .inv in
     let s = t .before .before in
-    (omega (arith, v .0), omega (arith, v .1), v .2, rw (c .lower .ensures) (low-next (s .args .p .row) (λ n. min (firstAt (s .args .p) (s .args .q) n) side) (s .args .first .now) (c .before .first-at .result) (v .2) (v .3) (v .0) (omega (arith, v .2 .long, v .3 .long)) (ap (λ (k : ℕ). min k side) (sym (c .before .first-at .ensures)))))
+    let bound = ap (λ (k : ℕ). min k side) (sym (found .first-column .ensures ∙ ap firstOf (found .before .edge-at-row .ensures .0))) in
+    let lowered = low-next (s .args .p .row) _ (s .args .first .now) (found .first-column .result) (v .2) (v .3) (v .0) (omega (arith, v .2 .long, v .3 .long)) bound in
+    (omega (arith, v .0), omega (arith, v .1), v .2, rw (c .lower .ensures) lowered)
 
 returns : tie.Need-returns Inv-loop μ-loop
 returns c =
@@ -71,8 +77,9 @@ rise-spec =
     loop-holds
     cast-if1
     element-copy-out-lower
-    cast-first-at
-    first-at-requires
+    cast-edge-at-row
+    edge-at-row-requires
+    first-column-requires
     lower-requires
     element-write-first
     add-row-2
