@@ -16,8 +16,8 @@ use Rattle.nesting.specs.Answer.{nesting, exchanged}
 use Rattle.nesting.proofs.Exchanged.{nesting-exchanged}
 use Rattle.comparison.specs.declared.Checked.{Checked}
 use Rattle.comparison.specs.declared.Checked.the-variants.{Fit, Unfit}
-use Rattle.comparison.specs.Compared.{checkedOf, decided, comparisonOf, HandedBack}
-use Rattle.comparison.specs.Exchanged.{HandedBoth}
+use Rattle.comparison.specs.Compared.{checkedOf, decided, comparisonOf, ReturnedList}
+use Rattle.comparison.specs.Exchanged.{ReturnedBoth}
 use Rattle.comparison.proofs.Cases.{compared-found}
 
 module _ (a : Point) (es : List ℤ) (b : Point) (fs : List ℤ) where
@@ -48,12 +48,12 @@ module _ (a : Point) (es : List ℤ) (b : Point) (fs : List ℤ) where
       sym (compared-found b fs a es (p .1) (p .0)) ∙ ap Found (nesting-exchanged (polygon a es) (polygon b fs) ∙ ap exchanged (p .2))
 
 -- The claim for the lists that are returned
-pub exchanged-handed :
-    (v : Nesting) (list again first second : RefT (List ℤ)) → HandedBack (nestingFields v) list first second
-    → HandedBack (nestingFields (exchanged v)) again second first → HandedBoth v list again first second
+pub exchanged-returned :
+    (v : Nesting) (list again first second : RefT (List ℤ)) → ReturnedList (nestingFields v) list first second
+    → ReturnedList (nestingFields (exchanged v)) again second first → ReturnedBoth v list again first second
 unfolding exchanged
-exchanged-handed Equal list again first second h k = (h .one refl, k .one refl)
-exchanged-handed FirstWithin list again first second h k = (h .one refl, k .two refl)
-exchanged-handed SecondWithin list again first second h k = (h .two refl, k .one refl)
-exchanged-handed Apart list again first second h k = (h .neither refl .1, k .neither refl .1)
-exchanged-handed Crossing list again first second h k = (h .neither refl .1, k .neither refl .1)
+exchanged-returned Equal list again first second h k = (h .one refl, k .one refl)
+exchanged-returned FirstWithin list again first second h k = (h .one refl, k .two refl)
+exchanged-returned SecondWithin list again first second h k = (h .two refl, k .one refl)
+exchanged-returned Apart list again first second h k = (h .neither refl .1, k .neither refl .1)
+exchanged-returned Crossing list again first second h k = (h .neither refl .1, k .neither refl .1)

@@ -21,9 +21,9 @@ use Rattle.nesting.specs.Answer.{nesting}
 use Rattle.nesting.proofs.Answer.{answer-iff}
 use Rattle.comparison.specs.declared.Checked.{Checked}
 use Rattle.comparison.specs.declared.Checked.the-variants.{Fit, Unfit}
-use Rattle.comparison.specs.declared.Handed.{Handed}
-use Rattle.comparison.specs.declared.Handed.the-variants.{First, Second, Neither}
-use Rattle.comparison.specs.Compared.{checkedOf, decided, comparisonOf, CellsNamed, handedWith, handedBy, HandedBack}
+use Rattle.comparison.specs.declared.Returned.{Returned}
+use Rattle.comparison.specs.declared.Returned.the-variants.{First, Second, Neither}
+use Rattle.comparison.specs.Compared.{checkedOf, decided, comparisonOf, CellsNamed, returnedWith, returnedBy, ReturnedList}
 use Rattle.comparison.proofs.Cases.{fit-passes}
 
 -- A refusal has a number
@@ -87,30 +87,30 @@ module _ (a : Point) (es : List ℤ) (b : Point) (fs : List ℤ) where
   answer-named c e = (e, rw e cells-named)
 
 -- The piece of a reply names the list that comes with it
-abbrev pub pieceBy : Handed → ℕ
+abbrev pub pieceBy : Returned → ℕ
 pieceBy First = 1
 pieceBy Second = 2
 pieceBy Neither = 0
 
-with-piece : (v : Nesting) → nestingFields v .piece ≡ pieceBy (handedWith v)
-unfolding handedWith
+with-piece : (v : Nesting) → nestingFields v .piece ≡ pieceBy (returnedWith v)
+unfolding returnedWith
 with-piece Equal = refl
 with-piece FirstWithin = refl
 with-piece SecondWithin = refl
 with-piece Apart = refl
 with-piece Crossing = refl
 
-pub handed-piece : (c : Comparison) → comparisonFields c .piece ≡ pieceBy (handedBy c)
-unfolding handedBy
-handed-piece (Found v) = with-piece v
-handed-piece (Refused n f) = refl
+pub returned-piece : (c : Comparison) → comparisonFields c .piece ≡ pieceBy (returnedBy c)
+unfolding returnedBy
+returned-piece (Found v) = with-piece v
+returned-piece (Refused n f) = refl
 
 module _ (f : Fields) (first second : RefT (List ℤ)) where
-  pub handed-one : f .piece ≡ 1 → HandedBack f first first second
-  handed-one e = record { one = λ h. refl; two = λ h. absurd (omega arith); neither = λ h. absurd (omega arith) }
+  pub returned-one : f .piece ≡ 1 → ReturnedList f first first second
+  returned-one e = record { one = λ h. refl; two = λ h. absurd (omega arith); neither = λ h. absurd (omega arith) }
 
-  pub handed-two : f .piece ≡ 2 → HandedBack f second first second
-  handed-two e = record { one = λ h. absurd (omega arith); two = λ h. refl; neither = λ h. absurd (omega arith) }
+  pub returned-two : f .piece ≡ 2 → ReturnedList f second first second
+  returned-two e = record { one = λ h. absurd (omega arith); two = λ h. refl; neither = λ h. absurd (omega arith) }
 
-  pub handed-neither : (list : RefT (List ℤ)) → f .piece ≡ 0 → list .ptr ≡ first .ptr → list .now ≡ [] → HandedBack f list first second
-  handed-neither list e p q = record { one = λ h. absurd (omega arith); two = λ h. absurd (omega arith); neither = λ h. (p, q) }
+  pub returned-neither : (list : RefT (List ℤ)) → f .piece ≡ 0 → list .ptr ≡ first .ptr → list .now ≡ [] → ReturnedList f list first second
+  returned-neither list e p q = record { one = λ h. absurd (omega arith); two = λ h. absurd (omega arith); neither = λ h. (p, q) }

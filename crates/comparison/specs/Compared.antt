@@ -20,8 +20,8 @@ use Rattle.nesting.specs.Corners.{cornersOnChart}
 use Rattle.nesting.specs.Answer.{nesting}
 use Rattle.comparison.specs.declared.Checked.{Checked}
 use Rattle.comparison.specs.declared.Checked.the-variants.{Fit, Unfit}
-use Rattle.comparison.specs.declared.Handed.{Handed}
-use Rattle.comparison.specs.declared.Handed.the-variants.{First, Second, Neither}
+use Rattle.comparison.specs.declared.Returned.{Returned}
+use Rattle.comparison.specs.declared.Returned.the-variants.{First, Second, Neither}
 
 -- What refuses a list: 10, 11 of the anchor, 16, then 11 if a corner cell is off the chart
 unfoldable pub checkedOf : Point → List ℤ → Checked
@@ -46,19 +46,19 @@ pub record CellsNamed (p q : Polygon) (f : Fields) : Type 0 where
   pub only : f .number ≡ 0 → (v : Nesting) → Says p q v → f ≡ nestingFields v
 
 -- Which list comes with a reply
-unfoldable pub handedWith : Nesting → Handed
-handedWith Equal = First
-handedWith FirstWithin = First
-handedWith SecondWithin = Second
-handedWith Apart = Neither
-handedWith Crossing = Neither
+unfoldable pub returnedWith : Nesting → Returned
+returnedWith Equal = First
+returnedWith FirstWithin = First
+returnedWith SecondWithin = Second
+returnedWith Apart = Neither
+returnedWith Crossing = Neither
 
-unfoldable pub handedBy : Comparison → Handed
-handedBy (Found v) = handedWith v
-handedBy (Refused n f) = Neither
+unfoldable pub returnedBy : Comparison → Returned
+returnedBy (Found v) = returnedWith v
+returnedBy (Refused n f) = Neither
 
 -- The list that is returned: the first, the second, or an empty part of the first, as the reply's piece says
-pub record HandedBack (f : Fields) (list first second : RefT (List ℤ)) : Type 0 where
+pub record ReturnedList (f : Fields) (list first second : RefT (List ℤ)) : Type 0 where
   pub one : f .piece ≡ 1 → list ≡ first
   pub two : f .piece ≡ 2 → list ≡ second
   pub neither : f .piece ≡ 0 → (list .ptr ≡ first .ptr) × (list .now ≡ [])

@@ -7,9 +7,9 @@ use Rattle.chart.specs.declared.Nesting.{Nesting}
 use Rattle.chart.specs.declared.Nesting.the-variants.{Equal, FirstWithin, SecondWithin, Apart, Crossing}
 
 -- Equal hulls: each returns the list given first. One within the other: both return the inner one's. Otherwise: both are empty
-abbrev pub HandedBoth : Nesting → (list again first second : RefT (List ℤ)) → Type 0
-HandedBoth Equal list again first second = (list ≡ first) × (again ≡ second)
-HandedBoth FirstWithin list again first second = (list ≡ first) × (again ≡ first)
-HandedBoth SecondWithin list again first second = (list ≡ second) × (again ≡ second)
-HandedBoth Apart list again first second = (list .now ≡ []) × (again .now ≡ [])
-HandedBoth Crossing list again first second = (list .now ≡ []) × (again .now ≡ [])
+abbrev pub ReturnedBoth : Nesting → (list again first second : RefT (List ℤ)) → Type 0
+ReturnedBoth Equal list again first second = (list ≡ first) × (again ≡ second)
+ReturnedBoth FirstWithin list again first second = (list ≡ first) × (again ≡ first)
+ReturnedBoth SecondWithin list again first second = (list ≡ second) × (again ≡ second)
+ReturnedBoth Apart list again first second = (list .now ≡ []) × (again .now ≡ [])
+ReturnedBoth Crossing list again first second = (list .now ≡ []) × (again .now ≡ [])

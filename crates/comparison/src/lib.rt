@@ -19,7 +19,7 @@ ghost use Rattle.chart.specs.Fields.{comparisonFields, numbersOf, fieldsOf};
 ghost use Rattle.nesting.specs.Cells.{polygon, Fit};
 ghost use Rattle.nesting.specs.Corners.{cornersOnChart};
 ghost use Rattle.nesting.specs.Answer.{byTests, nesting};
-ghost use Rattle.comparison.specs.Compared.{checkedOf, comparisonOf, CellsNamed, handedBy, HandedBack};
+ghost use Rattle.comparison.specs.Compared.{checkedOf, comparisonOf, CellsNamed, returnedBy, ReturnedList};
 
 mod rows;
 
@@ -116,24 +116,24 @@ pub fn relate(anchor: Point, edges: &[i16], other: Point, others: &[i16]) -> Com
 }
 
 // Which list is returned.
-enum Handed {
+enum Returned {
     First,
     Second,
     Neither,
 }
 
 // The inner one's list: the first if both are equal, and none if neither lies within the other or a list is refused.
-fn inner(comparison: Comparison) -> Handed
-    ensures { λ r. ⌜ r ≡ handedBy comparison ⌝ }
+fn inner(comparison: Comparison) -> Returned
+    ensures { λ r. ⌜ r ≡ returnedBy comparison ⌝ }
 {
     match comparison {
-        Comparison::Refused { .. } => Handed::Neither,
+        Comparison::Refused { .. } => Returned::Neither,
         Comparison::Found(nesting) => match nesting {
-            Nesting::Equal => Handed::First,
-            Nesting::FirstWithin => Handed::First,
-            Nesting::SecondWithin => Handed::Second,
-            Nesting::Apart => Handed::Neither,
-            Nesting::Crossing => Handed::Neither,
+            Nesting::Equal => Returned::First,
+            Nesting::FirstWithin => Returned::First,
+            Nesting::SecondWithin => Returned::Second,
+            Nesting::Apart => Returned::Neither,
+            Nesting::Crossing => Returned::Neither,
         },
     }
 }
@@ -148,13 +148,13 @@ pub fn compare<'a>(
 ) -> &'a [i16]
     ensures reply { λ _. ⌜ now (reply .exit) ≡ numbersOf (comparisonFields (comparisonOf anchor (now (edges .entry)) other (now (others .entry)))) ⌝ }
     ensures cells { λ _. ⌜ CellsNamed (polygon anchor (now (edges .entry))) (polygon other (now (others .entry))) (fieldsOf (now (reply .exit))) ⌝ }
-    ensures list { λ r. ⌜ HandedBack (fieldsOf (now (reply .exit))) r (edges .entry) (others .entry) ⌝ }
+    ensures list { λ r. ⌜ ReturnedList (fieldsOf (now (reply .exit))) r (edges .entry) (others .entry) ⌝ }
 {
     let comparison = relate(anchor, edges, other, others);
     write(of_comparison(comparison), &mut reply[..]);
     match inner(comparison) {
-        Handed::First => edges,
-        Handed::Second => others,
-        Handed::Neither => &edges[..0],
+        Returned::First => edges,
+        Returned::Second => others,
+        Returned::Neither => &edges[..0],
     }
 }

@@ -5,10 +5,10 @@ use Rattle.chart.specs.declared.Comparison.{Comparison}
 use Rattle.chart.specs.Fields.{comparisonFields, numbersOf, fieldsOf}
 use Rattle.chart.proofs.ReplyLaws.{seven-written, read-back}
 use Rattle.nesting.specs.Cells.{polygon}
-use Rattle.comparison.specs.declared.Handed.{Handed}
-use Rattle.comparison.specs.declared.Handed.the-variants.{First, Second, Neither}
+use Rattle.comparison.specs.declared.Returned.{Returned}
+use Rattle.comparison.specs.declared.Returned.the-variants.{First, Second, Neither}
 use Rattle.comparison.specs.Compared.{comparisonOf, CellsNamed}
-use Rattle.comparison.proofs.Words.{pieceBy, handed-piece, handed-one, handed-two, handed-neither}
+use Rattle.comparison.proofs.Words.{pieceBy, returned-piece, returned-one, returned-two, returned-neither}
 use borrow.Author.Needs.{needs}
 use Rattle.comparison.proofs.compare.Statement.{statement}
 use Rattle.comparison.proofs.compare.Tie as tie
@@ -33,9 +33,9 @@ replied c =
     (written c ∙ ap (λ (v : Comparison). numbersOf (comparisonFields v)) (r .ensures .0), rw (fields c) (r .ensures .1))
 
 -- The piece of the reply, by the list that is returned
-piece-is : (c : tie.After-inner) (h : Handed) → c .inner .result ≡ h → fieldsOf (c .before .write .last .1 .0) .piece ≡ pieceBy h
+piece-is : (c : tie.After-inner) (h : Returned) → c .inner .result ≡ h → fieldsOf (c .before .write .last .1 .0) .piece ≡ pieceBy h
 piece-is c h e =
-    ap (λ (f : Fields). f .piece) (fields (c .before)) ∙ handed-piece (found (c .before)) ∙ ap pieceBy (sym (c .inner .ensures) ∙ e)
+    ap (λ (f : Fields). f .piece) (fields (c .before)) ∙ returned-piece (found (c .before)) ∙ ap pieceBy (sym (c .inner .ensures) ∙ e)
 
 relate-requires : tie.Need-relate-requires
 relate-requires c κs = search needs
@@ -65,19 +65,19 @@ returns : tie.Need-returns
 returns c =
     let n = c .before .before in
     let r = replied (n .before) in
-    (r .0, (r .1, handed-one _ _ _ (piece-is n First (c .enum-told .given .1))))
+    (r .0, (r .1, returned-one _ _ _ (piece-is n First (c .enum-told .given .1))))
 
 returns-2 : tie.Need-returns-2
 returns-2 c =
     let n = c .before .before in
     let r = replied (n .before) in
-    (r .0, (r .1, handed-two _ _ _ (piece-is n Second (c .enum-told2 .given .1))))
+    (r .0, (r .1, returned-two _ _ _ (piece-is n Second (c .enum-told2 .given .1))))
 
 returns-3 : tie.Need-returns-3
 returns-3 c =
     let n = c .before .before .before in
     let r = replied (n .before) in
-    (r .0, (r .1, handed-neither _ _ _ _ (piece-is n Neither (c .before .enum-told3 .given .1)) refl refl))
+    (r .0, (r .1, returned-neither _ _ _ _ (piece-is n Neither (c .before .enum-told3 .given .1)) refl refl))
 
 pub compare-spec : {M : Type 1} → statement M
 compare-spec =
