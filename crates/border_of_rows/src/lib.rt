@@ -1,9 +1,10 @@
 // Writes the letters round a block of rows, clockwise from the left end of one row.
+use chart::CORNERS;
 ghost use Prim.Native.Nat.{_+_, _-_, _≤_, _<_};
 ghost use mathlib.Core.Path.{_≡_};
 ghost use mathlib.Core.List.{_++_};
 ghost use lib.ListN.{length, drop};
-ghost use Rattle.chart.specs.Limits.{side};
+ghost use Rattle.chart.specs.Limits.{side, corners};
 ghost use Rattle.rows.specs.parts.Rows.{rows};
 ghost use Rattle.completion.specs.Runs.{across as acrossOf};
 ghost use Rattle.completion.specs.parts.Written.{toRow, descent, writtenFrom};
@@ -30,8 +31,8 @@ fn across(out: &mut [u8], at: usize, a: u16, b: u16) -> usize
 }
 
 // Writes the letters up the left ends from row `y` to row `e`.
-fn rise(lo: &[u16; 256], y: usize, e: usize, out: &mut [u8], at: usize) -> usize
-    requires { ⌜ (y ≤ e) × (e < 256) × (at + length (toRow (rows (now lo)) y (e - y)) ≤ length (now out)) ⌝ }
+fn rise(lo: &[u16; CORNERS], y: usize, e: usize, out: &mut [u8], at: usize) -> usize
+    requires { ⌜ (y ≤ e) × (e < corners) × (at + length (toRow (rows (now lo)) y (e - y)) ≤ length (now out)) ⌝ }
     ensures { λ r. ⌜ (r ≡ at + length (toRow (rows (now (lo .entry))) y (e - y))) × Wrote (now (out .entry)) at (toRow (rows (now (lo .entry))) y (e - y)) (now (out .exit)) ⌝ }
 {
     let mut k = at;
@@ -45,8 +46,8 @@ fn rise(lo: &[u16; 256], y: usize, e: usize, out: &mut [u8], at: usize) -> usize
 }
 
 // Writes the letters down the right ends from row `e` to row `y`.
-fn fall(hi: &[u16; 256], y: usize, e: usize, out: &mut [u8], at: usize) -> usize
-    requires { ⌜ (y ≤ e) × (e < 256) × (at + length (descent (rows (now hi)) y (e - y)) ≤ length (now out)) ⌝ }
+fn fall(hi: &[u16; CORNERS], y: usize, e: usize, out: &mut [u8], at: usize) -> usize
+    requires { ⌜ (y ≤ e) × (e < corners) × (at + length (descent (rows (now hi)) y (e - y)) ≤ length (now out)) ⌝ }
     ensures { λ r. ⌜ (r ≡ at + length (descent (rows (now (hi .entry))) y (e - y))) × Wrote (now (out .entry)) at (descent (rows (now (hi .entry))) y (e - y)) (now (out .exit)) ⌝ }
 {
     out[at] = 3;
@@ -62,7 +63,7 @@ fn fall(hi: &[u16; 256], y: usize, e: usize, out: &mut [u8], at: usize) -> usize
 }
 
 // Writes the letters round rows `b` to `t - 1`, clockwise from the left end of row `m`, to the front of a list.
-pub fn round(lo: &[u16; 256], hi: &[u16; 256], b: usize, t: usize, m: usize, out: &mut [u8])
+pub fn round(lo: &[u16; CORNERS], hi: &[u16; CORNERS], b: usize, t: usize, m: usize, out: &mut [u8])
     requires { ⌜ (b ≤ m) × (m < t) × (t ≤ side) ⌝ }
     requires { ⌜ length (writtenFrom (rows (now lo)) (rows (now hi)) b t m) ≤ length (now out) ⌝ }
     ensures { λ _. ⌜ now (out .exit) ≡ writtenFrom (rows (now (lo .entry))) (rows (now (hi .entry))) b t m ++ drop (length (writtenFrom (rows (now (lo .entry))) (rows (now (hi .entry))) b t m)) (now (out .entry)) ⌝ }

@@ -1,6 +1,7 @@
 -- Every case of `Reply` in seven fields: number, word and the rest (contract 4 and 5).
 use Rattle.chart.specs.declared.Fields.{Fields}
 use Rattle.chart.specs.Fields.{numbered, said, accepted, refusalFields, no-word, inside, outside, undecided, taken, same}
+use Rattle.chart.specs.Refusals as refusals
 pub use Rattle.chart.specs.Fields.{none, columns, move, line, close}
 use Rattle.chart.specs.declared.Point.{Point}
 use Rattle.calls.specs.declared.Piece.{Piece}
@@ -27,12 +28,12 @@ replyFields (Drawn p c) = pieceFields p c
 replyFields (Taken n a) = accepted taken n a
 replyFields (Same n a) = accepted same n a
 replyFields (Refused f) = refusalFields f
-replyFields NothingAtWork = numbered 12
-replyFields NoDraft = numbered 13
-replyFields DraftOpen = numbered 14
-replyFields DraftFull = numbered 15
-replyFields NoParty = numbered 19
-replyFields NoPlace = numbered 20
+replyFields NothingAtWork = numbered refusals.nothing-at-work
+replyFields NoDraft = numbered refusals.no-draft
+replyFields DraftOpen = numbered refusals.draft-open
+replyFields DraftFull = numbered refusals.draft-full
+replyFields NoParty = numbered refusals.party
+replyFields NoPlace = numbered refusals.place
 
 -- The piece in a reply to a piece call. Any other reply has none
 unfoldable pub pieceIn : Reply → Piece

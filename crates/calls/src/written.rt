@@ -3,6 +3,7 @@ use crate::Piece;
 use crate::Reply;
 use chart::Fields;
 use chart::Point;
+use chart::refusals;
 use chart::reply;
 ghost use mathlib.Core.Path.{_≡_};
 ghost use Rattle.calls.specs.Replies.{pieceIn, pieceFields, replyFields};
@@ -51,11 +52,11 @@ pub fn of_reply(r: Reply) -> Fields
         Reply::Taken { edges, anchor } => reply::accepted(reply::TAKEN, edges, anchor),
         Reply::Same { edges, anchor } => reply::accepted(reply::SAME, edges, anchor),
         Reply::Refused(why) => reply::of_refusal(why),
-        Reply::NothingAtWork => reply::numbered(12),
-        Reply::NoDraft => reply::numbered(13),
-        Reply::DraftOpen => reply::numbered(14),
-        Reply::DraftFull => reply::numbered(15),
-        Reply::NoParty => reply::numbered(19),
-        Reply::NoPlace => reply::numbered(20),
+        Reply::NothingAtWork => reply::numbered(refusals::NOTHING_AT_WORK),
+        Reply::NoDraft => reply::numbered(refusals::NO_DRAFT),
+        Reply::DraftOpen => reply::numbered(refusals::DRAFT_OPEN),
+        Reply::DraftFull => reply::numbered(refusals::DRAFT_FULL),
+        Reply::NoParty => reply::numbered(refusals::PARTY),
+        Reply::NoPlace => reply::numbered(refusals::PLACE),
     }
 }

@@ -7,18 +7,18 @@ use mathlib.Core.List.{List, _++_, append-nil}
 use lib.ListN.{length, drop, drop-of-length-le}
 use borrow.Author.Tests.{le-leb, lt-leb}
 use Rattle.chart.specs.declared.Fields.{Fields}
-use Rattle.chart.specs.Fields.{numbersOf, fieldsOf, replyAfter}
+use Rattle.chart.specs.Fields.{replyWidth, numbersOf, fieldsOf, replyAfter}
 
-pub replyAfter-room : (f : Fields) (l : List ℕ) → 7 ≤ length l → replyAfter f l ≡ numbersOf f ++ drop 7 l
+pub replyAfter-room : (f : Fields) (l : List ℕ) → replyWidth ≤ length l → replyAfter f l ≡ numbersOf f ++ drop replyWidth l
 unfolding replyAfter
-replyAfter-room f l room = rw (le-leb 7 (length l) room)
+replyAfter-room f l room = rw (le-leb replyWidth (length l) room)
 
-pub replyAfter-short : (f : Fields) (l : List ℕ) → length l < 7 → replyAfter f l ≡ l
+pub replyAfter-short : (f : Fields) (l : List ℕ) → length l < replyWidth → replyAfter f l ≡ l
 unfolding replyAfter
-replyAfter-short f l short = rw (lt-leb 7 (length l) short)
+replyAfter-short f l short = rw (lt-leb replyWidth (length l) short)
 
 -- Reading the buffer gives the reply back
-pub fields-written : (f : Fields) (l : List ℕ) → 7 ≤ length l → fieldsOf (replyAfter f l) ≡ f
+pub fields-written : (f : Fields) (l : List ℕ) → replyWidth ≤ length l → fieldsOf (replyAfter f l) ≡ f
 unfolding fieldsOf numbersOf
 fields-written f l room = rw (replyAfter-room f l room)
 
@@ -27,7 +27,7 @@ unfolding fieldsOf numbersOf
 read-back f = refl
 
 -- A buffer of seven numbers is the reply
-pub seven-written : (f : Fields) (l : List ℕ) → length l ≡ 7 → replyAfter f l ≡ numbersOf f
+pub seven-written : (f : Fields) (l : List ℕ) → length l ≡ replyWidth → replyAfter f l ≡ numbersOf f
 seven-written f l e =
-    let all : length l ≤ 7 = omega (arith, e) in
+    let all : length l ≤ replyWidth = omega (arith, e) in
     replyAfter-room f l (omega (arith, e)) ∙ ap (λ (t : List ℕ). numbersOf f ++ t) (drop-of-length-le l all) ∙ append-nil (numbersOf f)

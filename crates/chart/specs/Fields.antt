@@ -4,6 +4,7 @@ use mathlib.Core.Bool.{cond}
 use mathlib.Core.List.{List, [], _∷_, _++_}
 use lib.ListN.{length, drop, getD}
 use lib.Dec.{leb}
+use Rattle.chart.specs.Refusals as refusals
 use Rattle.chart.specs.declared.Point.{Point}
 use Rattle.chart.specs.declared.Fields.{Fields}
 use Rattle.chart.specs.declared.Refusal.{Refusal}
@@ -81,18 +82,18 @@ abbrev pub accepted : ℕ → ℕ → Point → Fields
 accepted v edges a = record { number = 0; word = v; place = edges; piece = 0; length = 0; col = a .col; row = a .row }
 
 abbrev pub refusalFields : Refusal → Fields
-refusalFields Count = numbered 1
-refusalFields Start = numbered 2
-refusalFields (Letter p) = placed 3 p
-refusalFields (Leaves p) = placed 4 p
-refusalFields Unclosed = numbered 5
-refusalFields (Touches p) = placed 6 p
-refusalFields (BackStep k p) = record { number = 8; word = no-word; place = p; piece = k; length = 0; col = 0; row = 0 }
-refusalFields (Dent k p l x) = record { number = 9; word = no-word; place = p; piece = k; length = l; col = x .col; row = x .row }
-refusalFields (Room e) = placed 10 e
-refusalFields BadList = numbered 10
-refusalFields Cell = numbered 11
-refusalFields Directions = numbered 16
+refusalFields Count = numbered refusals.length
+refusalFields Start = numbered refusals.start
+refusalFields (Letter p) = placed refusals.letter p
+refusalFields (Leaves p) = placed refusals.off-chart p
+refusalFields Unclosed = numbered refusals.not-closed
+refusalFields (Touches p) = placed refusals.touches p
+refusalFields (BackStep k p) = record { number = refusals.back-step; word = no-word; place = p; piece = k; length = 0; col = 0; row = 0 }
+refusalFields (Dent k p l x) = record { number = refusals.dent; word = no-word; place = p; piece = k; length = l; col = x .col; row = x .row }
+refusalFields (Room e) = placed refusals.edge-list e
+refusalFields BadList = numbered refusals.edge-list
+refusalFields Cell = numbered refusals.cell
+refusalFields Directions = numbered refusals.directions
 
 abbrev pub verdictFields : Verdict → Fields
 verdictFields (Taken e a) = accepted no-word e a

@@ -1,5 +1,6 @@
--- Limits, outlines, and replies in seven fields.
+-- Limits, outlines, the numbers of the refusals, and replies in seven fields.
 pub mod Limits
 pub mod Outline
+pub mod Refusals
 pub mod Fields
 pub mod Same

@@ -5,6 +5,10 @@ use Prim.Native.Nat.{ℕ}
 abbrev pub side : ℕ
 side = 255
 
+-- How many columns and rows of corners there are
+abbrev pub corners : ℕ
+corners = 256
+
 -- The least and the largest number of letters of an outline
 abbrev pub shortest : ℕ
 shortest = 4

@@ -1,4 +1,5 @@
 // The chart, its limits, and the answers of the calls.
+pub mod refusals;
 pub mod reply;
 
 // A corner of the chart, or the cell whose lower left corner it is.
@@ -10,6 +11,9 @@ pub struct Point {
 
 // The number of columns and of rows of cells.
 pub const SIDE: u16 = 255;
+
+// The number of columns and of rows of corners.
+pub const CORNERS: usize = SIDE as usize + 1;
 
 // The least and the largest number of letters of an outline.
 pub const SHORTEST: usize = 4;

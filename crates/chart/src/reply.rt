@@ -6,6 +6,7 @@ use crate::Point;
 use crate::Position;
 use crate::Refusal;
 use crate::Verdict;
+use crate::refusals;
 ghost use mathlib.Core.Path.{_≡_};
 ghost use lib.ListN.{length};
 ghost use lib.Dec.{leb};
@@ -95,14 +96,14 @@ pub fn of_refusal(f: Refusal) -> Fields
     ensures { λ r. ⌜ r ≡ refusalFields f ⌝ }
 {
     match f {
-        Refusal::Count => numbered(1),
-        Refusal::Start => numbered(2),
-        Refusal::Letter { place } => placed(3, place),
-        Refusal::Leaves { place } => placed(4, place),
-        Refusal::Unclosed => numbered(5),
-        Refusal::Touches { place } => placed(6, place),
+        Refusal::Count => numbered(refusals::LENGTH),
+        Refusal::Start => numbered(refusals::START),
+        Refusal::Letter { place } => placed(refusals::LETTER, place),
+        Refusal::Leaves { place } => placed(refusals::OFF_CHART, place),
+        Refusal::Unclosed => numbered(refusals::NOT_CLOSED),
+        Refusal::Touches { place } => placed(refusals::TOUCHES, place),
         Refusal::BackStep { piece, place } => Fields {
-            number: 8,
+            number: refusals::BACK_STEP,
             word: NO_WORD,
             place,
             piece,
@@ -116,7 +117,7 @@ pub fn of_refusal(f: Refusal) -> Fields
             length,
             cell,
         } => Fields {
-            number: 9,
+            number: refusals::DENT,
             word: NO_WORD,
             place,
             piece,
@@ -124,10 +125,10 @@ pub fn of_refusal(f: Refusal) -> Fields
             col: cell.col,
             row: cell.row,
         },
-        Refusal::Room { edges } => placed(10, edges),
-        Refusal::List => numbered(10),
-        Refusal::Cell => numbered(11),
-        Refusal::Directions => numbered(16),
+        Refusal::Room { edges } => placed(refusals::EDGE_LIST, edges),
+        Refusal::List => numbered(refusals::EDGE_LIST),
+        Refusal::Cell => numbered(refusals::CELL),
+        Refusal::Directions => numbered(refusals::DIRECTIONS),
     }
 }
 

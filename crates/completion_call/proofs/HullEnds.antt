@@ -4,7 +4,7 @@ use mathlib.Core.Path.{_≡_, refl, sym, ap, _∙_}
 use mathlib.Core.List.{List}
 use native.Mathlib.Decide.{decLt}
 use native.Mathlib.Omega.{arith}
-use Rattle.chart.specs.Limits.{side, longest}
+use Rattle.chart.specs.Limits.{corners, side, longest}
 use Rattle.chart.specs.Outline.{Outline, outline, at}
 use Rattle.lattice.specs.Chart.{size}
 use Rattle.lattice.specs.Refusals.{Simple}
@@ -208,8 +208,8 @@ module _ (o : Outline) (h : Simple o) (lo en hi : List ℕ) (low high b t : ℕ)
       (omega (arith, is-low, is-high, block-rows o h .below), omega (arith, is-high, rows-fit (block o) (block-joined o h)))
 
   pub sides :
-      (mirrored begins over ends : List ℕ) → LeftEnds (rows lo) (rows begins) b t → ((k : ℕ) → k < 256 → rows mirrored k ≡ side - rows hi k) → LeftEnds (rows mirrored) (rows over) b t
-      → ((k : ℕ) → k < 256 → rows ends k ≡ side - rows over k) → Sided o h (rows begins) (rows over) (rows ends) b t
+      (mirrored begins over ends : List ℕ) → LeftEnds (rows lo) (rows begins) b t → ((k : ℕ) → k < corners → rows mirrored k ≡ side - rows hi k) → LeftEnds (rows mirrored) (rows over) b t
+      → ((k : ℕ) → k < corners → rows ends k ≡ side - rows over k) → Sided o h (rows begins) (rows over) (rows ends) b t
   sides mirrored begins over ends l m n k =
       record {
         low = is-low;

@@ -7,6 +7,7 @@ use lib.Dec.{ltb}
 use Rattle.chart.specs.declared.Fields.{Fields}
 use Rattle.chart.specs.Outline.{Outline}
 use Rattle.chart.specs.Fields.{numbered, accepted, no-word, refusalFields}
+use Rattle.chart.specs.Refusals as refusals
 use Rattle.lattice.specs.Chart.{size}
 use Rattle.survey.specs.declared.Surveyed.{Surveyed}
 use Rattle.survey.specs.declared.Surveyed.the-variants.{Passed, Refused as Stopped}
@@ -32,7 +33,7 @@ completedOf o n = afterSurvey (surveyOf o) (lettersIn n (border (completionOf o)
 unfoldable pub completedFields : Completed → Fields
 completedFields (Written n s) = accepted no-word n s
 completedFields (Refused f) = refusalFields f
-completedFields NoRoom = numbered 18
+completedFields NoRoom = numbered refusals.letter-buffer
 
 -- The buffer afterwards. The letters stand first and the rest is unchanged. A refused call changes nothing
 unfoldable pub writtenAfter : Completed → List ℕ → List ℕ → List ℕ

@@ -1,6 +1,7 @@
 // The reply's number and fields (contract 4).
 use crate::Completed;
 use chart::Fields;
+use chart::refusals;
 use chart::reply;
 ghost use mathlib.Core.Path.{_≡_};
 ghost use Rattle.completion_call.specs.Completion.{completedFields};
@@ -9,8 +10,8 @@ pub fn of_completed(c: Completed) -> Fields
     ensures { λ f. ⌜ f ≡ completedFields c ⌝ }
 {
     match c {
-        Completed::Written { letters, start } => reply::accepted(0, letters, start),
+        Completed::Written { letters, start } => reply::accepted(reply::NO_WORD, letters, start),
         Completed::Refused(why) => reply::of_refusal(why),
-        Completed::NoRoom => reply::numbered(18),
+        Completed::NoRoom => reply::numbered(refusals::LETTER_BUFFER),
     }
 }

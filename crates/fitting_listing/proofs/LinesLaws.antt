@@ -12,6 +12,7 @@ use Rattle.fitting_records.specs.declared.Found.the-variants.{End, WrongMark, T
 use Rattle.fitting_records.specs.Found.{header, foundIn, width}
 use Rattle.fitting_records.proofs.RecordLaws.{found-within}
 use Rattle.text_lines.specs.declared.Line.{Line}
+use Rattle.fitting_listing.specs.Faults as faults
 use Rattle.fitting_listing.specs.Lines.{most, line, testedLine, outlineIn, listed, linesFrom, linesAt, linesOf}
 
 -- The lines after a record matter only if there is a record
@@ -52,11 +53,11 @@ pub lines-found-end : (n at : ℕ) (w : List ℕ) → foundIn w ≡ End → line
 unfolding listed
 lines-found-end n at w e = lines-step n at w ∙ rw e refl
 
-pub lines-wrong-mark : (n at : ℕ) (w : List ℕ) → foundIn w ≡ WrongMark → linesAt n at w ≡ line n 23 at ∷ []
+pub lines-wrong-mark : (n at : ℕ) (w : List ℕ) → foundIn w ≡ WrongMark → linesAt n at w ≡ line n faults.wrong-mark at ∷ []
 unfolding listed
 lines-wrong-mark n at w e = lines-step n at w ∙ rw e refl
 
-pub lines-cut : (n at : ℕ) (w : List ℕ) → foundIn w ≡ Truncated → linesAt n at w ≡ line n 24 at ∷ []
+pub lines-cut : (n at : ℕ) (w : List ℕ) → foundIn w ≡ Truncated → linesAt n at w ≡ line n faults.truncated at ∷ []
 unfolding listed
 lines-cut n at w e = lines-step n at w ∙ rw e refl
 
@@ -66,7 +67,7 @@ unfolding listed width
 lines-record n at c r m w e = lines-step n at w ∙ rw e refl
 
 -- 25 is checked first, and a shorter file is read
-pub lines-long : (file : List ℕ) → most < length file → linesOf file ≡ line 0 25 most ∷ []
+pub lines-long : (file : List ℕ) → most < length file → linesOf file ≡ line 0 faults.too-long most ∷ []
 unfolding linesOf
 lines-long file h = rw (lt-ltb most (length file) h)
 

@@ -15,6 +15,7 @@ use Rattle.chart.specs.Outline.{Outline, outline}
 use Rattle.fitting_records.specs.declared.Found.the-variants.{End, WrongMark, Truncated}
 use Rattle.fitting_records.specs.Found.{header, foundAt}
 use Rattle.fitting_records.proofs.RecordLaws.{Passed}
+use Rattle.fitting_listing.specs.Faults as faults
 use Rattle.fitting_listing.specs.Lines.{most, line, testedLine, outlineIn, linesAt}
 use Rattle.fitting_listing.specs.Listed.{room, Small, Listed}
 use Rattle.fitting_listing.proofs.LinesLaws.{lines-found-end, lines-wrong-mark, lines-cut, lines-record}
@@ -73,13 +74,13 @@ module _ {file buffer text : List ℕ} {at n end : ℕ} (g : Going file buffer t
   fault-short : (a : ℕ) → a < 100000 → length (lineText (line n a at)) ≤ 18
   fault-short a h = line-short (line n a at) (omega (arith, g .within, g .records)) h (omega (arith, g .within))
 
-  pub going-wrong-mark : {text′ : List ℕ} {r : ℕ} → foundAt file at ≡ WrongMark → Wrote (lineText (line n 23 at)) end text text′ r
+  pub going-wrong-mark : {text′ : List ℕ} {r : ℕ} → foundAt file at ≡ WrongMark → Wrote (lineText (line n faults.wrong-mark at)) end text text′ r
       → Listed (linesAt 0 0 file) buffer text′ r
-  going-wrong-mark e = going-last (lines-wrong-mark n at (drop at file) e) (fault-short 23 (lit< tt))
+  going-wrong-mark e = going-last (lines-wrong-mark n at (drop at file) e) (fault-short faults.wrong-mark (lit< tt))
 
-  pub going-cut : {text′ : List ℕ} {r : ℕ} → foundAt file at ≡ Truncated → Wrote (lineText (line n 24 at)) end text text′ r
+  pub going-cut : {text′ : List ℕ} {r : ℕ} → foundAt file at ≡ Truncated → Wrote (lineText (line n faults.truncated at)) end text text′ r
       → Listed (linesAt 0 0 file) buffer text′ r
-  going-cut e = going-last (lines-cut n at (drop at file) e) (fault-short 24 (lit< tt))
+  going-cut e = going-last (lines-cut n at (drop at file) e) (fault-short faults.truncated (lit< tt))
 
   record-short : {l : Line} (o : Outline) → l ≡ testedLine n o → Small l → length (lineText l) ≤ 18
   unfolding testedLine
@@ -110,6 +111,6 @@ letters-between {file} {at} {c} {r} {m} {next} n p =
     rw (count, drop-drop header at file) refl
 
 -- The only line of a file that is too long
-pub long-listed : {buffer text : List ℕ} {r : ℕ} → Wrote (lineText (line 0 25 most)) 0 buffer text r → Listed (line 0 25 most ∷ []) buffer text r
+pub long-listed : {buffer text : List ℕ} {r : ℕ} → Wrote (lineText (line 0 faults.too-long most)) 0 buffer text r → Listed (line 0 faults.too-long most ∷ []) buffer text r
 long-listed {buffer} w =
-    making-ends (making-line (making-begins (line 0 25 most ∷ []) buffer) w (line-short (line 0 25 most) (lit< tt) (lit< tt) (lit< tt))) (lit≤ tt)
+    making-ends (making-line (making-begins (line 0 faults.too-long most ∷ []) buffer) w (line-short (line 0 faults.too-long most) (lit< tt) (lit< tt) (lit< tt))) (lit≤ tt)

@@ -13,13 +13,14 @@ use Rattle.fitting_records.specs.declared.Found.{Found}
 use Rattle.fitting_records.specs.declared.Found.the-variants.{End, WrongMark, Truncated, Record}
 use Rattle.fitting_records.specs.Found.{foundIn, width}
 use Rattle.text_lines.specs.declared.Line.{Line}
+use Rattle.fitting_listing.specs.Faults as faults
 use Rattle.fitting_listing.specs.Lines.{testedLine, outlineIn, listed, linesFrom, linesAt}
 use Rattle.fitting_listing.specs.Claims.{movedLine}
 use Rattle.fitting_listing.proofs.Answers.{tested-number}
 
 -- The test's number is never a fault's
-no-fault : (o : Outline) → leb 23 (testFields o mostNumbers .number) ≡ false
-no-fault o = tested-number (λ a. leb 23 a ≡ false) o refl refl (λ e. refl) refl refl refl refl refl refl
+no-fault : (o : Outline) → leb faults.wrong-mark (testFields o mostNumbers .number) ≡ false
+no-fault o = tested-number (λ a. leb faults.wrong-mark a ≡ false) o refl refl (λ e. refl) refl refl refl refl refl refl
 
 module _ (n p : ℕ) where
   tested-moved : (i : ℕ) (o : Outline) → testedLine (n + i) o ≡ movedLine n p (testedLine i o)

@@ -15,6 +15,7 @@ use Rattle.chart.specs.Outline.{Outline}
 use Rattle.lattice.specs.Refusals.{badStart}
 use Rattle.fitting_records.proofs.RecordLaws.{record-stands}
 use Rattle.text_lines.specs.declared.Line.{Line}
+use Rattle.fitting_listing.specs.Faults as faults
 use Rattle.fitting_listing.specs.Lines.{most, testedLine, outlineIn, linesOf}
 use Rattle.fitting_listing.specs.Bytes.{fileOf}
 use Rattle.fitting_listing.specs.Claims.{answers, AllBytes, Storable, Parts, movedLine}
@@ -40,9 +41,9 @@ answers-known file =
     (λ n c r m w q e.
     tested-number (λ a. List·Memᴰ a answers) (outlineIn c r m w) (known 0 refl) (known 1 refl) (λ off. known 2 refl)
     (known 3 refl) (known 4 refl) (known 5 refl) (known 6 refl) (known 8 refl) (known 9 refl))
-    (λ n at. known 23 refl)
-    (λ n at. known 24 refl)
-    (known 25 refl)
+    (λ n at. known faults.wrong-mark refl)
+    (λ n at. known faults.truncated refl)
+    (known faults.too-long refl)
     file tt
 
 -- 10 never occurs
@@ -69,9 +70,9 @@ two-never file b =
     tested-number (λ a. a ≡ 2 → ⊥) o (other 0 refl) (other 1 refl)
     (λ off. absurd (true≢false (sym off ∙ started o (record-storable q (record-stands w e)))))
     (other 3 refl) (other 4 refl) (other 5 refl) (other 6 refl) (other 8 refl) (other 9 refl))
-    (λ n at. other 23 refl)
-    (λ n at. other 24 refl)
-    (other 25 refl)
+    (λ n at. other faults.wrong-mark refl)
+    (λ n at. other faults.truncated refl)
+    (other faults.too-long refl)
     file b
 
 -- ---- the parts of a file (contract 11.1)

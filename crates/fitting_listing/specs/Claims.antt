@@ -9,12 +9,13 @@ use Rattle.chart.specs.Outline.{Outline}
 use Rattle.fitting_records.specs.declared.Found.the-variants.{Record}
 use Rattle.fitting_records.specs.Found.{foundIn}
 use Rattle.text_lines.specs.declared.Line.{Line}
+use Rattle.fitting_listing.specs.Faults as faults
 use Rattle.fitting_listing.specs.Lines.{line}
 use Rattle.fitting_listing.specs.Bytes.{fileOf}
 
 -- The second number of a line is one of these: 0, the refusals up to 9 without 7, and the faults
 abbrev pub answers : List ℕ
-answers = 0 ∷ 1 ∷ 2 ∷ 3 ∷ 4 ∷ 5 ∷ 6 ∷ 8 ∷ 9 ∷ 23 ∷ 24 ∷ 25 ∷ []
+answers = 0 ∷ 1 ∷ 2 ∷ 3 ∷ 4 ∷ 5 ∷ 6 ∷ 8 ∷ 9 ∷ faults.wrong-mark ∷ faults.truncated ∷ faults.too-long ∷ []
 
 -- Every number of a list is a byte
 abbrev pub AllBytes : List ℕ → Type 0
@@ -38,4 +39,4 @@ pub record Parts (file : List ℕ) (os : List Outline) (rest : List ℕ) : Type 
 
 -- A line of a file that comes after n records of p bytes. Numbers from 23 on are faults, and their place is a position
 unfoldable pub movedLine : ℕ → ℕ → Line → Line
-movedLine n p l = line (n + l .number) (l .answer) (cond (leb 23 (l .answer)) (p + l .place) (l .place))
+movedLine n p l = line (n + l .number) (l .answer) (cond (leb faults.wrong-mark (l .answer)) (p + l .place) (l .place))

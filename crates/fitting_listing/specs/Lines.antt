@@ -11,6 +11,7 @@ use Rattle.fitting_records.specs.declared.Found.{Found}
 use Rattle.fitting_records.specs.declared.Found.the-variants.{End, WrongMark, Truncated, Record}
 use Rattle.fitting_records.specs.Found.{header, foundIn, width}
 use Rattle.text_lines.specs.declared.Line.{Line}
+use Rattle.fitting_listing.specs.Faults as faults
 
 -- A file has at most this many bytes
 abbrev pub most : ℕ
@@ -31,8 +32,8 @@ outlineIn c r count w = outline (record { col = c; row = r }) (take count (drop 
 -- The lines from record n on, where the bytes w begin at a position of the file. The last argument is the lines after a whole record
 unfoldable pub listed : ℕ → ℕ → List ℕ → Found → List Line → List Line
 listed n at w End rest = []
-listed n at w WrongMark rest = line n 23 at ∷ []
-listed n at w Truncated rest = line n 24 at ∷ []
+listed n at w WrongMark rest = line n faults.wrong-mark at ∷ []
+listed n at w Truncated rest = line n faults.truncated at ∷ []
 listed n at w (Record c r count) rest = testedLine n (outlineIn c r count w) ∷ rest
 
 -- The lines of the bytes w, at most k
@@ -46,4 +47,4 @@ linesAt n at w = linesFrom (length w) n at w
 
 -- The lines of a file. 25 is checked first
 unfoldable pub linesOf : List ℕ → List Line
-linesOf file = cond (ltb most (length file)) (line 0 25 most ∷ []) (linesAt 0 0 file)
+linesOf file = cond (ltb most (length file)) (line 0 faults.too-long most ∷ []) (linesAt 0 0 file)

@@ -12,7 +12,7 @@ use lib.Dec.{eqb, ltb, lit<}
 use lib.Bits.{bitOr, or-step, or-shr}
 use lib.Pow.{pow-lt, pow-add, shl-shr, shl-exact}
 use borrow.Author.Tests.{eq-eqb, lt-ltb, le-ltb}
-use Rattle.flags.specs.parts.Flags.{bitAt, wordOf, noNumbers, isSet, withNumber}
+use Rattle.flags.specs.parts.Flags.{flagCount, bitAt, wordOf, noNumbers, isSet, withNumber}
 
 or-bit : (a b j : ℕ) → bitAt (bitOr a b) j ≡ max (bitAt a j) (bitAt b j)
 or-bit a b j = rw (or-shr a b j) (omega (arith, or-step (a / 2 ^ j) (b / 2 ^ j)))
@@ -44,23 +44,23 @@ abbrev after : List ℕ → ℕ → List ℕ
 after flags n = set flags (n % 1024) (stored flags n)
 
 -- A number above 65,535 is not in the set, and is not put in
-module _ (flags : List ℕ) (n : ℕ) (h : 65536 ≤ n) where
+module _ (flags : List ℕ) (n : ℕ) (h : flagCount ≤ n) where
   pub above-not-set : false ≡ isSet flags n
   unfolding isSet
-  above-not-set = rw (le-ltb n 65536 h)
+  above-not-set = rw (le-ltb n flagCount h)
 
   pub with-above : flags ≡ withNumber flags n
   unfolding withNumber
-  with-above = rw (le-ltb n 65536 h)
+  with-above = rw (le-ltb n flagCount h)
 
-module _ (flags : List ℕ) (n : ℕ) (l : n < 65536) where
+module _ (flags : List ℕ) (n : ℕ) (l : n < flagCount) where
   with-below : withNumber flags n ≡ after flags n
   unfolding withNumber
-  with-below = rw (lt-ltb n 65536 l)
+  with-below = rw (lt-ltb n flagCount l)
 
   pub is-set-below : eqb (bitAt (wordOf flags n) (n / 1024)) 1 ≡ isSet flags n
   unfolding isSet
-  is-set-below = rw (lt-ltb n 65536 l)
+  is-set-below = rw (lt-ltb n flagCount l)
 
   -- The code's one, shifted, keeps within its word of 64 bits
   pub with-shift : set flags (n % 1024) (bitOr (wordOf flags n) (1 * 2 ^ (n / 1024) % 2 ^ 64)) ≡ withNumber flags n
@@ -68,7 +68,7 @@ module _ (flags : List ℕ) (n : ℕ) (l : n < 65536) where
 
 pub with-length : (flags : List ℕ) (n : ℕ) → length (withNumber flags n) ≡ length flags
 unfolding withNumber
-with-length flags n = go (ltb n 65536)
+with-length flags n = go (ltb n flagCount)
   where
     go : (b : Bool) → length (cond b (after flags n) flags) ≡ length flags
     go true = length-set flags (n % 1024) (stored flags n)
@@ -78,10 +78,10 @@ module _ (flags : List ℕ) (n : ℕ) (e : length flags ≡ 1024) where
   after-bit : (j : ℕ) → bitAt (getD (after flags n) (n % 1024) 0) j ≡ max (bitAt (wordOf flags n) j) (bitAt (2 ^ (n / 1024)) j)
   after-bit j = rw (getD-set-same flags (n % 1024) (stored flags n) 0 (omega arith)) (or-bit (wordOf flags n) (2 ^ (n / 1024)) j)
 
-  pub with-here : n < 65536 → isSet (withNumber flags n) n ≡ true
+  pub with-here : n < flagCount → isSet (withNumber flags n) n ≡ true
   unfolding isSet
   with-here l =
-      rw (with-below flags n l, lt-ltb n 65536 l)
+      rw (with-below flags n l, lt-ltb n flagCount l)
       (eq-eqb (bitAt (getD (after flags n) (n % 1024) 0) (n / 1024)) 1 (omega (arith, after-bit (n / 1024), power-here (n / 1024))))
 
   bits-other : (j : ℕ) → (j ≡ n → ⊥) → bitAt (wordOf (after flags n) j) (j / 1024) ≡ bitAt (wordOf flags j) (j / 1024)
@@ -91,7 +91,7 @@ module _ (flags : List ℕ) (n : ℕ) (e : length flags ≡ 1024) where
         | no q ↦ rw (getD-set-other flags (n % 1024) (j % 1024) (stored flags n) 0 q)
       ]
 
-  pub with-other : (j : ℕ) → n < 65536 → (j ≡ n → ⊥) → isSet (withNumber flags n) j ≡ isSet flags j
+  pub with-other : (j : ℕ) → n < flagCount → (j ≡ n → ⊥) → isSet (withNumber flags n) j ≡ isSet flags j
   unfolding isSet
   with-other j l d = rw (with-below flags n l, bits-other j d)
 
@@ -107,7 +107,7 @@ none-length = length-replicate {A = ℕ} 1024 0
 
 pub none-set : (n : ℕ) → isSet noNumbers n ≡ false
 unfolding isSet
-none-set n = rw (zeros-zero 1024 (n % 1024), zero-div (2 ^ (n / 1024))) (go (ltb n 65536))
+none-set n = rw (zeros-zero 1024 (n % 1024), zero-div (2 ^ (n / 1024))) (go (ltb n flagCount))
   where
     go : (b : Bool) → b && false ≡ false
     go true = refl

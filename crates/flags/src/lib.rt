@@ -1,6 +1,5 @@
 // Sets of numbers below 65,536, one bit each: bit n / 1024 of word n % 1024 says whether n is in the set. Neighbouring numbers are in
-// different
-// words, so that marking one does not wait until the word of the other is stored.
+// different words, so that marking one does not wait until the word of the other is stored.
 ghost use mathlib.Core.Path.{_≡_};
 ghost use Rattle.flags.specs.parts.Flags.{noNumbers, isSet, withNumber};
 

@@ -27,13 +27,13 @@ use Rattle.holder.specs.Holder.{answerOf}
 use Rattle.wire.specs.declared.Decoded.{Decoded}
 use Rattle.wire.specs.declared.Decoded.the-variants.{Call as Said, Nothing}
 use Rattle.wire.specs.Wire.{callWidth, replyWidth, long, letterOf, shortOf, pointOf, callOf, decoded, received}
-use Rattle.live_memory.specs.Layout.{Memory, memory, holderIn, Fits}
+use Rattle.live_memory.specs.Layout.{letterBytes, rowBytes, edgeNumbers, headNumbers, Memory, memory, holderIn, Fits}
 use Rattle.live_memory.specs.parts.Writes.{Answers}
 use Rattle.live_memory.proofs.Zeros.{zeros, zeros-fresh}
 use Rattle.live.specs.Called.{spoken, isCall, nextHolder, replyBy, pieceDrawn, pointBy, writes, Called, Done, PointDrawn, Freshened}
 
 -- Four arrays of these lengths
-pub fits-by : (m : Memory) → length (m .letters) ≡ 1224 → length (m .rows) ≡ 4080 → length (m .numbers) ≡ 1600 → length (m .heads) ≡ 40 → Fits m
+pub fits-by : (m : Memory) → length (m .letters) ≡ letterBytes → length (m .rows) ≡ rowBytes → length (m .numbers) ≡ edgeNumbers → length (m .heads) ≡ headNumbers → Fits m
 fits-by m l r n h = record { letters = l; rows = r; numbers = n; heads = h }
 
 -- ---- whether a call by its arguments has room
@@ -216,18 +216,18 @@ unfit-fresh m off = record { done = λ f. absurd (off f); holder = λ f. absurd 
 pub fresh-lists : (m : Memory) → Fits m → (l r : List ℕ) (n : List ℤ) (h : List ℕ) → l ≡ zeros (length (m .letters)) → r ≡ zeros (length (m .rows)) → n ≡ replicate (length (m .numbers)) (pos 0) → h ≡ zeros (length (m .heads))
     → Freshened m (memory l r n h) true
 fresh-lists m f l r n h el er en eh =
-    let l′ : l ≡ zeros 1224 = el ∙ ap zeros (f .letters) in
-    let r′ : r ≡ zeros 4080 = er ∙ ap zeros (f .rows) in
-    let n′ : n ≡ replicate 1600 (pos 0) = en ∙ ap (λ (k : ℕ). replicate k (pos 0)) (f .numbers) in
-    let h′ : h ≡ zeros 40 = eh ∙ ap zeros (f .heads) in
+    let l′ : l ≡ zeros letterBytes = el ∙ ap zeros (f .letters) in
+    let r′ : r ≡ zeros rowBytes = er ∙ ap zeros (f .rows) in
+    let n′ : n ≡ replicate edgeNumbers (pos 0) = en ∙ ap (λ (k : ℕ). replicate k (pos 0)) (f .numbers) in
+    let h′ : h ≡ zeros headNumbers = eh ∙ ap zeros (f .heads) in
     record {
       done = λ f. refl;
       holder = λ f. rw (l′, r′, n′, h′) zeros-fresh;
       fits = λ f. record {
-        letters = ap length l′ ∙ length-replicate {A = ℕ} 1224 0;
-        rows = ap length r′ ∙ length-replicate {A = ℕ} 4080 0;
-        numbers = ap length n′ ∙ length-replicate 1600 (pos 0);
-        heads = ap length h′ ∙ length-replicate {A = ℕ} 40 0;
+        letters = ap length l′ ∙ length-replicate {A = ℕ} letterBytes 0;
+        rows = ap length r′ ∙ length-replicate {A = ℕ} rowBytes 0;
+        numbers = ap length n′ ∙ length-replicate edgeNumbers (pos 0);
+        heads = ap length h′ ∙ length-replicate {A = ℕ} headNumbers 0;
       };
       unfit = λ n. absurd (n f);
     }

@@ -39,7 +39,7 @@ ghost use lib.ListN.{length};
 ghost use lib.IntN.{ℤ};
 ghost use Rattle.calls.specs.Calls.{by, parties, places};
 ghost use Rattle.wire.specs.Wire.{callOf, replyWidth, received as receivedOf};
-ghost use Rattle.live_memory.specs.Layout.{memory, DraftsFit, Fits};
+ghost use Rattle.live_memory.specs.Layout.{rowBytes, edgeNumbers, headNumbers, memory, DraftsFit, Fits};
 ghost use Rattle.live_memory.specs.parts.Writes.{Acts, Answers};
 ghost use Rattle.live.specs.Called.{Called, Freshened};
 
@@ -125,7 +125,7 @@ pub fn close_at(
 
 // 20, or leaves nothing at work at the place.
 pub fn clear(heads: &mut [u16], party: usize, place: u8) -> Reply
-    requires { ⌜ (party < parties) × (length (now heads) ≡ 40) ⌝ }
+    requires { ⌜ (party < parties) × (length (now heads) ≡ headNumbers) ⌝ }
     ensures { λ r. ⌜ ((letters rows : List ℕ) (numbers : List ℤ) → Acts (memory letters rows numbers (now (heads .entry))) (memory letters rows numbers (now (heads .exit))) party (Action.Clear place) r) ⌝ }
 {
     let at = place as usize;
@@ -138,7 +138,7 @@ pub fn clear(heads: &mut [u16], party: usize, place: u8) -> Reply
 
 // 19, or a begin.
 pub fn begin_of(heads: &mut [u16], party: u8, start: Point) -> Reply
-    requires { ⌜ length (now heads) ≡ 40 ⌝ }
+    requires { ⌜ length (now heads) ≡ headNumbers ⌝ }
     ensures { λ r. ⌜ ((letters rows : List ℕ) (numbers : List ℤ) → Answers (memory letters rows numbers (now (heads .entry))) (memory letters rows numbers (now (heads .exit))) (by party (Action.Begin start)) r) ⌝ }
 {
     let at = party as usize;
@@ -162,7 +162,7 @@ pub fn add_of(letters: &mut [u8], heads: &mut [u16], party: u8, letter: u8) -> R
 
 // 19, or a drop.
 pub fn drop_of(heads: &mut [u16], party: u8) -> Reply
-    requires { ⌜ length (now heads) ≡ 40 ⌝ }
+    requires { ⌜ length (now heads) ≡ headNumbers ⌝ }
     ensures { λ r. ⌜ ((letters rows : List ℕ) (numbers : List ℤ) → Answers (memory letters rows numbers (now (heads .entry))) (memory letters rows numbers (now (heads .exit))) (by party Action.Drop) r) ⌝ }
 {
     let at = party as usize;
@@ -174,7 +174,7 @@ pub fn drop_of(heads: &mut [u16], party: u8) -> Reply
 
 // 19, or a clear.
 pub fn clear_of(heads: &mut [u16], party: u8, place: u8) -> Reply
-    requires { ⌜ length (now heads) ≡ 40 ⌝ }
+    requires { ⌜ length (now heads) ≡ headNumbers ⌝ }
     ensures { λ r. ⌜ ((letters rows : List ℕ) (numbers : List ℤ) → Answers (memory letters rows numbers (now (heads .entry))) (memory letters rows numbers (now (heads .exit))) (by party (Action.Clear place)) r) ⌝ }
 {
     let at = party as usize;
@@ -205,7 +205,7 @@ pub fn close_of(
 
 // 19, 20, or where the cell lies.
 pub fn query_of(rows: &[u8], heads: &[u16], party: u8, place: u8, cell: Point) -> Reply
-    requires { ⌜ (length (now rows) ≡ 4080) × (length (now heads) ≡ 40) ⌝ }
+    requires { ⌜ (length (now rows) ≡ rowBytes) × (length (now heads) ≡ headNumbers) ⌝ }
     ensures { λ r. ⌜ ((letters : List ℕ) (numbers : List ℤ) → Answers (memory letters (now (rows .entry)) numbers (now (heads .entry))) (memory letters (now (rows .entry)) numbers (now (heads .entry))) (by party (Action.Ask place (Question.Cell cell))) r) ⌝ }
 {
     let at = party as usize;
@@ -221,7 +221,7 @@ pub fn query_of(rows: &[u8], heads: &[u16], party: u8, place: u8, cell: Point) -
 
 // 19, 20, or the columns of the row.
 pub fn row_of(rows: &[u8], heads: &[u16], party: u8, place: u8, row: u16) -> Reply
-    requires { ⌜ (length (now rows) ≡ 4080) × (length (now heads) ≡ 40) ⌝ }
+    requires { ⌜ (length (now rows) ≡ rowBytes) × (length (now heads) ≡ headNumbers) ⌝ }
     ensures { λ r. ⌜ ((letters : List ℕ) (numbers : List ℤ) → Answers (memory letters (now (rows .entry)) numbers (now (heads .entry))) (memory letters (now (rows .entry)) numbers (now (heads .entry))) (by party (Action.Ask place (Question.Row row))) r) ⌝ }
 {
     let at = party as usize;
@@ -237,7 +237,7 @@ pub fn row_of(rows: &[u8], heads: &[u16], party: u8, place: u8, row: u16) -> Rep
 
 // 19, 20, or where the reading lies.
 pub fn reading_of(numbers: &[i16], heads: &[u16], party: u8, place: u8, reading: Reading) -> Reply
-    requires { ⌜ (length (now numbers) ≡ 1600) × (length (now heads) ≡ 40) ⌝ }
+    requires { ⌜ (length (now numbers) ≡ edgeNumbers) × (length (now heads) ≡ headNumbers) ⌝ }
     ensures { λ r. ⌜ ((letters : List ℕ) (rows : List ℕ) → Answers (memory letters rows (now (numbers .entry)) (now (heads .entry))) (memory letters rows (now (numbers .entry)) (now (heads .entry))) (by party (Action.Ask place (Question.Reading reading))) r) ⌝ }
 {
     let at = party as usize;
@@ -253,7 +253,7 @@ pub fn reading_of(numbers: &[i16], heads: &[u16], party: u8, place: u8, reading:
 
 // 19, 20, or the path command at the position.
 pub fn piece_of(numbers: &[i16], heads: &[u16], party: u8, place: u8, position: u16) -> Reply
-    requires { ⌜ (length (now numbers) ≡ 1600) × (length (now heads) ≡ 40) ⌝ }
+    requires { ⌜ (length (now numbers) ≡ edgeNumbers) × (length (now heads) ≡ headNumbers) ⌝ }
     ensures { λ r. ⌜ ((letters : List ℕ) (rows : List ℕ) → Answers (memory letters rows (now (numbers .entry)) (now (heads .entry))) (memory letters rows (now (numbers .entry)) (now (heads .entry))) (by party (Action.Ask place (Question.Piece position))) r) ⌝ }
 {
     let at = party as usize;

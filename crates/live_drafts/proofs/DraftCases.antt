@@ -16,7 +16,7 @@ use Rattle.calls.specs.declared.Reply.the-variants.{Done, Refused, NoDraft, Dra
 use Rattle.draft.specs.declared.Draft.{Draft}
 use Rattle.draft.specs.declared.Drafted.{Drafted}
 use Rattle.draft.specs.Draft.{begunAt, endOf, lengthened, beginOf, addOf, dropOf}
-use Rattle.live_memory.specs.Layout.{draftAt, DraftsFit}
+use Rattle.live_memory.specs.Layout.{headNumbers, draftAt, DraftsFit}
 use Rattle.live_memory.specs.parts.Writes.{headPut, DraftPut, DraftSaid}
 use Rattle.live_memory.proofs.Heads.{cond-yes, cond-no, none-begun, one-begun}
 use Rattle.live_memory.proofs.Stores.{draft-kept, lengthened-put, begun-put}
@@ -93,7 +93,7 @@ module _ (letters heads : List ℕ) (p a : ℕ) (l : p < parties) (fit : DraftsF
       add-done h =
           said-put _ _ _ _ _ _ _ _ (addOf-done _ a (one-begun letters heads p begun) (omega (arith, count-is letters heads p)) h) (lengthened-put letters heads p fit l _ a refl room)
 
-module _ (heads : List ℕ) (p : ℕ) (l : p < parties) (size : length heads ≡ 40) (letters : List ℕ) where
+module _ (heads : List ℕ) (p : ℕ) (l : p < parties) (size : length heads ≡ headNumbers) (letters : List ℕ) where
   pub begin-open : (s : Point) → (getD heads (4 * p) 0 ≡ 0 → ⊥) → DraftSaid letters heads letters heads p DraftOpen (beginOf (draftAt letters heads p) s)
   begin-open s e = said-put _ _ _ _ _ _ _ _ (beginOf-open _ s (one-begun letters heads p e)) (draft-kept letters heads p l)
 

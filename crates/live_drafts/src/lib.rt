@@ -13,11 +13,11 @@ ghost use Rattle.chart.specs.Limits.{longest};
 ghost use Rattle.calls.specs.Calls.{parties};
 ghost use Rattle.draft.specs.Draft.{beginOf, addOf, dropOf, endOf};
 ghost use Rattle.windows.specs.Windows.{window};
-ghost use Rattle.live_memory.specs.Layout.{draftAt, DraftsFit};
+ghost use Rattle.live_memory.specs.Layout.{letterBytes, headNumbers, draftAt, DraftsFit};
 ghost use Rattle.live_memory.specs.parts.Writes.{DraftPut, DraftSaid};
 
 pub fn begin(heads: &mut [u16], party: usize, start: Point) -> Reply
-    requires { ⌜ (party < parties) × (length (now heads) ≡ 40) ⌝ }
+    requires { ⌜ (party < parties) × (length (now heads) ≡ headNumbers) ⌝ }
     ensures { λ r. ⌜ ((letters : List ℕ) → DraftSaid letters (now (heads .entry)) letters (now (heads .exit)) party r (beginOf (draftAt letters (now (heads .entry)) party) start)) ⌝ }
 {
     let at = 4 * party;
@@ -55,7 +55,7 @@ pub fn add(letters: &mut [u8], heads: &mut [u16], party: usize, letter: u8) -> R
 
 // Ends the draft.
 pub fn end(heads: &mut [u16], party: usize)
-    requires { ⌜ (party < parties) × (length (now heads) ≡ 40) ⌝ }
+    requires { ⌜ (party < parties) × (length (now heads) ≡ headNumbers) ⌝ }
     ensures { λ _. ⌜ ((letters : List ℕ) → DraftPut letters (now (heads .entry)) letters (now (heads .exit)) party (endOf (draftAt letters (now (heads .entry)) party))) ⌝ }
 {
     let at = 4 * party;
@@ -63,7 +63,7 @@ pub fn end(heads: &mut [u16], party: usize)
 }
 
 pub fn drop(heads: &mut [u16], party: usize) -> Reply
-    requires { ⌜ (party < parties) × (length (now heads) ≡ 40) ⌝ }
+    requires { ⌜ (party < parties) × (length (now heads) ≡ headNumbers) ⌝ }
     ensures { λ r. ⌜ ((letters : List ℕ) → DraftSaid letters (now (heads .entry)) letters (now (heads .exit)) party r (dropOf (draftAt letters (now (heads .entry)) party))) ⌝ }
 {
     let at = 4 * party;
@@ -83,7 +83,7 @@ fn held(count: usize) -> usize
 
 // The letters of a party's draft.
 pub fn sent(letters: &[u8], party: usize, count: usize) -> &[u8]
-    requires { ⌜ (party < parties) × (length (now letters) ≡ 1224) ⌝ }
+    requires { ⌜ (party < parties) × (length (now letters) ≡ letterBytes) ⌝ }
     ensures { λ r. ⌜ now r ≡ take (min count longest) (window (longest * party) longest (now (letters .entry))) ⌝ }
 {
     let n = held(count);

@@ -18,7 +18,7 @@ use Rattle.holder.specs.declared.Holder.{Holder}
 use Rattle.holder.specs.Holder.{blankDraft, blankWork, draftOf, workOf, slot, withDraft, withWork}
 use Rattle.windows.specs.Windows.{window}
 use Rattle.windows.proofs.Slots.{slots-same, slots-below, slots-set, slots-at, window-set, window-before, window-after, order}
-use Rattle.live_memory.specs.Layout.{draftAt, workAt, holderOf, DraftsFit}
+use Rattle.live_memory.specs.Layout.{headNumbers, draftAt, workAt, holderOf, DraftsFit}
 use Rattle.live_memory.specs.parts.Writes.{headPut, OtherHeads, DraftPut, WorkPut}
 
 abbrev held : List Draft → List Work → Holder
@@ -111,7 +111,7 @@ heads-put letters heads heads′ p d l here else =
     (λ m. rw (else (4 * j) (inr (omega arith)), else (4 * j + 1) (inr (omega arith)), else (4 * j + 2) (inr (omega arith)), else (4 * j + 3) (inr (omega arith)))) (order j p q))
     else
 
-module _ (heads : List ℕ) (p : ℕ) (l : p < parties) (size : length heads ≡ 40) (letters : List ℕ) where
+module _ (heads : List ℕ) (p : ℕ) (l : p < parties) (size : length heads ≡ headNumbers) (letters : List ℕ) where
   pub begun-put : (s : Point) → DraftPut letters heads letters (headPut heads (4 * p) 1 (s .col) (s .row) 0) p (begunAt (draftAt letters heads p) s)
   unfolding draftAt begunAt
   begun-put s =

@@ -17,7 +17,7 @@ use Rattle.holder.specs.Holder.{slot}
 use Rattle.windows.specs.Windows.{window}
 use Rattle.windows.proofs.Slots.{window-paste, window-paste-before, window-paste-after, order}
 use Rattle.span_list.specs.SpanList.{spansAt, SpansPut}
-use Rattle.live_memory.specs.Layout.{workAt, WorksFit}
+use Rattle.live_memory.specs.Layout.{headNumbers, workAt, WorksFit}
 use Rattle.live_memory.specs.parts.Writes.{headPut, OtherHeads, WorkPut}
 use Rattle.live_memory.proofs.Stores.{work-put, head-flag, head-col, head-row, head-count, head-else}
 
@@ -37,7 +37,7 @@ works-put rows numbers heads rows′ numbers′ heads′ p k w l m here spans ed
     (order j (slot p k) q))
     else
 
-pub removed-put : (heads : List ℕ) (p k : ℕ) → p < parties → k < places → length heads ≡ 40 → (rows : List ℕ) (numbers : List ℤ)
+pub removed-put : (heads : List ℕ) (p k : ℕ) → p < parties → k < places → length heads ≡ headNumbers → (rows : List ℕ) (numbers : List ℤ)
     → WorkPut rows numbers heads rows numbers (set heads (8 + 4 * slot p k) 0) p k (removed (workAt rows numbers heads (slot p k)))
 unfolding workAt removed
 removed-put heads p k l m size rows numbers =

@@ -61,17 +61,30 @@ holderIn m = holderOf (m .letters) (m .rows) (m .numbers) (m .heads)
 
 -- ---- the lengths
 
+-- Of the letters of two drafts, the rows and the edges of eight works, and the heads of both
+abbrev pub letterBytes : ℕ
+letterBytes = 1224
+
+abbrev pub rowBytes : ℕ
+rowBytes = 4080
+
+abbrev pub edgeNumbers : ℕ
+edgeNumbers = 1600
+
+abbrev pub headNumbers : ℕ
+headNumbers = 40
+
 pub record DraftsFit (l h : List ℕ) : Type 0 where
-  pub letters : length l ≡ 1224
-  pub heads : length h ≡ 40
+  pub letters : length l ≡ letterBytes
+  pub heads : length h ≡ headNumbers
 
 pub record WorksFit (r : List ℕ) (n : List ℤ) (h : List ℕ) : Type 0 where
-  pub rows : length r ≡ 4080
-  pub numbers : length n ≡ 1600
-  pub heads : length h ≡ 40
+  pub rows : length r ≡ rowBytes
+  pub numbers : length n ≡ edgeNumbers
+  pub heads : length h ≡ headNumbers
 
 pub record Fits (m : Memory) : Type 0 where
-  pub letters : length (m .letters) ≡ 1224
-  pub rows : length (m .rows) ≡ 4080
-  pub numbers : length (m .numbers) ≡ 1600
-  pub heads : length (m .heads) ≡ 40
+  pub letters : length (m .letters) ≡ letterBytes
+  pub rows : length (m .rows) ≡ rowBytes
+  pub numbers : length (m .numbers) ≡ edgeNumbers
+  pub heads : length (m .heads) ≡ headNumbers

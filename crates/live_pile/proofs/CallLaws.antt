@@ -10,7 +10,7 @@ use borrow.Author.Tests.{le-leb, lt-leb, leb-false}
 use Rattle.base.proofs.BelowLaws.{or-false-iff}
 use Rattle.chart.specs.Limits.{side}
 use Rattle.chart.specs.Outline.{Outline}
-use Rattle.chart.specs.Fields.{fieldsOf, replyAfter}
+use Rattle.chart.specs.Fields.{replyWidth, fieldsOf, replyAfter}
 use Rattle.chart.specs.declared.Fields.{Fields}
 use Rattle.chart.specs.declared.Point.{Point}
 use Rattle.chart.proofs.ReplyLaws.{fields-written, seven-written}
@@ -26,7 +26,7 @@ use Rattle.pile.specs.Calls.{PileCall, Set, SetEmpty, Check, Query, answerOf}
 use Rattle.pile.specs.Meaning.{AllConvex, CheckedBy, CheckedRuns, RowFits}
 use Rattle.pile.proofs.CallLaws.{says, set-named}
 use Rattle.pile.proofs.CheckLaws.{Answered, column-returns, row-returns, passing-returns, checked-number}
-use Rattle.live_sections.specs.Layers.{layersOf}
+use Rattle.live_sections.specs.Layers.{layerBytes, layersOf}
 use Rattle.live_sections.proofs.LayerLaws.{bytes-fit}
 use Rattle.live_pile.specs.Layout.{pileOf, Memory, memory, pileIn, Fits, Acts}
 use Rattle.live_pile.specs.Called.{Called, Done, CheckWritten, Freshened}
@@ -68,7 +68,7 @@ module _ (rows state : List ℕ) (one : length state ≡ 1) (c : ℕ) (ec : c �
   unfolding pileOf
   column-checks h = checks-by rows state _ _ (column-returns (pileOf rows state) c ec h _ (pile-failed rows state one))
 
-  module _ (left : side ≤ c) (bytes : (i : ℕ) → getD rows i 0 ≤ 255) (r : ℕ) (er : r ≡ dentedRow (layersOf rows)) where
+  module _ (left : side ≤ c) (bytes : (i : ℕ) → getD rows i 0 ≤ side) (r : ℕ) (er : r ≡ dentedRow (layersOf rows)) where
     fits : (k : ℕ) → k < side → k ≤ r → RowFits (layersOf rows) k
     fits k h l = bytes-fit rows bytes k h
 
@@ -87,11 +87,11 @@ good-row x e = leb-false side (x .row) (or-false-iff (leb side (x .col)) (leb si
 
 -- ---- a call with its reply buffer
 
-pub fits-by : (m : Memory) → length (m .rows) ≡ 8160 → length (m .state) ≡ 1 → Fits m
+pub fits-by : (m : Memory) → length (m .rows) ≡ layerBytes → length (m .state) ≡ 1 → Fits m
 fits-by m r s = record { rows = r; state = s }
 
 module _ (m : Memory) (c : PileCall) (reply : List ℕ) where
-  undone : (Fits m → false ≡ leb 7 (length reply)) → Called m m c reply reply false
+  undone : (Fits m → false ≡ leb replyWidth (length reply)) → Called m m c reply reply false
   undone none =
       record {
         done = none;
@@ -105,13 +105,13 @@ module _ (m : Memory) (c : PileCall) (reply : List ℕ) where
   pub unfit-called : (Fits m → ⊥) → Called m m c reply reply false
   unfit-called off = undone (λ f. absurd (off f))
 
-  pub short-called : length reply < 7 → Called m m c reply reply false
-  short-called h = undone (λ f. sym (lt-leb 7 (length reply) h))
+  pub short-called : length reply < replyWidth → Called m m c reply reply false
+  short-called h = undone (λ f. sym (lt-leb replyWidth (length reply) h))
 
-  pub told-called : Fits m → 7 ≤ length reply → (n : Memory) (r : PileReply) → Acts m n c r → Fits n → (g : Fields) → g ≡ pileFields r
-      → (b : Bool) → b ≡ leb 7 (length reply) → (l : List ℕ) → l ≡ replyAfter g reply → Called m n c reply l b
+  pub told-called : Fits m → replyWidth ≤ length reply → (n : Memory) (r : PileReply) → Acts m n c r → Fits n → (g : Fields) → g ≡ pileFields r
+      → (b : Bool) → b ≡ leb replyWidth (length reply) → (l : List ℕ) → l ≡ replyAfter g reply → Called m n c reply l b
   told-called f room n r a kept g named b told l put =
-      let so : b ≡ true = told ∙ le-leb 7 (length reply) room in
+      let so : b ≡ true = told ∙ le-leb replyWidth (length reply) room in
       record {
         done = λ f. told;
         pile = λ z. a .pile;
@@ -123,7 +123,7 @@ module _ (m : Memory) (c : PileCall) (reply : List ℕ) where
 
 -- ---- what the reply means
 
-module _ (g : Fields) (reply reply′ : List ℕ) (room : 7 ≤ length reply) (put : reply′ ≡ replyAfter g reply) where
+module _ (g : Fields) (reply reply′ : List ℕ) (room : replyWidth ≤ length reply) (put : reply′ ≡ replyAfter g reply) where
   -- The cell of a set's reply
   pub cell-written : (m n : Memory) (l : ℕ) (o : Outline) (r : PileReply) → Acts m n (Set l o) r → g ≡ pileFields r
       → CellNamed o (fieldsOf reply′)
@@ -144,9 +144,9 @@ module _ (g : Fields) (reply reply′ : List ℕ) (room : 7 ≤ length reply) (p
 
 -- ---- a call whose arrays have their lengths
 
-module _ (m n : Memory) (c : PileCall) (reply reply′ : List ℕ) (b : Bool) (f : Fits m) (size : length reply ≡ 7) (t : Called m n c reply reply′ b) where
+module _ (m n : Memory) (c : PileCall) (reply reply′ : List ℕ) (b : Bool) (f : Fits m) (size : length reply ≡ replyWidth) (t : Called m n c reply reply′ b) where
   pub sized-done : b ≡ true
-  sized-done = t .done f ∙ le-leb 7 (length reply) (omega (arith, size))
+  sized-done = t .done f ∙ le-leb replyWidth (length reply) (omega (arith, size))
 
   pub called-done : Done m n c reply′
   called-done =
@@ -157,10 +157,10 @@ module _ (m n : Memory) (c : PileCall) (reply reply′ : List ℕ) (b : Bool) (f
       }
 
 -- So a series can consist of such calls
-pub done-called : (m n : Memory) (c : PileCall) (reply reply′ : List ℕ) → Fits m → length reply ≡ 7 → Done m n c reply′ → Called m n c reply reply′ true
+pub done-called : (m n : Memory) (c : PileCall) (reply reply′ : List ℕ) → Fits m → length reply ≡ replyWidth → Done m n c reply′ → Called m n c reply reply′ true
 done-called m n c reply reply′ f size d =
     record {
-      done = λ g. sym (le-leb 7 (length reply) (omega (arith, size)));
+      done = λ g. sym (le-leb replyWidth (length reply) (omega (arith, size)));
       pile = λ z. d .pile;
       replied = λ z. d .replied ∙ sym (seven-written (pileFields (answerOf (pileIn m) c .reply)) reply size);
       fits = λ g. d .fits;
@@ -176,11 +176,11 @@ unfit-fresh m off = record { done = λ f. absurd (off f); pile = λ f. absurd (o
 pub fresh-lists : (m : Memory) → Fits m → (r s : List ℕ) → r ≡ replicate (length (m .rows)) 0 → s ≡ replicate (length (m .state)) 0
     → Freshened m (memory r s) true
 fresh-lists m f r s er es =
-    let r′ : r ≡ replicate 8160 0 = er ∙ ap (λ (k : ℕ). replicate k 0) (f .rows) in
+    let r′ : r ≡ replicate layerBytes 0 = er ∙ ap (λ (k : ℕ). replicate k 0) (f .rows) in
     let s′ : s ≡ replicate 1 0 = es ∙ ap (λ (k : ℕ). replicate k 0) (f .state) in
     record {
       done = λ f. refl;
       pile = λ f. rw (r′, s′) zeros-fresh;
-      fits = λ f. record { rows = ap length r′ ∙ length-replicate {A = ℕ} 8160 0; state = ap length s′ ∙ length-replicate {A = ℕ} 1 0 };
+      fits = λ f. record { rows = ap length r′ ∙ length-replicate {A = ℕ} layerBytes 0; state = ap length s′ ∙ length-replicate {A = ℕ} 1 0 };
       unfit = λ n. absurd (n f);
     }

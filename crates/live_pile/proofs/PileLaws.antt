@@ -19,7 +19,7 @@ use Rattle.windows.proofs.Slots.{slots-below, slots-set}
 use Rattle.windows.proofs.Fills.{slots-replicate}
 use Rattle.span_list.specs.SpanList.{spansAt, SpansPut}
 use Rattle.span_list.proofs.SlotLaws.{zeros-none}
-use Rattle.live_sections.specs.Layers.{layersOf}
+use Rattle.live_sections.specs.Layers.{layerBytes, layersOf}
 use Rattle.live_sections.proofs.LayerLaws.{layer-read}
 use Rattle.live_pile.specs.Layout.{pileOf}
 
@@ -67,9 +67,9 @@ module _ (rows state : List ℕ) where
 
 -- ---- zeros
 
-pub zeros-fresh : pileOf (replicate 8160 0) (replicate 1 0) ≡ freshPile
+pub zeros-fresh : pileOf (replicate layerBytes 0) (replicate 1 0) ≡ freshPile
 unfolding pileOf layersOf freshPile
 zeros-fresh =
     ap (λ (ls : List Spans). piled ls false)
-    (slots-below (λ (k : ℕ). noSpans) (spansAt (replicate 8160 0)) 0 layers (λ j b. zeros-none j 8160 (omega arith))
+    (slots-below (λ (k : ℕ). noSpans) (spansAt (replicate layerBytes 0)) 0 layers (λ j b. zeros-none j layerBytes (omega arith))
     ∙ slots-replicate 0 layers noSpans)

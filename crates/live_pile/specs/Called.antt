@@ -6,7 +6,7 @@ use mathlib.Core.Bool.{Bool, true, false}
 use mathlib.Core.List.{List}
 use lib.ListN.{length}
 use lib.Dec.{leb}
-use Rattle.chart.specs.Fields.{numbersOf, fieldsOf, replyAfter}
+use Rattle.chart.specs.Fields.{replyWidth, numbersOf, fieldsOf, replyAfter}
 use Rattle.pile.specs.declared.PileReply.{PileReply}
 use Rattle.pile.specs.Replies.{pileFields}
 use Rattle.pile.specs.Pile.{freshPile}
@@ -16,7 +16,7 @@ use Rattle.live_pile.specs.Layout.{Memory, pileIn, Fits}
 -- From arrays m to arrays n, with reply′ as the reply buffer afterwards. The call is done if the arrays have their
 -- lengths and the reply fits. Pile and reply are then those by value. If it is not done, nothing changes
 pub record Called (m n : Memory) (c : PileCall) (reply reply′ : List ℕ) (r : Bool) : Type 0 where
-  pub done : Fits m → r ≡ leb 7 (length reply)
+  pub done : Fits m → r ≡ leb replyWidth (length reply)
   pub pile : r ≡ true → pileIn n ≡ answerOf (pileIn m) c .pile
   pub replied : r ≡ true → reply′ ≡ replyAfter (pileFields (answerOf (pileIn m) c .reply)) reply
   pub fits : Fits m → Fits n

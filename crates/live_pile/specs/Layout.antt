@@ -7,6 +7,7 @@ use lib.Dec.{ltb}
 use Rattle.pile.specs.declared.Pile.{Pile}
 use Rattle.pile.specs.declared.PileReply.{PileReply}
 use Rattle.pile.specs.Calls.{PileCall, answerOf}
+pub use Rattle.live_sections.specs.Layers.{layerBytes}
 use Rattle.live_sections.specs.Layers.{layersOf}
 
 -- It has passed if the one byte of the state is not zero
@@ -26,7 +27,7 @@ abbrev pub pileIn : Memory → Pile
 pileIn m = pileOf (m .rows) (m .state)
 
 pub record Fits (m : Memory) : Type 0 where
-  pub rows : length (m .rows) ≡ 8160
+  pub rows : length (m .rows) ≡ layerBytes
   pub state : length (m .state) ≡ 1
 
 -- From arrays m to arrays n with this reply: reply and pile are those of the call by value

@@ -1,5 +1,6 @@
 // The calls on a pile in two arrays of the caller's: its layers, and whether it has passed (contract 12.8).
 use chart::Point;
+use chart::SIDE;
 use chart::Verdict;
 use chart::reply;
 use judge::verdict_of;
@@ -8,6 +9,9 @@ use live_sections::dented_row;
 use pile::PileReply;
 use pile::written::of_reply;
 use polygon::bad_cell;
+use sections::LAST_LAYER;
+use sections::LAYERS;
+use span_list::WIDTH;
 use span_list::put_none;
 use span_list::put_outline;
 use span_list::within;
@@ -23,8 +27,8 @@ ghost use Rattle.live_sections.specs.Layers.{layersOf};
 ghost use Rattle.live_pile.specs.Layout.{memory, Fits, Acts};
 ghost use Rattle.live_pile.specs.Called.{Called, CheckWritten, Freshened};
 
-// Sixteen layers, 510 bytes each.
-pub const ROW_BYTES: usize = 8160;
+// Sixteen layers, side by side.
+pub const ROW_BYTES: usize = LAYERS * WIDTH;
 
 // One byte, which is not zero if the pile has passed.
 pub const STATE_BYTES: usize = 1;
@@ -62,7 +66,7 @@ fn set_layer(
     ensures { λ r. ⌜ Acts (memory (now (rows .entry)) (now (state .entry))) (memory (now (rows .exit)) (now (state .exit)))
         (Set layer (outline start (now (letters .entry)))) r ⌝ }
 {
-    if 15 < layer {
+    if LAST_LAYER < layer {
         return PileReply::Layer;
     }
     let verdict = verdict_of(start, letters);
@@ -107,7 +111,7 @@ fn empty_layer(rows: &mut [u8], state: &mut [u8], layer: u8) -> PileReply
     ensures { λ r. ⌜ Acts (memory (now (rows .entry)) (now (state .entry))) (memory (now (rows .exit)) (now (state .exit)))
         (SetEmpty layer) r ⌝ }
 {
-    if 15 < layer {
+    if LAST_LAYER < layer {
         return PileReply::Layer;
     }
     put_none(rows, layer as usize);
@@ -139,12 +143,12 @@ fn check_layers(rows: &[u8], state: &mut [u8]) -> PileReply
         × CheckedRuns (layersOf (now (rows .entry))) r ⌝ }
 {
     let col = dented_column(rows);
-    if col < 255 {
+    if col < SIDE {
         state[0] = FAILED;
         return PileReply::Dented { kind: 0, at: col };
     }
     let row = dented_row(rows);
-    if row < 255 {
+    if row < SIDE {
         state[0] = FAILED;
         return PileReply::Dented { kind: 1, at: row };
     }
@@ -177,7 +181,7 @@ fn query_layer(rows: &[u8], state: &[u8], layer: u8, cell: Point) -> PileReply
     ensures { λ r. ⌜ Acts (memory (now (rows .entry)) (now (state .entry))) (memory (now (rows .entry)) (now (state .entry)))
         (Query layer cell) r ⌝ }
 {
-    if 15 < layer {
+    if LAST_LAYER < layer {
         return PileReply::Layer;
     }
     if state[0] == 0 {

@@ -6,7 +6,7 @@ use mathlib.Core.List.{List, [], _∷_, map}
 use lib.ListN.{length}
 use lib.Dec.{eqb}
 use Rattle.chart.specs.declared.Fields.{Fields}
-use Rattle.chart.specs.Fields.{fieldsOf}
+use Rattle.chart.specs.Fields.{replyWidth, fieldsOf}
 use Rattle.chart.proofs.ReplyLaws.{fields-written}
 use Rattle.calls.specs.declared.Call.{Call}
 use Rattle.calls.specs.declared.Reply.{Reply}
@@ -32,7 +32,7 @@ map-cond false r rs = refl
 
 module _ (p : ℕ) (b : Book) (x : Asked) (xs : List Asked) where
   -- One more call
-  step : (d : Decoded) → ((c : Call) → d ≡ Said c → 7 ≤ length (x .reply))
+  step : (d : Decoded) → ((c : Call) → d ≡ Said c → replyWidth ≤ length (x .reply))
       → receivedBy p xs (modelFrom (nextBook b d) xs) ≡ map replyFields (repliesTo p (callsIn xs) (repliesFrom (nextBook b d) (callsIn xs)))
       → cond (isOf p d) (fieldsOf (receivedInModel b d (x .reply) .reply) ∷ receivedBy p xs (modelFrom (nextBook b d) xs)) (receivedBy p xs (modelFrom (nextBook b d) xs))
       ≡ map replyFields (repliesTo p (withCall d (callsIn xs)) (repliesFrom b (withCall d (callsIn xs))))

@@ -17,12 +17,12 @@ pub record Filling (f g : ℕ → ℕ) (lo past : List ℕ) (l : ℕ) : Type 0 w
   pub ends : Filled g layers past l
 
 module _ (f g : ℕ → ℕ) where
-  pub filling-start : Filling f g (replicate 16 0) (replicate 16 0) 0
+  pub filling-start : Filling f g (replicate layers 0) (replicate layers 0) 0
   filling-start =
       record {
         within = omega arith;
-        begins = filled-start f layers _ (length-replicate {A = ℕ} 16 0);
-        ends = filled-start g layers _ (length-replicate {A = ℕ} 16 0);
+        begins = filled-start f layers _ (length-replicate {A = ℕ} layers 0);
+        ends = filled-start g layers _ (length-replicate {A = ℕ} layers 0);
       }
 
   pub filling-next : {lo past : List ℕ} {l : ℕ} → Filling f g lo past l → l < layers → (x y : ℕ) → x ≡ f l → y ≡ g l

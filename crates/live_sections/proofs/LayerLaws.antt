@@ -13,7 +13,7 @@ use Rattle.pile.specs.Pile.{layerAt, inRow, lowestRow, afterHighest}
 use Rattle.pile.specs.Meaning.{RowFits}
 use Rattle.windows.specs.Windows.{window}
 use Rattle.windows.proofs.Slots.{slots-at}
-use Rattle.span_list.specs.SpanList.{spansAt}
+use Rattle.span_list.specs.SpanList.{slotBytes, spansAt}
 use Rattle.span_list.proofs.SlotLaws.{first-at, past-at}
 use Rattle.live_sections.specs.Layers.{layersOf}
 
@@ -23,19 +23,19 @@ layer-read rows l h = slots-at (spansAt rows) 0 layers l (record { first = []; p
 
 -- The numbers of a row
 module _ (rows : List ℕ) (l : ℕ) (h : l < layers) where
-  pub row-first : (r : ℕ) → r < side → rowOf (layerAt (layersOf rows) l .first) r ≡ getD rows (510 * l + r) 0
+  pub row-first : (r : ℕ) → r < side → rowOf (layerAt (layersOf rows) l .first) r ≡ getD rows (slotBytes * l + r) 0
   row-first r k = ap (λ (s : Spans). rowOf (s .first) r) (layer-read rows l h) ∙ first-at rows l r k
 
-  pub row-past : (r : ℕ) → r < side → rowOf (layerAt (layersOf rows) l .past) r ≡ getD rows (510 * l + r + 255) 0
+  pub row-past : (r : ℕ) → r < side → rowOf (layerAt (layersOf rows) l .past) r ≡ getD rows (slotBytes * l + r + side) 0
   row-past r k = ap (λ (s : Spans). rowOf (s .past) r) (layer-read rows l h) ∙ past-at rows l r k
 
 -- In a list of bytes every row ends on the chart
-pub bytes-fit : (rows : List ℕ) → ((i : ℕ) → getD rows i 0 ≤ 255) → (r : ℕ) → r < side → RowFits (layersOf rows) r
-bytes-fit rows bytes r k l h = rw (row-past rows l h r k) (bytes (510 * l + r + 255))
+pub bytes-fit : (rows : List ℕ) → ((i : ℕ) → getD rows i 0 ≤ side) → (r : ℕ) → r < side → RowFits (layersOf rows) r
+bytes-fit rows bytes r k l h = rw (row-past rows l h r k) (bytes (slotBytes * l + r + side))
 
 -- The two halves, and the rows with a column
-module _ (rows : List ℕ) (l : ℕ) (h : l < layers) (begins ends : List ℕ) (b : begins ≡ window (510 * l) side rows)
-    (e : ends ≡ window (510 * l + 255) side rows) where
+module _ (rows : List ℕ) (l : ℕ) (h : l < layers) (begins ends : List ℕ) (b : begins ≡ window (slotBytes * l) side rows)
+    (e : ends ≡ window (slotBytes * l + side) side rows) where
   pub spans-are : layerAt (layersOf rows) l ≡ record { first = begins; past = ends }
   unfolding spansAt
   spans-are = layer-read rows l h ∙ ap₂ (λ (x y : List ℕ). record { first = x; past = y }) (sym b) (sym e)

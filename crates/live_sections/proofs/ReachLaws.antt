@@ -20,6 +20,7 @@ use Rattle.sections.specs.Sections.{layers, numbers}
 use Rattle.pile.specs.Pile.{layerAt, inRow}
 use Rattle.pile.proofs.RunLaws.{listed-at}
 use Rattle.windows.specs.Windows.{window}
+use Rattle.span_list.specs.SpanList.{slotBytes}
 use Rattle.live_sections.specs.Layers.{layersOf}
 use Rattle.live_sections.specs.parts.Reach.{hasCell, bottomOf, topOf, reachOf, NoneBelow, NoneFrom}
 use Rattle.live_sections.proofs.LayerLaws.{spans-are}
@@ -80,8 +81,8 @@ module _ (begins ends : List ℕ) (c : ℕ) where
 
 -- ---- in the list of all layers
 
-module _ (rows : List ℕ) (l : ℕ) (h : l < layers) (begins ends : List ℕ) (b : begins ≡ window (510 * l) side rows)
-    (e : ends ≡ window (510 * l + 255) side rows) where
+module _ (rows : List ℕ) (l : ℕ) (h : l < layers) (begins ends : List ℕ) (b : begins ≡ window (slotBytes * l) side rows)
+    (e : ends ≡ window (slotBytes * l + side) side rows) where
   abbrev layer : Spans
   layer = layerAt (layersOf rows) l
 

@@ -1,4 +1,5 @@
 // The sections of a pile whose layers are in one list of bytes, by columns and by rows, and the first that is dented.
+use chart::SIDE;
 use sections::LAYERS;
 use sections::Section;
 use sections::is_clear;
@@ -12,8 +13,11 @@ ghost use Rattle.base.specs.Below.{first as firstOf};
 ghost use Rattle.chart.specs.Limits.{side};
 ghost use Rattle.windows.specs.Windows.{window};
 ghost use Rattle.pile.specs.Pile.{inRow, columnSection, rowSection, dentedColumn, dentedRow};
-ghost use Rattle.live_sections.specs.Layers.{layersOf};
+ghost use Rattle.live_sections.specs.Layers.{layerBytes, layersOf};
 ghost use Rattle.live_sections.specs.parts.Reach.{hasCell, reachOf, NoneBelow, NoneFrom, clearOf, Sized};
+
+// One past the last row, and past the last column.
+const END: u8 = SIDE as u8;
 
 // The 255 numbers from an index on.
 fn part(rows: &[u8], from: usize) -> &[u8]
@@ -52,7 +56,7 @@ fn bottom(first: &[u8], past: &[u8]) -> u8
         }
         r += 1;
     }
-    255
+    END
 }
 
 // The row past the highest with a cell, or 0.
@@ -72,7 +76,7 @@ fn top(first: &[u8], past: &[u8]) -> u8
 
 // The rows of each layer that have a cell: from the lowest up to but not including the row past the highest.
 fn reach(rows: &[u8]) -> Section
-    requires { ⌜ length (now rows) ≡ 8160 ⌝ }
+    requires { ⌜ length (now rows) ≡ layerBytes ⌝ }
     ensures { λ r. ⌜ r ≡ reachOf (layersOf (now (rows .entry))) ⌝ }
 {
     let mut lo = [0u8; LAYERS];
@@ -103,7 +107,7 @@ fn lowest(first: &[u8], past: &[u8], col: u8, from: u8, to: u8) -> u8
         }
         r += 1;
     }
-    255
+    END
 }
 
 // The row past the highest with the column, or 0.
@@ -125,7 +129,7 @@ fn after_highest(first: &[u8], past: &[u8], col: u8, from: u8, to: u8) -> u8
 
 // The section at a column: for each layer, the rows with that column. They are within `reach`.
 fn column(rows: &[u8], reach: Section, col: u8) -> Section
-    requires { ⌜ (length (now rows) ≡ 8160) × (reach ≡ reachOf (layersOf (now rows))) ⌝ }
+    requires { ⌜ (length (now rows) ≡ layerBytes) × (reach ≡ reachOf (layersOf (now rows))) ⌝ }
     ensures { λ r. ⌜ r ≡ columnSection (layersOf (now (rows .entry))) col ⌝ }
 {
     let bottoms = reach.lo;
@@ -148,7 +152,7 @@ fn column(rows: &[u8], reach: Section, col: u8) -> Section
 
 // The section at a row: for each layer, the columns of that row.
 fn row(rows: &[u8], r: usize) -> Section
-    requires { ⌜ (r < side) × (length (now rows) ≡ 8160) ⌝ }
+    requires { ⌜ (r < side) × (length (now rows) ≡ layerBytes) ⌝ }
     ensures { λ s. ⌜ s ≡ rowSection (layersOf (now (rows .entry))) r ⌝ }
 {
     let mut lo = [0u8; LAYERS];
@@ -198,7 +202,7 @@ fn clear_after(last: Section, section: Section) -> bool
 
 // The first column whose section is dented, or 255.
 pub fn dented_column(rows: &[u8]) -> u16
-    requires { ⌜ length (now rows) ≡ 8160 ⌝ }
+    requires { ⌜ length (now rows) ≡ layerBytes ⌝ }
     ensures { λ r. ⌜ r ≡ dentedColumn (layersOf (now (rows .entry))) ⌝ }
 {
     let reach = reach(rows);
@@ -207,7 +211,7 @@ pub fn dented_column(rows: &[u8]) -> u16
         return 0;
     }
     let mut col = 1u8;
-    while col < 255 {
+    while col < END {
         let section = column(rows, reach, col);
         if !clear_after(last, section) {
             return col as u16;
@@ -215,12 +219,12 @@ pub fn dented_column(rows: &[u8]) -> u16
         last = section;
         col += 1;
     }
-    255
+    SIDE
 }
 
 // The first row whose section is dented, or 255.
 pub fn dented_row(rows: &[u8]) -> u16
-    requires { ⌜ length (now rows) ≡ 8160 ⌝ }
+    requires { ⌜ length (now rows) ≡ layerBytes ⌝ }
     ensures { λ r. ⌜ r ≡ dentedRow (layersOf (now (rows .entry))) ⌝ }
 {
     let mut last = row(rows, 0);
@@ -228,7 +232,7 @@ pub fn dented_row(rows: &[u8]) -> u16
         return 0;
     }
     let mut r = 1usize;
-    while r < 255 {
+    while r < ROWS {
         let section = row(rows, r);
         if !clear_after(last, section) {
             return r as u16;
@@ -236,5 +240,5 @@ pub fn dented_row(rows: &[u8]) -> u16
         last = section;
         r += 1;
     }
-    255
+    SIDE
 }

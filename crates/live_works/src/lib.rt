@@ -23,12 +23,12 @@ ghost use Rattle.spans.specs.Spans.{spansOf};
 ghost use Rattle.calls.specs.Calls.{parties, places};
 ghost use Rattle.work.specs.Work.{listed, removed, replaced, hasEdges, located, spanned, readAt, drawnAt};
 ghost use Rattle.windows.specs.Windows.{window};
-ghost use Rattle.live_memory.specs.Layout.{workAt, WorksFit};
+ghost use Rattle.live_memory.specs.Layout.{rowBytes, edgeNumbers, headNumbers, workAt, WorksFit};
 ghost use Rattle.live_memory.specs.parts.Writes.{WorkPut};
 
 // Leaves nothing at work at the place.
 pub fn remove(heads: &mut [u16], party: usize, place: usize)
-    requires { ⌜ (party < parties) × (place < places) × (length (now heads) ≡ 40) ⌝ }
+    requires { ⌜ (party < parties) × (place < places) × (length (now heads) ≡ headNumbers) ⌝ }
     ensures { λ _. ⌜ ((rows : List ℕ) (numbers : List ℤ) → WorkPut rows numbers (now (heads .entry)) rows numbers (now (heads .exit)) party place (removed (workAt rows numbers (now (heads .entry)) (4 * party + place)))) ⌝ }
 {
     let at = 8 + 4 * (4 * party + place);
@@ -48,7 +48,7 @@ fn number_count(edges: usize) -> usize
 
 // The numbers of the edges at work at a slot.
 fn edges_at(numbers: &[i16], slot: usize, edges: usize) -> &[i16]
-    requires { ⌜ (slot < parties * places) × (length (now numbers) ≡ 1600) ⌝ }
+    requires { ⌜ (slot < parties * places) × (length (now numbers) ≡ edgeNumbers) ⌝ }
     ensures { λ r. ⌜ now r ≡ listed (window (mostNumbers * slot) mostNumbers (now (numbers .entry))) edges ⌝ }
 {
     let n = number_count(edges);
@@ -59,7 +59,7 @@ fn edges_at(numbers: &[i16], slot: usize, edges: usize) -> &[i16]
 
 // 12, 11, or where the cell lies.
 pub fn query(rows: &[u8], heads: &[u16], slot: usize, cell: Point) -> Reply
-    requires { ⌜ (slot < parties * places) × (length (now rows) ≡ 4080) × (length (now heads) ≡ 40) ⌝ }
+    requires { ⌜ (slot < parties * places) × (length (now rows) ≡ rowBytes) × (length (now heads) ≡ headNumbers) ⌝ }
     ensures { λ r. ⌜ ((numbers : List ℤ) → r ≡ located (workAt (now (rows .entry)) numbers (now (heads .entry)) slot) cell) ⌝ }
 {
     let at = 8 + 4 * slot;
@@ -83,7 +83,7 @@ pub fn query(rows: &[u8], heads: &[u16], slot: usize, cell: Point) -> Reply
 
 // 12, 11, or the columns of the row.
 pub fn row(rows: &[u8], heads: &[u16], slot: usize, row: u16) -> Reply
-    requires { ⌜ (slot < parties * places) × (length (now rows) ≡ 4080) × (length (now heads) ≡ 40) ⌝ }
+    requires { ⌜ (slot < parties * places) × (length (now rows) ≡ rowBytes) × (length (now heads) ≡ headNumbers) ⌝ }
     ensures { λ r. ⌜ ((numbers : List ℤ) → r ≡ spanned (workAt (now (rows .entry)) numbers (now (heads .entry)) slot) row) ⌝ }
 {
     let at = 8 + 4 * slot;
@@ -98,7 +98,7 @@ pub fn row(rows: &[u8], heads: &[u16], slot: usize, row: u16) -> Reply
 
 // 12, 11, or where the reading lies.
 pub fn reading(numbers: &[i16], heads: &[u16], slot: usize, reading: Reading) -> Reply
-    requires { ⌜ (slot < parties * places) × (length (now numbers) ≡ 1600) × (length (now heads) ≡ 40) ⌝ }
+    requires { ⌜ (slot < parties * places) × (length (now numbers) ≡ edgeNumbers) × (length (now heads) ≡ headNumbers) ⌝ }
     ensures { λ r. ⌜ ((rows : List ℕ) → r ≡ readAt (workAt rows (now (numbers .entry)) (now (heads .entry)) slot) reading) ⌝ }
 {
     let at = 8 + 4 * slot;
@@ -116,7 +116,7 @@ pub fn reading(numbers: &[i16], heads: &[u16], slot: usize, reading: Reading) ->
 
 // 12, or the path command at the position.
 pub fn piece(numbers: &[i16], heads: &[u16], slot: usize, position: u16) -> Reply
-    requires { ⌜ (slot < parties * places) × (length (now numbers) ≡ 1600) × (length (now heads) ≡ 40) ⌝ }
+    requires { ⌜ (slot < parties * places) × (length (now numbers) ≡ edgeNumbers) × (length (now heads) ≡ headNumbers) ⌝ }
     ensures { λ r. ⌜ ((rows : List ℕ) → r ≡ drawnAt (workAt rows (now (numbers .entry)) (now (heads .entry)) slot) position) ⌝ }
 {
     let at = 8 + 4 * slot;
@@ -155,7 +155,7 @@ pub fn has(
     list: &[i16; MOST_NUMBERS],
     edges: u16,
 ) -> bool
-    requires { ⌜ (slot < parties * places) × (length (now numbers) ≡ 1600) × (length (now heads) ≡ 40) ⌝ }
+    requires { ⌜ (slot < parties * places) × (length (now numbers) ≡ edgeNumbers) × (length (now heads) ≡ headNumbers) ⌝ }
     ensures { λ r. ⌜ ((rows : List ℕ) → r ≡ hasEdges (workAt rows (now (numbers .entry)) (now (heads .entry)) slot) anchor (listed (now (list .entry)) edges)) ⌝ }
 {
     let at = 8 + 4 * slot;

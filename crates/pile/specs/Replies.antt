@@ -1,6 +1,7 @@
 -- The fields of each reply: the number, the word and the rest (contract 4, 5 and 12).
 use Rattle.chart.specs.declared.Fields.{Fields}
 use Rattle.chart.specs.Fields.{numbered, said, verdictFields, no-word, inside, outside}
+use Rattle.chart.specs.Refusals as refusals
 use Rattle.pile.specs.declared.PileReply.{PileReply}
 use Rattle.pile.specs.declared.PileReply.the-variants.{Done, Inside, Outside, Judged, Cell, NotPassed, Dented, Layer}
 
@@ -9,7 +10,7 @@ pileFields Done = said no-word
 pileFields Inside = said inside
 pileFields Outside = said outside
 pileFields (Judged v) = verdictFields v
-pileFields Cell = numbered 11
-pileFields NotPassed = numbered 12
-pileFields (Dented k p) = record { number = 21; word = no-word; place = p; piece = k; length = 0; col = 0; row = 0 }
-pileFields Layer = numbered 22
+pileFields Cell = numbered refusals.cell
+pileFields NotPassed = numbered refusals.nothing-at-work
+pileFields (Dented k p) = record { number = refusals.section; word = no-word; place = p; piece = k; length = 0; col = 0; row = 0 }
+pileFields Layer = numbered refusals.layer

@@ -1,5 +1,6 @@
 // The pile: sixteen layers, each empty or one taken outline, and the calls on them (contract 12).
 use chart::Point;
+use chart::SIDE;
 use chart::Verdict;
 use judge::verdict_of;
 use polygon::bad_cell;
@@ -128,14 +129,14 @@ impl Pile {
     {
         let layers = self.layers;
         let col = section_at::dented_column(layers);
-        if col < 255 {
+        if col < SIDE {
             return Piled {
                 reply: PileReply::Dented { kind: 0, at: col },
                 pile: self.marked(false),
             };
         }
         let row = section_at::dented_row(layers);
-        if row < 255 {
+        if row < SIDE {
             return Piled {
                 reply: PileReply::Dented { kind: 1, at: row },
                 pile: self.marked(false),

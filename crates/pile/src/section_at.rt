@@ -1,4 +1,5 @@
 // The sections of a pile, by columns and by rows, and the first that is dented.
+use chart::SIDE;
 use sections::LAYERS;
 use sections::Section;
 use sections::is_clear;
@@ -11,6 +12,9 @@ ghost use Rattle.chart.specs.Limits.{side};
 ghost use Rattle.rows.specs.parts.Rows.{rows as rowOf};
 ghost use Rattle.pile.specs.Pile.{inRow, columnSection, rowSection, dentedColumn, dentedRow};
 ghost use Rattle.pile.specs.Meaning.{RowFits};
+
+// One past the last row, and past the last column.
+const END: u8 = SIDE as u8;
 
 // Row `r` has column `col`.
 fn holds(first: &[u8; ROWS], past: &[u8; ROWS], col: u8, r: usize) -> bool
@@ -31,7 +35,7 @@ fn lowest(first: &[u8; ROWS], past: &[u8; ROWS], col: u8) -> u8
         }
         r += 1;
     }
-    255
+    END
 }
 
 // The row past the highest with the column, or 0.
@@ -96,13 +100,13 @@ pub fn dented_column(layers: [Spans; LAYERS]) -> u16
     ensures { λ r. ⌜ r ≡ dentedColumn layers ⌝ }
 {
     let mut col = 0u8;
-    while col < 255 {
+    while col < END {
         if !is_clear(column(layers, col)) {
             return col as u16;
         }
         col += 1;
     }
-    255
+    SIDE
 }
 
 // The first row whose section is dented, or 255.
@@ -110,11 +114,11 @@ pub fn dented_row(layers: [Spans; LAYERS]) -> u16
     ensures { λ r. ⌜ (r ≡ dentedRow layers) × ((k : ℕ) → k < side → k ≤ r → RowFits layers k) ⌝ }
 {
     let mut r = 0usize;
-    while r < 255 {
+    while r < ROWS {
         if !is_clear(row(layers, r)) {
             return r as u16;
         }
         r += 1;
     }
-    255
+    SIDE
 }

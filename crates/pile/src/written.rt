@@ -1,6 +1,7 @@
 // The reply's number, word and fields (contract 4).
 use crate::PileReply;
 use chart::Fields;
+use chart::refusals;
 use chart::reply;
 ghost use mathlib.Core.Path.{_≡_};
 ghost use Rattle.pile.specs.Replies.{pileFields};
@@ -9,21 +10,21 @@ pub fn of_reply(r: PileReply) -> Fields
     ensures { λ f. ⌜ f ≡ pileFields r ⌝ }
 {
     match r {
-        PileReply::Done => reply::said(0),
-        PileReply::Inside => reply::said(1),
-        PileReply::Outside => reply::said(2),
+        PileReply::Done => reply::said(reply::NO_WORD),
+        PileReply::Inside => reply::said(reply::INSIDE),
+        PileReply::Outside => reply::said(reply::OUTSIDE),
         PileReply::Judged(verdict) => reply::of_verdict(verdict),
-        PileReply::Cell => reply::numbered(11),
-        PileReply::NotPassed => reply::numbered(12),
+        PileReply::Cell => reply::numbered(refusals::CELL),
+        PileReply::NotPassed => reply::numbered(refusals::NOTHING_AT_WORK),
         PileReply::Dented { kind, at } => Fields {
-            number: 21,
-            word: 0,
+            number: refusals::SECTION,
+            word: reply::NO_WORD,
             place: at,
             piece: kind,
             length: 0,
             col: 0,
             row: 0,
         },
-        PileReply::Layer => reply::numbered(22),
+        PileReply::Layer => reply::numbered(refusals::LAYER),
     }
 }

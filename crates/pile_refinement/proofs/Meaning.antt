@@ -6,8 +6,9 @@ use mathlib.Core.List.{List}
 use lib.ListN.{length}
 use borrow.Author.Tests.{leb-true}
 use Rattle.chart.specs.declared.Point.{Point}
-use Rattle.chart.specs.Fields.{replyAfter}
+use Rattle.chart.specs.Fields.{replyWidth, replyAfter}
 use Rattle.polygon.specs.Loose.{badCell}
+use Rattle.sections.specs.Sections.{lastLayer}
 use Rattle.pile.specs.declared.Pile.{Pile}
 use Rattle.pile.specs.declared.PileReply.{PileReply}
 use Rattle.pile.specs.Replies.{pileFields}
@@ -31,7 +32,7 @@ module _ (m n : Memory) (t : Bool) (f : Fits m) (s : Freshened m n t) (xs : List
   unfolding answerOf
   check-theorem k′ reply reply′ c =
       let (fit, left) = fresh-leaves m n t f s xs ys k r in
-      let room : 7 ≤ length reply = leb-true 7 (length reply) (sym (c .done fit)) in
+      let room : replyWidth ≤ length reply = leb-true replyWidth (length reply) (sym (c .done fit)) in
       check-written _ reply reply′ room (c .replied refl) _ (rw left (book-checked (heeded xs))) refl
 
   -- A query that is done gets the model's reply
@@ -44,7 +45,7 @@ module _ (m n : Memory) (t : Bool) (f : Fits m) (s : Freshened m n t) (xs : List
       ∙ ap (λ (v : PileReply). replyAfter (pileFields v) reply) (book-queried (heeded xs) l x)
 
   -- If the last call that set a layer or checked was a check that passed, the query is answered from the layer's outline
-  pub query-theorem : bookOf (heeded xs) .passed ≡ true → (l : ℕ) (x : Point) → l ≤ 15 → badCell x ≡ false
+  pub query-theorem : bookOf (heeded xs) .passed ≡ true → (l : ℕ) (x : Point) → l ≤ lastLayer → badCell x ≡ false
       → (k′ : Memory) (reply reply′ : List ℕ) → Called k k′ (Query l x) reply reply′ true
       → reply′ ≡ replyAfter (pileFields (located (bookOf (heeded xs) .layers l) x)) reply
   query-theorem e l x h b k′ reply reply′ c =

@@ -13,7 +13,7 @@ use Rattle.pile.specs.Calls.{PileCall, answerOf}
 use Rattle.pile_model.specs.Book.{fresh, AllAnswer}
 use Rattle.pile_model.specs.Run.{pileReplies, pileAfter}
 use Rattle.pile_model.proofs.ListTheorem.{pile-theorem, replies-once, bookOf, same-passed}
-use Rattle.live_pile.specs.Layout.{Memory, memory, pileIn, Fits}
+use Rattle.live_pile.specs.Layout.{layerBytes, Memory, memory, pileIn, Fits}
 use Rattle.live_pile.specs.Called.{Freshened}
 use Rattle.live_pile.proofs.CallLaws.{fits-by, fresh-lists}
 use Rattle.pile_refinement.specs.Series.{Asked, Received, Series, stop, made, Calls, end, then, roomy, heeded, answered, passedOver, told}
@@ -115,11 +115,11 @@ module _ (m n : Memory) (t : Bool) (f : Fits m) (s : Freshened m n t) (xs : List
 
 -- Arrays of zeros have a fresh pile
 abbrev pub zeros : Memory
-zeros = memory (replicate 8160 0) (replicate 1 0)
+zeros = memory (replicate layerBytes 0) (replicate 1 0)
 
 pub zeros-stand : Freshened zeros zeros true
 zeros-stand =
-    let rows = length-replicate {A = ℕ} 8160 0 in
+    let rows = length-replicate {A = ℕ} layerBytes 0 in
     let state = length-replicate {A = ℕ} 1 0 in
     fresh-lists zeros (fits-by zeros rows state) _ _ (ap (λ (n : ℕ). replicate n 0) (sym rows)) (ap (λ (n : ℕ). replicate n 0) (sym state))
 

@@ -4,7 +4,7 @@ use mathlib.Core.Bool.{Bool, true, false, cond}
 use mathlib.Core.List.{List, [], _∷_}
 use lib.ListN.{length}
 use lib.Dec.{leb}
-use Rattle.chart.specs.Fields.{replyAfter}
+use Rattle.chart.specs.Fields.{replyWidth, replyAfter}
 use Rattle.pile.specs.declared.PileReply.{PileReply}
 use Rattle.pile.specs.Replies.{pileFields}
 use Rattle.pile.specs.Calls.{PileCall}
@@ -41,7 +41,7 @@ pub data Calls : Memory → List PileCall → List (List ℕ) → Memory → Typ
 
 -- The calls whose reply fits. No other call changes the model
 abbrev pub roomy : Asked → Bool
-roomy x = leb 7 (length (x .reply))
+roomy x = leb replyWidth (length (x .reply))
 
 unfoldable pub heeded : List Asked → List PileCall
 heeded [] = []

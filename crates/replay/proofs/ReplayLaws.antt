@@ -22,7 +22,7 @@ use Rattle.holder_refinement.proofs.ListTheorem.{list-theorem}
 use Rattle.wire.specs.declared.Decoded.{Decoded}
 use Rattle.wire.specs.declared.Decoded.the-variants.{Call as Said, Nothing}
 use Rattle.wire.specs.Wire.{callWidth, replyWidth, decoded, received}
-use Rattle.live_memory.specs.Layout.{Memory, memory, holderIn, Fits}
+use Rattle.live_memory.specs.Layout.{letterBytes, rowBytes, edgeNumbers, headNumbers, Memory, memory, holderIn, Fits}
 use Rattle.live_memory.proofs.Zeros.{zeros, zeros-fresh}
 use Rattle.live.specs.Called.{isCall, nextHolder, replyBy, Called}
 use Rattle.live.proofs.CallLaws.{fits-by}
@@ -123,11 +123,11 @@ underway-first script buffer end h most e =
 
 -- The arrays of a fresh holder
 abbrev zeroLists : Memory
-zeroLists = memory (zeros 1224) (zeros 4080) (replicate 1600 (pos 0)) (zeros 40)
+zeroLists = memory (zeros letterBytes) (zeros rowBytes) (replicate edgeNumbers (pos 0)) (zeros headNumbers)
 
 pub underway-zeros : (script buffer : List ℕ) (end : ℕ) → end ≡ min (length script / callWidth) (length buffer / replyWidth) → Fits zeroLists × Underway script buffer end (holderIn zeroLists) 0 buffer
 underway-zeros script buffer end most = (
-  fits-by zeroLists (length-replicate {A = ℕ} 1224 0) (length-replicate {A = ℕ} 4080 0) (length-replicate 1600 (pos 0)) (length-replicate {A = ℕ} 40 0),
+  fits-by zeroLists (length-replicate {A = ℕ} letterBytes 0) (length-replicate {A = ℕ} rowBytes 0) (length-replicate edgeNumbers (pos 0)) (length-replicate {A = ℕ} headNumbers 0),
   underway-first script buffer end (holderIn zeroLists) most zeros-fresh,
 )
 

@@ -11,7 +11,7 @@ ghost use mathlib.Core.Path.{_≡_};
 ghost use mathlib.Core.List.{List};
 ghost use Prim.Native.Nat.{ℕ};
 ghost use lib.IntN.{ℤ};
-ghost use Rattle.chart.specs.Fields.{numbersOf};
+ghost use Rattle.chart.specs.Fields.{replyWidth, numbersOf};
 ghost use Rattle.chart.specs.Outline.{at};
 ghost use Rattle.calls.specs.Calls.{by};
 ghost use Rattle.calls.specs.declared.Action.{Action};
@@ -215,7 +215,7 @@ pub extern "C" fn rq_call_parts(
     call: &[u8],
     reply: &mut [u16; REPLY],
 ) -> bool
-    ensures { λ r. ⌜ Called (Fits (memory (now (letters .entry)) (now (rows .entry)) (now (numbers .entry)) (now (heads .entry)))) (memory (now (letters .entry)) (now (rows .entry)) (now (numbers .entry)) (now (heads .entry))) (memory (now (letters .exit)) (now (rows .exit)) (now (numbers .exit)) (now (heads .exit))) (received (now (call .entry)) 7) (now (reply .entry)) (now (reply .exit)) r ⌝ }
+    ensures { λ r. ⌜ Called (Fits (memory (now (letters .entry)) (now (rows .entry)) (now (numbers .entry)) (now (heads .entry)))) (memory (now (letters .entry)) (now (rows .entry)) (now (numbers .entry)) (now (heads .entry))) (memory (now (letters .exit)) (now (rows .exit)) (now (numbers .exit)) (now (heads .exit))) (received (now (call .entry)) replyWidth) (now (reply .entry)) (now (reply .exit)) r ⌝ }
     ensures fits { λ _. ⌜ Fits (memory (now (letters .entry)) (now (rows .entry)) (now (numbers .entry)) (now (heads .entry))) ⌝ }
 {
     live::respond(

@@ -12,7 +12,7 @@ use lib.ListN.{length, getD, drop, set, replicate, length-set, length-replicate,
 use lib.Seq.{drop-cons, getD-set-same, getD-set-other}
 use borrow.Author.Tests.{eqb-true, eqb-false, eq-eqb, lt-ltb, le-ltb}
 use Rattle.base.proofs.BelowLaws.{same-test}
-use Rattle.chart.specs.Limits.{side}
+use Rattle.chart.specs.Limits.{corners, side}
 use Rattle.chart.specs.declared.Point.{Point}
 use Rattle.chart.specs.Outline.{Outline}
 use Rattle.lattice.specs.Chart.{step, cornerAt, size, letterAt}
@@ -27,24 +27,24 @@ use Rattle.row_sides.specs.parts.Passed.{Tells, Passed}
 
 -- ---- the row of a letter
 
-tells-by : (y a x : ℕ) → x < 256 → ((p : Point) → p .row ≡ y → (r : ℕ) → r < side → alongRow r p a ≡ true → x ≡ r) → ((p : Point) → p .row ≡ y → (r : ℕ) → r < side → x ≡ r → alongRow r p a ≡ true) → Tells y a x
+tells-by : (y a x : ℕ) → x < corners → ((p : Point) → p .row ≡ y → (r : ℕ) → r < side → alongRow r p a ≡ true → x ≡ r) → ((p : Point) → p .row ≡ y → (r : ℕ) → r < side → x ≡ r → alongRow r p a ≡ true) → Tells y a x
 tells-by y a x l f g = record { below = l; tells = λ p e r h. same-test {P = x ≡ r} (alongRow r p a) (eqb x r) (f p e r h, g p e r h) ((λ d. eqb-true x r d), λ d. eq-eqb x r d) }
 
-pub tells-up : (y a : ℕ) → y < 256 → a ≡ 1 → Tells y a y
+pub tells-up : (y a : ℕ) → y < corners → a ≡ 1 → Tells y a y
 tells-up y a l e =
     tells-by y a y l
     (λ p d r h k. elim (along-cases r p a k) [ inl (_, q) ↦ sym d ∙ q | inr (z, _) ↦ absurd (omega arith) ])
     (λ p d r h k. along-up r p a e (d ∙ k))
 
-pub tells-down : (y a : ℕ) → y < 256 → a ≡ 3 → 0 < y → Tells y a (y - 1)
+pub tells-down : (y a : ℕ) → y < corners → a ≡ 3 → 0 < y → Tells y a (y - 1)
 tells-down y a l e m =
     tells-by y a (y - 1) (omega arith)
     (λ p d r h k. elim (along-cases r p a k) [ inl (z, _) ↦ absurd (omega arith) | inr (_, q) ↦ omega arith ])
     (λ p d r h k. along-down r p a e (omega arith))
 
-pub tells-none : (y a : ℕ) → (a ≡ 1 → ⊥) → (a ≡ 3 → 0 < y → ⊥) → Tells y a 255
+pub tells-none : (y a : ℕ) → (a ≡ 1 → ⊥) → (a ≡ 3 → 0 < y → ⊥) → Tells y a side
 tells-none y a f g =
-    tells-by y a 255 (omega arith)
+    tells-by y a side (omega arith)
     (λ p d r h k. elim (along-cases r p a k) [ inl (z, _) ↦ absurd (f z) | inr (z, q) ↦ absurd (g z (omega arith)) ])
     (λ p d r h k. absurd (omega arith))
 
@@ -100,24 +100,24 @@ module _ (p : Point) where
 
 pub record Passing (o : Outline) (i : ℕ) (p : Point) (lo en hi : List ℕ) (low high : ℕ) : Type 0 where
   pub at : p ≡ cornerAt o i
-  pub lo-size : length lo ≡ 256
-  pub en-size : length en ≡ 256
-  pub hi-size : length hi ≡ 256
+  pub lo-size : length lo ≡ corners
+  pub en-size : length en ≡ corners
+  pub hi-size : length hi ≡ corners
   pub two : (r : ℕ) → r < side → keptTwo r p (drop i (o .letters)) (record { one = rows lo r; two = rows en r }) ≡ keptSides o r
   pub last : (r : ℕ) → r < side → greatestOver (alongRow r) (λ (q : Point). q .col) p (drop i (o .letters)) (rows hi r) ≡ lastSide o r
   pub lowest : leastOver (λ q a. true) (λ (q : Point). q .row) p (drop i (o .letters)) low ≡ lowestCorner o
   pub highest : greatestOver (λ q a. true) (λ (q : Point). q .row) p (drop i (o .letters)) high ≡ highestCorner o
 
-pub passing-start : (o : Outline) → Passing o 0 (o .start) (replicate 256 255) (replicate 256 255) (replicate 256 0) 255 0
+pub passing-start : (o : Outline) → Passing o 0 (o .start) (replicate corners side) (replicate corners side) (replicate corners 0) side 0
 unfolding lastSide lowestCorner highestCorner
 passing-start o =
     record {
       at = sym (corner-zero o);
-      lo-size = length-replicate {A = ℕ} 256 255;
-      en-size = length-replicate {A = ℕ} 256 255;
-      hi-size = length-replicate {A = ℕ} 256 0;
-      two = λ r h. let e = getD-replicate {A = ℕ} 256 r 255 0 (omega arith) in ap (λ (n : ℕ). keptTwo r (o .start) (o .letters) (record { one = n; two = n })) e;
-      last = λ r h. ap (greatestOver (alongRow r) (λ q. q .col) (o .start) (o .letters)) (getD-replicate {A = ℕ} 256 r 0 0 (omega arith));
+      lo-size = length-replicate {A = ℕ} corners side;
+      en-size = length-replicate {A = ℕ} corners side;
+      hi-size = length-replicate {A = ℕ} corners 0;
+      two = λ r h. let e = getD-replicate {A = ℕ} corners r side 0 (omega arith) in ap (λ (n : ℕ). keptTwo r (o .start) (o .letters) (record { one = n; two = n })) e;
+      last = λ r h. ap (greatestOver (alongRow r) (λ q. q .col) (o .start) (o .letters)) (getD-replicate {A = ℕ} corners r 0 0 (omega arith));
       lowest = refl;
       highest = refl;
     }
@@ -135,7 +135,7 @@ passing-end o i p lo en hi low high l k =
     }
 
 -- The corner is on the chart
-pub passing-on : (o : Outline) (i : ℕ) (p : Point) (lo en hi : List ℕ) (low high : ℕ) → Simple o → i < size o → Passing o i p lo en hi low high → (p .col < 256) × (p .row < 256)
+pub passing-on : (o : Outline) (i : ℕ) (p : Point) (lo en hi : List ℕ) (low high : ℕ) → Simple o → i < size o → Passing o i p lo en hi low high → (p .col < corners) × (p .row < corners)
 passing-on o i p lo en hi low high s l k =
     let w = walked o s in
     (omega (arith, ap (λ (q : Point). q .col) (k .at), w .col-le i (omega arith)), omega (arith, ap (λ (q : Point). q .row) (k .at), w .row-le i (omega arith)))

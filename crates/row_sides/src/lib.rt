@@ -1,13 +1,18 @@
 // Finds the first, the second and the last side of each row of an outline in one pass over its letters. A side is a step up or down.
+use chart::CORNERS;
 use chart::Point;
+use chart::SIDE;
 ghost use Prim.Native.Nat.{ℕ, _<_, min, max};
 ghost use mathlib.Core.Path.{_≡_};
-ghost use Rattle.chart.specs.Limits.{side};
+ghost use Rattle.chart.specs.Limits.{side, corners};
 ghost use Rattle.chart.specs.Outline.{outline};
 ghost use Rattle.lattice.specs.Chart.{step};
 ghost use Rattle.lattice.specs.Refusals.{Simple};
 ghost use Rattle.witness.specs.parts.Kept.{keepTwo};
 ghost use Rattle.row_sides.specs.parts.Passed.{Tells, Passed};
+
+// The index of no row of the chart.
+const NO_ROW: usize = SIDE as usize;
 
 // The minimum and the maximum of two numbers.
 fn lesser(a: u16, b: u16) -> u16
@@ -24,7 +29,7 @@ fn greater(a: u16, b: u16) -> u16
 
 // The row along which a letter steps from a corner at height `row`, or 255, which is not a row of the chart.
 fn along(row: u16, letter: u8) -> usize
-    requires { ⌜ row < 256 ⌝ }
+    requires { ⌜ row < corners ⌝ }
     ensures { λ r. ⌜ Tells row letter r ⌝ }
 {
     if letter == 1 {
@@ -33,7 +38,7 @@ fn along(row: u16, letter: u8) -> usize
     if letter == 3 && 0 < row {
         return (row - 1) as usize;
     }
-    255
+    NO_ROW
 }
 
 // The two smallest different columns met.
@@ -56,7 +61,7 @@ fn keep(c: u16, one: u16, two: u16) -> Pair
 
 // The corner that a letter reaches.
 fn moved(p: Point, letter: u8) -> Point
-    requires { ⌜ (p .col < 256) × (p .row < 256) ⌝ }
+    requires { ⌜ (p .col < corners) × (p .row < corners) ⌝ }
     ensures { λ r. ⌜ r ≡ step p letter ⌝ }
 {
     let col = p.col;
@@ -78,9 +83,9 @@ fn moved(p: Point, letter: u8) -> Point
 
 // What the pass keeps: the first, the second and the last side of each row, and the rows of the lowest and the highest corner.
 pub struct Sides {
-    pub lo: [u16; 256],
-    pub en: [u16; 256],
-    pub hi: [u16; 256],
+    pub lo: [u16; CORNERS],
+    pub en: [u16; CORNERS],
+    pub hi: [u16; CORNERS],
     pub low: u16,
     pub high: u16,
 }
@@ -90,10 +95,10 @@ pub fn pass(s: Point, w: &[u8]) -> Sides
     requires { ⌜ Simple (outline s (now w)) ⌝ }
     ensures { λ r. ⌜ Passed (outline s (now (w .entry))) (r .lo) (r .en) (r .hi) (r .low) (r .high) ⌝ }
 {
-    let mut lo = [255u16; 256];
-    let mut en = [255u16; 256];
-    let mut hi = [0u16; 256];
-    let mut low = 255u16;
+    let mut lo = [SIDE; CORNERS];
+    let mut en = [SIDE; CORNERS];
+    let mut hi = [0u16; CORNERS];
+    let mut low = SIDE;
     let mut high = 0u16;
     let mut p = s;
     let mut i = 0;

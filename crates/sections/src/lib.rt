@@ -1,4 +1,5 @@
 // Whether a section is convex. A section is a plane of layers, each with one interval of marked cells, or none.
+use chart::SIDE;
 ghost use Prim.Native.Nat.{ℕ, suc, _+_, _-_, _*_, _≤_, _<_, min, max};
 ghost use mathlib.Core.Path.{_≡_};
 ghost use Rattle.chart.specs.Limits.{side};
@@ -9,6 +10,9 @@ pub const LAYERS: usize = 16;
 
 // The last of them.
 pub const LAST_LAYER: u8 = 15;
+
+// One past the last cell of a layer.
+const END: usize = SIDE as usize;
 
 // The marked cells of layer `l` are those from `lo[l]` up to but not including `past[l]`.
 pub struct Section {
@@ -131,7 +135,7 @@ fn alone(lo: &[u8; LAYERS], past: &[u8; LAYERS], j: usize) -> Reach
             high: number(past, j),
         }
     } else {
-        Reach { low: 255, high: 0 }
+        Reach { low: END, high: 0 }
     }
 }
 

@@ -18,18 +18,18 @@ use Rattle.windows.specs.Windows.{window}
 use Rattle.windows.proofs.Slots.{window-paste, window-paste-before, window-paste-after, order}
 use Rattle.windows.proofs.Fills.{window-replicate}
 use Rattle.span_list.specs.declared.Ends.{Ends}
-use Rattle.span_list.specs.SpanList.{spansAt, SpansPut, endsAt}
+use Rattle.span_list.specs.SpanList.{slotBytes, spansAt, SpansPut, endsAt}
 
 -- ---- read
 
 module _ (rows : List ℕ) (s : ℕ) where
-  pub first-at : (r : ℕ) → r < side → rowOf (spansAt rows s .first) r ≡ getD rows (510 * s + r) 0
+  pub first-at : (r : ℕ) → r < side → rowOf (spansAt rows s .first) r ≡ getD rows (slotBytes * s + r) 0
   unfolding spansAt
-  first-at r h = getD-take side (drop (510 * s) rows) r 0 h ∙ getD-drop (510 * s) rows r 0
+  first-at r h = getD-take side (drop (slotBytes * s) rows) r 0 h ∙ getD-drop (slotBytes * s) rows r 0
 
-  pub past-at : (r : ℕ) → r < side → rowOf (spansAt rows s .past) r ≡ getD rows (510 * s + r + 255) 0
+  pub past-at : (r : ℕ) → r < side → rowOf (spansAt rows s .past) r ≡ getD rows (slotBytes * s + r + side) 0
   unfolding spansAt
-  past-at r h = getD-take side (drop (510 * s + side) rows) r 0 h ∙ getD-drop (510 * s + side) rows r 0 ∙ ap (λ (i : ℕ). getD rows i 0) (omega arith)
+  past-at r h = getD-take side (drop (slotBytes * s + side) rows) r 0 h ∙ getD-drop (slotBytes * s + side) rows r 0 ∙ ap (λ (i : ℕ). getD rows i 0) (omega arith)
 
   -- From the two bytes of a row
   module _ (r : ℕ) (h : r < side) (e : Ends) (is : e ≡ endsAt rows s r) where
@@ -49,31 +49,31 @@ module _ (rows : List ℕ) (s : ℕ) where
 
 -- ---- written
 
-module _ (rows : List ℕ) (s : ℕ) (x : Spans) (room : 510 * s + 510 ≤ length rows) (left : length (x .first) ≡ side) (right : length (x .past) ≡ side) where
+module _ (rows : List ℕ) (s : ℕ) (x : Spans) (room : slotBytes * s + slotBytes ≤ length rows) (left : length (x .first) ≡ side) (right : length (x .past) ≡ side) where
   abbrev rows₁ : List ℕ
-  rows₁ = paste rows (510 * s) (x .first) side
+  rows₁ = paste rows (slotBytes * s) (x .first) side
 
   abbrev rows₂ : List ℕ
-  rows₂ = paste rows₁ (510 * s + side) (x .past) side
+  rows₂ = paste rows₁ (slotBytes * s + side) (x .past) side
 
-  room₁ : 510 * s + side ≤ length rows
+  room₁ : slotBytes * s + side ≤ length rows
   room₁ = omega arith
 
   size₁ : length rows₁ ≡ length rows
-  size₁ = length-paste rows (510 * s) (x .first) side room₁ (omega arith)
+  size₁ = length-paste rows (slotBytes * s) (x .first) side room₁ (omega arith)
 
-  room₂ : 510 * s + side + side ≤ length rows₁
+  room₂ : slotBytes * s + side + side ≤ length rows₁
   room₂ = omega (arith, size₁)
 
-  before : (b : ℕ) → b + side ≤ 510 * s → window b side rows₂ ≡ window b side rows
+  before : (b : ℕ) → b + side ≤ slotBytes * s → window b side rows₂ ≡ window b side rows
   before b k =
-      window-paste-before rows₁ (510 * s + side) side (x .past) room₂ right b side (omega arith)
-      ∙ window-paste-before rows (510 * s) side (x .first) room₁ left b side k
+      window-paste-before rows₁ (slotBytes * s + side) side (x .past) room₂ right b side (omega arith)
+      ∙ window-paste-before rows (slotBytes * s) side (x .first) room₁ left b side k
 
-  after : (b : ℕ) → 510 * s + 510 ≤ b → window b side rows₂ ≡ window b side rows
+  after : (b : ℕ) → slotBytes * s + slotBytes ≤ b → window b side rows₂ ≡ window b side rows
   after b k =
-      window-paste-after rows₁ (510 * s + side) side (x .past) room₂ right b side (omega arith)
-      ∙ window-paste-after rows (510 * s) side (x .first) room₁ left b side (omega arith)
+      window-paste-after rows₁ (slotBytes * s + side) side (x .past) room₂ right b side (omega arith)
+      ∙ window-paste-after rows (slotBytes * s) side (x .first) room₁ left b side (omega arith)
 
   halves-put : SpansPut rows rows₂ s x
   unfolding spansAt
@@ -81,24 +81,24 @@ module _ (rows : List ℕ) (s : ℕ) (x : Spans) (room : 510 * s + 510 ≤ lengt
       record {
         here =
             ap₂ (λ (a b : List ℕ). record { first = a; past = b })
-            (window-paste-before rows₁ (510 * s + side) side (x .past) room₂ right (510 * s) side (omega arith) ∙ window-paste rows (510 * s) side (x .first) room₁ left)
-            (window-paste rows₁ (510 * s + side) side (x .past) room₂ right);
+            (window-paste-before rows₁ (slotBytes * s + side) side (x .past) room₂ right (slotBytes * s) side (omega arith) ∙ window-paste rows (slotBytes * s) side (x .first) room₁ left)
+            (window-paste rows₁ (slotBytes * s + side) side (x .past) room₂ right);
         elsewhere = λ j q.
-            ⊎-elim (λ o. rw (before (510 * j) (omega arith), before (510 * j + side) (omega arith)))
-            (λ o. rw (after (510 * j) (omega arith), after (510 * j + side) (omega arith))) (order j s q);
-        size = length-paste rows₁ (510 * s + side) (x .past) side room₂ (omega arith) ∙ size₁;
+            ⊎-elim (λ o. rw (before (slotBytes * j) (omega arith), before (slotBytes * j + side) (omega arith)))
+            (λ o. rw (after (slotBytes * j) (omega arith), after (slotBytes * j + side) (omega arith))) (order j s q);
+        size = length-paste rows₁ (slotBytes * s + side) (x .past) side room₂ (omega arith) ∙ size₁;
       }
 
   -- From what each copy left
-  pub copies-put : (r₁ : List ℕ) → r₁ ≡ paste rows (510 * s) (x .first) side → (r₂ : List ℕ) → r₂ ≡ paste r₁ (510 * s + 255) (x .past) side → SpansPut rows r₂ s x
+  pub copies-put : (r₁ : List ℕ) → r₁ ≡ paste rows (slotBytes * s) (x .first) side → (r₂ : List ℕ) → r₂ ≡ paste r₁ (slotBytes * s + side) (x .past) side → SpansPut rows r₂ s x
   copies-put r₁ e₁ r₂ e₂ = rw (e₂, e₁) halves-put
 
-pub zeros-put : (rows : List ℕ) (s : ℕ) → 510 * s + 510 ≤ length rows → (r₁ : List ℕ) → r₁ ≡ paste rows (510 * s) (replicate side 0) side
-    → (r₂ : List ℕ) → r₂ ≡ paste r₁ (510 * s + 255) (replicate side 0) side → SpansPut rows r₂ s noSpans
+pub zeros-put : (rows : List ℕ) (s : ℕ) → slotBytes * s + slotBytes ≤ length rows → (r₁ : List ℕ) → r₁ ≡ paste rows (slotBytes * s) (replicate side 0) side
+    → (r₂ : List ℕ) → r₂ ≡ paste r₁ (slotBytes * s + side) (replicate side 0) side → SpansPut rows r₂ s noSpans
 unfolding noSpans
 zeros-put rows s room r₁ e₁ r₂ e₂ = copies-put rows s noSpans room (length-replicate {A = ℕ} side 0) (length-replicate {A = ℕ} side 0) r₁ e₁ r₂ e₂
 
 -- A list of zeros has no cell in any slot
-pub zeros-none : (s n : ℕ) → 510 * s + 510 ≤ n → spansAt (replicate n 0) s ≡ noSpans
+pub zeros-none : (s n : ℕ) → slotBytes * s + slotBytes ≤ n → spansAt (replicate n 0) s ≡ noSpans
 unfolding spansAt noSpans
-zeros-none s n h = rw (window-replicate {A = ℕ} (510 * s) side n 0 (omega arith), window-replicate {A = ℕ} (510 * s + side) side n 0 (omega arith))
+zeros-none s n h = rw (window-replicate {A = ℕ} (slotBytes * s) side n 0 (omega arith), window-replicate {A = ℕ} (slotBytes * s + side) side n 0 (omega arith))

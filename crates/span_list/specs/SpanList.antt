@@ -9,11 +9,15 @@ use Rattle.spans.specs.declared.Spans.{Spans}
 use Rattle.windows.specs.Windows.{window}
 use Rattle.span_list.specs.declared.Ends.{Ends}
 
+-- How many bytes a slot has
+abbrev pub slotBytes : ℕ
+slotBytes = 510
+
 abbrev pub spansFrom : List ℕ → List ℕ → Spans
 spansFrom first past = record { first = first; past = past }
 
 unfoldable pub spansAt : List ℕ → ℕ → Spans
-spansAt rows s = record { first = window (510 * s) side rows; past = window (510 * s + side) side rows }
+spansAt rows s = record { first = window (slotBytes * s) side rows; past = window (slotBytes * s + side) side rows }
 
 -- The second list has these spans at slot s and otherwise equals the first
 pub record SpansPut (rows rows′ : List ℕ) (s : ℕ) (x : Spans) : Type 0 where
@@ -23,4 +27,4 @@ pub record SpansPut (rows rows′ : List ℕ) (s : ℕ) (x : Spans) : Type 0 whe
 
 -- The two bytes of row r of slot s: its first column, and the column past its last
 unfoldable pub endsAt : List ℕ → ℕ → ℕ → Ends
-endsAt rows s r = record { first = getD rows (510 * s + r) 0; past = getD rows (510 * s + r + side) 0 }
+endsAt rows s r = record { first = getD rows (slotBytes * s + r) 0; past = getD rows (slotBytes * s + r + side) 0 }

@@ -11,7 +11,7 @@ ghost use lib.Seq.{paste};
 ghost use Rattle.chart.specs.Limits.{side};
 ghost use Rattle.chart.specs.Outline.{outline};
 ghost use Rattle.spans.specs.Spans.{noSpans, spansOf, inSpans, spanAt};
-ghost use Rattle.span_list.specs.SpanList.{spansFrom, spansAt, SpansPut, endsAt};
+ghost use Rattle.span_list.specs.SpanList.{slotBytes, spansFrom, spansAt, SpansPut, endsAt};
 
 // How many bytes a slot has.
 pub const WIDTH: usize = 2 * ROWS;
@@ -43,7 +43,7 @@ fn put_zeros(at: usize, rows: &mut [u8])
 
 // Writes these first columns and these columns past the last to the slot.
 fn put<'a>(rows: &mut [u8], slot: usize, first: &'a [u8; ROWS], past: &'a [u8; ROWS])
-    requires { ⌜ 510 * slot + 510 ≤ length (now rows) ⌝ }
+    requires { ⌜ slotBytes * slot + slotBytes ≤ length (now rows) ⌝ }
     ensures { λ _. ⌜ SpansPut (now (rows .entry)) (now (rows .exit)) slot (spansFrom (now (first .entry)) (now (past .entry))) ⌝ }
 {
     let at = WIDTH * slot;
@@ -53,7 +53,7 @@ fn put<'a>(rows: &mut [u8], slot: usize, first: &'a [u8; ROWS], past: &'a [u8; R
 
 // Writes the rows of an outline to the slot. They are found here, so no caller has them on its stack while it judges the outline.
 pub fn put_outline(rows: &mut [u8], slot: usize, start: Point, letters: &[u8])
-    requires { ⌜ 510 * slot + 510 ≤ length (now rows) ⌝ }
+    requires { ⌜ slotBytes * slot + slotBytes ≤ length (now rows) ⌝ }
     ensures { λ _. ⌜ SpansPut (now (rows .entry)) (now (rows .exit)) slot (spansOf (outline start (now (letters .entry)))) ⌝ }
 {
     let spans = spans_of(start, letters);
@@ -62,7 +62,7 @@ pub fn put_outline(rows: &mut [u8], slot: usize, start: Point, letters: &[u8])
 
 // Makes every row of the slot empty.
 pub fn put_none(rows: &mut [u8], slot: usize)
-    requires { ⌜ 510 * slot + 510 ≤ length (now rows) ⌝ }
+    requires { ⌜ slotBytes * slot + slotBytes ≤ length (now rows) ⌝ }
     ensures { λ _. ⌜ SpansPut (now (rows .entry)) (now (rows .exit)) slot noSpans ⌝ }
 {
     let at = WIDTH * slot;
@@ -83,7 +83,7 @@ fn wide(x: u8) -> u16
 }
 
 fn ends_at(rows: &[u8], slot: usize, row: u16) -> Ends
-    requires { ⌜ (510 * slot + 510 ≤ length (now rows)) × (row < side) ⌝ }
+    requires { ⌜ (slotBytes * slot + slotBytes ≤ length (now rows)) × (row < side) ⌝ }
     ensures { λ r. ⌜ r ≡ endsAt (now (rows .entry)) slot row ⌝ }
 {
     let at = WIDTH * slot + row as usize;
@@ -95,7 +95,7 @@ fn ends_at(rows: &[u8], slot: usize, row: u16) -> Ends
 
 // Whether a cell is within the columns of its row.
 pub fn within(rows: &[u8], slot: usize, cell: Point) -> bool
-    requires { ⌜ (510 * slot + 510 ≤ length (now rows)) × (cell .row < side) ⌝ }
+    requires { ⌜ (slotBytes * slot + slotBytes ≤ length (now rows)) × (cell .row < side) ⌝ }
     ensures { λ b. ⌜ b ≡ inSpans (spansAt (now (rows .entry)) slot) (cell .col) (cell .row) ⌝ }
 {
     let ends = ends_at(rows, slot, cell.row);
@@ -104,7 +104,7 @@ pub fn within(rows: &[u8], slot: usize, cell: Point) -> bool
 
 // The columns of a row.
 pub fn span_at(rows: &[u8], slot: usize, row: u16) -> Span
-    requires { ⌜ (510 * slot + 510 ≤ length (now rows)) × (row < side) ⌝ }
+    requires { ⌜ (slotBytes * slot + slotBytes ≤ length (now rows)) × (row < side) ⌝ }
     ensures { λ r. ⌜ r ≡ spanAt (spansAt (now (rows .entry)) slot) row ⌝ }
 {
     let ends = ends_at(rows, slot, row);

@@ -11,7 +11,7 @@ ghost use Rattle.chart.specs.Outline.{outline};
 ghost use Rattle.spans.specs.Spans.{lesser as lesserOf, greater as greaterOf, noSpans, spansOf, inSpans, spanAt, spanReply};
 
 // The number of rows of cells on the chart.
-pub const ROWS: usize = 255;
+pub const ROWS: usize = SIDE as usize;
 
 // The enclosed columns of a row: every column from the first to the last and no other, or none.
 pub enum Span {

@@ -21,7 +21,7 @@ use Rattle.survey.specs.parts.Numbers.{colNumber, colStride, offChart, r
 module _ (p : Point) (i : ℕ) (h : OnChart p) (small : i < 1023) where
   pub col-stays : offChart (colNumber p i) ≡ false
   unfolding offChart
-  col-stays = rw (le-ltb 255 (colNumber p i / 1024 % 1024) (omega arith), le-ltb 255 (colNumber p i / 1048576) (omega arith))
+  col-stays = rw (le-ltb side (colNumber p i / 1024 % 1024) (omega arith), le-ltb side (colNumber p i / 1048576) (omega arith))
 
   -- What holds of each of the four letters where there is room for its step holds of every letter that stays on the chart
   by-letter : (P : ℕ → Type 0) → (p .col < side → P 0) → (p .row < side → P 1) → (0 < p .col → P 2) → (0 < p .row → P 3)
@@ -47,17 +47,17 @@ module _ (p : Point) (i : ℕ) (h : OnChart p) (small : i < 1023) where
         (λ m. omega arith) (λ m. omega arith) (λ m. omega arith) (λ m. omega arith) a l
 
 -- A number above 255 in its row, or in its column
-off-row : (n : ℕ) → 255 < n / 1024 % 1024 → offChart n ≡ true
+off-row : (n : ℕ) → side < n / 1024 % 1024 → offChart n ≡ true
 unfolding offChart
-off-row n h = rw (lt-ltb 255 (n / 1024 % 1024) h)
+off-row n h = rw (lt-ltb side (n / 1024 % 1024) h)
 
-off-col : (n : ℕ) → 255 < n / 1048576 → offChart n ≡ true
+off-col : (n : ℕ) → side < n / 1048576 → offChart n ≡ true
 unfolding offChart
-off-col n h = go (ltb 255 (n / 1024 % 1024))
+off-col n h = go (ltb side (n / 1024 % 1024))
   where
-    go : (b : Bool) → (b || ltb 255 (n / 1048576)) ≡ true
+    go : (b : Bool) → (b || ltb side (n / 1048576)) ≡ true
     go true = refl
-    go false = lt-ltb 255 (n / 1048576) h
+    go false = lt-ltb side (n / 1048576) h
 
 pub col-leaves : (p : Point) (i : ℕ) → OnChart p → i < 1023 → (a : ℕ) → a < 4 → leaves p a ≡ true → offChart ((colNumber p i + colStride a) % 4294967296) ≡ true
 unfolding leaves

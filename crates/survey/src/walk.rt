@@ -1,6 +1,5 @@
 // One walk along the letters as sent, for refusals 4, 5 and 6 and for W, N, E and S. The current corner is two numbers, by columns and by
-// rows,
-// with its place in both. The corners met are a set of numbers. The least and the greatest number of either kind are kept.
+// rows, with its place in both. The corners met are a set of numbers. The least and the greatest number of either kind are kept.
 use crate::Corners;
 use chart::Point;
 use chart::SIDE;
@@ -18,6 +17,9 @@ ghost use Rattle.survey.specs.parts.Walks.{Begun, Out, RestOf, WalkedAs}
 const ROW_UNIT: u32 = 1024;
 
 const COL_UNIT: u32 = 1048576;
+
+// The last row and the last column of corners.
+const LAST: u32 = SIDE as u32;
 
 // As many rows as a number by columns tells apart.
 const ROWS: u32 = 1024;
@@ -87,7 +89,7 @@ fn row_stride(letter: u8) -> u32
 fn is_off_chart(number: u32) -> bool
     ensures { λ r. ⌜ r ≡ offChart number ⌝ }
 {
-    (255 < number / ROW_UNIT % ROWS) | (255 < number / COL_UNIT)
+    (LAST < number / ROW_UNIT % ROWS) | (LAST < number / COL_UNIT)
 }
 
 // The lower and the higher of two numbers.

@@ -1,4 +1,6 @@
 // A script in the making: calls of eleven bytes each.
+use wire::BYTES;
+
 pub(crate) const SIZE: usize = 45056;
 
 // Bytes past the end are 9, which is not a call. The next calls are of this party, at this place.
@@ -48,7 +50,7 @@ impl Script {
     // Appends a call if there is space for it.
     fn put(mut self, number: u8, x: u32, y: u32) -> Self {
         let at = self.end;
-        if at <= SIZE - 11 {
+        if at <= SIZE - BYTES {
             self.bytes[at] = number;
             self.bytes[at + 1] = self.party;
             self.bytes[at + 2] = self.place;
@@ -60,7 +62,7 @@ impl Script {
             self.bytes[at + 8] = low(y / 256);
             self.bytes[at + 9] = low(y / 65536);
             self.bytes[at + 10] = low(y / 16777216);
-            self.end = at + 11;
+            self.end = at + BYTES;
         }
         self
     }

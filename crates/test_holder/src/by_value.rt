@@ -9,6 +9,7 @@ use wire::Decoded;
 use wire::received;
 ghost use Prim.Native.Nat.{_+_, _*_, _≤_, _<_};
 ghost use lib.ListN.{length};
+ghost use Rattle.wire.specs.Wire.{callWidth, replyWidth};
 
 // The next holder, and whether its reply equals the one in the list.
 struct Step {
@@ -38,7 +39,7 @@ fn answer(holder: Holder, call: &[u8], expected: &[u16]) -> Step {
 
 // How many replies differ from those by value.
 pub(crate) fn differing(script: &[u8], replies: &[u16], count: usize) -> usize
-    requires { ⌜ (11 * count ≤ length (now script)) × (7 * count ≤ length (now replies)) ⌝ }
+    requires { ⌜ (callWidth * count ≤ length (now script)) × (replyWidth * count ≤ length (now replies)) ⌝ }
 {
     let mut holder = holder::fresh();
     let mut others = 0;

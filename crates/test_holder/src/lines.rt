@@ -3,6 +3,7 @@ use chart::reply::NUMBERS;
 use libc::STDOUT_FILENO;
 ghost use Prim.Native.Nat.{_+_, _*_, _≤_, _<_};
 ghost use lib.ListN.{length};
+ghost use Rattle.chart.specs.Fields.{replyWidth};
 
 pub(crate) fn same(a: &[u16], b: &[u16]) -> bool {
     if a.len() != b.len() {
@@ -20,7 +21,7 @@ pub(crate) fn same(a: &[u16], b: &[u16]) -> bool {
 
 // The numbers of one reply.
 fn reply(replies: &[u16], i: usize) -> &[u16]
-    requires { ⌜ 7 * i + 7 ≤ length (now replies) ⌝ }
+    requires { ⌜ replyWidth * i + replyWidth ≤ length (now replies) ⌝ }
 {
     let from = NUMBERS * i;
     let to = from + NUMBERS;
@@ -29,7 +30,7 @@ fn reply(replies: &[u16], i: usize) -> &[u16]
 
 // Where the replies equal to the one at `i` end.
 fn run_end(replies: &[u16], i: usize, count: usize) -> usize
-    requires { ⌜ (i < count) × (7 * count ≤ length (now replies)) ⌝ }
+    requires { ⌜ (i < count) × (replyWidth * count ≤ length (now replies)) ⌝ }
     ensures { λ r. ⌜ (i < r) × (r ≤ count) ⌝ }
 {
     let mut end = i + 1;
@@ -59,7 +60,7 @@ pub(crate) fn write_numbers(list: &[u16]) {
 
 // A line for each reply. Equal replies in a row share one line with their count.
 pub(crate) fn write_replies(replies: &[u16], count: usize)
-    requires { ⌜ 7 * count ≤ length (now replies) ⌝ }
+    requires { ⌜ replyWidth * count ≤ length (now replies) ⌝ }
 {
     let mut i = 0;
     while i < count {

@@ -9,8 +9,8 @@ pub fn of_witnessed(w: Witnessed) -> Fields
     ensures { λ f. ⌜ f ≡ witnessedFields w ⌝ }
 {
     match w {
-        Witnessed::Found { cell } => reply::accepted(0, 0, cell),
-        Witnessed::None => reply::said(5),
+        Witnessed::Found { cell } => reply::accepted(reply::NO_WORD, 0, cell),
+        Witnessed::None => reply::said(reply::NONE),
         Witnessed::Refused(why) => reply::of_refusal(why),
     }
 }

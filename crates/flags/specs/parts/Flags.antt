@@ -6,6 +6,10 @@ use lib.ListN.{getD, set, replicate}
 use lib.Bits.{bitOr}
 use lib.Dec.{eqb, ltb}
 
+-- How many numbers have a bit
+abbrev pub flagCount : ℕ
+flagCount = 65536
+
 -- Bit b of a word
 abbrev pub bitAt : ℕ → ℕ → ℕ
 bitAt word b = word / 2 ^ b % 2
@@ -19,8 +23,8 @@ noNumbers = replicate 1024 0
 
 -- n is in the set. A number above 65,535 never is
 unfoldable pub isSet : List ℕ → ℕ → Bool
-isSet flags n = ltb n 65536 && eqb (bitAt (wordOf flags n) (n / 1024)) 1
+isSet flags n = ltb n flagCount && eqb (bitAt (wordOf flags n) (n / 1024)) 1
 
 -- The set with n put into it, where n is at most 65,535
 unfoldable pub withNumber : List ℕ → ℕ → List ℕ
-withNumber flags n = cond (ltb n 65536) (set flags (n % 1024) (bitOr (wordOf flags n) (2 ^ (n / 1024)))) flags
+withNumber flags n = cond (ltb n flagCount) (set flags (n % 1024) (bitOr (wordOf flags n) (2 ^ (n / 1024)))) flags

@@ -3,7 +3,7 @@ use Prim.Native.Nat.{ℕ, _<_}
 use mathlib.Core.Path.{_≡_}
 use mathlib.Core.List.{List}
 use lib.Dec.{eqb}
-use Rattle.chart.specs.Limits.{side}
+use Rattle.chart.specs.Limits.{corners, side}
 use Rattle.chart.specs.declared.Point.{Point}
 use Rattle.chart.specs.Outline.{Outline}
 use Rattle.rows.specs.parts.Rows.{rows}
@@ -12,7 +12,7 @@ use Rattle.witness.specs.Gap.{secondSide}
 
 -- The letter a from a corner at height y steps along row x. If x is 255, it steps along no row of the chart
 pub record Tells (y a x : ℕ) : Type 0 where
-  pub below : x < 256
+  pub below : x < corners
   pub tells : (p : Point) → p .row ≡ y → (r : ℕ) → r < side → alongRow r p a ≡ eqb x r
 
 -- The first, the second and the last side of each row, and the rows of the lowest and the highest corner

@@ -5,7 +5,7 @@ use mathlib.Core.Path.{_≡_}
 use mathlib.Core.List.{List}
 use lib.ListN.{length, length-replicate}
 use borrow.Author.Needs.{needs}
-use Rattle.chart.specs.Limits.{side}
+use Rattle.chart.specs.Limits.{corners, side}
 use Rattle.chart.specs.Outline.{Outline}
 use Rattle.rows.specs.parts.Rows.{rows, RowEnds}
 use Rattle.spans.specs.Spans.{lesser, greater, leftSide, rightSide, spansOf}
@@ -15,7 +15,7 @@ use Rattle.spans.proofs.spans_of.Statement.{statement}
 use Rattle.spans.proofs.spans_of.Tie as tie
 
 -- The columns of a row are corner columns of the chart
-columns-le : {o : Outline} {up down : List ℕ} → RowEnds o up down → (k : ℕ) → k < 256 → (rows up k ≤ side) × (rows down k ≤ side)
+columns-le : {o : Outline} {up down : List ℕ} → RowEnds o up down → (k : ℕ) → k < corners → (rows up k ≤ side) × (rows down k ≤ side)
 columns-le {o} ends k h = (rw (ends .lo-up k h) (up-le o k), rw (ends .hi-down k h) (down-le o k))
 
 same : (f : ℕ → ℕ → ℕ) {a b c d : ℕ} → a ≡ c → b ≡ d → f a b ≡ f c d
@@ -35,7 +35,7 @@ row-ends-requires : tie.Need-row-ends-requires Inv-loop μ-loop
 row-ends-requires c κs = search needs
 
 loop-holds : tie.Need-loop-holds Inv-loop μ-loop
-loop-holds c = (omega arith, filled-start _ side _ (length-replicate {A = ℕ} 255 0), filled-start _ side _ (length-replicate {A = ℕ} 255 0))
+loop-holds c = (omega arith, filled-start _ side _ (length-replicate {A = ℕ} side 0), filled-start _ side _ (length-replicate {A = ℕ} side 0))
 
 mul-a : tie.Need-mul-a Inv-loop μ-loop
 mul-a c = search needs

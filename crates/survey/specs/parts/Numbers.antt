@@ -1,6 +1,5 @@
 -- The corner at a place of a walk as a number of 32 bits, by columns and by rows, and what a letter adds to it, modulo 2^32: 0 right, 1 up,
--- 2 left,
--- 3 down. The place has the lowest bits, and every letter adds one to it.
+-- 2 left, 3 down. The place has the lowest bits, and every letter adds one to it.
 use Prim.Native.Nat.{ℕ, zero, suc, _+_, _-_, _*_, _/_, _%_}
 use mathlib.Core.Bool.{Bool, cond, _||_}
 use lib.Dec.{ltb}
@@ -20,7 +19,7 @@ colStride (suc (suc (suc a))) = 4294966273
 
 -- Off the chart the row or the column is above 255; one below 0 wraps
 unfoldable pub offChart : ℕ → Bool
-offChart n = ltb 255 (n / 1024 % 1024) || ltb 255 (n / 1048576)
+offChart n = ltb side (n / 1024 % 1024) || ltb side (n / 1048576)
 
 -- By rows from the top and then by columns, eight bits for each and sixteen for the place. N has the least number, S the greatest
 abbrev pub rowNumber : Point → ℕ → ℕ

@@ -1,9 +1,14 @@
 -- Each arm returns the fields that the definition gives for its case.
-use mathlib.Core.Path.{sym, ap}
+use mathlib.Core.Path.{_≡_, sym, ap, _∙_}
+use Rattle.chart.specs.declared.Fields.{Fields}
+use Rattle.chart.specs.declared.Refusal.{Refusal}
 use Rattle.chart.specs.Fields.{refusalFields}
 use borrow.Author.Needs.{needs}
 use Rattle.chart.proofs.reply.of_refusal.Statement.{statement}
 use Rattle.chart.proofs.reply.of_refusal.Tie as tie
+
+shown : {r s : Refusal} {f : Fields} → r ≡ s → f ≡ refusalFields s → f ≡ refusalFields r
+shown e p = p ∙ ap refusalFields (sym e)
 
 enum-told : tie.Need-enum-told
 enum-told c = search needs
@@ -72,22 +77,22 @@ numbered-requires-6 : tie.Need-numbered-requires-6
 numbered-requires-6 c κs = search needs
 
 returns : tie.Need-returns
-returns c = cc
+returns c = shown (c .before .enum-told .given .1) (c .numbered .ensures)
 
 returns-2 : tie.Need-returns-2
-returns-2 c = cc
+returns-2 c = shown (c .before .enum-told2 .given .1) (c .numbered2 .ensures)
 
 returns-3 : tie.Need-returns-3
-returns-3 c = cc
+returns-3 c = shown (c .before .before .f .given .1) (c .placed .ensures)
 
 returns-4 : tie.Need-returns-4
-returns-4 c = cc
+returns-4 c = shown (c .before .before .f2 .given .1) (c .placed2 .ensures)
 
 returns-5 : tie.Need-returns-5
-returns-5 c = cc
+returns-5 c = shown (c .before .enum-told3 .given .1) (c .numbered3 .ensures)
 
 returns-6 : tie.Need-returns-6
-returns-6 c = cc
+returns-6 c = shown (c .before .before .f3 .given .1) (c .placed3 .ensures)
 
 returns-7 : tie.Need-returns-7
 returns-7 c = cc
@@ -96,16 +101,16 @@ returns-8 : tie.Need-returns-8
 returns-8 c = sym (ap refusalFields (c .before .f5 .given .1))
 
 returns-9 : tie.Need-returns-9
-returns-9 c = cc
+returns-9 c = shown (c .before .before .f6 .given .1) (c .placed4 .ensures)
 
 returns-10 : tie.Need-returns-10
-returns-10 c = cc
+returns-10 c = shown (c .before .enum-told4 .given .1) (c .numbered4 .ensures)
 
 returns-11 : tie.Need-returns-11
-returns-11 c = cc
+returns-11 c = shown (c .before .enum-told5 .given .1) (c .numbered5 .ensures)
 
 returns-12 : tie.Need-returns-12
-returns-12 c = cc
+returns-12 c = shown (c .before .enum-told6 .given .1) (c .numbered6 .ensures)
 
 pub of-refusal-spec : {M : Type 1} → statement M
 of-refusal-spec =

@@ -5,13 +5,13 @@ use lib.ListN.{length-set}
 use lib.Seq.{sets-eq}
 use borrow.Author.Needs.{needs}
 use borrow.Author.Tests.{le-leb, lt-leb}
-use Rattle.chart.specs.Fields.{numbersOf}
+use Rattle.chart.specs.Fields.{replyWidth, numbersOf}
 use Rattle.chart.proofs.ReplyLaws.{replyAfter-room, replyAfter-short}
 use Rattle.chart.proofs.reply.write.Statement.{statement}
 use Rattle.chart.proofs.reply.write.Tie as tie
 
 returns : tie.Need-returns
-returns c = (sym (lt-leb 7 _ (c .if1 .taken)), sym (replyAfter-short _ _ (c .if1 .taken)))
+returns c = (sym (lt-leb replyWidth _ (c .if1 .taken)), sym (replyAfter-short _ _ (c .if1 .taken)))
 
 slice-write-list : tie.Need-slice-write-list
 slice-write-list c = omega arith
@@ -42,7 +42,7 @@ unfolding numbersOf
 returns-2 c =
     let a = c .before .args in
     let room = c .if1 .left in
-    (sym (le-leb 7 _ room), sets-eq (numbersOf (a .f)) (a .list .now) 0 (omega arith) ∙ sym (replyAfter-room (a .f) (a .list .now) room))
+    (sym (le-leb replyWidth _ room), sets-eq (numbersOf (a .f)) (a .list .now) 0 (omega arith) ∙ sym (replyAfter-room (a .f) (a .list .now) room))
 
 pub write-spec : {M : Type 1} → statement M
 write-spec =

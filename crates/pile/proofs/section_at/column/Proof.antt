@@ -19,7 +19,7 @@ abbrev μ-loop : tie.MeasureT-loop
 μ-loop col ls lo₀ past₀ l₀ lo past l = layers - l
 
 loop-holds : tie.Need-loop-holds Inv-loop μ-loop
-loop-holds c = (omega arith, filled-start _ layers _ (length-replicate {A = ℕ} 16 0), filled-start _ layers _ (length-replicate {A = ℕ} 16 0))
+loop-holds c = (omega arith, filled-start _ layers _ (length-replicate {A = ℕ} layers 0), filled-start _ layers _ (length-replicate {A = ℕ} layers 0))
 
 mul-spans : tie.Need-mul-spans Inv-loop μ-loop
 mul-spans c = search needs

@@ -26,8 +26,8 @@ abbrev μ-loop : tie.MeasureT-loop
 loop-holds : tie.Need-loop-holds Inv-loop μ-loop
 loop-holds c = (
   omega arith,
-  filled-start _ layers _ (length-replicate {A = ℕ} 16 0),
-  filled-start _ layers _ (length-replicate {A = ℕ} 16 0),
+  filled-start _ layers _ (length-replicate {A = ℕ} layers 0),
+  filled-start _ layers _ (length-replicate {A = ℕ} layers 0),
   λ k h. absurd (omega arith),
 )
 
