@@ -113,9 +113,17 @@ same-length-2 c = search needs
 
 returns : tie.Need-returns
 returns c =
-    let s = c .before .before .before .before .before .before .before .before .before .before .before .before .before .before .before in
-    written-called _ _ _ _ (s .pre .0) (s .pre .1) _ (is-begin _ _ _ _ _ _ (c .before .before .before .before .before .before .before .before .before .before .match .keys1) (c .before .before .before .before .before .before .before .before .point .ensures)) _ _ (c .before .before .before .before .before .before .before .begin-of .ensures (s .args .letters .now) (s .args .rows .now) (s .args .numbers .now))
-    (λ f. record { letters = f .letters; rows = f .rows; numbers = f .numbers; heads = c .before .before .before .before .before .before .heads .given ∙ f .heads }) _ (c .before .before .before .before .of-reply .ensures) _ (c .before .before .write .ensures .0) _ (c .before .before .write .ensures .1)
+    let wrote = c .before .before in
+    let fields = wrote .before .before in
+    let heads = fields .before .before in
+    let answered = heads .before in
+    let read = answered .before in
+    let matched = read .before .before in
+    let s = matched .before .before .before .before .before in
+    written-called _ _ _ _ (s .pre .0) (s .pre .1) _ (is-begin _ _ _ _ _ _ (matched .match .keys1) (read .point .ensures)) _ _
+    (answered .begin-of .ensures (s .args .letters .now) (s .args .rows .now) (s .args .numbers .now))
+    (λ f. record { letters = f .letters; rows = f .rows; numbers = f .numbers; heads = heads .heads .given ∙ f .heads })
+    _ (fields .of-reply .ensures) _ (wrote .write .ensures .0) _ (wrote .write .ensures .1)
 
 same-length-3 : tie.Need-same-length-3
 same-length-3 c = search needs
@@ -128,9 +136,18 @@ same-length-5 c = search needs
 
 returns-2 : tie.Need-returns-2
 returns-2 c =
-    let s = c .before .before .before .before .before .before .before .before .before .before .before .before .before .before .before .before .before .before in
-    written-called _ _ _ _ (s .pre .0) (s .pre .1) _ (is-add _ _ _ _ _ _ (c .before .before .before .before .before .before .before .before .before .before .before .before .before .match .keys2) (c .before .before .before .before .before .before .before .before .before .before .letter .ensures)) _ _ (c .before .before .before .before .before .before .before .before .before .add-of .ensures (s .args .rows .now) (s .args .numbers .now))
-    (λ f. record { letters = c .before .before .before .before .before .before .before .before .letters .given ∙ f .letters; rows = f .rows; numbers = f .numbers; heads = c .before .before .before .before .before .before .heads2 .given ∙ f .heads }) _ (c .before .before .before .before .of-reply2 .ensures) _ (c .before .before .write2 .ensures .0) _ (c .before .before .write2 .ensures .1)
+    let wrote = c .before .before in
+    let fields = wrote .before .before in
+    let heads = fields .before .before in
+    let letters = heads .before .before in
+    let answered = letters .before in
+    let read = answered .before in
+    let matched = read .before .before .before in
+    let s = matched .before .before .before .before .before in
+    written-called _ _ _ _ (s .pre .0) (s .pre .1) _ (is-add _ _ _ _ _ _ (matched .match .keys2) (read .letter .ensures)) _ _
+    (answered .add-of .ensures (s .args .rows .now) (s .args .numbers .now))
+    (λ f. record { letters = letters .letters .given ∙ f .letters; rows = f .rows; numbers = f .numbers; heads = heads .heads2 .given ∙ f .heads })
+    _ (fields .of-reply2 .ensures) _ (wrote .write2 .ensures .0) _ (wrote .write2 .ensures .1)
 
 same-length-6 : tie.Need-same-length-6
 same-length-6 c = search needs
@@ -140,9 +157,16 @@ same-length-7 c = search needs
 
 returns-3 : tie.Need-returns-3
 returns-3 c =
-    let s = c .before .before .before .before .before .before .before .before .before .before .before .before .before .before in
-    written-called _ _ _ _ (s .pre .0) (s .pre .1) _ (is-drop _ _ _ _ _ (c .before .before .before .before .before .before .before .before .before .match .keys3)) _ _ (c .before .before .before .before .before .before .before .drop-of .ensures (s .args .letters .now) (s .args .rows .now) (s .args .numbers .now))
-    (λ f. record { letters = f .letters; rows = f .rows; numbers = f .numbers; heads = c .before .before .before .before .before .before .heads3 .given ∙ f .heads }) _ (c .before .before .before .before .of-reply3 .ensures) _ (c .before .before .write3 .ensures .0) _ (c .before .before .write3 .ensures .1)
+    let wrote = c .before .before in
+    let fields = wrote .before .before in
+    let heads = fields .before .before in
+    let answered = heads .before in
+    let matched = answered .before .before in
+    let s = matched .before .before .before .before .before in
+    written-called _ _ _ _ (s .pre .0) (s .pre .1) _ (is-drop _ _ _ _ _ (matched .match .keys3)) _ _
+    (answered .drop-of .ensures (s .args .letters .now) (s .args .rows .now) (s .args .numbers .now))
+    (λ f. record { letters = f .letters; rows = f .rows; numbers = f .numbers; heads = heads .heads3 .given ∙ f .heads })
+    _ (fields .of-reply3 .ensures) _ (wrote .write3 .ensures .0) _ (wrote .write3 .ensures .1)
 
 same-length-8 : tie.Need-same-length-8
 same-length-8 c = search needs
@@ -152,9 +176,16 @@ same-length-9 c = search needs
 
 returns-4 : tie.Need-returns-4
 returns-4 c =
-    let s = c .before .before .before .before .before .before .before .before .before .before .before .before .before .before in
-    written-called _ _ _ _ (s .pre .0) (s .pre .1) _ (is-clear _ _ _ _ _ (c .before .before .before .before .before .before .before .before .before .match .keys4)) _ _ (c .before .before .before .before .before .before .before .clear-of .ensures (s .args .letters .now) (s .args .rows .now) (s .args .numbers .now))
-    (λ f. record { letters = f .letters; rows = f .rows; numbers = f .numbers; heads = c .before .before .before .before .before .before .heads4 .given ∙ f .heads }) _ (c .before .before .before .before .of-reply4 .ensures) _ (c .before .before .write4 .ensures .0) _ (c .before .before .write4 .ensures .1)
+    let wrote = c .before .before in
+    let fields = wrote .before .before in
+    let heads = fields .before .before in
+    let answered = heads .before in
+    let matched = answered .before .before in
+    let s = matched .before .before .before .before .before in
+    written-called _ _ _ _ (s .pre .0) (s .pre .1) _ (is-clear _ _ _ _ _ (matched .match .keys4)) _ _
+    (answered .clear-of .ensures (s .args .letters .now) (s .args .rows .now) (s .args .numbers .now))
+    (λ f. record { letters = f .letters; rows = f .rows; numbers = f .numbers; heads = heads .heads4 .given ∙ f .heads })
+    _ (fields .of-reply4 .ensures) _ (wrote .write4 .ensures .0) _ (wrote .write4 .ensures .1)
 
 same-length-10 : tie.Need-same-length-10
 same-length-10 c = search needs
@@ -173,9 +204,23 @@ same-length-14 c = search needs
 
 returns-5 : tie.Need-returns-5
 returns-5 c =
-    let s = c .before .before .before .before .before .before .before .before .before .before .before .before .before .before .before .before .before .before .before .before in
-    written-called _ _ _ _ (s .pre .0) (s .pre .1) _ (is-close _ _ _ _ _ (c .before .before .before .before .before .before .before .before .before .before .before .before .before .before .before .match .keys5)) _ _ (c .before .before .before .before .before .before .before .before .before .before .close-of .ensures)
-    (λ f. record { letters = f .letters; rows = c .before .before .before .before .before .before .before .before .before .rows .given ∙ f .rows; numbers = c .before .before .before .before .before .before .before .numbers .given ∙ f .numbers; heads = c .before .before .before .before .before .before .heads5 .given ∙ f .heads }) _ (c .before .before .before .before .of-reply5 .ensures) _ (c .before .before .write5 .ensures .0) _ (c .before .before .write5 .ensures .1)
+    let wrote = c .before .before in
+    let fields = wrote .before .before in
+    let heads = fields .before .before in
+    let numbers = heads .before in
+    let rows = numbers .before .before in
+    let answered = rows .before in
+    let matched = answered .before .before .before .before .before in
+    let s = matched .before .before .before .before .before in
+    written-called _ _ _ _ (s .pre .0) (s .pre .1) _ (is-close _ _ _ _ _ (matched .match .keys5)) _ _
+    (answered .close-of .ensures)
+    (λ f. record {
+      letters = f .letters;
+      rows = rows .rows .given ∙ f .rows;
+      numbers = numbers .numbers .given ∙ f .numbers;
+      heads = heads .heads5 .given ∙ f .heads;
+    })
+    _ (fields .of-reply5 .ensures) _ (wrote .write5 .ensures .0) _ (wrote .write5 .ensures .1)
 
 same-length-15 : tie.Need-same-length-15
 same-length-15 c = search needs
@@ -188,9 +233,14 @@ same-length-17 c = search needs
 
 returns-6 : tie.Need-returns-6
 returns-6 c =
-    let s = c .before .before .before .before .before .before .before .before .before .before .before .before .before .before in
-    written-called _ _ _ _ (s .pre .0) (s .pre .1) _ (is-query _ _ _ _ _ _ (c .before .before .before .before .before .before .before .before .before .match .keys6) (c .before .before .before .before .before .before .point2 .ensures)) _ _ (c .before .before .before .before .before .query-of .ensures (s .args .letters .now) (s .args .numbers .now))
-    (λ f. f) _ (c .before .before .before .before .of-reply6 .ensures) _ (c .before .before .write6 .ensures .0) _ (c .before .before .write6 .ensures .1)
+    let wrote = c .before .before in
+    let fields = wrote .before .before in
+    let answered = fields .before in
+    let read = answered .before in
+    let matched = read .before .before .before in
+    let s = matched .before .before .before .before .before in
+    written-called _ _ _ _ (s .pre .0) (s .pre .1) _ (is-query _ _ _ _ _ _ (matched .match .keys6) (read .point2 .ensures)) _ _
+    (answered .query-of .ensures (s .args .letters .now) (s .args .numbers .now)) (λ f. f) _ (fields .of-reply6 .ensures) _ (wrote .write6 .ensures .0) _ (wrote .write6 .ensures .1)
 
 same-length-18 : tie.Need-same-length-18
 same-length-18 c = search needs
@@ -203,9 +253,14 @@ same-length-20 c = search needs
 
 returns-7 : tie.Need-returns-7
 returns-7 c =
-    let s = c .before .before .before .before .before .before .before .before .before .before .before .before .before .before in
-    written-called _ _ _ _ (s .pre .0) (s .pre .1) _ (is-row _ _ _ _ _ _ (c .before .before .before .before .before .before .before .before .before .match .keys7) (c .before .before .before .before .before .before .short .ensures)) _ _ (c .before .before .before .before .before .row-of .ensures (s .args .letters .now) (s .args .numbers .now))
-    (λ f. f) _ (c .before .before .before .before .of-reply7 .ensures) _ (c .before .before .write7 .ensures .0) _ (c .before .before .write7 .ensures .1)
+    let wrote = c .before .before in
+    let fields = wrote .before .before in
+    let answered = fields .before in
+    let read = answered .before in
+    let matched = read .before .before .before in
+    let s = matched .before .before .before .before .before in
+    written-called _ _ _ _ (s .pre .0) (s .pre .1) _ (is-row _ _ _ _ _ _ (matched .match .keys7) (read .short .ensures)) _ _
+    (answered .row-of .ensures (s .args .letters .now) (s .args .numbers .now)) (λ f. f) _ (fields .of-reply7 .ensures) _ (wrote .write7 .ensures .0) _ (wrote .write7 .ensures .1)
 
 same-length-21 : tie.Need-same-length-21
 same-length-21 c = search needs
@@ -218,9 +273,14 @@ same-length-23 c = search needs
 
 returns-8 : tie.Need-returns-8
 returns-8 c =
-    let s = c .before .before .before .before .before .before .before .before .before .before .before .before .before .before in
-    written-called _ _ _ _ (s .pre .0) (s .pre .1) _ (is-reading _ _ _ _ _ _ (c .before .before .before .before .before .before .before .before .before .match .keys8) (c .before .before .before .before .before .before .from-bits .ensures)) _ _ (c .before .before .before .before .before .reading-of .ensures (s .args .letters .now) (s .args .rows .now))
-    (λ f. f) _ (c .before .before .before .before .of-reply8 .ensures) _ (c .before .before .write8 .ensures .0) _ (c .before .before .write8 .ensures .1)
+    let wrote = c .before .before in
+    let fields = wrote .before .before in
+    let answered = fields .before in
+    let read = answered .before in
+    let matched = read .before .before .before in
+    let s = matched .before .before .before .before .before in
+    written-called _ _ _ _ (s .pre .0) (s .pre .1) _ (is-reading _ _ _ _ _ _ (matched .match .keys8) (read .from-bits .ensures)) _ _
+    (answered .reading-of .ensures (s .args .letters .now) (s .args .rows .now)) (λ f. f) _ (fields .of-reply8 .ensures) _ (wrote .write8 .ensures .0) _ (wrote .write8 .ensures .1)
 
 same-length-24 : tie.Need-same-length-24
 same-length-24 c = search needs
@@ -233,9 +293,14 @@ same-length-26 c = search needs
 
 returns-9 : tie.Need-returns-9
 returns-9 c =
-    let s = c .before .before .before .before .before .before .before .before .before .before .before .before .before .before in
-    written-called _ _ _ _ (s .pre .0) (s .pre .1) _ (is-piece _ _ _ _ _ _ (c .before .before .before .before .before .before .before .before .before .match .keys9) (c .before .before .before .before .before .before .short2 .ensures)) _ _ (c .before .before .before .before .before .piece-of .ensures (s .args .letters .now) (s .args .rows .now))
-    (λ f. f) _ (c .before .before .before .before .of-reply9 .ensures) _ (c .before .before .write9 .ensures .0) _ (c .before .before .write9 .ensures .1)
+    let wrote = c .before .before in
+    let fields = wrote .before .before in
+    let answered = fields .before in
+    let read = answered .before in
+    let matched = read .before .before .before in
+    let s = matched .before .before .before .before .before in
+    written-called _ _ _ _ (s .pre .0) (s .pre .1) _ (is-piece _ _ _ _ _ _ (matched .match .keys9) (read .short2 .ensures)) _ _
+    (answered .piece-of .ensures (s .args .letters .now) (s .args .rows .now)) (λ f. f) _ (fields .of-reply9 .ensures) _ (wrote .write9 .ensures .0) _ (wrote .write9 .ensures .1)
 
 returns-10 : tie.Need-returns-10
 returns-10 c =

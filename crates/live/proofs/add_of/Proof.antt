@@ -19,7 +19,10 @@ same-length-2 : tie.Need-same-length-2
 same-length-2 c = search needs
 
 returns-2 : tie.Need-returns-2
-returns-2 c = λ r n. acts-answers _ _ _ _ _ refl (c .before .before .before .before .before .before .before .if1 .left) (add-acts _ _ _ _ r n _ (c .before .before .before .before .before .before .before .if1 .left) _ _ (c .before .before .before .before .add .ensures))
+returns-2 c =
+    let added = c .before .before .before .before in
+    let known = added .before .before .before in
+    λ r n. acts-answers _ _ _ _ _ refl (known .if1 .left) (add-acts _ _ _ _ r n _ (known .if1 .left) _ _ (added .add .ensures))
 
 pub add-of-spec : {M : Type 1} → statement M
 add-of-spec = tie.close (tie.spec returns add-requires same-length same-length-2 returns-2)

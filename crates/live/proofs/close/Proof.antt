@@ -10,6 +10,19 @@ use borrow.Author.Needs.{needs}
 use Rattle.live.proofs.close.Statement.{statement}
 use Rattle.live.proofs.close.Tie as tie
 
+-- The places that a close has passed, each from a later one
+abbrev begun : tie.After-sent → tie.Else1
+begun c = c .before .before .before .before
+
+abbrev start : tie.After-judge → tie.Start
+start c = begun (c .before .before) .before .before .before .before .before
+
+abbrev judged : tie.After-has → tie.After-judge
+judged c = c .before .before .before .before .before .before .before .before
+
+abbrev compared : tie.After-replace → tie.After-has
+compared c = c .before .before .before .before .before
+
 mul-at : tie.Need-mul-at
 mul-at c = search needs
 
@@ -81,12 +94,12 @@ has-requires c κs = search needs
 
 replace-requires : tie.Need-replace-requires
 replace-requires c κs =
-    let s = c .before .before .before .before .before .before .before .before .before .before .before .before .before .before .before .before .before .before .before .before .before .before .before in
+    let s = start (judged (c .before .before .before .before)) in
     (s .pre .0, s .pre .1, record { rows = s .pre .2 .rows; numbers = s .pre .2 .numbers; heads = s .pre .2 .heads })
 
 end-requires-2 : tie.Need-end-requires-2
 end-requires-2 c κs =
-    let s = c .before .before .before .before .before .before .before .before .before .before .before .before .before .before .before .before .before .before .before .before .before .before .before .before .before .before .before .before .before .before in
+    let s = start (judged (compared (c .before .before .before .before .before .before))) in
     (s .pre .0, c .before .before .heads2 .given ∙ s .pre .2 .heads)
 
 taken-reply-requires : tie.Need-taken-reply-requires
@@ -98,14 +111,13 @@ same-length c = search needs
 returns-2 : tie.Need-returns-2
 returns-2 c =
     let ended = c .before .before in
-    let told = ended .before .before .before in
-    let judged = told .before .before .before in
-    let read = judged .before .before in
-    let begun = read .before .before .before .before in
-    let s = begun .before .before .before .before .before in
+    let decided = ended .before .before .before in
+    let judge = decided .before .before .before in
+    let read = judge .before .before in
+    let s = start judge in
     let sent = outline-sent (s .args .letters .now) (s .args .heads .now) (s .args .party) _ (read .sent .ensures) in
-    close-refused (s .args .letters .now) _ _ (s .args .heads .now) (s .args .party) (s .pre .0) _ (s .pre .1) (begun .if1 .left) _
-    (judged-of _ (judged .judge .ensures .0) (judged .judge .ensures .1) ∙ ap judgedOf sent) _ (told .verdict .given .1) _
+    close-refused (s .args .letters .now) _ _ (s .args .heads .now) (s .args .party) (s .pre .0) _ (s .pre .1) (begun read .if1 .left) _
+    (judged-of _ (judge .judge .ensures .0) (judge .judge .ensures .1) ∙ ap judgedOf sent) _ (decided .verdict .given .1) _
     (ended .end .ensures (s .args .letters .now))
 
 same-length-2 : tie.Need-same-length-2
@@ -121,16 +133,15 @@ returns-3 : tie.Need-returns-3
 returns-3 c =
     let ended = c .before .before .before in
     let replaced = ended .before .before .before .before .before .before .before in
-    let compared = replaced .before .before .before .before .before in
-    let told = compared .before .before .before .before .before in
-    let judged = told .before .before .before in
-    let read = judged .before .before in
-    let begun = read .before .before .before .before in
-    let s = begun .before .before .before .before .before in
+    let has = compared replaced in
+    let decided = has .before .before .before .before .before in
+    let judge = judged has in
+    let read = judge .before .before in
+    let s = start judge in
     let sent = outline-sent (s .args .letters .now) (s .args .heads .now) (s .args .party) _ (read .sent .ensures) in
     close-taken (s .args .letters .now) (s .args .rows .now) (s .args .numbers .now) (s .args .heads .now) (s .args .party) (s .pre .0)
-    (s .args .place) (s .pre .1) (begun .if1 .left) _ (judged-of _ (judged .judge .ensures .0) (judged .judge .ensures .1) ∙ ap judgedOf sent) _ _
-    (told .verdict2 .given .1) _ (compared .has .ensures (s .args .rows .now)) _ (c .taken-reply .ensures) _ (ap spansOf sent) _ _ _
+    (s .args .place) (s .pre .1) (begun read .if1 .left) _ (judged-of _ (judge .judge .ensures .0) (judge .judge .ensures .1) ∙ ap judgedOf sent) _ _
+    (decided .verdict2 .given .1) _ (has .has .ensures (s .args .rows .now)) _ (c .taken-reply .ensures) _ (ap spansOf sent) _ _ _
     (replaced .replace .ensures) _ (ended .end2 .ensures (s .args .letters .now))
 
 pub close-spec : {M : Type 1} → statement M

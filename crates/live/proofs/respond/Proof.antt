@@ -81,8 +81,11 @@ same-length-5 c = search needs
 
 returns-7 : tie.Need-returns-7
 returns-7 c =
-    rw (received-call _ _ (c .before .before .before .before .before .before .before .before .before .before .before .before .before .before .before .before .before .before .before .before .before .before .before .before .before .before .before .before .before .if5 .left) (c .before .before .before .before .before .before .before .before .before .before .before .before .before .before .before .before .before .before .before .before .before .before .before .before .before .before .before .before .if6 .left) _ _ (c .before .before .before .before .before .before .before .before .before .before .before .before .before .before .before .before .before .before .before .before .before .before .before .long .ensures) (c .before .before .before .before .before .before .before .before .before .before .before .before .before .before .before .before .before .before .long2 .ensures))
-    (c .before .before .before .before .before .before .before .before .before .act .ensures)
+    let acted = c .before .before .before .before .before .before .before .before .before in
+    let second = acted .before .before .before .before .before .before .before .before .before in
+    let first = second .before .before .before .before .before in
+    let room = first .before .before .before .before .before in
+    rw (received-call _ _ (room .before .if5 .left) (room .if6 .left) _ _ (first .long .ensures) (second .long2 .ensures)) (acted .act .ensures)
 
 pub respond-spec : {M : Type 1} → statement M
 respond-spec =

@@ -33,7 +33,17 @@ same-length-3 : tie.Need-same-length-3
 same-length-3 c = search needs
 
 returns-4 : tie.Need-returns-4
-returns-4 c = λ r n. told-made _ _ _ _ (record { letters = c .before .before .before .before .before .before .before .before .before .before .before .before .before .before .if1 .left; heads = c .before .before .before .before .before .before .before .before .before .before .before .before .before .if2 .left }) (c .before .before .before .before .before .before .before .before .before .before .before .before .if3 .left) _ _ (c .before .before .before .before .before .before .before .before .before .add-of .ensures r n) (λ f. record { letters = c .before .before .before .before .before .before .before .before .letters .given ∙ f .letters; rows = f .rows; numbers = f .numbers; heads = c .before .before .before .before .before .before .heads .given ∙ f .heads }) _ (c .before .before .before .before .of-reply .ensures) _ (c .before .before .write .ensures .0) _ (c .before .before .write .ensures .1)
+returns-4 c =
+    let wrote = c .before .before in
+    let fields = wrote .before .before in
+    let heads = fields .before .before in
+    let letters = heads .before .before in
+    let answered = letters .before in
+    let third = answered .before .before .before in
+    λ r n. told-made _ _ _ _ (record { letters = third .before .before .if1 .left; heads = third .before .if2 .left }) (third .if3 .left) _ _
+    (answered .add-of .ensures r n)
+    (λ f. record { letters = letters .letters .given ∙ f .letters; rows = f .rows; numbers = f .numbers; heads = heads .heads .given ∙ f .heads })
+    _ (fields .of-reply .ensures) _ (wrote .write .ensures .0) _ (wrote .write .ensures .1)
 
 pub add-spec : {M : Type 1} → statement M
 add-spec =

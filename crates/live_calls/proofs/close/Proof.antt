@@ -42,7 +42,27 @@ same-length-4 : tie.Need-same-length-4
 same-length-4 c = search needs
 
 returns-6 : tie.Need-returns-6
-returns-6 c = told-made _ _ _ _ (record { letters = c .before .before .before .before .before .before .before .before .before .before .before .before .before .before .before .before .before .before .if1 .left; rows = c .before .before .before .before .before .before .before .before .before .before .before .before .before .before .before .before .before .if2 .left; numbers = c .before .before .before .before .before .before .before .before .before .before .before .before .before .before .before .before .if3 .left; heads = c .before .before .before .before .before .before .before .before .before .before .before .before .before .before .before .if4 .left }) (c .before .before .before .before .before .before .before .before .before .before .before .before .before .before .if5 .left) _ _ (c .before .before .before .before .before .before .before .before .before .before .close-of .ensures) (λ f. record { letters = f .letters; rows = c .before .before .before .before .before .before .before .before .before .rows .given ∙ f .rows; numbers = c .before .before .before .before .before .before .before .numbers .given ∙ f .numbers; heads = c .before .before .before .before .before .before .heads .given ∙ f .heads }) _ (c .before .before .before .before .of-reply .ensures) _ (c .before .before .write .ensures .0) _ (c .before .before .write .ensures .1)
+returns-6 c =
+    let wrote = c .before .before in
+    let fields = wrote .before .before in
+    let heads = fields .before .before in
+    let numbers = heads .before in
+    let rows = numbers .before .before in
+    let answered = rows .before in
+    let fifth = answered .before .before .before .before in
+    let fourth = fifth .before in
+    let third = fourth .before in
+    let second = third .before in
+    let first = second .before in
+    told-made _ _ _ _ (record { letters = first .if1 .left; rows = second .if2 .left; numbers = third .if3 .left; heads = fourth .if4 .left })
+    (fifth .if5 .left) _ _ (answered .close-of .ensures)
+    (λ f. record {
+      letters = f .letters;
+      rows = rows .rows .given ∙ f .rows;
+      numbers = numbers .numbers .given ∙ f .numbers;
+      heads = heads .heads .given ∙ f .heads;
+    })
+    _ (fields .of-reply .ensures) _ (wrote .write .ensures .0) _ (wrote .write .ensures .1)
 
 pub close-spec : {M : Type 1} → statement M
 close-spec =

@@ -1,7 +1,7 @@
 -- The loop's invariant: replaying the rest of the script on the current holder into the rest of the buffer gives the final buffer.
 use borrow.Author.Needs.{needs}
-use mathlib.Core.Path.{refl, ap, _∙_}
-use Prim.Native.Nat.{_+_, _*_, _-_}
+use mathlib.Core.Path.{_≡_, refl, ap, _∙_}
+use Prim.Native.Nat.{ℕ, _+_, _*_, _-_}
 use lib.ListN.{length}
 use native.Mathlib.Omega.{arith}
 use Rattle.wire.specs.Wire.{callWidth}
@@ -16,6 +16,17 @@ Inv-loop script replies₀ end letters₀ rows₀ numbers₀ heads₀ done₀ re
 
 abbrev μ-loop : tie.MeasureT-loop
 μ-loop script replies₀ end letters₀ rows₀ numbers₀ heads₀ done₀ replies letters rows numbers heads done = end - done
+
+-- The places that a turn of the loop has passed: where the call was made, and where the turn began
+abbrev responded : tie.After-slice-known2 Inv-loop μ-loop → tie.After-respond Inv-loop μ-loop
+responded c = c .before .before .before .before .before .before
+
+abbrev turning : tie.After-respond Inv-loop μ-loop → tie.In-loop Inv-loop μ-loop
+turning c = c .before .before .before .before .before .before .before
+
+-- A call's bytes are as many as a call has
+sent : (done : ℕ) → callWidth * done + callWidth - callWidth * done ≡ callWidth
+sent done = omega arith
 
 most-requires : tie.Need-most-requires Inv-loop μ-loop
 most-requires c κs = search needs
@@ -70,18 +81,19 @@ respond-requires c κs = search needs
 
 same-length : tie.Need-same-length Inv-loop μ-loop
 same-length c =
-    let made = c .before .before .before .before .before .before .before in
-    let loop-test = made .before .before .before .before .before .before .before in
-    let loop = loop-test .before in
-    ap length (stops-at-none _ _ _ _ _ _ (loop .loop .inv .1) (loop-test .loop-test .taken) _ _ _ _ (callWidth * loop .loop .done + callWidth - callWidth * loop .loop .done) (omega arith) refl (loop .loop .inv .0) (made .respond .ensures) (c .if1 .taken) .1) ∙ loop .loop .inv .1 .same-length
+    let made = responded (c .before) in
+    let i = turning made in
+    let loop = i .before .loop in
+    ap length (stops-at-none _ _ _ _ _ _ (loop .inv .1) (i .loop-test .taken) _ _ _ _ _ (sent (loop .done)) refl (loop .inv .0) (made .respond .ensures) (c .if1 .taken) .1)
+    ∙ loop .inv .1 .same-length
 
 returns : tie.Need-returns Inv-loop μ-loop
 returns c =
-    let made = c .before .before .before .before .before .before .before in
-    let loop-test = made .before .before .before .before .before .before .before in
-    let loop = loop-test .before in
-    let (none, kept) = stops-at-none _ _ _ _ _ _ (loop .loop .inv .1) (loop-test .loop-test .taken) _ _ _ _ (callWidth * loop .loop .done + callWidth - callWidth * loop .loop .done) (omega arith) refl (loop .loop .inv .0) (made .respond .ensures) (c .if1 .taken) in
-    (underway-count _ _ _ _ _ _ (loop .loop .inv .1) none, kept ∙ underway-list _ _ _ _ _ _ (loop .loop .inv .1) none)
+    let made = responded (c .before) in
+    let i = turning made in
+    let loop = i .before .loop in
+    let (none, kept) = stops-at-none _ _ _ _ _ _ (loop .inv .1) (i .loop-test .taken) _ _ _ _ _ (sent (loop .done)) refl (loop .inv .0) (made .respond .ensures) (c .if1 .taken) in
+    (underway-count _ _ _ _ _ _ (loop .inv .1) none, kept ∙ underway-list _ _ _ _ _ _ (loop .inv .1) none)
 
 add-done : tie.Need-add-done Inv-loop μ-loop
 add-done c = omega arith
@@ -91,10 +103,11 @@ loop-less c = omega arith
 
 loop-again : tie.Need-loop-again Inv-loop μ-loop
 loop-again c =
-    let made = c .before .before .before .before .before .before .before in
-    let loop-test = made .before .before .before .before .before .before .before in
-    let loop = loop-test .before in
-    let (on, fits) = underway-responded _ _ _ _ _ _ (loop .loop .inv .1) (loop-test .loop-test .taken) _ _ _ _ (callWidth * loop .loop .done + callWidth - callWidth * loop .loop .done) (omega arith) refl (loop .loop .inv .0) (made .respond .ensures) (c .if1 .left) in (fits, on)
+    let made = responded (c .before) in
+    let i = turning made in
+    let loop = i .before .loop in
+    let (on, fits) = underway-responded _ _ _ _ _ _ (loop .inv .1) (i .loop-test .taken) _ _ _ _ _ (sent (loop .done)) refl (loop .inv .0) (made .respond .ensures) (c .if1 .left) in
+    (fits, on)
 
 same-length-2 : tie.Need-same-length-2 Inv-loop μ-loop
 same-length-2 c = c .before .loop .inv .1 .same-length

@@ -10,6 +10,10 @@ use borrow.Author.Needs.{needs}
 use Rattle.holder.proofs.Holder.answer.Statement.{statement}
 use Rattle.holder.proofs.Holder.answer.Tie as tie
 
+-- Where the place became known, from the end
+abbrev reached : tie.After-work → tie.After-reached
+reached c = c .before .before .before .before .before
+
 -- Once the place is known, both are in range
 there : (s : tie.After-reached) → (s .before .before .before .args .call .party < parties) × (s .reached .result < places)
 there s =
@@ -54,17 +58,19 @@ mul-draft : tie.Need-mul-draft
 mul-draft c = search needs
 
 element-set-from-draft : tie.Need-element-set-from-draft
-element-set-from-draft c = omega (arith, there (c .before .before .before .before .before))
+element-set-from-draft c = omega (arith, there (reached c))
 
 mul-work : tie.Need-mul-work
-mul-work c = omega (arith, there (c .before .before .before .before .before))
+mul-work c = omega (arith, there (reached c))
 
 element-set-from-work : tie.Need-element-set-from-work
-element-set-from-work c = omega (arith, there (c .before .before .before .before .before))
+element-set-from-work c = omega (arith, there (reached c))
 
 returns-2 : tie.Need-returns-2
 unfolding answerOf actOf draftOf workOf withDraft withWork blankDraft blankWork
-returns-2 c = rw (sym (c .before .before .before .before .before .before .before .bad-party .ensures) ∙ c .before .before .before .before .before .before .if1 .left, c .before .before .act .ensures, c .before .before .before .before .before .reached .ensures)
+returns-2 c =
+    let at = reached c in
+    rw (sym (at .before .before .bad-party .ensures) ∙ at .before .if1 .left, c .before .before .act .ensures, at .reached .ensures)
 
 pub answer-spec : {M : Type 1} → statement M
 answer-spec =

@@ -22,7 +22,9 @@ bad-place-requires c κs = search needs
 
 returns-2 : tie.Need-returns-2
 unfolding answerOf actOf actedOf askOf reachedBy keptPlace workOf blankWork
-returns-2 c = rw (sym (c .before .before .before .bad-party .ensures) ∙ c .before .before .if1 .left, sym (c .before .bad-place .ensures) ∙ c .if2 .taken)
+returns-2 c =
+    let party = c .before .before in
+    rw (sym (party .before .bad-party .ensures) ∙ party .if1 .left, sym (c .before .bad-place .ensures) ∙ c .if2 .taken)
 
 mul-work : tie.Need-mul-work
 mul-work c = search needs
@@ -34,14 +36,25 @@ mul-work-2 : tie.Need-mul-work-2
 mul-work-2 c = search needs
 
 element-copy-out-work : tie.Need-element-copy-out-work
-element-copy-out-work c = omega (arith, there-party (c .before .before .before .before .args .party) (c .before .before .before .bad-party .ensures) (c .before .before .if1 .left), leb-false places (c .before .before .before .before .args .place) (sym (c .before .bad-place .ensures) ∙ c .if2 .left))
+element-copy-out-work c =
+    let party = c .before .before in
+    let args = party .before .before .args in
+    omega (
+      arith,
+      there-party (args .party) (party .before .bad-party .ensures) (party .if1 .left),
+      leb-false places (args .place) (sym (c .before .bad-place .ensures) ∙ c .if2 .left),
+    )
 
 answer-requires : tie.Need-answer-requires
 answer-requires c κs = search needs
 
 returns-3 : tie.Need-returns-3
 unfolding answerOf actOf actedOf askOf reachedBy keptPlace workOf blankWork
-returns-3 c = rw (sym (c .before .before .before .before .before .bad-party .ensures) ∙ c .before .before .before .before .if1 .left, sym (c .before .before .before .bad-place .ensures) ∙ c .before .before .if2 .left) (c .answer .ensures)
+returns-3 c =
+    let place = c .before .before in
+    let party = place .before .before in
+    rw (sym (party .before .bad-party .ensures) ∙ party .if1 .left, sym (place .before .bad-place .ensures) ∙ place .if2 .left)
+    (c .answer .ensures)
 
 pub ask-spec : {M : Type 1} → statement M
 ask-spec =
