@@ -37,4 +37,4 @@ module _ (o : Outline) (a : Point) (es buffer : List ℤ) where
       {n : ℕ} {b : Point} {after : List ℤ} → testOf o (length buffer) ≡ Taken n b → after ≡ edgesAfter o buffer
       → takenAs o a es ≡ (samePoint b a && sameℤs (take (2 * n) after) es)
   unfolding takenAs takenAt
-  taken-compared {n} {b} e d = rw (roomy o (length buffer) n b e .said, d, edges-first o buffer n b e)
+  taken-compared {n} {b} e d = rw (roomy o (length buffer) n b e .verdict, d, edges-first o buffer n b e)

@@ -5,7 +5,7 @@ use native.Mathlib.Omega.{arith}
 use mathlib.Core.Path.{_≡_, refl, sym, ap, _∙_}
 use mathlib.Core.List.{List, [], _∷_, _++_, append-assoc, append-nil}
 use lib.ListN.{length, length-append, replicate, replicate-append-replicate}
-use Rattle.completion.specs.Runs.{across}
+use Rattle.completion.specs.RowsOutline.{across}
 use Rattle.completion.proofs.Segments.{length-across}
 use Rattle.completion.specs.parts.Written.{ascent, descent, toRow, writtenFrom}
 

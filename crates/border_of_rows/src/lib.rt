@@ -6,7 +6,7 @@ ghost use mathlib.Core.List.{_++_};
 ghost use lib.ListN.{length, drop};
 ghost use Rattle.chart.specs.Limits.{side, corners};
 ghost use Rattle.rows.specs.parts.Rows.{rows};
-ghost use Rattle.completion.specs.Runs.{across as acrossOf};
+ghost use Rattle.completion.specs.RowsOutline.{across as acrossOf};
 ghost use Rattle.completion.specs.parts.Written.{toRow, descent, writtenFrom};
 ghost use Rattle.border_of_rows.specs.parts.Wrote.{Wrote};
 

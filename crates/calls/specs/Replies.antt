@@ -1,6 +1,6 @@
 -- Every case of `Reply` in seven fields: number, word and the rest (contract 4 and 5).
 use Rattle.chart.specs.declared.Fields.{Fields}
-use Rattle.chart.specs.Fields.{numbered, said, accepted, refusalFields, no-word, inside, outside, undecided, taken, same}
+use Rattle.chart.specs.Fields.{numbered, worded, accepted, refusalFields, no-word, inside, outside, undecided, taken, same}
 use Rattle.chart.specs.Refusals as refusals
 pub use Rattle.chart.specs.Fields.{none, columns, move, line, close}
 use Rattle.chart.specs.declared.Point.{Point}
@@ -13,17 +13,17 @@ use Rattle.calls.specs.declared.Reply.the-variants.{Done, Inside, Outsid
 unfoldable pub pieceFields : Piece → Point → Fields
 pieceFields (Move x y) c = accepted move 0 c
 pieceFields (Line x y) c = accepted line 0 c
-pieceFields Close c = said close
-pieceFields NoPiece c = said none
+pieceFields Close c = worded close
+pieceFields NoPiece c = worded none
 
 -- For a row, the first column is the reply's column and the last is the reply's row (contract 7.9)
 unfoldable pub replyFields : Reply → Fields
-replyFields Done = said no-word
-replyFields Inside = said inside
-replyFields Outside = said outside
-replyFields Undecided = said undecided
+replyFields Done = worded no-word
+replyFields Inside = worded inside
+replyFields Outside = worded outside
+replyFields Undecided = worded undecided
 replyFields (Columns a b) = accepted columns 0 (record { col = a; row = b })
-replyFields None = said none
+replyFields None = worded none
 replyFields (Drawn p c) = pieceFields p c
 replyFields (Taken n a) = accepted taken n a
 replyFields (Same n a) = accepted same n a

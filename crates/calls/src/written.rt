@@ -26,8 +26,8 @@ fn of_piece(piece: Piece, cell: Point) -> Fields
     match piece {
         Piece::Move(_, _) => reply::accepted(reply::MOVE, 0, cell),
         Piece::Line(_, _) => reply::accepted(reply::LINE, 0, cell),
-        Piece::Close => reply::said(reply::CLOSE),
-        Piece::None => reply::said(reply::NONE),
+        Piece::Close => reply::worded(reply::CLOSE),
+        Piece::None => reply::worded(reply::NONE),
     }
 }
 
@@ -35,10 +35,10 @@ pub fn of_reply(r: Reply) -> Fields
     ensures { λ f. ⌜ f ≡ replyFields r ⌝ }
 {
     match r {
-        Reply::Done => reply::said(reply::NO_WORD),
-        Reply::Inside => reply::said(reply::INSIDE),
-        Reply::Outside => reply::said(reply::OUTSIDE),
-        Reply::Undecided => reply::said(reply::UNDECIDED),
+        Reply::Done => reply::worded(reply::NO_WORD),
+        Reply::Inside => reply::worded(reply::INSIDE),
+        Reply::Outside => reply::worded(reply::OUTSIDE),
+        Reply::Undecided => reply::worded(reply::UNDECIDED),
         Reply::Columns { first, last } => reply::accepted(
             reply::COLUMNS,
             0,
@@ -47,7 +47,7 @@ pub fn of_reply(r: Reply) -> Fields
                 row: last,
             },
         ),
-        Reply::None => reply::said(reply::NONE),
+        Reply::None => reply::worded(reply::NONE),
         Reply::Drawn { piece, cell } => of_piece(piece, cell),
         Reply::Taken { edges, anchor } => reply::accepted(reply::TAKEN, edges, anchor),
         Reply::Same { edges, anchor } => reply::accepted(reply::SAME, edges, anchor),

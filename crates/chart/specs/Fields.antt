@@ -75,8 +75,8 @@ abbrev pub placed : ℕ → ℕ → Fields
 placed n p = record { number = n; word = no-word; place = p; piece = 0; length = 0; col = 0; row = 0 }
 
 -- A reply with a word only; a taken outline with a word, the count of edges and the anchor
-abbrev pub said : ℕ → Fields
-said v = record { number = 0; word = v; place = 0; piece = 0; length = 0; col = 0; row = 0 }
+abbrev pub worded : ℕ → Fields
+worded v = record { number = 0; word = v; place = 0; piece = 0; length = 0; col = 0; row = 0 }
 
 abbrev pub accepted : ℕ → ℕ → Point → Fields
 accepted v edges a = record { number = 0; word = v; place = edges; piece = 0; length = 0; col = a .col; row = a .row }
@@ -100,8 +100,8 @@ verdictFields (Taken e a) = accepted no-word e a
 verdictFields (Refused f) = refusalFields f
 
 abbrev pub positionFields : Position → Fields
-positionFields Inside = said inside
-positionFields Outside = said outside
+positionFields Inside = worded inside
+positionFields Outside = worded outside
 positionFields (Rejected f) = refusalFields f
 
 -- A word, and which list a comparison returns: 1, 2, or 0 for neither (contract 6.4)

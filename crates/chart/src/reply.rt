@@ -10,7 +10,7 @@ use crate::refusals;
 ghost use mathlib.Core.Path.{_≡_};
 ghost use lib.ListN.{length};
 ghost use lib.Dec.{leb};
-ghost use Rattle.chart.specs.Fields.{numbered as numberedOf, placed as placedOf, said as saidOf, accepted as acceptedOf, refusalFields, verdictFields, positionFields, handing as handingOf, nestingFields, comparisonFields, replyWidth, replyAfter};
+ghost use Rattle.chart.specs.Fields.{numbered as numberedOf, placed as placedOf, worded as wordedOf, accepted as acceptedOf, refusalFields, verdictFields, positionFields, handing as handingOf, nestingFields, comparisonFields, replyWidth, replyAfter};
 
 // The count of numbers in a reply.
 pub const NUMBERS: usize = 7;
@@ -71,8 +71,8 @@ pub fn placed(number: u16, place: u16) -> Fields
 }
 
 // A reply with a word only.
-pub fn said(word: u16) -> Fields
-    ensures { λ r. ⌜ r ≡ saidOf word ⌝ }
+pub fn worded(word: u16) -> Fields
+    ensures { λ r. ⌜ r ≡ wordedOf word ⌝ }
 {
     accepted(word, 0, Point { col: 0, row: 0 })
 }
@@ -145,8 +145,8 @@ pub fn of_position(p: Position) -> Fields
     ensures { λ r. ⌜ r ≡ positionFields p ⌝ }
 {
     match p {
-        Position::Inside => said(INSIDE),
-        Position::Outside => said(OUTSIDE),
+        Position::Inside => worded(INSIDE),
+        Position::Outside => worded(OUTSIDE),
         Position::Refused(f) => of_refusal(f),
     }
 }

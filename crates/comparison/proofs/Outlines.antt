@@ -74,7 +74,7 @@ pub test-has : (o : Outline) (buffer : List ℤ) → testFields o (length buffer
 unfolding testFields
 test-has o buffer e =
     let t = tested o buffer e in
-    let f = taken-facts o (t .count) (t .anchor) (roomy o (length buffer) (t .count) (t .anchor) (t .said) .said) in
+    let f = taken-facts o (t .count) (t .anchor) (roomy o (length buffer) (t .count) (t .anchor) (t .said) .verdict) in
     record {
       reaches = f .reaches;
       smooth = f .undented;

@@ -25,7 +25,7 @@ use Rattle.convexity.proofs.Clockwise.{simple-form, clockwise-form, length-form
 use Rattle.convexity.proofs.AsSent.{block-from-w}
 use Rattle.convexity.proofs.SameBlock.{open-right}
 use Rattle.convexity.proofs.Levels.{enclosed-level, level-enclosed, up-counted, from-w-lowest, leaves-upwards, left-of-anchor}
-use Rattle.completion.specs.Runs.{outlineOf}
+use Rattle.completion.specs.RowsOutline.{outlineOf}
 use Rattle.completion.specs.HullRows.{hullLeft, hullRight}
 use Rattle.completion.proofs.HullRows.{left-hull, beyond-lines, left-at-most, hull-rows, Ends, hull-iff}
 use Rattle.completion.proofs.Perimeter.{perimeter}

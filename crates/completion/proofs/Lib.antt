@@ -9,7 +9,7 @@ pub mod Count
 pub mod Written
 pub mod FromWest
 pub mod Edges
-pub mod Climb
+pub mod LeftSide
 pub mod HullRows
 pub mod Joined
 pub mod BlockEnds

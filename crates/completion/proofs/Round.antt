@@ -13,7 +13,7 @@ use Rattle.lattice.specs.Refusals.{Simple}
 use Rattle.lattice.specs.Walked.{NeverLeaves, Walked}
 use Rattle.lattice.proofs.WalkLaws.{walk-append, OnChart, corners-on-chart, simple-of-walked}
 use Rattle.rows.proofs.Rows.{Rows}
-use Rattle.completion.specs.Runs.{across, capped, hood, outlineOf, Overlapping}
+use Rattle.completion.specs.RowsOutline.{across, capped, hood, outlineOf, Overlapping}
 use Rattle.completion.proofs.Paths.{Visits, Apart, Keeps, Path, apart-append, keeps-append, apart-at, keeps-at}
 use Rattle.completion.proofs.Segments.{Between, visits-across, path-across, length-across}
 use Rattle.completion.proofs.Hood.{same-col, Stack, higher, Hooded, hooded}

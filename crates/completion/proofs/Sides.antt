@@ -25,7 +25,7 @@ use Rattle.convexity.specs.Cut.{westPlace}
 use Rattle.convexity.specs.Clockwise.{opposite, reversed, clockwiseForm, border, block}
 use Rattle.convexity.proofs.Clockwise.{length-backward, letter-backward, corner-backward, backward-corners, backward-backward, simple-backward, simple-form, clockwise-form, by-reading, west-first, leaving-west}
 use Rattle.convexity.proofs.Levels.{In, tested, enclosed-level, level-enclosed, up-counted, first-lowest, leaves-upwards}
-use Rattle.completion.specs.Runs.{outlineOf}
+use Rattle.completion.specs.RowsOutline.{outlineOf}
 use Rattle.completion.specs.HullRows.{hullLeft, hullRight}
 use Rattle.completion.specs.Complete.{firstCell, pastCell, firstRow, pastRow, hullOutline, complete}
 use Rattle.completion.specs.parts.Sides.{alongRow, firstSide, lastSide, lowestCorner, highestCorner, completeBySides}
@@ -100,11 +100,11 @@ module _ (o : Outline) (h : Simple o) (r c : ℕ) where
             let a : letterAt o j ≡ 3 = opposite-up (letterAt o j) (w .letter j k) (sym letter ∙ e) in
             let q = corner ∙ ap (step (cornerAt o j)) a in
             let z = eqb-false (cornerAt o j .row) 0 (rw a at (w .stays j k)) in
-            record { place = j; below = k; passes = along-down r (cornerAt o j) (letterAt o j) a (omega (arith, row-is q)); said = sym (col-is q) ∙ m .said }
+            record { place = j; below = k; passes = along-down r (cornerAt o j) (letterAt o j) a (omega (arith, row-is q)); value = sym (col-is q) ∙ m .value }
         | inr (e, d) ↦
             let a : letterAt o j ≡ 1 = opposite-down (letterAt o j) (w .letter j k) (sym letter ∙ e) in
             let q = corner ∙ ap (step (cornerAt o j)) a in
-            record { place = j; below = k; passes = along-up r (cornerAt o j) (letterAt o j) a (omega (arith, row-is q)); said = sym (col-is q) ∙ m .said }
+            record { place = j; below = k; passes = along-up r (cornerAt o j) (letterAt o j) a (omega (arith, row-is q)); value = sym (col-is q) ∙ m .value }
       ]
 
 module _ (o : Outline) (h : Simple o) (r c : ℕ) where
@@ -161,12 +161,12 @@ module _ (o : Outline) (h : Simple o) where
             let x : suc (p .col) ≡ suc d = sym (ap (λ (b : ℕ). rightOf p b .col) a) ∙ e in
             let y : suc (p .row) ≡ suc s = sym (ap (λ (b : ℕ). rightOf p b .row) a) ∙ f in
             let z : s ≡ r = omega arith in
-            (d, ap (block o d) (sym z) ∙ g, omega (arith, m .said), omega (arith, m .said))
+            (d, ap (block o d) (sym z) ∙ g, omega (arith, m .value), omega (arith, m .value))
         | inr (a, q) ↦
             let x : p .col ≡ suc d = sym (ap (λ (b : ℕ). rightOf p b .col) a) ∙ e in
             let y : p .row ≡ suc s = sym (ap (λ (b : ℕ). rightOf p b .row) a) ∙ f in
             let z : s ≡ r = omega arith in
-            (d, ap (block o d) (sym z) ∙ g, omega (arith, m .said), omega (arith, m .said))
+            (d, ap (block o d) (sym z) ∙ g, omega (arith, m .value), omega (arith, m .value))
       ]
 
   side-after : (r c : ℕ) → Side o r c → firstCell (block o) r ≤ c
@@ -183,7 +183,7 @@ module _ (o : Outline) (h : Simple o) where
       found : (f : ℕ) → 1 ≤ upsAt (clockwiseForm o) f (suc r) → Side (clockwiseForm o) r f
       found f k =
           let (i, l, a, d, _) = ups-found (clockwiseForm o) f (suc r) k in
-          record { place = i; below = l; passes = along-up r (cornerAt (clockwiseForm o) i) (letterAt (clockwiseForm o) i) a (row-is d ∙ omega arith); said = col-is d }
+          record { place = i; below = l; passes = along-up r (cornerAt (clockwiseForm o) i) (letterAt (clockwiseForm o) i) a (row-is d ∙ omega arith); value = col-is d }
 
       go : (f : ℕ) → firstCell (block o) r ≡ f → Side (clockwiseForm o) r (firstCell (block o) r)
       go zero d =
@@ -229,7 +229,7 @@ module _ (o : Outline) (h : Simple o) where
                   z,
                 ) in
                 let (i, l, a, q) = downs-found (clockwiseForm o) (suc f) (suc r) k in
-                record { place = i; below = l; passes = along-down r (cornerAt (clockwiseForm o) i) (letterAt (clockwiseForm o) i) a (row-is q); said = col-is q ∙ sym d }
+                record { place = i; below = l; passes = along-down r (cornerAt (clockwiseForm o) i) (letterAt (clockwiseForm o) i) a (row-is q); value = col-is q ∙ sym d }
           ]
 
   pub first-side : (r : ℕ) → firstSide o r ≡ firstCell (block o) r
@@ -261,13 +261,13 @@ module _ (o : Outline) (h : Simple o) where
   Row u n = Met (λ p a. true) (λ (p : Point). p .row) (u .start) (u .letters) n
 
   at-row : (u : Outline) (i n : ℕ) → i < size u → cornerAt u i .row ≡ n → Row u n
-  at-row u i n l e = record { place = i; below = l; passes = refl; said = e }
+  at-row u i n l e = record { place = i; below = l; passes = refl; value = e }
 
   row-from : (u : Outline) → SameCorners o u → (n : ℕ) → Row o n → Row u n
-  row-from u s n m = let (j, l, e) = s .there (m .place) (m .below) in at-row u j n l (row-is e ∙ m .said)
+  row-from u s n m = let (j, l, e) = s .there (m .place) (m .below) in at-row u j n l (row-is e ∙ m .value)
 
   row-into : (u : Outline) → SameCorners o u → (n : ℕ) → Row u n → Row o n
-  row-into u s n m = let (j, l, e) = s .back (m .place) (m .below) in at-row o j n l (row-is e ∙ m .said)
+  row-into u s n m = let (j, l, e) = s .back (m .place) (m .below) in at-row o j n l (row-is e ∙ m .value)
 
   same-corners : SameCorners o (clockwiseForm o)
   same-corners =
@@ -289,7 +289,7 @@ module _ (o : Outline) (h : Simple o) where
       let i = k .place in
       let (c, r, _, e, g) = right-cell i (k .below) in
       let q = right-row (cornerAt (clockwiseForm o) i) (letterAt (clockwiseForm o) i) (w .letter i (k .below)) in
-      omega (arith, q, e, k .said, row-after (block o) joined-up c r g, row-before (block o) joined-up c r g)
+      omega (arith, q, e, k .value, row-after (block o) joined-up c r g, row-before (block o) joined-up c r g)
 
   low-met : Row o (firstRow (block o))
   low-met =
@@ -340,10 +340,10 @@ module _ (o : Outline) (h : Simple o) where
       let (i, l, e) = same-corners .there (m .place) (m .below) in
       let (c, r, d, _, g) = right-cell i l in
       let q = right-col (cornerAt (clockwiseForm o) i) (letterAt (clockwiseForm o) i) (w .letter i l) in
-      (c, r, g, omega (arith, q, d, col-is e, m .said), omega (arith, q, d, col-is e, m .said))
+      (c, r, g, omega (arith, q, d, col-is e, m .value), omega (arith, q, d, col-is e, m .value))
 
   side-col : (r c : ℕ) → Side o r c → Col o c
-  side-col r c m = record { place = m .place; below = m .below; passes = refl; said = m .said }
+  side-col r c m = record { place = m .place; below = m .below; passes = refl; value = m .value }
 
   pub first-col : (r : ℕ) → block o (firstCell (block o) r) r ≡ true → Col o (firstCell (block o) r)
   first-col r e = side-col r _ (first-met r e)

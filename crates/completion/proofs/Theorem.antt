@@ -22,7 +22,7 @@ use Rattle.convexity.specs.SameBlock.{SameCells}
 use Rattle.convexity.proofs.SameBlock.{same-from-w-iff}
 use Rattle.verdict.specs.Verdict.{verdictOf}
 use Rattle.verdict.proofs.Convex.{taken-iff-convex}
-use Rattle.completion.specs.Runs.{outlineOf, Overlapping}
+use Rattle.completion.specs.RowsOutline.{outlineOf, Overlapping}
 use Rattle.completion.specs.HullRows.{hullLeft, hullRight}
 use Rattle.completion.specs.Complete.{firstCell, pastCell, firstRow, pastRow, hullOutline, complete}
 use Rattle.completion.proofs.Round.{outline-simple}

@@ -16,7 +16,7 @@ use Rattle.completion.specs.parts.Written.{ascent, descent, toRow, writtenFrom}
 use Rattle.completion.specs.HullRows.{hullLeft, hullRight}
 use Rattle.completion.specs.Complete.{firstCell, pastCell, firstRow, pastRow, hullOutline, complete}
 use Rattle.completion.proofs.Count.{Least}
-use Rattle.completion.proofs.Climb.{lowest-row}
+use Rattle.completion.proofs.LeftSide.{lowest-row}
 use Rattle.completion.proofs.HullRows.{hull-rows}
 use Rattle.completion.proofs.BlockEnds.{block-joined, rows-fit, ends as block-ends}
 use Rattle.completion.proofs.Extent.{hull-letters, length-border}

@@ -14,7 +14,7 @@ use Rattle.chart.specs.Limits.{side, longest}
 use Rattle.chart.specs.Outline.{Outline, at}
 use Rattle.chart.specs.declared.Point.{Point}
 use Rattle.chart.specs.declared.Fields.{Fields}
-use Rattle.chart.specs.Fields.{numbered, placed, said, accepted, no-word, inside, outside, taken, same}
+use Rattle.chart.specs.Fields.{numbered, placed, worded, accepted, no-word, inside, outside, taken, same}
 use Rattle.chart.specs.declared.Verdict.the-variants.{Taken}
 use Rattle.lattice.specs.Refusals.{Simple}
 use Rattle.verdict.proofs.Computes.{computes}
@@ -44,7 +44,7 @@ replied cs = map replyFields (Book.replies (map (by 0) cs))
 
 -- The replies of n calls that succeed, with no word
 unfoldable pub done : ℕ → List Fields
-done n = replicate n (said no-word)
+done n = replicate n (worded no-word)
 
 unfoldable pub H3 : List ℕ
 H3 = 1 ∷ 0 ∷ 1 ∷ 0 ∷ 3 ∷ 0 ∷ 3 ∷ 2 ∷ 3 ∷ 2 ∷ 1 ∷ 2 ∷ []
@@ -97,19 +97,19 @@ same-h3-back = same-border-iff h3-back h4 simple-h3-back simple-h4 .1 refl
 by-words : Bool → Bool → List Fields
 by-words t u =
     done 13 ++ (accepted taken 4 (at 0 1) ∷ (done 13 ++ (replyFields (Book.closedReply t (Taken 4 (at 0 1))) ∷
-    (done 13 ++ (replyFields (Book.closedReply u (Taken 4 (at 0 1))) ∷ said inside ∷ said outside ∷ numbered 11 ∷ [])))))
+    (done 13 ++ (replyFields (Book.closedReply u (Taken 4 (at 0 1))) ∷ worded inside ∷ worded outside ∷ numbered 11 ∷ [])))))
 
 -- H3, then H4, which is the same block from another start, then H3 drawn backward: "same" both times
 pub taken-then-same : replied (draw 2 (at 0 1) H3 ++ (draw 2 (at 1 1) H4 ++ (draw 2 (at 0 1) H3-back ++ (query 2 (at 1 2) ∷ query 2 (at 0 2) ∷ query 2 (at 0 side) ∷ []))))
     ≡ done 13 ++ (accepted taken 4 (at 0 1) ∷ (done 13 ++ (accepted same 4 (at 0 1) ∷
-    (done 13 ++ (accepted same 4 (at 0 1) ∷ said inside ∷ said outside ∷ numbered 11 ∷ [])))))
+    (done 13 ++ (accepted same 4 (at 0 1) ∷ worded inside ∷ worded outside ∷ numbered 11 ∷ [])))))
 unfolding opened by-words
 taken-then-same = λ z. by-words (same-h4 z) (same-h3-back z)
 
 -- With a clear between, nothing is at work, and H3 again is "taken". A refused close keeps what is at work and ends the draft
 pub clear-between : replied (draw 2 (at 0 1) H3 ++ (Clear 2 ∷ query 2 (at 1 1) ∷ (draw 2 (at 0 1) H3 ++ (draw 2 (at 0 0) H6 ++ (Close 2 ∷ query 2 (at 1 1) ∷ [])))))
-    ≡ done 13 ++ (accepted taken 4 (at 0 1) ∷ said no-word ∷ numbered 12 ∷ (done 13 ++ (accepted taken 4 (at 0 1) ∷ (done 13 ++
-    (record { number = 9; word = no-word; place = 4; piece = 2; length = 4; col = 1; row = 1 } ∷ numbered 13 ∷ said inside ∷ [])))))
+    ≡ done 13 ++ (accepted taken 4 (at 0 1) ∷ worded no-word ∷ numbered 12 ∷ (done 13 ++ (accepted taken 4 (at 0 1) ∷ (done 13 ++
+    (record { number = 9; word = no-word; place = 4; piece = 2; length = 4; col = 1; row = 1 } ∷ numbered 13 ∷ worded inside ∷ [])))))
 unfolding opened
 clear-between = refl
 
@@ -125,7 +125,7 @@ adding zero s w acting fits = rw append-nil
 adding (suc n) s w acting fits =
     let room : leb longest (length w) ≡ false = lt-leb longest (length w) (omega arith) in
     let rest = adding n s (w ++ (1 ∷ [])) acting (simp length-append (omega arith)) in
-    rw room (ap (λ (r : List Fields). said no-word ∷ r) (rest ∙ simp append-assoc))
+    rw room (ap (λ (r : List Fields). worded no-word ∷ r) (rest ∙ simp append-assoc))
 
 -- Calls that the state refuses
 pub out-of-place : List Action
@@ -138,17 +138,17 @@ unfolding replied Book.replies
 replied-alone acting = ap (map replyFields) (alone 0 refl Book.fresh acting)
 
 from-page : map replyFields (actsFrom (Book.fresh 0) out-of-place)
-    ≡ numbered 12 ∷ numbered 13 ∷ numbered 13 ∷ numbered 13 ∷ numbered 2 ∷ said no-word ∷ numbered 14 ∷ placed 3 0 ∷
-    (done longest ++ (numbered 15 ∷ said no-word ∷ numbered 13 ∷ []))
+    ≡ numbered 12 ∷ numbered 13 ∷ numbered 13 ∷ numbered 13 ∷ numbered 2 ∷ worded no-word ∷ numbered 14 ∷ placed 3 0 ∷
+    (done longest ++ (numbered 15 ∷ worded no-word ∷ numbered 13 ∷ []))
 unfolding opened drawn out-of-place
 from-page =
-    ap (λ (r : List Fields). numbered 12 ∷ numbered 13 ∷ numbered 13 ∷ numbered 13 ∷ numbered 2 ∷ said no-word ∷ numbered 14 ∷ placed 3 0 ∷ r)
+    ap (λ (r : List Fields). numbered 12 ∷ numbered 13 ∷ numbered 13 ∷ numbered 13 ∷ numbered 2 ∷ worded no-word ∷ numbered 14 ∷ placed 3 0 ∷ r)
     (adding longest (at 0 0) [] (Add 9 ∷ Drop ∷ Drop ∷ []) (lit≤ tt))
 
 -- Every refusal by the state: 12, 13 three times, 14, and 15 at 612 letters and not before; 2 and 3 where they belong
 pub state-refusals : replied out-of-place
-    ≡ numbered 12 ∷ numbered 13 ∷ numbered 13 ∷ numbered 13 ∷ numbered 2 ∷ said no-word ∷ numbered 14 ∷ placed 3 0 ∷
-    (done longest ++ (numbered 15 ∷ said no-word ∷ numbered 13 ∷ []))
+    ≡ numbered 12 ∷ numbered 13 ∷ numbered 13 ∷ numbered 13 ∷ numbered 2 ∷ worded no-word ∷ numbered 14 ∷ placed 3 0 ∷
+    (done longest ++ (numbered 15 ∷ worded no-word ∷ numbered 13 ∷ []))
 state-refusals = replied-alone out-of-place ∙ from-page
 
 -- Knee and ankle mixed: each has its own draft and its own outlines. 19 comes
@@ -156,6 +156,6 @@ state-refusals = replied-alone out-of-place ∙ from-page
 pub both-parties : map replyFields (Book.replies (
     map (by 1) (Begin (at 0 0) ∷ []) ++ (map (by 0) (draw 1 (at 0 1) H3) ++ (
     by 2 (Close 4) ∷ by 1 (Clear 4) ∷ by 0 (Close 4) ∷ by 0 (query 1 (at 1 1)) ∷ by 1 (query 1 (at 1 1)) ∷ by 0 (query 3 (at 1 1)) ∷ by 1 (Close 4) ∷ by 1 (Close 1) ∷ []))))
-    ≡ done 14 ++ (accepted taken 4 (at 0 1) ∷ numbered 19 ∷ numbered 20 ∷ numbered 20 ∷ said inside ∷ numbered 12 ∷ numbered 12 ∷ numbered 20 ∷ numbered 13 ∷ [])
+    ≡ done 14 ++ (accepted taken 4 (at 0 1) ∷ numbered 19 ∷ numbered 20 ∷ numbered 20 ∷ worded inside ∷ numbered 12 ∷ numbered 12 ∷ numbered 20 ∷ numbered 13 ∷ [])
 unfolding opened
 both-parties = refl

@@ -2,7 +2,7 @@
 pub mod Drafts
 pub mod Works
 pub mod Slots
-pub mod Pages
+pub mod Actions
 pub mod ListTheorem
 pub mod Parties
 pub mod Queries

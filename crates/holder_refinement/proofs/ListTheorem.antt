@@ -17,7 +17,7 @@ use Rattle.holder.proofs.Places.{reached-below}
 use Rattle.holder.specs.Run.{handledFrom, handled, holderAfter, replyAfter}
 use Rattle.holder_refinement.proofs.Works.{IsWork}
 use Rattle.holder_refinement.proofs.Slots.{Represents, represents-fresh, written-turns, written-page, represents-turned}
-use Rattle.holder_refinement.proofs.Pages.{act-agrees}
+use Rattle.holder_refinement.proofs.Actions.{act-agrees}
 
 -- A call's reply is the model's, and the next holder represents the next model
 abbrev Agrees : Answered → Answer → Type 0

@@ -61,15 +61,15 @@ module _ (p k : ℕ) (there : p < parties) (inside : k < places) (cs : List Call
     unfolding asks askedPiece
     piece-reply n = ask-reply p k there inside cs (OfPiece n) ∙ ap (askedPiece n) last
 
-    said : (n : ℕ) (s : Stroke) → strokeAt a es n ≡ s → reply n ≡ Drawn (pieceOf s) (cellIn s)
+    drawn : (n : ℕ) (s : Stroke) → strokeAt a es n ≡ s → reply n ≡ Drawn (pieceOf s) (cellIn s)
     unfolding drawnReply
-    said n s e = piece-reply n ∙ ap drawnReply e
+    drawn n s e = piece-reply n ∙ ap drawnReply e
 
     -- Position 0 is the move to the anchor. Then come the lines to the corner cells. Position e, or 1 if e is 0, is the close, and
     -- everything after it is none (contract 7.11)
     pub piece-move : reply 0 ≡ Drawn (MoveTo (half (a .col)) (half (a .row))) a
     unfolding pieceOf cellIn
-    piece-move = said 0 (Move a) (position-move a es)
+    piece-move = drawn 0 (Move a) (position-move a es)
 
     -- The points are the hull's corner cells, in clockwise order, and their floats are exact
     pub pieces-draw : Draws a es (block o)
@@ -92,15 +92,15 @@ module _ (p k : ℕ) (there : p < parties) (inside : k < places) (cs : List Call
     pub piece-line : (n : ℕ) → n < length ends → reply (n + 1) ≡ Drawn (LineTo (half (getD ends n a .col)) (half (getD ends n a .row))) (getD ends n a)
     unfolding strokeAt pieceOf cellIn
     piece-line n h =
-        said (n + 1) (Line (getD ends n a))
+        drawn (n + 1) (Line (getD ends n a))
         (ap (λ (l : List Stroke). getD l (n + 1) None) (pieces-draw .pieces) ∙ ap (λ (i : ℕ). getD (Move a ∷ map Line ends ++ (Close ∷ [])) i None) (add-one n)
         ∙ List·getD-append (map Line ends) (Close ∷ []) None n (omega (arith, h, length-map ends Line))
         ∙ line-at ends n h a)
 
     pub piece-close : reply (max 1 (length es / 2)) ≡ Drawn Closed (record { col = 0; row = 0 })
     unfolding pieceOf cellIn
-    piece-close = said _ Close (position-close a es)
+    piece-close = drawn _ Close (position-close a es)
 
     pub piece-none : (n : ℕ) → max 1 (length es / 2) < n → reply n ≡ Drawn NoPiece (record { col = 0; row = 0 })
     unfolding pieceOf cellIn
-    piece-none n l = said n None (position-none a es n l)
+    piece-none n l = drawn n None (position-none a es n l)

@@ -18,7 +18,7 @@ use Rattle.rows.proofs.Line.{right-end, right-of-end}
 use Rattle.rows.proofs.Rows.{begin}
 use Rattle.rows.proofs.Side.{furthest-furthest}
 use Rattle.completion.specs.HullRows.{nextRow, hullLeft}
-use Rattle.completion.proofs.Climb.{Climbed, climbed-start, climbed-writes, climbed-next, lowest-row}
+use Rattle.completion.proofs.LeftSide.{Climbed, climbed-start, climbed-writes, climbed-next, lowest-row}
 use Rattle.completion.proofs.Edges.{crossing-le}
 use Rattle.hull_rows.specs.parts.Ends.{Lowest}
 

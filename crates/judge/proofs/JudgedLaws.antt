@@ -35,8 +35,8 @@ use Rattle.cut_places.specs.parts.Cuts.{CutsOf}
 use Rattle.judge.specs.declared.Round.{Round}
 use Rattle.clockwise_copy.specs.parts.ClockwiseCopy.{readRound, readPlace}
 use Rattle.judge.specs.parts.Round.{RoundOf}
-use Rattle.judge.specs.Judged.{Said, SaidOfRound, SaidOfBorder, zeros, judgedOf}
-use Rattle.judge.proofs.PieceLaws.{from-west, said-refused}
+use Rattle.judge.specs.Judged.{Outcome, OutcomeOfRound, OutcomeOfBorder, zeros, judgedOf}
+use Rattle.judge.proofs.PieceLaws.{from-west, outcome-refused}
 
 -- What the code knows once the letters are copied: the corners, which way they are read, the cut places, W's place v in the clockwise form,
 -- the buffer
@@ -129,10 +129,10 @@ module _ {o : Outline} {f : Corners} {cuts : Cuts} {v : ℕ} {buffer : List ℕ}
   v-lt : v < size (border o)
   v-lt = omega (arith, place-is, border-length, length-form o, west-first (clockwiseForm o) (walked (clockwiseForm o) (simple-form o (h .simple))) .below)
 
-  abbrev told : Round
-  told = record { cuts = cuts; place = v; west = p; bottom = f .bottom; top = f .top }
+  abbrev copied : Round
+  copied = record { cuts = cuts; place = v; west = p; bottom = f .bottom; top = f .top }
 
-  ready : RoundOf told (border o)
+  ready : RoundOf copied (border o)
   ready =
       record {
         walk = from-west o (h .simple);
@@ -143,34 +143,34 @@ module _ {o : Outline} {f : Corners} {cuts : Cuts} {v : ℕ} {buffer : List ℕ}
         places = h .cuts-of .places;
       }
 
-  pub copied-ready : RoundOf told (outline p (take (size o) buffer))
+  pub copied-ready : RoundOf copied (outline p (take (size o) buffer))
   copied-ready = rw border-is ready
 
   -- 8 and 9, or taken
-  pub copied-said : {before after : List ℤ} {r : Verdict} → SaidOfRound forward v (outline p (take (size o) buffer)) before after r → SaidOfBorder o before after r
+  pub copied-outcome : {before after : List ℤ} {r : Verdict} → OutcomeOfRound forward v (outline p (take (size o) buffer)) before after r → OutcomeOfBorder o before after r
   unfolding borderVerdict placeSent
-  copied-said {before} {after} {r} e =
-      subst (λ (place : ℕ → ℕ). Said (roundVerdict place (border o)) (edges (border o)) before after r) (λ z. sentFrom (way-is z) (border-length z) (place-is z))
-      (subst (λ (t : Outline). SaidOfRound forward v t before after r) border-is e)
+  copied-outcome {before} {after} {r} e =
+      subst (λ (place : ℕ → ℕ). Outcome (roundVerdict place (border o)) (edges (border o)) before after r) (λ z. sentFrom (way-is z) (border-length z) (place-is z))
+      (subst (λ (t : Outline). OutcomeOfRound forward v t before after r) border-is e)
 
 -- ---- the judgement
 
 -- The verdict on an outline and its edges
-abbrev SaidOf : Outline → List ℤ → List ℤ → Verdict → Type 0
-SaidOf o = Said (verdictOf o) (edges (border o))
+abbrev OutcomeOf : Outline → List ℤ → List ℤ → Verdict → Type 0
+OutcomeOf o = Outcome (verdictOf o) (edges (border o))
 
 module _ (o : Outline) where
-  pub stopped-said : {f : Refusal} → surveyOf o ≡ Stopped f → (before : List ℤ) → SaidOf o before before (Refused f)
+  pub stopped-outcome : {f : Refusal} → surveyOf o ≡ Stopped f → (before : List ℤ) → OutcomeOf o before before (Refused f)
   unfolding verdictOf afterSurvey
-  stopped-said h before = said-refused (edges (border o)) before (rw h refl)
+  stopped-outcome h before = outcome-refused (edges (border o)) before (rw h refl)
 
-  pub passed-said : {c : Corners} → surveyOf o ≡ Passed c → {before after : List ℤ} {r : Verdict} → SaidOfBorder o before after r → SaidOf o before after r
+  pub passed-outcome : {c : Corners} → surveyOf o ≡ Passed c → {before after : List ℤ} {r : Verdict} → OutcomeOfBorder o before after r → OutcomeOf o before after r
   unfolding verdictOf afterSurvey
-  passed-said h e = rw h e
+  passed-outcome h e = rw h e
 
-  pub said-edges : {before after : List ℤ} {r : Verdict} → SaidOf o before after r → after ≡ edgesAfter o before
+  pub outcome-edges : {before after : List ℤ} {r : Verdict} → OutcomeOf o before after r → after ≡ edgesAfter o before
   unfolding edgesAfter testOf
-  said-edges e = e .buffer
+  outcome-edges e = e .buffer
 
   -- A list of zeros has room for the edges of every outline
   zeros-room : (v : Verdict) → verdictOf o ≡ v → withRoom (length zeros) v ≡ v

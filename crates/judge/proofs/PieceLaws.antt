@@ -44,7 +44,7 @@ use Rattle.dents.specs.parts.Dents.{DentIs, EdgesAre, DentRead}
 use Rattle.judge.specs.parts.Round.{FromWest, RoundOf, dentAs}
 use Rattle.pieces.proofs.LaidLaws.{length-rounds}
 use Rattle.pieces.proofs.LaidLaws.{laid-round, laid-once}
-use Rattle.judge.specs.Judged.{Written, Said, SaidOfRound, zeros}
+use Rattle.judge.specs.Judged.{Written, Outcome, OutcomeOfRound, zeros}
 
 -- ---- the border
 
@@ -92,14 +92,14 @@ module _ {t : Round} {o : Outline} (h : RoundOf t o) where
 -- ---- the answers
 
 -- A refusal leaves the buffer as it was
-pub said-refused : {v : Verdict} (es before : List ℤ) {f : Refusal} → Refused f ≡ v → Said v es before before (Refused f)
+pub outcome-refused : {v : Verdict} (es before : List ℤ) {f : Refusal} → Refused f ≡ v → Outcome v es before before (Refused f)
 unfolding withRoom bufferAfter
-said-refused es before e = record { verdict = e; buffer = rw (sym e) refl }
+outcome-refused es before e = record { verdict = e; buffer = rw (sym e) refl }
 
 -- The edges of a taken outline are written if there is room for them
-said-taken : {v : Verdict} {es before after : List ℤ} {n : ℕ} {a : Point} → Taken n a ≡ v → length es ≡ 2 * n → Written es (2 * n) before after → Said v es before after (Taken n a)
+outcome-taken : {v : Verdict} {es before after : List ℤ} {n : ℕ} {a : Point} → Taken n a ≡ v → length es ≡ 2 * n → Written es (2 * n) before after → Outcome v es before after (Taken n a)
 unfolding withRoom bufferAfter
-said-taken {v} {es} {before} {after} {n} {a} e size l =
+outcome-taken {v} {es} {before} {after} {n} {a} e size l =
     record {
       verdict = e;
       buffer =
@@ -111,23 +111,23 @@ said-taken {v} {es} {before} {after} {n} {a} e size l =
     }
 
 module _ (forward : Bool) (v : ℕ) (o : Outline) where
-  abbrev said : Verdict
-  said = roundVerdict (sentFrom forward (size o) v) o
+  abbrev ruling : Verdict
+  ruling = roundVerdict (sentFrom forward (size o) v) o
 
-  round-back-step : {k i : ℕ} → StepIs o k i → k < 4 → Refused (BackStep (k + 1) (sentFrom forward (size o) v i)) ≡ said
+  round-back-step : {k i : ℕ} → StepIs o k i → k < 4 → Refused (BackStep (k + 1) (sentFrom forward (size o) v i)) ≡ ruling
   unfolding roundVerdict backStepIn
   round-back-step {k} h l =
       let b : ltb (backStepPiece o) 4 ≡ true = lt-ltb (backStepPiece o) 4 (omega (arith, h .piece)) in
       rw (b, add-one k, h .at, h .piece)
 
   module _ (b : ltb (backStepPiece o) 4 ≡ false) where
-    round-dent : {k i l : ℕ} → DentIs o k i l → k < 4 → Refused (dentAs forward v o k i l) ≡ said
+    round-dent : {k i l : ℕ} → DentIs o k i l → k < 4 → Refused (dentAs forward v o k i l) ≡ ruling
     unfolding roundVerdict dentIn dentAs
     round-dent {k} h l =
         let c : ltb (dentPiece o) 4 ≡ true = lt-ltb (dentPiece o) 4 (omega (arith, h .piece)) in
         rw (b, c, add-one k, h .at, h .size, h .piece)
 
-    round-taken : dentPiece o ≡ 4 → Taken (edgeCount o) (o .start) ≡ said
+    round-taken : dentPiece o ≡ 4 → Taken (edgeCount o) (o .start) ≡ ruling
     unfolding roundVerdict
     round-taken c = rw (b, c)
 
@@ -138,12 +138,12 @@ module _ {t : Round} {o : Outline} (h : RoundOf t o) where
   short = round-walked (h .walk) .short
 
   -- 8
-  pub step-said : {forward : Bool} {k i place : ℕ} → FoundAt (rounds (o .letters)) (t .cuts .at) k i → SentTo forward (size o) (t .place) i place → (before : List ℤ)
-      → SaidOfRound forward (t .place) o before before (Refused (BackStep (k + 1) place))
-  step-said {forward} {k} {i} {place} e p before =
+  pub step-outcome : {forward : Bool} {k i place : ℕ} → FoundAt (rounds (o .letters)) (t .cuts .at) k i → SentTo forward (size o) (t .place) i place → (before : List ℤ)
+      → OutcomeOfRound forward (t .place) o before before (Refused (BackStep (k + 1) place))
+  step-outcome {forward} {k} {i} {place} e p before =
       let d : place ≡ sentFrom forward (size o) (t .place) i =
       place-sent (h .walk) (h .place) (omega (arith, e .at-le, length-rounds (o .letters), short)) p in
-      said-refused (edges o) before (rw d (round-back-step forward (t .place) o (e .step o (laid-round (h .places))) (e .piece-lt)))
+      outcome-refused (edges o) before (rw d (round-back-step forward (t .place) o (e .step o (laid-round (h .places))) (e .piece-lt)))
 
   pub none-straight : ((v : Outline) → Laid v (t .cuts .at) (rounds (o .letters)) → backStepPiece v ≡ 4) → ltb (backStepPiece o) 4 ≡ false
   none-straight e = rw (e o (laid-round (h .places)))
@@ -157,10 +157,10 @@ module _ {t : Round} {o : Outline} (h : RoundOf t o) where
     laid = laid-once (h .places) (shape o clear .round)
 
     -- 9
-    pub dent-said : (forward : Bool) {k i l : ℕ} → DentRead (o .letters) (t .cuts .at) k i l → {f : Refusal} → f ≡ dentAs forward (t .place) o k i l → (before : List ℤ)
-        → SaidOfRound forward (t .place) o before before (Refused f)
-    dent-said forward e q before =
-        said-refused (edges o) before (ap Refused q ∙ round-dent forward (t .place) o b (e .dent o short laid) (e .piece-lt))
+    pub dent-outcome : (forward : Bool) {k i l : ℕ} → DentRead (o .letters) (t .cuts .at) k i l → {f : Refusal} → f ≡ dentAs forward (t .place) o k i l → (before : List ℤ)
+        → OutcomeOfRound forward (t .place) o before before (Refused f)
+    dent-outcome forward e q before =
+        outcome-refused (edges o) before (ap Refused q ∙ round-dent forward (t .place) o b (e .dent o short laid) (e .piece-lt))
 
     -- Taken
     module _ {numbers : List ℤ} {m : ℕ} (e : (v : Outline) → size v ≤ longest → Laid v (t .cuts .at) (o .letters) → EdgesAre v zeros numbers m) where
@@ -182,8 +182,8 @@ module _ {t : Round} {o : Outline} (h : RoundOf t o) where
       first-numbers : take (2 * m) numbers ≡ edges o
       first-numbers = ap (take (2 * m)) (found .list room) ∙ take-at (edges o) (drop (2 * m) zeros) (2 * m) edges-size
 
-      pub edges-said : (forward : Bool) {before after : List ℤ} → Written (take (2 * m) numbers) (2 * m) before after
-          → SaidOfRound forward (t .place) o before after (Taken m (o .start))
-      edges-said forward {before} {after} l =
-          said-taken (ap (λ (k : ℕ). Taken k (o .start)) (found .count room) ∙ round-taken forward (t .place) o b (found .none)) edges-size
+      pub edges-outcome : (forward : Bool) {before after : List ℤ} → Written (take (2 * m) numbers) (2 * m) before after
+          → OutcomeOfRound forward (t .place) o before after (Taken m (o .start))
+      edges-outcome forward {before} {after} l =
+          outcome-taken (ap (λ (k : ℕ). Taken k (o .start)) (found .count room) ∙ round-taken forward (t .place) o b (found .none)) edges-size
           (rw first-numbers at l)

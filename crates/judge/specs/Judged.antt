@@ -20,17 +20,17 @@ pub record Written (es : List ℤ) (n : ℕ) (before after : List ℤ) : Type 0 
   pub none : length before < n → after ≡ before
 
 -- The verdict is v, and the edges es are written if it takes the outline and there is room
-pub record Said (v : Verdict) (es before after : List ℤ) (r : Verdict) : Type 0 where
+pub record Outcome (v : Verdict) (es before after : List ℤ) (r : Verdict) : Type 0 where
   pub verdict : r ≡ v
   pub buffer : after ≡ bufferAfter (withRoom (length before) v) es before
 
 -- For a border o, read forward or backward from the list as sent, where W's letter stands at v in the clockwise form
-abbrev pub SaidOfRound : Bool → ℕ → Outline → List ℤ → List ℤ → Verdict → Type 0
-SaidOfRound forward v o = Said (roundVerdict (sentFrom forward (size o) v) o) (edges o)
+abbrev pub OutcomeOfRound : Bool → ℕ → Outline → List ℤ → List ℤ → Verdict → Type 0
+OutcomeOfRound forward v o = Outcome (roundVerdict (sentFrom forward (size o) v) o) (edges o)
 
 -- For an outline that passes refusals 1 to 6
-abbrev pub SaidOfBorder : Outline → List ℤ → List ℤ → Verdict → Type 0
-SaidOfBorder o = Said (borderVerdict o) (edges (border o))
+abbrev pub OutcomeOfBorder : Outline → List ℤ → List ℤ → Verdict → Type 0
+OutcomeOfBorder o = Outcome (borderVerdict o) (edges (border o))
 
 abbrev pub zeros : List ℤ
 zeros = replicate mostNumbers (pos 0)

@@ -22,7 +22,7 @@ ghost use Rattle.convexity.specs.Pieces.{backStepPiece};
 ghost use Rattle.survey.specs.Survey.{cornersOf};
 ghost use Rattle.verdict.specs.Verdict.{verdictOf, edgesAfter};
 ghost use Rattle.judge.specs.parts.Round.{RoundOf, dentAs};
-ghost use Rattle.judge.specs.Judged.{Written, SaidOfRound, SaidOfBorder, judgedOf};
+ghost use Rattle.judge.specs.Judged.{Written, OutcomeOfRound, OutcomeOfBorder, judgedOf};
 
 // Copies the first n numbers of a list to the front of the buffer.
 fn copy_edges(list: &[i16], n: usize, buffer: &mut [i16])
@@ -76,7 +76,7 @@ fn dent(round: Round, letters: &[u8], piece: usize, at: usize, length: usize) ->
 fn edges(round: Round, letters: &[u8], buffer: &mut [i16]) -> Verdict
     requires { ⌜ RoundOf round (outline (round .west) (now letters)) ⌝ }
     requires { ⌜ ltb (backStepPiece (outline (round .west) (now letters))) 4 ≡ false ⌝ }
-    ensures { λ r. ⌜ SaidOfRound (round .cuts .forward) (round .place) (outline (round .west) (now (letters .entry))) (now (buffer .entry)) (now (buffer .exit)) r ⌝ }
+    ensures { λ r. ⌜ OutcomeOfRound (round .cuts .forward) (round .place) (outline (round .west) (now (letters .entry))) (now (buffer .entry)) (now (buffer .exit)) r ⌝ }
 {
     let mut numbers = [0i16; MOST_NUMBERS];
     let factored = dents::read(round.cuts, letters, &mut numbers);
@@ -98,7 +98,7 @@ fn edges(round: Round, letters: &[u8], buffer: &mut [i16]) -> Verdict
 // Refusals 8 and 9 or the edges, for a border.
 fn pieces(round: Round, letters: &[u8], buffer: &mut [i16]) -> Verdict
     requires { ⌜ RoundOf round (outline (round .west) (now letters)) ⌝ }
-    ensures { λ r. ⌜ SaidOfRound (round .cuts .forward) (round .place) (outline (round .west) (now (letters .entry))) (now (buffer .entry)) (now (buffer .exit)) r ⌝ }
+    ensures { λ r. ⌜ OutcomeOfRound (round .cuts .forward) (round .place) (outline (round .west) (now (letters .entry))) (now (buffer .entry)) (now (buffer .exit)) r ⌝ }
 {
     let found = back_steps::first(round.cuts, letters);
     match found {
@@ -117,7 +117,7 @@ fn pieces(round: Round, letters: &[u8], buffer: &mut [i16]) -> Verdict
 fn read(start: Point, letters: &[u8], found: Corners, buffer: &mut [i16]) -> Verdict
     requires { ⌜ Simple (outline start (now letters)) ⌝ }
     requires { ⌜ found ≡ cornersOf (outline start (now letters)) ⌝ }
-    ensures { λ r. ⌜ SaidOfBorder (outline start (now (letters .entry))) (now (buffer .entry)) (now (buffer .exit)) r ⌝ }
+    ensures { λ r. ⌜ OutcomeOfBorder (outline start (now (letters .entry))) (now (buffer .entry)) (now (buffer .exit)) r ⌝ }
 {
     let count = letters.len();
     let cuts = cut_places::cut_places(letters, found);

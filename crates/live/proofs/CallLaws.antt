@@ -25,12 +25,12 @@ use Rattle.calls.specs.declared.Call.{Call}
 use Rattle.calls.specs.declared.Reply.{Reply}
 use Rattle.holder.specs.Holder.{answerOf}
 use Rattle.wire.specs.declared.Decoded.{Decoded}
-use Rattle.wire.specs.declared.Decoded.the-variants.{Call as Said, Nothing}
+use Rattle.wire.specs.declared.Decoded.the-variants.{Call as OfCall, Nothing}
 use Rattle.wire.specs.Wire.{callWidth, replyWidth, long, letterOf, shortOf, pointOf, callOf, decoded, received}
 use Rattle.live_memory.specs.Layout.{letterBytes, rowBytes, edgeNumbers, headNumbers, Memory, memory, holderIn, Fits}
 use Rattle.live_memory.specs.parts.Writes.{Answers}
 use Rattle.live_memory.proofs.Zeros.{zeros, zeros-fresh}
-use Rattle.live.specs.Called.{spoken, isCall, nextHolder, replyBy, pieceDrawn, pointBy, writes, Called, Done, PointDrawn, Freshened}
+use Rattle.live.specs.Called.{ifRoom, isCall, nextHolder, replyBy, pieceDrawn, pointBy, writes, Called, Done, PointDrawn, Freshened}
 
 -- Four arrays of these lengths
 pub fits-by : (m : Memory) → length (m .letters) ≡ letterBytes → length (m .rows) ≡ rowBytes → length (m .numbers) ≡ edgeNumbers → length (m .heads) ≡ headNumbers → Fits m
@@ -38,13 +38,13 @@ fits-by m l r n h = record { letters = l; rows = r; numbers = n; heads = h }
 
 -- ---- whether a call by its arguments has room
 
-pub spoken-short : (c : Call) (room : ℕ) → room < replyWidth → spoken c room ≡ Nothing
-unfolding spoken
-spoken-short c room h = rw (lt-leb replyWidth room h)
+pub ifRoom-short : (c : Call) (room : ℕ) → room < replyWidth → ifRoom c room ≡ Nothing
+unfolding ifRoom
+ifRoom-short c room h = rw (lt-leb replyWidth room h)
 
-pub spoken-said : (c : Call) (room : ℕ) → replyWidth ≤ room → spoken c room ≡ Said c
-unfolding spoken
-spoken-said c room h = rw (le-leb replyWidth room h)
+pub ifRoom-call : (c : Call) (room : ℕ) → replyWidth ≤ room → ifRoom c room ≡ OfCall c
+unfolding ifRoom
+ifRoom-call c room h = rw (le-leb replyWidth room h)
 
 -- ---- not made, and made
 
@@ -68,10 +68,10 @@ module _ (F : Type 0) (m : Memory) (d : Decoded) (reply : List ℕ) where
   unfolding isCall
   nothing-called n = undone (λ f. rw n)
 
-  pub told-called : F → (c : Call) → d ≡ Said c → (n : Memory) (r : Reply) → Answers m n c r → (Fits m → Fits n) → (g : Fields) → g ≡ replyFields r → (l : List ℕ) → l ≡ replyAfter g reply
+  pub replied-called : F → (c : Call) → d ≡ OfCall c → (n : Memory) (r : Reply) → Answers m n c r → (Fits m → Fits n) → (g : Fields) → g ≡ replyFields r → (l : List ℕ) → l ≡ replyAfter g reply
       → (b : Bool) → b ≡ true → Called F m n d reply l b
   unfolding isCall nextHolder replyBy writes
-  told-called f c e n r a kept g named l put b so =
+  replied-called f c e n r a kept g named l put b so =
       record {
         done = λ f. so ∙ rw e;
         holder = λ z. rw e (a .holder);
@@ -83,9 +83,9 @@ module _ (F : Type 0) (m : Memory) (d : Decoded) (reply : List ℕ) where
       }
 
   -- The reply of a call is written where it has room
-  pub written-called : F → replyWidth ≤ length reply → (c : Call) → d ≡ Said c → (n : Memory) (r : Reply) → Answers m n c r → (Fits m → Fits n) → (g : Fields) → g ≡ replyFields r
+  pub written-called : F → replyWidth ≤ length reply → (c : Call) → d ≡ OfCall c → (n : Memory) (r : Reply) → Answers m n c r → (Fits m → Fits n) → (g : Fields) → g ≡ replyFields r
       → (b : Bool) → b ≡ leb replyWidth (length reply) → (l : List ℕ) → l ≡ replyAfter g reply → Called F m n d reply l b
-  written-called f room c e n r a kept g named b told l put = told-called f c e n r a kept g named l put b (told ∙ le-leb replyWidth (length reply) room)
+  written-called f room c e n r a kept g named b told l put = replied-called f c e n r a kept g named l put b (told ∙ le-leb replyWidth (length reply) room)
 
 -- ---- bytes as a call, and the call of each number
 
@@ -103,63 +103,63 @@ unfolding received decoded
 received-call s room h e x y ex ey = rw (le-leb replyWidth room h, eq-eqb (length s) callWidth e, ex, ey)
 
 module _ (n p k x y : ℕ) where
-  pub is-begin : (s : Point) → n ≡ 0 → s ≡ pointOf x y → callOf n p k x y ≡ Said (by p (Begin s))
+  pub is-begin : (s : Point) → n ≡ 0 → s ≡ pointOf x y → callOf n p k x y ≡ OfCall (by p (Begin s))
   unfolding callOf
   is-begin s e f = rw (e, f)
 
-  pub is-add : (a : ℕ) → n ≡ 1 → a ≡ letterOf x → callOf n p k x y ≡ Said (by p (Add a))
+  pub is-add : (a : ℕ) → n ≡ 1 → a ≡ letterOf x → callOf n p k x y ≡ OfCall (by p (Add a))
   unfolding callOf
   is-add a e f = rw (e, f)
 
-  pub is-drop : n ≡ 2 → callOf n p k x y ≡ Said (by p Drop)
+  pub is-drop : n ≡ 2 → callOf n p k x y ≡ OfCall (by p Drop)
   unfolding callOf
   is-drop e = rw e
 
-  pub is-clear : n ≡ 3 → callOf n p k x y ≡ Said (by p (Clear k))
+  pub is-clear : n ≡ 3 → callOf n p k x y ≡ OfCall (by p (Clear k))
   unfolding callOf
   is-clear e = rw e
 
-  pub is-close : n ≡ 4 → callOf n p k x y ≡ Said (by p (Close k))
+  pub is-close : n ≡ 4 → callOf n p k x y ≡ OfCall (by p (Close k))
   unfolding callOf
   is-close e = rw e
 
-  pub is-query : (s : Point) → n ≡ 5 → s ≡ pointOf x y → callOf n p k x y ≡ Said (by p (Ask k (OfCell s)))
+  pub is-query : (s : Point) → n ≡ 5 → s ≡ pointOf x y → callOf n p k x y ≡ OfCall (by p (Ask k (OfCell s)))
   unfolding callOf
   is-query s e f = rw (e, f)
 
-  pub is-row : (a : ℕ) → n ≡ 6 → a ≡ shortOf x → callOf n p k x y ≡ Said (by p (Ask k (OfRow a)))
+  pub is-row : (a : ℕ) → n ≡ 6 → a ≡ shortOf x → callOf n p k x y ≡ OfCall (by p (Ask k (OfRow a)))
   unfolding callOf
   is-row a e f = rw (e, f)
 
-  pub is-reading : (v : Reading) → n ≡ 7 → v ≡ readingOf x y → callOf n p k x y ≡ Said (by p (Ask k (OfReading v)))
+  pub is-reading : (v : Reading) → n ≡ 7 → v ≡ readingOf x y → callOf n p k x y ≡ OfCall (by p (Ask k (OfReading v)))
   unfolding callOf
   is-reading v e f = rw (e, f)
 
-  pub is-piece : (a : ℕ) → n ≡ 8 → a ≡ shortOf x → callOf n p k x y ≡ Said (by p (Ask k (OfPiece a)))
+  pub is-piece : (a : ℕ) → n ≡ 8 → a ≡ shortOf x → callOf n p k x y ≡ OfCall (by p (Ask k (OfPiece a)))
   unfolding callOf
   is-piece a e f = rw (e, f)
 
 -- ---- a call by its arguments
 
 module _ (F : Type 0) (m : Memory) (c : Call) (reply : List ℕ) where
-  pub unfit-made : (F → ⊥) → Called F m m (spoken c (length reply)) reply reply false
-  unfit-made off = unfit-called F m (spoken c (length reply)) reply off
+  pub unfit-made : (F → ⊥) → Called F m m (ifRoom c (length reply)) reply reply false
+  unfit-made off = unfit-called F m (ifRoom c (length reply)) reply off
 
-  pub short-made : length reply < replyWidth → Called F m m (spoken c (length reply)) reply reply false
-  short-made h = nothing-called F m (spoken c (length reply)) reply (spoken-short c (length reply) h)
+  pub short-made : length reply < replyWidth → Called F m m (ifRoom c (length reply)) reply reply false
+  short-made h = nothing-called F m (ifRoom c (length reply)) reply (ifRoom-short c (length reply) h)
 
-  pub told-made : F → replyWidth ≤ length reply → (n : Memory) (r : Reply) → Answers m n c r → (Fits m → Fits n) → (g : Fields) → g ≡ replyFields r → (b : Bool) → b ≡ leb replyWidth (length reply)
-      → (l : List ℕ) → l ≡ replyAfter g reply → Called F m n (spoken c (length reply)) reply l b
-  told-made f room n r a kept g named b told l put =
-      told-called F m (spoken c (length reply)) reply f c (spoken-said c (length reply) room) n r a kept g named l put b (told ∙ le-leb replyWidth (length reply) room)
+  pub written-made : F → replyWidth ≤ length reply → (n : Memory) (r : Reply) → Answers m n c r → (Fits m → Fits n) → (g : Fields) → g ≡ replyFields r → (b : Bool) → b ≡ leb replyWidth (length reply)
+      → (l : List ℕ) → l ≡ replyAfter g reply → Called F m n (ifRoom c (length reply)) reply l b
+  written-made f room n r a kept g named b told l put =
+      replied-called F m (ifRoom c (length reply)) reply f c (ifRoom-call c (length reply) room) n r a kept g named l put b (told ∙ le-leb replyWidth (length reply) room)
 
 -- ---- a call whose arrays have their lengths
 
 module _ (F : Type 0) (m n : Memory) (c : Call) (reply reply′ : List ℕ) (size : length reply ≡ replyWidth) where
-  pub called-done : (b : Bool) → F → Called F m n (spoken c (length reply)) reply reply′ b → Done m n c reply′
+  pub called-done : (b : Bool) → F → Called F m n (ifRoom c (length reply)) reply reply′ b → Done m n c reply′
   unfolding isCall nextHolder replyBy writes
   called-done b f t =
-      let is : spoken c (length reply) ≡ Said c = spoken-said c (length reply) (omega (arith, size)) in
+      let is : ifRoom c (length reply) ≡ OfCall c = ifRoom-call c (length reply) (omega (arith, size)) in
       let so : b ≡ true = t .done f ∙ rw is in
       record {
         holder = t .holder so ∙ rw is;
@@ -169,10 +169,10 @@ module _ (F : Type 0) (m n : Memory) (c : Call) (reply reply′ : List ℕ) (siz
       }
 
   -- So a run can consist of such calls
-  pub done-called : F → Done m n c reply′ → Called F m n (spoken c (length reply)) reply reply′ true
+  pub done-called : F → Done m n c reply′ → Called F m n (ifRoom c (length reply)) reply reply′ true
   unfolding isCall nextHolder replyBy writes
   done-called f d =
-      let is : spoken c (length reply) ≡ Said c = spoken-said c (length reply) (omega (arith, size)) in
+      let is : ifRoom c (length reply) ≡ OfCall c = ifRoom-call c (length reply) (omega (arith, size)) in
       record {
         done = λ f. rw is;
         holder = λ z. d .holder ∙ sym (rw is);
@@ -189,24 +189,24 @@ pub undrawn-point : (m : Memory) (d : Decoded) (point : List Float) → PointDra
 undrawn-point m d point = record { drawn = λ z. absurd (true≢false (sym z)); undrawn = λ z. refl }
 
 pub drawn-point : (m : Memory) (c : Call) (room : ℕ) → replyWidth ≤ room → (point point′ : List Float) (n : Memory) (r : Reply) → Answers m n c r → (p : Piece) → p ≡ pieceIn r
-    → point′ ≡ pointAfter p point → (b : Bool) → b ≡ leb replyWidth room → PointDrawn m (spoken c room) point point′ b
+    → point′ ≡ pointAfter p point → (b : Bool) → b ≡ leb replyWidth room → PointDrawn m (ifRoom c room) point point′ b
 unfolding pointBy pieceDrawn
 drawn-point m c room h point point′ n r a p pe e b told =
     record {
-      drawn = λ z. rw (spoken-said c room h) (e ∙ rw (pe, a .reply));
+      drawn = λ z. rw (ifRoom-call c room h) (e ∙ rw (pe, a .reply));
       undrawn = λ z. absurd (true≢false (sym (told ∙ le-leb replyWidth room h) ∙ z));
     }
 
 -- For a call whose reply has room
-pub point-drawn : (m : Memory) (c : Call) (room : ℕ) → room ≡ replyWidth → (point point′ : List Float) (b : Bool) → b ≡ true → PointDrawn m (spoken c room) point point′ b
+pub point-drawn : (m : Memory) (c : Call) (room : ℕ) → room ≡ replyWidth → (point point′ : List Float) (b : Bool) → b ≡ true → PointDrawn m (ifRoom c room) point point′ b
     → point′ ≡ pieceDrawn (holderIn m) c point
 unfolding pointBy
-point-drawn m c room e point point′ b so p = p .drawn so ∙ rw (spoken-said c room (omega (arith, e)))
+point-drawn m c room e point point′ b so p = p .drawn so ∙ rw (ifRoom-call c room (omega (arith, e)))
 
 -- Whether such a call is done
-pub spoken-done : (F : Type 0) (m n : Memory) (c : Call) (reply reply′ : List ℕ) (b : Bool) → F → length reply ≡ replyWidth → Called F m n (spoken c (length reply)) reply reply′ b → b ≡ true
+pub ifRoom-done : (F : Type 0) (m n : Memory) (c : Call) (reply reply′ : List ℕ) (b : Bool) → F → length reply ≡ replyWidth → Called F m n (ifRoom c (length reply)) reply reply′ b → b ≡ true
 unfolding isCall
-spoken-done F m n c reply reply′ b f size t = t .done f ∙ rw (spoken-said c (length reply) (omega (arith, size)))
+ifRoom-done F m n c reply reply′ b f size t = t .done f ∙ rw (ifRoom-call c (length reply) (omega (arith, size)))
 
 -- ---- a fresh holder
 

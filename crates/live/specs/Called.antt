@@ -13,27 +13,27 @@ use Rattle.drawing.specs.Points.{pointAfter}
 use Rattle.holder.specs.declared.Holder.{Holder}
 use Rattle.holder.specs.Holder.{answerOf, freshHolder}
 use Rattle.wire.specs.declared.Decoded.{Decoded}
-use Rattle.wire.specs.declared.Decoded.the-variants.{Call as Said, Nothing}
+use Rattle.wire.specs.declared.Decoded.the-variants.{Call as OfCall, Nothing}
 use Rattle.wire.specs.Wire.{replyWidth}
 use Rattle.live_memory.specs.Layout.{Memory, holderIn, Fits}
 use Rattle.live_memory.specs.parts.Writes.{callWrites}
 
 -- A call by its arguments, with so many numbers for its reply. Nothing if the reply does not fit. For bytes see `received` in wire
-unfoldable pub spoken : Call → ℕ → Decoded
-spoken c room = cond (leb replyWidth room) (Said c) Nothing
+unfoldable pub ifRoom : Call → ℕ → Decoded
+ifRoom c room = cond (leb replyWidth room) (OfCall c) Nothing
 
 -- Whether there is a call; the next holder and the reply buffer, as the holder by value has them
 unfoldable pub isCall : Decoded → Bool
 isCall Nothing = false
-isCall (Said c) = true
+isCall (OfCall c) = true
 
 unfoldable pub nextHolder : Holder → Decoded → Holder
 nextHolder h Nothing = h
-nextHolder h (Said c) = answerOf h c .holder
+nextHolder h (OfCall c) = answerOf h c .holder
 
 unfoldable pub replyBy : Holder → Decoded → List ℕ → List ℕ
 replyBy h Nothing reply = reply
-replyBy h (Said c) reply = replyAfter (replyFields (answerOf h c .reply)) reply
+replyBy h (OfCall c) reply = replyAfter (replyFields (answerOf h c .reply)) reply
 
 -- The buffer for a point after a piece call (contract 10.5)
 unfoldable pub pieceDrawn : Holder → Call → List Float → List Float
@@ -41,12 +41,12 @@ pieceDrawn h c point = pointAfter (pieceIn (answerOf h c .reply)) point
 
 unfoldable pub pointBy : Holder → Decoded → List Float → List Float
 pointBy h Nothing point = point
-pointBy h (Said c) point = pieceDrawn h c point
+pointBy h (OfCall c) point = pieceDrawn h c point
 
 -- The heads that the call may change
 unfoldable pub writes : Decoded → ℕ → Bool
 writes Nothing i = false
-writes (Said c) i = callWrites c i
+writes (OfCall c) i = callWrites c i
 
 -- From arrays m to arrays n, with reply′ as the reply buffer afterwards. F says that the arrays of this
 -- call have their lengths. Given F, the call is done exactly if there is a call; without F it is not done.

@@ -290,8 +290,8 @@ fn act(
         2 => reply::write(of_reply(drop_of(heads, party)), reply),
         3 => reply::write(of_reply(clear_of(heads, party, place)), reply),
         4 => {
-            let said = close_of(letters, rows, numbers, heads, party, place);
-            reply::write(of_reply(said), reply)
+            let answer = close_of(letters, rows, numbers, heads, party, place);
+            reply::write(of_reply(answer), reply)
         }
         5 => reply::write(
             of_reply(query_of(rows, heads, party, place, point(x, y))),
@@ -299,8 +299,8 @@ fn act(
         ),
         6 => reply::write(of_reply(row_of(rows, heads, party, place, short(x))), reply),
         7 => {
-            let said = reading_of(numbers, heads, party, place, from_bits(x, y));
-            reply::write(of_reply(said), reply)
+            let answer = reading_of(numbers, heads, party, place, from_bits(x, y));
+            reply::write(of_reply(answer), reply)
         }
         8 => reply::write(
             of_reply(piece_of(numbers, heads, party, place, short(x))),

@@ -17,13 +17,13 @@ use Rattle.draft.specs.declared.Draft.{Draft}
 use Rattle.draft.specs.declared.Drafted.{Drafted}
 use Rattle.draft.specs.Draft.{begunAt, endOf, lengthened, beginOf, addOf, dropOf}
 use Rattle.live_memory.specs.Layout.{headNumbers, draftAt, DraftsFit}
-use Rattle.live_memory.specs.parts.Writes.{headPut, DraftPut, DraftSaid}
+use Rattle.live_memory.specs.parts.Writes.{headPut, DraftPut, DraftAnswered}
 use Rattle.live_memory.proofs.Heads.{cond-yes, cond-no, none-begun, one-begun}
 use Rattle.live_memory.proofs.Stores.{draft-kept, lengthened-put, begun-put}
 
-said-put : (letters heads letters′ heads′ : List ℕ) (p : ℕ) (r : Reply) (d : Draft) (a : Drafted) → a ≡ record { reply = r; draft = d } → DraftPut letters heads letters′ heads′ p d
-    → DraftSaid letters heads letters′ heads′ p r a
-said-put letters heads letters′ heads′ p r d a e q = rw e (record { reply = refl; lists = q })
+answered-put : (letters heads letters′ heads′ : List ℕ) (p : ℕ) (r : Reply) (d : Draft) (a : Drafted) → a ≡ record { reply = r; draft = d } → DraftPut letters heads letters′ heads′ p d
+    → DraftAnswered letters heads letters′ heads′ p r a
+answered-put letters heads letters′ heads′ p r d a e q = rw e (record { reply = refl; lists = q })
 
 -- ---- the cases of the definitions
 
@@ -75,37 +75,37 @@ module _ (letters heads : List ℕ) (p : ℕ) where
   count-is = refl
 
 module _ (letters heads : List ℕ) (p a : ℕ) (l : p < parties) (fit : DraftsFit letters heads) where
-  pub add-none : getD heads (4 * p) 0 ≡ 0 → DraftSaid letters heads letters heads p NoDraft (addOf (draftAt letters heads p) a)
-  add-none e = said-put _ _ _ _ _ _ _ _ (addOf-none _ a (none-begun letters heads p e)) (draft-kept letters heads p l)
+  pub add-none : getD heads (4 * p) 0 ≡ 0 → DraftAnswered letters heads letters heads p NoDraft (addOf (draftAt letters heads p) a)
+  add-none e = answered-put _ _ _ _ _ _ _ _ (addOf-none _ a (none-begun letters heads p e)) (draft-kept letters heads p l)
 
   module _ (begun : getD heads (4 * p) 0 ≡ 0 → ⊥) where
-    pub add-full : longest ≤ getD heads (4 * p + 3) 0 → DraftSaid letters heads letters heads p DraftFull (addOf (draftAt letters heads p) a)
-    add-full h = said-put _ _ _ _ _ _ _ _ (addOf-full _ a (one-begun letters heads p begun) (omega (arith, count-is letters heads p))) (draft-kept letters heads p l)
+    pub add-full : longest ≤ getD heads (4 * p + 3) 0 → DraftAnswered letters heads letters heads p DraftFull (addOf (draftAt letters heads p) a)
+    add-full h = answered-put _ _ _ _ _ _ _ _ (addOf-full _ a (one-begun letters heads p begun) (omega (arith, count-is letters heads p))) (draft-kept letters heads p l)
 
     module _ (room : getD heads (4 * p + 3) 0 < longest) where
-      pub add-letter : 3 < a → DraftSaid letters heads letters heads p (Refused (Letter (getD heads (4 * p + 3) 0))) (addOf (draftAt letters heads p) a)
+      pub add-letter : 3 < a → DraftAnswered letters heads letters heads p (Refused (Letter (getD heads (4 * p + 3) 0))) (addOf (draftAt letters heads p) a)
       add-letter h =
-          said-put _ _ _ _ _ _ _ _
+          answered-put _ _ _ _ _ _ _ _
           (addOf-letter _ a (one-begun letters heads p begun) (omega (arith, count-is letters heads p)) h ∙ rw (count-is letters heads p))
           (draft-kept letters heads p l)
 
-      pub add-done : a ≤ 3 → DraftSaid letters heads (set letters (longest * p + getD heads (4 * p + 3) 0) a) (set heads (4 * p + 3) (getD heads (4 * p + 3) 0 + 1)) p Done (addOf (draftAt letters heads p) a)
+      pub add-done : a ≤ 3 → DraftAnswered letters heads (set letters (longest * p + getD heads (4 * p + 3) 0) a) (set heads (4 * p + 3) (getD heads (4 * p + 3) 0 + 1)) p Done (addOf (draftAt letters heads p) a)
       add-done h =
-          said-put _ _ _ _ _ _ _ _ (addOf-done _ a (one-begun letters heads p begun) (omega (arith, count-is letters heads p)) h) (lengthened-put letters heads p fit l _ a refl room)
+          answered-put _ _ _ _ _ _ _ _ (addOf-done _ a (one-begun letters heads p begun) (omega (arith, count-is letters heads p)) h) (lengthened-put letters heads p fit l _ a refl room)
 
 module _ (heads : List ℕ) (p : ℕ) (l : p < parties) (size : length heads ≡ headNumbers) (letters : List ℕ) where
-  pub begin-open : (s : Point) → (getD heads (4 * p) 0 ≡ 0 → ⊥) → DraftSaid letters heads letters heads p DraftOpen (beginOf (draftAt letters heads p) s)
-  begin-open s e = said-put _ _ _ _ _ _ _ _ (beginOf-open _ s (one-begun letters heads p e)) (draft-kept letters heads p l)
+  pub begin-open : (s : Point) → (getD heads (4 * p) 0 ≡ 0 → ⊥) → DraftAnswered letters heads letters heads p DraftOpen (beginOf (draftAt letters heads p) s)
+  begin-open s e = answered-put _ _ _ _ _ _ _ _ (beginOf-open _ s (one-begun letters heads p e)) (draft-kept letters heads p l)
 
-  pub begin-start : (s : Point) → getD heads (4 * p) 0 ≡ 0 → badStart s ≡ true → DraftSaid letters heads letters heads p (Refused Start) (beginOf (draftAt letters heads p) s)
-  begin-start s e b = said-put _ _ _ _ _ _ _ _ (beginOf-start _ s (none-begun letters heads p e) b) (draft-kept letters heads p l)
+  pub begin-start : (s : Point) → getD heads (4 * p) 0 ≡ 0 → badStart s ≡ true → DraftAnswered letters heads letters heads p (Refused Start) (beginOf (draftAt letters heads p) s)
+  begin-start s e b = answered-put _ _ _ _ _ _ _ _ (beginOf-start _ s (none-begun letters heads p e) b) (draft-kept letters heads p l)
 
   pub begin-done : (s : Point) → getD heads (4 * p) 0 ≡ 0 → badStart s ≡ false → (h : List ℕ) → h ≡ headPut heads (4 * p) 1 (s .col) (s .row) 0
-      → DraftSaid letters heads letters h p Done (beginOf (draftAt letters heads p) s)
-  begin-done s e b h w = rw w (said-put _ _ _ _ _ _ _ _ (beginOf-done _ s (none-begun letters heads p e) b) (begun-put heads p l size letters s))
+      → DraftAnswered letters heads letters h p Done (beginOf (draftAt letters heads p) s)
+  begin-done s e b h w = rw w (answered-put _ _ _ _ _ _ _ _ (beginOf-done _ s (none-begun letters heads p e) b) (begun-put heads p l size letters s))
 
-  pub drop-none : getD heads (4 * p) 0 ≡ 0 → DraftSaid letters heads letters heads p NoDraft (dropOf (draftAt letters heads p))
-  drop-none e = said-put _ _ _ _ _ _ _ _ (dropOf-none _ (none-begun letters heads p e)) (draft-kept letters heads p l)
+  pub drop-none : getD heads (4 * p) 0 ≡ 0 → DraftAnswered letters heads letters heads p NoDraft (dropOf (draftAt letters heads p))
+  drop-none e = answered-put _ _ _ _ _ _ _ _ (dropOf-none _ (none-begun letters heads p e)) (draft-kept letters heads p l)
 
-  pub drop-done : (getD heads (4 * p) 0 ≡ 0 → ⊥) → (h : List ℕ) → DraftPut letters heads letters h p (endOf (draftAt letters heads p)) → DraftSaid letters heads letters h p Done (dropOf (draftAt letters heads p))
-  drop-done e h q = said-put _ _ _ _ _ _ _ _ (dropOf-done _ (one-begun letters heads p e)) q
+  pub drop-done : (getD heads (4 * p) 0 ≡ 0 → ⊥) → (h : List ℕ) → DraftPut letters heads letters h p (endOf (draftAt letters heads p)) → DraftAnswered letters heads letters h p Done (dropOf (draftAt letters heads p))
+  drop-done e h q = answered-put _ _ _ _ _ _ _ _ (dropOf-done _ (one-begun letters heads p e)) q

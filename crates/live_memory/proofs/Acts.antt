@@ -37,7 +37,7 @@ use Rattle.holder.specs.declared.Answered.{Answered}
 use Rattle.holder.specs.Holder.{blankDraft, blankWork, draftOf, workOf, slot, withDraft, withWork, keptPlace, reachedBy, turned, actOf, answerOf}
 use Rattle.windows.specs.Windows.{window}
 use Rattle.live_memory.specs.Layout.{draftAt, workAt, holderOf, Memory, memory, holderIn}
-use Rattle.live_memory.specs.parts.Writes.{DraftPut, DraftSaid, WorkPut, inHead, actWrites, callWrites, Acts, Answers}
+use Rattle.live_memory.specs.parts.Writes.{DraftPut, DraftAnswered, WorkPut, inHead, actWrites, callWrites, Acts, Answers}
 use Rattle.live_memory.proofs.Heads.{cond-yes, cond-no, none-begun, one-begun, apart}
 use Rattle.live_memory.proofs.Stores.{draft-read, work-read}
 
@@ -72,7 +72,7 @@ module _ (letters heads letters′ heads′ rows : List ℕ) (numbers : List ℤ
   abbrev was : Holder
   was = holderOf letters rows numbers heads
 
-  drafted : (f : Draft → Drafted) → DraftSaid letters heads letters′ heads′ p r (f (draftAt letters heads p))
+  drafted : (f : Draft → Drafted) → DraftAnswered letters heads letters′ heads′ p r (f (draftAt letters heads p))
       → (r ≡ turned was p 0 (redrafted (f (draftOf was p)) (workOf was p 0)) .reply) × (holderOf letters′ rows numbers heads′ ≡ turned was p 0 (redrafted (f (draftOf was p)) (workOf was p 0)) .holder)
   drafted f s =
       let e : draftAt letters heads p ≡ draftOf was p = sym (draft-read letters rows numbers heads p l) in (
@@ -80,17 +80,17 @@ module _ (letters heads letters′ heads′ rows : List ℕ) (numbers : List ℤ
         s .lists .holder rows numbers ∙ ap (λ (d : Draft). withDraft was p (f d .draft)) e ∙ sym (work-back was p 0 (f (draftOf was p) .draft)),
       )
 
-  pub begin-acts : (s : Point) → DraftSaid letters heads letters′ heads′ p r (beginOf (draftAt letters heads p) s) → Acts (memory letters rows numbers heads) (memory letters′ rows numbers heads′) p (Begin s) r
+  pub begin-acts : (s : Point) → DraftAnswered letters heads letters′ heads′ p r (beginOf (draftAt letters heads p) s) → Acts (memory letters rows numbers heads) (memory letters′ rows numbers heads′) p (Begin s) r
   unfolding actOf actedOf reachedBy actWrites
   begin-acts s q = let both = drafted (λ (d : Draft). beginOf d s) q in
       record { reply = both .0; holder = both .1; others = λ i e. q .lists .others i (apart (4 * p) i e) }
 
-  pub add-acts : (a : ℕ) → DraftSaid letters heads letters′ heads′ p r (addOf (draftAt letters heads p) a) → Acts (memory letters rows numbers heads) (memory letters′ rows numbers heads′) p (Add a) r
+  pub add-acts : (a : ℕ) → DraftAnswered letters heads letters′ heads′ p r (addOf (draftAt letters heads p) a) → Acts (memory letters rows numbers heads) (memory letters′ rows numbers heads′) p (Add a) r
   unfolding actOf actedOf reachedBy actWrites
   add-acts a q = let both = drafted (λ (d : Draft). addOf d a) q in
       record { reply = both .0; holder = both .1; others = λ i e. q .lists .others i (apart (4 * p) i e) }
 
-  pub drop-acts : DraftSaid letters heads letters′ heads′ p r (dropOf (draftAt letters heads p)) → Acts (memory letters rows numbers heads) (memory letters′ rows numbers heads′) p Drop r
+  pub drop-acts : DraftAnswered letters heads letters′ heads′ p r (dropOf (draftAt letters heads p)) → Acts (memory letters rows numbers heads) (memory letters′ rows numbers heads′) p Drop r
   unfolding actOf actedOf reachedBy actWrites
   drop-acts q = let both = drafted dropOf q in
       record { reply = both .0; holder = both .1; others = λ i e. q .lists .others i (apart (4 * p) i e) }
@@ -229,8 +229,8 @@ module _ (letters rows : List ℕ) (numbers : List ℤ) (heads : List ℕ) (p : 
         module _ (same : Bool) (s : same ≡ hasEdges (workAt rows numbers heads (slot p k)) a (listed (j .numbers) n)) (r : Reply) (reply : r ≡ cond same (Same n a) (WasTaken n a))
             (sp : Spans) (spans : sp ≡ spansOf (outlineOf (draftAt letters heads p))) (rows′ : List ℕ) (numbers′ : List ℤ) (heads₁ : List ℕ) (w : WorkPut rows numbers heads rows′ numbers′ heads₁ p k (replaced a (j .numbers) n sp))
             (heads′ : List ℕ) (q : DraftPut letters heads₁ letters heads′ p (endOf (draftAt letters heads₁ p))) where
-          said : r ≡ cond (hasEdges (workOf (holderIn lists) p k) a (listed (j .numbers) n)) (Same n a) (WasTaken n a)
-          said = reply ∙ ap (λ (t : Bool). cond t (Same n a) (WasTaken n a)) (s ∙ ap (λ (x : Work). hasEdges x a (listed (j .numbers) n)) (sym (work-read letters rows numbers heads p k l m)))
+          reply-is : r ≡ cond (hasEdges (workOf (holderIn lists) p k) a (listed (j .numbers) n)) (Same n a) (WasTaken n a)
+          reply-is = reply ∙ ap (λ (t : Bool). cond t (Same n a) (WasTaken n a)) (s ∙ ap (λ (x : Work). hasEdges x a (listed (j .numbers) n)) (sym (work-read letters rows numbers heads p k l m)))
 
           -- First the work is written
           middle : holderOf letters rows′ numbers′ heads₁ ≡ withWork (holderIn lists) p k next
@@ -246,7 +246,7 @@ module _ (letters rows : List ℕ) (numbers : List ℤ) (heads : List ℕ) (p : 
               ∙ either-first (holderIn lists) p k (endOf (draftOf (holderIn lists) p)) next
 
           pub close-taken : Acts lists (memory letters rows′ numbers′ heads′) p (Close k) r
-          close-taken = acts-by lists _ p (Close k) r _ (closes ∙ ap (turned (holderIn lists) p k) taken-by) said left
+          close-taken = acts-by lists _ p (Close k) r _ (closes ∙ ap (turned (holderIn lists) p k) taken-by) reply-is left
               (λ i e. q .others i (close-draft p k i e) ∙ w .others i (close-work p k i m e))
 
 -- ---- a call

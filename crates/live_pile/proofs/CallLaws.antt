@@ -108,9 +108,9 @@ module _ (m : Memory) (c : PileCall) (reply : List ℕ) where
   pub short-called : length reply < replyWidth → Called m m c reply reply false
   short-called h = undone (λ f. sym (lt-leb replyWidth (length reply) h))
 
-  pub told-called : Fits m → replyWidth ≤ length reply → (n : Memory) (r : PileReply) → Acts m n c r → Fits n → (g : Fields) → g ≡ pileFields r
+  pub written-called : Fits m → replyWidth ≤ length reply → (n : Memory) (r : PileReply) → Acts m n c r → Fits n → (g : Fields) → g ≡ pileFields r
       → (b : Bool) → b ≡ leb replyWidth (length reply) → (l : List ℕ) → l ≡ replyAfter g reply → Called m n c reply l b
-  told-called f room n r a kept g named b told l put =
+  written-called f room n r a kept g named b told l put =
       let so : b ≡ true = told ∙ le-leb replyWidth (length reply) room in
       record {
         done = λ f. told;
@@ -136,7 +136,7 @@ module _ (g : Fields) (reply reply′ : List ℕ) (room : replyWidth ≤ length 
       → CheckWritten (CheckedBy columns rows) (AllConvex columns rows) reply reply′
   check-written r said named =
       record {
-        said = r;
+        answer = r;
         fact = said;
         written = put ∙ rw named;
         zero-iff = rw (put, fields-written g reply room, named) (checked-number r said);

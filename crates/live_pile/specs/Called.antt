@@ -31,9 +31,9 @@ pub record Done (m n : Memory) (c : PileCall) (reply : List ℕ) : Type 0 where
 
 -- What a check writes: a reply for which Fact holds. Its number is 0 exactly if Clear holds
 pub record CheckWritten (Fact : PileReply → Type 0) (Clear : Type 0) (reply reply′ : List ℕ) : Type 0 where
-  pub said : PileReply
-  pub fact : Fact said
-  pub written : reply′ ≡ replyAfter (pileFields said) reply
+  pub answer : PileReply
+  pub fact : Fact answer
+  pub written : reply′ ≡ replyAfter (pileFields answer) reply
   pub zero-iff : (fieldsOf reply′ .number ≡ 0) ↔ Clear
 
 -- Arrays of the right lengths become a fresh pile. Others are unchanged

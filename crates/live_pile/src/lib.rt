@@ -102,8 +102,8 @@ pub fn set(
     if reply.len() < reply::NUMBERS {
         return false;
     }
-    let said = set_layer(rows, state, layer, start, letters);
-    reply::write(of_reply(said), reply)
+    let answer = set_layer(rows, state, layer, start, letters);
+    reply::write(of_reply(answer), reply)
 }
 
 fn empty_layer(rows: &mut [u8], state: &mut [u8], layer: u8) -> PileReply
@@ -133,8 +133,8 @@ pub fn set_empty(rows: &mut [u8], state: &mut [u8], layer: u8, reply: &mut [u16]
     if reply.len() < reply::NUMBERS {
         return false;
     }
-    let said = empty_layer(rows, state, layer);
-    reply::write(of_reply(said), reply)
+    let answer = empty_layer(rows, state, layer);
+    reply::write(of_reply(answer), reply)
 }
 
 fn check_layers(rows: &[u8], state: &mut [u8]) -> PileReply
@@ -172,8 +172,8 @@ pub fn check(rows: &[u8], state: &mut [u8], reply: &mut [u16]) -> bool
     if reply.len() < reply::NUMBERS {
         return false;
     }
-    let said = check_layers(rows, state);
-    reply::write(of_reply(said), reply)
+    let answer = check_layers(rows, state);
+    reply::write(of_reply(answer), reply)
 }
 
 fn query_layer(rows: &[u8], state: &[u8], layer: u8, cell: Point) -> PileReply
@@ -211,6 +211,6 @@ pub fn query(rows: &[u8], state: &[u8], layer: u8, cell: Point, reply: &mut [u16
     if reply.len() < reply::NUMBERS {
         return false;
     }
-    let said = query_layer(rows, state, layer, cell);
-    reply::write(of_reply(said), reply)
+    let answer = query_layer(rows, state, layer, cell);
+    reply::write(of_reply(answer), reply)
 }

@@ -228,8 +228,8 @@ module _ (cs : List Call) (p k : ℕ) (there : p < parties) (place : k < places)
   reply-is = replied-by-value cs _ g replied ∙ ap replyFields (Readings.reading-reply p k there place cs x o last)
 
   -- The word determines the reply by value
-  said : {w : ℕ} {r : Reply} → (replyFields (locatedReply found) .word ≡ w) ↔ (locatedReply found ≡ r) → (g .word ≡ w) ↔ (replyTo cs (by p (Ask k (OfReading x))) ≡ r)
-  said i = (
+  word-iff : {w : ℕ} {r : Reply} → (replyFields (locatedReply found) .word ≡ w) ↔ (locatedReply found ≡ r) → (g .word ≡ w) ↔ (replyTo cs (by p (Ask k (OfReading x))) ≡ r)
+  word-iff i = (
     λ e. Readings.reading-reply p k there place cs x o last ∙ i .0 (sym (ap (λ (f : Fields). f .word) reply-is) ∙ e),
     λ e. ap (λ (f : Fields). f .word) reply-is ∙ i .1 (sym (Readings.reading-reply p k there place cs x o last) ∙ e),
   )
@@ -237,14 +237,14 @@ module _ (cs : List Call) (p k : ℕ) (there : p < parties) (place : k < places)
   -- "Inside" is said only of readings that are exactly inside, and "outside" only of
   -- readings that are not. "Undecided" is for the strip along the edges (contract 8.7)
   pub reading-inside : g .word ≡ inside → exactlyInside (border o .start) (edges (border o)) x ≡ true
-  reading-inside e = Readings.reading-inside p k there place cs x o last held good (said (word-of found .0) .0 e)
+  reading-inside e = Readings.reading-inside p k there place cs x o last held good (word-iff (word-of found .0) .0 e)
 
   pub reading-outside : g .word ≡ outside → exactlyInside (border o .start) (edges (border o)) x ≡ false
-  reading-outside e = Readings.reading-outside p k there place cs x o last held good (said (word-of found .1) .0 e)
+  reading-outside e = Readings.reading-outside p k there place cs x o last held good (word-iff (word-of found .1) .0 e)
 
   pub reading-undecided : (g .word ≡ undecided) ↔ Open (border o .start) (edges (border o)) x
   reading-undecided =
-      let i = said (word-of found .2) in
+      let i = word-iff (word-of found .2) in
       let j = Readings.reading-undecided p k there place cs x o last held good in
       (λ e. j .0 (i .0 e), λ e. i .1 (j .1 e))
 

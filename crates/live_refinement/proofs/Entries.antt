@@ -19,9 +19,9 @@ use Rattle.holder.specs.declared.Holder.{Holder}
 use Rattle.holder.specs.Holder.{answerOf}
 use Rattle.holder_refinement.proofs.ListTheorem.{reply-after}
 use Rattle.wire.specs.declared.Decoded.{Decoded}
-use Rattle.wire.specs.declared.Decoded.the-variants.{Call as Said, Nothing}
+use Rattle.wire.specs.declared.Decoded.the-variants.{Call as OfCall, Nothing}
 use Rattle.wire.specs.Wire.{replyWidth, decoded, received}
-use Rattle.live.specs.Called.{spoken}
+use Rattle.live.specs.Called.{ifRoom}
 use Rattle.live_refinement.specs.Run.{Sent, Bytes, Arguments, Asked, Received, sentCall, callIn, withCall, callsIn, receivedInModel, nextBook, modelFrom, unreceived, Replied}
 use Rattle.live_refinement.proofs.Theorem.{run-theorem}
 
@@ -39,7 +39,7 @@ entry-by-value h (u ∷ us) vs c d = entry-by-value (answerOf h u .holder) us vs
 book-after : (b : Book) (d : Decoded) (cs : List Call) → bookAfter (nextBook b d) cs ≡ bookAfter b (withCall d cs)
 unfolding nextBook withCall bookAfter
 book-after b Nothing cs = refl
-book-after b (Said c) cs = refl
+book-after b (OfCall c) cs = refl
 
 booked-entry : (b : Book) (us : List Asked) (x : Asked) (vs : List Asked) → getD (modelFrom b (us ++ (x ∷ vs))) (length us) unreceived ≡ receivedInModel (bookAfter b (callsIn us)) (callIn x) (x .reply)
 unfolding modelFrom callsIn bookAfter
@@ -47,14 +47,14 @@ booked-entry b [] x vs = refl
 booked-entry b (u ∷ us) x vs = booked-entry (nextBook b (callIn u)) us x vs ∙ ap (λ (c : Book). receivedInModel c (callIn x) (x .reply)) (book-after b (callIn u) (callsIn us))
 
 -- A call that is answered has room for its reply
-room-of : (t : Bool) (d : Decoded) (c : Call) → cond t d Nothing ≡ Said c → t ≡ true
+room-of : (t : Bool) (d : Decoded) (c : Call) → cond t d Nothing ≡ OfCall c → t ≡ true
 room-of true d c e = refl
 room-of false d c e = let z : _≡_ {A = ℕ} 0 1 = cc in absurd (omega (arith, z))
 
-pub sent-room : (s : Sent) (room : ℕ) (c : Call) → sentCall s room ≡ Said c → replyWidth ≤ room
-unfolding sentCall received spoken
+pub sent-room : (s : Sent) (room : ℕ) (c : Call) → sentCall s room ≡ OfCall c → replyWidth ≤ room
+unfolding sentCall received ifRoom
 sent-room (Bytes b) room c e = leb-true replyWidth room (room-of (leb replyWidth room) (decoded b) c e)
-sent-room (Arguments a) room c e = leb-true replyWidth room (room-of (leb replyWidth room) (Said a) c e)
+sent-room (Arguments a) room c e = leb-true replyWidth room (room-of (leb replyWidth room) (OfCall a) c e)
 
 -- The seven numbers of a reply are those of the reply by value, after the calls before it
 pub replied-by-value : (cs : List Call) (c : Call) (g : Fields) → Replied cs c g → g ≡ replyFields (replyTo cs c)
@@ -63,7 +63,7 @@ replied-by-value cs c g e =
     let x = e .asked in
     let xs = e .earlier ++ (x ∷ e .later) in
     let received : getD (e .received) (length (e .earlier)) unreceived ≡ record { done = true; reply = replyAfter (replyFields (replyTo cs c)) (x .reply) } =
-    ap (λ (l : List Received). getD l (length (e .earlier)) unreceived) (run-theorem (e .given) (e .lists) (e .told) (e .fits) (e .freshened) xs (e .received) (e .left) (e .run))
+    ap (λ (l : List Received). getD l (length (e .earlier)) unreceived) (run-theorem (e .given) (e .lists) (e .result) (e .fits) (e .freshened) xs (e .received) (e .left) (e .run))
     ∙ booked-entry fresh (e .earlier) x (e .later)
     ∙ rw (e .calls, e .call, reply-after cs c) in
     sym (e .fields) ∙ ap (λ (y : Received). fieldsOf (y .reply)) received

@@ -15,7 +15,7 @@ use Rattle.holder_model.specs.Book.{Book, fresh, answer, repliesFrom, replies}
 use Rattle.holder_model.specs.Parties.{callsOf, repliesTo}
 use Rattle.holder_model.proofs.Parties.{replies-to}
 use Rattle.wire.specs.declared.Decoded.{Decoded}
-use Rattle.wire.specs.declared.Decoded.the-variants.{Call as Said, Nothing}
+use Rattle.wire.specs.declared.Decoded.the-variants.{Call as OfCall, Nothing}
 use Rattle.live_memory.specs.Layout.{Memory, Fits}
 use Rattle.live.specs.Called.{Freshened}
 use Rattle.live_refinement.specs.Run.{Asked, Received, callIn, Run, withCall, callsIn, receivedInModel, nextBook, modelFrom, isOf, receivedBy}
@@ -32,13 +32,13 @@ map-cond false r rs = refl
 
 module _ (p : ℕ) (b : Book) (x : Asked) (xs : List Asked) where
   -- One more call
-  step : (d : Decoded) → ((c : Call) → d ≡ Said c → replyWidth ≤ length (x .reply))
+  step : (d : Decoded) → ((c : Call) → d ≡ OfCall c → replyWidth ≤ length (x .reply))
       → receivedBy p xs (modelFrom (nextBook b d) xs) ≡ map replyFields (repliesTo p (callsIn xs) (repliesFrom (nextBook b d) (callsIn xs)))
       → cond (isOf p d) (fieldsOf (receivedInModel b d (x .reply) .reply) ∷ receivedBy p xs (modelFrom (nextBook b d) xs)) (receivedBy p xs (modelFrom (nextBook b d) xs))
       ≡ map replyFields (repliesTo p (withCall d (callsIn xs)) (repliesFrom b (withCall d (callsIn xs))))
   unfolding isOf receivedInModel nextBook withCall repliesTo repliesFrom
   step Nothing room rest = rest
-  step (Said c) room rest =
+  step (OfCall c) room rest =
       one-more (eqb p (c .party)) _ _ _ _ (fields-written (replyFields (answer b c .reply)) (x .reply) (room c refl)) rest
       ∙ sym (map-cond (eqb p (c .party)) (answer b c .reply) _)
 

@@ -20,7 +20,7 @@ use Rattle.holder_refinement.specs.Rows.{KeepsRows}
 use Rattle.holder_refinement.proofs.ListTheorem.{call-agrees, list-theorem}
 use Rattle.holder_refinement.proofs.Rows.{rows-kept}
 use Rattle.wire.specs.declared.Decoded.{Decoded}
-use Rattle.wire.specs.declared.Decoded.the-variants.{Call as Said, Nothing}
+use Rattle.wire.specs.declared.Decoded.the-variants.{Call as OfCall, Nothing}
 use Rattle.live_memory.specs.Layout.{Memory, holderIn, Fits}
 use Rattle.live.specs.Called.{isCall, nextHolder, replyBy, Called, Freshened}
 use Rattle.live_refinement.specs.Run.{Asked, Received, callIn, Run, stop, next, Calls, end, then, withCall, callsIn, receivedInModel, nextBook, modelFrom}
@@ -41,7 +41,7 @@ module _ (F : Type 0) (m n : Memory) (d : Decoded) (reply reply′ : List ℕ) (
           let no : r ≡ false = c .done f ∙ ap isCall e in
           let left = c .unaltered no in
           (ap holderIn (left .0) ∙ rw e, ap₂ received (c .done f) (left .1 ∙ rw e))
-      go (Said x) e = let so : r ≡ true = c .done f ∙ ap isCall e in (c .holder so, ap₂ received (c .done f) (c .replied so))
+      go (OfCall x) e = let so : r ≡ true = c .done f ∙ ap isCall e in (c .holder so, ap₂ received (c .done f) (c .replied so))
 
 -- ---- any calls
 
@@ -52,7 +52,7 @@ module _ (b : Book) (h : Holder) (k : Represents h b) (d : Decoded) where
     where
       go : (d : Decoded) → received (isCall d) (replyBy h d reply) ≡ receivedInModel b d reply
       go Nothing = refl
-      go (Said c) = ap (λ (r : Reply). received true (replyAfter (replyFields r) reply)) (call-agrees h b k c .0)
+      go (OfCall c) = ap (λ (r : Reply). received true (replyAfter (replyFields r) reply)) (call-agrees h b k c .0)
 
   one-next : Represents (nextHolder h d) (nextBook b d)
   unfolding nextHolder nextBook
@@ -60,7 +60,7 @@ module _ (b : Book) (h : Holder) (k : Represents h b) (d : Decoded) where
     where
       go : (d : Decoded) → Represents (nextHolder h d) (nextBook b d)
       go Nothing = k
-      go (Said c) = call-agrees h b k c .1
+      go (OfCall c) = call-agrees h b k c .1
 
 run-agrees : (m : Memory) (b : Book) → Fits m → Represents (holderIn m) b → (xs : List Asked) (ys : List Received) (k : Memory) → Run m xs ys k → ys ≡ modelFrom b xs
 unfolding modelFrom
@@ -73,7 +73,7 @@ run-agrees m b f p (x ∷ xs) (y ∷ ys) k (next {m = _} {n = n} F h c r) =
 after-next : (h : Holder) (d : Decoded) (cs : List Call) → holderAfter (nextHolder h d) cs ≡ holderAfter h (withCall d cs)
 unfolding nextHolder withCall holderAfter
 after-next h Nothing cs = refl
-after-next h (Said c) cs = refl
+after-next h (OfCall c) cs = refl
 
 run-leaves : (m : Memory) → Fits m → (xs : List Asked) (ys : List Received) (k : Memory) → Run m xs ys k → Fits k × (holderIn k ≡ holderAfter (holderIn m) (callsIn xs))
 unfolding callsIn holderAfter

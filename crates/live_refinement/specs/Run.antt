@@ -12,10 +12,10 @@ use Rattle.calls.specs.declared.Call.{Call}
 use Rattle.calls.specs.Replies.{replyFields}
 use Rattle.holder_model.specs.Book.{Book, answer}
 use Rattle.wire.specs.declared.Decoded.{Decoded}
-use Rattle.wire.specs.declared.Decoded.the-variants.{Call as Said, Nothing}
+use Rattle.wire.specs.declared.Decoded.the-variants.{Call as OfCall, Nothing}
 use Rattle.wire.specs.Wire.{received as receivedIn}
 use Rattle.live_memory.specs.Layout.{Memory, Fits}
-use Rattle.live.specs.Called.{spoken, Called, Done, Freshened}
+use Rattle.live.specs.Called.{ifRoom, Called, Done, Freshened}
 
 -- A call as it is made: as bytes, which may not be a call, or by its arguments
 pub data Sent : Type 0 where
@@ -35,7 +35,7 @@ pub record Received : Type 0 where
 -- The call that is answered. Nothing if the bytes are not a call, or the reply has no room
 unfoldable pub sentCall : Sent → ℕ → Decoded
 sentCall (Bytes b) room = receivedIn b room
-sentCall (Arguments c) room = spoken c room
+sentCall (Arguments c) room = ifRoom c room
 
 abbrev pub callIn : Asked → Decoded
 callIn x = sentCall (x .sent) (length (x .reply))
@@ -49,7 +49,7 @@ pub data Run : Memory → List Asked → List Received → Memory → Type 1 whe
 -- The calls that are answered, in their order
 unfoldable pub withCall : Decoded → List Call → List Call
 withCall Nothing cs = cs
-withCall (Said c) cs = c ∷ cs
+withCall (OfCall c) cs = c ∷ cs
 
 unfoldable pub callsIn : List Asked → List Call
 callsIn [] = []
@@ -60,11 +60,11 @@ callsIn (x ∷ xs) = withCall (callIn x) (callsIn xs)
 -- Bytes that are not a call, or a reply without room, change nothing
 unfoldable pub receivedInModel : Book → Decoded → List ℕ → Received
 receivedInModel b Nothing reply = record { done = false; reply = reply }
-receivedInModel b (Said c) reply = record { done = true; reply = replyAfter (replyFields (answer b c .reply)) reply }
+receivedInModel b (OfCall c) reply = record { done = true; reply = replyAfter (replyFields (answer b c .reply)) reply }
 
 unfoldable pub nextBook : Book → Decoded → Book
 nextBook b Nothing = b
-nextBook b (Said c) = answer b c .next
+nextBook b (OfCall c) = answer b c .next
 
 unfoldable pub modelFrom : Book → List Asked → List Received
 modelFrom b [] = []
@@ -87,9 +87,9 @@ unreceived = record { done = false; reply = [] }
 pub record Replied (cs : List Call) (c : Call) (g : Fields) : Type 1 where
   pub given : Memory
   pub lists : Memory
-  pub told : Bool
+  pub result : Bool
   pub fits : Fits given
-  pub freshened : Freshened given lists told
+  pub freshened : Freshened given lists result
   pub earlier : List Asked
   pub asked : Asked
   pub later : List Asked
@@ -97,7 +97,7 @@ pub record Replied (cs : List Call) (c : Call) (g : Fields) : Type 1 where
   pub left : Memory
   pub run : Run lists (earlier ++ (asked ∷ later)) received left
   pub calls : callsIn earlier ≡ cs
-  pub call : callIn asked ≡ Said c
+  pub call : callIn asked ≡ OfCall c
   pub fields : fieldsOf (getD received (length earlier) unreceived .reply) ≡ g
 
 -- ---- what one party receives
@@ -105,7 +105,7 @@ pub record Replied (cs : List Call) (c : Call) (g : Fields) : Type 1 where
 -- The call is party p's
 unfoldable pub isOf : ℕ → Decoded → Bool
 isOf p Nothing = false
-isOf p (Said c) = eqb p (c .party)
+isOf p (OfCall c) = eqb p (c .party)
 
 -- The replies to the calls of party p, in their order
 unfoldable pub receivedBy : ℕ → List Asked → List Received → List Fields

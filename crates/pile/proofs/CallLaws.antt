@@ -22,7 +22,7 @@ use Rattle.sections.specs.Sections.{lastLayer}
 use Rattle.pile.specs.declared.Pile.{Pile}
 use Rattle.pile.specs.declared.Piled.{Piled}
 use Rattle.pile.specs.declared.PileReply.{PileReply}
-use Rattle.pile.specs.declared.PileReply.the-variants.{Done, Inside, Outside, Judged as Said, Cell, NotPassed, Dented, Layer}
+use Rattle.pile.specs.declared.PileReply.the-variants.{Done, Inside, Outside, Judged as WasJudged, Cell, NotPassed, Dented, Layer}
 use Rattle.pile.specs.Replies.{pileFields}
 use Rattle.pile.specs.Pile.{layerAt, put, judgedPile, dentedColumn, dentedRow, setAs, setOf, emptyOf, checkOf, locatedIn, queryOf}
 
@@ -41,12 +41,12 @@ module _ (p : Pile) (l : ℕ) (o : Outline) where
   set-as h v e = rw (le-ltb lastLayer l h, e)
 
   module _ (h : l ≤ lastLayer) {r : Verdict} (e : r ≡ verdictOf o) where
-    pub set-refused : (f : Refusal) → r ≡ Refused f → says (Said (Refused f)) p ≡ setOf p l o
+    pub set-refused : (f : Refusal) → r ≡ Refused f → says (WasJudged (Refused f)) p ≡ setOf p l o
     unfolding setAs
     set-refused f g = set-as h (Refused f) (sym e ∙ g)
 
     pub set-taken : (n : ℕ) (a : Point) → r ≡ Taken n a → (s : Spans) → s ≡ spansOf o → (q : Pile) → q ≡ put p l s
-        → says (Said (Taken n a)) q ≡ setOf p l o
+        → says (WasJudged (Taken n a)) q ≡ setOf p l o
     unfolding setAs
     set-taken n a g s d q k = rw (k, d) (set-as h (Taken n a) (sym e ∙ g))
 

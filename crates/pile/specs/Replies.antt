@@ -1,14 +1,14 @@
 -- The fields of each reply: the number, the word and the rest (contract 4, 5 and 12).
 use Rattle.chart.specs.declared.Fields.{Fields}
-use Rattle.chart.specs.Fields.{numbered, said, verdictFields, no-word, inside, outside}
+use Rattle.chart.specs.Fields.{numbered, worded, verdictFields, no-word, inside, outside}
 use Rattle.chart.specs.Refusals as refusals
 use Rattle.pile.specs.declared.PileReply.{PileReply}
 use Rattle.pile.specs.declared.PileReply.the-variants.{Done, Inside, Outside, Judged, Cell, NotPassed, Dented, Layer}
 
 unfoldable pub pileFields : PileReply → Fields
-pileFields Done = said no-word
-pileFields Inside = said inside
-pileFields Outside = said outside
+pileFields Done = worded no-word
+pileFields Inside = worded inside
+pileFields Outside = worded outside
 pileFields (Judged v) = verdictFields v
 pileFields Cell = numbered refusals.cell
 pileFields NotPassed = numbered refusals.nothing-at-work

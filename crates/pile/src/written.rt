@@ -10,9 +10,9 @@ pub fn of_reply(r: PileReply) -> Fields
     ensures { λ f. ⌜ f ≡ pileFields r ⌝ }
 {
     match r {
-        PileReply::Done => reply::said(reply::NO_WORD),
-        PileReply::Inside => reply::said(reply::INSIDE),
-        PileReply::Outside => reply::said(reply::OUTSIDE),
+        PileReply::Done => reply::worded(reply::NO_WORD),
+        PileReply::Inside => reply::worded(reply::INSIDE),
+        PileReply::Outside => reply::worded(reply::OUTSIDE),
         PileReply::Judged(verdict) => reply::of_verdict(verdict),
         PileReply::Cell => reply::numbered(refusals::CELL),
         PileReply::NotPassed => reply::numbered(refusals::NOTHING_AT_WORK),

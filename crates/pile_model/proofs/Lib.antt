@@ -1,3 +1,3 @@
 -- The intervals of a section; a pile replies as the model does.
-pub mod Runs
+pub mod Sections
 pub mod ListTheorem

@@ -42,7 +42,7 @@ use Rattle.pile.proofs.CheckLaws.{check-said}
 use Rattle.pile_model.specs.Book.{Layers, PileBook, fresh, putLayer, marks, columnMarks, rowMarks, Checked, NoneDented}
 use Rattle.pile_model.specs.Book.{located, queried, Answers, setBook, isDone, next, AllAnswer}
 use Rattle.pile_model.specs.Run.{pileReplies, pileAfter, bookAfter}
-use Rattle.pile_model.proofs.Runs.{KeptAs, AllKept, column-plane, row-plane, column-decided, row-decided}
+use Rattle.pile_model.proofs.Sections.{KeptAs, AllKept, column-plane, row-plane, column-decided, row-decided}
 
 -- ---- how a layer is kept
 
@@ -113,12 +113,12 @@ check-keeps : (p : Pile) → (checkOf p .pile .layers ≡ p .layers) × (checkOf
 unfolding checkOf judgedPile isDone
 check-keeps p = go (ltb (dentedColumn (p .layers)) side) (ltb (dentedRow (p .layers)) side)
   where
-    said : Bool → Bool → Piled
-    said b d =
+    replied : Bool → Bool → Piled
+    replied b d =
         cond b (says (Dented 0 (dentedColumn (p .layers))) (judgedPile p false))
         (cond d (says (Dented 1 (dentedRow (p .layers))) (judgedPile p false)) (says Done (judgedPile p true)))
 
-    go : (b d : Bool) → (said b d .pile .layers ≡ p .layers) × (said b d .pile .passed ≡ isDone (said b d .reply))
+    go : (b d : Bool) → (replied b d .pile .layers ≡ p .layers) × (replied b d .pile .passed ≡ isDone (replied b d .reply))
     go true d = (refl, refl)
     go false true = (refl, refl)
     go false false = (refl, refl)

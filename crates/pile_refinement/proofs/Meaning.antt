@@ -19,7 +19,7 @@ use Rattle.pile_model.proofs.ListTheorem.{bookOf, pile-passed, book-checked, bo
 use Rattle.live_pile.specs.Layout.{Memory, Fits}
 use Rattle.live_pile.specs.Called.{Called, CheckWritten, Freshened}
 use Rattle.live_pile.proofs.CallLaws.{check-written}
-use Rattle.pile_refinement.specs.Series.{Asked, Received, Series, heeded}
+use Rattle.pile_refinement.specs.Series.{Asked, Received, Series, callsIn}
 use Rattle.pile_refinement.proofs.Theorem.{fresh-leaves}
 
 -- Arrays with a fresh pile, after any calls, also with reply buffers that are too short
@@ -28,27 +28,27 @@ module _ (m n : Memory) (t : Bool) (f : Fits m) (s : Freshened m n t) (xs : List
   -- A check that is done replies 0 exactly if no section of the taken outlines, at a column
   -- or at a row, has a missing cell. Otherwise it names the first that has one
   pub check-theorem : (k′ : Memory) (reply reply′ : List ℕ) → Called k k′ Check reply reply′ true
-      → CheckWritten (Checked (bookOf (heeded xs) .layers)) (NoneDented (bookOf (heeded xs) .layers)) reply reply′
+      → CheckWritten (Checked (bookOf (callsIn xs) .layers)) (NoneDented (bookOf (callsIn xs) .layers)) reply reply′
   unfolding answerOf
   check-theorem k′ reply reply′ c =
       let (fit, left) = fresh-leaves m n t f s xs ys k r in
       let room : replyWidth ≤ length reply = leb-true replyWidth (length reply) (sym (c .done fit)) in
-      check-written _ reply reply′ room (c .replied refl) _ (rw left (book-checked (heeded xs))) refl
+      check-written _ reply reply′ room (c .replied refl) _ (rw left (book-checked (callsIn xs))) refl
 
   -- A query that is done gets the model's reply
   pub query-replies : (l : ℕ) (x : Point) (k′ : Memory) (reply reply′ : List ℕ) → Called k k′ (Query l x) reply reply′ true
-      → reply′ ≡ replyAfter (pileFields (queried (bookOf (heeded xs)) l x)) reply
+      → reply′ ≡ replyAfter (pileFields (queried (bookOf (callsIn xs)) l x)) reply
   unfolding answerOf
   query-replies l x k′ reply reply′ c =
       c .replied refl
       ∙ ap (λ (p : Pile). replyAfter (pileFields (queryOf p l x)) reply) (fresh-leaves m n t f s xs ys k r .1)
-      ∙ ap (λ (v : PileReply). replyAfter (pileFields v) reply) (book-queried (heeded xs) l x)
+      ∙ ap (λ (v : PileReply). replyAfter (pileFields v) reply) (book-queried (callsIn xs) l x)
 
   -- If the last call that set a layer or checked was a check that passed, the query is answered from the layer's outline
-  pub query-theorem : bookOf (heeded xs) .passed ≡ true → (l : ℕ) (x : Point) → l ≤ lastLayer → badCell x ≡ false
+  pub query-theorem : bookOf (callsIn xs) .passed ≡ true → (l : ℕ) (x : Point) → l ≤ lastLayer → badCell x ≡ false
       → (k′ : Memory) (reply reply′ : List ℕ) → Called k k′ (Query l x) reply reply′ true
-      → reply′ ≡ replyAfter (pileFields (located (bookOf (heeded xs) .layers l) x)) reply
+      → reply′ ≡ replyAfter (pileFields (located (bookOf (callsIn xs) .layers l) x)) reply
   query-theorem e l x h b k′ reply reply′ c =
       query-replies l x k′ reply reply′ c
       ∙ ap (λ (v : PileReply). replyAfter (pileFields v) reply)
-      (sym (book-queried (heeded xs) l x) ∙ pile-passed (heeded xs) e .answers l x h b)
+      (sym (book-queried (callsIn xs) l x) ∙ pile-passed (callsIn xs) e .answers l x h b)

@@ -16,7 +16,7 @@ use Rattle.pile_model.proofs.ListTheorem.{pile-theorem, replies-once, bookOf, s
 use Rattle.live_pile.specs.Layout.{layerBytes, Memory, memory, pileIn, Fits}
 use Rattle.live_pile.specs.Called.{Freshened}
 use Rattle.live_pile.proofs.CallLaws.{fits-by, fresh-lists}
-use Rattle.pile_refinement.specs.Series.{Asked, Received, Series, stop, made, Calls, end, then, roomy, heeded, answered, passedOver, told}
+use Rattle.pile_refinement.specs.Series.{Asked, Received, Series, stop, made, Calls, end, then, roomy, callsIn, answered, passedOver, receivedFor}
 
 abbrev received : Bool → List ℕ → Received
 received b l = record { done = b; reply = l }
@@ -24,26 +24,26 @@ received b l = record { done = b; reply = l }
 -- ---- the cases of the definitions
 
 module _ (x : Asked) (xs : List Asked) where
-  heeded-room : roomy x ≡ true → heeded (x ∷ xs) ≡ x .call ∷ heeded xs
-  unfolding heeded
-  heeded-room e = rw e
+  callsIn-room : roomy x ≡ true → callsIn (x ∷ xs) ≡ x .call ∷ callsIn xs
+  unfolding callsIn
+  callsIn-room e = rw e
 
-  heeded-none : roomy x ≡ false → heeded (x ∷ xs) ≡ heeded xs
-  unfolding heeded
-  heeded-none e = rw e
+  callsIn-none : roomy x ≡ false → callsIn (x ∷ xs) ≡ callsIn xs
+  unfolding callsIn
+  callsIn-none e = rw e
 
-  told-room : (r : PileReply) (rs : List PileReply) → roomy x ≡ true → told (x ∷ xs) (r ∷ rs) ≡ answered x r ∷ told xs rs
-  unfolding told
-  told-room r rs e = rw e
+  receivedFor-room : (r : PileReply) (rs : List PileReply) → roomy x ≡ true → receivedFor (x ∷ xs) (r ∷ rs) ≡ answered x r ∷ receivedFor xs rs
+  unfolding receivedFor
+  receivedFor-room r rs e = rw e
 
-  told-none : (rs : List PileReply) → roomy x ≡ false → told (x ∷ xs) rs ≡ passedOver x ∷ told xs rs
-  unfolding told
-  told-none [] e = refl
-  told-none (r ∷ rs) e = rw e
+  receivedFor-none : (rs : List PileReply) → roomy x ≡ false → receivedFor (x ∷ xs) rs ≡ passedOver x ∷ receivedFor xs rs
+  unfolding receivedFor
+  receivedFor-none [] e = refl
+  receivedFor-none (r ∷ rs) e = rw e
 
-told-nothing : (rs : List PileReply) → told [] rs ≡ []
-unfolding told
-told-nothing rs = refl
+receivedFor-nothing : (rs : List PileReply) → receivedFor [] rs ≡ []
+unfolding receivedFor
+receivedFor-nothing rs = refl
 
 replies-next : (p : Pile) (c : PileCall) (cs : List PileCall)
     → pileReplies p (c ∷ cs) ≡ answerOf p c .reply ∷ pileReplies (answerOf p c .pile) cs
@@ -54,64 +54,64 @@ after-next : (p : Pile) (c : PileCall) (cs : List PileCall) → pileAfter p (c �
 unfolding pileAfter
 after-next p c cs = refl
 
-after-nothing : (p : Pile) → pileAfter p (heeded []) ≡ p
-unfolding pileAfter heeded
+after-nothing : (p : Pile) → pileAfter p (callsIn []) ≡ p
+unfolding pileAfter callsIn
 after-nothing p = refl
 
 -- ---- a series
 
 -- What is received, and the pile that is left
 abbrev As : Memory → List Asked → List Received → Memory → Type 0
-As m xs ys n = (ys ≡ told xs (pileReplies (pileIn m) (heeded xs))) × Fits n × (pileIn n ≡ pileAfter (pileIn m) (heeded xs))
+As m xs ys n = (ys ≡ receivedFor xs (pileReplies (pileIn m) (callsIn xs))) × Fits n × (pileIn n ≡ pileAfter (pileIn m) (callsIn xs))
 
-series-told : (m : Memory) → Fits m → (xs : List Asked) (ys : List Received) (n : Memory) → Series m xs ys n → As m xs ys n
-series-told m f [] [] n stop = (sym (told-nothing (pileReplies (pileIn m) (heeded []))), f, sym (after-nothing (pileIn m)))
-series-told m f (x ∷ xs) (y ∷ ys) n (made {m = _} {k = k} c s) = go (roomy x) refl (series-told k (c .fits f) xs ys n s)
+series-received : (m : Memory) → Fits m → (xs : List Asked) (ys : List Received) (n : Memory) → Series m xs ys n → As m xs ys n
+series-received m f [] [] n stop = (sym (receivedFor-nothing (pileReplies (pileIn m) (callsIn []))), f, sym (after-nothing (pileIn m)))
+series-received m f (x ∷ xs) (y ∷ ys) n (made {m = _} {k = k} c s) = go (roomy x) refl (series-received k (c .fits f) xs ys n s)
   where
     go : (t : Bool) → roomy x ≡ t → As k xs ys n → As m (x ∷ xs) (y ∷ ys) n
     go true e (rest, fit, left) =
         let yes : y .done ≡ true = c .done f ∙ e in (
-          ap₂ _∷_ (ap₂ received yes (c .replied yes)) (rest ∙ ap (λ (p : Pile). told xs (pileReplies p (heeded xs))) (c .pile yes))
-              ∙ sym (ap (λ (cs : List PileCall). told (x ∷ xs) (pileReplies (pileIn m) cs)) (heeded-room x xs e)
-              ∙ ap (told (x ∷ xs)) (replies-next (pileIn m) (x .call) (heeded xs))
-              ∙ told-room x xs _ _ e),
+          ap₂ _∷_ (ap₂ received yes (c .replied yes)) (rest ∙ ap (λ (p : Pile). receivedFor xs (pileReplies p (callsIn xs))) (c .pile yes))
+              ∙ sym (ap (λ (cs : List PileCall). receivedFor (x ∷ xs) (pileReplies (pileIn m) cs)) (callsIn-room x xs e)
+              ∙ ap (receivedFor (x ∷ xs)) (replies-next (pileIn m) (x .call) (callsIn xs))
+              ∙ receivedFor-room x xs _ _ e),
           fit,
-          left ∙ ap (λ (p : Pile). pileAfter p (heeded xs)) (c .pile yes)
-              ∙ sym (ap (pileAfter (pileIn m)) (heeded-room x xs e) ∙ after-next (pileIn m) (x .call) (heeded xs)),
+          left ∙ ap (λ (p : Pile). pileAfter p (callsIn xs)) (c .pile yes)
+              ∙ sym (ap (pileAfter (pileIn m)) (callsIn-room x xs e) ∙ after-next (pileIn m) (x .call) (callsIn xs)),
         )
     go false e (rest, fit, left) =
         let no : y .done ≡ false = c .done f ∙ e in
         let (same, same-reply) = c .unaltered no in (
-          ap₂ _∷_ (ap₂ received no same-reply) (rest ∙ ap (λ (k : Memory). told xs (pileReplies (pileIn k) (heeded xs))) same)
-              ∙ sym (ap (λ (cs : List PileCall). told (x ∷ xs) (pileReplies (pileIn m) cs)) (heeded-none x xs e) ∙ told-none x xs _ e),
+          ap₂ _∷_ (ap₂ received no same-reply) (rest ∙ ap (λ (k : Memory). receivedFor xs (pileReplies (pileIn k) (callsIn xs))) same)
+              ∙ sym (ap (λ (cs : List PileCall). receivedFor (x ∷ xs) (pileReplies (pileIn m) cs)) (callsIn-none x xs e) ∙ receivedFor-none x xs _ e),
           fit,
-          left ∙ ap (λ (k : Memory). pileAfter (pileIn k) (heeded xs)) same ∙ sym (ap (pileAfter (pileIn m)) (heeded-none x xs e)),
+          left ∙ ap (λ (k : Memory). pileAfter (pileIn k) (callsIn xs)) same ∙ sym (ap (pileAfter (pileIn m)) (callsIn-none x xs e)),
         )
 
 -- Calls made one by one, from arrays with a fresh pile
 module _ (m n : Memory) (t : Bool) (f : Fits m) (s : Freshened m n t) (xs : List Asked) (ys : List Received) (k : Memory)
     (r : Series n xs ys k) where
-  series-fresh : ys ≡ told xs (pileReplies freshPile (heeded xs))
-  series-fresh = series-told n (s .fits f) xs ys k r .0 ∙ ap (λ (p : Pile). told xs (pileReplies p (heeded xs))) (s .pile f)
+  series-fresh : ys ≡ receivedFor xs (pileReplies freshPile (callsIn xs))
+  series-fresh = series-received n (s .fits f) xs ys k r .0 ∙ ap (λ (p : Pile). receivedFor xs (pileReplies p (callsIn xs))) (s .pile f)
 
   -- The arrays that are left have the pile that is left by value
-  pub fresh-leaves : Fits k × (pileIn k ≡ pileAfter freshPile (heeded xs))
+  pub fresh-leaves : Fits k × (pileIn k ≡ pileAfter freshPile (callsIn xs))
   fresh-leaves =
-      let told = series-told n (s .fits f) xs ys k r in
-      (told .1, told .2 ∙ ap (λ (p : Pile). pileAfter p (heeded xs)) (s .pile f))
+      let receivedFor = series-received n (s .fits f) xs ys k r in
+      (receivedFor .1, receivedFor .2 ∙ ap (λ (p : Pile). pileAfter p (callsIn xs)) (s .pile f))
 
   -- They get the model's replies to the calls whose reply has room
-  pub series-theorem : (rs : List PileReply) × AllAnswer fresh (heeded xs) rs × (ys ≡ told xs rs)
-  series-theorem = (pileReplies freshPile (heeded xs), pile-theorem (heeded xs), series-fresh)
+  pub series-theorem : (rs : List PileReply) × AllAnswer fresh (callsIn xs) rs × (ys ≡ receivedFor xs rs)
+  series-theorem = (pileReplies freshPile (callsIn xs), pile-theorem (callsIn xs), series-fresh)
 
   -- No other replies are the model's
-  pub series-once : (rs : List PileReply) → AllAnswer fresh (heeded xs) rs → ys ≡ told xs rs
+  pub series-once : (rs : List PileReply) → AllAnswer fresh (callsIn xs) rs → ys ≡ receivedFor xs rs
   series-once rs a =
-      series-fresh ∙ ap (told xs) (replies-once (heeded xs) fresh (pileReplies freshPile (heeded xs)) rs (pile-theorem (heeded xs)) a)
+      series-fresh ∙ ap (receivedFor xs) (replies-once (callsIn xs) fresh (pileReplies freshPile (callsIn xs)) rs (pile-theorem (callsIn xs)) a)
 
   -- The state says whether the model has passed
-  pub state-theorem : pileIn k .passed ≡ bookOf (heeded xs) .passed
-  state-theorem = ap (λ (p : Pile). p .passed) (fresh-leaves .1) ∙ same-passed (heeded xs)
+  pub state-theorem : pileIn k .passed ≡ bookOf (callsIn xs) .passed
+  state-theorem = ap (λ (p : Pile). p .passed) (fresh-leaves .1) ∙ same-passed (callsIn xs)
 
 -- Arrays of zeros have a fresh pile
 abbrev pub zeros : Memory

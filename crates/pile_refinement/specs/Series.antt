@@ -43,9 +43,9 @@ pub data Calls : Memory → List PileCall → List (List ℕ) → Memory → Typ
 abbrev pub roomy : Asked → Bool
 roomy x = leb replyWidth (length (x .reply))
 
-unfoldable pub heeded : List Asked → List PileCall
-heeded [] = []
-heeded (x ∷ xs) = cond (roomy x) (x .call ∷ heeded xs) (heeded xs)
+unfoldable pub callsIn : List Asked → List PileCall
+callsIn [] = []
+callsIn (x ∷ xs) = cond (roomy x) (x .call ∷ callsIn xs) (callsIn xs)
 
 -- What is received if these calls get these replies in turn. Each reply is written to its call's buffer. A buffer without room is unchanged
 abbrev pub answered : Asked → PileReply → Received
@@ -54,7 +54,7 @@ answered x r = record { done = true; reply = replyAfter (pileFields r) (x .reply
 abbrev pub passedOver : Asked → Received
 passedOver x = record { done = false; reply = x .reply }
 
-unfoldable pub told : List Asked → List PileReply → List Received
-told [] rs = []
-told (x ∷ xs) [] = passedOver x ∷ told xs []
-told (x ∷ xs) (r ∷ rs) = cond (roomy x) (answered x r ∷ told xs rs) (passedOver x ∷ told xs (r ∷ rs))
+unfoldable pub receivedFor : List Asked → List PileReply → List Received
+receivedFor [] rs = []
+receivedFor (x ∷ xs) [] = passedOver x ∷ receivedFor xs []
+receivedFor (x ∷ xs) (r ∷ rs) = cond (roomy x) (answered x r ∷ receivedFor xs rs) (passedOver x ∷ receivedFor xs (r ∷ rs))

@@ -6,7 +6,7 @@ use lib.IntN.{ℤ, pos, negsuc}
 use Rattle.chart.specs.declared.Point.{Point}
 use Rattle.chart.specs.Outline.{at}
 use Rattle.chart.specs.declared.Fields.{Fields}
-use Rattle.chart.specs.Fields.{positionFields, numbered, said, inside, outside}
+use Rattle.chart.specs.Fields.{positionFields, numbered, worded, inside, outside}
 use Rattle.chart.specs.Same.{sameFields}
 use Rattle.polygon.specs.Loose.{looseOf}
 
@@ -28,13 +28,13 @@ ask a es x f = record { anchor = a; edges = es; cell = x; fields = f }
 unfoldable pub queries : List Query
 unfolding ask
 queries =
-    ask (at 0 0) (pos 2 ∷ pos 0 ∷ negsuc 1 ∷ pos 0 ∷ []) (at 1 0) (said inside) ∷
-    ask (at 0 0) (pos 2 ∷ pos 0 ∷ negsuc 1 ∷ pos 0 ∷ []) (at 3 0) (said outside) ∷
-    ask (at 0 0) (pos 2 ∷ pos 0 ∷ negsuc 1 ∷ pos 0 ∷ []) (at 254 0) (said outside) ∷
-    ask (at 0 1) (pos 1 ∷ pos 1 ∷ pos 1 ∷ negsuc 0 ∷ negsuc 0 ∷ negsuc 0 ∷ negsuc 0 ∷ pos 1 ∷ []) (at 1 2) (said inside) ∷
-    ask (at 0 1) (pos 1 ∷ pos 1 ∷ pos 1 ∷ negsuc 0 ∷ negsuc 0 ∷ negsuc 0 ∷ negsuc 0 ∷ pos 1 ∷ []) (at 0 2) (said outside) ∷
-    ask (at 7 7) [] (at 7 7) (said inside) ∷
-    ask (at 7 7) [] (at 7 8) (said outside) ∷
+    ask (at 0 0) (pos 2 ∷ pos 0 ∷ negsuc 1 ∷ pos 0 ∷ []) (at 1 0) (worded inside) ∷
+    ask (at 0 0) (pos 2 ∷ pos 0 ∷ negsuc 1 ∷ pos 0 ∷ []) (at 3 0) (worded outside) ∷
+    ask (at 0 0) (pos 2 ∷ pos 0 ∷ negsuc 1 ∷ pos 0 ∷ []) (at 254 0) (worded outside) ∷
+    ask (at 0 1) (pos 1 ∷ pos 1 ∷ pos 1 ∷ negsuc 0 ∷ negsuc 0 ∷ negsuc 0 ∷ negsuc 0 ∷ pos 1 ∷ []) (at 1 2) (worded inside) ∷
+    ask (at 0 1) (pos 1 ∷ pos 1 ∷ pos 1 ∷ negsuc 0 ∷ negsuc 0 ∷ negsuc 0 ∷ negsuc 0 ∷ pos 1 ∷ []) (at 0 2) (worded outside) ∷
+    ask (at 7 7) [] (at 7 7) (worded inside) ∷
+    ask (at 7 7) [] (at 7 8) (worded outside) ∷
     ask (at 255 0) (pos 1 ∷ []) (at 0 0) (numbered 10) ∷
     ask (at 255 0) [] (at 0 0) (numbered 11) ∷
     ask (at 0 0) [] (at 0 255) (numbered 11) ∷ []
@@ -43,12 +43,12 @@ queries =
 unfoldable pub passing : List Query
 unfolding ask
 passing =
-    ask (at 1 1) (pos 0 ∷ pos 3 ∷ pos 3 ∷ negsuc 2 ∷ negsuc 2 ∷ pos 0 ∷ []) (at 2 3) (said inside) ∷
-    ask (at 1 1) (pos 0 ∷ pos 3 ∷ pos 3 ∷ negsuc 2 ∷ negsuc 2 ∷ pos 0 ∷ []) (at 3 3) (said outside) ∷
-    ask (at 0 0) (pos 1 ∷ pos 1 ∷ negsuc 0 ∷ negsuc 0 ∷ []) (at 1 1) (said inside) ∷
-    ask (at 0 0) (pos 1 ∷ pos 1 ∷ negsuc 0 ∷ negsuc 0 ∷ []) (at 1 0) (said outside) ∷
-    ask (at 0 0) (pos 2 ∷ negsuc 0 ∷ negsuc 0 ∷ negsuc 0 ∷ negsuc 0 ∷ pos 2 ∷ []) (at 0 0) (said inside) ∷
-    ask (at 0 0) (pos 2 ∷ negsuc 0 ∷ negsuc 0 ∷ negsuc 0 ∷ negsuc 0 ∷ pos 2 ∷ []) (at 1 0) (said outside) ∷ []
+    ask (at 1 1) (pos 0 ∷ pos 3 ∷ pos 3 ∷ negsuc 2 ∷ negsuc 2 ∷ pos 0 ∷ []) (at 2 3) (worded inside) ∷
+    ask (at 1 1) (pos 0 ∷ pos 3 ∷ pos 3 ∷ negsuc 2 ∷ negsuc 2 ∷ pos 0 ∷ []) (at 3 3) (worded outside) ∷
+    ask (at 0 0) (pos 1 ∷ pos 1 ∷ negsuc 0 ∷ negsuc 0 ∷ []) (at 1 1) (worded inside) ∷
+    ask (at 0 0) (pos 1 ∷ pos 1 ∷ negsuc 0 ∷ negsuc 0 ∷ []) (at 1 0) (worded outside) ∷
+    ask (at 0 0) (pos 2 ∷ negsuc 0 ∷ negsuc 0 ∷ negsuc 0 ∷ negsuc 0 ∷ pos 2 ∷ []) (at 0 0) (worded inside) ∷
+    ask (at 0 0) (pos 2 ∷ negsuc 0 ∷ negsuc 0 ∷ negsuc 0 ∷ negsuc 0 ∷ pos 2 ∷ []) (at 1 0) (worded outside) ∷ []
 
 -- Lists that 16 refuses: a zero edge, among others and alone; edges that do not sum to zero; anticlockwise edges; one direction twice; up
 -- after left; a half turn that starts with its other edge; two full turns. Refusals 10 and 11 come first

@@ -6,7 +6,7 @@ use lib.IntN.{ℤ, pos, negsuc}
 use Rattle.chart.specs.declared.Point.{Point}
 use Rattle.chart.specs.Outline.{at}
 use Rattle.chart.specs.declared.Fields.{Fields}
-use Rattle.chart.specs.Fields.{numbered, said, inside, outside, undecided}
+use Rattle.chart.specs.Fields.{numbered, worded, inside, outside, undecided}
 use Rattle.chart.specs.Same.{sameFields}
 use Rattle.readings.specs.Located.{locatedOf, readingOf}
 use Rattle.calls.specs.Replies.{replyFields}
@@ -38,25 +38,25 @@ ask a es x y f = record { anchor = a; edges = es; angle = x; load = y; fields = 
 unfoldable pub specimens : List Asked
 unfolding H2 H3 ask
 specimens =
-    ask (at 0 1) H3 0x3f800000 0x3f800000 (said inside) ∷
-    ask (at 0 1) H3 0x3f800000 0x40000000 (said undecided) ∷
-    ask (at 0 1) H3 0x3f000000 0x3fc00000 (said undecided) ∷
-    ask (at 0 1) H3 0x3f000000 0x3fc147ae (said undecided) ∷
-    ask (at 0 1) H3 0x3f000000 0x3fb33333 (said inside) ∷
-    ask (at 0 1) H3 0x00000000 0x40000000 (said outside) ∷
-    ask (at 0 1) H3 0x40200000 0x3f800000 (said outside) ∷
-    ask (at 0 0) H2 0x3f800000 0x00000000 (said undecided) ∷
-    ask (at 0 0) H2 0x80000000 0x00000000 (said undecided) ∷
-    ask (at 0 0) H2 0x3f800000 0x00000001 (said outside) ∷
-    ask (at 0 0) H2 0x40400000 0x00000000 (said outside) ∷
-    ask (at 0 0) [] 0x00000000 0x00000000 (said inside) ∷
-    ask (at 0 0) [] 0x80000000 0x80000000 (said inside) ∷
-    ask (at 0 0) [] 0x00000001 0x00000000 (said outside) ∷
-    ask (at 0 0) [] 0x437e0000 0x437e0000 (said outside) ∷
+    ask (at 0 1) H3 0x3f800000 0x3f800000 (worded inside) ∷
+    ask (at 0 1) H3 0x3f800000 0x40000000 (worded undecided) ∷
+    ask (at 0 1) H3 0x3f000000 0x3fc00000 (worded undecided) ∷
+    ask (at 0 1) H3 0x3f000000 0x3fc147ae (worded undecided) ∷
+    ask (at 0 1) H3 0x3f000000 0x3fb33333 (worded inside) ∷
+    ask (at 0 1) H3 0x00000000 0x40000000 (worded outside) ∷
+    ask (at 0 1) H3 0x40200000 0x3f800000 (worded outside) ∷
+    ask (at 0 0) H2 0x3f800000 0x00000000 (worded undecided) ∷
+    ask (at 0 0) H2 0x80000000 0x00000000 (worded undecided) ∷
+    ask (at 0 0) H2 0x3f800000 0x00000001 (worded outside) ∷
+    ask (at 0 0) H2 0x40400000 0x00000000 (worded outside) ∷
+    ask (at 0 0) [] 0x00000000 0x00000000 (worded inside) ∷
+    ask (at 0 0) [] 0x80000000 0x80000000 (worded inside) ∷
+    ask (at 0 0) [] 0x00000001 0x00000000 (worded outside) ∷
+    ask (at 0 0) [] 0x437e0000 0x437e0000 (worded outside) ∷
     ask (at 0 0) [] 0x7fc00000 0x00000000 (numbered 11) ∷
     ask (at 0 0) [] 0x00000000 0xff800001 (numbered 11) ∷
     ask (at 0 0) [] 0x7f800000 0x00000000 (numbered 11) ∷
     ask (at 0 0) [] 0x00000000 0xff800000 (numbered 11) ∷
     ask (at 0 0) [] 0x80000001 0x00000000 (numbered 11) ∷
     ask (at 0 0) [] 0x00000000 0x437e0001 (numbered 11) ∷
-    ask (at 253 0) H2 0x437e0000 0x00000000 (said outside) ∷ []
+    ask (at 253 0) H2 0x437e0000 0x00000000 (worded outside) ∷ []

@@ -20,7 +20,7 @@ use Rattle.holder.specs.Holder.{freshHolder, answerOf}
 use Rattle.holder.specs.declared.Holder.{Holder}
 use Rattle.holder_refinement.proofs.ListTheorem.{list-theorem}
 use Rattle.wire.specs.declared.Decoded.{Decoded}
-use Rattle.wire.specs.declared.Decoded.the-variants.{Call as Said, Nothing}
+use Rattle.wire.specs.declared.Decoded.the-variants.{Call as OfCall, Nothing}
 use Rattle.wire.specs.Wire.{callWidth, replyWidth, decoded, received}
 use Rattle.live_memory.specs.Layout.{letterBytes, rowBytes, edgeNumbers, headNumbers, Memory, memory, holderIn, Fits}
 use Rattle.live_memory.proofs.Zeros.{zeros, zeros-fresh}
@@ -48,7 +48,7 @@ module _ (h : Holder) (n : ℕ) (s l : List ℕ) where
       go (suc m) = rw e
 
   -- The first bytes are this call
-  module _ (x : Call) (e : decoded (take callWidth s) ≡ Said x) where
+  module _ (x : Call) (e : decoded (take callWidth s) ≡ OfCall x) where
     calls-some : callsFrom (suc n) s ≡ x ∷ callsFrom n (drop callWidth s)
     unfolding callsFrom followed
     calls-some = rw e
@@ -75,7 +75,7 @@ calls-few zero s = omega arith
 calls-few (suc n) s = go (decoded (take callWidth s)) (calls-few n (drop callWidth s))
   where
     go : (d : Decoded) → length (callsFrom n (drop callWidth s)) ≤ n → length (followed d (callsFrom n (drop callWidth s))) ≤ suc n
-    go (Said x) few = omega arith
+    go (OfCall x) few = omega arith
     go Nothing few = omega arith
 
 pub callsRead-room : (s : List ℕ) (m : ℕ) → replyWidth * length (callsRead s m) ≤ m
@@ -91,12 +91,12 @@ callsRead-bytes s m = omega (arith, calls-few (min (length s / callWidth) (m / r
 unanswered : (d : Decoded) → false ≡ isCall d → d ≡ Nothing
 unfolding isCall
 unanswered Nothing e = refl
-unanswered (Said x) e = absurd (true≢false (sym e))
+unanswered (OfCall x) e = absurd (true≢false (sym e))
 
-answered : (d : Decoded) → true ≡ isCall d → (x : Call) × (d ≡ Said x)
+answered : (d : Decoded) → true ≡ isCall d → (x : Call) × (d ≡ OfCall x)
 unfolding isCall
 answered Nothing e = absurd (true≢false e)
-answered (Said x) e = (x, refl)
+answered (OfCall x) e = (x, refl)
 
 -- ---- the loop
 
@@ -170,7 +170,7 @@ module _ (script buffer : List ℕ) (end : ℕ) (h : Holder) (done : ℕ) (list 
     buffer-part = take-all (length list - replyWidth * done) l (rw (length-drop (replyWidth * done) list) (le-refl _))
 
     -- For bytes that are a call
-    module _ (x : Call) (e : decoded (take callWidth s) ≡ Said x) where
+    module _ (x : Call) (e : decoded (take callWidth s) ≡ OfCall x) where
       abbrev next : List ℕ
       next = take (replyWidth * done) list ++ replyAfter (replyFields (answerOf h x .reply)) l
 
@@ -230,7 +230,7 @@ module _ (script buffer : List ℕ) (end : ℕ) (h : Holder) (done : ℕ) (list 
           (calls-none h (end - done) s l e, listed-part ∙ ap (λ (p : List ℕ). take (replyWidth * done) list ++ p) (t .unaltered no .1 ∙ buffer-part) ∙ take-append-drop (replyWidth * done) list)
 
       -- A call: the loop continues with the next holder
-      by-call : (x : Call) → d ≡ Said x → b ≡ true → Underway script buffer end (holderIn k) (done + 1) listed
+      by-call : (x : Call) → d ≡ OfCall x → b ≡ true → Underway script buffer end (holderIn k) (done + 1) listed
       unfolding nextHolder replyBy
       by-call x q so =
           let g : holderIn k ≡ answerOf h x .holder = t .holder so ∙ rw (q, is) in

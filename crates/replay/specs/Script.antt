@@ -8,12 +8,12 @@ use Rattle.calls.specs.declared.Reply.{Reply}
 use Rattle.calls.specs.Replies.{replyFields}
 use Rattle.holder_model.specs.Book.{replies}
 use Rattle.wire.specs.declared.Decoded.{Decoded}
-use Rattle.wire.specs.declared.Decoded.the-variants.{Call as Said, Nothing}
+use Rattle.wire.specs.declared.Decoded.the-variants.{Call as OfCall, Nothing}
 use Rattle.wire.specs.Wire.{callWidth, replyWidth, decoded}
 
 -- A call and the calls after it. If there is no call, none come after
 unfoldable pub followed : Decoded → List Call → List Call
-followed (Said x) cs = x ∷ cs
+followed (OfCall x) cs = x ∷ cs
 followed Nothing cs = []
 
 -- The first n calls of a script, up to the first bytes that are not a call

@@ -26,9 +26,9 @@ fn answer(holder: Holder, call: &[u8], expected: &[u16]) -> Step {
         };
     };
     let answered = holder.answer(made);
-    let said = answered.reply;
+    let answer = answered.reply;
     let mut numbers = [0u16; NUMBERS];
-    reply::write(of_reply(said), &mut numbers[..]);
+    reply::write(of_reply(answer), &mut numbers[..]);
     let alike = same(&numbers[..], expected);
     let next = answered.holder;
     Step {

@@ -32,41 +32,41 @@ fn line(f: Fields) {
     io::write_all(STDOUT_FILENO, b"\n");
 }
 
-fn told(piled: Piled) -> Pile {
-    let said = piled.reply;
-    line(of_reply(said));
+fn printed(piled: Piled) -> Pile {
+    let answer = piled.reply;
+    line(of_reply(answer));
     piled.pile
 }
 
 // One cell.
 fn cell(pile: Pile, layer: u8, col: u16, row: u16) -> Pile {
     let letters = [1u8, 0, 3, 2];
-    told(pile.set(layer, Point { col, row }, &letters[..]))
+    printed(pile.set(layer, Point { col, row }, &letters[..]))
 }
 
 // The five cells of a plus, from the left corner of its middle row.
 fn plus(pile: Pile, layer: u8, col: u16, row: u16) -> Pile {
     let letters = [1u8, 0, 1, 0, 3, 0, 3, 2, 3, 2, 1, 2];
-    told(pile.set(layer, Point { col, row }, &letters[..]))
+    printed(pile.set(layer, Point { col, row }, &letters[..]))
 }
 
 // An outline with a dent.
 fn dented(pile: Pile, layer: u8) -> Pile {
     let letters = [1u8, 1, 1, 0, 3, 3, 0, 0, 3, 2, 2, 2];
-    told(pile.set(layer, Point { col: 0, row: 0 }, &letters[..]))
+    printed(pile.set(layer, Point { col: 0, row: 0 }, &letters[..]))
 }
 
 fn empty(pile: Pile, layer: u8) -> Pile {
-    told(pile.set_empty(layer))
+    printed(pile.set_empty(layer))
 }
 
 fn check(pile: Pile) -> Pile {
-    told(pile.check())
+    printed(pile.check())
 }
 
 fn query(pile: Pile, layer: u8, col: u16, row: u16) -> Pile {
-    let said = pile.query(layer, Point { col, row });
-    line(of_reply(said));
+    let answer = pile.query(layer, Point { col, row });
+    line(of_reply(answer));
     pile
 }
 

@@ -69,7 +69,7 @@ module _ (o : Outline) where
   pub taken-answers : (buffer : List ℤ) (n : ℕ) (a : Point) → testOf o (length buffer) ≡ Taken n a → (x : Point) → x .col < side → x .row < side
       → insideEdges a (take (2 * n) (edgesAfter o buffer)) x ≡ block o (x .col) (x .row)
   taken-answers buffer n a e x i j =
-      let f : TakenFacts o n a = taken-facts o n a (roomy o (length buffer) n a e .said) in
+      let f : TakenFacts o n a = taken-facts o n a (roomy o (length buffer) n a e .verdict) in
       ap (λ (es : List ℤ). insideEdges a es x) (edges-first o buffer n a e) ∙
       (ap (λ (b : Point). insideEdges b (edges (border o)) x) (f .anchor) ∙
       edges-answer-sent o (f .reaches) (f .undented) x i j)

@@ -197,7 +197,7 @@ module _ (o : Outline) where
 
   -- If a test takes an outline or names a dent, so does the verdict; a taken outline has room
   pub record Roomy (m n : ℕ) (a : Point) : Type 0 where
-    pub said : verdictOf o ≡ Taken n a
+    pub verdict : verdictOf o ≡ Taken n a
     pub room : 2 * n ≤ m
 
   pub roomy : (m n : ℕ) (a : Point) → testOf o m ≡ Taken n a → Roomy m n a
@@ -212,7 +212,7 @@ module _ (o : Outline) where
                 let y : testOf o m ≡ Taken k b = test-taken m k b x (omega arith) in
                 let p : k ≡ n = cc in
                 let q : b ≡ a = cc in
-                record { said = cc; room = omega arith }
+                record { verdict = cc; room = omega arith }
           ]
 
   -- ---- the buffer afterwards
@@ -229,6 +229,6 @@ module _ (o : Outline) where
   pub edges-first : (buffer : List ℤ) (n : ℕ) (a : Point) → testOf o (length buffer) ≡ Taken n a
       → take (2 * n) (edgesAfter o buffer) ≡ edges (border o)
   edges-first buffer n a e =
-      let k : TakenFacts n a = taken-facts n a (roomy (length buffer) n a e .said) in
+      let k : TakenFacts n a = taken-facts n a (roomy (length buffer) n a e .verdict) in
       ap (take (2 * n)) (edges-after buffer n a e) ∙
       take-at (edges (border o)) (drop (length (edges (border o))) buffer) (2 * n) (edges-length (border o) ∙ ap (λ (j : ℕ). 2 * j) (sym (k .count)))

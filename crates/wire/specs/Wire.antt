@@ -11,7 +11,7 @@ use Rattle.calls.specs.declared.Action.the-variants.{Begin, Add, Drop, Clear, C
 use Rattle.calls.specs.declared.Question.the-variants.{Cell as OfCell, Row as OfRow, Reading as OfReading, Piece as OfPiece}
 use Rattle.readings.specs.Located.{readingOf}
 use Rattle.wire.specs.declared.Decoded.{Decoded}
-use Rattle.wire.specs.declared.Decoded.the-variants.{Call as Said, Nothing}
+use Rattle.wire.specs.declared.Decoded.the-variants.{Call as OfCall, Nothing}
 
 -- How many bytes a call has
 abbrev pub callWidth : ℕ
@@ -33,15 +33,15 @@ pointOf x y = record { col = shortOf x; row = shortOf y }
 -- The call with a number, a party, a place and two 32-bit arguments: 0 begin, 1 add, 2 drop, 3 clear, 4 close, 5 query, 6 row, 7 reading,
 -- 8 piece. A number above 8 is not a call
 unfoldable pub callOf : ℕ → ℕ → ℕ → ℕ → ℕ → Decoded
-callOf zero p k x y = Said (by p (Begin (pointOf x y)))
-callOf (suc zero) p k x y = Said (by p (Add (letterOf x)))
-callOf (suc (suc zero)) p k x y = Said (by p Drop)
-callOf (suc (suc (suc zero))) p k x y = Said (by p (Clear k))
-callOf (suc (suc (suc (suc zero)))) p k x y = Said (by p (Close k))
-callOf (suc (suc (suc (suc (suc zero))))) p k x y = Said (by p (Ask k (OfCell (pointOf x y))))
-callOf (suc (suc (suc (suc (suc (suc zero)))))) p k x y = Said (by p (Ask k (OfRow (shortOf x))))
-callOf (suc (suc (suc (suc (suc (suc (suc zero))))))) p k x y = Said (by p (Ask k (OfReading (readingOf x y))))
-callOf (suc (suc (suc (suc (suc (suc (suc (suc zero)))))))) p k x y = Said (by p (Ask k (OfPiece (shortOf x))))
+callOf zero p k x y = OfCall (by p (Begin (pointOf x y)))
+callOf (suc zero) p k x y = OfCall (by p (Add (letterOf x)))
+callOf (suc (suc zero)) p k x y = OfCall (by p Drop)
+callOf (suc (suc (suc zero))) p k x y = OfCall (by p (Clear k))
+callOf (suc (suc (suc (suc zero)))) p k x y = OfCall (by p (Close k))
+callOf (suc (suc (suc (suc (suc zero))))) p k x y = OfCall (by p (Ask k (OfCell (pointOf x y))))
+callOf (suc (suc (suc (suc (suc (suc zero)))))) p k x y = OfCall (by p (Ask k (OfRow (shortOf x))))
+callOf (suc (suc (suc (suc (suc (suc (suc zero))))))) p k x y = OfCall (by p (Ask k (OfReading (readingOf x y))))
+callOf (suc (suc (suc (suc (suc (suc (suc (suc zero)))))))) p k x y = OfCall (by p (Ask k (OfPiece (shortOf x))))
 callOf (suc (suc (suc (suc (suc (suc (suc (suc (suc n))))))))) p k x y = Nothing
 
 -- The call of these bytes. Nothing unless there are eleven

@@ -48,7 +48,7 @@ pub fn point(x: u32, y: u32) -> Point
     }
 }
 
-fn said(party: u8, action: Action) -> Decoded
+fn call_by(party: u8, action: Action) -> Decoded
     ensures { λ r. ⌜ r ≡ Decoded.Call (record { party = party; action = action }) ⌝ }
 {
     Decoded::Call(Call { party, action })
@@ -57,7 +57,7 @@ fn said(party: u8, action: Action) -> Decoded
 fn ask(party: u8, place: u8, question: Question) -> Decoded
     ensures { λ r. ⌜ r ≡ Decoded.Call (record { party = party; action = Action.Ask place question }) ⌝ }
 {
-    said(party, Action::Ask { place, question })
+    call_by(party, Action::Ask { place, question })
 }
 
 // A call's number, its party and place, and its argument.
@@ -65,11 +65,11 @@ fn call_of(number: u8, party: u8, place: u8, x: u32, y: u32) -> Decoded
     ensures { λ r. ⌜ r ≡ callOf number party place x y ⌝ }
 {
     match number {
-        0 => said(party, Action::Begin { start: point(x, y) }),
-        1 => said(party, Action::Add { letter: letter(x) }),
-        2 => said(party, Action::Drop),
-        3 => said(party, Action::Clear { place }),
-        4 => said(party, Action::Close { place }),
+        0 => call_by(party, Action::Begin { start: point(x, y) }),
+        1 => call_by(party, Action::Add { letter: letter(x) }),
+        2 => call_by(party, Action::Drop),
+        3 => call_by(party, Action::Clear { place }),
+        4 => call_by(party, Action::Close { place }),
         5 => ask(party, place, Question::Cell(point(x, y))),
         6 => ask(party, place, Question::Row(short(x))),
         7 => ask(party, place, Question::Reading(from_bits(x, y))),

@@ -2,7 +2,7 @@
 -- its second side; the theorems for an outline, and for the reply of a witness call; the invariants of the loops over letters and rows.
 pub mod Three
 pub mod Gap
-pub mod Runs
+pub mod FirstInterval
 pub mod Theorem
 pub mod Answer
 pub mod Kept

@@ -31,7 +31,7 @@ use Rattle.witness.specs.Three.{Three, threeFor}
 use Rattle.witness.specs.Gap.{lowestRow, secondSide, isMissing, lowestMissing, witnessFor, witnessOf}
 use Rattle.witness.proofs.Three.{hull-shown}
 use Rattle.witness.proofs.Gap.{none-missing, finds}
-use Rattle.witness.proofs.Runs.{side-ends, first-run}
+use Rattle.witness.proofs.FirstInterval.{side-ends, first-run}
 
 module _ (o : Outline) (h : Simple o) where
   abbrev row : ℕ

@@ -7,7 +7,7 @@ use lib.ListN.{length, drop}
 use lib.Dec.{ltb}
 use Rattle.chart.specs.declared.Fields.{Fields}
 use Rattle.chart.specs.declared.Refusal.the-variants.{List as BadList}
-use Rattle.chart.specs.Fields.{no-word, said, accepted, refusalFields}
+use Rattle.chart.specs.Fields.{no-word, worded, accepted, refusalFields}
 use Rattle.chart.specs.Outline.{Outline}
 use Rattle.calls.specs.Replies.{none}
 use Rattle.survey.specs.declared.Surveyed.{Surveyed}
@@ -37,7 +37,7 @@ witnessedOf o n = pastSurvey (surveyOf o) (shownIn n o)
 -- The reply's fields
 unfoldable pub witnessedFields : Witnessed → Fields
 witnessedFields (Found x) = accepted no-word 0 x
-witnessedFields None = said none
+witnessedFields None = worded none
 witnessedFields (Refused f) = refusalFields f
 
 -- Three cells as six numbers

@@ -10,7 +10,7 @@ pub fn of_witnessed(w: Witnessed) -> Fields
 {
     match w {
         Witnessed::Found { cell } => reply::accepted(reply::NO_WORD, 0, cell),
-        Witnessed::None => reply::said(reply::NONE),
+        Witnessed::None => reply::worded(reply::NONE),
         Witnessed::Refused(why) => reply::of_refusal(why),
     }
 }

@@ -19,7 +19,7 @@ use Rattle.convexity.specs.Clockwise.{block}
 use Rattle.completion.specs.parts.Sides.{firstSide, lastSide}
 use Rattle.completion.specs.HullRows.{hullRight}
 use Rattle.completion.proofs.HullRows.{Ends, hull-iff}
-use Rattle.completion.proofs.Climb.{lowest-row}
+use Rattle.completion.proofs.LeftSide.{lowest-row}
 use Rattle.completion.proofs.BlockEnds.{block-joined, rows-fit}
 use Rattle.completion.proofs.Sides.{highest-corner}
 use Rattle.witness.specs.Three.{firstIn, lastIn, fromRow, threeFor}
@@ -27,7 +27,7 @@ use Rattle.witness.specs.Gap.{openColumn, hasGap, lowestRow, lowestOpen, isMiss
 use Rattle.witness.proofs.Gap.{FirstRun, finds, none-missing}
 use Rattle.witness.proofs.Alike.{three-alike}
 use Rattle.witness.proofs.Theorem.{missing-iff, full-iff, lowest-is}
-use Rattle.witness.proofs.Runs.{side-ends, first-run}
+use Rattle.witness.proofs.FirstInterval.{side-ends, first-run}
 use Rattle.row_sides.specs.parts.Passed.{Passed}
 use Rattle.witness_search.specs.parts.Answers.{threeBy, Shows, Answers, Finds}
 

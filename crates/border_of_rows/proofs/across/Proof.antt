@@ -4,7 +4,7 @@ use mathlib.Core.Path.{_≡_, sym, ap}
 use mathlib.Core.Logic.{inl, inr}
 use mathlib.Core.List.{[], _∷_}
 use lib.ListN.{length, length-append}
-use Rattle.completion.specs.Runs.{across}
+use Rattle.completion.specs.RowsOutline.{across}
 use Rattle.border_of_rows.specs.parts.Wrote.{Wrote}
 use Rattle.border_of_rows.proofs.Writing.{wrote-none, wrote-next, wrote-same}
 use Rattle.border_of_rows.proofs.Parts.{Between, between-start, across-none, onward-more, backward-more, across-fits}

@@ -5,7 +5,7 @@ use mathlib.Core.List.{[], _∷_, _++_}
 use denote.Ref.{now}
 use lib.ListN.{length, length-append, length-set}
 use Rattle.rows.specs.parts.Rows.{rows}
-use Rattle.completion.specs.Runs.{across}
+use Rattle.completion.specs.RowsOutline.{across}
 use Rattle.completion.specs.parts.Written.{toRow}
 use Rattle.border_of_rows.specs.parts.Wrote.{Wrote}
 use Rattle.border_of_rows.proofs.Writing.{wrote-none, wrote-next, wrote-both, wrote-same}

@@ -5,7 +5,7 @@ use mathlib.Core.List.{List, [], _∷_, _++_}
 use denote.Ref.{now}
 use lib.ListN.{length, length-set}
 use Rattle.rows.specs.parts.Rows.{rows}
-use Rattle.completion.specs.Runs.{across}
+use Rattle.completion.specs.RowsOutline.{across}
 use Rattle.completion.specs.parts.Written.{toRow, descent}
 use Rattle.border_of_rows.proofs.Writing.{wrote-same, wrote-front, Front, front-put, front-more}
 use Rattle.border_of_rows.proofs.Parts.{round-parts, round-length}

@@ -8,7 +8,7 @@ use Rattle.chart.specs.declared.Point.{Point}
 use Rattle.chart.specs.Outline.{Outline}
 use Rattle.lattice.specs.Chart.{step}
 use Rattle.lattice.specs.Enclosed.{upAlong, downAlong}
-use Rattle.completion.specs.Runs.{outlineOf}
+use Rattle.completion.specs.RowsOutline.{outlineOf}
 use Rattle.completion.specs.HullRows.{hullLeft, hullRight}
 
 -- The letter a from p steps up or down along the height of row r

@@ -5,7 +5,7 @@ use borrow.Author.Needs.{needs}
 use Rattle.dents.specs.declared.Factored.{Factored}
 use Rattle.dents.specs.parts.Dents.{FactorsRead}
 use Rattle.judge.specs.Judged.{zeros}
-use Rattle.judge.proofs.PieceLaws.{short, dent-said, count-le, edges-said}
+use Rattle.judge.proofs.PieceLaws.{short, dent-outcome, count-le, edges-outcome}
 use Rattle.judge.proofs.edges.Statement.{statement}
 use Rattle.judge.proofs.edges.Tie as tie
 
@@ -59,7 +59,7 @@ returns : tie.Need-returns
 returns c =
     let read = c .before .before .before .before .before .before in
     let start = read .before .before .before in
-    dent-said (start .pre .0) (start .pre .1) _ (factored read (c .before .before .factored .given .1)) (c .dent .ensures) _
+    dent-outcome (start .pre .0) (start .pre .1) _ (factored read (c .before .before .factored .given .1)) (c .dent .ensures) _
 
 same-length : tie.Need-same-length
 same-length c = search needs
@@ -68,7 +68,7 @@ returns-2 : tie.Need-returns-2
 returns-2 c =
     let read = c .before .before .before .before .before .before .before .before .before in
     let start = read .before .before .before in
-    edges-said (start .pre .0) (start .pre .1) (factored read (c .before .before .before .before .before .factored2 .given .1)) _ (c .before .write-edges .ensures)
+    edges-outcome (start .pre .0) (start .pre .1) (factored read (c .before .before .before .before .before .factored2 .given .1)) _ (c .before .write-edges .ensures)
 
 pub edges-spec : {M : Type 1} → statement M
 edges-spec =

@@ -2,7 +2,7 @@
 use mathlib.Core.Path.{sym, _∙_}
 use borrow.Author.Needs.{needs}
 use Rattle.survey.proofs.SurveyLaws.{survey-simple, survey-corners}
-use Rattle.judge.proofs.JudgedLaws.{stopped-said, passed-said, said-edges}
+use Rattle.judge.proofs.JudgedLaws.{stopped-outcome, passed-outcome, outcome-edges}
 use Rattle.judge.proofs.judge.Statement.{statement}
 use Rattle.judge.proofs.judge.Tie as tie
 
@@ -23,8 +23,8 @@ read-requires c κs =
 
 returns : tie.Need-returns
 returns c =
-    let s = stopped-said _ (sym (c .before .before .before .survey .ensures) ∙ c .before .surveyed .given .1) _ in
-    (s .verdict, said-edges _ s)
+    let s = stopped-outcome _ (sym (c .before .before .before .survey .ensures) ∙ c .before .surveyed .given .1) _ in
+    (s .verdict, outcome-edges _ s)
 
 same-length : tie.Need-same-length
 same-length c = search needs
@@ -32,8 +32,8 @@ same-length c = search needs
 returns-2 : tie.Need-returns-2
 returns-2 c =
     let told = c .before .before .before .before in
-    let s = passed-said _ (sym (told .before .before .survey .ensures) ∙ told .surveyed2 .given .1) (c .before .read .ensures) in
-    (s .verdict, said-edges _ s)
+    let s = passed-outcome _ (sym (told .before .before .survey .ensures) ∙ told .surveyed2 .given .1) (c .before .read .ensures) in
+    (s .verdict, outcome-edges _ s)
 
 pub judge-spec : {M : Type 1} → statement M
 judge-spec =

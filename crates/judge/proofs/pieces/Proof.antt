@@ -5,7 +5,7 @@ use borrow.Author.Needs.{needs}
 use Rattle.convexity.specs.Pieces.{rounds}
 use Rattle.back_steps.specs.declared.BackStep.{BackStep}
 use Rattle.back_steps.specs.parts.BackSteps.{Found}
-use Rattle.judge.proofs.PieceLaws.{short, step-said, none-straight}
+use Rattle.judge.proofs.PieceLaws.{short, step-outcome, none-straight}
 use Rattle.judge.proofs.pieces.Statement.{statement}
 use Rattle.judge.proofs.pieces.Tie as tie
 
@@ -43,7 +43,7 @@ edges-requires c κs =
 returns : tie.Need-returns
 returns c =
     let first = c .before .before .before .before in
-    step-said (first .before .before .pre) (found first (c .before .before .found .given .1)) (c .sent .ensures) _
+    step-outcome (first .before .before .pre) (found first (c .before .before .found .given .1)) (c .sent .ensures) _
 
 same-length : tie.Need-same-length
 same-length c = search needs

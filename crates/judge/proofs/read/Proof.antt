@@ -5,7 +5,7 @@ use lib.Seq.{length-take-le}
 use borrow.Author.Needs.{needs}
 use Rattle.chart.specs.Outline.{outline}
 use Rattle.cut_places.proofs.ReadLaws.{cuts-of}
-use Rattle.judge.proofs.JudgedLaws.{Copied, letters-fit, copied-ready, copied-said}
+use Rattle.judge.proofs.JudgedLaws.{Copied, letters-fit, copied-ready, copied-outcome}
 use Rattle.judge.proofs.read.Statement.{statement}
 use Rattle.judge.proofs.read.Tie as tie
 
@@ -53,7 +53,7 @@ same-length : tie.Need-same-length
 same-length c = search needs
 
 returns : tie.Need-returns
-returns c = copied-said (copied (c .before .before .before .before .before)) (c .before .pieces .ensures)
+returns c = copied-outcome (copied (c .before .before .before .before .before)) (c .before .pieces .ensures)
 
 pub read-spec : {M : Type 1} → statement M
 read-spec =

@@ -1,6 +1,6 @@
 -- With arrays of other lengths or no room for the reply nothing changes. Otherwise the reply's fields are written.
 use mathlib.Core.Path.{_∙_}
-use Rattle.live.proofs.CallLaws.{unfit-made, short-made, told-made}
+use Rattle.live.proofs.CallLaws.{unfit-made, short-made, written-made}
 use borrow.Author.Needs.{needs}
 use Rattle.live_calls.proofs.add.Statement.{statement}
 use Rattle.live_calls.proofs.add.Tie as tie
@@ -40,7 +40,7 @@ returns-4 c =
     let letters = heads .before .before in
     let answered = letters .before in
     let third = answered .before .before .before in
-    λ r n. told-made _ _ _ _ (record { letters = third .before .before .if1 .left; heads = third .before .if2 .left }) (third .if3 .left) _ _
+    λ r n. written-made _ _ _ _ (record { letters = third .before .before .if1 .left; heads = third .before .if2 .left }) (third .if3 .left) _ _
     (answered .add-of .ensures r n)
     (λ f. record { letters = letters .letters .given ∙ f .letters; rows = f .rows; numbers = f .numbers; heads = heads .heads .given ∙ f .heads })
     _ (fields .of-reply .ensures) _ (wrote .write .ensures .0) _ (wrote .write .ensures .1)

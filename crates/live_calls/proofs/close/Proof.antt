@@ -1,6 +1,6 @@
 -- With arrays of other lengths or no room for the reply nothing changes. Otherwise the reply's fields are written.
 use mathlib.Core.Path.{_∙_}
-use Rattle.live.proofs.CallLaws.{unfit-made, short-made, told-made}
+use Rattle.live.proofs.CallLaws.{unfit-made, short-made, written-made}
 use borrow.Author.Needs.{needs}
 use Rattle.live_calls.proofs.close.Statement.{statement}
 use Rattle.live_calls.proofs.close.Tie as tie
@@ -54,7 +54,7 @@ returns-6 c =
     let third = fourth .before in
     let second = third .before in
     let first = second .before in
-    told-made _ _ _ _ (record { letters = first .if1 .left; rows = second .if2 .left; numbers = third .if3 .left; heads = fourth .if4 .left })
+    written-made _ _ _ _ (record { letters = first .if1 .left; rows = second .if2 .left; numbers = third .if3 .left; heads = fourth .if4 .left })
     (fifth .if5 .left) _ _ (answered .close-of .ensures)
     (λ f. record {
       letters = f .letters;

@@ -1,5 +1,5 @@
 -- With arrays of other lengths or no room for the reply nothing changes. Otherwise the reply's fields are written.
-use Rattle.live.proofs.CallLaws.{unfit-made, short-made, told-made}
+use Rattle.live.proofs.CallLaws.{unfit-made, short-made, written-made}
 use borrow.Author.Needs.{needs}
 use Rattle.live_calls.proofs.row.Statement.{statement}
 use Rattle.live_calls.proofs.row.Tie as tie
@@ -31,7 +31,7 @@ returns-4 c =
     let fields = wrote .before .before in
     let answered = fields .before in
     let third = answered .before in
-    λ l n. told-made _ _ _ _ (third .before .before .if1 .left, third .before .if2 .left) (third .if3 .left) _ _
+    λ l n. written-made _ _ _ _ (third .before .before .if1 .left, third .before .if2 .left) (third .if3 .left) _ _
     (answered .row-of .ensures l n) (λ f. f) _ (fields .of-reply .ensures) _ (wrote .write .ensures .0) _ (wrote .write .ensures .1)
 
 pub row-spec : {M : Type 1} → statement M

@@ -40,7 +40,7 @@ pub record WorkPut (rows : List ℕ) (numbers : List ℤ) (heads rows′ : List 
   pub others : OtherHeads heads heads′ (workHead (slot p k))
 
 -- The reply and the arrays are those of a call on a draft
-pub record DraftSaid (l h l′ h′ : List ℕ) (p : ℕ) (r : Reply) (a : Drafted) : Type 0 where
+pub record DraftAnswered (l h l′ h′ : List ℕ) (p : ℕ) (r : Reply) (a : Drafted) : Type 0 where
   pub reply : r ≡ a .reply
   pub lists : DraftPut l h l′ h′ p (a .draft)
 

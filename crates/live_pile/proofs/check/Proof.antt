@@ -2,7 +2,7 @@
 use mathlib.Core.Path.{sym, _∙_}
 use mathlib.Core.Bool.{true≢false}
 use borrow.Author.Needs.{needs}
-use Rattle.live_pile.proofs.CallLaws.{fits-by, unfit-called, short-called, told-called, check-written}
+use Rattle.live_pile.proofs.CallLaws.{fits-by, unfit-called, short-called, written-called, check-written}
 use Rattle.live_pile.proofs.check.Statement.{statement}
 use Rattle.live_pile.proofs.check.Tie as tie
 
@@ -41,7 +41,7 @@ returns-4 c =
     let s = third .before .if2 .left in
     let room = third .if3 .left in
     let fields = named .of-reply .ensures in (
-      told-called _ _ _ (fits-by _ r s) room _ _ (checked .check-layers .ensures .0) (fits-by _ r (state .state .given ∙ s)) _ fields _
+      written-called _ _ _ (fits-by _ r s) room _ _ (checked .check-layers .ensures .0) (fits-by _ r (state .state .given ∙ s)) _ fields _
           (wrote .write .ensures .0)
           _
           (wrote .write .ensures .1),

@@ -1,6 +1,6 @@
 -- With arrays of other lengths or no room for the reply nothing changes. Otherwise the reply's fields are written.
 use borrow.Author.Needs.{needs}
-use Rattle.live_pile.proofs.CallLaws.{fits-by, unfit-called, short-called, told-called}
+use Rattle.live_pile.proofs.CallLaws.{fits-by, unfit-called, short-called, written-called}
 use Rattle.live_pile.proofs.query.Statement.{statement}
 use Rattle.live_pile.proofs.query.Tie as tie
 
@@ -32,7 +32,7 @@ returns-4 c =
     let asked = named .before in
     let third = asked .before in
     let fit = fits-by _ (third .before .before .if1 .left) (third .before .if2 .left) in
-    told-called _ _ _ fit (third .if3 .left) _ _ (asked .query-layer .ensures) fit _ (named .of-reply .ensures) _
+    written-called _ _ _ fit (third .if3 .left) _ _ (asked .query-layer .ensures) fit _ (named .of-reply .ensures) _
     (wrote .write .ensures .0)
     _
     (wrote .write .ensures .1)

@@ -2,7 +2,7 @@
 use mathlib.Core.Path.{sym, _∙_}
 use mathlib.Core.Bool.{true≢false}
 use borrow.Author.Needs.{needs}
-use Rattle.live_pile.proofs.CallLaws.{fits-by, unfit-called, short-called, told-called, cell-written}
+use Rattle.live_pile.proofs.CallLaws.{fits-by, unfit-called, short-called, written-called, cell-written}
 use Rattle.live_pile.proofs.set.Statement.{statement}
 use Rattle.live_pile.proofs.set.Tie as tie
 
@@ -45,7 +45,7 @@ returns-4 c =
     let s = third .before .if2 .left in
     let room = third .if3 .left in
     let fields = named .of-reply .ensures in (
-      told-called _ _ _ (fits-by _ r s) room _ _ (done .set-layer .ensures) (fits-by _ (rows .rows .given ∙ r) (state .state .given ∙ s)) _
+      written-called _ _ _ (fits-by _ r s) room _ _ (done .set-layer .ensures) (fits-by _ (rows .rows .given ∙ r) (state .state .given ∙ s)) _
           fields
           _
           (wrote .write .ensures .0)

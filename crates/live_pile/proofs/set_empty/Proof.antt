@@ -1,7 +1,7 @@
 -- With arrays of other lengths or no room for the reply nothing changes. Otherwise the reply's fields are written.
 use mathlib.Core.Path.{_∙_}
 use borrow.Author.Needs.{needs}
-use Rattle.live_pile.proofs.CallLaws.{fits-by, unfit-called, short-called, told-called}
+use Rattle.live_pile.proofs.CallLaws.{fits-by, unfit-called, short-called, written-called}
 use Rattle.live_pile.proofs.set_empty.Statement.{statement}
 use Rattle.live_pile.proofs.set_empty.Tie as tie
 
@@ -44,7 +44,7 @@ returns-4 c =
     let s = third .before .if2 .left in
     let room = third .if3 .left in
     let left = fits-by _ (rows .rows .given ∙ r) (state .state .given ∙ s) in
-    told-called _ _ _ (fits-by _ r s) room _ _ (emptied .empty-layer .ensures) left _
+    written-called _ _ _ (fits-by _ r s) room _ _ (emptied .empty-layer .ensures) left _
     (named .of-reply .ensures)
     _
     (wrote .write .ensures .0)

@@ -8,23 +8,23 @@ use Rattle.wire.proofs.call_of.Tie as tie
 point-requires : tie.Need-point-requires
 point-requires c κs = search needs
 
-said-requires : tie.Need-said-requires
-said-requires c κs = search needs
+call-by-requires : tie.Need-call-by-requires
+call-by-requires c κs = search needs
 
 letter-requires : tie.Need-letter-requires
 letter-requires c κs = search needs
 
-said-requires-2 : tie.Need-said-requires-2
-said-requires-2 c κs = search needs
+call-by-requires-2 : tie.Need-call-by-requires-2
+call-by-requires-2 c κs = search needs
 
-said-requires-3 : tie.Need-said-requires-3
-said-requires-3 c κs = search needs
+call-by-requires-3 : tie.Need-call-by-requires-3
+call-by-requires-3 c κs = search needs
 
-said-requires-4 : tie.Need-said-requires-4
-said-requires-4 c κs = search needs
+call-by-requires-4 : tie.Need-call-by-requires-4
+call-by-requires-4 c κs = search needs
 
-said-requires-5 : tie.Need-said-requires-5
-said-requires-5 c κs = search needs
+call-by-requires-5 : tie.Need-call-by-requires-5
+call-by-requires-5 c κs = search needs
 
 point-requires-2 : tie.Need-point-requires-2
 point-requires-2 c κs = search needs
@@ -52,23 +52,23 @@ ask-requires-4 c κs = search needs
 
 returns : tie.Need-returns
 unfolding callOf
-returns c = rw (c .said .ensures, c .before .point .ensures, c .before .before .match .keys1)
+returns c = rw (c .call-by .ensures, c .before .point .ensures, c .before .before .match .keys1)
 
 returns-2 : tie.Need-returns-2
 unfolding callOf
-returns-2 c = rw (c .said2 .ensures, c .before .letter .ensures, c .before .before .match .keys2)
+returns-2 c = rw (c .call-by2 .ensures, c .before .letter .ensures, c .before .before .match .keys2)
 
 returns-3 : tie.Need-returns-3
 unfolding callOf
-returns-3 c = rw (c .said3 .ensures, c .before .match .keys3)
+returns-3 c = rw (c .call-by3 .ensures, c .before .match .keys3)
 
 returns-4 : tie.Need-returns-4
 unfolding callOf
-returns-4 c = rw (c .said4 .ensures, c .before .match .keys4)
+returns-4 c = rw (c .call-by4 .ensures, c .before .match .keys4)
 
 returns-5 : tie.Need-returns-5
 unfolding callOf
-returns-5 c = rw (c .said5 .ensures, c .before .match .keys5)
+returns-5 c = rw (c .call-by5 .ensures, c .before .match .keys5)
 
 returns-6 : tie.Need-returns-6
 unfolding callOf
@@ -96,12 +96,12 @@ call-of-spec =
     tie.close
     (tie.spec
     point-requires
-    said-requires
+    call-by-requires
     letter-requires
-    said-requires-2
-    said-requires-3
-    said-requires-4
-    said-requires-5
+    call-by-requires-2
+    call-by-requires-3
+    call-by-requires-4
+    call-by-requires-5
     point-requires-2
     ask-requires
     short-requires

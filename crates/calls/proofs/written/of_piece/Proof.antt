@@ -26,14 +26,14 @@ accepted-requires-2 c κs = search needs
 enum-told-3 : tie.Need-enum-told-3
 enum-told-3 c = search needs
 
-said-requires : tie.Need-said-requires
-said-requires c κs = search needs
+worded-requires : tie.Need-worded-requires
+worded-requires c κs = search needs
 
 enum-told-4 : tie.Need-enum-told-4
 enum-told-4 c = search needs
 
-said-requires-2 : tie.Need-said-requires-2
-said-requires-2 c κs = search needs
+worded-requires-2 : tie.Need-worded-requires-2
+worded-requires-2 c κs = search needs
 
 returns : tie.Need-returns
 unfolding pieceFields
@@ -45,11 +45,11 @@ returns-2 c = shown _ (c .before .enum-told2 .given .1) (c .accepted2 .ensures)
 
 returns-3 : tie.Need-returns-3
 unfolding pieceFields
-returns-3 c = shown _ (c .before .enum-told3 .given .1) (c .said .ensures)
+returns-3 c = shown _ (c .before .enum-told3 .given .1) (c .worded .ensures)
 
 returns-4 : tie.Need-returns-4
 unfolding pieceFields
-returns-4 c = shown _ (c .before .enum-told4 .given .1) (c .said2 .ensures)
+returns-4 c = shown _ (c .before .enum-told4 .given .1) (c .worded2 .ensures)
 
 pub of-piece-spec : {M : Type 1} → statement M
 of-piece-spec =
@@ -60,9 +60,9 @@ of-piece-spec =
     enum-told-2
     accepted-requires-2
     enum-told-3
-    said-requires
+    worded-requires
     enum-told-4
-    said-requires-2
+    worded-requires-2
     returns
     returns-2
     returns-3

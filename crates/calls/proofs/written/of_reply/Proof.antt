@@ -13,26 +13,26 @@ shown e p = p ∙ ap replyFields (sym e)
 enum-told : tie.Need-enum-told
 enum-told c = search needs
 
-said-requires : tie.Need-said-requires
-said-requires c κs = search needs
+worded-requires : tie.Need-worded-requires
+worded-requires c κs = search needs
 
 enum-told-2 : tie.Need-enum-told-2
 enum-told-2 c = search needs
 
-said-requires-2 : tie.Need-said-requires-2
-said-requires-2 c κs = search needs
+worded-requires-2 : tie.Need-worded-requires-2
+worded-requires-2 c κs = search needs
 
 enum-told-3 : tie.Need-enum-told-3
 enum-told-3 c = search needs
 
-said-requires-3 : tie.Need-said-requires-3
-said-requires-3 c κs = search needs
+worded-requires-3 : tie.Need-worded-requires-3
+worded-requires-3 c κs = search needs
 
 enum-told-4 : tie.Need-enum-told-4
 enum-told-4 c = search needs
 
-said-requires-4 : tie.Need-said-requires-4
-said-requires-4 c κs = search needs
+worded-requires-4 : tie.Need-worded-requires-4
+worded-requires-4 c κs = search needs
 
 enum-known-r : tie.Need-enum-known-r
 enum-known-r c = search needs
@@ -43,8 +43,8 @@ accepted-requires c κs = search needs
 enum-told-5 : tie.Need-enum-told-5
 enum-told-5 c = search needs
 
-said-requires-5 : tie.Need-said-requires-5
-said-requires-5 c κs = search needs
+worded-requires-5 : tie.Need-worded-requires-5
+worded-requires-5 c κs = search needs
 
 enum-known-r-2 : tie.Need-enum-known-r-2
 enum-known-r-2 c = search needs
@@ -108,19 +108,19 @@ numbered-requires-6 c κs = search needs
 
 returns : tie.Need-returns
 unfolding replyFields
-returns c = shown (c .before .enum-told .given .1) (c .said .ensures)
+returns c = shown (c .before .enum-told .given .1) (c .worded .ensures)
 
 returns-2 : tie.Need-returns-2
 unfolding replyFields
-returns-2 c = shown (c .before .enum-told2 .given .1) (c .said2 .ensures)
+returns-2 c = shown (c .before .enum-told2 .given .1) (c .worded2 .ensures)
 
 returns-3 : tie.Need-returns-3
 unfolding replyFields
-returns-3 c = shown (c .before .enum-told3 .given .1) (c .said3 .ensures)
+returns-3 c = shown (c .before .enum-told3 .given .1) (c .worded3 .ensures)
 
 returns-4 : tie.Need-returns-4
 unfolding replyFields
-returns-4 c = shown (c .before .enum-told4 .given .1) (c .said4 .ensures)
+returns-4 c = shown (c .before .enum-told4 .given .1) (c .worded4 .ensures)
 
 returns-5 : tie.Need-returns-5
 unfolding replyFields
@@ -128,7 +128,7 @@ returns-5 c = shown (c .before .before .r .given .1) (c .accepted .ensures)
 
 returns-6 : tie.Need-returns-6
 unfolding replyFields
-returns-6 c = shown (c .before .enum-told5 .given .1) (c .said5 .ensures)
+returns-6 c = shown (c .before .enum-told5 .given .1) (c .worded5 .ensures)
 
 returns-7 : tie.Need-returns-7
 unfolding replyFields
@@ -175,17 +175,17 @@ of-reply-spec =
     tie.close
     (tie.spec
     enum-told
-    said-requires
+    worded-requires
     enum-told-2
-    said-requires-2
+    worded-requires-2
     enum-told-3
-    said-requires-3
+    worded-requires-3
     enum-told-4
-    said-requires-4
+    worded-requires-4
     enum-known-r
     accepted-requires
     enum-told-5
-    said-requires-5
+    worded-requires-5
     enum-known-r-2
     of-piece-requires
     enum-known-r-3

@@ -6,14 +6,14 @@ use Rattle.chart.proofs.reply.of_position.Tie as tie
 enum-told : tie.Need-enum-told
 enum-told c = search needs
 
-said-requires : tie.Need-said-requires
-said-requires c κs = search needs
+worded-requires : tie.Need-worded-requires
+worded-requires c κs = search needs
 
 enum-told-2 : tie.Need-enum-told-2
 enum-told-2 c = search needs
 
-said-requires-2 : tie.Need-said-requires-2
-said-requires-2 c κs = search needs
+worded-requires-2 : tie.Need-worded-requires-2
+worded-requires-2 c κs = search needs
 
 enum-known-p : tie.Need-enum-known-p
 enum-known-p c = search needs
@@ -35,9 +35,9 @@ of-position-spec =
     tie.close
     (tie.spec
     enum-told
-    said-requires
+    worded-requires
     enum-told-2
-    said-requires-2
+    worded-requires-2
     enum-known-p
     of-refusal-requires
     returns

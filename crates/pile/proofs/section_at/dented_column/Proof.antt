@@ -28,9 +28,9 @@ is-clear-requires : tie.Need-is-clear-requires Inv-loop μ-loop
 is-clear-requires c κs = tt
 
 -- The result of this section's test
-said : (c : tie.After-is-clear Inv-loop μ-loop) → c .is-clear .result ≡ columnClear (c .before .before .before .before .args .layers) (c .before .before .before .loop .col)
+clear-is : (c : tie.After-is-clear Inv-loop μ-loop) → c .is-clear .result ≡ columnClear (c .before .before .before .before .args .layers) (c .before .before .before .loop .col)
 unfolding columnClear
-said c = c .is-clear .ensures ∙ ap (λ s. clear (numbers (s .lo)) (numbers (s .past))) (c .before .column .ensures)
+clear-is c = c .is-clear .ensures ∙ ap (λ s. clear (numbers (s .lo)) (numbers (s .past))) (c .before .column .ensures)
 
 cast-result : tie.Need-cast-result Inv-loop μ-loop
 cast-result c = omega arith
@@ -39,7 +39,7 @@ returns : tie.Need-returns Inv-loop μ-loop
 unfolding dentedColumn
 returns c =
     let at = c .before .before .before .before .loop in
-    sym (first-stop _ side (at .col) (at .inv .1) (ap not (sym (said (c .before))) ∙ c .if1 .taken) (omega arith))
+    sym (first-stop _ side (at .col) (at .inv .1) (ap not (sym (clear-is (c .before))) ∙ c .if1 .taken) (omega arith))
 
 add-col : tie.Need-add-col Inv-loop μ-loop
 add-col c = omega arith
@@ -50,7 +50,7 @@ loop-less c = omega arith
 loop-again : tie.Need-loop-again Inv-loop μ-loop
 loop-again c =
     let at = c .before .before .before .before .loop in
-    (omega arith, first-step _ (at .col) (at .inv .1) (ap not (sym (said (c .before))) ∙ c .if1 .left))
+    (omega arith, first-step _ (at .col) (at .inv .1) (ap not (sym (clear-is (c .before))) ∙ c .if1 .left))
 
 returns-2 : tie.Need-returns-2 Inv-loop μ-loop
 unfolding dentedColumn

@@ -30,9 +30,9 @@ is-clear-requires : tie.Need-is-clear-requires Inv-loop μ-loop
 is-clear-requires c κs = tt
 
 -- The result of this section's test
-said : (c : tie.After-is-clear Inv-loop μ-loop) → c .is-clear .result ≡ rowClear (c .before .before .before .before .args .layers) (c .before .before .before .loop .r)
+clear-is : (c : tie.After-is-clear Inv-loop μ-loop) → c .is-clear .result ≡ rowClear (c .before .before .before .before .args .layers) (c .before .before .before .loop .r)
 unfolding rowClear
-said c = c .is-clear .ensures ∙ ap (λ s. clear (numbers (s .lo)) (numbers (s .past))) (c .before .row .ensures .0)
+clear-is c = c .is-clear .ensures ∙ ap (λ s. clear (numbers (s .lo)) (numbers (s .past))) (c .before .row .ensures .0)
 
 -- It fits, like those before it
 fits : (c : tie.After-is-clear Inv-loop μ-loop) → (k : ℕ) → k < c .before .before .before .loop .r + 1
@@ -48,7 +48,7 @@ returns : tie.Need-returns Inv-loop μ-loop
 unfolding dentedRow
 returns c =
     let at = c .before .before .before .before .loop in (
-      sym (first-stop _ side (at .r) (at .inv .1) (ap not (sym (said (c .before))) ∙ c .if1 .taken) (omega arith)),
+      sym (first-stop _ side (at .r) (at .inv .1) (ap not (sym (clear-is (c .before))) ∙ c .if1 .taken) (omega arith)),
       λ k h l. fits (c .before) k (omega arith),
     )
 
@@ -61,7 +61,7 @@ loop-less c = omega arith
 loop-again : tie.Need-loop-again Inv-loop μ-loop
 loop-again c =
     let at = c .before .before .before .before .loop in
-    (omega arith, first-step _ (at .r) (at .inv .1) (ap not (sym (said (c .before))) ∙ c .if1 .left), fits (c .before))
+    (omega arith, first-step _ (at .r) (at .inv .1) (ap not (sym (clear-is (c .before))) ∙ c .if1 .left), fits (c .before))
 
 returns-2 : tie.Need-returns-2 Inv-loop μ-loop
 unfolding dentedRow

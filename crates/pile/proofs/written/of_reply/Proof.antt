@@ -7,20 +7,20 @@ use Rattle.pile.proofs.written.of_reply.Tie as tie
 enum-told : tie.Need-enum-told
 enum-told c = search needs
 
-said-requires : tie.Need-said-requires
-said-requires c κs = search needs
+worded-requires : tie.Need-worded-requires
+worded-requires c κs = search needs
 
 enum-told-2 : tie.Need-enum-told-2
 enum-told-2 c = search needs
 
-said-requires-2 : tie.Need-said-requires-2
-said-requires-2 c κs = search needs
+worded-requires-2 : tie.Need-worded-requires-2
+worded-requires-2 c κs = search needs
 
 enum-told-3 : tie.Need-enum-told-3
 enum-told-3 c = search needs
 
-said-requires-3 : tie.Need-said-requires-3
-said-requires-3 c κs = search needs
+worded-requires-3 : tie.Need-worded-requires-3
+worded-requires-3 c κs = search needs
 
 enum-known-r : tie.Need-enum-known-r
 enum-known-r c = search needs
@@ -86,11 +86,11 @@ of-reply-spec =
     tie.close
     (tie.spec
     enum-told
-    said-requires
+    worded-requires
     enum-told-2
-    said-requires-2
+    worded-requires-2
     enum-told-3
-    said-requires-3
+    worded-requires-3
     enum-known-r
     of-verdict-requires
     enum-told-4

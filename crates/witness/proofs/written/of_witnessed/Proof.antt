@@ -14,8 +14,8 @@ accepted-requires c κs = search needs
 enum-told : tie.Need-enum-told
 enum-told c = search needs
 
-said-requires : tie.Need-said-requires
-said-requires c κs = search needs
+worded-requires : tie.Need-worded-requires
+worded-requires c κs = search needs
 
 enum-known-w-2 : tie.Need-enum-known-w-2
 enum-known-w-2 c = search needs
@@ -42,7 +42,7 @@ of-witnessed-spec =
     enum-known-w
     accepted-requires
     enum-told
-    said-requires
+    worded-requires
     enum-known-w-2
     of-refusal-requires
     returns

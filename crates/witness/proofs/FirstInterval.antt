@@ -58,7 +58,7 @@ module _ (o : Outline) (h : Simple o) where
             | no k ↦ omega arith
             | yes k ↦
                 let (i, l, a, d, _) = ups-found (clockwiseForm o) (suc c) (suc r) k in
-                absurd (n (side-sent o h r (suc c) (record { place = i; below = l; passes = along-up r (cornerAt (clockwiseForm o) i) (letterAt (clockwiseForm o) i) a (row-is d ∙ omega arith); said = col-is d })))
+                absurd (n (side-sent o h r (suc c) (record { place = i; below = l; passes = along-up r (cornerAt (clockwiseForm o) i) (letterAt (clockwiseForm o) i) a (row-is d ∙ omega arith); value = col-is d })))
           ]
 
       no-downs : downsAt (clockwiseForm o) (suc c) (suc r) ≡ 0
@@ -67,7 +67,7 @@ module _ (o : Outline) (h : Simple o) where
             | no k ↦ omega arith
             | yes k ↦
                 let (i, l, a, d) = downs-found (clockwiseForm o) (suc c) (suc r) k in
-                absurd (n (side-sent o h r (suc c) (record { place = i; below = l; passes = along-down r (cornerAt (clockwiseForm o) i) (letterAt (clockwiseForm o) i) a (row-is d); said = col-is d })))
+                absurd (n (side-sent o h r (suc c) (record { place = i; below = l; passes = along-down r (cornerAt (clockwiseForm o) i) (letterAt (clockwiseForm o) i) a (row-is d); value = col-is d })))
           ]
 
   -- A side right of an enclosed cell runs down, and the cell after it is not enclosed
@@ -81,10 +81,10 @@ module _ (o : Outline) (h : Simple o) where
       let k : Out (clockwiseForm o) (leftOf p a) = clockwise-left (clockwiseForm o) w (westPlace (clockwiseForm o)) lowest up i (m .below) in
       elim (along-cases r p a (m .passes)) [
         | inl (d, q) ↦
-            let cell : leftOf p a ≡ at (suc c) (suc r) = ap (leftOf p) d ∙ point-eq (at (p .col) (suc (p .row))) (at (suc c) (suc r)) (m .said) (ap suc q) in
+            let cell : leftOf p a ≡ at (suc c) (suc r) = ap (leftOf p) d ∙ point-eq (at (p .col) (suc (p .row))) (at (suc c) (suc r)) (m .value) (ap suc q) in
             absurd (omega (arith, enclosed-level (clockwiseForm o) (at c r) e, subst (Out (clockwiseForm o)) cell k))
         | inr (d, q) ↦
-            let cell : leftOf p a ≡ at (suc (suc c)) (suc r) = ap (leftOf p) d ∙ point-eq (at (suc (p .col)) (p .row)) (at (suc (suc c)) (suc r)) (ap suc (m .said)) q in
+            let cell : leftOf p a ≡ at (suc (suc c)) (suc r) = ap (leftOf p) d ∙ point-eq (at (suc (p .col)) (p .row)) (at (suc (suc c)) (suc r)) (ap suc (m .value)) q in
             level-open (clockwiseForm o) (at (suc c) r) (subst (Out (clockwiseForm o)) cell k)
       ]
 
@@ -105,9 +105,9 @@ module _ (o : Outline) (h : Simple o) where
   second-le r c s l =
       let p = cornerAt o (s .place) in
       let a = letterAt o (s .place) in
-      let d : firstSide o r < p .col = omega (arith, s .said) in
+      let d : firstSide o r < p .col = omega (arith, s .value) in
       least-met (beyond r) (λ p. p .col) (o .start) (o .letters) side c
-      (record { place = s .place; below = s .below; passes = and-eq-true-iff (alongRow r p a) (ltb (firstSide o r) (p .col)) .1 (s .passes, lt-ltb (firstSide o r) (p .col) d); said = s .said })
+      (record { place = s .place; below = s .below; passes = and-eq-true-iff (alongRow r p a) (ltb (firstSide o r) (p .col)) .1 (s .passes, lt-ltb (firstSide o r) (p .col) d); value = s .value })
 
   second-met : (r : ℕ) → (secondSide o r ≡ side) ⊎ (Side o r (secondSide o r) × (firstSide o r < secondSide o r))
   unfolding secondSide
@@ -118,7 +118,7 @@ module _ (o : Outline) (h : Simple o) where
             let p = cornerAt o (s .place) in
             let a = letterAt o (s .place) in
             let both = and-eq-true-iff (alongRow r p a) (ltb (firstSide o r) (p .col)) .0 (s .passes) in
-            inr (record { place = s .place; below = s .below; passes = both .0; said = s .said }, omega (arith, ltb-true (firstSide o r) (p .col) (both .1), s .said))
+            inr (record { place = s .place; below = s .below; passes = both .0; value = s .value }, omega (arith, ltb-true (firstSide o r) (p .col) (both .1), s .value))
       ]
 
   module _ (r : ℕ) (low : lowestCorner o ≤ r) (high : r < highestCorner o) where

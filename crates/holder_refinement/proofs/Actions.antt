@@ -94,11 +94,11 @@ module _ (g : PartyModel) (d : Draft) (w : Work) (draft : IsDraft d (g .draft)) 
 
   ask-agrees : (k : ℕ) (q : Question) → IsWork w (g .works (keptPlace k)) → AgreesParty g (keptPlace k) (askOf d w k q) (acts g (Ask k q))
   unfolding keptPlace askOf acts
-  ask-agrees k q work = record { reply = said (badPlace k) work; draft = draft; work = work; others = λ j e. refl }
+  ask-agrees k q work = record { reply = asked (badPlace k) work; draft = draft; work = work; others = λ j e. refl }
     where
-      said : (t : Bool) → IsWork w (g .works (cond t 0 k)) → cond t NoPlace (answered w q) ≡ cond t NoPlace (asks q (g .works k))
-      said true work = refl
-      said false work = answered-asked w q (g .works k) work
+      asked : (t : Bool) → IsWork w (g .works (cond t 0 k)) → cond t NoPlace (answered w q) ≡ cond t NoPlace (asks q (g .works k))
+      asked true work = refl
+      asked false work = answered-asked w q (g .works k) work
 
   -- ---- every action
 
