@@ -3,14 +3,15 @@ use Prim.Native.Nat.{ℕ, zero, suc, _+_, _-_, _≤_, _<_}
 use native.Mathlib.Nat.{add-comm}
 use native.Mathlib.Omega.{arith}
 use mathlib.Core.Path.{_≡_, refl, sym, ap, _∙_, subst}
-use mathlib.Core.List.{List, [], _∷_, _++_, append-assoc}
-use lib.ListN.{length, take, drop, set, getD, length-set, length-append, length-drop}
+use mathlib.Core.List.{List, _∷_, _++_, append-assoc}
+use lib.ListN.{length, take, drop, set, length-set, length-append}
 use lib.Seq.{take-suc-set, length-take-le}
-use lib.IntN.{ℤ, pos, natAbs}
+use lib.IntN.{ℤ, natAbs}
+use Rattle.convexity.specs.Edges.{Edge, pairs}
 use Rattle.convexity.specs.Frame.{frameOf}
 use Rattle.convexity.specs.FromEdges.{quadrantOf, runIn, riseIn, lettersFrom, stepCount}
 use Rattle.convexity.proofs.FromEdges.{length-letters}
-use Rattle.polygon.proofs.Spans.{drop-two}
+use Rattle.edge_walk.proofs.Loop.{edgeAt, next-edge, no-edge}
 use Rattle.border_model.specs.parts.Ordered.{Ordered}
 use Rattle.border.specs.parts.Rest.{rest, firsts, letters, stepLetters}
 use Rattle.border.specs.parts.Wrote.{Wrote}
@@ -50,12 +51,12 @@ step-wrote p dx dy {k = k} {i = i} e d f b h w =
     wrote-both one i (omega (arith, length-firsts p (quadrantOf dx dy - p))) two
 
 -- The first edge of a list in order
-pub record First (p : ℕ) (dx dy : ℤ) (es : List ℤ) : Type 0 where
+pub record First (p : ℕ) (dx dy : ℤ) (es : List Edge) : Type 0 where
   pub from : p ≤ quadrantOf dx dy
   pub small : quadrantOf dx dy < 4
   pub others : Ordered (quadrantOf dx dy) es
 
-first-of : {p : ℕ} {dx dy : ℤ} {es : List ℤ} → Ordered p (dx ∷ dy ∷ es) → First p dx dy es
+first-of : {p : ℕ} {dx dy : ℤ} {es : List Edge} → Ordered p ((dx, dy) ∷ es) → First p dx dy es
 first-of (Ordered.more l s r) = record { from = l; small = s; others = r }
 
 -- ---- the loop
@@ -67,11 +68,11 @@ pub record Building (es : List ℤ) (before list : List ℕ) (at p i : ℕ) : Ty
   pub passed : i ≤ length es
   pub piece : p ≤ 3
   pub within : at ≤ length before
-  pub ordered : Ordered p (drop i es)
-  pub written : take at list ++ rest (3 - p) p (drop i es) ≡ lettersFrom es
+  pub ordered : Ordered p (pairs (drop i es))
+  pub written : take at list ++ rest (3 - p) p (pairs (drop i es)) ≡ lettersFrom es
 
 pub building-start :
-    (es : List ℤ) (list : List ℕ) → Ordered 0 es → 4 + stepCount es ≤ length list
+    (es : List ℤ) (list : List ℕ) → Ordered 0 (pairs es) → 4 + stepCount (pairs es) ≤ length list
     → let begun = set list 0 (frameOf 0 .later) in Building es begun begun 1 0 0
 building-start es list o h =
     record {
@@ -86,31 +87,31 @@ building-start es list o h =
 
 module _ {es : List ℤ} {before list : List ℕ} {at p i : ℕ} (b : Building es before list at p i) where
   -- How many letters are still to come
-  left : at + length (rest (3 - p) p (drop i es)) ≡ length (lettersFrom es)
+  left : at + length (rest (3 - p) p (pairs (drop i es))) ≡ length (lettersFrom es)
   left =
       omega (
         arith,
         ap length (b .written),
-        length-append (take at list) (rest (3 - p) p (drop i es)),
+        length-append (take at list) (rest (3 - p) p (pairs (drop i es))),
         length-take-le at list (let l : at ≤ length list = omega (arith, b .sized, b .within) in l),
       )
 
   module _ (more : i + 1 < length es) where
     abbrev dx : ℤ
-    dx = getD es i (pos 0)
+    dx = edgeAt es i .0
 
     abbrev dy : ℤ
-    dy = getD es (i + 1) (pos 0)
+    dy = edgeAt es i .1
 
-    pub first-here : First p dx dy (drop (i + 2) es)
-    first-here = first-of (subst (Ordered p) (drop-two es i more) (b .ordered))
+    pub first-here : First p dx dy (pairs (drop (i + 2) es))
+    first-here = first-of (subst (Ordered p) (next-edge es i more) (b .ordered))
 
-    rest-here : rest (3 - p) p (drop i es) ≡ stepLetters p dx dy ++ rest (3 - quadrantOf dx dy) (quadrantOf dx dy) (drop (i + 2) es)
+    rest-here : rest (3 - p) p (pairs (drop i es)) ≡ stepLetters p dx dy ++ rest (3 - quadrantOf dx dy) (quadrantOf dx dy) (pairs (drop (i + 2) es))
     unfolding stepLetters
     rest-here =
         let f = first-here in
-        ap (rest (3 - p) p) (drop-two es i more)
-        ∙ rest-next p dx dy (drop (i + 2) es) (subst (Ordered p) (drop-two es i more) (b .ordered)) (f .from) (f .small) (f .others)
+        ap (rest (3 - p) p) (next-edge es i more)
+        ∙ rest-next p dx dy (pairs (drop (i + 2) es)) (subst (Ordered p) (next-edge es i more) (b .ordered)) (f .from) (f .small) (f .others)
 
     -- There is room for the edge
     pub step-room : at + (quadrantOf dx dy - p) + (natAbs dx + natAbs dy) ≤ length list
@@ -119,7 +120,7 @@ module _ {es : List ℤ} {before list : List ℕ} {at p i : ℕ} (b : Building e
           arith,
           left,
           ap length rest-here,
-          length-append (stepLetters p dx dy) (rest (3 - quadrantOf dx dy) (quadrantOf dx dy) (drop (i + 2) es)),
+          length-append (stepLetters p dx dy) (rest (3 - quadrantOf dx dy) (quadrantOf dx dy) (pairs (drop (i + 2) es))),
           length-step p dx dy,
           b .room,
           b .sized,
@@ -140,43 +141,33 @@ module _ {es : List ℤ} {before list : List ℕ} {at p i : ℕ} (b : Building e
           within = omega (arith, step-room, b .sized);
           ordered = f .others;
           written =
-              ap (λ (n : ℕ). take n after ++ rest (3 - k) k (drop (i + 2) es)) e
-              ∙ ap (λ (u : List ℕ). u ++ rest (3 - k) k (drop (i + 2) es)) (w .written)
-              ∙ append-assoc (take at list) (stepLetters p dx dy) (rest (3 - k) k (drop (i + 2) es))
+              ap (λ (n : ℕ). take n after ++ rest (3 - k) k (pairs (drop (i + 2) es))) e
+              ∙ ap (λ (u : List ℕ). u ++ rest (3 - k) k (pairs (drop (i + 2) es))) (w .written)
+              ∙ append-assoc (take at list) (stepLetters p dx dy) (rest (3 - k) k (pairs (drop (i + 2) es)))
               ∙ ap (λ (u : List ℕ). take at list ++ u) (sym rest-here)
               ∙ b .written;
         }
 
   module _ (none : length es ≤ i + 1) where
-    no-edge : (l : List ℤ) → length l ≤ 1 → Ordered 4 l
-    no-edge [] h = Ordered.none
-    no-edge (d ∷ []) h = Ordered.odd
-    no-edge (d ∷ e ∷ l) h = absurd (omega arith)
-
-    rest-end : rest (3 - p) p (drop i es) ≡ firsts p (3 - p)
-    rest-end = rest-none p (b .piece) (no-edge (drop i es) (simp length-drop (omega arith)))
+    rest-end : rest (3 - p) p (pairs (drop i es)) ≡ firsts p (3 - p)
+    rest-end = rest-none p (b .piece) (rw (no-edge es i none) Ordered.none)
 
     pub end-room : at + (3 - p) ≤ length list
     end-room = omega (arith, left, ap length rest-end, length-firsts p (3 - p), b .room, b .sized)
 
-    pub building-end : {after : List ℕ} → Wrote list at (firsts p (3 - p)) after → take (4 + stepCount es) after ≡ lettersFrom es
+    pub building-end : {after : List ℕ} → Wrote list at (firsts p (3 - p)) after → take (4 + stepCount (pairs es)) after ≡ lettersFrom es
     building-end {after} w =
-        let e : 4 + stepCount es ≡ at + length (firsts p (3 - p)) = omega (arith, left, ap length rest-end, length-letters es) in
+        let e : 4 + stepCount (pairs es) ≡ at + length (firsts p (3 - p)) = omega (arith, left, ap length rest-end, length-letters es) in
         ap (λ (n : ℕ). take n after) e ∙ w .written ∙ ap (λ (u : List ℕ). take at list ++ u) (sym rest-end) ∙ b .written
 
 -- ---- how many letters there will be
 
 pub steps-next :
     (es : List ℤ) (i : ℕ) → i + 1 < length es
-    → stepCount (drop i es) ≡ natAbs (getD es i (pos 0)) + natAbs (getD es (i + 1) (pos 0)) + stepCount (drop (i + 2) es)
+    → stepCount (pairs (drop i es)) ≡ natAbs (edgeAt es i .0) + natAbs (edgeAt es i .1) + stepCount (pairs (drop (i + 2) es))
 unfolding stepCount
-steps-next es i h = rw (drop-two es i h)
+steps-next es i h = rw (next-edge es i h)
 
-pub steps-end : (es : List ℤ) (i : ℕ) → length es ≤ i + 1 → stepCount (drop i es) ≡ 0
+pub steps-end : (es : List ℤ) (i : ℕ) → length es ≤ i + 1 → stepCount (pairs (drop i es)) ≡ 0
 unfolding stepCount
-steps-end es i h = go (drop i es) (simp length-drop (omega arith))
-  where
-    go : (l : List ℤ) → length l ≤ 1 → stepCount l ≡ 0
-    go [] h = refl
-    go (d ∷ []) h = refl
-    go (d ∷ e ∷ l) h = absurd (omega arith)
+steps-end es i h = rw (no-edge es i h)

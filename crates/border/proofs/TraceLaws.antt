@@ -13,6 +13,7 @@ use Rattle.chart.specs.Limits.{shortest, longest}
 use Rattle.chart.specs.declared.Point.{Point}
 use Rattle.chart.specs.Outline.{outline}
 use Rattle.lattice.specs.Refusals.{badCount}
+use Rattle.convexity.specs.Edges.{pairs}
 use Rattle.convexity.specs.FromEdges.{lettersFrom, stepCount}
 use Rattle.convexity.proofs.FromEdges.{length-letters}
 use Rattle.directions.specs.Increasing.{badDirections}
@@ -24,19 +25,19 @@ use Rattle.border_model.proofs.Outlines.{taken-has, takenAs-iff}
 use Rattle.border_model.proofs.TracedCases.{traced-none, traced-short, traced-written}
 
 module _ (a : Point) (es : List ℤ) where
-  pub too-many : longest < 4 + stepCount es → outlined a es ≡ false
+  pub too-many : longest < 4 + stepCount (pairs es) → outlined a es ≡ false
   unfolding outlined badCount
   too-many h =
       not-held (takenAs (outline a (lettersFrom es)) a es) λ e.
       let simple = taken-has (takenAs-iff (outline a (lettersFrom es)) a es .0 e) .reaches .simple in
       omega (arith, length-letters es, ltb-false longest (length (lettersFrom es)) (or-false-iff (ltb (length (lettersFrom es)) shortest) (ltb longest (length (lettersFrom es))) .0 (simple .counted) .1))
 
-  module _ (buffer : List ℕ) (listed : badList es ≡ false) (anchored : badCell a ≡ false) (turned : badDirections es ≡ false) {n : ℕ} (e : n ≡ 4 + stepCount es) where
+  module _ (buffer : List ℕ) (listed : badList es ≡ false) (anchored : badCell a ≡ false) (turned : badDirections es ≡ false) {n : ℕ} (e : n ≡ 4 + stepCount (pairs es)) where
     pub long-none : longest < n → Answers a es buffer buffer NoOutline
     long-none h = traced-none a es buffer listed anchored turned (too-many (omega arith))
 
     -- The letters built are the first n of a list
-    module _ (list : List ℕ) (built : take (4 + stepCount es) list ≡ lettersFrom es) where
+    module _ (list : List ℕ) (built : take (4 + stepCount (pairs es)) list ≡ lettersFrom es) where
       letters-are : take n list ≡ lettersFrom es
       letters-are = ap (λ (m : ℕ). take m list) e ∙ built
 

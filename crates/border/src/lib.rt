@@ -17,6 +17,7 @@ ghost use mathlib.Core.List.{_++_};
 ghost use lib.ListN.{length, take, drop};
 ghost use Rattle.chart.specs.Limits.{longestList};
 ghost use Rattle.chart.specs.Outline.{outline};
+ghost use Rattle.convexity.specs.Edges.{pairs};
 ghost use Rattle.convexity.specs.FromEdges.{stepCount};
 ghost use Rattle.directions.specs.Increasing.{badDirections};
 ghost use Rattle.polygon.specs.Loose.{badList, badCell};
@@ -30,7 +31,7 @@ mod writer;
 // How many letters the edges give: one for each column and row, and the first letter of each piece.
 fn count(edges: &[i16]) -> usize
     requires { ⌜ length (now edges) ≤ longestList ⌝ }
-    ensures { λ r. ⌜ r ≡ 4 + stepCount (now (edges .entry)) ⌝ }
+    ensures { λ r. ⌜ r ≡ 4 + stepCount (pairs (now (edges .entry))) ⌝ }
 {
     let mut letters = 4;
     let mut i = 0;

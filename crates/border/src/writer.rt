@@ -4,6 +4,7 @@ ghost use Prim.Native.Nat.{_+_, _-_, _%_, _^_, _≤_, _<_};
 ghost use mathlib.Core.Path.{_≡_};
 ghost use lib.ListN.{length, take};
 ghost use lib.IntN.{natAbs};
+ghost use Rattle.convexity.specs.Edges.{pairs};
 ghost use Rattle.convexity.specs.FromEdges.{quadrantOf, stepCount, lettersFrom};
 ghost use Rattle.border_model.specs.parts.Ordered.{Ordered};
 ghost use Rattle.border.specs.parts.Rest.{firsts, letters as lettersOf, stepLetters};
@@ -75,8 +76,8 @@ fn step(letters: &mut [u8], writer: Writer, dx: i16, dy: i16) -> Writer
 
 // Writes the letters of all edges from the front of a list. The edges are in the order of their quadrants.
 pub(crate) fn build(edges: &[i16], letters: &mut [u8])
-    requires { ⌜ Ordered 0 (now edges) × (4 + stepCount (now edges) ≤ length (now letters)) ⌝ }
-    ensures { λ _. ⌜ take (4 + stepCount (now (edges .entry))) (now (letters .exit)) ≡ lettersFrom (now (edges .entry)) ⌝ }
+    requires { ⌜ Ordered 0 (pairs (now edges)) × (4 + stepCount (pairs (now edges)) ≤ length (now letters)) ⌝ }
+    ensures { λ _. ⌜ take (4 + stepCount (pairs (now (edges .entry)))) (now (letters .exit)) ≡ lettersFrom (now (edges .entry)) ⌝ }
 {
     letters[0] = direction::later(0);
     let mut writer = Writer { at: 1, piece: 0 };

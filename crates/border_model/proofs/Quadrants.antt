@@ -8,6 +8,7 @@ use mathlib.Core.List.{List}
 use lib.IntN.{ℤ, pos, negsuc, negℤ}
 use Rattle.base.proofs.IntegerOrder.{up, down}
 use Rattle.base.proofs.Differences.{is-self}
+use Rattle.convexity.specs.Edges.{Edge, pairs}
 use Rattle.convexity.specs.FromEdges.{quadrantOf}
 use Rattle.directions.specs.Round.{cross}
 use Rattle.directions.specs.Increasing.{badDirections}
@@ -58,15 +59,13 @@ facing-small : {dx dy : ℤ} → Facing dx dy → quadrantOf dx dy < 4
 facing-small (Facing.ahead d) = omega (arith, forward-low d)
 facing-small (Facing.back d) = omega (arith, backward-on d, forward-low (opposite d))
 
-rising-after : (dx dy : ℤ) {es : List ℤ} → AllAfter dx dy es → Rising es → Ordered (quadrantOf dx dy) es
+rising-after : (dx dy : ℤ) {es : List Edge} → AllAfter dx dy es → Rising es → Ordered (quadrantOf dx dy) es
 rising-after dx dy AllAfter.none Rising.none = Ordered.none
-rising-after dx dy AllAfter.odd Rising.odd = Ordered.odd
 rising-after dx dy (AllAfter.next {ex} {ey} s a) (Rising.next f b r) = Ordered.more (precedes-quadrant s) (facing-small f) (rising-after ex ey b r)
 
-rising-ordered : {es : List ℤ} → Rising es → Ordered 0 es
+rising-ordered : {es : List Edge} → Rising es → Ordered 0 es
 rising-ordered Rising.none = Ordered.none
-rising-ordered Rising.odd = Ordered.odd
 rising-ordered (Rising.next {dx} {dy} f a r) = Ordered.more {k = 0} {dx = dx} {dy = dy} (omega arith) (facing-small f) (rising-after dx dy a r)
 
-pub passed-ordered : (es : List ℤ) → badDirections es ≡ false → Ordered 0 es
-passed-ordered es e = rising-ordered (passes-iff es (pos 0) (pos 0) .0 e .rises)
+pub passed-ordered : (es : List ℤ) → badDirections es ≡ false → Ordered 0 (pairs es)
+passed-ordered es e = rising-ordered (passes-iff (pairs es) (pos 0) (pos 0) .0 e .rises)

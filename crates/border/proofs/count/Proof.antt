@@ -2,20 +2,21 @@
 use Prim.Native.Nat.{_+_, _-_, _*_, _≤_}
 use native.Mathlib.Omega.{arith}
 use mathlib.Core.Path.{_≡_, refl}
-use mathlib.Core.List.{List}
-use lib.ListN.{length, drop, getD}
-use lib.IntN.{pos, natAbs}
+use lib.ListN.{length, drop}
+use lib.IntN.{natAbs}
 use mir.Syntax.{w16}
 use mir.ValLaws.{toZ-ofZ}
 use borrow.Author.Needs.{needs}
 use Rattle.chart.specs.Limits.{longestList}
+use Rattle.convexity.specs.Edges.{pairs}
 use Rattle.convexity.specs.FromEdges.{stepCount}
+use Rattle.edge_walk.proofs.Loop.{edgeAt}
 use Rattle.border.proofs.Building.{steps-next, steps-end}
 use Rattle.border.proofs.count.Statement.{statement}
 use Rattle.border.proofs.count.Tie as tie
 
 abbrev Inv-loop : tie.InvT-loop
-Inv-loop edges letters₀ i₀ letters i = (length edges ≤ longestList) × (i ≤ length edges) × (letters + stepCount (drop i edges) ≡ 4 + stepCount edges) × (letters ≤ 4 + 32768 * i)
+Inv-loop edges letters₀ i₀ letters i = (length edges ≤ longestList) × (i ≤ length edges) × (letters + stepCount (pairs (drop i edges)) ≡ 4 + stepCount (pairs edges)) × (letters ≤ 4 + 32768 * i)
 
 abbrev μ-loop : tie.MeasureT-loop
 μ-loop edges letters₀ i₀ letters i = length edges - i
@@ -63,18 +64,18 @@ loop-less c = omega arith
 cols-are :
     (c : tie.After-size Inv-loop μ-loop) →
     let l = c .before .before .before .before in
-    c .size .result ≡ natAbs (getD (l .before .args .edges .now) (l .loop .i) (pos 0))
+    c .size .result ≡ natAbs (edgeAt (l .before .args .edges .now) (l .loop .i) .0)
 cols-are c =
     let l = c .before .before .before .before in
-    simp (toZ-ofZ w16 (getD (l .before .args .edges .now) (l .loop .i) (pos 0)) (record { sfits = c .before .before .dx .given })) at (c .size .ensures .0)
+    simp (toZ-ofZ w16 (edgeAt (l .before .args .edges .now) (l .loop .i) .0) (record { sfits = c .before .before .dx .given })) at (c .size .ensures .0)
 
 rows-are :
     (c : tie.After-size2 Inv-loop μ-loop) →
     let l = c .before .before .before .before .before in
-    c .size2 .result ≡ natAbs (getD (l .before .args .edges .now) (l .loop .i + 1) (pos 0))
+    c .size2 .result ≡ natAbs (edgeAt (l .before .args .edges .now) (l .loop .i) .1)
 rows-are c =
     let l = c .before .before .before .before .before in
-    simp (toZ-ofZ w16 (getD (l .before .args .edges .now) (l .loop .i + 1) (pos 0)) (record { sfits = c .before .before .dy .given })) at (c .size2 .ensures .0)
+    simp (toZ-ofZ w16 (edgeAt (l .before .args .edges .now) (l .loop .i) .1) (record { sfits = c .before .before .dy .given })) at (c .size2 .ensures .0)
 
 loop-again : tie.Need-loop-again Inv-loop μ-loop
 loop-again c =

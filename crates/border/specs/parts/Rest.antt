@@ -3,16 +3,17 @@ use Prim.Native.Nat.{ℕ, zero, suc, _+_, _-_}
 use mathlib.Core.List.{List, [], _∷_, _++_}
 use lib.IntN.{ℤ}
 use Rattle.words.specs.Counted.{listed, countedLetter, edgesWord}
+use Rattle.convexity.specs.Edges.{Edge}
 use Rattle.convexity.specs.Frame.{frameOf}
 use Rattle.convexity.specs.parts.InFrame.{spell}
 use Rattle.convexity.specs.FromEdges.{quadrantOf, runIn, riseIn, sizesIn}
 
 -- The letters of the edges of quadrant k
-unfoldable pub edgeLetters : ℕ → List ℤ → List ℕ
+unfoldable pub edgeLetters : ℕ → List Edge → List ℕ
 edgeLetters k es = spell (frameOf k) (edgesWord (sizesIn k es))
 
 -- In piece k, with n pieces after it
-unfoldable pub rest : ℕ → ℕ → List ℤ → List ℕ
+unfoldable pub rest : ℕ → ℕ → List Edge → List ℕ
 rest zero k es = edgeLetters k es
 rest (suc n) k es = edgeLetters k es ++ (frameOf (suc k) .later ∷ rest n (suc k) es)
 

@@ -2,11 +2,10 @@
 use Prim.Native.Nat.{ℕ, _≤_, _<_}
 use mathlib.Core.List.{List, [], _∷_}
 use lib.IntN.{ℤ}
+use Rattle.convexity.specs.Edges.{Edge}
 use Rattle.convexity.specs.FromEdges.{quadrantOf}
 
--- Every edge has a quadrant, none before that of the edge in front of it, and the first has quadrant k or a later one.
--- An odd number at the end is not an edge
-pub data Ordered : ℕ → List ℤ → Type 0 where
+-- Every edge has a quadrant, none before that of the edge in front of it, and the first has quadrant k or a later one
+pub data Ordered : ℕ → List Edge → Type 0 where
   none : {k : ℕ} → Ordered k []
-  odd : {k : ℕ} {d : ℤ} → Ordered k (d ∷ [])
-  more : {k : ℕ} {dx dy : ℤ} {es : List ℤ} → k ≤ quadrantOf dx dy → quadrantOf dx dy < 4 → Ordered (quadrantOf dx dy) es → Ordered k (dx ∷ dy ∷ es)
+  more : {k : ℕ} {dx dy : ℤ} {es : List Edge} → k ≤ quadrantOf dx dy → quadrantOf dx dy < 4 → Ordered (quadrantOf dx dy) es → Ordered k ((dx, dy) ∷ es)

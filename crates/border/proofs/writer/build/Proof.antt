@@ -1,14 +1,14 @@
 -- The invariant: what stands in the buffer, followed by what is still to be written, is the border. Each iteration writes one edge.
-use Prim.Native.Nat.{_+_, _-_}
+use Prim.Native.Nat.{_-_}
 use native.Mathlib.Omega.{arith}
 use mathlib.Core.Path.{_∙_}
-use mathlib.Core.List.{List}
-use lib.ListN.{length, getD, length-set}
-use lib.IntN.{ℤ, pos}
+use lib.ListN.{length, length-set}
 use mir.Syntax.{w16}
 use mir.Val.{SFits}
 use mir.ValLaws.{toZ-ofZ}
 use borrow.Author.Needs.{needs}
+use Rattle.convexity.specs.Edges.{Edge}
+use Rattle.edge_walk.proofs.Loop.{edgeAt}
 use Rattle.border.proofs.Building.{Building, building-start, first-here, step-room, building-step, end-room, building-end}
 use Rattle.border.proofs.writer.build.Statement.{statement}
 use Rattle.border.proofs.writer.build.Tie as tie
@@ -50,16 +50,13 @@ shared-slice-copy-out-dy c = omega arith
 abbrev Iteration : Type 0
 Iteration = tie.In-loop Inv-loop μ-loop
 
-abbrev stepX : Iteration → ℤ
-stepX t = getD (t .before .before .before .before .args .edges .now) (t .before .loop .i) (pos 0)
+abbrev edge : Iteration → Edge
+edge t = edgeAt (t .before .before .before .before .args .edges .now) (t .before .loop .i)
 
-abbrev stepY : Iteration → ℤ
-stepY t = getD (t .before .before .before .before .args .edges .now) (t .before .loop .i + 1) (pos 0)
-
-fits-x : (c : tie.After-dx Inv-loop μ-loop) → SFits w16 (stepX (c .before))
+fits-x : (c : tie.After-dx Inv-loop μ-loop) → SFits w16 (edge (c .before) .0)
 fits-x c = record { sfits = c .dx .given }
 
-fits-y : (c : tie.After-dy Inv-loop μ-loop) → SFits w16 (stepY (c .before .before))
+fits-y : (c : tie.After-dy Inv-loop μ-loop) → SFits w16 (edge (c .before .before) .1)
 fits-y c = record { sfits = c .dy .given }
 
 step-requires : tie.Need-step-requires Inv-loop μ-loop
