@@ -5,11 +5,10 @@ use native.Mathlib.Omega.{arith}
 use mathlib.Core.Path.{_≡_}
 use mathlib.Core.Bool.{true}
 use lib.IntN.{ℤ, pos, negsuc, _+ℤ_}
-use lib.Signed.{mag}
 use mir.Syntax.{w16, w32}
 use mir.Val.{SFits}
 use Rattle.base.proofs.IntegerOrder.{up, down}
-use Rattle.base.proofs.Differences.{Is, is-self, is-add}
+use Rattle.base.proofs.Differences.{is-self, is-add}
 use Rattle.directions.specs.CornerHull.{chartNumber, onChart}
 use Rattle.directions.proofs.OnChart.{number, on-parts}
 use Rattle.chart.specs.declared.Point.{Point}

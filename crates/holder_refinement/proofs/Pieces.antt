@@ -21,6 +21,7 @@ use Rattle.calls.specs.declared.Reply.{Reply}
 use Rattle.calls.specs.declared.Reply.the-variants.{Drawn, NothingAtWork}
 use Rattle.drawing.specs.declared.Stroke.{Stroke}
 use Rattle.drawing.specs.declared.Stroke.the-variants.{Move, Line, Close, None}
+use Rattle.convexity.specs.Edges.{pairs}
 use Rattle.drawing.specs.Drawing.{linesFrom, drawing, strokeAt}
 use Rattle.drawing.specs.Points.{half, pieceOf, cellIn, drawnReply}
 use Rattle.drawing.specs.Claims.{Draws}
@@ -84,8 +85,8 @@ module _ (p k : ℕ) (there : p < parties) (inside : k < places) (cs : List Call
     pub piece-lines : length ends ≡ length es / 2 - 1
     unfolding drawing
     piece-lines =
-        let counted : length (linesFrom es (pos (a .col)) (pos (a .row)) ++ (Close ∷ [])) ≡ length (map Line ends ++ (Close ∷ [])) = ap (λ (l : List Stroke). length (drop 1 l)) (pieces-draw .pieces) in
-        let left = length-append (linesFrom es (pos (a .col)) (pos (a .row))) (Close ∷ []) in
+        let counted : length (linesFrom (pairs es) (pos (a .col)) (pos (a .row)) ++ (Close ∷ [])) ≡ length (map Line ends ++ (Close ∷ [])) = ap (λ (l : List Stroke). length (drop 1 l)) (pieces-draw .pieces) in
+        let left = length-append (linesFrom (pairs es) (pos (a .col)) (pos (a .row))) (Close ∷ []) in
         let right = length-append (map Line ends) (Close ∷ []) in
         omega (arith, counted, left, right, length-map ends Line, lines-length es (pos (a .col)) (pos (a .row)))
 

@@ -1,10 +1,8 @@
 -- An unsigned number of 16 bits fits 32 bits with a sign.
 use borrow.Author.Needs.{needs}
-use native.Mathlib.Omega.{arith}
 use lib.IntN.{pos}
 use mir.Syntax.{w32}
 use mir.ValLaws.{toZ-ofZ}
-use Rattle.base.proofs.Sizes.{fits-size}
 use Rattle.edge_walk.proofs.start.Statement.{statement}
 use Rattle.edge_walk.proofs.start.Tie as tie
 
