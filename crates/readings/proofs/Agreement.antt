@@ -23,7 +23,7 @@ use Rattle.convexity.specs.Inside.{notNegative}
 use Rattle.calls.specs.declared.Reading.{Reading}
 use Rattle.readings.specs.declared.Located.{Located}
 use Rattle.readings.specs.declared.Located.the-variants.{Inside, Outside, Undecided, Refused}
-use Rattle.readings.specs.Sides.{Edge, edgesAlong, exactSide, computedSide}
+use Rattle.readings.specs.Sides.{PlacedEdge, edgesAlong, exactSide, computedSide}
 use Rattle.readings.specs.Located.{Held, badReading, withinExtremes, exactlyInside, far, near, sided, staysOn, locatedOf, readingOf}
 use Rattle.readings.specs.Claims.{Open, Answers}
 use Rattle.readings.proofs.Numbers.{Good, good-both, good-number}
@@ -99,20 +99,20 @@ module _ (a : Point) (es : List ℤ) (r : Reading) (held : Held r) (good : badRe
       (good-number (r .angle) (held .angle) (neither .0), good-number (r .load) (held .load) (neither .1))
 
   -- The computed side value is finite, and rounding has moved it by less than 1/64
-  pub computed-close : (e : Edge) → List·Memᴰ e (edgesAlong a es) → Close (computedSide r e) (exactSide r e)
+  pub computed-close : (e : PlacedEdge) → List·Memᴰ e (edgesAlong a es) → Close (computedSide r e) (exactSide r e)
   computed-close e m = side-close r e (good-numbers .0) (good-numbers .1) (stays-small a es on e m)
 
   -- The two comparisons, in units of 2 ^ -149
-  pub far-value : (e : Edge) → List·Memᴰ e (edgesAlong a es) → far r e ≡ leZ (value binary32 (computedSide r e)) (negℤ (pos sixtyFourth))
+  pub far-value : (e : PlacedEdge) → List·Memᴰ e (edgesAlong a es) → far r e ≡ leZ (value binary32 (computedSide r e)) (negℤ (pos sixtyFourth))
   unfolding far
   far-value e m = rw low-is at (le-value binary32 (computedSide r e) (fin true 1 (negsuc 5)) (computed-close e m .exact) low-exact)
 
-  pub near-value : (e : Edge) → List·Memᴰ e (edgesAlong a es) → near r e ≡ not (leZ (pos sixtyFourth) (value binary32 (computedSide r e)))
+  pub near-value : (e : PlacedEdge) → List·Memᴰ e (edgesAlong a es) → near r e ≡ not (leZ (pos sixtyFourth) (value binary32 (computedSide r e)))
   unfolding near
   near-value e m = rw high-is at (lt-value binary32 (computedSide r e) (fin false 1 (negsuc 5)) (computed-close e m .exact) high-exact)
 
 -- The last difference is rounded to 32 bits
-computed-fits : (r : Reading) (e : Edge) → T (fits binary32 (computedSide r e))
+computed-fits : (r : Reading) (e : PlacedEdge) → T (fits binary32 (computedSide r e))
 unfolding computedSide
 computed-fits r e = sub-fits binary32 _ _
 
@@ -170,18 +170,18 @@ module _ (a : Point) (es : List ℤ) (r : Reading) (held : Held r) where
       )
 
       -- The answer is decided if all exact values are at least 1/32
-      pub decided-inside : ((e : Edge) → List·Memᴰ e (edgesAlong a es) → leZ (pos (2 ^ 144)) (exactSide r e) ≡ true) → locatedOf a es r ≡ Undecided → ⊥
+      pub decided-inside : ((e : PlacedEdge) → List·Memᴰ e (edgesAlong a es) → leZ (pos (2 ^ 144)) (exactSide r e) ≡ true) → locatedOf a es r ≡ Undecided → ⊥
       decided-inside h e =
           let o = undecided-iff .0 e in
           true≢false (sym (inner-beyond sixtyFourth (value binary32 (computedSide r (o .edge))) (exactSide r (o .edge)) (computed-close a es r held good on (o .edge) (o .met) .near) (h (o .edge) (o .met))) ∙ o .close)
 
       -- It is decided too if one is at most -1/32
-      pub decided-outside : (e : Edge) → List·Memᴰ e (edgesAlong a es) → leZ (exactSide r e) (negℤ (pos (2 ^ 144))) ≡ true → locatedOf a es r ≡ Undecided → ⊥
+      pub decided-outside : (e : PlacedEdge) → List·Memᴰ e (edgesAlong a es) → leZ (exactSide r e) (negℤ (pos (2 ^ 144))) ≡ true → locatedOf a es r ≡ Undecided → ⊥
       decided-outside e m h u =
           true≢false (sym (outer-far sixtyFourth (value binary32 (computedSide r e)) (exactSide r e) (computed-close a es r held good on e m .near) h) ∙ undecided-iff .0 u .none-far e m)
 
       -- On an edge of what is exactly inside it is always undecided
-      pub undecided-on-edge : exactlyInside a es r ≡ true → (e : Edge) → List·Memᴰ e (edgesAlong a es) → exactSide r e ≡ pos 0 → locatedOf a es r ≡ Undecided
+      pub undecided-on-edge : exactlyInside a es r ≡ true → (e : PlacedEdge) → List·Memᴰ e (edgesAlong a es) → exactSide r e ≡ pos 0 → locatedOf a es r ≡ Undecided
       unfolding exactlyInside
       undecided-on-edge i e m z =
           let (within, sides) = and-eq-true-iff (withinExtremes a es r) (all (λ e. notNegative (exactSide r e)) (edgesAlong a es)) .0 i in

@@ -13,6 +13,7 @@ use Rattle.rounding.specs.Units.{inUnits}
 use Rattle.rounding.proofs.InUnits.{units-minus, units-times, units-le}
 use Rattle.chart.specs.Limits.{side}
 use Rattle.chart.specs.declared.Point.{Point}
+use Rattle.convexity.specs.Edges.{Edge, pairs}
 use Rattle.convexity.specs.Inside.{notNegative, sideValue, noneOutside, within, insideAt, insideEdges}
 use Rattle.polygon.proofs.Integers.{not-negative-machine}
 use Rattle.calls.specs.declared.Reading.{Reading}
@@ -48,16 +49,15 @@ module _ (r : Reading) (x : Point) (at : Centred r x) where
       rw (at .col, at .row, ones-side binary32 dx dy u v (pos (x .col)) (pos (x .row))) (ones-negative binary32 (sideValue dx dy u v (pos (x .col)) (pos (x .row))))
 
   sides-centre :
-      (es : List ℤ) (u v : ℤ) → all (λ e. notNegative (exactSide r e)) (edgesFrom es u v) ≡ noneOutside es u v (pos (x .col)) (pos (x .row))
+      (es : List Edge) (u v : ℤ) → all (λ e. notNegative (exactSide r e)) (edgesFrom es u v) ≡ noneOutside es u v (pos (x .col)) (pos (x .row))
   unfolding all edgesFrom noneOutside
   sides-centre [] u v = refl
-  sides-centre (dx ∷ []) u v = refl
-  sides-centre (dx ∷ dy ∷ es) u v = ap₂ _&&_ (side-centre dx dy u v) (sides-centre es (u +ℤ dx) (v +ℤ dy))
+  sides-centre ((dx, dy) ∷ es) u v = ap₂ _&&_ (side-centre dx dy u v) (sides-centre es (u +ℤ dx) (v +ℤ dy))
 
   -- Exactly inside is the rule of the edges
   pub centre-exact : (a : Point) (es : List ℤ) → exactlyInside a es r ≡ insideEdges a es x
   unfolding exactlyInside withinExtremes between insideEdges insideAt within
-  centre-exact a es = simp (at .col, at .row, units-le, sides-centre es (pos (a .col)) (pos (a .row)))
+  centre-exact a es = simp (at .col, at .row, units-le, sides-centre (pairs es) (pos (a .col)) (pos (a .row)))
 
   module _ (held : Held r) (a : Point) (es : List ℤ) where
     pub centre-inside : locatedOf a es r ≡ Inside → insideEdges a es x ≡ true

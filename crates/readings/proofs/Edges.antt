@@ -11,9 +11,10 @@ use Rattle.base.proofs.IntegerOrder.{up, down}
 use Rattle.base.proofs.Differences.{is-self, is-eq, is-add}
 use Rattle.base.proofs.Sizes.{size-at-most}
 use Rattle.chart.specs.declared.Point.{Point}
+use Rattle.convexity.specs.Edges.{Edge, pairs}
 use Rattle.directions.specs.CornerHull.{onChart}
 use Rattle.directions.proofs.OnChart.{on-parts}
-use Rattle.readings.specs.Sides.{Edge, edgesFrom, edgesAlong}
+use Rattle.readings.specs.Sides.{PlacedEdge, edgesFrom, edgesAlong}
 use Rattle.readings.specs.Located.{endsOn, staysOn}
 use Rattle.readings.proofs.Numbers.{Cell, cell-of}
 use Rattle.readings.proofs.Side.{Small}
@@ -23,11 +24,10 @@ step-size x d p q =
     let e = is-eq (is-add (is-self x) (is-self d)) (is-self (pos (q .n))) (q .is) in
     size-at-most 254 (is-self d) (omega (arith, ap up (p .is), ap down (p .is), q .small)) (omega (arith, ap up (p .is), ap down (p .is), p .small))
 
-from-small : (es : List ℤ) (x y : ℤ) → Cell x → Cell y → all endsOn (edgesFrom es x y) ≡ true → (e : Edge) → List·Memᴰ e (edgesFrom es x y) → Small e
+from-small : (es : List Edge) (x y : ℤ) → Cell x → Cell y → all endsOn (edgesFrom es x y) ≡ true → (e : PlacedEdge) → List·Memᴰ e (edgesFrom es x y) → Small e
 unfolding edgesFrom all endsOn
 from-small [] x y p q h e m = absurd (List·Memᴰ·not-nil m)
-from-small (dx ∷ []) x y p q h e m = absurd (List·Memᴰ·not-nil m)
-from-small (dx ∷ dy ∷ es) x y p q h e m =
+from-small ((dx, dy) ∷ es) x y p q h e m =
     let both = and-eq-true-iff (onChart (x +ℤ dx) (y +ℤ dy)) (all endsOn (edgesFrom es (x +ℤ dx) (y +ℤ dy))) .0 h in
     let ends = on-parts (x +ℤ dx) (y +ℤ dy) (both .0) in
     let px = cell-of (x +ℤ dx) (ends .0) in
@@ -37,9 +37,9 @@ from-small (dx ∷ dy ∷ es) x y p q h e m =
     (from-small es (x +ℤ dx) (y +ℤ dy) px py (both .1) e)
     (List·Memᴰ·cases-cons m)
 
-pub stays-small : (a : Point) (es : List ℤ) → staysOn a es ≡ true → (e : Edge) → List·Memᴰ e (edgesAlong a es) → Small e
+pub stays-small : (a : Point) (es : List ℤ) → staysOn a es ≡ true → (e : PlacedEdge) → List·Memᴰ e (edgesAlong a es) → Small e
 unfolding staysOn
 stays-small a es h =
     let both = and-eq-true-iff (onChart (pos (a .col)) (pos (a .row))) (all endsOn (edgesAlong a es)) .0 h in
     let at = on-parts (pos (a .col)) (pos (a .row)) (both .0) in
-    from-small es (pos (a .col)) (pos (a .row)) (cell-of _ (at .0)) (cell-of _ (at .1)) (both .1)
+    from-small (pairs es) (pos (a .col)) (pos (a .row)) (cell-of _ (at .0)) (cell-of _ (at .1)) (both .1)

@@ -13,10 +13,11 @@ use Rattle.base.proofs.Differences.{is-self, is-eq, is-unique, is-neg, is-add, 
 use Rattle.rounding.specs.Units.{value, inUnits}
 use Rattle.rounding.proofs.InUnits.{units-plus, units-times}
 use Rattle.chart.specs.declared.Point.{Point}
+use Rattle.convexity.specs.Edges.{pairs}
 use Rattle.convexity.specs.Inside.{notNegative, sideValue, colSteps, rowSteps, lowestMet, highestMet}
 use Rattle.calls.specs.declared.Reading.{Reading}
 use Rattle.readings.specs.declared.Located.the-variants.{Inside, Outside, Undecided}
-use Rattle.readings.specs.Sides.{Edge, edgesFrom, exactSide}
+use Rattle.readings.specs.Sides.{PlacedEdge, edgesFrom, exactSide}
 use Rattle.readings.specs.Located.{Held, badReading, between, withinExtremes, exactlyInside, sided, staysOn, locatedOf}
 use Rattle.readings.specs.Claims.{Centred}
 use Rattle.readings.proofs.Agreement.{undecided-on-edge}
@@ -32,11 +33,11 @@ le-both a b h k = is-unique (is-self b) (is-self a) (omega (arith, le-iff (is-se
 module _ (a : Point) (r : Reading) (good : badReading r ≡ false) (on : staysOn a [] ≡ true) where
   -- At its centre the reading is inside, and everywhere else outside
   pub lone-inside : Centred r a → locatedOf a [] r ≡ Inside
-  unfolding locatedOf sided withinExtremes between colSteps rowSteps lowestMet highestMet edgesFrom any
+  unfolding locatedOf sided withinExtremes between pairs colSteps rowSteps lowestMet highestMet edgesFrom any
   lone-inside at = simp (good, on, at .col, at .row, le-self)
 
   pub lone-outside : (Centred r a → ⊥) → locatedOf a [] r ≡ Outside
-  unfolding locatedOf sided withinExtremes between colSteps rowSteps lowestMet highestMet edgesFrom any
+  unfolding locatedOf sided withinExtremes between pairs colSteps rowSteps lowestMet highestMet edgesFrom any
   lone-outside off =
       let out : withinExtremes a [] r ≡ false = not-held (withinExtremes a [] r) (λ w.
       let both = and-eq-true-iff _ _ .0 w in
@@ -70,9 +71,9 @@ back-side f dx dy x y X Y =
 pub flat-undecided :
     (a : Point) (dx dy : ℤ) (r : Reading) → Held r → badReading r ≡ false →
     let es = dx ∷ dy ∷ negℤ dx ∷ negℤ dy ∷ [] in
-    let e : Edge = record { cols = dx; rows = dy; col = pos (a .col); row = pos (a .row) } in
+    let e : PlacedEdge = record { cols = dx; rows = dy; col = pos (a .col); row = pos (a .row) } in
     staysOn a es ≡ true → withinExtremes a es r ≡ true → exactSide r e ≡ pos 0 → locatedOf a es r ≡ Undecided
-unfolding exactlyInside edgesFrom all exactSide notNegative
+unfolding exactlyInside pairs edgesFrom all exactSide notNegative
 flat-undecided a dx dy r held good on within level =
     let X = value binary32 (r .angle) in
     let Y = value binary32 (r .load) in

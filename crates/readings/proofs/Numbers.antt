@@ -1,17 +1,14 @@
 -- A number that is not refused is finite, so it has a value in units of 2 ^ -149.
 -- Floats compare as their values do, and a cell's number is exactly a float.
 use Prim.Native.Nat.{ℕ, _*_, _^_, _≤_, _<_}
-use native.Mathlib.Nat.{le-of-suc-le-suc, lt-of-le-of-lt}
+use native.Mathlib.Nat.{le-of-suc-le-suc, le-trans, lt-of-le-of-lt}
 use mathlib.Core.Path.{_≡_, refl}
 use mathlib.Core.Bool.{Bool, true, false, not, _&&_, _||_, and-eq-true-iff, true≢false}
 use lib.IntN.{ℤ, pos, negsuc, natAbs}
 use lib.Signed.{leZ}
-use lib.Dec.{T, lit≤}
-use lib.Ieee.{Float, nan, inf, fin, binary32, prec, fits, le, lt, eq, ofInt}
-use mir.Syntax.{w16}
-use mir.Val.{SFits}
+use lib.Dec.{T, lit≤, le→leb}
+use lib.Ieee.{Float, nan, inf, fin, binary32, prec, fits, inFloat, le, lt, eq, ofInt}
 use borrow.Author.Tests.{leb-true, not-false}
-use Rattle.base.proofs.Sizes.{fits-size}
 use Rattle.rounding.specs.Units.{negative, units, value, inUnits}
 use Rattle.rounding.proofs.Values.{Exact, fits-exact}
 use Rattle.rounding.proofs.Near.{whole-exact, whole-is}
@@ -103,9 +100,10 @@ cell-of z h = let p = number z h in record { n = p .0; is = p .1; small = le-of-
 pub cell-size : {z : ℤ} → Cell z → natAbs z ≤ 254
 cell-size c = rw (c .is) (c .small)
 
--- It fits a signed 16-bit number
-pub cell-fits : (z : ℤ) → chartNumber z ≡ true → SFits w16 z
-cell-fits z h = fits-size w16 z (lt-of-le-of-lt (cell-size (cell-of z h)) (lit≤ tt))
+-- The machine makes it a float
+pub cell-float : (z : ℤ) → chartNumber z ≡ true → T (inFloat binary32 z)
+unfolding inFloat
+cell-float z h = let c = cell-of z h in rw (c .is) (le→leb (c .n) (2 ^ prec binary32) (le-trans (c .small) (lit≤ tt)))
 
 -- It has no more digits than the format keeps
 pub few-digits : (z : ℤ) → natAbs z ≤ 254 → natAbs z < 2 ^ prec binary32

@@ -11,6 +11,7 @@ use Rattle.chart.specs.Limits.{side}
 use Rattle.chart.specs.declared.Point.{Point}
 use Rattle.chart.specs.Outline.{Outline}
 use Rattle.lattice.specs.Enclosed.{encloses}
+use Rattle.convexity.specs.Edges.{Edge, pairs}
 use Rattle.convexity.specs.Pieces.{edges, dentPiece}
 use Rattle.convexity.specs.Shape.{NoBackStep}
 use Rattle.convexity.proofs.Shape.{shape}
@@ -34,11 +35,10 @@ on-of : (b : Bool) → (b ≡ false → ⊥) → b ≡ true
 on-of true h = refl
 on-of false h = absurd (h refl)
 
-none-off : (es : List ℤ) (x y : ℤ) → (Meets Off es x y → ⊥) → (onChart x y ≡ true) × (all endsOn (edgesFrom es x y) ≡ true)
+none-off : (es : List Edge) (x y : ℤ) → (Meets Off es x y → ⊥) → (onChart x y ≡ true) × (all endsOn (edgesFrom es x y) ≡ true)
 unfolding Meets all endsOn edgesFrom
 none-off [] x y h = (on-of _ h, refl)
-none-off (dx ∷ []) x y h = (on-of _ h, refl)
-none-off (dx ∷ dy ∷ es) x y h =
+none-off ((dx, dy) ∷ es) x y h =
     let rest = none-off es (x +ℤ dx) (y +ℤ dy) (λ m. h (inr m)) in
     (on-of _ (λ p. h (inl p)), and-eq-true-iff (onChart (x +ℤ dx) (y +ℤ dy)) _ .1 rest)
 
@@ -51,7 +51,7 @@ module _ (o : Outline) (straight : NoBackStep o) where
   unfolding staysOn
   edges-stay =
       and-eq-true-iff (onChart (pos (o .start .col)) (pos (o .start .row))) _ .1
-      (none-off (edges o) (pos (o .start .col)) (pos (o .start .row)) λ m.
+      (none-off (pairs (edges o)) (pos (o .start .col)) (pos (o .start .row)) λ m.
       let (v, w, c, off) = vertex-is-cell o (shape o straight) Off m in
       true≢false (sym (on-cell c) ∙ off))
 

@@ -15,7 +15,7 @@ use Rattle.rounding.proofs.Values.{Exact}
 use Rattle.rounding.proofs.Near.{Near, sub-near, mul-near}
 use Rattle.convexity.specs.Inside.{sideValue}
 use Rattle.calls.specs.declared.Reading.{Reading}
-use Rattle.readings.specs.Sides.{Edge, exactSide, computedSide}
+use Rattle.readings.specs.Sides.{PlacedEdge, exactSide, computedSide}
 use Rattle.readings.proofs.Numbers.{Good, Cell, few-digits, cell-size, small-exact, small-is}
 
 -- ---- a reading's number minus a cell's
@@ -69,7 +69,7 @@ product d y z small high h =
 -- ---- the side value
 
 -- An edge from one cell of the chart to another
-pub record Small (e : Edge) : Type 0 where
+pub record Small (e : PlacedEdge) : Type 0 where
   pub col : Cell (e .col)
   pub row : Cell (e .row)
   pub cols : natAbs (e .cols) ≤ 254
@@ -108,7 +108,7 @@ last u v P Q p q h k =
     sum n a b x y E D F h k l m o d f e = omega arith
 
 -- The computed side value is finite, and rounding has moved it by less than 1/64
-pub side-close : (r : Reading) (e : Edge) → Good (r .angle) → Good (r .load) → Small e → Close (computedSide r e) (exactSide r e)
+pub side-close : (r : Reading) (e : PlacedEdge) → Good (r .angle) → Good (r .load) → Small e → Close (computedSide r e) (exactSide r e)
 unfolding computedSide exactSide sideValue
 side-close r e p q h =
     let X = r .angle in

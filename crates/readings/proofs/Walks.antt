@@ -2,10 +2,10 @@
 -- is at most x exactly if some number is.
 use Prim.Native.Nat.{ℕ, _+_, _≤_, _<_}
 use native.Mathlib.Omega.{arith}
-use mathlib.Core.Path.{_≡_, refl, sym, _∙_}
+use mathlib.Core.Path.{_≡_, refl, sym, _∙_, subst}
 use mathlib.Core.Bool.{Bool, true, false, not, cond, _&&_, _||_, or-false, or-assoc, and-true}
 use mathlib.Core.List.{List, [], _∷_}
-use lib.ListN.{length, drop, getD, length-drop}
+use lib.ListN.{length, drop}
 use lib.IntN.{ℤ, pos, _+ℤ_}
 use lib.Signed.{leZ}
 use lib.Ieee.{Float, binary32}
@@ -14,11 +14,13 @@ use Rattle.base.specs.Each.{all, any}
 use Rattle.rounding.specs.Units.{value, inUnits}
 use Rattle.rounding.proofs.InUnits.{units-le}
 use Rattle.chart.specs.declared.Point.{Point}
+use Rattle.convexity.specs.Edges.{Edge, pairs}
 use Rattle.convexity.specs.Inside.{minℤ, maxℤ, colSteps, rowSteps}
 use Rattle.directions.specs.CornerHull.{onChart}
+use Rattle.edge_walk.proofs.Loop.{edgeAt, next-edge, no-edge}
 use Rattle.polygon.specs.Loose.{badCell}
 use Rattle.polygon.proofs.Integers.{min-at-most, max-at-least}
-use Rattle.polygon.proofs.Spans.{meets, lowest-meets, highest-meets, drop-two}
+use Rattle.polygon.proofs.Spans.{meets, lowest-meets, highest-meets}
 use Rattle.polygon.proofs.OnChart.{bad-cell}
 use Rattle.calls.specs.declared.Reading.{Reading}
 use Rattle.readings.specs.declared.Located.{Located}
@@ -29,7 +31,7 @@ use Rattle.readings.specs.declared.walk.Passed.{Passed}
 use Rattle.readings.specs.declared.walk.Passed.the-variants.{Out, On}
 use Rattle.readings.specs.Sides.{edgesFrom}
 use Rattle.readings.specs.Located.{badReading, between, withinExtremes, far, near, sided, endsOn, staysOn, locatedOf}
-use Rattle.readings.specs.parts.Walk.{met, arrived, noneMet, begun, edgeOf, stepped, passed, settled}
+use Rattle.readings.specs.parts.Walk.{met, arrived, noneMet, begun, edgeOf, moved, passed, settled}
 
 -- ---- one coordinate
 
@@ -75,25 +77,26 @@ between-end m x v = simp or-false
 -- ---- both coordinates
 
 -- The answer of the walk for the remaining edges
-abbrev pub after : Passed → (Walk → Located) → Located
+abbrev after : Passed → (Walk → Located) → Located
 after Out f = Outside
 after (On w) f = f w
 
-unfoldable pub from : List ℤ → Walk → Reading → Located
+unfoldable pub from : List Edge → Walk → Reading → Located
 from [] w r = settled w
-from (dx ∷ []) w r = settled w
-from (dx ∷ dy ∷ es) w r = after (passed w dx dy r) (λ w′. from es w′ r)
+from ((dx, dy) ∷ es) w r = after (passed w dx dy r) (λ w′. from es w′ r)
 
 -- The same by the tests of all edges at once
 abbrev answer : Bool → Bool → Bool → Bool → Located
 answer s w f n = cond s (cond (w && not f) (cond n Undecided Inside) Outside) Outside
 
-whole : List ℤ → Walk → Reading → Located
+whole : List Edge → Walk → Reading → Located
 whole es w r =
-    answer (all endsOn (edgesFrom es (w .x) (w .y)))
-    (betweenFrom (w .cols) (colSteps es) (w .x) (r .angle) && betweenFrom (w .rows) (rowSteps es) (w .y) (r .load))
-    (any (far r) (edgesFrom es (w .x) (w .y)))
-    (w .near || any (near r) (edgesFrom es (w .x) (w .y)))
+    let k = w .at in
+    let along = edgesFrom es (k .col) (k .row) in
+    answer (all endsOn along)
+    (betweenFrom (w .cols) (colSteps es) (k .col) (r .angle) && betweenFrom (w .rows) (rowSteps es) (k .row) (r .load))
+    (any (far r) along)
+    (w .near || any (near r) along)
 
 -- One more edge: its tests join those of the rest
 one-more :
@@ -109,28 +112,29 @@ ended : (w : Walk) (x y : ℤ) (r : Reading) → settled w ≡ answer true (betw
 unfolding settled
 ended w x y r = sym (simp (between-end, and-true, or-false))
 
-from-whole : (es : List ℤ) (w : Walk) (r : Reading) → from es w r ≡ whole es w r
-unfolding from whole passed stepped arrived edgeOf endsOn all any edgesFrom colSteps rowSteps
-from-whole [] w r = ended w (w .x) (w .y) r
-from-whole (dx ∷ []) w r = ended w (w .x) (w .y) r
-from-whole (dx ∷ dy ∷ es) w r =
-    let x = w .x +ℤ dx in
-    let y = w .y +ℤ dy in
-    let w′ = stepped w dx dy r in
+from-whole : (es : List Edge) (w : Walk) (r : Reading) → from es w r ≡ whole es w r
+unfolding from whole passed moved arrived edgeOf endsOn all any edgesFrom colSteps rowSteps
+from-whole [] w r = ended w (w .at .col) (w .at .row) r
+from-whole ((dx, dy) ∷ es) w r =
+    let k = w .at in
+    let x = k .col +ℤ dx in
+    let y = k .row +ℤ dy in
+    let w′ = moved w dx dy r in
     let e = edgeOf w dx dy in
     let rest = edgesFrom es x y in
-    rw (between-step (w .cols) dx (colSteps es) (w .x) (r .angle), between-step (w .rows) dy (rowSteps es) (w .y) (r .load))
+    rw (between-step (w .cols) dx (colSteps es) (k .col) (r .angle), between-step (w .rows) dy (rowSteps es) (k .row) (r .load))
     (one-more (onChart x y) (far r e) (all endsOn rest) (betweenFrom (w′ .cols) (colSteps es) x (r .angle) && betweenFrom (w′ .rows) (rowSteps es) y (r .load))
     (any (far r) rest) (w .near) (near r e) (any (near r) rest) w′ (λ w′. from es w′ r) (from-whole es w′ r))
 
 -- The walk from an anchor on the chart locates a reading that is not refused
 pub walk-locates :
     (a : Point) (es : List ℤ) (r : Reading) → badReading r ≡ false → onChart (pos (a .col)) (pos (a .row)) ≡ true
-    → from es (begun (pos (a .col)) (pos (a .row)) r) r ≡ locatedOf a es r
+    → from (pairs es) (begun a r) r ≡ locatedOf a es r
 unfolding begun arrived whole locatedOf sided staysOn withinExtremes
 walk-locates a es r good on =
-    from-whole es (begun (pos (a .col)) (pos (a .row)) r) r
-    ∙ sym (rw (good, on, between-from (colSteps es) (pos (a .col)) (r .angle), between-from (rowSteps es) (pos (a .row)) (r .load)) refl)
+    let ds = pairs es in
+    from-whole ds (begun a r) r
+    ∙ sym (rw (good, on, between-from (colSteps ds) (pos (a .col)) (r .angle), between-from (rowSteps ds) (pos (a .row)) (r .load)) refl)
 
 -- ---- before the walk
 
@@ -147,19 +151,50 @@ located-off a es r g b = rw (g, not-true (onChart (pos (a .col)) (pos (a .row)))
 
 -- ---- an iteration of the loop
 
--- One more edge
-pub from-edge :
-    (es : List ℤ) (i : ℕ) (w : Walk) (r : Reading) → i + 1 < length es
-    → from (drop i es) w r ≡ after (passed w (getD es i (pos 0)) (getD es (i + 1) (pos 0)) r) (λ w′. from (drop (i + 2) es) w′ r)
-unfolding from
-from-edge es i w r h = rw (drop-two es i h)
+-- A walk that goes on is at a cell of the chart
+abbrev Onward : Passed → Type 0
+Onward Out = Unit {0}
+Onward (On w) = onChart (w .at .col) (w .at .row) ≡ true
 
-from-short : (es : List ℤ) (w : Walk) (r : Reading) → length es < 2 → from es w r ≡ settled w
-unfolding from
-from-short [] w r h = refl
-from-short (dx ∷ []) w r h = refl
-from-short (dx ∷ dy ∷ es) w r h = absurd (omega arith)
+passed-on : (w : Walk) (dx dy : ℤ) (r : Reading) → Onward (passed w dx dy r)
+unfolding passed moved arrived
+passed-on w dx dy r = go (onChart (w .at .col +ℤ dx) (w .at .row +ℤ dy)) refl (far r (edgeOf w dx dy))
+  where
+    go : (t : Bool) → onChart (w .at .col +ℤ dx) (w .at .row +ℤ dy) ≡ t → (f : Bool) → Onward (cond t (cond f Out (On (moved w dx dy r))) Out)
+    go false e f = tt
+    go true e true = tt
+    go true e false = e
 
--- No edge is left
-pub from-end : (es : List ℤ) (i : ℕ) (w : Walk) (r : Reading) → length es ≤ i + 1 → from (drop i es) w r ≡ settled w
-from-end es i w r h = from-short (drop i es) w r (simp length-drop (omega arith))
+-- The loop has passed the edges before i of es. The walk started as w₀, and is at a cell of the chart
+pub record Walked (es : List ℤ) (r : Reading) (w₀ w : Walk) (i : ℕ) : Type 0 where
+  pub passed : i ≤ length es
+  pub on : onChart (w .at .col) (w .at .row) ≡ true
+  pub left : from (pairs es) w₀ r ≡ from (pairs (drop i es)) w r
+
+pub walked-start : (es : List ℤ) (r : Reading) (a : Point) → onChart (pos (a .col)) (pos (a .row)) ≡ true → Walked es r (begun a r) (begun a r) 0
+unfolding begun arrived
+walked-start es r a on = record { passed = omega arith; on = on; left = refl }
+
+module _ {es : List ℤ} {r : Reading} {w₀ w : Walk} {i : ℕ} (h : Walked es r w₀ w i) where
+  -- The walk at the end of the next edge
+  abbrev pub next : Passed
+  next = passed w (edgeAt es i .0) (edgeAt es i .1) r
+
+  module _ (more : i + 1 < length es) where
+    walked-next : from (pairs es) w₀ r ≡ after next (λ w′. from (pairs (drop (i + 2) es)) w′ r)
+    unfolding from
+    walked-next = h .left ∙ rw (next-edge es i more)
+
+    -- One more edge
+    pub walked-edge : {w′ : Walk} → next ≡ On w′ → Walked es r w₀ w′ (i + 2)
+    walked-edge e =
+        record { passed = omega arith; on = subst Onward e (passed-on w (edgeAt es i .0) (edgeAt es i .1) r); left = rw e at walked-next }
+
+    -- The walk is out
+    pub walked-out : next ≡ Out → from (pairs es) w₀ r ≡ Outside
+    walked-out e = rw e at walked-next
+
+  -- No edge is left
+  pub walked-end : length es ≤ i + 1 → from (pairs es) w₀ r ≡ settled w
+  unfolding from
+  walked-end none = h .left ∙ rw (no-edge es i none)

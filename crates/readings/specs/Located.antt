@@ -10,12 +10,13 @@ use Rattle.base.specs.Each.{all, any}
 use Rattle.rounding.specs.Units.{value, inUnits}
 use Rattle.chart.specs.Limits.{side}
 use Rattle.chart.specs.declared.Point.{Point}
+use Rattle.convexity.specs.Edges.{pairs}
 use Rattle.convexity.specs.Inside.{notNegative, colSteps, rowSteps, lowestMet, highestMet}
 use Rattle.directions.specs.CornerHull.{onChart}
 use Rattle.calls.specs.declared.Reading.{Reading}
 use Rattle.readings.specs.declared.Located.{Located}
 use Rattle.readings.specs.declared.Located.the-variants.{Inside, Outside, Undecided, Refused}
-use Rattle.readings.specs.Sides.{Edge, edgesAlong, exactSide, computedSide}
+use Rattle.readings.specs.Sides.{PlacedEdge, edgesAlong, exactSide, computedSide}
 
 -- Both numbers are 32-bit floats
 pub record Held (r : Reading) : Type 0 where
@@ -40,17 +41,17 @@ between ds x v = leZ (inUnits binary32 (lowestMet ds x)) (value binary32 v) && l
 
 -- Between the extreme columns and rows
 unfoldable pub withinExtremes : Point → List ℤ → Reading → Bool
-withinExtremes a es r = between (colSteps es) (pos (a .col)) (r .angle) && between (rowSteps es) (pos (a .row)) (r .load)
+withinExtremes a es r = between (colSteps (pairs es)) (pos (a .col)) (r .angle) && between (rowSteps (pairs es)) (pos (a .row)) (r .load)
 
 -- Between the extremes, and no exact side value is below 0
 unfoldable pub exactlyInside : Point → List ℤ → Reading → Bool
 exactlyInside a es r = withinExtremes a es r && all (λ e. notNegative (exactSide r e)) (edgesAlong a es)
 
 -- The computed side value is at most -1/64; it is below 1/64. 1/64 is the float 1 * 2 ^ -6
-unfoldable pub far : Reading → Edge → Bool
+unfoldable pub far : Reading → PlacedEdge → Bool
 far r e = le (computedSide r e) (fin true 1 (negsuc 5))
 
-unfoldable pub near : Reading → Edge → Bool
+unfoldable pub near : Reading → PlacedEdge → Bool
 near r e = lt (computedSide r e) (fin false 1 (negsuc 5))
 
 -- Outside if not between the extremes or far outside some edge; otherwise undecided if near some edge; otherwise inside
@@ -61,7 +62,7 @@ sided a es r =
     Outside
 
 -- An edge that ends at a cell of the chart
-unfoldable pub endsOn : Edge → Bool
+unfoldable pub endsOn : PlacedEdge → Bool
 endsOn e = onChart (e .col +ℤ e .cols) (e .row +ℤ e .rows)
 
 -- The walk stays on the chart: the anchor and the end of every edge are cells of the chart

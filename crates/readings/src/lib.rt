@@ -40,7 +40,7 @@ pub fn locate(anchor: Point, edges: &[i16], reading: Reading) -> Located
     if polygon::bad_cell(anchor) {
         return Located::Outside;
     }
-    let mut at = walk::begin(anchor.col as i16, anchor.row as i16, reading);
+    let mut at = walk::begin(anchor, reading);
     let mut i = 0;
     while i + 1 < edges.len() {
         let Passed::On(next) = walk::pass(at, edges[i], edges[i + 1], reading) else {

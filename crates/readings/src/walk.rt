@@ -1,10 +1,11 @@
 // The walk along a polygon's edges that locates a reading.
-use crate::LAST;
 use crate::Located;
 use calls::Reading;
+use chart::Point;
+use edge_walk::Corner;
 ghost use mathlib.Core.Path.{_≡_};
 ghost use mathlib.Core.Bool.{true, false};
-ghost use lib.IntN.{_+ℤ_};
+ghost use lib.IntN.{pos};
 ghost use Rattle.directions.specs.CornerHull.{chartNumber, onChart};
 ghost use Rattle.readings.specs.Sides.{computedSide};
 ghost use Rattle.readings.specs.Located.{badNumber, badReading};
@@ -21,8 +22,7 @@ struct Met {
 
 // The current corner cell, what the walk has met, and whether the reading was near an edge.
 pub(crate) struct Walk {
-    x: i16,
-    y: i16,
+    at: Corner,
     cols: Met,
     rows: Met,
     near: bool,
@@ -35,7 +35,7 @@ pub(crate) enum Passed {
 }
 
 // Adds one more number.
-fn meet(m: Met, n: i16, x: f32) -> Met
+fn meet(m: Met, n: i32, x: f32) -> Met
     requires { ⌜ (chartNumber n ≡ true) × (badNumber x ≡ false) ⌝ }
     ensures { λ r. ⌜ r ≡ met m n x ⌝ }
 {
@@ -46,75 +46,62 @@ fn meet(m: Met, n: i16, x: f32) -> Met
     }
 }
 
-// Where a step of d from n leads. The sum fits.
-fn sum(n: i16, d: i16) -> i32
-    ensures { λ r. ⌜ r ≡ n +ℤ d ⌝ }
+// The computed side value of the edge (dx, dy) that starts at a corner cell on the chart: subtract, multiply, subtract, each rounded.
+fn side(dx: i16, dy: i16, at: Corner, r: Reading) -> f32
+    requires { ⌜ onChart (at .col) (at .row) ≡ true ⌝ }
+    ensures { λ v. ⌜ v ≡ computedSide r (record { cols = dx; rows = dy; col = at .col; row = at .row }) ⌝ }
 {
-    (n as i32) + (d as i32)
-}
-
-// A column or a row of the chart.
-fn chart_number(z: i32) -> bool
-    ensures { λ b. ⌜ b ≡ chartNumber z ⌝ }
-{
-    (0 <= z) & (z <= LAST as i32)
-}
-
-// The computed side value of the edge (dx, dy) that starts at the corner cell (x, y): subtract, multiply, subtract, each rounded.
-fn side(dx: i16, dy: i16, x: i16, y: i16, r: Reading) -> f32
-    ensures { λ v. ⌜ v ≡ computedSide r (record { cols = dx; rows = dy; col = x; row = y }) ⌝ }
-{
-    (dy as f32) * (r.angle - (x as f32)) - (dx as f32) * (r.load - (y as f32))
+    let across = (dy as f32) * (r.angle - (at.col as f32));
+    let up = (dx as f32) * (r.load - (at.row as f32));
+    across - up
 }
 
 // The walk one corner cell further.
-fn arrive(w: Walk, x: i16, y: i16, near: bool, r: Reading) -> Walk
-    requires { ⌜ (onChart x y ≡ true) × (badReading r ≡ false) ⌝ }
-    ensures { λ v. ⌜ v ≡ arrived w x y near r ⌝ }
+fn arrive(w: Walk, at: Corner, near: bool, r: Reading) -> Walk
+    requires { ⌜ (onChart (at .col) (at .row) ≡ true) × (badReading r ≡ false) ⌝ }
+    ensures { λ v. ⌜ v ≡ arrived w at near r ⌝ }
 {
     Walk {
-        x: x,
-        y: y,
-        cols: meet(w.cols, x, r.angle),
-        rows: meet(w.rows, y, r.load),
+        at: at,
+        cols: meet(w.cols, at.col, r.angle),
+        rows: meet(w.rows, at.row, r.load),
         near: w.near | near,
     }
 }
 
 // The walk at its start.
-pub(crate) fn begin(x: i16, y: i16, r: Reading) -> Walk
-    requires { ⌜ (onChart x y ≡ true) × (badReading r ≡ false) ⌝ }
-    ensures { λ w. ⌜ w ≡ begun x y r ⌝ }
+pub(crate) fn begin(anchor: Point, r: Reading) -> Walk
+    requires { ⌜ (onChart (pos (anchor .col)) (pos (anchor .row)) ≡ true) × (badReading r ≡ false) ⌝ }
+    ensures { λ w. ⌜ w ≡ begun anchor r ⌝ }
 {
+    let at = edge_walk::start(anchor);
     let none = Met {
         under: false,
         over: false,
     };
     let blank = Walk {
-        x: x,
-        y: y,
+        at: at,
         cols: none,
         rows: none,
         near: false,
     };
-    arrive(blank, x, y, false, r)
+    arrive(blank, at, false, r)
 }
 
-// The walk one edge further.
+// The walk one edge further, from a cell of the chart.
 pub(crate) fn pass(w: Walk, dx: i16, dy: i16, r: Reading) -> Passed
-    requires { ⌜ badReading r ≡ false ⌝ }
+    requires { ⌜ (onChart (w .at .col) (w .at .row) ≡ true) × (badReading r ≡ false) ⌝ }
     ensures { λ p. ⌜ p ≡ passed w dx dy r ⌝ }
 {
-    let x = sum(w.x, dx);
-    let y = sum(w.y, dy);
-    if !(chart_number(x) & chart_number(y)) {
+    let next = edge_walk::further(w.at, dx, dy);
+    if !edge_walk::on_chart(next) {
         return Passed::Out;
     }
-    let v = side(dx, dy, w.x, w.y, r);
+    let v = side(dx, dy, w.at, r);
     if v <= -SIXTY_FOURTH {
         return Passed::Out;
     }
-    Passed::On(arrive(w, x as i16, y as i16, v < SIXTY_FOURTH, r))
+    Passed::On(arrive(w, next, v < SIXTY_FOURTH, r))
 }
 
 // The answer at the end of the walk.

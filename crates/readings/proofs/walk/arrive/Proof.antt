@@ -1,5 +1,7 @@
 -- Columns and rows are treated alike.
-use mir.Syntax.{w16}
+use mathlib.Core.Path.{_≡_}
+use mir.Syntax.{w32}
+use mir.Val.{toZ, ofZ}
 use mir.ValLaws.{toZ-ofZ}
 use Rattle.directions.proofs.OnChart.{on-parts}
 use Rattle.readings.specs.parts.Walk.{arrived}
@@ -7,19 +9,25 @@ use Rattle.readings.proofs.Numbers.{good-both}
 use Rattle.readings.proofs.walk.arrive.Statement.{statement}
 use Rattle.readings.proofs.walk.arrive.Tie as tie
 
+-- The machine keeps the values of the corner cell's numbers
+col-read : (c : tie.After-struct-told) → toZ w32 (ofZ w32 (c .before .args .at .col)) ≡ c .before .args .at .col
+col-read c = toZ-ofZ w32 _ (record { sfits = c .struct-told .given .0 .1 })
+
+row-read : (c : tie.After-struct-told2) → toZ w32 (ofZ w32 (c .before .before .before .args .at .row)) ≡ c .before .before .before .args .at .row
+row-read c = toZ-ofZ w32 _ (record { sfits = c .struct-told2 .given .1 .0 .1 })
+
 meet-requires : tie.Need-meet-requires
-meet-requires c κs = (simp (toZ-ofZ w16 (c .args .x) (c .fits .x)) (on-parts _ _ (c .pre .0) .0), good-both (c .args .r) (c .pre .1) .0)
+meet-requires c κs = let s = c .before in (simp (col-read c) (on-parts _ _ (s .pre .0) .0), good-both (s .args .r) (s .pre .1) .0)
 
 meet-requires-2 : tie.Need-meet-requires-2
-meet-requires-2 c κs =
-    let s = c .before in
-    (simp (toZ-ofZ w16 (s .args .y) (s .fits .y)) (on-parts _ _ (s .pre .0) .1), good-both (s .args .r) (s .pre .1) .1)
+meet-requires-2 c κs = let s = c .before .before .before in (simp (row-read c) (on-parts _ _ (s .pre .0) .1), good-both (s .args .r) (s .pre .1) .1)
 
 returns : tie.Need-returns
 unfolding arrived
 returns c =
-    let s = c .before .before .before in
-    simp (c .before .before .meet .ensures, c .before .meet2 .ensures, toZ-ofZ w16 (s .args .x) (s .fits .x), toZ-ofZ w16 (s .args .y) (s .fits .y))
+    let rows = c .before in
+    let cols = rows .before .before in
+    simp (cols .meet .ensures, rows .meet2 .ensures, col-read (cols .before), row-read (rows .before))
 
 pub arrive-spec : {M : Type 1} → statement M
 arrive-spec = tie.close (tie.spec meet-requires meet-requires-2 returns)

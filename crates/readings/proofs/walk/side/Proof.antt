@@ -1,40 +1,52 @@
 -- The steps are those of the definition, once the whole numbers are read from their bits.
 use borrow.Author.Needs.{needs}
-use mir.Syntax.{w16}
+use mathlib.Core.Path.{_≡_}
+use mir.Syntax.{w16, w32}
+use mir.Val.{toZ, ofZ}
 use mir.ValLaws.{toZ-ofZ}
+use Rattle.directions.proofs.OnChart.{on-parts}
 use Rattle.readings.specs.Sides.{computedSide}
+use Rattle.readings.proofs.Numbers.{cell-float}
 use Rattle.readings.proofs.walk.side.Statement.{statement}
 use Rattle.readings.proofs.walk.side.Tie as tie
 
-int-to-float-result : tie.Need-int-to-float-result
-int-to-float-result c = search needs
+-- The machine keeps the values of the corner cell's numbers
+col-read : (c : tie.After-struct-told) → toZ w32 (ofZ w32 (c .before .before .before .args .at .col)) ≡ c .before .before .before .args .at .col
+col-read c = toZ-ofZ w32 _ (record { sfits = c .struct-told .given .0 .1 })
 
-int-to-float-result-2 : tie.Need-int-to-float-result-2
-int-to-float-result-2 c = search needs
+row-read : (c : tie.After-struct-told2) →
+    let k = c .before .before .before .before .before .before .before .args .at in
+    toZ w32 (ofZ w32 (k .row)) ≡ k .row
+row-read c = toZ-ofZ w32 _ (record { sfits = c .struct-told2 .given .1 .0 .1 })
 
-int-to-float-result-3 : tie.Need-int-to-float-result-3
-int-to-float-result-3 c = search needs
+int-to-float-across : tie.Need-int-to-float-across
+int-to-float-across c = search needs
 
-int-to-float-result-4 : tie.Need-int-to-float-result-4
-int-to-float-result-4 c = search needs
+int-to-float-across-2 : tie.Need-int-to-float-across-2
+int-to-float-across-2 c = let s = c .before .before .before in simp (col-read c) (cell-float (s .args .at .col) (on-parts _ _ (s .pre) .0))
+
+int-to-float-up : tie.Need-int-to-float-up
+int-to-float-up c = search needs
+
+int-to-float-up-2 : tie.Need-int-to-float-up-2
+int-to-float-up-2 c =
+    let s = c .before .before .before .before .before .before .before in
+    simp (row-read c) (cell-float (s .args .at .row) (on-parts _ _ (s .pre) .1))
 
 returns : tie.Need-returns
 unfolding computedSide
 returns c =
-    let s = c .before .before .before .before .before .before in
-    simp (
-      toZ-ofZ w16 (s .args .dx) (s .fits .dx),
-      toZ-ofZ w16 (s .args .dy) (s .fits .dy),
-      toZ-ofZ w16 (s .args .x) (s .fits .x),
-      toZ-ofZ w16 (s .args .y) (s .fits .y),
-    )
+    let row = c .before in
+    let col = row .before .before .before .before in
+    let s = col .before .before .before in
+    simp (toZ-ofZ w16 (s .args .dx) (s .fits .dx), toZ-ofZ w16 (s .args .dy) (s .fits .dy), col-read col, row-read row)
 
 pub side-spec : {M : Type 1} → statement M
 side-spec =
     tie.close
     (tie.spec
-    int-to-float-result
-    int-to-float-result-2
-    int-to-float-result-3
-    int-to-float-result-4
+    int-to-float-across
+    int-to-float-across-2
+    int-to-float-up
+    int-to-float-up-2
     returns)
