@@ -16,10 +16,9 @@ use Rattle.rows.specs.parts.Rows.{rows}
 use Rattle.rows.specs.Search.{crossing}
 use Rattle.rows.proofs.Line.{right-end, right-of-end}
 use Rattle.rows.proofs.Rows.{begin}
-use Rattle.rows.proofs.Side.{furthest-furthest}
+use Rattle.rows.proofs.Side.{crossing-le, furthest-furthest}
 use Rattle.completion.specs.HullRows.{nextRow, hullLeft}
 use Rattle.completion.proofs.LeftSide.{Climbed, climbed-start, climbed-writes, climbed-next, lowest-row}
-use Rattle.completion.proofs.Edges.{crossing-le}
 use Rattle.hull_rows.specs.parts.Ends.{Lowest}
 
 module _ (lo : ℕ → ℕ) (b t : ℕ) where

@@ -207,10 +207,10 @@ module _ (f g : ℕ → ℕ) (t : ℕ) (same : (r : ℕ) → r < t → f r ≡ g
       go true rest = rest k (omega arith)
       go false rest = rest j b
 
-  edgeEnd-same : (i : ℕ) → suc i < t → edgeEnd f t i ≡ edgeEnd g t i
+  pub edgeEnd-same : (i : ℕ) → suc i < t → edgeEnd f t i ≡ edgeEnd g t i
   edgeEnd-same i h = furthest-same i (suc i) (suc (suc i)) (t - suc (suc i)) (omega arith) h (omega arith)
 
-  crossing-same : (i j r : ℕ) → i < t → j < t → crossing f i j r ≡ crossing g i j r
+  pub crossing-same : (i j r : ℕ) → i < t → j < t → crossing f i j r ≡ crossing g i j r
   unfolding crossing
   crossing-same i j r a b = rw (same i a, same j b)
 

@@ -69,7 +69,7 @@ pub furthest-furthest : (lo : ℕ → ℕ) (i t : ℕ) → suc i < t → Furthes
 furthest-furthest lo i t h = furthest-more lo i (suc i) (suc (suc i)) (t - suc (suc i)) t (omega arith) (furthest-start lo i)
 
 -- A cell of row r is right of the line from row i to row j exactly if its column is at least the crossing
-crossing-le : (lo : ℕ → ℕ) (i j r c : ℕ) → i < j → i ≤ r → r ≤ j → (crossing lo i j r ≤ c) ↔ Right (begin lo i) (begin lo j) (record { col = c; row = r })
+pub crossing-le : (lo : ℕ → ℕ) (i j r c : ℕ) → i < j → i ≤ r → r ≤ j → (crossing lo i j r ≤ c) ↔ Right (begin lo i) (begin lo j) (record { col = c; row = r })
 unfolding crossing
 crossing-le lo i j r c l m n =
     let e = right-between {p = begin lo i} {q = begin lo j} {x = record { col = c; row = r }} m n in
@@ -79,14 +79,14 @@ crossing-le lo i j r c l m n =
     (λ h. e .1 (record { le = omega (arith, f, d .0 (omega arith)) }), λ h. omega (arith, d .1 (omega (arith, f, e .0 h))))
 
 -- Row i is a corner of the left side: no line from a row below it to a row above it passes left of its first cell
-abbrev Corner : (ℕ → ℕ) → ℕ → ℕ → ℕ → Type 0
+abbrev pub Corner : (ℕ → ℕ) → ℕ → ℕ → ℕ → Type 0
 Corner lo b t i = (r k : ℕ) → b ≤ r → r < i → i < k → k < t → Right (begin lo r) (begin lo i) (begin lo k)
 
 -- Every row is right of the line from row i to row j
-abbrev Edge : (ℕ → ℕ) → ℕ → ℕ → ℕ → ℕ → Type 0
+abbrev pub Edge : (ℕ → ℕ) → ℕ → ℕ → ℕ → ℕ → Type 0
 Edge lo b t i j = (r : ℕ) → b ≤ r → r < t → Right (begin lo i) (begin lo j) (begin lo r)
 
-furthest-edge : (lo : ℕ → ℕ) (b t i j : ℕ) → Corner lo b t i → Furthest lo i j t → Edge lo b t i j
+pub furthest-edge : (lo : ℕ → ℕ) (b t i j : ℕ) → Corner lo b t i → Furthest lo i j t → Edge lo b t i j
 furthest-edge lo b t i j c f r h l =
     elim (decLt r i) [
       | yes m ↦ right-cycle (c r j h m (f .above) (f .below))
@@ -96,7 +96,7 @@ furthest-edge lo b t i j c f r h l =
       ]
     ]
 
-edge-corner : (lo : ℕ → ℕ) (b t i j : ℕ) → i < j → Edge lo b t i j → Corner lo b t j
+pub edge-corner : (lo : ℕ → ℕ) (b t i j : ℕ) → i < j → Edge lo b t i j → Corner lo b t j
 edge-corner lo b t i j l e r k h m n o = right-turn {p = begin lo i} l (omega arith) (omega arith) (e r h (omega arith)) (e k (omega arith) o)
 
 -- r is the first row after i and before j that begins right of the line, or j if there is none
