@@ -24,7 +24,6 @@ use Rattle.convexity.proofs.Corners.{corner-form}
 use Rattle.convexity.proofs.Cuts.{ahead-on}
 use Rattle.survey.specs.declared.Corners.{Corners}
 use Rattle.survey.specs.Survey.{cornersOf}
-use Rattle.cut_places.specs.declared.Cuts.{Cuts}
 use Rattle.cut_places.specs.parts.Cuts.{areBelow, isForward, placeRead, cutsAlong, cutPlacesOf, CutsOf}
 use Rattle.cut_places.proofs.CutLaws.{ahead-round, cuts-along}
 

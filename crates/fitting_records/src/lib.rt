@@ -1,6 +1,5 @@
 // The records of a fitting file, and a reader that steps from one to the next (contract 11).
 ghost use mathlib.Core.Path.{_≡_};
-ghost use mathlib.Core.Bool.{Bool};
 ghost use Prim.Native.Nat.{_<_, _≤_};
 ghost use lib.ListN.{length, drop};
 ghost use Rattle.fitting_records.specs.Found.{wide as wideOf, marked as markedOf, afterMark, foundAt, stepAt};

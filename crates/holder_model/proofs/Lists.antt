@@ -20,7 +20,6 @@ use Rattle.lattice.specs.Refusals.{Simple}
 use Rattle.verdict.proofs.Computes.{computes}
 use Rattle.calls.specs.Calls.{by}
 use Rattle.calls.specs.Replies.{replyFields}
-use Rattle.calls.specs.declared.Call.{Call}
 use Rattle.calls.specs.declared.Action.{Action}
 use Rattle.calls.specs.declared.Action.the-variants.{Begin, Add, Drop, Clear, Close, Ask}
 use Rattle.calls.specs.declared.Question.the-variants.{Cell as OfCell}

@@ -6,7 +6,6 @@ use native.Mathlib.Omega.{arith}
 use mathlib.Core.Path.{_≡_, refl, sym, _∙_}
 use mathlib.Core.Logic.{_↔_, inl, inr}
 use mathlib.Core.Bool.{Bool, true, false, Bool·beq, false≢true}
-use Rattle.base.specs.Below.{every}
 use Rattle.base.proofs.BelowLaws.{every-at, every-of}
 use Rattle.chart.specs.Limits.{side}
 use Rattle.chart.specs.Outline.{Outline}

@@ -6,7 +6,7 @@ use mathlib.Core.Path.{_≡_, refl, sym, ap, _∙_}
 use mathlib.Core.Bool.{Bool, true, false, cond, true≢false}
 use mathlib.Core.Option.{Option, none, some}
 use mathlib.Core.List.{[], _∷_, _++_}
-use lib.ListN.{length, take, set, length-take, length-set, length-replicate}
+use lib.ListN.{length, length-take, length-set, length-replicate}
 use lib.Seq.{take-suc-set}
 use lib.Dec.{leb, ltb}
 use borrow.Author.Tests.{leb-false}

@@ -3,7 +3,6 @@ use Prim.Native.Nat.{ℕ}
 use mathlib.Core.Path.{_≡_, sym, ap, _∙_}
 use mathlib.Core.List.{List}
 use Rattle.calls.specs.declared.Call.{Call}
-use Rattle.holder_model.specs.Book.{replies}
 use Rattle.holder_model.specs.Parties.{callsOf, repliesTo}
 use Rattle.holder_model.proofs.Parties.{replies-to}
 use Rattle.holder.specs.Run.{handled}

@@ -7,7 +7,7 @@ use mathlib.Core.Path.{_≡_, refl, sym, ap, _∙_}
 use mathlib.Core.Bool.{Bool, true, false, cond, _&&_, true≢false, and-eq-true-iff}
 use mathlib.Core.Option.{Option, none, some}
 use mathlib.Core.List.{List}
-use lib.ListN.{length, take, drop, replicate}
+use lib.ListN.{length, drop, replicate}
 use lib.Seq.{take-at}
 use lib.IntN.{ℤ, pos}
 use Rattle.base.specs.Same.{sameℤs}
@@ -16,12 +16,11 @@ use Rattle.base.proofs.Same.{same-ℤs-iff}
 use Rattle.chart.specs.Limits.{mostNumbers}
 use Rattle.chart.specs.Outline.{Outline}
 use Rattle.chart.specs.declared.Point.{Point}
-use Rattle.chart.specs.declared.Refusal.the-variants.{Cell}
 use Rattle.chart.specs.declared.Verdict.{Verdict}
 use Rattle.chart.specs.declared.Verdict.the-variants.{Taken, Refused}
 use Rattle.lattice.specs.Chart.{samePoint}
 use Rattle.lattice.proofs.WalkLaws.{same-point, same-point-self}
-use Rattle.convexity.specs.Clockwise.{border, block}
+use Rattle.convexity.specs.Clockwise.{border}
 use Rattle.convexity.specs.Pieces.{edges, dentPiece, Reaches}
 use Rattle.convexity.specs.SameBlock.{SameEdges}
 use Rattle.convexity.proofs.Bounds.{edges-length}
@@ -33,7 +32,6 @@ use Rattle.verdict.proofs.VerdictLaws.{TakenFacts, taken-facts, taken-fits}
 use Rattle.calls.specs.declared.Question.{Question}
 use Rattle.calls.specs.declared.Question.the-variants.{Cell as OfCell, Row as OfRow, Reading as OfReading, Piece as OfPiece}
 use Rattle.calls.specs.declared.Reading.{Reading}
-use Rattle.calls.specs.declared.Reply.{Reply}
 use Rattle.calls.specs.declared.Reply.the-variants.{Taken as WasTaken, Same}
 use Rattle.holder_model.specs.Book.{sameBlock, equalsWork, closedReply as closedInBook, asked, askedRow, askedReading, askedPiece, asks}
 use Rattle.holder_model.proofs.SameBlock.{same-block-iff}

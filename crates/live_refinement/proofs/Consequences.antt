@@ -37,7 +37,7 @@ use Rattle.calls.specs.Replies.{columns, none as none-word, replyFields, pieceI
 use Rattle.calls.specs.declared.Call.{Call}
 use Rattle.calls.specs.declared.Reading.{Reading}
 use Rattle.calls.specs.declared.Reply.{Reply}
-use Rattle.calls.specs.declared.Reply.the-variants.{Inside, Outside, Undecided, Columns, None, Same}
+use Rattle.calls.specs.declared.Reply.the-variants.{Inside, Outside, Undecided, Same}
 use Rattle.calls.specs.declared.Action.the-variants.{Close, Ask}
 use Rattle.calls.specs.declared.Question.the-variants.{Cell as OfCell, Row as OfRow, Reading as OfReading, Piece as OfPiece}
 use Rattle.drawing.specs.Drawing.{strokeAt}

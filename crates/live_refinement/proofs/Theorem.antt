@@ -4,7 +4,6 @@ use Prim.Native.Nat.{ℕ, _<_}
 use mathlib.Core.Path.{_≡_, refl, ap, ap₂, _∙_}
 use mathlib.Core.Bool.{Bool, true, false}
 use mathlib.Core.List.{List, [], _∷_, map}
-use Rattle.chart.specs.declared.Fields.{Fields}
 use Rattle.chart.specs.Fields.{numbersOf, replyAfter}
 use Rattle.calls.specs.Calls.{parties, places}
 use Rattle.calls.specs.declared.Call.{Call}

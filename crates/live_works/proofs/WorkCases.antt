@@ -2,7 +2,7 @@
 use Prim.Native.Nat.{ℕ, _+_, _-_, _*_, _≤_, _<_, min}
 use native.Mathlib.Omega.{arith}
 use mathlib.Core.Path.{_≡_, refl, sym, ap, _∙_}
-use mathlib.Core.Bool.{Bool, true, false, cond, _&&_}
+use mathlib.Core.Bool.{Bool, true, false, _&&_}
 use mathlib.Core.List.{List}
 use lib.ListN.{take, drop, getD}
 use lib.Seq.{take-take}
@@ -21,7 +21,6 @@ use Rattle.readings.specs.Replies.{locatedReply}
 use Rattle.drawing.specs.Drawing.{strokeAt}
 use Rattle.drawing.specs.Points.{drawnReply}
 use Rattle.calls.specs.declared.Reading.{Reading}
-use Rattle.calls.specs.declared.Reply.{Reply}
 use Rattle.calls.specs.declared.Reply.the-variants.{Inside, Outside, Refused, NothingAtWork}
 use Rattle.work.specs.declared.Work.{Work}
 use Rattle.work.specs.Work.{listed, workEdges, hasEdges, located, spanned, readAt, drawnAt}

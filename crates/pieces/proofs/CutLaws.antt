@@ -9,7 +9,7 @@ use lib.Dec.{ltb}
 use Rattle.chart.specs.Outline.{Outline}
 use Rattle.lattice.specs.Chart.{cornerAt, size}
 use Rattle.convexity.specs.Frame.{frameOf}
-use Rattle.convexity.specs.Cut.{before, least, cornerPlace, ahead, cutCorner, cut}
+use Rattle.convexity.specs.Cut.{before, least, cornerPlace, cutCorner, cut}
 use Rattle.convexity.proofs.Extreme.{least-lt}
 use Rattle.cut_places.proofs.CutLaws.{ahead-le}
 

@@ -11,7 +11,7 @@ ghost use mathlib.Core.Path.{_≡_};
 ghost use mathlib.Core.List.{List};
 ghost use Prim.Native.Nat.{ℕ};
 ghost use lib.IntN.{ℤ};
-ghost use Rattle.chart.specs.Fields.{replyWidth, numbersOf};
+ghost use Rattle.chart.specs.Fields.{replyWidth};
 ghost use Rattle.chart.specs.Outline.{at};
 ghost use Rattle.calls.specs.Calls.{by};
 ghost use Rattle.calls.specs.declared.Action.{Action};

@@ -2,9 +2,9 @@
 use chart::CORNERS;
 use chart::Point;
 use chart::SIDE;
-ghost use Prim.Native.Nat.{ℕ, _<_, min, max};
+ghost use Prim.Native.Nat.{_<_, min, max};
 ghost use mathlib.Core.Path.{_≡_};
-ghost use Rattle.chart.specs.Limits.{side, corners};
+ghost use Rattle.chart.specs.Limits.{corners};
 ghost use Rattle.chart.specs.Outline.{outline};
 ghost use Rattle.lattice.specs.Chart.{step};
 ghost use Rattle.lattice.specs.Refusals.{Simple};

@@ -10,7 +10,6 @@ use mathlib.Core.Logic.{_⊎_, inl, inr, _↔_}
 use mathlib.Core.Bool.{Bool, true, false, true≢false, _&&_, _||_}
 use lib.Dec.{leb, ltb}
 use borrow.Author.Tests.{leb-true, leb-false, le-leb, ltb-true, lt-ltb}
-use Rattle.base.specs.Below.{every}
 use Rattle.base.proofs.BelowLaws.{and-left, and-right, or-false-iff, not-held, every-at, every-fails}
 use Rattle.chart.specs.Limits.{side}
 use Rattle.chart.specs.declared.Point.{Point}

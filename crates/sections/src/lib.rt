@@ -1,6 +1,6 @@
 // Whether a section is convex. A section is a plane of layers, each with one interval of marked cells, or none.
 use chart::SIDE;
-ghost use Prim.Native.Nat.{ℕ, suc, _+_, _-_, _*_, _≤_, _<_, min, max};
+ghost use Prim.Native.Nat.{_+_, _-_, _*_, _≤_, _<_, min, max};
 ghost use mathlib.Core.Path.{_≡_};
 ghost use Rattle.chart.specs.Limits.{side};
 ghost use Rattle.sections.specs.Sections.{layers, numbers, Bounded, ceiling, above, full as fullOf, alone as aloneOf, joined as joinedOf, joinedFrom, reached as reachedOf, whole as wholeOf, clear};

@@ -11,7 +11,6 @@ use lib.Dec.{leb, ltb}
 use borrow.Author.Tests.{le-leb, lt-leb, lt-ltb}
 use Rattle.chart.specs.Limits.{side}
 use Rattle.rows.specs.parts.Rows.{rows as rowOf}
-use Rattle.spans.specs.declared.Span.{Span}
 use Rattle.spans.specs.declared.Spans.{Spans}
 use Rattle.spans.specs.Spans.{noSpans, inSpans, spanFrom, spanAt}
 use Rattle.windows.specs.Windows.{window}

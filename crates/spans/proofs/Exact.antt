@@ -30,7 +30,6 @@ use Rattle.convexity.proofs.Clockwise.{form-clockwise, form-backward, simple-fo
 use Rattle.convexity.proofs.RowEnds.{bottom, top, ups-row, downs-row, ups-off, downs-off, row-ends, row-convex, enclosed-row, enclosed-on-chart}
 use Rattle.spans.specs.Spans.{lastBelow, rowSpan, lesser, greater, leftSide, rightSide, spansOf, inSpans, spanFrom, spanAt, SpanExact}
 use Rattle.spans.specs.Spans.{Describes}
-use Rattle.spans.specs.declared.Span.{Span}
 use Rattle.spans.specs.declared.Span.the-variants.{None, Columns}
 use Rattle.spans.proofs.Tables.{table-at, table-past, up-le, down-le}
 use Rattle.spans.proofs.Sides.{column-none, column-once}

@@ -5,7 +5,6 @@ use chart::SIDE;
 use rows::row_ends;
 ghost use Prim.Native.Nat.{_≤_};
 ghost use mathlib.Core.Path.{_≡_};
-ghost use mathlib.Core.Bool.{Bool};
 ghost use Rattle.chart.specs.Limits.{side};
 ghost use Rattle.chart.specs.Outline.{outline};
 ghost use Rattle.spans.specs.Spans.{lesser as lesserOf, greater as greaterOf, noSpans, spansOf, inSpans, spanAt, spanReply};

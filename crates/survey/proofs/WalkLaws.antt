@@ -18,7 +18,6 @@ use Rattle.lattice.specs.Chart.{samePoint, step, leaves, walk, cornerAt, size, 
 use Rattle.lattice.specs.Refusals.{letterPlace, leavingPlace, Stays, unclosed}
 use Rattle.lattice.proofs.WalkLaws.{OnChart, point-eq, same-point-self, not-same-point, first-absent, step-on-chart, corner-zero, corner-suc, corner-all, corners-on-chart}
 use Rattle.lattice.proofs.Staying.{start-on-chart, stays-at}
-use Rattle.survey.specs.declared.walk.Rest.{Rest}
 use Rattle.survey.specs.parts.Numbers.{colNumber, colStride, offChart, rowNumber, rowStride}
 use Rattle.survey.specs.parts.Walks.{Begun, Out, RestOf}
 use Rattle.survey.proofs.CheckLaws.{first-zero, counted-short}

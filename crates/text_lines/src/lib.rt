@@ -1,5 +1,4 @@
 // Lines of three numbers as text, written to a buffer as far as it has room (contract 11.4).
-ghost use mathlib.Core.Path.{_≡_};
 ghost use mathlib.Core.List.{[], _∷_};
 ghost use Rattle.text_lines.specs.Text.{decimal, fieldText, lineText};
 ghost use Rattle.text_lines.specs.Written.{Wrote};

@@ -5,7 +5,6 @@ use native.Mathlib.Omega.{arith}
 use mathlib.Core.Path.{_≡_, refl, ap}
 use mathlib.Core.Bool.{Bool, true, false, cond}
 use lib.Dec.{ltb}
-use Rattle.chart.specs.declared.Verdict.{Verdict}
 use Rattle.chart.specs.declared.Verdict.the-variants.{Taken, Refused}
 use Rattle.chart.specs.Outline.{Outline}
 use Rattle.chart.specs.Fields.{verdictFields}

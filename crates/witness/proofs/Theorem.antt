@@ -1,10 +1,9 @@
 -- For an outline that passes refusals 1 to 6, in either direction, the search by rows finds a cell exactly if some cell is missing. It is
 -- the lowest one, and three enclosed cells have it in their triangle. Refusal 9 names the same cell.
 use Prim.Native.Nat.{ℕ, _<_}
-use mathlib.Core.Path.{_≡_, refl, sym, ap, _∙_}
+use mathlib.Core.Path.{_≡_, refl, sym, _∙_}
 use mathlib.Core.Bool.{Bool, true, false}
 use mathlib.Core.Logic.{_↔_}
-use lib.Dec.{ltb}
 use borrow.Author.Tests.{ltb-true, ltb-false}
 use Rattle.chart.specs.declared.Point.{Point}
 use Rattle.chart.specs.Outline.{Outline}
@@ -27,7 +26,7 @@ use Rattle.completion.specs.Complete.{firstCell, pastCell, firstRow, pastRow}
 use Rattle.completion.specs.parts.Sides.{firstSide, lastSide, lowestCorner, highestCorner}
 use Rattle.completion.proofs.Sides.{first-side, last-side, lowest-corner, highest-corner}
 use Rattle.witness.specs.Witness.{Witness}
-use Rattle.witness.specs.Three.{Three, threeFor}
+use Rattle.witness.specs.Three.{threeFor}
 use Rattle.witness.specs.Gap.{lowestRow, secondSide, isMissing, lowestMissing, witnessFor, witnessOf}
 use Rattle.witness.proofs.Three.{hull-shown}
 use Rattle.witness.proofs.Gap.{none-missing, finds}

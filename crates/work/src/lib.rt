@@ -15,7 +15,6 @@ use spans::span_at;
 use spans::within;
 ghost use mathlib.Core.Path.{_≡_};
 ghost use Prim.Native.Nat.{_*_, min};
-ghost use lib.ListN.{take};
 ghost use Rattle.chart.specs.Limits.{mostNumbers};
 ghost use Rattle.spans.specs.Spans.{inSpans};
 ghost use Rattle.work.specs.Work.{noWork, listed, replaced, removed, hasEdges, located, spanned, readAt, drawnAt, answered};
