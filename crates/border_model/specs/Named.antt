@@ -4,6 +4,7 @@ use mathlib.Core.List.{List}
 use lib.ListN.{length, take}
 use lib.IntN.{ℤ}
 use Prim.Native.Nat.{ℕ}
+use Rattle.chart.specs.Refusals.{no-outline, letter-buffer}
 use Rattle.chart.specs.declared.Point.{Point}
 use Rattle.chart.specs.declared.Fields.{Fields}
 use Rattle.chart.specs.Outline.{Outline, outline}
@@ -20,8 +21,8 @@ pub record BorderOf (a : Point) (es : List ℤ) (w : List ℕ) : Type 0 where
 
 -- 17 says that no outline is so taken, and 18 that one is. With number 0 the letters stand first in the buffer, and place is their count
 pub record BorderNamed (a : Point) (es : List ℤ) (f : Fields) (after : List ℕ) : Type 0 where
-  pub none : f .number ≡ 17 → ¬ (HasOutline a es)
-  pub some : f .number ≡ 18 → HasOutline a es
+  pub none : f .number ≡ no-outline → ¬ (HasOutline a es)
+  pub some : f .number ≡ letter-buffer → HasOutline a es
   pub written : f .number ≡ 0 → BorderOf a es (take (f .place) after)
 
 -- All that a border call promises of its reply t and of the buffer

@@ -9,6 +9,7 @@ use Rattle.chart.specs.declared.Point.{Point}
 use Rattle.chart.specs.declared.Fields.{Fields}
 use Rattle.chart.specs.declared.Refusal.the-variants.{List as BadList, Cell, Directions}
 use Rattle.chart.specs.Fields.{numbered, placed, refusalFields}
+use Rattle.chart.specs.Refusals.{no-outline, letter-buffer}
 use Rattle.convexity.specs.FromEdges.{lettersFrom}
 use Rattle.directions.specs.Increasing.{badDirections}
 use Rattle.polygon.specs.Loose.{badList, badCell}
@@ -31,8 +32,8 @@ tracedOf a es n =
 unfoldable pub tracedFields : Traced → Fields
 tracedFields (Written n) = placed 0 n
 tracedFields (Refused f) = refusalFields f
-tracedFields NoOutline = numbered 17
-tracedFields NoRoom = numbered 18
+tracedFields NoOutline = numbered no-outline
+tracedFields NoRoom = numbered letter-buffer
 
 -- The buffer afterwards. The letters stand first and the rest is unchanged. A refused call changes nothing
 unfoldable pub writtenAfter : Traced → List ℕ → List ℕ → List ℕ

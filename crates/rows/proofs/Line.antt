@@ -1,6 +1,6 @@
--- The laws of lines hold because slopes compare transitively. A point x is on or right of the line from p up to q exactly if the determinant
--- of the three is not negative, and the determinant compares the slopes of any two of their segments. The numbers are natural, so each term
--- stands on the side where it is positive.
+-- The laws of lines hold because slopes compare transitively. A point x is on or right of the line from p up to q exactly if the
+-- determinant of the three is not negative, and the determinant compares the slopes of any two of their segments. The numbers are natural,
+-- so each term stands on the side where it is positive.
 use Prim.Native.Nat.{ℕ, suc, _+_, _-_, _*_, _≤_, _<_}
 use mathlib.Core.Path.{_≡_, ap}
 use mathlib.Core.Logic.{_↔_}
@@ -78,7 +78,8 @@ module _ {p q u v : Point} where
       let l′ : p .row ≤ q .row = omega arith in
       right-on m n .1 (slope-trans l (right-to l′ m .0 h) (right-on l′ n .0 k))
 
-  -- If u is right of the line from p up to q and v, below q, is right of the line from u up to q, then v is right of the line from p up to q
+  -- If u is right of the line from p up to q and v, below q, is right of the line from u up to q, then v is right of the line from p up to
+  -- q
   pub right-below : p .row ≤ q .row → u .row < q .row → v .row ≤ q .row → Right p q u → Right u q v → Right p q v
   right-below l m n h k =
       let m′ : u .row ≤ q .row = omega arith in

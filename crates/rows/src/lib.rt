@@ -145,8 +145,8 @@ pub fn tangents(lo: &[u16; ROWS], b: usize, t: usize) -> [u16; ROWS]
     next
 }
 
-// The row where the hull edge across row `r` starts. `i` is the row where the edge across the row below starts, and `next` has the row where
-// each edge ends.
+// The row where the hull edge across row `r` starts. `i` is the row where the edge across the row below starts, and `next` has the row
+// where each edge ends.
 pub fn edge_start(next: &[u16; ROWS], i: usize, r: usize) -> usize
     requires { ⌜ i < 256 ⌝ }
     ensures { λ e. ⌜ e ≡ cond (leb r (rows (now (next .entry)) i)) i (rows (now (next .entry)) i) ⌝ }
