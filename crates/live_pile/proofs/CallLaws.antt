@@ -18,12 +18,14 @@ use Rattle.verdict.specs.Named.{CellNamed}
 use Rattle.polygon.specs.Loose.{badCell}
 use Rattle.pile.specs.declared.Pile.{Pile}
 use Rattle.pile.specs.declared.Piled.{Piled}
-use Rattle.pile.specs.declared.PileReply.{PileReply}
-use Rattle.pile.specs.Replies.{pileFields}
-use Rattle.pile.specs.declared.PileReply.the-variants.{Done as Fine, Dented}
-use Rattle.pile.specs.Pile.{dentedColumn, dentedRow, setOf, emptyOf, checkOf, queryOf}
+use Rattle.pile_replies.specs.declared.PileReply.{PileReply}
+use Rattle.pile_replies.specs.Replies.{pileFields}
+use Rattle.pile_replies.specs.declared.PileReply.the-variants.{Done as Fine, Dented}
+use Rattle.pile_sections.specs.Sections.{dentedColumn, dentedRow}
+use Rattle.pile.specs.Pile.{setOf, emptyOf, checkOf, queryOf}
 use Rattle.pile.specs.Calls.{PileCall, Set, SetEmpty, Check, Query, answerOf}
-use Rattle.pile.specs.Meaning.{AllConvex, CheckedBy, CheckedRuns, RowFits}
+use Rattle.pile_sections.specs.Runs.{RowFits}
+use Rattle.pile.specs.Meaning.{AllConvex, CheckedBy, CheckedRuns}
 use Rattle.pile.proofs.CallLaws.{says, set-named}
 use Rattle.pile.proofs.CheckLaws.{Answered, column-returns, row-returns, passing-returns, checked-number}
 use Rattle.live_sections.specs.Layers.{layerBytes, layersOf}

@@ -14,7 +14,8 @@ use Rattle.spans.specs.declared.Spans.{Spans}
 use Rattle.spans.specs.Spans.{noSpans, inSpans}
 use Rattle.sections.specs.Sections.{layers}
 use Rattle.pile.specs.declared.Pile.{Pile}
-use Rattle.pile.specs.Pile.{layerAt, freshPile, put, judgedPile}
+use Rattle.pile_sections.specs.Sections.{layerAt}
+use Rattle.pile.specs.Pile.{freshPile, put, judgedPile}
 use Rattle.windows.proofs.Slots.{slots-below, slots-set}
 use Rattle.windows.proofs.Fills.{slots-replicate}
 use Rattle.span_list.specs.SpanList.{spansAt, SpansPut}

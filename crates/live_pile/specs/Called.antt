@@ -7,8 +7,8 @@ use mathlib.Core.List.{List}
 use lib.ListN.{length}
 use lib.Dec.{leb}
 use Rattle.chart.specs.Fields.{replyWidth, numbersOf, fieldsOf, replyAfter}
-use Rattle.pile.specs.declared.PileReply.{PileReply}
-use Rattle.pile.specs.Replies.{pileFields}
+use Rattle.pile_replies.specs.declared.PileReply.{PileReply}
+use Rattle.pile_replies.specs.Replies.{pileFields}
 use Rattle.pile.specs.Pile.{freshPile}
 use Rattle.pile.specs.Calls.{PileCall, answerOf}
 use Rattle.live_pile.specs.Layout.{Memory, pileIn, Fits}

@@ -5,7 +5,7 @@ use mathlib.Core.List.{List}
 use lib.ListN.{length, getD}
 use lib.Dec.{ltb}
 use Rattle.pile.specs.declared.Pile.{Pile}
-use Rattle.pile.specs.declared.PileReply.{PileReply}
+use Rattle.pile_replies.specs.declared.PileReply.{PileReply}
 use Rattle.pile.specs.Calls.{PileCall, answerOf}
 pub use Rattle.live_sections.specs.Layers.{layerBytes}
 use Rattle.live_sections.specs.Layers.{layersOf}

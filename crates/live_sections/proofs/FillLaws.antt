@@ -8,7 +8,7 @@ use Rattle.spans.specs.Spans.{table}
 use Rattle.spans.proofs.Tables.{Filled, filled-start, filled-next, filled-end}
 use Rattle.sections.specs.declared.Section.{Section}
 use Rattle.sections.specs.Sections.{layers}
-use Rattle.pile.proofs.CutLaws.{section-eq}
+use Rattle.pile_sections.proofs.CutLaws.{section-eq}
 
 -- The layers before l have their intervals
 pub record Filling (f g : ℕ → ℕ) (lo past : List ℕ) (l : ℕ) : Type 0 where

@@ -9,8 +9,8 @@ use Rattle.chart.specs.Limits.{side}
 use Rattle.rows.specs.parts.Rows.{rows as rowOf}
 use Rattle.spans.specs.declared.Spans.{Spans}
 use Rattle.sections.specs.Sections.{layers}
-use Rattle.pile.specs.Pile.{layerAt, inRow, lowestRow, afterHighest}
-use Rattle.pile.specs.Meaning.{RowFits}
+use Rattle.pile_sections.specs.Sections.{layerAt, inRow, lowestRow, afterHighest}
+use Rattle.pile_sections.specs.Runs.{RowFits}
 use Rattle.windows.specs.Windows.{window}
 use Rattle.windows.proofs.Slots.{slots-at}
 use Rattle.span_list.specs.SpanList.{slotBytes, spansAt}

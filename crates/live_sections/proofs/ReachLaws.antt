@@ -17,8 +17,8 @@ use Rattle.rows.specs.parts.Rows.{rows as rowOf}
 use Rattle.spans.specs.declared.Spans.{Spans}
 use Rattle.sections.specs.declared.Section.{Section}
 use Rattle.sections.specs.Sections.{layers, numbers}
-use Rattle.pile.specs.Pile.{layerAt, inRow}
-use Rattle.pile.proofs.RunLaws.{listed-at}
+use Rattle.pile_sections.specs.Sections.{layerAt, inRow}
+use Rattle.pile_sections.proofs.RunLaws.{listed-at}
 use Rattle.windows.specs.Windows.{window}
 use Rattle.span_list.specs.SpanList.{slotBytes}
 use Rattle.live_sections.specs.Layers.{layersOf}

@@ -14,7 +14,7 @@ use Rattle.spans.specs.Spans.{table}
 use Rattle.spans.proofs.Tables.{length-table}
 use Rattle.sections.specs.declared.Section.{Section}
 use Rattle.sections.specs.Sections.{layers, numbers, clear}
-use Rattle.pile.specs.Pile.{layerAt, lowestRow, afterHighest, columnSection, rowSection, columnClear, rowClear}
+use Rattle.pile_sections.specs.Sections.{layerAt, lowestRow, afterHighest, columnSection, rowSection, columnClear, rowClear}
 use Rattle.live_sections.specs.parts.Reach.{clearOf, Sized}
 
 pub clear-is : (s : Section) (b : Bool) → b ≡ clear (numbers (s .lo)) (numbers (s .past)) → b ≡ clearOf s

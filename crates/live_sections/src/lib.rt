@@ -12,7 +12,7 @@ ghost use lib.ListN.{length};
 ghost use Rattle.base.specs.Below.{first as firstOf};
 ghost use Rattle.chart.specs.Limits.{side};
 ghost use Rattle.windows.specs.Windows.{window};
-ghost use Rattle.pile.specs.Pile.{inRow, columnSection, rowSection, dentedColumn, dentedRow};
+ghost use Rattle.pile_sections.specs.Sections.{inRow, columnSection, rowSection, dentedColumn, dentedRow};
 ghost use Rattle.live_sections.specs.Layers.{layerBytes, layersOf};
 ghost use Rattle.live_sections.specs.parts.Reach.{hasCell, reachOf, NoneBelow, NoneFrom, clearOf, Sized};
 

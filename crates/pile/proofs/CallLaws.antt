@@ -21,10 +21,11 @@ use Rattle.spans.specs.Spans.{noSpans, spansOf, inSpans}
 use Rattle.sections.specs.Sections.{lastLayer}
 use Rattle.pile.specs.declared.Pile.{Pile}
 use Rattle.pile.specs.declared.Piled.{Piled}
-use Rattle.pile.specs.declared.PileReply.{PileReply}
-use Rattle.pile.specs.declared.PileReply.the-variants.{Done, Inside, Outside, Judged as WasJudged, Cell, NotPassed, Dented, Layer}
-use Rattle.pile.specs.Replies.{pileFields}
-use Rattle.pile.specs.Pile.{layerAt, put, judgedPile, dentedColumn, dentedRow, setAs, setOf, emptyOf, checkOf, locatedIn, queryOf}
+use Rattle.pile_replies.specs.declared.PileReply.{PileReply}
+use Rattle.pile_replies.specs.declared.PileReply.the-variants.{Done, Inside, Outside, Judged as WasJudged, Cell, NotPassed, Dented, Layer}
+use Rattle.pile_replies.specs.Replies.{pileFields}
+use Rattle.pile_sections.specs.Sections.{layerAt, dentedColumn, dentedRow}
+use Rattle.pile.specs.Pile.{put, judgedPile, setAs, setOf, emptyOf, checkOf, locatedIn, queryOf}
 
 abbrev pub says : PileReply → Pile → Piled
 says r p = record { reply = r; pile = p }

@@ -12,13 +12,15 @@ use Rattle.chart.specs.Limits.{side}
 use Rattle.spans.specs.declared.Spans.{Spans}
 use Rattle.pile.specs.declared.Pile.{Pile}
 use Rattle.pile.specs.declared.Piled.{Piled}
-use Rattle.pile.specs.declared.PileReply.{PileReply}
-use Rattle.pile.specs.declared.PileReply.the-variants.{Done, Dented}
-use Rattle.pile.specs.Replies.{pileFields}
-use Rattle.pile.specs.Pile.{judgedPile, columnClear, rowClear, dentedColumn, dentedRow, checkOf}
-use Rattle.pile.specs.Meaning.{ConvexBefore, AllConvex, CheckedBy, passes, column, row, rowRuns, CheckedRuns, RowFits}
+use Rattle.pile_replies.specs.declared.PileReply.{PileReply}
+use Rattle.pile_replies.specs.declared.PileReply.the-variants.{Done, Dented}
+use Rattle.pile_replies.specs.Replies.{pileFields}
+use Rattle.pile_sections.specs.Sections.{columnClear, rowClear, dentedColumn, dentedRow}
+use Rattle.pile.specs.Pile.{judgedPile, checkOf}
+use Rattle.pile_sections.specs.Runs.{rowRuns, RowFits}
+use Rattle.pile.specs.Meaning.{ConvexBefore, AllConvex, CheckedBy, passes, column, row, CheckedRuns}
 use Rattle.pile.proofs.CallLaws.{says, check-column, check-row, check-passes}
-use Rattle.pile.proofs.RunLaws.{Decided, column-decided, row-decided}
+use Rattle.pile_sections.proofs.RunLaws.{Decided, column-decided, row-decided}
 
 -- ---- what the two searches find
 

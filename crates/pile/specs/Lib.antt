@@ -1,5 +1,4 @@
--- The fields of replies; a pile as it is kept, and the calls on it; what a check means.
-pub mod Replies
+-- A pile as it is kept, and the calls on it; what a check means.
 pub mod Pile
 pub mod Calls
 pub mod Meaning

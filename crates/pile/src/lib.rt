@@ -3,6 +3,7 @@ use chart::Point;
 use chart::SIDE;
 use chart::Verdict;
 use judge::verdict_of;
+use pile_replies::PileReply;
 use polygon::bad_cell;
 use sections::LAST_LAYER;
 use sections::LAYERS;
@@ -15,36 +16,15 @@ ghost use mathlib.Core.Path.{_≡_};
 ghost use Rattle.chart.specs.Outline.{outline};
 ghost use Rattle.verdict.specs.Named.{CellNamed};
 ghost use Rattle.sections.specs.Sections.{layers};
-ghost use Rattle.pile.specs.Replies.{pileFields};
+ghost use Rattle.pile_replies.specs.Replies.{pileFields};
 ghost use Rattle.pile.specs.Pile.{freshPile, put as putOf, setOf, emptyOf, judgedPile, checkOf, queryOf};
 ghost use Rattle.pile.specs.Meaning.{CheckedRuns};
-
-mod section_at;
-pub mod written;
 
 // The rows of each layer, and whether the last check passed and nothing was set since. All zeros is a fresh pile.
 #[repr(C)]
 pub struct Pile {
     pub layers: [Spans; LAYERS],
     pub passed: bool,
-}
-
-// The reply of a call.
-pub enum PileReply {
-    // A layer was set to empty, or a check passed.
-    Done,
-    Inside,
-    Outside,
-    // The verdict of a set on its outline: 1 to 9, or taken.
-    Judged(Verdict),
-    // 11. A cell number above 254.
-    Cell,
-    // 12. The pile is unchecked, or did not pass.
-    NotPassed,
-    // 21. The first dented section: kind 0 is a column and 1 a row, `at` is its number.
-    Dented { kind: u16, at: u16 },
-    // 22. A layer above 15.
-    Layer,
 }
 
 // A reply, and the next pile.
@@ -128,14 +108,14 @@ impl Pile {
         ensures meaning { λ r. ⌜ CheckedRuns (self .layers) (r .reply) ⌝ }
     {
         let layers = self.layers;
-        let col = section_at::dented_column(layers);
+        let col = pile_sections::dented_column(layers);
         if col < SIDE {
             return Piled {
                 reply: PileReply::Dented { kind: 0, at: col },
                 pile: self.marked(false),
             };
         }
-        let row = section_at::dented_row(layers);
+        let row = pile_sections::dented_row(layers);
         if row < SIDE {
             return Piled {
                 reply: PileReply::Dented { kind: 1, at: row },

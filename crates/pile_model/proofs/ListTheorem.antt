@@ -31,12 +31,14 @@ use Rattle.spans.proofs.Exact.{spans-exact, past-le}
 use Rattle.sections.specs.Sections.{layers, lastLayer}
 use Rattle.pile.specs.declared.Pile.{Pile}
 use Rattle.pile.specs.declared.Piled.{Piled}
-use Rattle.pile.specs.declared.PileReply.{PileReply}
-use Rattle.pile.specs.declared.PileReply.the-variants.{Done, Inside, Outside, Judged, Cell, NotPassed, Dented, Layer}
-use Rattle.pile.specs.Pile.{layerAt, freshPile, put, judgedPile, dentedColumn, dentedRow}
+use Rattle.pile_replies.specs.declared.PileReply.{PileReply}
+use Rattle.pile_replies.specs.declared.PileReply.the-variants.{Done, Inside, Outside, Judged, Cell, NotPassed, Dented, Layer}
+use Rattle.pile_sections.specs.Sections.{layerAt, dentedColumn, dentedRow}
+use Rattle.pile.specs.Pile.{freshPile, put, judgedPile}
 use Rattle.pile.specs.Pile.{setAs, setOf, emptyOf, checkOf, locatedIn, queryOf}
 use Rattle.pile.specs.Calls.{PileCall, Set, SetEmpty, Check, Query, answerOf}
-use Rattle.pile.specs.Meaning.{HasDent, AllConvex, CheckedBy, passes, column, row}
+use Rattle.pile_sections.specs.Runs.{HasDent}
+use Rattle.pile.specs.Meaning.{AllConvex, CheckedBy, passes, column, row}
 use Rattle.pile.proofs.CallLaws.{says}
 use Rattle.pile.proofs.CheckLaws.{check-said}
 use Rattle.pile_model.specs.Book.{Layers, PileBook, fresh, putLayer, marks, columnMarks, rowMarks, Checked, NoneDented}

@@ -22,8 +22,8 @@ use Rattle.spans.specs.Spans.{inSpans}
 use Rattle.pile_model.specs.Book.{Layers, marks, columnMarks, rowMarks}
 use Rattle.sections.specs.Sections.{layers, numbers}
 use Rattle.sections.proofs.Decides.{InRuns, hull-on-plane}
-use Rattle.pile.specs.Pile.{layerAt, inRow, lowestRow, afterHighest, columnSection, rowSection, columnClear, rowClear}
-use Rattle.pile.proofs.RunLaws.{listed, listed-at, listed-past, listed-runs, Decided, runs-decide, after-le}
+use Rattle.pile_sections.specs.Sections.{layerAt, inRow, lowestRow, afterHighest, columnSection, rowSection, columnClear, rowClear}
+use Rattle.pile_sections.proofs.RunLaws.{listed, listed-at, listed-past, listed-runs, Decided, runs-decide, after-le}
 
 -- ---- an interval of numbers
 

@@ -16,8 +16,8 @@ use Rattle.convexity.specs.Clockwise.{block}
 use Rattle.verdict.specs.Verdict.{verdictOf}
 use Rattle.polygon.specs.Loose.{badCell}
 use Rattle.sections.specs.Sections.{lastLayer}
-use Rattle.pile.specs.declared.PileReply.{PileReply}
-use Rattle.pile.specs.declared.PileReply.the-variants.{Done, Inside, Outside, Judged, Cell, NotPassed, Dented, Layer}
+use Rattle.pile_replies.specs.declared.PileReply.{PileReply}
+use Rattle.pile_replies.specs.declared.PileReply.the-variants.{Done, Inside, Outside, Judged, Cell, NotPassed, Dented, Layer}
 use Rattle.pile.specs.Calls.{PileCall, Set, SetEmpty, Check, Query}
 use Rattle.pile.specs.Meaning.{AllConvex, CheckedBy}
 

@@ -1,7 +1,7 @@
 -- A list of calls on a pile, each made on the pile that the one before it returned; and the model after the same calls and replies.
 use mathlib.Core.List.{List, [], _∷_}
 use Rattle.pile.specs.declared.Pile.{Pile}
-use Rattle.pile.specs.declared.PileReply.{PileReply}
+use Rattle.pile_replies.specs.declared.PileReply.{PileReply}
 use Rattle.pile.specs.Calls.{PileCall, answerOf}
 use Rattle.pile_model.specs.Book.{PileBook, next}
 

@@ -10,8 +10,8 @@ use Rattle.chart.specs.Fields.{replyWidth, replyAfter}
 use Rattle.polygon.specs.Loose.{badCell}
 use Rattle.sections.specs.Sections.{lastLayer}
 use Rattle.pile.specs.declared.Pile.{Pile}
-use Rattle.pile.specs.declared.PileReply.{PileReply}
-use Rattle.pile.specs.Replies.{pileFields}
+use Rattle.pile_replies.specs.declared.PileReply.{PileReply}
+use Rattle.pile_replies.specs.Replies.{pileFields}
 use Rattle.pile.specs.Pile.{queryOf}
 use Rattle.pile.specs.Calls.{Check, Query, answerOf}
 use Rattle.pile_model.specs.Book.{Checked, NoneDented, located, queried}

@@ -5,9 +5,9 @@ use mathlib.Core.Bool.{Bool, true, false}
 use mathlib.Core.List.{List, [], _∷_, map}
 use lib.ListN.{replicate, length-replicate}
 use Rattle.pile.specs.declared.Pile.{Pile}
-use Rattle.pile.specs.declared.PileReply.{PileReply}
+use Rattle.pile_replies.specs.declared.PileReply.{PileReply}
 use Rattle.chart.specs.Fields.{numbersOf}
-use Rattle.pile.specs.Replies.{pileFields}
+use Rattle.pile_replies.specs.Replies.{pileFields}
 use Rattle.pile.specs.Pile.{freshPile}
 use Rattle.pile.specs.Calls.{PileCall, answerOf}
 use Rattle.pile_model.specs.Book.{fresh, AllAnswer}

@@ -5,8 +5,8 @@ use mathlib.Core.List.{List, [], _∷_}
 use lib.ListN.{length}
 use lib.Dec.{leb}
 use Rattle.chart.specs.Fields.{replyWidth, replyAfter}
-use Rattle.pile.specs.declared.PileReply.{PileReply}
-use Rattle.pile.specs.Replies.{pileFields}
+use Rattle.pile_replies.specs.declared.PileReply.{PileReply}
+use Rattle.pile_replies.specs.Replies.{pileFields}
 use Rattle.pile.specs.Calls.{PileCall}
 use Rattle.live_pile.specs.Layout.{Memory}
 use Rattle.live_pile.specs.Called.{Called, Done}

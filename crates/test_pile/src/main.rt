@@ -5,7 +5,7 @@ use libc::STDOUT_FILENO;
 use pile::Pile;
 use pile::Piled;
 use pile::fresh;
-use pile::written::of_reply;
+use pile_replies::of_reply;
 
 fn number(n: u16) {
     io::print_decimal(STDOUT_FILENO, n as u64);

@@ -5,7 +5,7 @@ use mathlib.Core.Path.{_≡_, sym, ap, _∙_}
 use Rattle.base.specs.Below.{first}
 use Rattle.base.proofs.BelowLaws.{first-step, first-stop}
 use Rattle.chart.specs.Limits.{side}
-use Rattle.pile.specs.Pile.{inRow}
+use Rattle.pile_sections.specs.Sections.{inRow}
 use Rattle.live_sections.proofs.ReachLaws.{back-start, back-end}
 use Rattle.live_sections.proofs.after_highest.Statement.{statement}
 use Rattle.live_sections.proofs.after_highest.Tie as tie

@@ -4,7 +4,7 @@ use native.Mathlib.Omega.{arith}
 use mathlib.Core.Path.{_∙_}
 use borrow.Author.Needs.{needs}
 use Rattle.sections.specs.Sections.{layers}
-use Rattle.pile.specs.Pile.{layerAt, lowestRow, afterHighest, columnSection}
+use Rattle.pile_sections.specs.Sections.{layerAt, lowestRow, afterHighest, columnSection}
 use Rattle.live_sections.specs.Layers.{layersOf}
 use Rattle.live_sections.proofs.FillLaws.{Filling, filling-start, filling-next, filling-end}
 use Rattle.live_sections.proofs.LayerLaws.{column-low, column-high}

@@ -1,7 +1,7 @@
 -- The two tests are the definition's.
 use borrow.Author.Tests.{le-leb, lt-leb}
 use borrow.Author.Needs.{needs}
-use Rattle.pile.specs.Pile.{inRow}
+use Rattle.pile_sections.specs.Sections.{inRow}
 use Rattle.live_sections.proofs.holds.Statement.{statement}
 use Rattle.live_sections.proofs.holds.Tie as tie
 

@@ -4,7 +4,7 @@ use native.Mathlib.Omega.{arith}
 use mathlib.Core.Path.{_∙_}
 use borrow.Author.Needs.{needs}
 use Rattle.sections.specs.Sections.{layers}
-use Rattle.pile.specs.Pile.{layerAt}
+use Rattle.pile_sections.specs.Sections.{layerAt}
 use Rattle.live_sections.specs.Layers.{layersOf}
 use Rattle.live_sections.specs.parts.Reach.{bottomOf, topOf, reachOf}
 use Rattle.live_sections.proofs.FillLaws.{Filling, filling-start, filling-next, filling-end}

@@ -5,7 +5,7 @@ use mathlib.Core.Path.{sym}
 use borrow.Author.Needs.{needs}
 use Rattle.rows.specs.parts.Rows.{rows as rowOf}
 use Rattle.sections.specs.Sections.{layers}
-use Rattle.pile.specs.Pile.{layerAt, rowSection}
+use Rattle.pile_sections.specs.Sections.{layerAt, rowSection}
 use Rattle.live_sections.specs.Layers.{layersOf}
 use Rattle.live_sections.proofs.FillLaws.{Filling, filling-start, filling-next, filling-end}
 use Rattle.live_sections.proofs.LayerLaws.{row-first, row-past}

@@ -5,7 +5,7 @@ use mathlib.Core.Path.{_≡_, sym}
 use mathlib.Core.Bool.{true≢false}
 use borrow.Author.Needs.{needs}
 use Rattle.sections.specs.Sections.{layers}
-use Rattle.pile.proofs.CutLaws.{section-eq}
+use Rattle.pile_sections.proofs.CutLaws.{section-eq}
 use Rattle.live_sections.proofs.ReachLaws.{Agree, agree-start, agree-next, agree-end}
 use Rattle.live_sections.proofs.same.Statement.{statement}
 use Rattle.live_sections.proofs.same.Tie as tie

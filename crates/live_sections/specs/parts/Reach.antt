@@ -12,7 +12,7 @@ use Rattle.spans.specs.declared.Spans.{Spans}
 use Rattle.spans.specs.Spans.{table}
 use Rattle.sections.specs.declared.Section.{Section}
 use Rattle.sections.specs.Sections.{layers, numbers, clear}
-use Rattle.pile.specs.Pile.{layerAt, inRow}
+use Rattle.pile_sections.specs.Sections.{layerAt, inRow}
 
 unfoldable pub hasCell : List ℕ → List ℕ → ℕ → Bool
 hasCell begins ends r = ltb (rows begins r) (rows ends r)

@@ -2,8 +2,8 @@
 use Rattle.chart.specs.declared.Fields.{Fields}
 use Rattle.chart.specs.Fields.{numbered, worded, verdictFields, no-word, inside, outside}
 use Rattle.chart.specs.Refusals as refusals
-use Rattle.pile.specs.declared.PileReply.{PileReply}
-use Rattle.pile.specs.declared.PileReply.the-variants.{Done, Inside, Outside, Judged, Cell, NotPassed, Dented, Layer}
+use Rattle.pile_replies.specs.declared.PileReply.{PileReply}
+use Rattle.pile_replies.specs.declared.PileReply.the-variants.{Done, Inside, Outside, Judged, Cell, NotPassed, Dented, Layer}
 
 unfoldable pub pileFields : PileReply → Fields
 pileFields Done = worded no-word

@@ -15,8 +15,8 @@ use Rattle.spans.specs.Spans.{table}
 use Rattle.spans.proofs.Tables.{table-at, table-past}
 use Rattle.sections.specs.Sections.{layers, numbers, clear}
 use Rattle.sections.proofs.Decides.{InRuns, clear-convex, unclear-missing}
-use Rattle.pile.specs.Pile.{layerAt, lowestRow, afterHighest, columnSection, rowSection, columnClear, rowClear}
-use Rattle.pile.specs.Meaning.{HasDent, runMarks, columnRuns, rowRuns, RowFits}
+use Rattle.pile_sections.specs.Sections.{layerAt, lowestRow, afterHighest, columnSection, rowSection, columnClear, rowClear}
+use Rattle.pile_sections.specs.Runs.{HasDent, runMarks, columnRuns, rowRuns, RowFits}
 
 -- ---- intervals in two lists, one number for each layer
 

@@ -7,9 +7,9 @@ use Rattle.base.specs.Below.{first}
 use Rattle.base.proofs.BelowLaws.{first-step, first-stop}
 use Rattle.chart.specs.Limits.{side}
 use Rattle.sections.specs.Sections.{numbers, clear}
-use Rattle.pile.specs.Pile.{columnClear, dentedColumn}
-use Rattle.pile.proofs.section_at.dented_column.Statement.{statement}
-use Rattle.pile.proofs.section_at.dented_column.Tie as tie
+use Rattle.pile_sections.specs.Sections.{columnClear, dentedColumn}
+use Rattle.pile_sections.proofs.dented_column.Statement.{statement}
+use Rattle.pile_sections.proofs.dented_column.Tie as tie
 
 abbrev Inv-loop : tie.InvT-loop
 Inv-loop ls col₀ col = (col ≤ side) × (first (λ k. not (columnClear ls k)) col ≡ col)

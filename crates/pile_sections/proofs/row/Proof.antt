@@ -10,10 +10,10 @@ use Rattle.chart.specs.Limits.{side}
 use Rattle.rows.specs.parts.Rows.{rows}
 use Rattle.spans.proofs.Tables.{Filled, filled-start, filled-next, filled-end}
 use Rattle.sections.specs.Sections.{layers}
-use Rattle.pile.specs.Pile.{layerAt, rowSection}
-use Rattle.pile.proofs.CutLaws.{section-eq}
-use Rattle.pile.proofs.section_at.row.Statement.{statement}
-use Rattle.pile.proofs.section_at.row.Tie as tie
+use Rattle.pile_sections.specs.Sections.{layerAt, rowSection}
+use Rattle.pile_sections.proofs.CutLaws.{section-eq}
+use Rattle.pile_sections.proofs.row.Statement.{statement}
+use Rattle.pile_sections.proofs.row.Tie as tie
 
 abbrev Inv-loop : tie.InvT-loop
 Inv-loop r ls lo₀ past₀ l₀ lo past l =

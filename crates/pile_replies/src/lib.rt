@@ -1,11 +1,30 @@
-// The reply's number, word and fields (contract 4).
-use crate::PileReply;
+// The reply of a call on a pile, and its number, word and fields (contract 4 and 12).
 use chart::Fields;
+use chart::Verdict;
 use chart::refusals;
 use chart::reply;
 ghost use mathlib.Core.Path.{_≡_};
-ghost use Rattle.pile.specs.Replies.{pileFields};
+ghost use Rattle.pile_replies.specs.Replies.{pileFields};
 
+// The reply of a call.
+pub enum PileReply {
+    // A layer was set to empty, or a check passed.
+    Done,
+    Inside,
+    Outside,
+    // The verdict of a set on its outline: 1 to 9, or taken.
+    Judged(Verdict),
+    // 11. A cell number above 254.
+    Cell,
+    // 12. The pile is unchecked, or did not pass.
+    NotPassed,
+    // 21. The first dented section: kind 0 is a column and 1 a row, `at` is its number.
+    Dented { kind: u16, at: u16 },
+    // 22. A layer above 15.
+    Layer,
+}
+
+// Its fields.
 pub fn of_reply(r: PileReply) -> Fields
     ensures { λ f. ⌜ f ≡ pileFields r ⌝ }
 {

@@ -1,9 +1,9 @@
 -- The two tests are the definition's.
 use borrow.Author.Tests.{le-leb, lt-leb}
-use Rattle.pile.specs.Pile.{inRow}
+use Rattle.pile_sections.specs.Sections.{inRow}
 use borrow.Author.Needs.{needs}
-use Rattle.pile.proofs.section_at.holds.Statement.{statement}
-use Rattle.pile.proofs.section_at.holds.Tie as tie
+use Rattle.pile_sections.proofs.holds.Statement.{statement}
+use Rattle.pile_sections.proofs.holds.Tie as tie
 
 element-copy-out-if1 : tie.Need-element-copy-out-if1
 element-copy-out-if1 c = search needs

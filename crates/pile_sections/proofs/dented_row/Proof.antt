@@ -8,10 +8,10 @@ use Rattle.base.specs.Below.{first}
 use Rattle.base.proofs.BelowLaws.{below-suc, first-step, first-stop}
 use Rattle.chart.specs.Limits.{side}
 use Rattle.sections.specs.Sections.{numbers, clear}
-use Rattle.pile.specs.Pile.{rowClear, dentedRow}
-use Rattle.pile.specs.Meaning.{RowFits}
-use Rattle.pile.proofs.section_at.dented_row.Statement.{statement}
-use Rattle.pile.proofs.section_at.dented_row.Tie as tie
+use Rattle.pile_sections.specs.Sections.{rowClear, dentedRow}
+use Rattle.pile_sections.specs.Runs.{RowFits}
+use Rattle.pile_sections.proofs.dented_row.Statement.{statement}
+use Rattle.pile_sections.proofs.dented_row.Tie as tie
 
 abbrev Inv-loop : tie.InvT-loop
 Inv-loop ls r₀ r = (r ≤ side) × (first (λ k. not (rowClear ls k)) r ≡ r) × ((k : ℕ) → k < r → RowFits ls k)

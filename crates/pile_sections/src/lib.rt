@@ -1,4 +1,4 @@
-// The sections of a pile, by columns and by rows, and the first that is dented.
+// The sections of a pile's layers, by columns and by rows, and the first that is dented (contract 12.4).
 use chart::SIDE;
 use sections::LAYERS;
 use sections::Section;
@@ -10,8 +10,8 @@ ghost use mathlib.Core.Path.{_≡_};
 ghost use Rattle.base.specs.Below.{first as firstOf};
 ghost use Rattle.chart.specs.Limits.{side};
 ghost use Rattle.rows.specs.parts.Rows.{rows as rowOf};
-ghost use Rattle.pile.specs.Pile.{inRow, columnSection, rowSection, dentedColumn, dentedRow};
-ghost use Rattle.pile.specs.Meaning.{RowFits};
+ghost use Rattle.pile_sections.specs.Sections.{inRow, columnSection, rowSection, dentedColumn, dentedRow};
+ghost use Rattle.pile_sections.specs.Runs.{RowFits};
 
 // One past the last row, and past the last column.
 const END: u8 = SIDE as u8;

@@ -5,9 +5,9 @@ use mathlib.Core.Path.{_≡_, refl, sym, ap, _∙_}
 use Rattle.base.specs.Below.{first}
 use Rattle.base.proofs.BelowLaws.{first-step, first-stop}
 use Rattle.chart.specs.Limits.{side}
-use Rattle.pile.specs.Pile.{inRow}
-use Rattle.pile.proofs.section_at.after_highest.Statement.{statement}
-use Rattle.pile.proofs.section_at.after_highest.Tie as tie
+use Rattle.pile_sections.specs.Sections.{inRow}
+use Rattle.pile_sections.proofs.after_highest.Statement.{statement}
+use Rattle.pile_sections.proofs.after_highest.Tie as tie
 
 abbrev Inv-loop : tie.InvT-loop
 Inv-loop begins ends col k₀ k = (k ≤ side) × (first (λ i. inRow begins ends col (side - 1 - i)) k ≡ k)

@@ -5,9 +5,9 @@ use mathlib.Core.Path.{_≡_, refl, sym, _∙_}
 use Rattle.base.specs.Below.{first}
 use Rattle.base.proofs.BelowLaws.{first-step, first-stop}
 use Rattle.chart.specs.Limits.{side}
-use Rattle.pile.specs.Pile.{inRow}
-use Rattle.pile.proofs.section_at.lowest.Statement.{statement}
-use Rattle.pile.proofs.section_at.lowest.Tie as tie
+use Rattle.pile_sections.specs.Sections.{inRow}
+use Rattle.pile_sections.proofs.lowest.Statement.{statement}
+use Rattle.pile_sections.proofs.lowest.Tie as tie
 
 abbrev Inv-loop : tie.InvT-loop
 Inv-loop begins ends col r₀ r = (r ≤ side) × (first (λ k. inRow begins ends col k) r ≡ r)

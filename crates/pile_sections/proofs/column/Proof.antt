@@ -6,10 +6,10 @@ use lib.ListN.{length-replicate}
 use borrow.Author.Needs.{needs}
 use Rattle.spans.proofs.Tables.{Filled, filled-start, filled-next, filled-end}
 use Rattle.sections.specs.Sections.{layers}
-use Rattle.pile.specs.Pile.{layerAt, lowestRow, afterHighest, columnSection}
-use Rattle.pile.proofs.CutLaws.{section-eq}
-use Rattle.pile.proofs.section_at.column.Statement.{statement}
-use Rattle.pile.proofs.section_at.column.Tie as tie
+use Rattle.pile_sections.specs.Sections.{layerAt, lowestRow, afterHighest, columnSection}
+use Rattle.pile_sections.proofs.CutLaws.{section-eq}
+use Rattle.pile_sections.proofs.column.Statement.{statement}
+use Rattle.pile_sections.proofs.column.Tie as tie
 
 abbrev Inv-loop : tie.InvT-loop
 Inv-loop col ls lo₀ past₀ l₀ lo past l =

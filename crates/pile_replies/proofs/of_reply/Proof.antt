@@ -1,8 +1,8 @@
 -- Each arm writes the fields that the definition gives for its case.
-use Rattle.pile.specs.Replies.{pileFields}
+use Rattle.pile_replies.specs.Replies.{pileFields}
 use borrow.Author.Needs.{needs}
-use Rattle.pile.proofs.written.of_reply.Statement.{statement}
-use Rattle.pile.proofs.written.of_reply.Tie as tie
+use Rattle.pile_replies.proofs.of_reply.Statement.{statement}
+use Rattle.pile_replies.proofs.of_reply.Tie as tie
 
 enum-told : tie.Need-enum-told
 enum-told c = search needs

@@ -1,0 +1,2 @@
+-- The fields of the replies of a pile.
+pub mod Replies

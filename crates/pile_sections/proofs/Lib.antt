@@ -1,0 +1,3 @@
+-- Sections with equal lists, and what the test of a section says.
+pub mod CutLaws
+pub mod RunLaws
