@@ -1,6 +1,6 @@
 // A list of calls as bytes, run on a fresh holder (contract 10.3).
 use chart::reply::NUMBERS as REPLY;
-use live::respond;
+use live_bytes::respond;
 use live_memory::HEADS;
 use live_memory::LETTERS;
 use live_memory::NUMBERS;

@@ -218,7 +218,7 @@ pub extern "C" fn rq_call_parts(
     ensures { λ r. ⌜ Called (Fits (memory (now (letters .entry)) (now (rows .entry)) (now (numbers .entry)) (now (heads .entry)))) (memory (now (letters .entry)) (now (rows .entry)) (now (numbers .entry)) (now (heads .entry))) (memory (now (letters .exit)) (now (rows .exit)) (now (numbers .exit)) (now (heads .exit))) (received (now (call .entry)) replyWidth) (now (reply .entry)) (now (reply .exit)) r ⌝ }
     ensures fits { λ _. ⌜ Fits (memory (now (letters .entry)) (now (rows .entry)) (now (numbers .entry)) (now (heads .entry))) ⌝ }
 {
-    live::respond(
+    live_bytes::respond(
         &mut letters[..],
         &mut rows[..],
         &mut numbers[..],

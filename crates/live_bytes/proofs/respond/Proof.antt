@@ -1,8 +1,9 @@
 -- Arrays of other lengths and bytes that are not a call change nothing. Otherwise the call of these bytes is done.
-use Rattle.live.proofs.CallLaws.{unfit-called, nothing-called, received-short, received-other, received-call}
+use Rattle.live.proofs.CallLaws.{unfit-called, nothing-called}
+use Rattle.live_bytes.proofs.ByteLaws.{received-short, received-other, received-call}
 use borrow.Author.Needs.{needs}
-use Rattle.live.proofs.respond.Statement.{statement}
-use Rattle.live.proofs.respond.Tie as tie
+use Rattle.live_bytes.proofs.respond.Statement.{statement}
+use Rattle.live_bytes.proofs.respond.Tie as tie
 
 returns : tie.Need-returns
 returns c = unfit-called _ _ _ _ (λ f. c .if1 .taken (f .letters))

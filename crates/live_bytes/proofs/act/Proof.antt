@@ -1,10 +1,11 @@
 -- Each arm is the call of its number, and its reply is written. After 0 to 8 only larger numbers are left, which are not a call.
 use mathlib.Core.Path.{sym, _∙_}
 use Rattle.wire.proofs.CallLaws.{callOf-none}
-use Rattle.live.proofs.CallLaws.{nothing-called, written-called, is-begin, is-add, is-drop, is-clear, is-close, is-query, is-row, is-reading, is-piece}
+use Rattle.live.proofs.CallLaws.{nothing-called, written-called}
+use Rattle.live_bytes.proofs.ByteLaws.{is-begin, is-add, is-drop, is-clear, is-close, is-query, is-row, is-reading, is-piece}
 use borrow.Author.Needs.{needs}
-use Rattle.live.proofs.act.Statement.{statement}
-use Rattle.live.proofs.act.Tie as tie
+use Rattle.live_bytes.proofs.act.Statement.{statement}
+use Rattle.live_bytes.proofs.act.Tie as tie
 
 point-requires : tie.Need-point-requires
 point-requires c κs = search needs

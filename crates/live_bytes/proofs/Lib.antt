@@ -1,0 +1,2 @@
+-- Bytes as a call, and the call of each number.
+pub mod ByteLaws
