@@ -22,8 +22,8 @@ use Rattle.convexity.proofs.Extreme.{cornerPlace-lt, from-w-of}
 use Rattle.convexity.proofs.Clockwise.{corner-backward, from-w-form, simple-form, length-backward, leaving-west}
 use Rattle.convexity.proofs.Corners.{corner-form}
 use Rattle.convexity.proofs.Cuts.{ahead-on}
-use Rattle.survey.specs.declared.Corners.{Corners}
-use Rattle.survey.specs.Survey.{cornersOf}
+use Rattle.survey_walk.specs.declared.Corners.{Corners}
+use Rattle.survey_walk.specs.Corners.{cornersOf}
 use Rattle.cut_places.specs.parts.Cuts.{areBelow, isForward, placeRead, cutsAlong, cutPlacesOf, CutsOf}
 use Rattle.cut_places.proofs.CutLaws.{ahead-round, cuts-along}
 

@@ -1,6 +1,6 @@
 // Which way the letters are read, and the five cut places of the border (contract 2.2 and 3.3), from the places of W, N, E and S.
 use chart::LONGEST;
-use survey::Corners;
+use survey_walk::Corners;
 ghost use Prim.Native.Nat.{_≤_};
 ghost use mathlib.Core.Path.{_≡_};
 ghost use Rattle.convexity.specs.Cut.{ahead as aheadOf};

@@ -20,8 +20,9 @@ use Rattle.lattice.specs.Refusals.{Simple}
 use Rattle.lattice.specs.Walked.{Walked}
 use Rattle.lattice.proofs.WalkLaws.{walked, outline-eq}
 use Rattle.survey.specs.declared.Surveyed.the-variants.{Passed, Refused as Stopped}
-use Rattle.survey.specs.declared.Corners.{Corners}
-use Rattle.survey.specs.Survey.{cornersOf, surveyOf}
+use Rattle.survey_walk.specs.declared.Corners.{Corners}
+use Rattle.survey_walk.specs.Corners.{cornersOf}
+use Rattle.survey.specs.Survey.{surveyOf}
 use Rattle.convexity.specs.Cut.{cornerPlace, westPlace, fromW, clockwise}
 use Rattle.convexity.specs.Clockwise.{reversed, clockwiseForm, border, sentFrom, placeSent}
 use Rattle.convexity.specs.Pieces.{edges}

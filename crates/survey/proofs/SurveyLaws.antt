@@ -12,11 +12,12 @@ use Rattle.chart.specs.declared.Refusal.the-variants.{Count, Start, Letter, Lea
 use Rattle.chart.specs.Outline.{Outline}
 use Rattle.lattice.specs.Chart.{walk, size}
 use Rattle.survey.specs.declared.Surveyed.the-variants.{Passed, Refused as Stopped}
-use Rattle.survey.specs.declared.Corners.{Corners}
-use Rattle.survey.specs.parts.Numbers.{colNumber}
-use Rattle.survey.specs.Survey.{cornersOf, surveyOf}
-use Rattle.survey.specs.parts.Walks.{Begun}
-use Rattle.survey.proofs.WalkLaws.{away-unclosed}
+use Rattle.survey_walk.specs.declared.Corners.{Corners}
+use Rattle.survey_walk.specs.parts.Numbers.{colNumber}
+use Rattle.survey_walk.specs.Corners.{cornersOf}
+use Rattle.survey.specs.Survey.{surveyOf}
+use Rattle.survey_walk.specs.parts.Walks.{Begun}
+use Rattle.survey_walk.proofs.WalkLaws.{away-unclosed}
 
 -- A place below the bound, and one at it
 found : {i p n : ℕ} → i ≡ p → i < n → ltb p n ≡ true

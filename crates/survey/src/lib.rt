@@ -1,25 +1,14 @@
 // Refusals 1 to 6: whether the letters are a simple closed walk on the chart; and its W, N, E and S.
-use crate::walk::Walk;
 use chart::Point;
 use chart::Refusal;
+use survey_walk::Corners;
+use survey_walk::Walk;
 ghost use mathlib.Core.Path.{_≡_};
 ghost use Rattle.chart.specs.Outline.{outline};
 ghost use Rattle.survey.specs.Survey.{surveyOf};
-ghost use Rattle.survey.specs.parts.Walks.{Begun, MetAt};
+ghost use Rattle.survey_walk.specs.parts.Walks.{Begun, MetAt};
 
 pub mod checks;
-mod walk;
-
-// The places of the letters that leave W, N, E and S, the corner W, and the rows of S and N.
-pub struct Corners {
-    pub west: usize,
-    pub north: usize,
-    pub east: usize,
-    pub south: usize,
-    pub corner: Point,
-    pub bottom: u16,
-    pub top: u16,
-}
 
 // The result of refusals 1 to 6.
 pub enum Surveyed {
@@ -32,14 +21,14 @@ fn touched(start: Point, letters: &[u8], place: usize, number: u32) -> Surveyed
     requires { ⌜ Begun (outline start (now letters)) × MetAt (outline start (now letters)) place number ⌝ }
     ensures { λ r. ⌜ r ≡ surveyOf (outline start (now (letters .entry))) ⌝ }
 {
-    let rest = walk::walk_on(letters, place, number);
+    let rest = survey_walk::walk_on(letters, place, number);
     let leaving = rest.leaves;
     if leaving < letters.len() {
         return Surveyed::Refused(Refusal::Leaves {
             place: leaving as u16,
         });
     }
-    if walk::ends_away(start, rest.end) {
+    if survey_walk::ends_away(start, rest.end) {
         return Surveyed::Refused(Refusal::Unclosed);
     }
     Surveyed::Refused(Refusal::Touches {
@@ -52,14 +41,14 @@ fn marked(start: Point, letters: &[u8]) -> Surveyed
     requires { ⌜ Begun (outline start (now letters)) ⌝ }
     ensures { λ r. ⌜ r ≡ surveyOf (outline start (now (letters .entry))) ⌝ }
 {
-    let walk = walk::along(start, letters);
+    let walk = survey_walk::along(start, letters);
     match walk {
         Walk::Leaves { place } => Surveyed::Refused(Refusal::Leaves {
             place: place as u16,
         }),
         Walk::Meets { place, number } => touched(start, letters, place, number),
         Walk::Round { end, corners } => {
-            if walk::ends_away(start, end) {
+            if survey_walk::ends_away(start, end) {
                 return Surveyed::Refused(Refusal::Unclosed);
             }
             Surveyed::Passed(corners)
@@ -72,13 +61,13 @@ fn walked(start: Point, letters: &[u8]) -> Surveyed
     requires { ⌜ Begun (outline start (now letters)) ⌝ }
     ensures { λ r. ⌜ r ≡ surveyOf (outline start (now (letters .entry))) ⌝ }
 {
-    if walk::seems_open(letters) {
-        let whole = walk::walk_on(letters, 0, walk::col_number(start));
+    if survey_walk::seems_open(letters) {
+        let whole = survey_walk::walk_on(letters, 0, survey_walk::col_number(start));
         let left = whole.leaves;
         if left < letters.len() {
             return Surveyed::Refused(Refusal::Leaves { place: left as u16 });
         }
-        if walk::ends_away(start, whole.end) {
+        if survey_walk::ends_away(start, whole.end) {
             return Surveyed::Refused(Refusal::Unclosed);
         }
     }

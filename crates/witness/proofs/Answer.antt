@@ -15,7 +15,7 @@ use Rattle.chart.specs.Outline.{Outline}
 use Rattle.lattice.specs.Refusals.{Simple}
 use Rattle.survey.specs.declared.Surveyed.{Surveyed}
 use Rattle.survey.specs.declared.Surveyed.the-variants.{Passed, Refused as Stopped}
-use Rattle.survey.specs.declared.Corners.{Corners}
+use Rattle.survey_walk.specs.declared.Corners.{Corners}
 use Rattle.survey.specs.Survey.{surveyOf}
 use Rattle.survey.proofs.SurveyLaws.{survey-passed, survey-simple}
 use Rattle.witness.specs.declared.Witnessed.{Witnessed}

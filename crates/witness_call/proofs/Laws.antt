@@ -9,7 +9,7 @@ use Rattle.chart.specs.declared.Refusal.{Refusal}
 use Rattle.chart.specs.declared.Refusal.the-variants.{List as BadList}
 use Rattle.chart.specs.Outline.{Outline}
 use Rattle.survey.specs.declared.Surveyed.the-variants.{Passed, Refused as Stopped}
-use Rattle.survey.specs.declared.Corners.{Corners}
+use Rattle.survey_walk.specs.declared.Corners.{Corners}
 use Rattle.survey.specs.Survey.{surveyOf}
 use Rattle.witness.specs.declared.Witnessed.{Witnessed}
 use Rattle.witness.specs.declared.Witnessed.the-variants.{Found, None, Refused}

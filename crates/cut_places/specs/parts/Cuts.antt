@@ -9,7 +9,7 @@ use Rattle.chart.specs.Limits.{longest}
 use Rattle.chart.specs.Outline.{Outline}
 use Rattle.convexity.specs.Cut.{ahead, cut, fromW, clockwise}
 use Rattle.convexity.specs.Clockwise.{border}
-use Rattle.survey.specs.declared.Corners.{Corners}
+use Rattle.survey_walk.specs.declared.Corners.{Corners}
 use Rattle.cut_places.specs.declared.Cuts.{Cuts}
 
 -- All four are places of a list of n letters

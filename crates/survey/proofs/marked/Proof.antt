@@ -2,8 +2,8 @@
 use native.Mathlib.Omega.{arith}
 use mathlib.Core.Path.{sym, _∙_}
 use borrow.Author.Needs.{needs}
-use Rattle.survey.specs.parts.Walks.{WalkedAs}
-use Rattle.survey.proofs.CheckLaws.{counted-short}
+use Rattle.survey_walk.specs.parts.Walks.{WalkedAs}
+use Rattle.survey_walk.proofs.CheckLaws.{counted-short}
 use Rattle.survey.proofs.SurveyLaws.{walk-leaves, walk-unclosed, walk-passed}
 use Rattle.survey.proofs.marked.Statement.{statement}
 use Rattle.survey.proofs.marked.Tie as tie

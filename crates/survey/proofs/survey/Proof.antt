@@ -4,7 +4,7 @@ use mathlib.Core.Path.{_≡_, sym, _∙_}
 use mathlib.Core.Bool.{false}
 use borrow.Author.Needs.{needs}
 use Rattle.lattice.specs.Refusals.{badCount, badStart}
-use Rattle.survey.proofs.CheckLaws.{counted-short}
+use Rattle.survey_walk.proofs.CheckLaws.{counted-short}
 use Rattle.survey.proofs.SurveyLaws.{none-found, survey-count, survey-start, survey-letter-at}
 use Rattle.survey.proofs.survey.Statement.{statement}
 use Rattle.survey.proofs.survey.Tie as tie

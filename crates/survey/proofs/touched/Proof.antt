@@ -7,8 +7,8 @@ use borrow.Author.Needs.{needs}
 use Rattle.chart.specs.Limits.{longest}
 use Rattle.chart.specs.Outline.{outline}
 use Rattle.lattice.specs.Refusals.{Stays}
-use Rattle.survey.specs.parts.Walks.{RestOf}
-use Rattle.survey.proofs.CheckLaws.{counted-short}
+use Rattle.survey_walk.specs.parts.Walks.{RestOf}
+use Rattle.survey_walk.proofs.CheckLaws.{counted-short}
 use Rattle.survey.proofs.SurveyLaws.{none-found, walk-leaves, walk-unclosed, walk-touches}
 use Rattle.survey.proofs.touched.Statement.{statement}
 use Rattle.survey.proofs.touched.Tie as tie

@@ -5,9 +5,9 @@ use borrow.Author.Needs.{needs}
 use Rattle.chart.specs.Outline.{outline}
 use Rattle.lattice.specs.Refusals.{Stays}
 use Rattle.lattice.proofs.Staying.{start-on-chart}
-use Rattle.survey.specs.parts.Walks.{RestOf}
-use Rattle.survey.proofs.CheckLaws.{counted-short}
-use Rattle.survey.proofs.WalkLaws.{out-start}
+use Rattle.survey_walk.specs.parts.Walks.{RestOf}
+use Rattle.survey_walk.proofs.CheckLaws.{counted-short}
+use Rattle.survey_walk.proofs.WalkLaws.{out-start}
 use Rattle.survey.proofs.SurveyLaws.{none-found, walk-leaves, walk-unclosed}
 use Rattle.survey.proofs.walked.Statement.{statement}
 use Rattle.survey.proofs.walked.Tie as tie

@@ -11,7 +11,7 @@ use borrow.Author.Needs.{needs}
 use Rattle.base.specs.Below.{first}
 use Rattle.base.proofs.BelowLaws.{first-step, first-stop}
 use Rattle.lattice.specs.Refusals.{letterPlace}
-use Rattle.survey.proofs.CheckLaws.{first-zero}
+use Rattle.survey_walk.proofs.CheckLaws.{first-zero}
 use Rattle.survey.proofs.checks.first_above.Statement.{statement}
 use Rattle.survey.proofs.checks.first_above.Tie as tie
 

@@ -11,7 +11,7 @@ use Rattle.base.specs.Below.{first}
 use Rattle.base.proofs.BelowLaws.{first-step}
 use Rattle.lattice.specs.Refusals.{letterPlace}
 use Rattle.lattice.proofs.WalkLaws.{or-left, or-right}
-use Rattle.survey.proofs.CheckLaws.{first-zero}
+use Rattle.survey_walk.proofs.CheckLaws.{first-zero}
 use Rattle.survey.proofs.checks.some_above.Statement.{statement}
 use Rattle.survey.proofs.checks.some_above.Tie as tie
 

@@ -3,10 +3,10 @@ use Prim.Native.Nat.{_-_}
 use mathlib.Core.Path.{sym, ap, _∙_}
 use lib.ListN.{length}
 use borrow.Author.Needs.{needs}
-use Rattle.survey.specs.parts.Numbers.{offChart}
-use Rattle.survey.proofs.WalkLaws.{Further, further-next, further-leaves, further-end}
-use Rattle.survey.proofs.walk.walk_on.Statement.{statement}
-use Rattle.survey.proofs.walk.walk_on.Tie as tie
+use Rattle.survey_walk.specs.parts.Numbers.{offChart}
+use Rattle.survey_walk.proofs.WalkLaws.{Further, further-next, further-leaves, further-end}
+use Rattle.survey_walk.proofs.walk_on.Statement.{statement}
+use Rattle.survey_walk.proofs.walk_on.Tie as tie
 
 abbrev Inv-loop : tie.InvT-loop
 Inv-loop w from number by-col₀ i₀ by-col i = Further w i₀ by-col₀ i by-col

@@ -3,9 +3,9 @@ use Prim.Native.Nat.{_%_}
 use native.Mathlib.Omega.{arith}
 use mathlib.Core.Path.{refl}
 use Rattle.lattice.proofs.Letters.{clause, last-clause}
-use Rattle.survey.specs.parts.Numbers.{colStride}
-use Rattle.survey.proofs.walk.col_stride.Statement.{statement}
-use Rattle.survey.proofs.walk.col_stride.Tie as tie
+use Rattle.survey_walk.specs.parts.Numbers.{colStride}
+use Rattle.survey_walk.proofs.col_stride.Statement.{statement}
+use Rattle.survey_walk.proofs.col_stride.Tie as tie
 
 returns : tie.Need-returns
 returns c = clause colStride 0 (c .before .args .letter % 4) (omega arith)

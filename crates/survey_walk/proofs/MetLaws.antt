@@ -15,9 +15,9 @@ use Rattle.lattice.specs.Refusals.{meets, touchingPlace}
 use Rattle.lattice.proofs.WalkLaws.{same-point-self, not-same-point, absent-first, OnChart}
 use Rattle.flags.specs.parts.Flags.{noNumbers, isSet, withNumber}
 use Rattle.flags.proofs.FlagLaws.{none-length, none-set, with-length, with-here, with-other}
-use Rattle.survey.specs.parts.Numbers.{rowNumber}
-use Rattle.survey.proofs.CheckLaws.{first-zero}
-use Rattle.survey.proofs.NumberLaws.{row-injective}
+use Rattle.survey_walk.specs.parts.Numbers.{rowNumber}
+use Rattle.survey_walk.proofs.CheckLaws.{first-zero}
+use Rattle.survey_walk.proofs.NumberLaws.{row-injective}
 
 module _ (o : Outline) where
   -- The number in the set of the corner at a place

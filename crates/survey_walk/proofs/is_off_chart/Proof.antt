@@ -1,8 +1,8 @@
 -- The two tests are those of the definition.
 use mathlib.Core.Path.{refl}
-use Rattle.survey.specs.parts.Numbers.{offChart}
-use Rattle.survey.proofs.walk.is_off_chart.Statement.{statement}
-use Rattle.survey.proofs.walk.is_off_chart.Tie as tie
+use Rattle.survey_walk.specs.parts.Numbers.{offChart}
+use Rattle.survey_walk.proofs.is_off_chart.Statement.{statement}
+use Rattle.survey_walk.proofs.is_off_chart.Tie as tie
 
 returns : tie.Need-returns
 unfolding offChart

@@ -9,11 +9,11 @@ use borrow.Author.Needs.{needs}
 use Rattle.chart.specs.declared.Point.{Point}
 use Rattle.chart.specs.Outline.{outline}
 use Rattle.lattice.proofs.Staying.{start-on-chart}
-use Rattle.survey.specs.parts.Numbers.{colNumber, rowNumber, offChart}
-use Rattle.survey.specs.parts.Walks.{Begun, WalkedAs}
-use Rattle.survey.proofs.AlongLaws.{Along, along-start, along-meets, along-leaves, along-next, along-round}
-use Rattle.survey.proofs.walk.along.Statement.{statement}
-use Rattle.survey.proofs.walk.along.Tie as tie
+use Rattle.survey_walk.specs.parts.Numbers.{colNumber, rowNumber, offChart}
+use Rattle.survey_walk.specs.parts.Walks.{Begun, WalkedAs}
+use Rattle.survey_walk.proofs.AlongLaws.{Along, along-start, along-meets, along-leaves, along-next, along-round}
+use Rattle.survey_walk.proofs.along.Statement.{statement}
+use Rattle.survey_walk.proofs.along.Tie as tie
 
 abbrev Inv-loop : tie.InvT-loop
 Inv-loop w met₀ by-col₀ by-row₀ west₀ north₀ east₀ south₀ i₀ met by-col by-row west north east south i =

@@ -18,10 +18,10 @@ use Rattle.lattice.specs.Chart.{samePoint, step, leaves, walk, cornerAt, size, 
 use Rattle.lattice.specs.Refusals.{letterPlace, leavingPlace, Stays, unclosed}
 use Rattle.lattice.proofs.WalkLaws.{OnChart, point-eq, same-point-self, not-same-point, first-absent, step-on-chart, corner-zero, corner-suc, corner-all, corners-on-chart}
 use Rattle.lattice.proofs.Staying.{start-on-chart, stays-at}
-use Rattle.survey.specs.parts.Numbers.{colNumber, colStride, offChart, rowNumber, rowStride}
-use Rattle.survey.specs.parts.Walks.{Begun, Out, RestOf}
-use Rattle.survey.proofs.CheckLaws.{first-zero, counted-short}
-use Rattle.survey.proofs.NumberLaws.{col-stays, col-next, col-leaves, row-next}
+use Rattle.survey_walk.specs.parts.Numbers.{colNumber, colStride, offChart, rowNumber, rowStride}
+use Rattle.survey_walk.specs.parts.Walks.{Begun, Out, RestOf}
+use Rattle.survey_walk.proofs.CheckLaws.{first-zero, counted-short}
+use Rattle.survey_walk.proofs.NumberLaws.{col-stays, col-next, col-leaves, row-next}
 
 letters-small : (o : Outline) → Begun o → (i : ℕ) → i < size o → letterAt o i < 4
 unfolding letterPlace

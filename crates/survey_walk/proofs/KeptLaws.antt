@@ -12,8 +12,8 @@ use Rattle.lattice.proofs.WalkLaws.{OnChart, point-eq}
 use Rattle.convexity.specs.Frame.{frameOf}
 use Rattle.convexity.specs.Cut.{before, least, cornerPlace}
 use Rattle.convexity.proofs.Extreme.{least-lt}
-use Rattle.survey.specs.parts.Numbers.{colNumber, rowNumber, lowerOf, higherOf, cornerRead, rowOf}
-use Rattle.survey.proofs.NumberLaws.{Visits, LeastFirst, GreatestFirst}
+use Rattle.survey_walk.specs.parts.Numbers.{colNumber, rowNumber, lowerOf, higherOf, cornerRead, rowOf}
+use Rattle.survey_walk.proofs.NumberLaws.{Visits, LeastFirst, GreatestFirst}
 
 module _ (o : Outline) (k : ℕ) where
   -- The place of the first corner among those before place i

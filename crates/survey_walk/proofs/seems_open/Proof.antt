@@ -2,8 +2,8 @@
 use Prim.Native.Nat.{_≤_, _-_}
 use lib.ListN.{length}
 use borrow.Author.Needs.{needs}
-use Rattle.survey.proofs.walk.seems_open.Statement.{statement}
-use Rattle.survey.proofs.walk.seems_open.Tie as tie
+use Rattle.survey_walk.proofs.seems_open.Statement.{statement}
+use Rattle.survey_walk.proofs.seems_open.Tie as tie
 
 abbrev Inv-loop : tie.InvT-loop
 Inv-loop w cols₀ rows₀ i₀ cols rows i = i ≤ length w

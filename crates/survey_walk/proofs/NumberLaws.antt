@@ -14,7 +14,7 @@ use Rattle.lattice.specs.Chart.{step, leaves}
 use Rattle.lattice.proofs.WalkLaws.{point-eq, OnChart}
 use Rattle.convexity.specs.Frame.{frameOf, along}
 use Rattle.convexity.specs.Cut.{before}
-use Rattle.survey.specs.parts.Numbers.{colNumber, colStride, offChart, rowNumber, rowStride}
+use Rattle.survey_walk.specs.parts.Numbers.{colNumber, colStride, offChart, rowNumber, rowStride}
 
 -- ---- one step
 

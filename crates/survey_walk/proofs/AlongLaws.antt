@@ -12,14 +12,14 @@ use Rattle.lattice.specs.Refusals.{leavingPlace}
 use Rattle.lattice.proofs.WalkLaws.{OnChart, corner-zero}
 use Rattle.convexity.specs.Cut.{cornerPlace}
 use Rattle.flags.specs.parts.Flags.{noNumbers, isSet, withNumber}
-use Rattle.survey.specs.declared.Corners.{Corners}
-use Rattle.survey.specs.parts.Numbers.{colNumber, colStride, offChart, rowNumber, rowStride, lowerOf, higherOf, cornersFrom}
-use Rattle.survey.specs.Survey.{cornersOf}
-use Rattle.survey.specs.parts.Walks.{Begun, Out, MetAt, AllRound}
-use Rattle.survey.proofs.NumberLaws.{Visits, west-least, north-least, east-greatest, south-greatest}
-use Rattle.survey.proofs.WalkLaws.{size-small, reached-on-chart, out-start, out-next, out-leaves, rows-next, out-stays, out-number}
-use Rattle.survey.proofs.MetLaws.{Passed, passed-start, met-again, new, passed-next, passed-end}
-use Rattle.survey.proofs.KeptLaws.{firstOf, first-le, place-le, Kept, kept-start, kept-lower, kept-higher, kept-end, col-place, col-corner, row-place, row-row}
+use Rattle.survey_walk.specs.declared.Corners.{Corners}
+use Rattle.survey_walk.specs.parts.Numbers.{colNumber, colStride, offChart, rowNumber, rowStride, lowerOf, higherOf, cornersFrom}
+use Rattle.survey_walk.specs.Corners.{cornersOf}
+use Rattle.survey_walk.specs.parts.Walks.{Begun, Out, MetAt, AllRound}
+use Rattle.survey_walk.proofs.NumberLaws.{Visits, west-least, north-least, east-greatest, south-greatest}
+use Rattle.survey_walk.proofs.WalkLaws.{size-small, reached-on-chart, out-start, out-next, out-leaves, rows-next, out-stays, out-number}
+use Rattle.survey_walk.proofs.MetLaws.{Passed, passed-start, met-again, new, passed-next, passed-end}
+use Rattle.survey_walk.proofs.KeptLaws.{firstOf, first-le, place-le, Kept, kept-start, kept-lower, kept-higher, kept-end, col-place, col-corner, row-place, row-row}
 
 pub record Along (o : Outline) (i by-col by-row : ℕ) (met : List ℕ) (w n e s : ℕ) : Type 0 where
   pub out : Out o i by-col

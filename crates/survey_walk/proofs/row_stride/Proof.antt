@@ -3,9 +3,9 @@ use Prim.Native.Nat.{_%_}
 use native.Mathlib.Omega.{arith}
 use mathlib.Core.Path.{refl}
 use Rattle.lattice.proofs.Letters.{clause, last-clause}
-use Rattle.survey.specs.parts.Numbers.{rowStride}
-use Rattle.survey.proofs.walk.row_stride.Statement.{statement}
-use Rattle.survey.proofs.walk.row_stride.Tie as tie
+use Rattle.survey_walk.specs.parts.Numbers.{rowStride}
+use Rattle.survey_walk.proofs.row_stride.Statement.{statement}
+use Rattle.survey_walk.proofs.row_stride.Tie as tie
 
 returns : tie.Need-returns
 returns c = clause rowStride 0 (c .before .args .letter % 4) (omega arith)

@@ -1,8 +1,8 @@
 -- The test is that of the definition.
 use borrow.Author.Tests.{lt-ltb, le-ltb}
-use Rattle.survey.specs.parts.Numbers.{higherOf}
-use Rattle.survey.proofs.walk.higher.Statement.{statement}
-use Rattle.survey.proofs.walk.higher.Tie as tie
+use Rattle.survey_walk.specs.parts.Numbers.{higherOf}
+use Rattle.survey_walk.proofs.higher.Statement.{statement}
+use Rattle.survey_walk.proofs.higher.Tie as tie
 
 returns : tie.Need-returns
 unfolding higherOf

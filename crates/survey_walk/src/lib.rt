@@ -1,6 +1,5 @@
 // One walk along the letters as sent, for refusals 4, 5 and 6 and for W, N, E and S. The current corner is two numbers, by columns and by
 // rows, with its place in both. The corners met are a set of numbers. The least and the greatest number of either kind are kept.
-use crate::Corners;
 use chart::Point;
 use chart::SIDE;
 ghost use Prim.Native.Nat.{_*_, _+_, _/_, _%_, _≤_};
@@ -10,8 +9,19 @@ ghost use lib.Dec.{eqb};
 ghost use Rattle.chart.specs.Limits.{side};
 ghost use Rattle.chart.specs.declared.Point.{Point};
 ghost use Rattle.chart.specs.Outline.{outline};
-ghost use Rattle.survey.specs.parts.Numbers.{colNumber, colStride, offChart, rowNumber, rowStride, lowerOf, higherOf, cornersFrom};
-ghost use Rattle.survey.specs.parts.Walks.{Begun, Out, RestOf, WalkedAs};
+ghost use Rattle.survey_walk.specs.parts.Numbers.{colNumber, colStride, offChart, rowNumber, rowStride, lowerOf, higherOf, cornersFrom};
+ghost use Rattle.survey_walk.specs.parts.Walks.{Begun, Out, RestOf, WalkedAs};
+
+// The places of the letters that leave W, N, E and S, the corner W, and the rows of S and N.
+pub struct Corners {
+    pub west: usize,
+    pub north: usize,
+    pub east: usize,
+    pub south: usize,
+    pub corner: Point,
+    pub bottom: u16,
+    pub top: u16,
+}
 
 // A number by columns is column, row and place: ten bits for the place, ten for the row.
 const ROW_UNIT: u32 = 1024;
@@ -48,7 +58,7 @@ const ROW_LEFT: u32 = 4294967295 - CORNER_UNIT + 2;
 const ROW_DOWN: u32 = LEVEL_UNIT + 1;
 
 // The numbers of the corner at which a walk begins.
-pub(crate) fn col_number(p: Point) -> u32
+pub fn col_number(p: Point) -> u32
     requires { ⌜ (p .col ≤ side) × (p .row ≤ side) ⌝ }
     ensures { λ r. ⌜ r ≡ colNumber p 0 ⌝ }
 {
@@ -124,7 +134,7 @@ fn corners_from(west: u32, north: u32, east: u32, south: u32) -> Corners
 }
 
 // How a walk ends.
-pub(crate) enum Walk {
+pub enum Walk {
     // The letter at this place leaves the chart.
     Leaves { place: usize },
     // The corner at this place, with this number, was met before: the rest is not walked.
@@ -134,7 +144,7 @@ pub(crate) enum Walk {
 }
 
 // Refusals 4 and 6, the end of the walk for 5, and the corners, if 1, 2 and 3 do not apply.
-pub(crate) fn along(s: Point, w: &[u8]) -> Walk
+pub fn along(s: Point, w: &[u8]) -> Walk
     requires { ⌜ Begun (outline s (now w)) ⌝ }
     ensures { λ r. ⌜ WalkedAs (outline s (now (w .entry))) r ⌝ }
 {
@@ -172,13 +182,13 @@ pub(crate) fn along(s: Point, w: &[u8]) -> Walk
 }
 
 // The place of the first letter that leaves the chart, or the count of letters; and then the number of the last corner.
-pub(crate) struct Rest {
-    pub(crate) leaves: usize,
-    pub(crate) end: u32,
+pub struct Rest {
+    pub leaves: usize,
+    pub end: u32,
 }
 
 // Refusal 4 and the end of the walk, without marks, from the corner at a place on, with its number.
-pub(crate) fn walk_on(w: &[u8], from: usize, number: u32) -> Rest
+pub fn walk_on(w: &[u8], from: usize, number: u32) -> Rest
     ensures { λ r. ⌜ ((s : Point) → Begun (outline s (now (w .entry))) → Out (outline s (now (w .entry))) from number → RestOf (outline s (now (w .entry))) r) ⌝ }
 {
     let mut by_col = number;
@@ -200,7 +210,7 @@ pub(crate) fn walk_on(w: &[u8], from: usize, number: u32) -> Rest
 }
 
 // 5. The walk ends at another corner than its start.
-pub(crate) fn ends_away(s: Point, end: u32) -> bool
+pub fn ends_away(s: Point, end: u32) -> bool
     ensures { λ r. ⌜ r ≡ not (eqb (end / 1024) (s .col * 1024 + s .row)) ⌝ }
 {
     end / ROW_UNIT != (s.col as u32) * ROWS + (s.row as u32)
@@ -229,7 +239,7 @@ fn row_step(letter: u8) -> u8 {
 
 // Whether the steps of the letters do not add up to zero, modulo 256. This is a hint: it only decides which walk comes first, so nothing is
 // promised. The loop is vectorised.
-pub(crate) fn seems_open(w: &[u8]) -> bool {
+pub fn seems_open(w: &[u8]) -> bool {
     let mut cols = 0u8;
     let mut rows = 0u8;
     let mut i = 0;

@@ -7,12 +7,12 @@ use Rattle.base.specs.Below.{first}
 use Rattle.chart.specs.Outline.{Outline}
 use Rattle.lattice.specs.Chart.{leaves, walk, cornerAt, size, letterAt}
 use Rattle.lattice.specs.Refusals.{badCount, badStart, letterPlace, leavingPlace, Stays, touchingPlace}
-use Rattle.survey.specs.declared.Corners.{Corners}
-use Rattle.survey.specs.declared.walk.Rest.{Rest}
-use Rattle.survey.specs.declared.walk.Walk.{Walk}
-use Rattle.survey.specs.declared.walk.Walk.the-variants.{Leaves, Meets, Round}
-use Rattle.survey.specs.parts.Numbers.{colNumber}
-use Rattle.survey.specs.Survey.{cornersOf}
+use Rattle.survey_walk.specs.declared.Corners.{Corners}
+use Rattle.survey_walk.specs.declared.Rest.{Rest}
+use Rattle.survey_walk.specs.declared.Walk.{Walk}
+use Rattle.survey_walk.specs.declared.Walk.the-variants.{Leaves, Meets, Round}
+use Rattle.survey_walk.specs.parts.Numbers.{colNumber}
+use Rattle.survey_walk.specs.Corners.{cornersOf}
 
 -- The count is right, the start is a corner of the chart, and no letter is above 3
 pub record Begun (o : Outline) : Type 0 where

@@ -1,8 +1,8 @@
 -- The test is that of the definition.
 use borrow.Author.Tests.{lt-ltb, le-ltb}
-use Rattle.survey.specs.parts.Numbers.{lowerOf}
-use Rattle.survey.proofs.walk.lower.Statement.{statement}
-use Rattle.survey.proofs.walk.lower.Tie as tie
+use Rattle.survey_walk.specs.parts.Numbers.{lowerOf}
+use Rattle.survey_walk.proofs.lower.Statement.{statement}
+use Rattle.survey_walk.proofs.lower.Tie as tie
 
 returns : tie.Need-returns
 unfolding lowerOf

@@ -5,7 +5,7 @@ use mathlib.Core.Bool.{Bool, cond, _||_}
 use lib.Dec.{ltb}
 use Rattle.chart.specs.Limits.{side}
 use Rattle.chart.specs.declared.Point.{Point}
-use Rattle.survey.specs.declared.Corners.{Corners}
+use Rattle.survey_walk.specs.declared.Corners.{Corners}
 
 -- By columns and then by rows, ten bits for the row and for the place. W has the least number, E the greatest
 abbrev pub colNumber : Point → ℕ → ℕ
