@@ -1,4 +1,5 @@
 // A script in the making: calls of eleven bytes each.
+use libc::STDOUT_FILENO;
 use wire::BYTES;
 
 pub(crate) const SIZE: usize = 45056;
@@ -12,22 +13,17 @@ pub(crate) struct Script {
 }
 
 // The bytes that a call does not name.
-const LAST_TWO: u32 = 0x0909_0000;
+const LAST_TWO: u64 = 0x0909_0000;
 
-const LAST_THREE: u32 = 0x0909_0900;
+const LAST_THREE: u64 = 0x0909_0900;
 
-fn low(n: u32) -> u8 {
+fn low(n: u64) -> u8 {
     (n % 256) as u8
 }
 
 // A 16-bit number, followed by bytes that the call does not name.
-fn short(n: u16) -> u32 {
-    LAST_TWO + n as u32
-}
-
-// The letter that a digit stands for.
-fn letter(digit: u8) -> u8 {
-    if digit < b'0' { 0 } else { digit - b'0' }
+fn short(n: u64) -> u64 {
+    LAST_TWO + n % 65536
 }
 
 impl Script {
@@ -41,17 +37,17 @@ impl Script {
     }
 
     // The next calls are of this party, at this place.
-    pub(crate) fn at(mut self, party: u8, place: u8) -> Self {
-        self.party = party;
-        self.place = place;
+    pub(crate) fn at(mut self, party: u64, place: u64) -> Self {
+        self.party = low(party);
+        self.place = low(place);
         self
     }
 
-    // Appends a call if there is space for it.
-    fn put(mut self, number: u8, x: u32, y: u32) -> Self {
+    // Appends a call by its number and two 32-bit numbers. If there is no space for it, a line says so.
+    pub(crate) fn put(mut self, number: u64, x: u64, y: u64) -> Self {
         let at = self.end;
         if at <= SIZE - BYTES {
-            self.bytes[at] = number;
+            self.bytes[at] = low(number);
             self.bytes[at + 1] = self.party;
             self.bytes[at + 2] = self.place;
             self.bytes[at + 3] = low(x);
@@ -63,69 +59,28 @@ impl Script {
             self.bytes[at + 9] = low(y / 65536);
             self.bytes[at + 10] = low(y / 16777216);
             self.end = at + BYTES;
+        } else {
+            io::write_all(STDOUT_FILENO, b"no space for a call\n");
         }
         self
     }
 
-    pub(crate) fn begin(self, col: u16, row: u16) -> Self {
-        self.put(0, short(col), short(row))
+    // Appends a call by its number and two 16-bit numbers.
+    pub(crate) fn put_short(self, number: u64, x: u64, y: u64) -> Self {
+        self.put(number, short(x), short(y))
     }
 
-    pub(crate) fn add(self, a: u8) -> Self {
-        self.put(1, LAST_THREE + a as u32, LAST_TWO)
-    }
-
-    pub(crate) fn drop(self) -> Self {
-        self.put(2, LAST_TWO, LAST_TWO)
-    }
-
-    pub(crate) fn clear(self) -> Self {
-        self.put(3, LAST_TWO, LAST_TWO)
-    }
-
-    pub(crate) fn close(self) -> Self {
-        self.put(4, LAST_TWO, LAST_TWO)
-    }
-
-    pub(crate) fn query(self, col: u16, row: u16) -> Self {
-        self.put(5, short(col), short(row))
-    }
-
-    pub(crate) fn row(self, row: u16) -> Self {
-        self.put(6, short(row), LAST_TWO)
-    }
-
-    // By the bits of two floats.
-    pub(crate) fn reading(self, angle: u32, load: u32) -> Self {
-        self.put(7, angle, load)
-    }
-
-    pub(crate) fn piece(self, position: u16) -> Self {
-        self.put(8, short(position), LAST_TWO)
-    }
-
-    // The letters of a word of digits.
-    pub(crate) fn letters(mut self, word: &[u8]) -> Self {
-        let mut i = 0;
-        while i < word.len() {
-            self = self.add(letter(word[i]));
-            i += 1;
-        }
-        self
+    pub(crate) fn add(self, letter: u8) -> Self {
+        self.put(1, LAST_THREE + letter as u64, LAST_TWO)
     }
 
     // One letter n times.
-    pub(crate) fn times(mut self, n: usize, a: u8) -> Self {
+    pub(crate) fn times(mut self, n: u64, letter: u64) -> Self {
         let mut i = 0;
         while i < n {
-            self = self.add(a);
+            self = self.add(low(letter));
             i += 1;
         }
         self
-    }
-
-    // A whole draft, and a close.
-    pub(crate) fn outline(self, col: u16, row: u16, word: &[u8]) -> Self {
-        self.begin(col, row).letters(word).close()
     }
 }

@@ -5,13 +5,16 @@ use Rattle.test_holder.proofs.build.Script.times.Statement.{statement}
 use Rattle.test_holder.proofs.build.Script.times.Tie as tie
 
 abbrev Inv-loop : tie.InvT-loop
-Inv-loop self₀ n a i₀ self i = i ≤ n
+Inv-loop self₀ n letter i₀ self i = i ≤ n
 
 abbrev μ-loop : tie.MeasureT-loop
-μ-loop self₀ n a i₀ self i = n - i
+μ-loop self₀ n letter i₀ self i = n - i
 
 loop-holds : tie.Need-loop-holds Inv-loop μ-loop
 loop-holds c = search needs
+
+low-requires : tie.Need-low-requires Inv-loop μ-loop
+low-requires c κs = search needs
 
 add-requires : tie.Need-add-requires Inv-loop μ-loop
 add-requires c κs = search needs
@@ -30,4 +33,14 @@ returns c = search needs
 
 pub times-spec : {M : Type 1} → statement M
 times-spec =
-    tie.close (tie.spec Inv-loop μ-loop loop-holds add-requires add-i loop-less loop-again returns)
+    tie.close
+    (tie.spec
+    Inv-loop
+    μ-loop
+    loop-holds
+    low-requires
+    add-requires
+    add-i
+    loop-less
+    loop-again
+    returns)

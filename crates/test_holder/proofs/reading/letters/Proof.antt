@@ -1,24 +1,24 @@
 -- Every place read is within the word.
 use Prim.Native.Nat.{_≤_, _-_}
-use borrow.Author.Needs.{needs}
 use lib.ListN.{length}
-use Rattle.test_holder.proofs.build.Script.letters.Statement.{statement}
-use Rattle.test_holder.proofs.build.Script.letters.Tie as tie
+use borrow.Author.Needs.{needs}
+use Rattle.test_holder.proofs.reading.letters.Statement.{statement}
+use Rattle.test_holder.proofs.reading.letters.Tie as tie
 
 abbrev Inv-loop : tie.InvT-loop
-Inv-loop self₀ word i₀ self i = i ≤ length word
+Inv-loop word s₀ i₀ s i = i ≤ length word
 
 abbrev μ-loop : tie.MeasureT-loop
-μ-loop self₀ word i₀ self i = length word - i
+μ-loop word s₀ i₀ s i = length word - i
 
 loop-holds : tie.Need-loop-holds Inv-loop μ-loop
 loop-holds c = search needs
 
-shared-slice-read-letter : tie.Need-shared-slice-read-letter Inv-loop μ-loop
-shared-slice-read-letter c = search needs
+shared-slice-read-digit : tie.Need-shared-slice-read-digit Inv-loop μ-loop
+shared-slice-read-digit c = search needs
 
-letter-requires : tie.Need-letter-requires Inv-loop μ-loop
-letter-requires c κs = search needs
+digit-requires : tie.Need-digit-requires Inv-loop μ-loop
+digit-requires c κs = search needs
 
 add-requires : tie.Need-add-requires Inv-loop μ-loop
 add-requires c κs = search needs
@@ -42,8 +42,8 @@ letters-spec =
     Inv-loop
     μ-loop
     loop-holds
-    shared-slice-read-letter
-    letter-requires
+    shared-slice-read-digit
+    digit-requires
     add-requires
     add-i
     loop-less
