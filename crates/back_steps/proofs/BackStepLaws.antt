@@ -103,7 +103,8 @@ module _ {letters : List ℕ} {k i : ℕ} (p : Passed letters k i) where
   pub passed-next : i < length letters → isBackStep (frameOf k) (getD letters i 0) ≡ false → Passed letters k (i + 1)
   passed-next l e = record { within = omega arith; none = first-step (λ j. isBackStep (frameOf k) (getD letters j 0)) i (p .none) e }
 
-  pub passed-stop : i < length letters → isBackStep (frameOf k) (getD letters i 0) ≡ true → i ≡ first (λ j. isBackStep (frameOf k) (getD letters j 0)) (length letters)
+  pub passed-stop : i < length letters → isBackStep (frameOf k) (getD letters i 0) ≡ true
+      → i ≡ first (λ j. isBackStep (frameOf k) (getD letters j 0)) (length letters)
   passed-stop l e = sym (first-stop (λ j. isBackStep (frameOf k) (getD letters j 0)) (length letters) i (p .none) e l)
 
   pub passed-end : length letters ≤ i → i ≡ first (λ j. isBackStep (frameOf k) (getD letters j 0)) (length letters)
@@ -188,5 +189,6 @@ unfolding backStepPiece
 searched-end {k = k} p l o h = let e : k ≡ 4 = omega (arith, p .passed) in rw e at (p .none o h)
 
 -- No border has its pieces in the buffer at these cut places
-pub searched-off : (buffer at : List ℕ) (k : ℕ) → k < 4 → (getD at k 0 ≤ getD at (k + 1) 0 → getD at (k + 1) 0 ≤ length buffer → ⊥) → Found buffer at None
+pub searched-off : (buffer at : List ℕ) (k : ℕ) → k < 4 → (getD at k 0 ≤ getD at (k + 1) 0 → getD at (k + 1) 0 ≤ length buffer → ⊥)
+    → Found buffer at None
 searched-off buffer at k l off o h = absurd (off (rw add-one (laid-rising h k l)) (rw add-one (laid-within h (suc k) l)))

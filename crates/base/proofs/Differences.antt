@@ -54,7 +54,8 @@ is-mul-self (pos m) (negsuc n) = record { eq = omega (arith, is-neg (is-self (po
 is-mul-self (negsuc m) (pos n) = record { eq = omega (arith, is-neg (is-self (pos (suc m * n))) .eq) }
 is-mul-self (negsuc m) (negsuc n) = record { eq = omega arith }
 
-mul-differences : (u d u′ d′ a b c e : ℕ) → u + b ≡ a + d → u′ + e ≡ c + d′ → u * u′ + d * d′ + (a * e + b * c) ≡ a * c + b * e + (u * d′ + d * u′)
+mul-differences : (u d u′ d′ a b c e : ℕ) → u + b ≡ a + d → u′ + e ≡ c + d′
+    → u * u′ + d * d′ + (a * e + b * c) ≡ a * c + b * e + (u * d′ + d * u′)
 mul-differences u d u′ d′ a b c e h k =
     omega (arith, ap (λ (n : ℕ). n * u′) h, ap (λ (n : ℕ). n * d′) h, ap (λ (n : ℕ). a * n) k, ap (λ (n : ℕ). b * n) k)
 

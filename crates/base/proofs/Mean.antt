@@ -22,7 +22,8 @@ pub mean-add : (a b c x u v w y u′ v′ w′ : ℕ) → Mean a b c x u v w →
 mean-add a b c x u v w y u′ v′ w′ h h′ = omega arith
 
 -- Counted from the other end of a distance k
-pub mean-mirror : (k a b c x u v w x′ u′ v′ w′ : ℕ) → x + x′ ≡ k → u + u′ ≡ k → v + v′ ≡ k → w + w′ ≡ k → Mean a b c x u v w → Mean a b c x′ u′ v′ w′
+pub mean-mirror : (k a b c x u v w x′ u′ v′ w′ : ℕ) → x + x′ ≡ k → u + u′ ≡ k → v + v′ ≡ k → w + w′ ≡ k → Mean a b c x u v w
+    → Mean a b c x′ u′ v′ w′
 mean-mirror k a b c x u v w x′ u′ v′ w′ d e f g h =
     omega (arith, ap (λ n. (a + b + c) * n) d, ap (λ n. a * n) e, ap (λ n. b * n) f, ap (λ n. c * n) g)
 

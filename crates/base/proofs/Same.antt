@@ -56,7 +56,8 @@ module _ (es fs : List ℤ) (i : ℕ) (h : i < length es) (same : length es ≡ 
   unfolding sameℤs
   same-drop = rw (drop-cons es i (pos 0) h, drop-cons fs i (pos 0) (omega arith), add-one i)
 
-  pub same-next : sameℤ (getD es i (pos 0)) (getD fs i (pos 0)) ≡ true → sameℤs (drop i es) (drop i fs) ≡ sameℤs (drop (i + 1) es) (drop (i + 1) fs)
+  pub same-next : sameℤ (getD es i (pos 0)) (getD fs i (pos 0)) ≡ true
+      → sameℤs (drop i es) (drop i fs) ≡ sameℤs (drop (i + 1) es) (drop (i + 1) fs)
   same-next e = rw (same-drop, e)
 
   pub same-differ : sameℤ (getD es i (pos 0)) (getD fs i (pos 0)) ≡ false → sameℤs (drop i es) (drop i fs) ≡ false

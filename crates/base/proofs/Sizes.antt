@@ -57,7 +57,8 @@ size-at-most {z = negsuc n} k h l m = omega arith
 pub size-triangle : (a b c : ℤ) → natAbs (a -ℤ c) ≤ natAbs (a -ℤ b) + natAbs (b -ℤ c)
 size-triangle a b c =
     let e : a -ℤ c ≡ (a -ℤ b) +ℤ (b -ℤ c) =
-    is-unique (is-minus (is-self a) (is-self c)) (is-add (is-minus (is-self a) (is-self b)) (is-minus (is-self b) (is-self c))) (omega arith) in
+    is-unique (is-minus (is-self a) (is-self c)) (is-add (is-minus (is-self a) (is-self b)) (is-minus (is-self b) (is-self c)))
+    (omega arith) in
     rw e (size-sum (a -ℤ b) (b -ℤ c))
 
 pub size-back : (a b : ℤ) → natAbs a ≤ natAbs (a -ℤ b) + natAbs b
@@ -76,7 +77,8 @@ size-differences a b c d =
 pub size-products : (k a b : ℤ) → natAbs (k *ℤ a -ℤ k *ℤ b) ≡ natAbs k * natAbs (a -ℤ b)
 size-products k a b =
     ap natAbs
-    (is-unique (is-minus (is-mul (is-self k) (is-self a)) (is-mul (is-self k) (is-self b))) (is-mul (is-self k) (is-minus (is-self a) (is-self b))) (omega arith))
+    (is-unique (is-minus (is-mul (is-self k) (is-self a)) (is-mul (is-self k) (is-self b)))
+    (is-mul (is-self k) (is-minus (is-self a) (is-self b))) (omega arith))
     ∙ size-product k (a -ℤ b)
 
 mag-size : (a : ℤ) → mag a ≤ natAbs a

@@ -52,7 +52,8 @@ module _ {A : Type 0} where
       elim (decLt 0 (w a)) [
         | yes p ↦
             let m = h a (List·Memᴰ·head refl) p in
-            let rest = weighs-at-most-grid w (without m) d (λ b k q. other-kept m (λ e. out (Memᴰ·cast (sym e) k)) (h b (List·Memᴰ·tail k) q)) in
+            let rest =
+            weighs-at-most-grid w (without m) d (λ b k q. other-kept m (λ e. out (Memᴰ·cast (sym e) k)) (h b (List·Memᴰ·tail k) q)) in
             omega (arith, sum-without w m)
         | no p ↦ omega (arith, weighs-at-most-grid w g d (λ b k q. h b (List·Memᴰ·tail k) q))
       ]

@@ -42,7 +42,8 @@ length-step p dx dy =
 -- The first letters of the pieces that begin, and then the edge's own
 pub step-wrote :
     (p : ℕ) (dx dy : ℤ) {before middle after : List ℕ} {at k run rise i : ℕ} → k ≡ quadrantOf dx dy → run ≡ runIn (quadrantOf dx dy) dx dy
-    → rise ≡ riseIn (quadrantOf dx dy) dx dy → Wrote before at (firsts p (k - p)) middle → i ≡ at + (k - p) → Wrote middle i (letters k run rise) after
+    → rise ≡ riseIn (quadrantOf dx dy) dx dy → Wrote before at (firsts p (k - p)) middle → i ≡ at + (k - p)
+    → Wrote middle i (letters k run rise) after
     → Wrote before at (stepLetters p dx dy) after
 unfolding stepLetters
 step-wrote p dx dy {k = k} {i = i} e d f b h w =
@@ -106,12 +107,14 @@ module _ {es : List ℤ} {before list : List ℕ} {at p i : ℕ} (b : Building e
     pub first-here : First p dx dy (pairs (drop (i + 2) es))
     first-here = first-of (subst (Ordered p) (next-edge es i more) (b .ordered))
 
-    rest-here : rest (3 - p) p (pairs (drop i es)) ≡ stepLetters p dx dy ++ rest (3 - quadrantOf dx dy) (quadrantOf dx dy) (pairs (drop (i + 2) es))
+    rest-here : rest (3 - p) p (pairs (drop i es))
+        ≡ stepLetters p dx dy ++ rest (3 - quadrantOf dx dy) (quadrantOf dx dy) (pairs (drop (i + 2) es))
     unfolding stepLetters
     rest-here =
         let f = first-here in
         ap (rest (3 - p) p) (next-edge es i more)
-        ∙ rest-next p dx dy (pairs (drop (i + 2) es)) (subst (Ordered p) (next-edge es i more) (b .ordered)) (f .from) (f .small) (f .others)
+        ∙ rest-next p dx dy (pairs (drop (i + 2) es)) (subst (Ordered p) (next-edge es i more) (b .ordered)) (f .from) (f .small)
+        (f .others)
 
     -- There is room for the edge
     pub step-room : at + (quadrantOf dx dy - p) + (natAbs dx + natAbs dy) ≤ length list

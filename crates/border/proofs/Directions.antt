@@ -48,7 +48,12 @@ pub record Negated (x : ℤ) : Type 0 where
 pub negated : (x : ℤ) → SFits w16 x → ltZ x (pos 0) ≡ true → Negated x
 negated (pos n) f e = absurd (omega (arith, ltb-true n 0 e))
 negated (negsuc n) f e =
-    record { sfits = record { sfits = omega (arith, f .sfits) }; nonneg = tt; fits = record { fits = omega (arith, f .sfits) }; size = omega arith }
+    record {
+      sfits = record { sfits = omega (arith, f .sfits) };
+      nonneg = tt;
+      fits = record { fits = omega (arith, f .sfits) };
+      size = omega arith;
+    }
 
 -- Any other number stays as it is
 pub kept : (x : ℤ) → SFits w16 x → ltZ x (pos 0) ≡ false → T (nonNeg x) × Fits w64 (natAbs x)

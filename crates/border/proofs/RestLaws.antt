@@ -46,7 +46,9 @@ rest-on zero n k {es = es} o h = let e : k + 0 ≡ k = omega arith in let d : 0 
 rest-on (suc m) n k {es = es} o h =
     let e : suc k + m ≡ k + suc m = omega arith in
     let d : suc m + n ≡ suc (m + n) = omega arith in
-    rw (d, letters-none o k (omega arith)) (ap (λ (w : List ℕ). frameOf (suc k) .later ∷ w) (rest-on m n (suc k) o (omega arith) ∙ ap (λ (q : ℕ). firsts (suc k) m ++ rest n q es) e))
+    rw (d, letters-none o k (omega arith))
+    (ap (λ (w : List ℕ). frameOf (suc k) .later ∷ w) (rest-on m n (suc k) o (omega arith)
+    ∙ ap (λ (q : ℕ). firsts (suc k) m ++ rest n q es) e))
 
 -- Without edges only first letters are left
 pub rest-none : (k : ℕ) {es : List Edge} → k ≤ 3 → Ordered 4 es → rest (3 - k) k es ≡ firsts k (3 - k)
@@ -54,7 +56,8 @@ unfolding rest
 rest-none k {es} h o =
     let e : 3 - k + 0 ≡ 3 - k = omega arith in
     let d : k + (3 - k) ≡ 3 = omega arith in
-    ap (λ (n : ℕ). rest n k es) (sym e) ∙ rest-on (3 - k) 0 k o (omega arith) ∙ rw (d, letters-none o 3 (omega arith)) (append-nil (firsts k (3 - k)))
+    ap (λ (n : ℕ). rest n k es) (sym e) ∙ rest-on (3 - k) 0 k o (omega arith)
+    ∙ rw (d, letters-none o 3 (omega arith)) (append-nil (firsts k (3 - k)))
 
 -- ---- an edge of the piece begun last
 
@@ -68,7 +71,8 @@ own-letters dx dy es h =
     let rise = riseIn k dx dy in
     rw (eq-eqb k k refl)
     (spell-append (frameOf k) (edgeWord run rise) (edgesWord (sizesIn k es))
-    ∙ ap (λ (w : List ℕ). w ++ spell (frameOf k) (edgesWord (sizesIn k es))) (ap (spell (frameOf k)) (edge-listed run rise (quadrant-step dx dy h .rises))))
+    ∙ ap (λ (w : List ℕ). w ++ spell (frameOf k) (edgesWord (sizesIn k es)))
+    (ap (spell (frameOf k)) (edge-listed run rise (quadrant-step dx dy h .rises))))
 
 -- The later pieces do not have the edge
 later-same : (n k : ℕ) (dx dy : ℤ) (es : List Edge) → quadrantOf dx dy < k → rest n k ((dx, dy) ∷ es) ≡ rest n k es
@@ -88,7 +92,8 @@ rest-edge (suc n) dx dy es h =
 
 -- One edge: the first letters of the pieces that begin with it, then its own
 pub rest-next :
-    (p : ℕ) (dx dy : ℤ) (es : List Edge) → Ordered p ((dx, dy) ∷ es) → p ≤ quadrantOf dx dy → quadrantOf dx dy < 4 → Ordered (quadrantOf dx dy) es
+    (p : ℕ) (dx dy : ℤ) (es : List Edge) → Ordered p ((dx, dy) ∷ es) → p ≤ quadrantOf dx dy → quadrantOf dx dy < 4
+    → Ordered (quadrantOf dx dy) es
     → let k = quadrantOf dx dy in
     rest (3 - p) p ((dx, dy) ∷ es) ≡ (firsts p (k - p) ++ letters k (runIn k dx dy) (riseIn k dx dy)) ++ rest (3 - k) k es
 rest-next p dx dy es o l s r =

@@ -30,9 +30,15 @@ module _ (a : Point) (es : List ℤ) where
   too-many h =
       not-held (takenAs (outline a (lettersFrom es)) a es) λ e.
       let simple = taken-has (takenAs-iff (outline a (lettersFrom es)) a es .0 e) .reaches .simple in
-      omega (arith, length-letters es, ltb-false longest (length (lettersFrom es)) (or-false-iff (ltb (length (lettersFrom es)) shortest) (ltb longest (length (lettersFrom es))) .0 (simple .counted) .1))
+      omega (
+        arith,
+        length-letters es,
+        ltb-false longest (length (lettersFrom es))
+            (or-false-iff (ltb (length (lettersFrom es)) shortest) (ltb longest (length (lettersFrom es))) .0 (simple .counted) .1),
+      )
 
-  module _ (buffer : List ℕ) (listed : badList es ≡ false) (anchored : badCell a ≡ false) (turned : badDirections es ≡ false) {n : ℕ} (e : n ≡ 4 + stepCount (pairs es)) where
+  module _ (buffer : List ℕ) (listed : badList es ≡ false) (anchored : badCell a ≡ false) (turned : badDirections es ≡ false) {n : ℕ}
+      (e : n ≡ 4 + stepCount (pairs es)) where
     pub long-none : longest < n → Answers a es buffer buffer NoOutline
     long-none h = traced-none a es buffer listed anchored turned (too-many (omega arith))
 
@@ -56,4 +62,5 @@ module _ (a : Point) (es : List ℤ) where
         short-none l = traced-short a es buffer listed anchored turned (sym tested ∙ h) (omega (arith, count-is))
 
         pub copied : {after : List ℕ} → n ≤ length buffer → after ≡ take n list ++ drop n buffer → Answers a es buffer after (Written n)
-        copied l d = rw (d, letters-are, count-is) (traced-written a es buffer listed anchored turned (sym tested ∙ h) (omega (arith, count-is)))
+        copied l d =
+            rw (d, letters-are, count-is) (traced-written a es buffer listed anchored turned (sym tested ∙ h) (omega (arith, count-is)))

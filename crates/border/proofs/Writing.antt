@@ -29,7 +29,8 @@ wrote-next {before} {w} {after} {at} h i a e l =
       sized = simp length-set (h .sized);
       written =
           rw n
-          (take-suc-set after i a (omega (arith, h .sized)) ∙ ap (λ (l : List ℕ). l ++ (a ∷ [])) (ap (λ (j : ℕ). take j after) e ∙ h .written)
+          (take-suc-set after i a (omega (arith, h .sized))
+          ∙ ap (λ (l : List ℕ). l ++ (a ∷ [])) (ap (λ (j : ℕ). take j after) e ∙ h .written)
           ∙ append-assoc (take at before) w (a ∷ []));
     }
 
@@ -57,16 +58,19 @@ pub firsts-next : (k n : ℕ) → firsts k (suc n) ≡ firsts k n ++ (frameOf (s
 unfolding firsts
 firsts-next k zero = rw add-zero
 firsts-next k (suc n) =
-    ap (λ (w : List ℕ). frameOf (suc k) .later ∷ w) (firsts-next (suc k) n ∙ ap (λ (m : ℕ). firsts (suc k) n ++ (frameOf (suc m) .later ∷ [])) (let e : suc k + n ≡ k + suc n = omega arith in e))
+    ap (λ (w : List ℕ). frameOf (suc k) .later ∷ w) (firsts-next (suc k) n
+    ∙ ap (λ (m : ℕ). firsts (suc k) n ++ (frameOf (suc m) .later ∷ [])) (let e : suc k + n ≡ k + suc n = omega arith in e))
 
 -- ---- the letters of an edge
 
 pub length-letters : (k run rise : ℕ) → length (letters k run rise) ≡ run + rise
 unfolding letters
-length-letters k run rise = length-spell (frameOf k) (listed (countedLetter rise (run + rise)) (run + rise)) ∙ length-listed (countedLetter rise (run + rise)) (run + rise)
+length-letters k run rise = length-spell (frameOf k) (listed (countedLetter rise (run + rise)) (run + rise))
+    ∙ length-listed (countedLetter rise (run + rise)) (run + rise)
 
 -- A word listed and spelled, with one more letter
-pub spelled-next : (k : ℕ) (f : ℕ → Bool) (i : ℕ) → spell (frameOf k) (listed f (suc i)) ≡ spell (frameOf k) (listed f i) ++ spell (frameOf k) (f i ∷ [])
+pub spelled-next : (k : ℕ) (f : ℕ → Bool) (i : ℕ)
+    → spell (frameOf k) (listed f (suc i)) ≡ spell (frameOf k) (listed f i) ++ spell (frameOf k) (f i ∷ [])
 spelled-next k f i = ap (spell (frameOf k)) (listed-next f i) ∙ spell-append (frameOf k) (listed f i) (f i ∷ [])
 
 module _ (k run rise i : ℕ) (rises : 0 < rise) {before after : List ℕ} (at : ℕ)
@@ -75,12 +79,22 @@ module _ (k run rise i : ℕ) (rises : 0 < rise) {before after : List ℕ} (at :
   Longer a = Wrote before at (spell (frameOf k) (listed (countedLetter rise (run + rise)) (suc i))) (set after (at + i) a)
 
   behind : at + i ≡ at + length (spell (frameOf k) (listed (countedLetter rise (run + rise)) i))
-  behind = ap (λ (m : ℕ). at + m) (sym (length-spell (frameOf k) (listed (countedLetter rise (run + rise)) i) ∙ length-listed (countedLetter rise (run + rise)) i))
+  behind =
+      ap (λ (m : ℕ). at + m)
+      (sym (length-spell (frameOf k) (listed (countedLetter rise (run + rise)) i) ∙ length-listed (countedLetter rise (run + rise)) i))
 
   pub earlier-next : i * rise % (run + rise) < run → Longer (frameOf k .earlier)
   unfolding spell
-  earlier-next l = rw (spelled-next k (countedLetter rise (run + rise)) i, letter-below i run rise rises l) (wrote-next h (at + i) (frameOf k .earlier) behind fits)
+  earlier-next l =
+      rw (
+        spelled-next k (countedLetter rise (run + rise)) i,
+        letter-below i run rise rises l,
+      ) (wrote-next h (at + i) (frameOf k .earlier) behind fits)
 
   pub later-next : run ≤ i * rise % (run + rise) → Longer (frameOf k .later)
   unfolding spell
-  later-next l = rw (spelled-next k (countedLetter rise (run + rise)) i, letter-above i run rise rises l) (wrote-next h (at + i) (frameOf k .later) behind fits)
+  later-next l =
+      rw (
+        spelled-next k (countedLetter rise (run + rise)) i,
+        letter-above i run rise rises l,
+      ) (wrote-next h (at + i) (frameOf k .later) behind fits)

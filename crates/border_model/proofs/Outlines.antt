@@ -53,7 +53,8 @@ pub record Again (o : Outline) (a : Point) (es buffer : List ℤ) : Type 0 where
   pub counted : length es ≡ 2 * count
   pub list : edgesAfter o buffer ≡ es ++ drop (length es) buffer
 
-pub tested-again : {o : Outline} {a : Point} {es : List ℤ} → TakenAs o a es → (buffer : List ℤ) → length es ≤ length buffer → Again o a es buffer
+pub tested-again : {o : Outline} {a : Point} {es : List ℤ} → TakenAs o a es → (buffer : List ℤ) → length es ≤ length buffer
+    → Again o a es buffer
 tested-again {o} {a} {es} t buffer room =
     let n : length es ≡ 2 * t .count = taken-size t in
     let v = test-taken o (length buffer) (t .count) a (t .taken) (omega arith) in

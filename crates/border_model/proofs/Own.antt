@@ -57,7 +57,9 @@ module _ {o : Outline} {a : Point} {es : List ℤ} (t : TakenAs o a es) where
       (buffer : List ℕ) → size o ≤ length buffer
       → (tracedOf a es (length buffer) ≡ Written (size o)) × (lettersAfter a es buffer ≡ border o .letters ++ drop (size o) buffer)
   own-letters buffer room =
-      let w = traced-written a es buffer (taken-listed (taken-has t)) (taken-anchored (taken-has t)) turned (outlined-iff a es .1 (o, t)) (omega (arith, letters-size)) in
+      let w =
+      traced-written a es buffer (taken-listed (taken-has t)) (taken-anchored (taken-has t)) turned (outlined-iff a es .1 (o, t))
+      (omega (arith, letters-size)) in
       (sym (w .answer) ∙ ap Written letters-size, sym (w .letters) ∙ rw (letters-are, ← letters-size, letters-are) refl)
 
   -- A buffer of 612 letters or more always suffices
@@ -67,10 +69,12 @@ module _ {o : Outline} {a : Point} {es : List ℤ} (t : TakenAs o a es) where
   own-suffices buffer room = own-letters buffer (omega (arith, size-bound))
 
   -- With a buffer that is too short the reply is 18, and the buffer is unchanged
-  pub own-short : (buffer : List ℕ) → length buffer < size o → (tracedOf a es (length buffer) ≡ NoRoom) × (lettersAfter a es buffer ≡ buffer)
+  pub own-short : (buffer : List ℕ) → length buffer < size o
+      → (tracedOf a es (length buffer) ≡ NoRoom) × (lettersAfter a es buffer ≡ buffer)
   own-short buffer short =
       let w =
-      traced-short a es buffer (taken-listed (taken-has t)) (taken-anchored (taken-has t)) turned (outlined-iff a es .1 (o, t)) (omega (arith, letters-size))
+      traced-short a es buffer (taken-listed (taken-has t)) (taken-anchored (taken-has t)) turned (outlined-iff a es .1 (o, t))
+      (omega (arith, letters-size))
       in
       (sym (w .answer), sym (w .letters))
 

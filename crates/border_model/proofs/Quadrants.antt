@@ -34,7 +34,12 @@ backward-on Backward.downward = refl
 
 -- Clockwise of a direction at or below right, in the same half, is below right too
 below-right : (a c d : ℕ) (dy : ℤ) → up dy ≡ 0 → Above (cross (pos (suc a)) dy (pos c) (pos (suc d))) → ⊥
-below-right a c d dy z h = omega (arith, is-cross (is-self (pos (suc a))) (is-self dy) (is-self (pos c)) (is-self (pos (suc d))) .eq, ap (λ (n : ℕ). n * up (pos c)) z)
+below-right a c d dy z h =
+    omega (
+      arith,
+      is-cross (is-self (pos (suc a))) (is-self dy) (is-self (pos c)) (is-self (pos (suc d))) .eq,
+      ap (λ (n : ℕ). n * up (pos c)) z,
+    )
 
 forward-order : {dx dy ex ey : ℤ} → Forward dx dy → Forward ex ey → Above (cross dx dy ex ey) → quadrantOf dx dy ≤ quadrantOf ex ey
 unfolding quadrantOf
@@ -42,8 +47,10 @@ forward-order Forward.upward e h = omega arith
 forward-order {dy = pos (suc m)} Forward.across e h = omega arith
 forward-order {dy = pos zero} (Forward.across {n = a}) (Forward.upward {n = d}) h = absurd (below-right a 0 d (pos 0) refl h)
 forward-order {dy = negsuc m} (Forward.across {n = a}) (Forward.upward {n = d}) h = absurd (below-right a 0 d (negsuc m) refl h)
-forward-order {dy = pos zero} {ey = pos (suc d)} (Forward.across {n = a}) (Forward.across {n = c}) h = absurd (below-right a (suc c) d (pos 0) refl h)
-forward-order {dy = negsuc m} {ey = pos (suc d)} (Forward.across {n = a}) (Forward.across {n = c}) h = absurd (below-right a (suc c) d (negsuc m) refl h)
+forward-order {dy = pos zero} {ey = pos (suc d)} (Forward.across {n = a}) (Forward.across {n = c}) h =
+    absurd (below-right a (suc c) d (pos 0) refl h)
+forward-order {dy = negsuc m} {ey = pos (suc d)} (Forward.across {n = a}) (Forward.across {n = c}) h =
+    absurd (below-right a (suc c) d (negsuc m) refl h)
 forward-order {dy = pos zero} {ey = pos zero} Forward.across Forward.across h = omega arith
 forward-order {dy = pos zero} {ey = negsuc d} Forward.across Forward.across h = omega arith
 forward-order {dy = negsuc m} {ey = pos zero} Forward.across Forward.across h = omega arith
@@ -61,11 +68,13 @@ facing-small (Facing.back d) = omega (arith, backward-on d, forward-low (opposit
 
 rising-after : (dx dy : ℤ) {es : List Edge} → AllAfter dx dy es → Rising es → Ordered (quadrantOf dx dy) es
 rising-after dx dy AllAfter.none Rising.none = Ordered.none
-rising-after dx dy (AllAfter.next {ex} {ey} s a) (Rising.next f b r) = Ordered.more (precedes-quadrant s) (facing-small f) (rising-after ex ey b r)
+rising-after dx dy (AllAfter.next {ex} {ey} s a) (Rising.next f b r) =
+    Ordered.more (precedes-quadrant s) (facing-small f) (rising-after ex ey b r)
 
 rising-ordered : {es : List Edge} → Rising es → Ordered 0 es
 rising-ordered Rising.none = Ordered.none
-rising-ordered (Rising.next {dx} {dy} f a r) = Ordered.more {k = 0} {dx = dx} {dy = dy} (omega arith) (facing-small f) (rising-after dx dy a r)
+rising-ordered (Rising.next {dx} {dy} f a r) =
+    Ordered.more {k = 0} {dx = dx} {dy = dy} (omega arith) (facing-small f) (rising-after dx dy a r)
 
 pub passed-ordered : (es : List ℤ) → badDirections es ≡ false → Ordered 0 (pairs es)
 passed-ordered es e = rising-ordered (passes-iff (pairs es) (pos 0) (pos 0) .0 e .rises)

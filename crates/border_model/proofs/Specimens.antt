@@ -21,7 +21,10 @@ use Rattle.border_model.specs.Traced.{lettersIn, tracedOf, tracedFields}
 use Rattle.border_model.specs.Specimens.{Row, rows, answered}
 
 computed : all answered rows ≡ true
-unfolding all answered rows sameFields sameℤ sameℤs colSteps rowSteps total cross positive isNil firstHalf precedes someZero sumsToZero precedesFirst rising pairs badEdges badList badCell Counted.listed Counted.countedLetter Counted.christoffelWord Counted.dividesBoth Counted.commonUpTo Counted.common Counted.edgeWord Counted.edgesWord spell FromEdges.quadrantOf FromEdges.runIn FromEdges.riseIn FromEdges.sizesIn FromEdges.pieceFrom FromEdges.lettersFrom computes takenAt takenAs outlined lettersIn tracedOf tracedFields
+unfolding all answered rows sameFields sameℤ sameℤs colSteps rowSteps total cross positive isNil firstHalf precedes someZero sumsToZero
+    precedesFirst rising pairs badEdges badList badCell Counted.listed Counted.countedLetter Counted.christoffelWord Counted.dividesBoth
+    Counted.commonUpTo Counted.common Counted.edgeWord Counted.edgesWord spell FromEdges.quadrantOf FromEdges.runIn FromEdges.riseIn
+    FromEdges.sizesIn FromEdges.pieceFrom FromEdges.lettersFrom computes takenAt takenAs outlined lettersIn tracedOf tracedFields
 computed = refl
 
 -- The borders of one cell, H2 and H3, and refusals 10, 11 and 16 to 18

@@ -27,7 +27,8 @@ use Rattle.border_model.proofs.Outlines.{outlined-iff, outlined-border}
 
 module _ (a : Point) (es : List ℤ) where
   -- A refusal that is neither 17 nor 18
-  unnamed : (f : Refusal) (after : List ℕ) → 0 < refusalFields f .number → refusalFields f .number < 17 → BorderNamed a es (refusalFields f) after
+  unnamed : (f : Refusal) (after : List ℕ) → 0 < refusalFields f .number → refusalFields f .number < 17
+      → BorderNamed a es (refusalFields f) after
   unnamed f after s h = record { none = λ e. absurd (omega arith); some = λ e. absurd (omega arith); written = λ e. absurd (omega arith) }
 
   unoutlined : (after : List ℕ) → outlined a es ≡ false → BorderNamed a es (tracedFields NoOutline) after
@@ -43,7 +44,8 @@ module _ (a : Point) (es : List ℤ) where
   unfolding tracedFields
   short after e = record { none = λ p. absurd (omega arith); some = λ p. outlined-iff a es .0 e; written = λ p. absurd (omega arith) }
 
-  letters-named : (rest : List ℕ) → outlined a es ≡ true → BorderNamed a es (tracedFields (Written (length (lettersFrom es)))) (lettersFrom es ++ rest)
+  letters-named : (rest : List ℕ) → outlined a es ≡ true
+      → BorderNamed a es (tracedFields (Written (length (lettersFrom es)))) (lettersFrom es ++ rest)
   unfolding tracedFields
   letters-named rest e =
       record {
@@ -56,7 +58,8 @@ module _ (a : Point) (es : List ℤ) where
 
 module _ (a : Point) (es : List ℤ) (buffer : List ℕ) where
   -- A refusal leaves the buffer unchanged
-  left : (t : Traced) → t ≡ tracedOf a es (length buffer) → writtenAfter t (lettersFrom es) buffer ≡ buffer → BorderNamed a es (tracedFields t) buffer → Answers a es buffer buffer t
+  left : (t : Traced) → t ≡ tracedOf a es (length buffer) → writtenAfter t (lettersFrom es) buffer ≡ buffer
+      → BorderNamed a es (tracedFields t) buffer → Answers a es buffer buffer t
   unfolding lettersAfter
   left t e k n = record { answer = e; letters = sym k ∙ ap (λ (u : Traced). writtenAfter u (lettersFrom es) buffer) e; named = n }
 
@@ -72,7 +75,8 @@ module _ (a : Point) (es : List ℤ) (buffer : List ℕ) where
     module _ (anchored : badCell a ≡ false) where
       pub traced-turning : badDirections es ≡ true → Answers a es buffer buffer (Refused Directions)
       unfolding tracedOf writtenAfter tracedFields
-      traced-turning e = left (Refused Directions) (rw (listed, anchored, e)) refl (unnamed a es Directions buffer (omega arith) (omega arith))
+      traced-turning e =
+          left (Refused Directions) (rw (listed, anchored, e)) refl (unnamed a es Directions buffer (omega arith) (omega arith))
 
       module _ (turned : badDirections es ≡ false) where
         pub traced-none : outlined a es ≡ false → Answers a es buffer buffer NoOutline
@@ -82,7 +86,9 @@ module _ (a : Point) (es : List ℤ) (buffer : List ℕ) where
         module _ (some : outlined a es ≡ true) where
           pub traced-short : length buffer < length (lettersFrom es) → Answers a es buffer buffer NoRoom
           unfolding tracedOf lettersIn writtenAfter
-          traced-short h = left NoRoom (rw (listed, anchored, turned, some, lt-ltb (length buffer) (length (lettersFrom es)) h)) refl (short a es buffer some)
+          traced-short h =
+              left NoRoom (rw (listed, anchored, turned, some, lt-ltb (length buffer) (length (lettersFrom es)) h)) refl
+              (short a es buffer some)
 
           written : length (lettersFrom es) ≤ length buffer → Written (length (lettersFrom es)) ≡ tracedOf a es (length buffer)
           unfolding tracedOf lettersIn

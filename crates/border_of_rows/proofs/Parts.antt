@@ -37,15 +37,20 @@ across-left a x h = let e : x - a ≡ 0 = omega arith in rw e refl
 -- One more column
 pub onward-more : (a b x : ℕ) → Between a b x → x < b → (across a (x + 1) ≡ across a x ++ (0 ∷ [])) × Between a b (x + 1)
 onward-more a b x (onward h k) l =
-    let e : x + 1 - a ≡ (x - a) + 1 = omega arith in
-    (across-right a (x + 1) (omega arith) ∙ rw e (replicate-next (x - a) 0) ∙ ap (λ (w : List ℕ). w ++ (0 ∷ [])) (sym (across-right a x h)), onward (omega arith) (omega arith))
+    let e : x + 1 - a ≡ (x - a) + 1 = omega arith in (
+      across-right a (x + 1) (omega arith) ∙ rw e (replicate-next (x - a) 0)
+          ∙ ap (λ (w : List ℕ). w ++ (0 ∷ [])) (sym (across-right a x h)),
+      onward (omega arith) (omega arith),
+    )
 onward-more a b x (backward h k) l = absurd (omega arith)
 
 pub backward-more : (a b x : ℕ) → Between a b x → b < x → (across a (x - 1) ≡ across a x ++ (2 ∷ [])) × Between a b (x - 1)
 backward-more a b x (onward h k) l = absurd (omega arith)
 backward-more a b x (backward h k) l =
-    let e : a - (x - 1) ≡ (a - x) + 1 = omega arith in
-    (across-left a (x - 1) (omega arith) ∙ rw e (replicate-next (a - x) 2) ∙ ap (λ (w : List ℕ). w ++ (2 ∷ [])) (sym (across-left a x k)), backward (omega arith) (omega arith))
+    let e : a - (x - 1) ≡ (a - x) + 1 = omega arith in (
+      across-left a (x - 1) (omega arith) ∙ rw e (replicate-next (a - x) 2) ∙ ap (λ (w : List ℕ). w ++ (2 ∷ [])) (sym (across-left a x k)),
+      backward (omega arith) (omega arith),
+    )
 
 -- How far there is still to go
 pub across-fits : (a b x : ℕ) → Between a b x → length (across a x) + ((b - x) + (x - b)) ≡ length (across a b)
@@ -78,7 +83,8 @@ module _ (lo : ℕ → ℕ) where
       let z : List ℕ = 1 ∷ across (lo (y + (n + d))) (lo (suc (y + (n + d)))) in
       rw e (omega (arith, ap length (rise-next y (n + d)), length-append (toRow lo y (n + d)) z, rise-longer y n d))
 
-  pub rise-fits : (y i e : ℕ) → y ≤ i → i < e → length (toRow lo y (i - y)) + suc (length (across (lo i) (lo (i + 1)))) ≤ length (toRow lo y (e - y))
+  pub rise-fits : (y i e : ℕ) → y ≤ i → i < e
+      → length (toRow lo y (i - y)) + suc (length (across (lo i) (lo (i + 1)))) ≤ length (toRow lo y (e - y))
   rise-fits y i e h l =
       let d : e - y ≡ (i + 1 - y) + (e - (i + 1)) = omega arith in
       let w = toRow lo y (i - y) in
@@ -106,7 +112,8 @@ module _ (hi : ℕ → ℕ) where
   unfolding descent
   fall-first e = let d : e - e ≡ 0 = omega arith in rw d refl
 
-  pub fall-more : (i e : ℕ) → 0 < i → i ≤ e → descent hi (i - 1) (e - (i - 1)) ≡ (descent hi i (e - i) ++ across (hi i) (hi (i - 1))) ++ (3 ∷ [])
+  pub fall-more : (i e : ℕ) → 0 < i → i ≤ e
+      → descent hi (i - 1) (e - (i - 1)) ≡ (descent hi i (e - i) ++ across (hi i) (hi (i - 1))) ++ (3 ∷ [])
   unfolding descent
   fall-more i e h l =
       let d : e - (i - 1) ≡ suc (e - i) = omega arith in
@@ -124,9 +131,14 @@ module _ (hi : ℕ → ℕ) where
   fall-longer y k (suc d) =
       let e : y + suc d ≡ suc y + d = omega arith in
       let f : suc d + k ≡ suc (d + k) = omega arith in
-      rw (e, f) (omega (arith, fall-longer (suc y) k d, length-append (descent hi (suc y) (d + k)) (across (hi (suc y)) (hi y) ++ (3 ∷ []))))
+      rw (e, f) (omega (
+        arith,
+        fall-longer (suc y) k d,
+        length-append (descent hi (suc y) (d + k)) (across (hi (suc y)) (hi y) ++ (3 ∷ [])),
+      ))
 
-  pub fall-fits : (y i e : ℕ) → y < i → i ≤ e → length (descent hi i (e - i)) + suc (length (across (hi i) (hi (i - 1)))) ≤ length (descent hi y (e - y))
+  pub fall-fits : (y i e : ℕ) → y < i → i ≤ e
+      → length (descent hi i (e - i)) + suc (length (across (hi i) (hi (i - 1)))) ≤ length (descent hi y (e - y))
   fall-fits y i e h l =
       let d : e - y ≡ (i - 1 - y) + (e - (i - 1)) = omega arith in
       let f : y + (i - 1 - y) ≡ i - 1 = omega arith in
@@ -154,7 +166,8 @@ module _ (hi : ℕ → ℕ) where
 module _ (lo hi : ℕ → ℕ) (b t m : ℕ) (below : m < t) where
   abbrev pub inParts : List ℕ
   inParts =
-      ((((toRow lo m (t - 1 - m) ++ (1 ∷ [])) ++ across (lo (t - 1)) (hi (t - 1))) ++ descent hi b (t - 1 - b)) ++ across (hi b) (lo b)) ++ toRow lo b (m - b)
+      ((((toRow lo m (t - 1 - m) ++ (1 ∷ [])) ++ across (lo (t - 1)) (hi (t - 1))) ++ descent hi b (t - 1 - b)) ++ across (hi b) (lo b))
+      ++ toRow lo b (m - b)
 
   pub round-parts : inParts ≡ writtenFrom lo hi b t m
   unfolding writtenFrom
@@ -162,13 +175,20 @@ module _ (lo hi : ℕ → ℕ) (b t m : ℕ) (below : m < t) where
       let d : t - suc m ≡ t - 1 - m = omega arith in
       let e : t - suc b ≡ t - 1 - b = omega arith in
       let f : pred t ≡ t - 1 = omega arith in
-      rw (rise-ascent lo m (t - suc m), d, e, f) (moved (toRow lo m (t - 1 - m)) (1 ∷ []) (across (lo (t - 1)) (hi (t - 1))) (descent hi b (t - 1 - b)) (across (hi b) (lo b)) (toRow lo b (m - b)))
+      rw (
+        rise-ascent lo m (t - suc m),
+        d,
+        e,
+        f,
+      ) (moved (toRow lo m (t - 1 - m)) (1 ∷ []) (across (lo (t - 1)) (hi (t - 1))) (descent hi b (t - 1 - b)) (across (hi b) (lo b))
+      (toRow lo b (m - b)))
     where
       moved : (u a x d y r : List ℕ) → ((((u ++ a) ++ x) ++ d) ++ y) ++ r ≡ ((u ++ a) ++ (x ++ (d ++ y))) ++ r
       moved u a x d y r = simp append-assoc refl
 
   pub round-length :
-      length (toRow lo m (t - 1 - m)) + 1 + length (across (lo (t - 1)) (hi (t - 1))) + length (descent hi b (t - 1 - b)) + length (across (hi b) (lo b)) + length (toRow lo b (m - b))
+      length (toRow lo m (t - 1 - m)) + 1 + length (across (lo (t - 1)) (hi (t - 1))) + length (descent hi b (t - 1 - b)) + length
+      (across (hi b) (lo b)) + length (toRow lo b (m - b))
       ≡ length (writtenFrom lo hi b t m)
   round-length =
       let u = toRow lo m (t - 1 - m) in

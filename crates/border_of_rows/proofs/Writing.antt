@@ -27,7 +27,8 @@ wrote-next {before} {w} {after} {at} h i a e l =
       sized = simp length-set (h .sized);
       written =
           rw n
-          (take-suc-set after i a (omega (arith, h .sized)) ∙ ap (λ (l : List ℕ). l ++ (a ∷ [])) (ap (λ (j : ℕ). take j after) e ∙ h .written)
+          (take-suc-set after i a (omega (arith, h .sized))
+          ∙ ap (λ (l : List ℕ). l ++ (a ∷ [])) (ap (λ (j : ℕ). take j after) e ∙ h .written)
           ∙ append-assoc (take at before) w (a ∷ []));
       kept = rw n (drop-set-lt (suc i) after i a (omega arith) ∙ rw d (further after before i 1 (rw e (h .kept))));
     }
@@ -62,10 +63,12 @@ pub record Front (before w after : List ℕ) (k : ℕ) : Type 0 where
   pub at : k ≡ length w
   pub wrote : Wrote before 0 w after
 
-pub front-put : {before w after : List ℕ} {k : ℕ} → Front before w after k → (a : ℕ) → k < length before → Front before (w ++ (a ∷ [])) (set after k a) (k + 1)
+pub front-put : {before w after : List ℕ} {k : ℕ} → Front before w after k → (a : ℕ) → k < length before
+    → Front before (w ++ (a ∷ [])) (set after k a) (k + 1)
 front-put {before} {w} {after} {k} f a l =
     record { at = omega (arith, f .at, length-append w (a ∷ [])); wrote = wrote-next (f .wrote) k a (omega (arith, f .at)) l }
 
-pub front-more : {before w after v next : List ℕ} {k n : ℕ} → Front before w after k → n ≡ k + length v → Wrote after k v next → Front before (w ++ v) next n
+pub front-more : {before w after v next : List ℕ} {k n : ℕ} → Front before w after k → n ≡ k + length v → Wrote after k v next
+    → Front before (w ++ v) next n
 front-more {before} {w} {after} {v} {next} {k} {n} f e h =
     record { at = omega (arith, f .at, length-append w v); wrote = wrote-both (f .wrote) k (omega (arith, f .at)) h }

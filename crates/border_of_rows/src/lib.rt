@@ -33,7 +33,8 @@ fn across(out: &mut [u8], at: usize, a: u16, b: u16) -> usize
 // Writes the letters up the left ends from row `y` to row `e`.
 fn rise(lo: &[u16; CORNERS], y: usize, e: usize, out: &mut [u8], at: usize) -> usize
     requires { ⌜ (y ≤ e) × (e < corners) × (at + length (toRow (rows (now lo)) y (e - y)) ≤ length (now out)) ⌝ }
-    ensures { λ r. ⌜ (r ≡ at + length (toRow (rows (now (lo .entry))) y (e - y))) × Wrote (now (out .entry)) at (toRow (rows (now (lo .entry))) y (e - y)) (now (out .exit)) ⌝ }
+    ensures { λ r. ⌜ (r ≡ at + length (toRow (rows (now (lo .entry))) y (e - y)))
+        × Wrote (now (out .entry)) at (toRow (rows (now (lo .entry))) y (e - y)) (now (out .exit)) ⌝ }
 {
     let mut k = at;
     let mut i = y;
@@ -48,7 +49,8 @@ fn rise(lo: &[u16; CORNERS], y: usize, e: usize, out: &mut [u8], at: usize) -> u
 // Writes the letters down the right ends from row `e` to row `y`.
 fn fall(hi: &[u16; CORNERS], y: usize, e: usize, out: &mut [u8], at: usize) -> usize
     requires { ⌜ (y ≤ e) × (e < corners) × (at + length (descent (rows (now hi)) y (e - y)) ≤ length (now out)) ⌝ }
-    ensures { λ r. ⌜ (r ≡ at + length (descent (rows (now (hi .entry))) y (e - y))) × Wrote (now (out .entry)) at (descent (rows (now (hi .entry))) y (e - y)) (now (out .exit)) ⌝ }
+    ensures { λ r. ⌜ (r ≡ at + length (descent (rows (now (hi .entry))) y (e - y)))
+        × Wrote (now (out .entry)) at (descent (rows (now (hi .entry))) y (e - y)) (now (out .exit)) ⌝ }
 {
     out[at] = 3;
     let mut k = at + 1;
@@ -66,7 +68,9 @@ fn fall(hi: &[u16; CORNERS], y: usize, e: usize, out: &mut [u8], at: usize) -> u
 pub fn round(lo: &[u16; CORNERS], hi: &[u16; CORNERS], b: usize, t: usize, m: usize, out: &mut [u8])
     requires { ⌜ (b ≤ m) × (m < t) × (t ≤ side) ⌝ }
     requires { ⌜ length (writtenFrom (rows (now lo)) (rows (now hi)) b t m) ≤ length (now out) ⌝ }
-    ensures { λ _. ⌜ now (out .exit) ≡ writtenFrom (rows (now (lo .entry))) (rows (now (hi .entry))) b t m ++ drop (length (writtenFrom (rows (now (lo .entry))) (rows (now (hi .entry))) b t m)) (now (out .entry)) ⌝ }
+    ensures { λ _. ⌜ now (out .exit)
+        ≡ writtenFrom (rows (now (lo .entry))) (rows (now (hi .entry))) b t m ++ drop
+        (length (writtenFrom (rows (now (lo .entry))) (rows (now (hi .entry))) b t m)) (now (out .entry)) ⌝ }
 {
     let top = t - 1;
     let up = rise(lo, m, top, out, 0);

@@ -7,7 +7,8 @@ use Rattle.chart.specs.declared.Point.{Point}
 use Rattle.calls.specs.declared.Piece.{Piece}
 use Rattle.calls.specs.declared.Piece.the-variants.{Move, Line, Close, None as NoPiece}
 use Rattle.calls.specs.declared.Reply.{Reply}
-use Rattle.calls.specs.declared.Reply.the-variants.{Done, Inside, Outside, Undecided, Columns, None, Drawn, Taken, Same, Refused, NothingAtWork, NoDraft, DraftOpen, DraftFull, NoParty, NoPlace}
+use Rattle.calls.specs.declared.Reply.the-variants.{Done, Inside, Outside, Undecided, Columns, None, Drawn, Taken, Same, Refused}
+use Rattle.calls.specs.declared.Reply.the-variants.{NothingAtWork, NoDraft, DraftOpen, DraftFull, NoParty, NoPlace}
 
 -- A piece in seven numbers: its word and, for a move or a line, the cell whose centre is the point (contract 7.11)
 unfoldable pub pieceFields : Piece → Point → Fields

@@ -8,7 +8,8 @@ use Rattle.chart.specs.Refusals as refusals
 use Rattle.chart.specs.declared.Point.{Point}
 use Rattle.chart.specs.declared.Fields.{Fields}
 use Rattle.chart.specs.declared.Refusal.{Refusal}
-use Rattle.chart.specs.declared.Refusal.the-variants.{Count, Start, Letter, Leaves, Unclosed, Touches, BackStep, Dent, Room, List as BadList, Cell, Directions}
+use Rattle.chart.specs.declared.Refusal.the-variants.{Count, Start, Letter, Leaves, Unclosed, Touches, BackStep, Dent, Room}
+use Rattle.chart.specs.declared.Refusal.the-variants.{List as BadList, Cell, Directions}
 use Rattle.chart.specs.declared.Verdict.{Verdict}
 use Rattle.chart.specs.declared.Verdict.the-variants.{Taken, Refused}
 use Rattle.chart.specs.declared.Position.{Position}
@@ -89,7 +90,8 @@ refusalFields (Leaves p) = placed refusals.off-chart p
 refusalFields Unclosed = numbered refusals.not-closed
 refusalFields (Touches p) = placed refusals.touches p
 refusalFields (BackStep k p) = record { number = refusals.back-step; word = no-word; place = p; piece = k; length = 0; col = 0; row = 0 }
-refusalFields (Dent k p l x) = record { number = refusals.dent; word = no-word; place = p; piece = k; length = l; col = x .col; row = x .row }
+refusalFields (Dent k p l x) =
+    record { number = refusals.dent; word = no-word; place = p; piece = k; length = l; col = x .col; row = x .row }
 refusalFields (Room e) = placed refusals.edge-list e
 refusalFields BadList = numbered refusals.edge-list
 refusalFields Cell = numbered refusals.cell
@@ -129,7 +131,15 @@ numbersOf f = f .number ∷ f .word ∷ f .place ∷ f .piece ∷ f .length ∷ 
 -- The reply in the first seven numbers of a list
 unfoldable pub fieldsOf : List ℕ → Fields
 fieldsOf l =
-    record { number = getD l 0 0; word = getD l 1 0; place = getD l 2 0; piece = getD l 3 0; length = getD l 4 0; col = getD l 5 0; row = getD l 6 0 }
+    record {
+      number = getD l 0 0;
+      word = getD l 1 0;
+      place = getD l 2 0;
+      piece = getD l 3 0;
+      length = getD l 4 0;
+      col = getD l 5 0;
+      row = getD l 6 0;
+    }
 
 -- A buffer after a reply is written to it: the seven numbers, then the old content. A buffer with room for fewer than seven is unchanged
 unfoldable pub replyAfter : Fields → List ℕ → List ℕ

@@ -10,7 +10,9 @@ use crate::refusals;
 ghost use mathlib.Core.Path.{_≡_};
 ghost use lib.ListN.{length};
 ghost use lib.Dec.{leb};
-ghost use Rattle.chart.specs.Fields.{numbered as numberedOf, placed as placedOf, worded as wordedOf, accepted as acceptedOf, refusalFields, verdictFields, positionFields, handing as handingOf, nestingFields, comparisonFields, replyWidth, replyAfter};
+ghost use Rattle.chart.specs.Fields.{numbered as numberedOf, placed as placedOf, worded as wordedOf, accepted as acceptedOf};
+ghost use Rattle.chart.specs.Fields.{refusalFields, verdictFields, positionFields, handing as handingOf, nestingFields};
+ghost use Rattle.chart.specs.Fields.{comparisonFields, replyWidth, replyAfter};
 
 // The count of numbers in a reply.
 pub const NUMBERS: usize = 7;

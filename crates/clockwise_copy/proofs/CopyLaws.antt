@@ -45,7 +45,8 @@ take-two u v before room =
     let d : List ℕ = paste before 0 u (length u) in
     let l : length d ≡ length before = length-paste before 0 u (length u) (omega arith) (omega arith) in
     let one : take (length u) d ≡ u =
-    ap (λ (n : ℕ). take n d) (sym (zero-add (length u))) ∙ take-paste before 0 u (length u) (omega arith) (omega arith) ∙ take-all (length u) u (omega arith) in
+    ap (λ (n : ℕ). take n d) (sym (zero-add (length u))) ∙ take-paste before 0 u (length u) (omega arith) (omega arith)
+    ∙ take-all (length u) u (omega arith) in
     let two : take (length v) v ≡ v = take-all (length v) v (omega arith) in
     take-paste d (length u) v (length v) (omega arith) (omega arith) ∙ (λ z. one z ++ two z)
 
@@ -80,10 +81,12 @@ module _ (w : List ℕ) (from : ℕ) where
       room-backward e =
           let l = length-on in
           let m = length-up-to in
-          let same : length mid ≡ length before = ap length e ∙ length-paste before 0 (backward upTo) (length upTo) (omega arith) (omega (arith, length-backward upTo)) in
+          let same : length mid ≡ length before = ap length e
+          ∙ length-paste before 0 (backward upTo) (length upTo) (omega arith) (omega (arith, length-backward upTo)) in
           omega arith
 
-      pub round-forward : {after : List ℕ} → mid ≡ paste before 0 on (length on) → after ≡ paste mid (length w - from) upTo (length upTo) → take (length w) after ≡ readRound true from w
+      pub round-forward : {after : List ℕ} → mid ≡ paste before 0 on (length on) → after ≡ paste mid (length w - from) upTo (length upTo)
+          → take (length w) after ≡ readRound true from w
       unfolding readRound
       round-forward e f =
           let l = length-on in
@@ -92,7 +95,8 @@ module _ (w : List ℕ) (from : ℕ) where
           (λ z. take (all z) (f z)) ∙ (λ z. take (length on + length upTo) (paste (e z) (sym l z) upTo (length upTo)))
           ∙ take-two on upTo before (omega arith) ∙ ap (λ (u : List ℕ). u ++ upTo) on-is
 
-      pub round-backward : {after : List ℕ} → mid ≡ paste before 0 (backward upTo) (length upTo) → after ≡ paste mid from (backward on) (length on) → take (length w) after ≡ readRound false from w
+      pub round-backward : {after : List ℕ} → mid ≡ paste before 0 (backward upTo) (length upTo)
+          → after ≡ paste mid from (backward on) (length on) → take (length w) after ≡ readRound false from w
       unfolding readRound
       round-backward e f =
           let l = length-on in
@@ -102,5 +106,7 @@ module _ (w : List ℕ) (from : ℕ) where
           let all : length w ≡ length (backward upTo) + length (backward on) = omega arith in
           let at : from ≡ length (backward upTo) = omega arith in
           (λ z. take (all z) (f z)) ∙ (λ z. take (length (backward upTo) + length (backward on)) (paste (e z) (at z) (backward on) (lv z)))
-          ∙ (λ z. take (length (backward upTo) + length (backward on)) (paste (paste before 0 (backward upTo) (lu z)) (length (backward upTo)) (backward on) (length (backward on))))
-          ∙ take-two (backward upTo) (backward on) before (omega arith) ∙ sym (backward-append on upTo) ∙ ap (λ (u : List ℕ). backward (u ++ upTo)) on-is
+          ∙ (λ z. take (length (backward upTo) + length (backward on))
+          (paste (paste before 0 (backward upTo) (lu z)) (length (backward upTo)) (backward on) (length (backward on))))
+          ∙ take-two (backward upTo) (backward on) before (omega arith) ∙ sym (backward-append on upTo)
+          ∙ ap (λ (u : List ℕ). backward (u ++ upTo)) on-is

@@ -48,11 +48,13 @@ fits (Unfit f) = false
 
 pub fit-passes : (a : Point) (es : List ℤ) → Fit ≡ checkedOf a es → Passing (polygon a es)
 unfolding checkedOf
-fit-passes a es e = go (badList es) (badCell a) (badDirections es) (cornersOnChart (pairs es) (pos (a .col)) (pos (a .row))) refl refl (sym (ap fits e))
+fit-passes a es e =
+    go (badList es) (badCell a) (badDirections es) (cornersOnChart (pairs es) (pos (a .col)) (pos (a .row))) refl refl (sym (ap fits e))
   where
     go :
         (l c t p : Bool) → badDirections es ≡ t → cornersOnChart (pairs es) (pos (a .col)) (pos (a .row)) ≡ p
-        → fits (cond l (Unfit BadList) (cond c (Unfit Cell) (cond t (Unfit Directions) (cond p Fit (Unfit Cell))))) ≡ true → Passing (polygon a es)
+        → fits (cond l (Unfit BadList) (cond c (Unfit Cell) (cond t (Unfit Directions) (cond p Fit (Unfit Cell))))) ≡ true
+        → Passing (polygon a es)
     go true c t p v w h = absurd (false≢true h)
     go false true t p v w h = absurd (false≢true h)
     go false false true p v w h = absurd (false≢true h)

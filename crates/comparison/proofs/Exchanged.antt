@@ -30,7 +30,8 @@ module _ (a : Point) (es : List ℤ) (b : Point) (fs : List ℤ) where
   isFound (Found v) = true
   isFound (Refused n f) = false
 
-  found-parts : (v : Nesting) → comparisonOf a es b fs ≡ Found v → (Fit ≡ checkedOf a es) × (Fit ≡ checkedOf b fs) × (nesting (polygon a es) (polygon b fs) ≡ v)
+  found-parts : (v : Nesting) → comparisonOf a es b fs ≡ Found v
+      → (Fit ≡ checkedOf a es) × (Fit ≡ checkedOf b fs) × (nesting (polygon a es) (polygon b fs) ≡ v)
   unfolding comparisonOf decided nestingIn isFound
   found-parts v = go (checkedOf a es) (checkedOf b fs)
     where

@@ -77,7 +77,8 @@ module _ (a : ℕ) (f : ℕ → ℕ) (before : List ℕ) where
             ];
       }
 
-  pub low-next : {n : ℕ} {list : List ℕ} (w : ℕ) → AllBelow before → Lowered (inRows a n f side) before list → a < n → n < length list → f n ≡ min w side
+  pub low-next : {n : ℕ} {list : List ℕ} (w : ℕ) → AllBelow before → Lowered (inRows a n f side) before list → a < n → n < length list
+      → f n ≡ min w side
       → Lowered (inRows a (n + 1) f side) before (set list n (min (getD list n 0) w))
   low-next {n} {list} w b o h room e =
       record {
@@ -86,12 +87,19 @@ module _ (a : ℕ) (f : ℕ → ℕ) (before : List ℕ) where
             elim (ℕ-discrete r n) [
               | yes k ↦
                   put-here list n _ room r k
-                  ∙ rw k (omega (arith, b .at n (omega arith), o .at n (omega arith), off-above a n f side n (omega arith), in-rows a (n + 1) f side n h (omega arith)))
+                  ∙ rw k (omega (
+                    arith,
+                    b .at n (omega arith),
+                    o .at n (omega arith),
+                    off-above a n f side n (omega arith),
+                    in-rows a (n + 1) f side n h (omega arith),
+                  ))
               | no k ↦ put-else list n _ room r k ∙ o .at r l ∙ ap (min (getD before r 0)) (sym (one-more a n f side r k))
             ];
       }
 
-  pub low-end : {b n : ℕ} {list : List ℕ} → Lowered (inRows a n f side) before list → b ≤ n → n ≤ max (a + 1) b → Lowered (inRows a b f side) before list
+  pub low-end : {b n : ℕ} {list : List ℕ} → Lowered (inRows a n f side) before list → b ≤ n → n ≤ max (a + 1) b
+      → Lowered (inRows a b f side) before list
   low-end {b} {n} o h k = record { long = o .long; at = λ r l. o .at r l ∙ ap (min (getD before r 0)) (all-rows a b n f side r h k) }
 
   pub high-start : Raised (inRows a (a + 1) f 0) before before
@@ -119,13 +127,15 @@ module _ (a : ℕ) (f : ℕ → ℕ) (before : List ℕ) where
             ];
       }
 
-  pub high-end : {b n : ℕ} {list : List ℕ} → Raised (inRows a n f 0) before list → b ≤ n → n ≤ max (a + 1) b → Raised (inRows a b f 0) before list
+  pub high-end : {b n : ℕ} {list : List ℕ} → Raised (inRows a n f 0) before list → b ≤ n → n ≤ max (a + 1) b
+      → Raised (inRows a b f 0) before list
   high-end {b} {n} o h k = record { long = o .long; at = λ r l. o .at r l ∙ ap (max (getD before r 0)) (all-rows a b n f 0 r h k) }
 
 -- ---- a single row
 
 module _ (f : ℕ → ℕ) (before : List ℕ) (n w : ℕ) (room : n < length before) where
-  pub low-one : AllBelow before → f n ≡ min w side → ((r : ℕ) → (r ≡ n → ⊥) → f r ≡ side) → Lowered f before (set before n (min (getD before n 0) w))
+  pub low-one : AllBelow before → f n ≡ min w side → ((r : ℕ) → (r ≡ n → ⊥) → f r ≡ side)
+      → Lowered f before (set before n (min (getD before n 0) w))
   low-one b e h =
       record {
         long = length-set before n _;

@@ -70,7 +70,8 @@ tested o buffer e = go (testOf o (length buffer)) refl e
     go (Taken n a) s d = record { count = n; anchor = a; said = s }
     go (Refused f) s d = absurd (omega (arith, refusal-number f))
 
-pub test-has : (o : Outline) (buffer : List ℤ) → testFields o (length buffer) .number ≡ 0 → HasEdges o (anchorFrom o buffer) (edgesFrom o buffer)
+pub test-has : (o : Outline) (buffer : List ℤ) → testFields o (length buffer) .number ≡ 0
+    → HasEdges o (anchorFrom o buffer) (edgesFrom o buffer)
 unfolding testFields
 test-has o buffer e =
     let t = tested o buffer e in
@@ -79,7 +80,8 @@ test-has o buffer e =
       reaches = f .reaches;
       smooth = f .undented;
       anchor = sym (f .anchor) ∙ ap (λ (v : Verdict). cellOf (verdictFields v)) (sym (t .said));
-      edged = sym (edges-first o buffer (t .count) (t .anchor) (t .said)) ∙ ap (λ (v : Verdict). take (2 * verdictFields v .place) (edgesAfter o buffer)) (sym (t .said));
+      edged = sym (edges-first o buffer (t .count) (t .anchor) (t .said))
+          ∙ ap (λ (v : Verdict). take (2 * verdictFields v .place) (edgesAfter o buffer)) (sym (t .said));
     }
 
 -- The claim: for two taken outlines, with the anchors and edges that their tests

@@ -62,12 +62,14 @@ module _ (f e g h : List ℕ) where
   compared-start = refl
 
   next-row : (n : ℕ) (i o a w v z : Bool) → record { inward = i; outward = o; apart = a } ≡ comparedTo f e g h n
-      → w ≡ inwardAt n → v ≡ outwardAt n → z ≡ apartAt n → record { inward = i && w; outward = o && v; apart = a && z } ≡ comparedTo f e g h (suc n)
+      → w ≡ inwardAt n → v ≡ outwardAt n → z ≡ apartAt n
+      → record { inward = i && w; outward = o && v; apart = a && z } ≡ comparedTo f e g h (suc n)
   unfolding comparedTo every
   next-row n i o a w v z k p q s = λ j. record { inward = k j .inward && p j; outward = k j .outward && q j; apart = k j .apart && s j }
 
   pub compared-next : (n : ℕ) (i o a w v z : Bool) → record { inward = i; outward = o; apart = a } ≡ comparedTo f e g h n
-      → w ≡ inwardAt n → v ≡ outwardAt n → z ≡ apartAt n → record { inward = i && w; outward = o && v; apart = a && z } ≡ comparedTo f e g h (n + 1)
+      → w ≡ inwardAt n → v ≡ outwardAt n → z ≡ apartAt n
+      → record { inward = i && w; outward = o && v; apart = a && z } ≡ comparedTo f e g h (n + 1)
   compared-next n i o a w v z k p q s =
       let more : n + 1 ≡ suc n = omega arith in
       rw more (next-row n i o a w v z k p q s)
@@ -88,12 +90,14 @@ compared-swept p q f e g h s t = λ j. record { inward = inward j; outward = out
 
 -- ---- how the cells lie
 
-pub nests-by-rows : {p q : Polygon} → Fit p → Fit q → (t : Tests) → t ≡ testsOf p q → byTests (t .inward) (t .outward) (not (t .apart)) ≡ nesting p q
+pub nests-by-rows : {p q : Polygon} → Fit p → Fit q → (t : Tests) → t ≡ testsOf p q
+    → byTests (t .inward) (t .outward) (not (t .apart)) ≡ nesting p q
 unfolding testsOf
 nests-by-rows {p} {q} one two t e = rw e (nesting-by-rows p q one two)
 
 -- The same anchor and the same edges
-pub nests-same : (a : Point) (es : List ℤ) (b : Point) (fs : List ℤ) → Fit (polygon a es) → (samePoint a b && sameℤs es fs) ≡ true → Equal ≡ nesting (polygon a es) (polygon b fs)
+pub nests-same : (a : Point) (es : List ℤ) (b : Point) (fs : List ℤ) → Fit (polygon a es) → (samePoint a b && sameℤs es fs) ≡ true
+    → Equal ≡ nesting (polygon a es) (polygon b fs)
 nests-same a es b fs fit e =
     let k = and-eq-true-iff (samePoint a b) (sameℤs es fs) .0 e in
     nesting-self (polygon a es) fit ∙ λ i. nesting (polygon a es) (polygon (same-point a b (k .0) i) (same-ℤs es fs (k .1) i))

@@ -105,25 +105,37 @@ pub record Sweeping (es : List ℤ) (a : Point) (i : ℕ) (p : Point) (first end
   pub stands : Standing es i p
   pub below : AllBelow first
   pub wide : length end ≡ 256
-  pub from : (r : ℕ) → r < side → min (getD first r 0) (sweptFrom (pairs (drop i es)) (pos (p .col)) (pos (p .row)) r) ≡ rowFrom (polygon a es) r
+  pub from : (r : ℕ) → r < side
+      → min (getD first r 0) (sweptFrom (pairs (drop i es)) (pos (p .col)) (pos (p .row)) r) ≡ rowFrom (polygon a es) r
   pub to : (r : ℕ) → r < side → max (getD end r 0) (sweptTo (pairs (drop i es)) (pos (p .col)) (pos (p .row)) r) ≡ rowTo (polygon a es) r
 
-pub sweeping-start : (es : List ℤ) (a : Point) (first end : List ℕ) → Fit (polygon a es) → first ≡ replicate 256 side → end ≡ replicate 256 0 → Sweeping es a 0 a first end
+pub sweeping-start : (es : List ℤ) (a : Point) (first end : List ℕ) → Fit (polygon a es) → first ≡ replicate 256 side
+    → end ≡ replicate 256 0 → Sweeping es a 0 a first end
 unfolding rowFrom rowTo
 sweeping-start es a first end fit e f =
     record {
       stands = record { passed = omega arith; rest = fit .placed };
-      below = record { long = ap length e ∙ length-replicate 256 side; at = λ r l. omega (arith, ap (λ (k : List ℕ). getD k r 0) e, getD-replicate {A = ℕ} 256 r side 0 (omega arith)) };
+      below =
+          record {
+            long = ap length e ∙ length-replicate 256 side;
+            at = λ r l. omega (arith, ap (λ (k : List ℕ). getD k r 0) e, getD-replicate {A = ℕ} 256 r side 0 (omega arith));
+          };
       wide = ap length f ∙ length-replicate {A = ℕ} 256 0;
       from = λ r l.
-          omega (arith, ap (λ (k : List ℕ). getD k r 0) e, getD-replicate {A = ℕ} 256 r side 0 (omega arith), swept-from-below (pairs es) (pos (a .col)) (pos (a .row)) r);
+          omega (
+            arith,
+            ap (λ (k : List ℕ). getD k r 0) e,
+            getD-replicate {A = ℕ} 256 r side 0 (omega arith),
+            swept-from-below (pairs es) (pos (a .col)) (pos (a .row)) r,
+          );
       to = λ r l. omega (arith, ap (λ (k : List ℕ). getD k r 0) f, getD-replicate {A = ℕ} 256 r 0 0 (omega arith));
     }
 
 module _ {es : List ℤ} {a : Point} {i : ℕ} {p : Point} {first end : List ℕ} (w : Sweeping es a i p first end) where
   pub sweeping-next : {met risen reached fallen : List ℕ} → i + 1 < length es →
       let q = cellAt (nextCorner es i (started p)) in
-      Lowered (metFrom p) first met → Raised (metTo p) end reached → Lowered (risenFrom p q) met risen → Raised (fallenTo p q) reached fallen
+      Lowered (metFrom p) first met → Raised (metTo p) end reached → Lowered (risenFrom p q) met risen
+      → Raised (fallenTo p q) reached fallen
       → Sweeping es a (i + 2) q risen fallen
   sweeping-next h m n s t =
       let e = next-cell (w .stands) h in
@@ -135,7 +147,8 @@ module _ {es : List ℤ} {a : Point} {i : ℕ} {p : Point} {first end : List ℕ
         to = λ r l. omega (arith, t .at r l, n .at r l, to-next es i p r _ e h, w .to r l);
       }
 
-  pub sweeping-end : {met reached : List ℕ} → length es ≤ i + 1 → Lowered (metFrom p) first met → Raised (metTo p) end reached → Swept (polygon a es) met reached
+  pub sweeping-end : {met reached : List ℕ} → length es ≤ i + 1 → Lowered (metFrom p) first met → Raised (metTo p) end reached
+      → Swept (polygon a es) met reached
   sweeping-end h m n =
       record {
         from = λ r l. omega (arith, m .at r l, from-last es i p r h, w .from r l);

@@ -14,7 +14,8 @@ use Rattle.chart.specs.declared.Nesting.the-variants.{Equal, FirstWithin, Secon
 use Rattle.chart.specs.declared.Comparison.{Comparison}
 use Rattle.chart.specs.declared.Comparison.the-variants.{Found, Refused}
 use Rattle.chart.specs.declared.Refusal.{Refusal}
-use Rattle.chart.specs.declared.Refusal.the-variants.{Count, Start, Letter, Leaves, Unclosed, Touches, BackStep, Dent, Room, List as BadList, Cell, Directions}
+use Rattle.chart.specs.declared.Refusal.the-variants.{Count, Start, Letter, Leaves, Unclosed, Touches, BackStep, Dent, Room}
+use Rattle.chart.specs.declared.Refusal.the-variants.{List as BadList, Cell, Directions}
 use Rattle.chart.specs.Fields.{placed, refusalFields, nestingFields, comparisonFields}
 use Rattle.nesting.specs.Cells.{polygon}
 use Rattle.nesting.specs.Answer.{nesting}
@@ -75,7 +76,10 @@ module _ (a : Point) (es : List ℤ) (b : Point) (fs : List ℤ) where
   named Fit (Unfit f) p q = unnamed 2 f
   named Fit Fit p q =
       let iff = answer-iff (polygon a es) (polygon b fs) (fit-passes a es p) (fit-passes b fs q) in
-      record { says = λ v e. iff v .1 (word-once (nesting (polygon a es) (polygon b fs)) v e); only = λ e v h. ap nestingFields (iff v .0 h) }
+      record {
+        says = λ v e. iff v .1 (word-once (nesting (polygon a es) (polygon b fs)) v e);
+        only = λ e v h. ap nestingFields (iff v .0 h);
+      }
 
   cells-named : CellsNamed (polygon a es) (polygon b fs) (comparisonFields (comparisonOf a es b fs))
   unfolding comparisonOf
@@ -83,7 +87,8 @@ module _ (a : Point) (es : List ℤ) (b : Point) (fs : List ℤ) where
 
   -- The same for anything equal to that result
   pub answer-named :
-      (c : Comparison) → c ≡ comparisonOf a es b fs → (c ≡ comparisonOf a es b fs) × CellsNamed (polygon a es) (polygon b fs) (comparisonFields c)
+      (c : Comparison) → c ≡ comparisonOf a es b fs
+      → (c ≡ comparisonOf a es b fs) × CellsNamed (polygon a es) (polygon b fs) (comparisonFields c)
   answer-named c e = (e, rw e cells-named)
 
 -- The piece of a reply names the list that comes with it

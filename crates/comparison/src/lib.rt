@@ -146,8 +146,10 @@ pub fn compare<'a>(
     others: &'a [i16],
     reply: &mut [u16; NUMBERS],
 ) -> &'a [i16]
-    ensures reply { λ _. ⌜ now (reply .exit) ≡ numbersOf (comparisonFields (comparisonOf anchor (now (edges .entry)) other (now (others .entry)))) ⌝ }
-    ensures cells { λ _. ⌜ CellsNamed (polygon anchor (now (edges .entry))) (polygon other (now (others .entry))) (fieldsOf (now (reply .exit))) ⌝ }
+    ensures reply { λ _. ⌜ now (reply .exit)
+        ≡ numbersOf (comparisonFields (comparisonOf anchor (now (edges .entry)) other (now (others .entry)))) ⌝ }
+    ensures cells { λ _. ⌜ CellsNamed (polygon anchor (now (edges .entry))) (polygon other (now (others .entry)))
+        (fieldsOf (now (reply .exit))) ⌝ }
     ensures list { λ r. ⌜ ReturnedList (fieldsOf (now (reply .exit))) r (edges .entry) (others .entry) ⌝ }
 {
     let comparison = relate(anchor, edges, other, others);

@@ -6,7 +6,8 @@ ghost use Prim.Native.Nat.{_<_, _*_, min, max};
 ghost use lib.ListN.{length, replicate};
 ghost use Rattle.chart.specs.Limits.{side};
 ghost use Rattle.nesting.specs.Cells.{polygon, Fit};
-ghost use Rattle.comparison.specs.parts.Rows.{edgeAtRow, firstOf, endOf, metFrom, metTo, risenFrom, fallenTo, AllBelow, Lowered, Raised, Swept, testsOf, compared};
+ghost use Rattle.comparison.specs.parts.Rows.{edgeAtRow, firstOf, endOf, metFrom, metTo, risenFrom, fallenTo, AllBelow, Lowered};
+ghost use Rattle.comparison.specs.parts.Rows.{Raised, Swept, testsOf, compared};
 
 // One number for each row of the chart, and one more.
 pub(crate) const ROWS: usize = 256;

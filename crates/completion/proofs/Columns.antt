@@ -63,13 +63,20 @@ module _ (o : Outline) (h : Simple o) where
   cell-right : (c r : ℕ) → block o c r ≡ true → c < hi (last-row .at)
   cell-right c r m =
       let k = e .inside (at c r) m in
-      omega (arith, k .before, last-row .least r (k .above) (k .below), e .rows .fits r (k .above) (k .below), e .rows .fits (last-row .at) (last-row .low) (last-row .high))
+      omega (
+        arith,
+        k .before,
+        last-row .least r (k .above) (k .below),
+        e .rows .fits r (k .above) (k .below),
+        e .rows .fits (last-row .at) (last-row .low) (last-row .high),
+      )
 
   hull-left : (x : Point) → InHull (block o) x → lo (first-row .at) ≤ x .col
   hull-left x k =
       let g = k .triangle in
       mean-at-least (g .a) (g .b) (g .c) (x .col) (k .p .col) (k .q .col) (k .t .col) (lo (first-row .at)) (g .some) (g .cols)
-      (cell-left (k .p .col) (k .p .row) (k .p-marked)) (cell-left (k .q .col) (k .q .row) (k .q-marked)) (cell-left (k .t .col) (k .t .row) (k .t-marked))
+      (cell-left (k .p .col) (k .p .row) (k .p-marked)) (cell-left (k .q .col) (k .q .row) (k .q-marked))
+      (cell-left (k .t .col) (k .t .row) (k .t-marked))
 
   hull-right : (x : Point) → InHull (block o) x → x .col < hi (last-row .at)
   hull-right x k =
@@ -77,13 +84,21 @@ module _ (o : Outline) (h : Simple o) where
       let p = cell-right (k .p .col) (k .p .row) (k .p-marked) in
       let q = cell-right (k .q .col) (k .q .row) (k .q-marked) in
       let r = cell-right (k .t .col) (k .t .row) (k .t-marked) in
-      omega (arith, p, mean-at-most (g .a) (g .b) (g .c) (x .col) (k .p .col) (k .q .col) (k .t .col) (pred (hi (last-row .at))) (g .some) (g .cols) (omega arith) (omega arith) (omega arith))
+      omega (
+        arith,
+        p,
+        mean-at-most (g .a) (g .b) (g .c) (x .col) (k .p .col) (k .q .col) (k .t .col) (pred (hi (last-row .at))) (g .some)
+            (g .cols) (omega arith) (omega arith) (omega arith),
+      )
 
-  module _ (m : Least (hullLeft lo b t) (firstRow (block o)) (pastRow (block o))) (n : Least (hullLeft mirror b t) (firstRow (block o)) (pastRow (block o))) where
+  module _ (m : Least (hullLeft lo b t) (firstRow (block o)) (pastRow (block o)))
+      (n : Least (hullLeft mirror b t) (firstRow (block o)) (pastRow (block o))) where
     left-is : hullLeft lo b t (m .at) ≡ lo (first-row .at)
     left-is =
         let f = first-row in
-        let k = hull-left (at (hullLeft lo b t (m .at)) (m .at)) (hull-cell _ (m .at) (m .low) (m .high) (omega arith) (wide .nonempty (m .at) (m .low) (m .high))) in
+        let k =
+        hull-left (at (hullLeft lo b t (m .at)) (m .at))
+        (hull-cell _ (m .at) (m .low) (m .high) (omega arith) (wide .nonempty (m .at) (m .low) (m .high))) in
         omega (arith, k, m .least (f .at) (f .low) (f .high), wider-left lo hi b t (e .rows) (f .at) (f .low) (f .high))
 
     right-is : hullRight hi b t (n .at) ≡ hi (last-row .at)
@@ -91,7 +106,9 @@ module _ (o : Outline) (h : Simple o) where
     right-is =
         let f = last-row in
         let nonempty = wide .nonempty (n .at) (n .low) (n .high) in
-        let k : pred (hullRight hi b t (n .at)) < hi (last-row .at) = hull-right (at (pred (hullRight hi b t (n .at))) (n .at)) (hull-cell _ (n .at) (n .low) (n .high) (omega arith) (omega arith)) in
+        let k : pred (hullRight hi b t (n .at)) < hi (last-row .at) =
+        hull-right (at (pred (hullRight hi b t (n .at))) (n .at)) (hull-cell _ (n .at) (n .low) (n .high) (omega arith) (omega arith))
+        in
         let l : hullLeft (λ s. side - hi s) b t (n .at) ≤ hullLeft (λ s. side - hi s) b t (f .at) = n .least (f .at) (f .low) (f .high) in
         omega (arith, nonempty, wider-right lo hi b t (e .rows) (f .at) (f .low) (f .high))
 
@@ -127,7 +144,8 @@ module _ (o : Outline) (h : Simple o) where
   -- Two letters for each column and each row between the extreme corners
   pub complete-count : size (complete o) ≡ 2 * (rightmostCorner o - leftmostCorner o) + 2 * (highestCorner o - lowestCorner o)
   complete-count =
-      counted (size (complete o)) (lo (first-row .at)) (hi (last-row .at)) (firstRow (block o)) (pastRow (block o)) (leftmostCorner o) (rightmostCorner o) (lowestCorner o) (highestCorner o)
+      counted (size (complete o)) (lo (first-row .at)) (hi (last-row .at)) (firstRow (block o)) (pastRow (block o)) (leftmostCorner o)
+      (rightmostCorner o) (lowestCorner o) (highestCorner o)
       sized leftmost rightmost (lowest-corner o h) (highest-corner o h) across
     where
       across : lo (first-row .at) ≤ hi (last-row .at)

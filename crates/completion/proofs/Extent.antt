@@ -39,7 +39,14 @@ straddle i j k d e h l = omega (arith, ap (λ n. e * n) h, ap (λ n. d * n) l)
 pub left-hollow : (lo : ℕ → ℕ) (b t : ℕ) → Hollow (hullLeft lo b t) b t
 left-hollow lo b t i j k c h l m n f g =
     left-hull lo b t (at c j) (at c i) (at c k) (at c k)
-    (record { a = k - j; b = j - i; c = 0; some = omega arith; cols = omega arith; rows = straddle i j k (j - i) (k - j) (omega arith) (omega arith) })
+    (record {
+      a = k - j;
+      b = j - i;
+      c = 0;
+      some = omega arith;
+      cols = omega arith;
+      rows = straddle i j k (j - i) (k - j) (omega arith) (omega arith);
+    })
     (omega arith) (omega arith)
     (beyond-lines lo b t (at c i) h (omega arith) f)
     (beyond-lines lo b t (at c k) (omega arith) n g)
@@ -49,7 +56,8 @@ travel-mirror : (f : ℕ → ℕ) (y k : ℕ) → ((r : ℕ) → y ≤ r → r �
 unfolding travel
 travel-mirror f y zero h = refl
 travel-mirror f y (suc k) h =
-    sums _ _ _ _ (turned (f y) (f (suc y)) (h y (omega arith) (omega arith)) (h (suc y) (omega arith) (omega arith))) (travel-mirror f (suc y) k (λ r l m. h r (omega arith) (omega arith)))
+    sums _ _ _ _ (turned (f y) (f (suc y)) (h y (omega arith) (omega arith)) (h (suc y) (omega arith) (omega arith)))
+    (travel-mirror f (suc y) k (λ r l m. h r (omega arith) (omega arith)))
   where
     turned : (p q : ℕ) → p ≤ side → q ≤ side → ((side - q) - (side - p)) + ((side - p) - (side - q)) ≡ (q - p) + (p - q)
     turned p q a b = omega arith
@@ -72,13 +80,15 @@ module _ (lo hi : ℕ → ℕ) (b t : ℕ) (rows : Rows lo hi b t) where
   hull-letters m n =
       let l : b < t = rows .below in
       let nonempty = hull-rows lo hi b t rows .nonempty in
-      sums (size (outlineOf (hullLeft lo b t) (hullRight hi b t) b t)) (2 * (t - b)) (hullLeft lo b t b) (hullLeft lo b t (pred t)) (hullLeft lo b t (m .at))
+      sums (size (outlineOf (hullLeft lo b t) (hullRight hi b t) b t)) (2 * (t - b)) (hullLeft lo b t b) (hullLeft lo b t (pred t))
+      (hullLeft lo b t (m .at))
       (mirrorLeft b) (mirrorLeft (pred t)) (mirrorLeft (n .at))
       (travel (hullLeft lo b t) b (t - suc b)) (travel (hullRight hi b t) b (t - suc b)) (travel mirrorLeft b (t - suc b))
       (mirror-fits b (omega arith) l)
       (mirror-fits (pred t) (omega arith) (omega arith))
       (mirror-fits (n .at) (n .low) (n .high))
-      (length-outline (hullLeft lo b t) (hullRight hi b t) b t l (nonempty b (omega arith) l) (nonempty (pred t) (omega arith) (omega arith)))
+      (length-outline (hullLeft lo b t) (hullRight hi b t) b t l (nonempty b (omega arith) l)
+      (nonempty (pred t) (omega arith) (omega arith)))
       (travel-hollow (hullLeft lo b t) b t l (left-hollow lo b t) m)
       (travel-mirror (hullLeft (λ s. side - hi s) b t) b (t - suc b) (λ r h k. mirror-fits r h (omega arith)))
       (travel-hollow (hullLeft (λ s. side - hi s) b t) b t l (left-hollow (λ s. side - hi s) b t) n)
@@ -161,7 +171,11 @@ furthest-right marked x h =
                   | yes c ↦ (t, h .t-marked, c)
                   | no c ↦
                       let k = h .triangle in
-                      absurd (omega (arith, mean-at-most (k .a) (k .b) (k .c) (x .col) (p .col) (q .col) (t .col) (pred (x .col)) (k .some) (k .cols) (omega arith) (omega arith) (omega arith)))
+                      absurd (omega (
+                        arith,
+                        mean-at-most (k .a) (k .b) (k .c) (x .col) (p .col) (q .col) (t .col) (pred (x .col)) (k .some) (k .cols)
+                            (omega arith) (omega arith) (omega arith),
+                      ))
                 ]
           ]
     ]
@@ -193,7 +207,8 @@ module _ (o : Outline) (h : Simple o) (lo hi : ℕ → ℕ) (b t : ℕ) (e : End
       cell y m =
           elim (decLe (border o .start .col) (y .col)) [
             | yes l ↦ l
-            | no l ↦ absurd (true≢false (sym (encl (y .col) (y .row) m) ∙ left-of-anchor (border o) is-from-w (y .col) (y .row) (omega arith)))
+            | no l ↦
+                absurd (true≢false (sym (encl (y .col) (y .row) m) ∙ left-of-anchor (border o) is-from-w (y .col) (y .row) (omega arith)))
           ]
 
   hull-at : (c r : ℕ) → b ≤ r → r < t → hullLeft lo b t r ≤ c → c < hullRight hi b t r → InHull (block o) (at c r)
@@ -213,7 +228,9 @@ module _ (o : Outline) (h : Simple o) (lo hi : ℕ → ℕ) (b t : ℕ) (e : End
   corner-low l = below-cell (border o) is-from-w is-up (lo b) b (encl (lo b) b (e .first b (omega arith) l))
 
   corner-high : b < t → (i : ℕ) × (i ≤ size (border o)) × (cornerAt (border o) i .row ≡ suc (pred t))
-  corner-high l = above-cell (border o) is-from-w is-up (lo (pred t)) (pred t) (encl (lo (pred t)) (pred t) (e .first (pred t) (omega arith) (omega arith)))
+  corner-high l =
+      above-cell (border o) is-from-w is-up (lo (pred t)) (pred t)
+      (encl (lo (pred t)) (pred t) (e .first (pred t) (omega arith) (omega arith)))
 
   pub hull-shorter : size (outlineOf (hullLeft lo b t) (hullRight hi b t) b t) ≤ size o
   hull-shorter =
@@ -221,16 +238,19 @@ module _ (o : Outline) (h : Simple o) (lo hi : ℕ → ℕ) (b t : ℕ) (e : End
       let m = least-of (hullLeft lo b t) b t l in
       let n = least-of (hullLeft (λ s. side - hi s) b t) b t l in
       let nonempty = wide .nonempty (n .at) (n .low) (n .high) in
-      let (j, j-le, right) = corner-right (pred (hullRight hi b t (n .at))) (n .at) (hull-at _ (n .at) (n .low) (n .high) (omega arith) (omega arith)) in
+      let (j, j-le, right) =
+      corner-right (pred (hullRight hi b t (n .at))) (n .at) (hull-at _ (n .at) (n .low) (n .high) (omega arith) (omega arith)) in
       let (k, k-le, low) = corner-low l in
       let (i, i-le, high) = corner-high l in
       sums l (omega arith) (hull-letters lo hi b t (e .rows) m n)
-      (corner-left (hullLeft lo b t (m .at)) (m .at) (hull-at _ (m .at) (m .low) (m .high) (omega arith) (wide .nonempty (m .at) (m .low) (m .high))))
+      (corner-left (hullLeft lo b t (m .at)) (m .at)
+      (hull-at _ (m .at) (m .low) (m .high) (omega arith) (wide .nonempty (m .at) (m .low) (m .high))))
       right low high
       (perimeter (border o) (is-from-w .walked .closed) 0 j k i (omega arith) j-le k-le i-le)
       (length-border o h)
     where
       sums :
-          {s s′ s″ lm rn c₀ c₁ r₀ r₁ : ℕ} → b < t → 0 < rn → s + 2 * lm ≡ 2 * (t - b) + 2 * rn → c₀ ≤ lm → suc (pred rn) ≤ c₁ → r₀ ≡ b → r₁ ≡ suc (pred t)
+          {s s′ s″ lm rn c₀ c₁ r₀ r₁ : ℕ} → b < t → 0 < rn → s + 2 * lm ≡ 2 * (t - b) + 2 * rn → c₀ ≤ lm → suc (pred rn) ≤ c₁ → r₀ ≡ b
+          → r₁ ≡ suc (pred t)
           → 2 * c₁ + 2 * r₁ ≤ 2 * c₀ + 2 * r₀ + s″ → s″ ≡ s′ → s ≤ s′
       sums a z d f g i j k l = omega arith

@@ -60,7 +60,8 @@ module _ (o : Outline) (h : WalkFromW o) (up : letterAt o 0 ≡ 1) (r : ℕ) whe
   col-is e = ap (λ (x : Point). x .col) e
 
   -- The cell ahead on the right of a letter before a left turn
-  ahead : (i j a : ℕ) (c s : ℕ) → i < size o → j < size o → cornerAt o (suc i) ≡ cornerAt o j → letterAt o i ≡ a → letterAt o j ≡ (letterAt o i + 1) % 4
+  ahead : (i j a : ℕ) (c s : ℕ) → i < size o → j < size o → cornerAt o (suc i) ≡ cornerAt o j → letterAt o i ≡ a
+      → letterAt o j ≡ (letterAt o i + 1) % 4
       → cornerOf (cornerAt o i) a ≡ at (suc c) (suc s) → encloses o c s ≡ true
   ahead i j a c s l m e f g d =
       level-enclosed o (at c s)
@@ -110,7 +111,8 @@ module _ (o : Outline) (h : WalkFromW o) (up : letterAt o 0 ≡ 1) (r : ℕ) whe
                     column = p .col;
                     lower =
                         beside j (p .col) r (a .below) k
-                        (point-eq (cornerAt o j) (at (p .col) r) (omega (arith, col-is (sym d ∙ a .there))) (omega (arith, row-is (sym d ∙ a .there), a .height)));
+                        (point-eq (cornerAt o j) (at (p .col) r) (omega (arith, col-is (sym d ∙ a .there)))
+                        (omega (arith, row-is (sym d ∙ a .there), a .height)));
                     upper = beside i (p .col) (suc r) l e (point-eq p (at (p .col) (suc r)) refl (a .height));
                   })
             ]
@@ -123,7 +125,8 @@ module _ (o : Outline) (h : WalkFromW o) (up : letterAt o 0 ≡ 1) (r : ℕ) whe
                     column = p .col;
                     lower =
                         beside j (p .col) r (a .below) k
-                        (point-eq (cornerAt o j) (at (p .col) r) (omega (arith, col-is (sym d ∙ a .there))) (omega (arith, row-is (sym d ∙ a .there), a .height)));
+                        (point-eq (cornerAt o j) (at (p .col) r) (omega (arith, col-is (sym d ∙ a .there)))
+                        (omega (arith, row-is (sym d ∙ a .there), a .height)));
                     upper =
                         ahead j i 1 (p .col) (suc r) (a .below) l (a .there) k (e ∙ sym (ap (λ (n : ℕ). (n + 1) % 4) k))
                         (point-eq (cornerOf (cornerAt o j) 1) (at (suc (p .col)) (suc (suc r)))
@@ -140,7 +143,8 @@ module _ (o : Outline) (h : WalkFromW o) (up : letterAt o 0 ≡ 1) (r : ℕ) whe
   onwards (suc n) k l g =
       elim (onwards n k (omega arith) g) [
         | inl s ↦ inl s
-        | inr g′ ↦ elim (go (k + n) (omega arith) g′) [ inl s ↦ inl s | inr g″ ↦ inr (rw (let e : k + suc n ≡ suc (k + n) = omega arith in e) g″) ]
+        | inr g′ ↦
+            elim (go (k + n) (omega arith) g′) [ inl s ↦ inl s | inr g″ ↦ inr (rw (let e : k + suc n ≡ suc (k + n) = omega arith in e) g″) ]
       ]
 
   reaches : (k i : ℕ) → k ≤ i → i ≤ size o → Good (cornerAt o k) → Shared (encloses o) r ⊎ Good (cornerAt o i)

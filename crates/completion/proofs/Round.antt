@@ -68,7 +68,8 @@ module _ (lo hi : ℕ → ℕ) where
     apart =
         apart-append (at (lo b) b) (hood lo hi b (t - suc b)) (across (hi b) (lo b)) (round .path .apart)
         (subst (λ (z : Point). Apart z (across (hi b) (lo b))) (sym (round .path .ends)) (bottom .apart))
-        (λ x h k. disjoint x (round .above x h) (visits-across b (hi b) (lo b) x (subst (λ (z : Point). Visits z (across (hi b) (lo b)) x) (round .path .ends) k)))
+        (λ x h k. disjoint x (round .above x h)
+        (visits-across b (hi b) (lo b) x (subst (λ (z : Point). Visits z (across (hi b) (lo b)) x) (round .path .ends) k)))
       where
         disjoint : (x : Point) → (at (lo b) b ≡ x) ⊎ (b < x .row) → Between b (hi b) (lo b) x → ⊥
         disjoint x (inl e) c = ⊎-elim (λ m. omega (arith, first-nonempty, same-col e)) (λ m. omega (arith, same-col e)) (c .column)
@@ -103,7 +104,8 @@ module _ (lo hi : ℕ → ℕ) where
 
     on-chart : (i : ℕ) → i ≤ size (outlineOf lo hi b t) → OnChart (cornerAt (outlineOf lo hi b t) i)
     unfolding outlineOf
-    on-chart = corners-on-chart o (record { col = omega (arith, first-nonempty, first-fits); row = omega (arith, rows .below) }) outline-stays
+    on-chart =
+        corners-on-chart o (record { col = omega (arith, first-nonempty, first-fits); row = omega (arith, rows .below) }) outline-stays
 
     pub outline-walked : size (outlineOf lo hi b t) ≤ longest → Walked (outlineOf lo hi b t)
     unfolding outlineOf cornerAt

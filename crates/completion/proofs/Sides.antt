@@ -19,18 +19,21 @@ use Rattle.lattice.specs.Enclosed.{upAlong, downAlong}
 use Rattle.lattice.specs.Refusals.{Simple}
 use Rattle.lattice.specs.Walked.{Walked}
 use Rattle.lattice.proofs.WalkLaws.{walked, corner-suc, SameCorners, outline-eq}
-use Rattle.lattice.proofs.Jumps.{upsTo, downsTo, upsAt, downsAt, ups-jump-vertical, downs-jump-vertical, ups-column-zero, downs-column-zero, ups-row-zero, ups-found, downs-found, next}
+use Rattle.lattice.proofs.Jumps.{upsTo, downsTo, upsAt, downsAt, ups-jump-vertical, downs-jump-vertical, ups-column-zero, downs-column-zero}
+use Rattle.lattice.proofs.Jumps.{ups-row-zero, ups-found, downs-found, next}
 use Rattle.lattice.proofs.RightHand.{rightOf, leftOf, Lowest, level, clockwise-right}
 use Rattle.convexity.specs.Cut.{westPlace}
 use Rattle.convexity.specs.Clockwise.{opposite, reversed, clockwiseForm, border, block}
-use Rattle.convexity.proofs.Clockwise.{length-backward, letter-backward, corner-backward, backward-corners, backward-backward, simple-backward, simple-form, clockwise-form, by-reading, west-first, leaving-west}
+use Rattle.convexity.proofs.Clockwise.{length-backward, letter-backward, corner-backward, backward-corners, backward-backward}
+use Rattle.convexity.proofs.Clockwise.{simple-backward, simple-form, clockwise-form, by-reading, west-first, leaving-west}
 use Rattle.convexity.proofs.Levels.{In, tested, enclosed-level, level-enclosed, up-counted, first-lowest, leaves-upwards}
 use Rattle.completion.specs.RowsOutline.{outlineOf}
 use Rattle.completion.specs.HullRows.{hullLeft, hullRight}
 use Rattle.completion.specs.Complete.{firstCell, pastCell, firstRow, pastRow, hullOutline, complete}
 use Rattle.completion.specs.parts.Sides.{alongRow, firstSide, lastSide, lowestCorner, highestCorner, completeBySides}
 use Rattle.completion.proofs.Folds.{Met, least-is, greatest-is}
-use Rattle.completion.proofs.BlockEnds.{JoinedUp, block-joined, row-after, row-before, bottom-cell, top-cell, cell-after, cell-before}
+use Rattle.completion.proofs.BlockEnds.{JoinedUp, block-joined, row-after, row-before, bottom-cell, top-cell, cell-after}
+use Rattle.completion.proofs.BlockEnds.{cell-before}
 
 -- ---- letters along a row
 
@@ -38,7 +41,8 @@ pub along-cases : (r : ℕ) (p : Point) (a : ℕ) → alongRow r p a ≡ true �
 unfolding alongRow upAlong downAlong
 along-cases r p a e = go (eqb a 1 && eqb (p .row) r) refl e
   where
-    go : (b : Bool) → (eqb a 1 && eqb (p .row) r) ≡ b → (b || (eqb a 3 && eqb (p .row) (suc r))) ≡ true → ((a ≡ 1) × (p .row ≡ r)) ⊎ ((a ≡ 3) × (p .row ≡ suc r))
+    go : (b : Bool) → (eqb a 1 && eqb (p .row) r) ≡ b → (b || (eqb a 3 && eqb (p .row) (suc r))) ≡ true
+        → ((a ≡ 1) × (p .row ≡ r)) ⊎ ((a ≡ 3) × (p .row ≡ suc r))
     go true d f = inl (tested a 1 (p .row) r d)
     go false d f = inr (tested a 3 (p .row) (suc r) f)
 
@@ -100,11 +104,21 @@ module _ (o : Outline) (h : Simple o) (r c : ℕ) where
             let a : letterAt o j ≡ 3 = opposite-up (letterAt o j) (w .letter j k) (sym letter ∙ e) in
             let q = corner ∙ ap (step (cornerAt o j)) a in
             let z = eqb-false (cornerAt o j .row) 0 (rw a at (w .stays j k)) in
-            record { place = j; below = k; passes = along-down r (cornerAt o j) (letterAt o j) a (omega (arith, row-is q)); value = sym (col-is q) ∙ m .value }
+            record {
+              place = j;
+              below = k;
+              passes = along-down r (cornerAt o j) (letterAt o j) a (omega (arith, row-is q));
+              value = sym (col-is q) ∙ m .value;
+            }
         | inr (e, d) ↦
             let a : letterAt o j ≡ 1 = opposite-down (letterAt o j) (w .letter j k) (sym letter ∙ e) in
             let q = corner ∙ ap (step (cornerAt o j)) a in
-            record { place = j; below = k; passes = along-up r (cornerAt o j) (letterAt o j) a (omega (arith, row-is q)); value = sym (col-is q) ∙ m .value }
+            record {
+              place = j;
+              below = k;
+              passes = along-up r (cornerAt o j) (letterAt o j) a (omega (arith, row-is q));
+              value = sym (col-is q) ∙ m .value;
+            }
       ]
 
 module _ (o : Outline) (h : Simple o) (r c : ℕ) where
@@ -141,13 +155,18 @@ module _ (o : Outline) (h : Simple o) where
   cell-of : (q : Point) → In (clockwiseForm o) q → (c : ℕ) × (r : ℕ) × (q .col ≡ suc c) × (q .row ≡ suc r) × (block o c r ≡ true)
   cell-of q e = go (q .col) (q .row) refl refl e
     where
-      go : (x y : ℕ) → q .col ≡ x → q .row ≡ y → upsTo (clockwiseForm o) x y ≡ downsTo (clockwiseForm o) x y + 1 → (c : ℕ) × (r : ℕ) × (q .col ≡ suc c) × (q .row ≡ suc r) × (block o c r ≡ true)
+      go : (x y : ℕ) → q .col ≡ x → q .row ≡ y → upsTo (clockwiseForm o) x y ≡ downsTo (clockwiseForm o) x y + 1
+          → (c : ℕ) × (r : ℕ) × (q .col ≡ suc c) × (q .row ≡ suc r) × (block o c r ≡ true)
       go zero y f g d = absurd (omega (arith, ups-column-zero (clockwiseForm o) y))
       go (suc x) zero f g d = absurd (omega (arith, ups-row-zero (clockwiseForm o) (suc x)))
       go (suc x) (suc y) f g d = (x, y, f, g, level-enclosed (clockwiseForm o) (at x y) d)
 
-  right-cell : (i : ℕ) → i < size (clockwiseForm o) → (c : ℕ) × (r : ℕ) × (rightOf (cornerAt (clockwiseForm o) i) (letterAt (clockwiseForm o) i) .col ≡ suc c) × (rightOf (cornerAt (clockwiseForm o) i) (letterAt (clockwiseForm o) i) .row ≡ suc r) × (block o c r ≡ true)
-  right-cell i l = cell-of (rightOf (cornerAt (clockwiseForm o) i) (letterAt (clockwiseForm o) i)) (clockwise-right (clockwiseForm o) w (westPlace (clockwiseForm o)) lowest up i l)
+  right-cell : (i : ℕ) → i < size (clockwiseForm o)
+      → (c : ℕ) × (r : ℕ) × (rightOf (cornerAt (clockwiseForm o) i) (letterAt (clockwiseForm o) i) .col ≡ suc c)
+      × (rightOf (cornerAt (clockwiseForm o) i) (letterAt (clockwiseForm o) i) .row ≡ suc r) × (block o c r ≡ true)
+  right-cell i l =
+      cell-of (rightOf (cornerAt (clockwiseForm o) i) (letterAt (clockwiseForm o) i))
+      (clockwise-right (clockwiseForm o) w (westPlace (clockwiseForm o)) lowest up i l)
 
   -- A side has a cell of the block on its right if it runs up, and on its left if it runs down
   side-cell : (r c : ℕ) → Side (clockwiseForm o) r c → (d : ℕ) × (block o d r ≡ true) × (d ≤ c) × (c ≤ suc d)
@@ -183,7 +202,12 @@ module _ (o : Outline) (h : Simple o) where
       found : (f : ℕ) → 1 ≤ upsAt (clockwiseForm o) f (suc r) → Side (clockwiseForm o) r f
       found f k =
           let (i, l, a, d, _) = ups-found (clockwiseForm o) f (suc r) k in
-          record { place = i; below = l; passes = along-up r (cornerAt (clockwiseForm o) i) (letterAt (clockwiseForm o) i) a (row-is d ∙ omega arith); value = col-is d }
+          record {
+            place = i;
+            below = l;
+            passes = along-up r (cornerAt (clockwiseForm o) i) (letterAt (clockwiseForm o) i) a (row-is d ∙ omega arith);
+            value = col-is d;
+          }
 
       go : (f : ℕ) → firstCell (block o) r ≡ f → Side (clockwiseForm o) r (firstCell (block o) r)
       go zero d =
@@ -218,7 +242,8 @@ module _ (o : Outline) (h : Simple o) where
       go : (f : ℕ) → pastCell (block o) r ≡ suc f → block o f r ≡ true → Side (clockwiseForm o) r (pastCell (block o) r)
       go f d g =
           elim (level (clockwiseForm o) w (westPlace (clockwiseForm o)) lowest up (suc (suc f)) (suc r)) [
-            | inr z ↦ absurd (omega (arith, d, cell-before (block o) joined-up (suc f) r (level-enclosed (clockwiseForm o) (at (suc f) r) z)))
+            | inr z ↦
+                absurd (omega (arith, d, cell-before (block o) joined-up (suc f) r (level-enclosed (clockwiseForm o) (at (suc f) r) z)))
             | inl z ↦
                 let k : 1 ≤ downsAt (clockwiseForm o) (suc f) (suc r) =
                 omega (
@@ -229,7 +254,12 @@ module _ (o : Outline) (h : Simple o) where
                   z,
                 ) in
                 let (i, l, a, q) = downs-found (clockwiseForm o) (suc f) (suc r) k in
-                record { place = i; below = l; passes = along-down r (cornerAt (clockwiseForm o) i) (letterAt (clockwiseForm o) i) a (row-is q); value = col-is q ∙ sym d }
+                record {
+                  place = i;
+                  below = l;
+                  passes = along-down r (cornerAt (clockwiseForm o) i) (letterAt (clockwiseForm o) i) a (row-is q);
+                  value = col-is q ∙ sym d;
+                }
           ]
 
   pub first-side : (r : ℕ) → firstSide o r ≡ firstCell (block o) r
@@ -319,7 +349,9 @@ module _ (o : Outline) (h : Simple o) where
 
   pub highest-corner : highestCorner o ≡ pastRow (block o)
   unfolding highestCorner
-  highest-corner = greatest-is (λ p a. true) (λ p. p .row) (o .start) (o .letters) 0 (pastRow (block o)) (λ n m. row-bounds n m .1) (inl high-met) (omega arith)
+  highest-corner =
+      greatest-is (λ p a. true) (λ p. p .row) (o .start) (o .letters) 0 (pastRow (block o)) (λ n m. row-bounds n m .1) (inl high-met)
+      (omega arith)
 
   -- ---- the columns of the corners
 

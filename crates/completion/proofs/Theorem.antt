@@ -44,7 +44,8 @@ wider-overlap lo hi lo′ hi′ b t left right h r l m =
     )
 
 -- A convex set has the hull of every part of it
-full-holds : (marked whole : ℕ → ℕ → Bool) → Convex whole → ((c r : ℕ) → marked c r ≡ true → whole c r ≡ true) → (x : Point) → InHull marked x → whole (x .col) (x .row) ≡ true
+full-holds : (marked whole : ℕ → ℕ → Bool) → Convex whole → ((c r : ℕ) → marked c r ≡ true → whole c r ≡ true) → (x : Point)
+    → InHull marked x → whole (x .col) (x .row) ≡ true
 full-holds marked whole full part x h = go (whole (x .col) (x .row)) refl
   where
     go : (b : Bool) → whole (x .col) (x .row) ≡ b → whole (x .col) (x .row) ≡ true
@@ -95,7 +96,8 @@ module _ (o : Outline) (h : Simple o) where
 
   shares : Overlapping (hullLeft lo b t) (hullRight hi b t) (firstRow (block o)) (pastRow (block o))
   shares =
-      wider-overlap lo hi (hullLeft lo b t) (hullRight hi b t) b t (wider-left lo hi b t (row-ends .rows)) (wider-right lo hi b t (row-ends .rows))
+      wider-overlap lo hi (hullLeft lo b t) (hullRight hi b t) b t (wider-left lo hi b t (row-ends .rows))
+      (wider-right lo hi b t (row-ends .rows))
       (overlapping (block o) (block-joined o h))
 
   -- No more letters than the outline has
@@ -145,7 +147,8 @@ module _ (o : Outline) (h : Simple o) where
   pub complete-least :
       (v : Outline) → Simple v → verdictFields (verdictOf v) .number ≡ 0 → ((c r : ℕ) → block o c r ≡ true → block v c r ≡ true)
       → (c r : ℕ) → block (complete o) c r ≡ true → block v c r ≡ true
-  complete-least v k taken part c r m = full-holds (block o) (block v) (taken-iff-convex v k .0 taken) part (at c r) (complete-hull (at c r) .0 m)
+  complete-least v k taken part c r m =
+      full-holds (block o) (block v) (taken-iff-convex v k .0 taken) part (at c r) (complete-hull (at c r) .0 m)
 
   -- The completion of a taken outline encloses its own block, and has its border
   pub complete-own : verdictFields (verdictOf o) .number ≡ 0 → SameCells (complete o) o
@@ -162,7 +165,8 @@ module _ (o : Outline) (h : Simple o) where
 module _ (o : Outline) (h : Simple o) where
   -- Its border as the loops write it. W is the lower left corner of row m, the lowest of the hull's rows that begin furthest left
   pub complete-border :
-      (m : ℕ) → b o h ≤ m → m < t o h → ((r : ℕ) → b o h ≤ r → r < t o h → left o h m ≤ left o h r) → ((r : ℕ) → b o h ≤ r → r < m → left o h m < left o h r)
+      (m : ℕ) → b o h ≤ m → m < t o h → ((r : ℕ) → b o h ≤ r → r < t o h → left o h m ≤ left o h r)
+      → ((r : ℕ) → b o h ≤ r → r < m → left o h m < left o h r)
       → border (complete o) ≡ outline (at (left o h m) m) (writtenFrom (left o h) (right o h) (b o h) (t o h) m)
   unfolding complete hullOutline
   complete-border = from-west (left o h) (right o h) (b o h) (t o h) (rows o h) (high o h) (shares o h) (short o h)

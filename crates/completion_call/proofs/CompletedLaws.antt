@@ -11,7 +11,8 @@ use borrow.Author.Tests.{lt-ltb, le-ltb}
 use Rattle.chart.specs.Limits.{mostNumbers}
 use Rattle.chart.specs.declared.Point.{Point}
 use Rattle.chart.specs.declared.Refusal.{Refusal}
-use Rattle.chart.specs.declared.Refusal.the-variants.{Count, Start, Letter, Leaves, Unclosed, Touches, BackStep, Dent, Room, List as BadList, Cell, Directions}
+use Rattle.chart.specs.declared.Refusal.the-variants.{Count, Start, Letter, Leaves, Unclosed, Touches, BackStep, Dent, Room}
+use Rattle.chart.specs.declared.Refusal.the-variants.{List as BadList, Cell, Directions}
 use Rattle.chart.specs.declared.Verdict.{Verdict}
 use Rattle.chart.specs.declared.Verdict.the-variants.{Taken, Refused as TurnedBack}
 use Rattle.chart.specs.Outline.{Outline, outline, at}
@@ -79,7 +80,8 @@ module _ (o : Outline) (n : ℕ) where
   pub completed-short : Simple o → n < size (border (completionOf o)) → completedOf o n ≡ NoRoom
   completed-short h l = past-survey h ∙ letters-short n (border (completionOf o)) l
 
-  pub completed-written : Simple o → size (border (completionOf o)) ≤ n → completedOf o n ≡ Written (size (border (completionOf o))) (border (completionOf o) .start)
+  pub completed-written : Simple o → size (border (completionOf o)) ≤ n
+      → completedOf o n ≡ Written (size (border (completionOf o))) (border (completionOf o) .start)
   completed-written h l = past-survey h ∙ letters-written n (border (completionOf o)) l
 
 -- ---- the border of a completion
@@ -113,13 +115,15 @@ module _ (o : Outline) (h : Simple o) where
       let simple = taken-has (written-back .taken) .reaches .simple in
       let west = written-back .own v (written-back .taken) in
       let taken = ap (λ (u : Verdict). verdictFields u .number) (written-back .taken .taken) in
-      let same : SameCells v (completionOf o) = same-from-w-iff v (completionOf o) simple (complete-simple o h) .1 (west ∙ sym is-written) in
+      let same : SameCells v (completionOf o) =
+      same-from-w-iff v (completionOf o) simple (complete-simple o h) .1 (west ∙ sym is-written) in
       record {
         simple = simple;
         taken = taken;
         tested = λ m l. tested-taken v m l taken;
         west = west;
-        cells = λ x. (λ e. complete-hull o h x .0 (sym (same (x .col) (x .row)) ∙ e), λ k. same (x .col) (x .row) ∙ complete-hull o h x .1 k);
+        cells =
+            λ x. (λ e. complete-hull o h x .0 (sym (same (x .col) (x .row)) ∙ e), λ k. same (x .col) (x .row) ∙ complete-hull o h x .1 k);
       }
 
   pub border-completes : Completes o (border (completionOf o))
@@ -150,7 +154,8 @@ module _ (o : Outline) (buffer : List ℕ) where
       }
 
   -- The letters at the front of the buffer are the outline's
-  pub read-back : (v : Outline) (after : List ℕ) → after ≡ v .letters ++ drop (size v) buffer → outlineIn (completedFields (Written (size v) (v .start))) after ≡ v
+  pub read-back : (v : Outline) (after : List ℕ) → after ≡ v .letters ++ drop (size v) buffer
+      → outlineIn (completedFields (Written (size v) (v .start))) after ≡ v
   unfolding completedFields
   read-back v after e = ap (outline (v .start)) (ap (take (size v)) e ∙ take-at (v .letters) (drop (size v) buffer) (size v) refl)
 
@@ -184,7 +189,8 @@ module _ (o : Outline) (buffer : List ℕ) where
         → after ≡ writtenFrom (rows begins) (rows ends) b t m ++ drop (length (writtenFrom (rows begins) (rows ends) b t m)) buffer
         → Answers o buffer after (Written n (at (rows begins m) m))
     hull-answers after l e =
-        let w : writtenFrom (rows begins) (rows ends) b t m ≡ border (completionOf o) .letters = ap (λ (v : Outline). v .letters) (sym (f .round)) in
+        let w : writtenFrom (rows begins) (rows ends) b t m ≡ border (completionOf o) .letters =
+        ap (λ (v : Outline). v .letters) (sym (f .round)) in
         let s : at (rows begins m) m ≡ border (completionOf o) .start = ap (λ (v : Outline). v .start) (sym (f .round)) in
         subst (Answers o buffer after) (λ i. Written (sym (f .count) i) (sym s i))
         (written-answers after h (omega (arith, f .count)) (e ∙ ap (λ (u : List ℕ). u ++ drop (length u) buffer) w))

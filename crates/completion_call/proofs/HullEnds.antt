@@ -40,7 +40,8 @@ hull-same : (f g : ℕ → ℕ) (b t : ℕ) → ((r : ℕ) → r < t → f r ≡
 hull-same f g b t same r h l =
     elim (decLt (suc b) t) [
       | yes two ↦ left-same f g b t same two r h l
-      | no one ↦ let e : r ≡ b = omega arith in rw e (lowest-row f b t (omega arith) ∙ same b (omega arith) ∙ sym (lowest-row g b t (omega arith)))
+      | no one ↦ let e : r ≡ b = omega arith in
+          rw e (lowest-row f b t (omega arith) ∙ same b (omega arith) ∙ sym (lowest-row g b t (omega arith)))
     ]
 
 -- ---- the letters round rows with the same ends
@@ -49,22 +50,35 @@ ascent-same : (f g : ℕ → ℕ) (y k : ℕ) → ((r : ℕ) → y ≤ r → r �
 unfolding ascent
 ascent-same f g y zero same = refl
 ascent-same f g y (suc k) same =
-    rw (same y (omega arith) (omega arith), same (suc y) (omega arith) (omega arith), ascent-same f g (suc y) k (λ r h l. same r (omega arith) (omega arith))) refl
+    rw (
+      same y (omega arith) (omega arith),
+      same (suc y) (omega arith) (omega arith),
+      ascent-same f g (suc y) k (λ r h l. same r (omega arith) (omega arith)),
+    ) refl
 
 descent-same : (f g : ℕ → ℕ) (y k : ℕ) → ((r : ℕ) → y ≤ r → r ≤ y + k → f r ≡ g r) → descent f y k ≡ descent g y k
 unfolding descent
 descent-same f g y zero same = refl
 descent-same f g y (suc k) same =
-    rw (same y (omega arith) (omega arith), same (suc y) (omega arith) (omega arith), descent-same f g (suc y) k (λ r h l. same r (omega arith) (omega arith))) refl
+    rw (
+      same y (omega arith) (omega arith),
+      same (suc y) (omega arith) (omega arith),
+      descent-same f g (suc y) k (λ r h l. same r (omega arith) (omega arith)),
+    ) refl
 
 rise-same : (f g : ℕ → ℕ) (y k : ℕ) → ((r : ℕ) → y ≤ r → r ≤ y + k → f r ≡ g r) → toRow f y k ≡ toRow g y k
 unfolding toRow
 rise-same f g y zero same = refl
 rise-same f g y (suc k) same =
-    rw (same y (omega arith) (omega arith), same (suc y) (omega arith) (omega arith), rise-same f g (suc y) k (λ r h l. same r (omega arith) (omega arith))) refl
+    rw (
+      same y (omega arith) (omega arith),
+      same (suc y) (omega arith) (omega arith),
+      rise-same f g (suc y) k (λ r h l. same r (omega arith) (omega arith)),
+    ) refl
 
 written-same :
-    (lo lo′ hi hi′ : ℕ → ℕ) (b t m : ℕ) → b ≤ m → m < t → ((r : ℕ) → b ≤ r → r < t → lo r ≡ lo′ r) → ((r : ℕ) → b ≤ r → r < t → hi r ≡ hi′ r)
+    (lo lo′ hi hi′ : ℕ → ℕ) (b t m : ℕ) → b ≤ m → m < t → ((r : ℕ) → b ≤ r → r < t → lo r ≡ lo′ r)
+    → ((r : ℕ) → b ≤ r → r < t → hi r ≡ hi′ r)
     → writtenFrom lo hi b t m ≡ writtenFrom lo′ hi′ b t m
 unfolding writtenFrom
 written-same lo lo′ hi hi′ b t m h l p q =
@@ -141,7 +155,9 @@ module _ (o : Outline) (h : Simple o) where
       -- The row n is that of E
       module _ (n : ℕ) (e : Lowest over b t n) where
         nonempty : left o h n < right o h n
-        nonempty = hull-rows lo (pastCell (block o)) (firstRow (block o)) (pastRow (block o)) block-rows .nonempty n (omega (arith, s .low, e .low)) (omega (arith, s .high, e .high))
+        nonempty =
+            hull-rows lo (pastCell (block o)) (firstRow (block o)) (pastRow (block o)) block-rows .nonempty n
+            (omega (arith, s .low, e .low)) (omega (arith, s .high, e .high))
 
         pub sided-gap : begins m ≤ ends n
         sided-gap =
@@ -183,7 +199,8 @@ module _ (o : Outline) (h : Simple o) where
 
         pub sided-count : 2 * (t - b) + 2 * (ends n - begins m) ≡ size (border (complete o))
         sided-count =
-            counted (size (complete o)) (left o h m) (right o h n) (begins m) (ends n) (left-is m (w .low) (w .high)) (right-is n (e .low) (e .high)) sided-gap sized
+            counted (size (complete o)) (left o h m) (right o h n) (begins m) (ends n) (left-is m (w .low) (w .high))
+            (right-is n (e .low) (e .high)) sided-gap sized
             ∙ sym (length-border (complete o) (complete-simple o h))
           where
             counted :
@@ -196,34 +213,39 @@ module _ (o : Outline) (h : Simple o) where
 
 -- ---- the arrays
 
-module _ (o : Outline) (h : Simple o) (lo en hi : List ℕ) (low high b t : ℕ) (p : Passed o lo en hi low high) (d : b ≡ low) (e : t ≡ high) where
-  is-low : b ≡ firstRow (block o)
-  is-low = d ∙ p .lowest ∙ lowest-corner o h
+module _ (o : Outline) (h : Simple o) (lo en hi : List ℕ) (low high b t : ℕ) (p : Passed o lo en hi low high) (d : b ≡ low) (e : t ≡ high)
+  where
+    is-low : b ≡ firstRow (block o)
+    is-low = d ∙ p .lowest ∙ lowest-corner o h
 
-  is-high : t ≡ pastRow (block o)
-  is-high = e ∙ p .highest ∙ highest-corner o h
+    is-high : t ≡ pastRow (block o)
+    is-high = e ∙ p .highest ∙ highest-corner o h
 
-  pub array-below : (b < t) × (t ≤ side)
-  array-below =
-      (omega (arith, is-low, is-high, block-rows o h .below), omega (arith, is-high, rows-fit (block o) (block-joined o h)))
+    pub array-below : (b < t) × (t ≤ side)
+    array-below =
+        (omega (arith, is-low, is-high, block-rows o h .below), omega (arith, is-high, rows-fit (block o) (block-joined o h)))
 
-  pub sides :
-      (mirrored begins over ends : List ℕ) → LeftEnds (rows lo) (rows begins) b t → ((k : ℕ) → k < corners → rows mirrored k ≡ side - rows hi k) → LeftEnds (rows mirrored) (rows over) b t
-      → ((k : ℕ) → k < corners → rows ends k ≡ side - rows over k) → Sided o h (rows begins) (rows over) (rows ends) b t
-  sides mirrored begins over ends l m n k =
-      record {
-        low = is-low;
-        high = is-high;
-        lefts = λ r u v. l .ends r u v ∙ hull-same (rows lo) (firstCell (block o)) b t (λ z x. p .first z (omega (arith, array-below)) ∙ first-side o h z) r u v;
-        overs = λ r u v.
-            n .ends r u v
-            ∙ hull-same (rows mirrored) (λ z. side - pastCell (block o) z) b t
-            (λ z x. m z (omega (arith, array-below)) ∙ ap (λ (c : ℕ). side - c) (p .last z (omega (arith, array-below)) ∙ last-side o h z)) r u v;
-        rights = λ r u v. k r (omega (arith, array-below));
-      }
+    pub sides :
+        (mirrored begins over ends : List ℕ) → LeftEnds (rows lo) (rows begins) b t
+        → ((k : ℕ) → k < corners → rows mirrored k ≡ side - rows hi k) → LeftEnds (rows mirrored) (rows over) b t
+        → ((k : ℕ) → k < corners → rows ends k ≡ side - rows over k) → Sided o h (rows begins) (rows over) (rows ends) b t
+    sides mirrored begins over ends l m n k =
+        record {
+          low = is-low;
+          high = is-high;
+          lefts = λ r u v. l .ends r u v
+              ∙ hull-same (rows lo) (firstCell (block o)) b t (λ z x. p .first z (omega (arith, array-below)) ∙ first-side o h z) r u v;
+          overs = λ r u v.
+              n .ends r u v
+              ∙ hull-same (rows mirrored) (λ z. side - pastCell (block o) z) b t
+              (λ z x. m z (omega (arith, array-below))
+              ∙ ap (λ (c : ℕ). side - c) (p .last z (omega (arith, array-below)) ∙ last-side o h z)) r u v;
+          rights = λ r u v. k r (omega (arith, array-below));
+        }
 
 pub hull-of :
-    (o : Outline) (h : Simple o) (begins over ends : List ℕ) (b t m n x : ℕ) → Sided o h (rows begins) (rows over) (rows ends) b t → Lowest (rows begins) b t m
+    (o : Outline) (h : Simple o) (begins over ends : List ℕ) (b t m n x : ℕ) → Sided o h (rows begins) (rows over) (rows ends) b t
+    → Lowest (rows begins) b t m
     → Lowest (rows over) b t n → x ≡ 2 * (t - b) + 2 * (rows ends n - rows begins m) → HullOf o begins ends b t m x
 hull-of o h begins over ends b t m n x s w e k =
     let c = sided-count o h (rows begins) (rows over) (rows ends) b t s m w n e in

@@ -33,7 +33,8 @@ use Rattle.completion_call.specs.declared.Completed.{Completed}
 use Rattle.completion_call.specs.declared.Completed.the-variants.{Written}
 use Rattle.completion_call.specs.Completion.{completedOf, completedFields, writtenAfter, completionAfter}
 use Rattle.completion_call.specs.Named.{replyTo, replied, Completes}
-use Rattle.completion_call.proofs.CompletedLaws.{refusal-number, completed-stopped, completed-short, completed-written, border-completes, read-back}
+use Rattle.completion_call.proofs.CompletedLaws.{refusal-number, completed-stopped, completed-short, completed-written}
+use Rattle.completion_call.proofs.CompletedLaws.{border-completes, read-back}
 
 -- A taken outline passes 1 to 6
 taken-simple : (v : Outline) → verdictFields (verdictOf v) .number ≡ 0 → Simple v
@@ -51,7 +52,9 @@ case-of o n = go (surveyOf o) refl
   where
     go : (s : Surveyed) → surveyOf o ≡ s → Case o n
     go (Stopped f) e = stopped f e
-    go (Passed c) e = elim (decLt n (size (border (completionOf o)))) [ yes l ↦ short (survey-simple o e) l | no l ↦ roomy (survey-simple o e) (omega arith) ]
+    go (Passed c) e =
+        elim (decLt n (size (border (completionOf o))))
+        [ yes l ↦ short (survey-simple o e) l | no l ↦ roomy (survey-simple o e) (omega arith) ]
 
 module _ (o : Outline) (buffer : List ℕ) where
   abbrev fields : Completed → ℕ
@@ -79,7 +82,8 @@ module _ (o : Outline) (buffer : List ℕ) where
     pub holds-border : replied o buffer ≡ border (completionOf o)
     unfolding completionAfter writtenAfter
     holds-border =
-        let after : completionAfter o buffer ≡ border (completionOf o) .letters ++ drop (size (border (completionOf o))) buffer = rw answered refl in
+        let after : completionAfter o buffer ≡ border (completionOf o) .letters ++ drop (size (border (completionOf o))) buffer =
+        rw answered refl in
         rw (after, answered) (read-back o buffer (border (completionOf o)) _ refl)
 
     -- It is taken and encloses exactly the cells in the hull
@@ -99,7 +103,8 @@ module _ (o : Outline) (buffer : List ℕ) where
         (v : Outline) → verdictFields (verdictOf v) .number ≡ 0 → ((c r : ℕ) → block o c r ≡ true → block v c r ≡ true)
         → (c r : ℕ) → block (replied o buffer) c r ≡ true → block v c r ≡ true
     least v taken part c r e =
-        complete-least o drawn v (taken-simple v taken) taken part c r (complete-hull o drawn (record { col = c; row = r }) .1 (same-block c r .0 e))
+        complete-least o drawn v (taken-simple v taken) taken part c r
+        (complete-hull o drawn (record { col = c; row = r }) .1 (same-block c r .0 e))
 
     -- A taken outline is completed to its own border
     pub own : verdictFields (verdictOf o) .number ≡ 0 → replied o buffer ≡ border o
@@ -136,7 +141,8 @@ twice o buffer again done room =
     let v = border (completionOf o) in
     let k = border-completes o (drawn o buffer done) in
     let same : border (completionOf v) ≡ v = complete-own-border v (k .simple) (k .taken) ∙ k .west in
-    let fits : size (border (completionOf v)) ≤ length again = omega (arith, ap (λ (u : Outline). size u) same, placed o buffer done, room) in
+    let fits : size (border (completionOf v)) ≤ length again =
+    omega (arith, ap (λ (u : Outline). size u) same, placed o buffer done, room) in
     let said : completedOf v (length again) ≡ completedOf o (length buffer) =
     completed-written v (length again) (k .simple) fits ∙ (λ i. Written (size (same i)) (same i .start)) ∙ sym (answered o buffer done) in
     rw (holds-border o buffer done) (ap completedFields said, holds-border v again (written-iff v again .1 (k .simple, fits)) ∙ same)

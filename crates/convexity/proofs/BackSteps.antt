@@ -27,9 +27,11 @@ use Rattle.convexity.specs.Clockwise.{clockwiseForm, block, border, oppo
 use Rattle.convexity.specs.Pieces.{piece, isBackStep, backStepAt, backStepPiece, factors, dentLength, dentPiece, Reaches}
 use Rattle.lattice.proofs.HullLaws.{missing-same}
 use Rattle.convexity.specs.Shape.{WalkFromW}
-use Rattle.convexity.proofs.Extreme.{not-before-earlier, Moved, earlier-on, later-on, earlier-back, later-back, Bend, by-later, by-earlier, on-chart, corner-round, moves, bend, from-w-of}
+use Rattle.convexity.proofs.Extreme.{not-before-earlier, Moved, earlier-on, later-on, earlier-back, later-back, Bend, by-later}
+use Rattle.convexity.proofs.Extreme.{by-earlier, on-chart, corner-round, moves, bend, from-w-of}
 use Rattle.convexity.proofs.Shape.{straight-of}
-use Rattle.convexity.proofs.Cuts.{previous-pos, cut-zero, corner-west, cut-on, cut-round, cuts-fit, piece-length, piece-at, corner-first, corner-after}
+use Rattle.convexity.proofs.Cuts.{previous-pos, cut-zero, corner-west, cut-on, cut-round, cuts-fit, piece-length, piece-at}
+use Rattle.convexity.proofs.Cuts.{corner-first, corner-after}
 use Rattle.convexity.proofs.Ring.{next-lt, Apart, apart, turns, along-next}
 use Rattle.convexity.proofs.Levels.{LetterAt, leaves-upwards}
 use Rattle.convexity.proofs.Clockwise.{simple-form, clockwise-form}
@@ -63,14 +65,16 @@ back-step-not f a e =
       eqb-false a (f .later) (or-right (eqb a (f .earlier)) (eqb a (f .later)) n),
     )
 
-other-letter : (k a : ℕ) → a < 4 → a ≢ frameOf k .earlier → a ≢ frameOf k .later → (a ≡ opposite (frameOf k .earlier)) ⊎ (a ≡ opposite (frameOf k .later))
+other-letter : (k a : ℕ) → a < 4 → a ≢ frameOf k .earlier → a ≢ frameOf k .later
+    → (a ≡ opposite (frameOf k .earlier)) ⊎ (a ≡ opposite (frameOf k .later))
 unfolding frameOf opposite
 other-letter zero a h x y = elim (ℕ-discrete a 2) [ yes z ↦ inl z | no z ↦ inr (omega arith) ]
 other-letter (suc zero) a h x y = elim (ℕ-discrete a 1) [ yes z ↦ inl z | no z ↦ inr (omega arith) ]
 other-letter (suc (suc zero)) a h x y = elim (ℕ-discrete a 0) [ yes z ↦ inl z | no z ↦ inr (omega arith) ]
 other-letter (suc (suc (suc k))) a h x y = elim (ℕ-discrete a 3) [ yes z ↦ inl z | no z ↦ inr (omega arith) ]
 
-back-step-goes : (k a : ℕ) → a < 4 → isBackStep (frameOf k) a ≡ true → (a ≡ opposite (frameOf k .earlier)) ⊎ (a ≡ opposite (frameOf k .later))
+back-step-goes : (k a : ℕ) → a < 4 → isBackStep (frameOf k) a ≡ true
+    → (a ≡ opposite (frameOf k .earlier)) ⊎ (a ≡ opposite (frameOf k .later))
 back-step-goes k a h e = let n = back-step-not (frameOf k) a e in other-letter k a h (n .0) (n .1)
 
 module _ (o : Outline) (h : WalkFromW o) (up : letterAt o 0 ≡ 1) where
@@ -107,7 +111,9 @@ module _ (o : Outline) (h : WalkFromW o) (up : letterAt o 0 ≡ 1) where
             let c = cross-by k m i e (omega arith) a q in
             record { place = c .place; from = c .from; to = omega (arith, c .to); letter = c .letter; line = c .line }
         | no q ↦
-            let p = passes (frameOf k) (letterAt o (i + e)) m (corner (i + e)) (corner (suc (i + e))) (moves o d k (i + e) (omega arith)) (omega arith) b′ in
+            let p =
+            passes (frameOf k) (letterAt o (i + e)) m (corner (i + e)) (corner (suc (i + e))) (moves o d k (i + e) (omega arith))
+            (omega arith) b′ in
             record { place = i + e; from = omega arith; to = omega arith; letter = p .0; line = p .1 }
       ]
 
@@ -157,7 +163,8 @@ module _ (o : Outline) (h : WalkFromW o) (up : letterAt o 0 ≡ 1) where
 
   -- The first corner of piece k lies least far along the earlier letter of its frame. That letter is the later one of the next frame, and
   -- the opposite of the later one of the frame before, along which the corner lies furthest
-  first-earlier : (k : ℕ) → k < 4 → (i : ℕ) → i ≤ size o → along (frameOf k .earlier) (corner (place k)) ≤ along (frameOf k .earlier) (corner i)
+  first-earlier : (k : ℕ) → k < 4 → (i : ℕ) → i ≤ size o
+      → along (frameOf k .earlier) (corner (place k)) ≤ along (frameOf k .earlier) (corner i)
   first-earlier k l =
       everywhere (λ p. along (frameOf k .earlier) (corner (place k)) ≤ along (frameOf k .earlier) p) λ i m.
       not-before-earlier (frameOf k) (corner i) (corner (place k)) (corner-first o h k l .none i m)
@@ -201,7 +208,8 @@ module _ (o : Outline) (h : WalkFromW o) (up : letterAt o 0 ≡ 1) where
       let n = place-lt 1 (omega arith) in
       let z = place-lt 3 (omega arith) in
       let (f, _) = falls 0 m (omega arith) e in
-      let after : Crossed 0 r (suc m) (place 1) = cross 0 r (suc m) (place 1) l (omega arith) (omega arith) (omega (arith, most 0 (omega arith) m (omega arith))) in
+      let after : Crossed 0 r (suc m) (place 1) =
+      cross 0 r (suc m) (place 1) l (omega arith) (omega arith) (omega (arith, most 0 (omega arith) m (omega arith))) in
       elim (decLt r (far 0 (size o))) [
         | yes q ↦
             crossed-twice 0 r (suc m) (place 1) (place 3) (size o) (omega arith) (omega arith) after
@@ -217,10 +225,13 @@ module _ (o : Outline) (h : WalkFromW o) (up : letterAt o 0 ≡ 1) where
       let (f, _) = falls 0 m b e in
       let ahead : Crossed 0 r (place 3) m = cross 0 r (place 3) m a (omega arith) (least 3 (omega arith) (suc m) b) (omega arith) in
       elim (decLt r (far 0 (size o))) [
-        | yes q ↦ crossed-twice 0 r (place 3) m (suc m) (size o) (omega arith) (omega arith) ahead (cross 0 r (suc m) (size o) b (omega arith) (omega arith) q)
+        | yes q ↦
+            crossed-twice 0 r (place 3) m (suc m) (size o) (omega arith) (omega arith) ahead
+            (cross 0 r (suc m) (size o) b (omega arith) (omega arith) q)
         | no q ↦
             crossed-twice 0 r 0 (place 1) (place 3) m (omega arith) (omega arith)
-            (cross 0 r 0 (place 1) (omega arith) (omega arith) (omega (arith, far-round 0)) (omega (arith, most 0 (omega arith) m (omega arith)))) ahead
+            (cross 0 r 0 (place 1) (omega arith) (omega arith) (omega (arith, far-round 0))
+            (omega (arith, most 0 (omega arith) m (omega arith)))) ahead
       ]
 
   -- ---- N comes before S, and E between them
@@ -232,13 +243,15 @@ module _ (o : Outline) (h : WalkFromW o) (up : letterAt o 0 ≡ 1) where
       let m : 0 < size o = omega (arith, d .long) in
       let n = place-lt 1 (omega arith) in
       let c =
-      cross 0 (far 0 0) (place 3) (place 1) l (omega arith) (least 3 (omega arith) 0 (omega arith)) (omega (arith, rises-first, most 0 (omega arith) 1 m)) in
+      cross 0 (far 0 0) (place 3) (place 1) l (omega arith) (least 3 (omega arith) 0 (omega arith))
+      (omega (arith, rises-first, most 0 (omega arith) 1 m)) in
       twice o h up 0 0 (c .place) (m, up) (letter-at 0 (far 0 0) (place 3) (place 1) (omega arith) c)
       (omega (arith, c .from, corner-after o h up 3 (omega arith) (omega arith))) (sym (c .line))
 
   -- If the first corner of a piece is reached by an opposite letter, and the forward letter
   -- crosses its line elsewhere, that letter cannot be on the outer side
-  reached-back : (k : ℕ) → k < 4 → 0 < place k → (i j : ℕ) → i ≤ j → j ≤ size o → far k i ≤ far k (place k) → far k (place (next k)) ≤ far k j
+  reached-back : (k : ℕ) → k < 4 → 0 < place k → (i j : ℕ) → i ≤ j → j ≤ size o → far k i ≤ far k (place k)
+      → far k (place (next k)) ≤ far k j
       → letterAt o (place k - 1) ≡ opposite (frameOf k .later) → SomeMissing o
   reached-back k l z i j a b low high e =
       let q : ℕ = place k - 1 in
@@ -304,20 +317,26 @@ module _ (o : Outline) (h : WalkFromW o) (up : letterAt o 0 ≡ 1) where
         → (letterAt o i ≡ opposite (frameOf k .earlier)) ⊎ (letterAt o i ≡ opposite (frameOf k .later)) → SomeMissing o
     unfolding frameOf
     own-letters zero l i x y e =
-        ⊎-elim (no-back 0 (omega arith) (place 2) (omega (arith, place-lt 2 (omega arith))) (omega arith) i (omega (arith, corner-west o)) (omega (arith, cuts 1 (omega arith))))
+        ⊎-elim (no-back 0 (omega arith) (place 2) (omega (arith, place-lt 2 (omega arith))) (omega arith) i (omega (arith, corner-west o))
+        (omega (arith, cuts 1 (omega arith))))
         (no-down-first (omega arith) i (omega (arith, cuts 1 (omega arith)))) e
     own-letters (suc zero) l i x y e =
-        ⊎-elim (no-back 1 (omega arith) (place 3) (omega (arith, place-lt 3 (omega arith))) (omega arith) i (omega (arith, cuts 1 (omega arith))) (omega (arith, cuts 2 (omega arith))))
-        (no-back 0 (omega arith) (place 2) (omega (arith, place-lt 2 (omega arith))) (omega arith) i (omega (arith, corner-west o)) (omega (arith, cuts 2 (omega arith)))) e
+        ⊎-elim (no-back 1 (omega arith) (place 3) (omega (arith, place-lt 3 (omega arith))) (omega arith) i
+        (omega (arith, cuts 1 (omega arith))) (omega (arith, cuts 2 (omega arith))))
+        (no-back 0 (omega arith) (place 2) (omega (arith, place-lt 2 (omega arith))) (omega arith) i (omega (arith, corner-west o))
+        (omega (arith, cuts 2 (omega arith)))) e
     own-letters (suc (suc zero)) l i x y e =
-        ⊎-elim (no-back 2 (omega arith) (size o) (omega arith) to-end i (omega (arith, cuts 2 (omega arith))) (omega (arith, cuts 3 (omega arith), place-lt 3 (omega arith))))
-        (no-back 1 (omega arith) (place 3) (omega (arith, place-lt 3 (omega arith))) (omega arith) i (omega (arith, cuts 2 (omega arith))) (omega (arith, cuts 3 (omega arith)))) e
+        ⊎-elim (no-back 2 (omega arith) (size o) (omega arith) to-end i (omega (arith, cuts 2 (omega arith)))
+        (omega (arith, cuts 3 (omega arith), place-lt 3 (omega arith))))
+        (no-back 1 (omega arith) (place 3) (omega (arith, place-lt 3 (omega arith))) (omega arith) i (omega (arith, cuts 2 (omega arith)))
+        (omega (arith, cuts 3 (omega arith)))) e
     own-letters (suc (suc (suc zero))) l i x y e =
         ⊎-elim (no-down-last (omega arith) i (omega (arith, cuts 3 (omega arith))) (omega (arith, round)))
         (no-back 2 (omega arith) (size o) (omega arith) to-end i (omega (arith, cuts 3 (omega arith))) (omega (arith, round))) e
     own-letters (suc (suc (suc (suc k)))) l i x y e = absurd (omega arith)
 
-    back-step-here : (k : ℕ) → k < 4 → (i : ℕ) → i < length (piece o k) → isBackStep (frameOf k) (getD (piece o k) i 0) ≡ true → SomeMissing o
+    back-step-here : (k : ℕ) → k < 4 → (i : ℕ) → i < length (piece o k) → isBackStep (frameOf k) (getD (piece o k) i 0) ≡ true
+        → SomeMissing o
     back-step-here k l i m e =
         let n : i < cut o (suc k) - cut o k = omega (arith, piece-length o fits k l) in
         let j : ℕ = cut o k + i in
@@ -350,7 +369,8 @@ module _ (o : Outline) (h : Simple o) where
   -- Every outline that refusal 8 refuses has a missing cell
   pub back-step-missing-sent : backStepPiece (border o) < 4 → (x : Point) × Missing (block o) x
   back-step-missing-sent l =
-      let (x, m) = back-step-missing (border o) (from-w-of (clockwiseForm o) (simple-form o h)) (leaves-upwards (border o) (clockwise-form o h)) l in
+      let (x, m) =
+      back-step-missing (border o) (from-w-of (clockwiseForm o) (simple-form o h)) (leaves-upwards (border o) (clockwise-form o h)) l in
       (x, missing-same (block-from-w o h) m)
 
   -- An outline without a missing cell has no back-step

@@ -35,7 +35,8 @@ module _ (o : Outline) (h : WalkFromW o) where
       let some : 0 < size o = omega (arith, h .walked .long) in
       let m : cornerPlace o 0 < size o = cornerPlace-lt o 0 some in
       corner-injective o (h .walked) (cornerPlace o 0) 0 m some
-      (first-unique 0 (cornerAt o (cornerPlace o 0)) (cornerAt o 0) (on-chart o (h .walked) (cornerPlace o 0) (omega arith)) (on-chart o (h .walked) 0 (omega arith)) (rw (corner-zero o) (h .west (cornerPlace o 0) m)) (cornerPlace-first o 0 0 some))
+      (first-unique 0 (cornerAt o (cornerPlace o 0)) (cornerAt o 0) (on-chart o (h .walked) (cornerPlace o 0) (omega arith))
+      (on-chart o (h .walked) 0 (omega arith)) (rw (corner-zero o) (h .west (cornerPlace o 0) m)) (cornerPlace-first o 0 0 some))
 
   pub west-self : west o ≡ o .start
   unfolding fromW
@@ -50,7 +51,8 @@ module _ (o : Outline) (h : WalkFromW o) where
   form-self round = ap fromW (form-clockwise o (rw from-w-self round)) ∙ from-w-self
 
   has-self :
-      (es : List ℤ) → Simple o → clockwise o ≡ true → ltb (backStepPiece o) 4 ≡ false → dentPiece o ≡ 4 → edges o ≡ es → HasEdges o (o .start) es
+      (es : List ℤ) → Simple o → clockwise o ≡ true → ltb (backStepPiece o) 4 ≡ false → dentPiece o ≡ 4 → edges o ≡ es
+      → HasEdges o (o .start) es
   has-self es simple round straight smooth same =
       record {
         reaches = record { simple = simple; straight = rw (form-self round) straight };
@@ -71,7 +73,9 @@ simple-from-w o h =
 module _ {o : Outline} {a : Point} {es : List ℤ} (h : HasEdges o a es) where
   -- The border of a taken outline starts at the anchor and has the letters computed from its edges
   pub border-form : border o ≡ outline a (lettersFrom es)
-  border-form = outline-eq (border o) (outline a (lettersFrom es)) (h .anchor) (sent-from-edges o (h .reaches) (h .smooth) ∙ ap lettersFrom (h .edged))
+  border-form =
+      outline-eq (border o) (outline a (lettersFrom es)) (h .anchor) (sent-from-edges o (h .reaches) (h .smooth)
+      ∙ ap lettersFrom (h .edged))
 
   -- The anchor is that of contract 3.13
   pub border-anchor : IsAnchor (block o) a
@@ -83,7 +87,8 @@ module _ {o : Outline} {a : Point} {es : List ℤ} (h : HasEdges o a es) where
       let r = h .reaches in
       let simple = simple-form o (r .simple) in
       subst (λ (v : Outline). HasEdges v (v .start) es) border-form
-      (has-self (border o) (from-w-of (clockwiseForm o) simple) es (simple-from-w (clockwiseForm o) simple) (clockwise-form o (r .simple)) (r .straight) (h .smooth) (h .edged))
+      (has-self (border o) (from-w-of (clockwiseForm o) simple) es (simple-from-w (clockwiseForm o) simple) (clockwise-form o (r .simple))
+      (r .straight) (h .smooth) (h .edged))
 
   -- It encloses the same cells
   pub border-encloses : (c r : ℕ) → encloses (outline a (lettersFrom es)) c r ≡ block o c r

@@ -13,7 +13,9 @@ use Rattle.convexity.specs.FromEdges
 
 -- A name to unfold all definitions at once in the rows below
 opened : Bool
-unfolding Lyndon.copies Counted.listed Counted.countedLetter Counted.christoffelWord Counted.dividesBoth Counted.commonUpTo Counted.common Counted.edgeWord Counted.edgesWord Frame.frameOf InFrame.spell FromEdges.quadrantOf FromEdges.runIn FromEdges.riseIn Edges.pairs FromEdges.sizesIn FromEdges.pieceFrom FromEdges.lettersFrom
+unfolding Lyndon.copies Counted.listed Counted.countedLetter Counted.christoffelWord Counted.dividesBoth Counted.commonUpTo Counted.common
+    Counted.edgeWord Counted.edgesWord Frame.frameOf InFrame.spell FromEdges.quadrantOf FromEdges.runIn FromEdges.riseIn Edges.pairs
+    FromEdges.sizesIn FromEdges.pieceFrom FromEdges.lettersFrom
 opened = true
 
 -- No edges: one cell

@@ -125,7 +125,8 @@ module _ (o : Outline) (t : Walked o) where
         row-le = λ i l. rw (corner-backward i (omega arith)) (t .row-le (size o - i) (omega arith));
         stays = λ i l. stays i (omega arith);
         closed =
-            sym (corner-all (reversed o)) ∙ ap (cornerAt (reversed o)) n ∙ corner-backward (size o) (omega arith) ∙ ap (cornerAt o) (omega arith)
+            sym (corner-all (reversed o)) ∙ ap (cornerAt (reversed o)) n ∙ corner-backward (size o) (omega arith)
+            ∙ ap (cornerAt o) (omega arith)
             ∙ corner-zero o;
         distinct = λ i j l m. apart i j l (omega arith);
       }
@@ -188,14 +189,18 @@ module _ (o : Outline) (t : Walked o) where
   unfolding fromW
   west-place-at i l e =
       let back = walked-backward o t in
-      corner-injective (reversed o) back (westPlace (reversed o)) i (west-first (reversed o) back .below) (omega (arith, length-backward (o .letters))) (west-same ∙ sym e)
+      corner-injective (reversed o) back (westPlace (reversed o)) i (west-first (reversed o) back .below)
+      (omega (arith, length-backward (o .letters))) (west-same ∙ sym e)
 
   -- Backward, W is left by the opposite of the letter at place j, which arrives at it
-  leaving-back : (j : ℕ) → j < size o → cornerAt o (suc j) ≡ cornerAt o (westPlace o) → getD (fromW (reversed o) .letters) 0 0 ≡ opposite (letterAt o j)
+  leaving-back : (j : ℕ) → j < size o → cornerAt o (suc j) ≡ cornerAt o (westPlace o)
+      → getD (fromW (reversed o) .letters) 0 0 ≡ opposite (letterAt o j)
   leaving-back j l e =
       let i : ℕ = size o - suc j in
-      let place : westPlace (reversed o) ≡ i = west-place-at i (omega arith) (corner-backward o t i (omega arith) ∙ ap (cornerAt o) (omega arith) ∙ e) in
-      leaving-west (reversed o) (walked-backward o t) ∙ ap (λ (h : ℕ). getD (backward (o .letters)) h 0) place ∙ letter-backward (o .letters) i (omega arith)
+      let place : westPlace (reversed o) ≡ i =
+      west-place-at i (omega arith) (corner-backward o t i (omega arith) ∙ ap (cornerAt o) (omega arith) ∙ e) in
+      leaving-west (reversed o) (walked-backward o t) ∙ ap (λ (h : ℕ). getD (backward (o .letters)) h 0) place
+      ∙ letter-backward (o .letters) i (omega arith)
       ∙ ap (λ (h : ℕ). opposite (letterAt o h)) (omega arith)
 
   -- An outline that leaves W to the right arrives there from above, so backward it leaves W upward
@@ -220,7 +225,8 @@ module _ (o : Outline) (t : Walked o) where
       let m = west-lowest o t in
       let (j, l, e, _) = place-before o t (westPlace o) (m .below) in
       let up : letterAt o (westPlace o) ≡ 1 = sym (leaving-west o t) ∙ eqb-true (letterAt (fromW o) 0) 1 c in
-      let right : getD (fromW (reversed o) .letters) 0 0 ≡ 0 = leaving-back j l e ∙ ap opposite (arriving-up o t (westPlace o) m j l e up) in
+      let right : getD (fromW (reversed o) .letters) 0 0 ≡ 0 = leaving-back j l e
+      ∙ ap opposite (arriving-up o t (westPlace o) m j l e up) in
       ne-eqb (getD (fromW (reversed o) .letters) 0 0) 1 (omega arith)
 
 -- ---- counts
@@ -298,7 +304,8 @@ tally-closed f g same o k e = ap (λ (q : Point). tally f q (backward (o .letter
 pub backward-append : (u v : List ℕ) → backward (u ++ v) ≡ backward v ++ backward u
 unfolding backward
 backward-append [] v = sym (append-nil (backward v))
-backward-append (a ∷ u) v = ap (λ (x : List ℕ). x ++ (opposite a ∷ [])) (backward-append u v) ∙ append-assoc (backward v) (backward u) (opposite a ∷ [])
+backward-append (a ∷ u) v = ap (λ (x : List ℕ). x ++ (opposite a ∷ [])) (backward-append u v)
+    ∙ append-assoc (backward v) (backward u) (opposite a ∷ [])
 
 backward-twice : (w : List ℕ) → ((i : ℕ) → i < length w → getD w i 0 < 4) → backward (backward w) ≡ w
 unfolding backward
@@ -314,7 +321,11 @@ rotation-backward w k h =
     let v : List ℕ = drop k w in
     let n : length (backward v) ≡ length w - k = length-backward v ∙ length-drop k w in
     let whole : backward w ≡ backward v ++ backward u = ap backward (sym (take-append-drop k w)) ∙ backward-append u v in
-    rw (whole, drop-at (backward v) (backward u) (length w - k) n, take-at (backward v) (backward u) (length w - k) n) (sym (backward-append v u))
+    rw (
+      whole,
+      drop-at (backward v) (backward u) (length w - k) n,
+      take-at (backward v) (backward u) (length w - k) n,
+    ) (sym (backward-append v u))
 
 module _ (o : Outline) (t : Walked o) where
   -- The place of W backward: the number of letters before it is that of the letters from W on; it is first if W is first
@@ -371,13 +382,16 @@ module _ (o : Outline) (h : Simple o) where
 
   -- Ups and downs are exchanged
   pub ups-backward : (c r : ℕ) → ups (o .start) (backward (o .letters)) c r ≡ downs (o .start) (o .letters) c r
-  ups-backward c r = ups-tally (o .start) (backward (o .letters)) c r ∙ tally-closed _ _ (λ p a. up-back p a c r) o kept (walked o h .closed) ∙ sym (downs-tally (o .start) (o .letters) c r)
+  ups-backward c r = ups-tally (o .start) (backward (o .letters)) c r
+      ∙ tally-closed _ _ (λ p a. up-back p a c r) o kept (walked o h .closed) ∙ sym (downs-tally (o .start) (o .letters) c r)
 
   pub downs-backward : (c r : ℕ) → downs (o .start) (backward (o .letters)) c r ≡ ups (o .start) (o .letters) c r
-  downs-backward c r = downs-tally (o .start) (backward (o .letters)) c r ∙ tally-closed _ _ (λ p a. down-back p a c r) o kept (walked o h .closed) ∙ sym (ups-tally (o .start) (o .letters) c r)
+  downs-backward c r = downs-tally (o .start) (backward (o .letters)) c r
+      ∙ tally-closed _ _ (λ p a. down-back p a c r) o kept (walked o h .closed) ∙ sym (ups-tally (o .start) (o .letters) c r)
 
   -- Backward it encloses the cells with downs minus ups equal to 1
-  pub encloses-backward : (c r : ℕ) → encloses (reversed o) c r ≡ eqb (downs (o .start) (o .letters) c r) (ups (o .start) (o .letters) c r + 1)
+  pub encloses-backward : (c r : ℕ)
+      → encloses (reversed o) c r ≡ eqb (downs (o .start) (o .letters) c r) (ups (o .start) (o .letters) c r + 1)
   unfolding encloses
   encloses-backward c r = rw (ups-backward c r, downs-backward c r)
 
@@ -392,7 +406,8 @@ unfolding clockwiseForm
 form-backward o e = rw e
 
 -- A statement about the clockwise form: prove it for the outline if that is clockwise, and for its reverse if it is not
-pub by-reading : (o : Outline) (P : Outline → Type 0) → (clockwise (fromW o) ≡ true → P o) → (clockwise (fromW o) ≡ false → P (reversed o)) → P (clockwiseForm o)
+pub by-reading : (o : Outline) (P : Outline → Type 0) → (clockwise (fromW o) ≡ true → P o) → (clockwise (fromW o) ≡ false → P (reversed o))
+    → P (clockwiseForm o)
 by-reading o P on back = go (clockwise (fromW o)) refl
   where
     go : (b : Bool) → clockwise (fromW o) ≡ b → P (clockwiseForm o)

@@ -17,7 +17,8 @@ use Rattle.convexity.specs.Frame.{frameOf, along}
 use Rattle.convexity.specs.Cut.{cornerPlace, westPlace, fromW}
 use Rattle.convexity.specs.Clockwise.{reversed, clockwiseForm, border}
 use Rattle.convexity.specs.Corners.{OnWalk, IsWest, IsNorth, IsEast, IsSouth, OnlyAt, FourCorners}
-use Rattle.convexity.proofs.Extreme.{FirstAt, cornerPlace-lt, first-at-cornerPlace, not-before-earlier, not-before-later, on-chart, along-injective, from-w-of, first-shared}
+use Rattle.convexity.proofs.Extreme.{FirstAt, cornerPlace-lt, first-at-cornerPlace, not-before-earlier, not-before-later, on-chart}
+use Rattle.convexity.proofs.Extreme.{along-injective, from-w-of, first-shared}
 use Rattle.convexity.proofs.Clockwise.{backward-corners, walked-backward, by-reading, simple-form}
 
 module _ (o : Outline) where
@@ -152,7 +153,8 @@ turned-corner : (o : Outline) → Walked o → (k : ℕ) → cornerAt (fromW o) 
 unfolding fromW westPlace
 turned-corner o d k =
     let b : cornerPlace o 0 ≤ size o = omega (arith, cornerPlace-lt o 0 (omega (arith, d .long))) in
-    first-shared (rotated (cornerPlace o 0) o) o (rotated-walked o (cornerPlace o 0) b d) d (rotated-corners o (cornerPlace o 0) b (d .closed)) k
+    first-shared (rotated (cornerPlace o 0) o) o (rotated-walked o (cornerPlace o 0) b d) d
+    (rotated-corners o (cornerPlace o 0) b (d .closed)) k
 
 module _ (o : Outline) (simple : Simple o) where
   abbrev d : Walked o
@@ -166,4 +168,6 @@ module _ (o : Outline) (simple : Simple o) where
 
   -- The border leaves the same corners, so its W, N, E and S are those of the outline
   pub corner-form : (k : ℕ) → cornerAt (border o) (cornerPlace (border o) k) ≡ cornerAt o (cornerPlace o k)
-  corner-form k = turned-corner (clockwiseForm o) (walked (clockwiseForm o) (simple-form o simple)) k ∙ by-reading o (λ v. cornerAt v (cornerPlace v k) ≡ cornerAt o (cornerPlace o k)) (λ _. refl) (λ _. first-shared (reversed o) o (walked-backward o d) d (backward-corners o d) k)
+  corner-form k = turned-corner (clockwiseForm o) (walked (clockwiseForm o) (simple-form o simple)) k
+      ∙ by-reading o (λ v. cornerAt v (cornerPlace v k) ≡ cornerAt o (cornerPlace o k)) (λ _. refl)
+      (λ _. first-shared (reversed o) o (walked-backward o d) d (backward-corners o d) k)

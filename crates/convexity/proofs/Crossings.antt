@@ -13,7 +13,8 @@ use mathlib.Core.List.{_∷_, _++_}
 use lib.ListN.{length, take, getD, length-append}
 use lib.Seq.{getD-append-seam}
 use Rattle.words.specs.Word.{Word, earliers, laters}
-use Rattle.words.proofs.Counts.{laters-append, earliers-take-le, laters-take-le, earliers-take-mono, laters-take-mono, earliers-next-earlier, laters-next-later}
+use Rattle.words.proofs.Counts.{laters-append, earliers-take-le, laters-take-le, earliers-take-mono, laters-take-mono}
+use Rattle.words.proofs.Counts.{earliers-next-earlier, laters-next-later}
 use Rattle.chart.specs.declared.Point.{Point}
 use Rattle.chart.specs.Outline.{Outline}
 use Rattle.chart.specs.Limits.{side}
@@ -52,7 +53,8 @@ module _ (o : Outline) where
   -- The crossing letter at place i is in piece k or in the next
   data Stands (k i : ℕ) : Type 0 where
     lower : (m : ℕ) → m < length (true ∷ word o k) → cut o k + m ≡ i → getD (true ∷ word o k) m false ≡ false → Stands k i
-    upper : (m : ℕ) → m < length (true ∷ word o (next k)) → cut o (next k) + m ≡ i → getD (true ∷ word o (next k)) m false ≡ true → Stands k i
+    upper : (m : ℕ) → m < length (true ∷ word o (next k)) → cut o (next k) + m ≡ i → getD (true ∷ word o (next k)) m false ≡ true
+        → Stands k i
 
   -- The only place where the crossing letter leaves line m
   pub record Crossing (k m : ℕ) : Type 0 where
@@ -60,7 +62,8 @@ module _ (o : Outline) where
     pub letter : LetterAt (o .letters) (frameOf (next k) .later) place
     pub here : line k place ≡ m
     pub only : (i : ℕ) → LetterAt (o .letters) (frameOf (next k) .later) i → line k i ≡ m → i ≡ place
-    pub under : (x : Point) → x .col < side → x .row < side → cellL (next k) x ≡ m → (depth k place ≤ cellE (next k) x) ↔ (UnderPiece k x × UnderPiece (next k) x)
+    pub under : (x : Point) → x .col < side → x .row < side → cellL (next k) x ≡ m
+        → (depth k place ≤ cellE (next k) x) ↔ (UnderPiece k x × UnderPiece (next k) x)
 
   -- If a piece is split at a letter: that letter on the border, and the corner that it leaves
   split-at : (c : NoBackStep o) (k : ℕ) → k < 4 → (x : Word) (b : Bool) (y : Word) → true ∷ word o k ≡ x ++ b ∷ y
@@ -85,10 +88,12 @@ module _ (o : Outline) where
         go (q .piece) (q .small) (q .offset) (q .within) (q .place) (getD (true ∷ word o (q .piece)) (q .offset) false) refl
         (sym (letter-in-piece o c (q .piece) (q .small) (q .offset) (q .within)) ∙ ap (λ (j : ℕ). letterAt o j) (q .place) ∙ e)
       where
-        lower-in : (j : ℕ) → j ≡ k → (m : ℕ) → m < length (true ∷ word o j) → cut o j + m ≡ i → getD (true ∷ word o j) m false ≡ false → Stands k i
+        lower-in : (j : ℕ) → j ≡ k → (m : ℕ) → m < length (true ∷ word o j) → cut o j + m ≡ i → getD (true ∷ word o j) m false ≡ false
+            → Stands k i
         lower-in j d = rw d lower
 
-        upper-in : (j : ℕ) → j ≡ next k → (m : ℕ) → m < length (true ∷ word o j) → cut o j + m ≡ i → getD (true ∷ word o j) m false ≡ true → Stands k i
+        upper-in : (j : ℕ) → j ≡ next k → (m : ℕ) → m < length (true ∷ word o j) → cut o j + m ≡ i → getD (true ∷ word o j) m false ≡ true
+            → Stands k i
         upper-in j d = rw d upper
 
         go : (j : ℕ) → j < 4 → (m : ℕ) → m < length (true ∷ word o j) → cut o j + m ≡ i → (b : Bool) → getD (true ∷ word o j) m false ≡ b
@@ -99,7 +104,8 @@ module _ (o : Outline) where
     lower-line : (m : ℕ) → m < length (true ∷ word o k) → line k (cut o k + m) ≡ startE o k + earliers (take m (true ∷ word o k))
     lower-line m n = rw (turns k .later) (corner-in-piece o c k h m (omega arith) .across)
 
-    upper-line : (m : ℕ) → m < length (true ∷ word o (next k)) → line k (cut o (next k) + m) ≡ startL o (next k) + laters (take m (true ∷ word o (next k)))
+    upper-line : (m : ℕ) → m < length (true ∷ word o (next k))
+        → line k (cut o (next k) + m) ≡ startL o (next k) + laters (take m (true ∷ word o (next k)))
     upper-line m n = corner-in-piece o c (next k) (next-lt k) m (omega arith) .up
 
     -- The bounds within piece k, up to the start of the next one, and within the next, up to its end
@@ -120,7 +126,8 @@ module _ (o : Outline) where
         (omega arith, omega (arith, laters-next-later m v n d, laters-take-le (suc m) v, formed .next-earlier (next k) (next-lt k)))
 
     -- The crossing letter leaves no other line
-    pub line-bounds : (i : ℕ) → LetterAt (o .letters) (frameOf (next k) .later) i → (startE o k ≤ line k i) × (line k i + startE o (next (next k)) < side)
+    pub line-bounds : (i : ℕ) → LetterAt (o .letters) (frameOf (next k) .later) i
+        → (startE o k ≤ line k i) × (line k i + startE o (next (next k)) < side)
     line-bounds i l = go (stands i l)
       where
         go : Stands k i → (startE o k ≤ line k i) × (line k i + startE o (next (next k)) < side)
@@ -131,15 +138,19 @@ module _ (o : Outline) where
     once i j (lower m n e d) (lower m′ n′ e′ d′) g =
         let v : Word = true ∷ word o k in
         let same : m ≡ m′ =
-        rises-once (λ a. earliers (take a v)) (λ a b. earliers-take-mono a b v) m m′ (omega (arith, earliers-next-earlier m v n d)) (omega (arith, earliers-next-earlier m′ v n′ d′))
+        rises-once (λ a. earliers (take a v)) (λ a b. earliers-take-mono a b v) m m′ (omega (arith, earliers-next-earlier m v n d))
+        (omega (arith, earliers-next-earlier m′ v n′ d′))
         (omega (arith, lower-line m n, lower-line m′ n′, ap (line k) e, ap (line k) e′)) in
         omega arith
-    once i j (lower m n e d) (upper m′ n′ e′ d′) g = absurd (omega (arith, lower-bounds m n d, upper-bounds m′ n′ d′, ap (line k) e, ap (line k) e′))
-    once i j (upper m n e d) (lower m′ n′ e′ d′) g = absurd (omega (arith, upper-bounds m n d, lower-bounds m′ n′ d′, ap (line k) e, ap (line k) e′))
+    once i j (lower m n e d) (upper m′ n′ e′ d′) g =
+        absurd (omega (arith, lower-bounds m n d, upper-bounds m′ n′ d′, ap (line k) e, ap (line k) e′))
+    once i j (upper m n e d) (lower m′ n′ e′ d′) g =
+        absurd (omega (arith, upper-bounds m n d, lower-bounds m′ n′ d′, ap (line k) e, ap (line k) e′))
     once i j (upper m n e d) (upper m′ n′ e′ d′) g =
         let v : Word = true ∷ word o (next k) in
         let same : m ≡ m′ =
-        rises-once (λ a. laters (take a v)) (λ a b. laters-take-mono a b v) m m′ (omega (arith, laters-next-later m v n d)) (omega (arith, laters-next-later m′ v n′ d′))
+        rises-once (λ a. laters (take a v)) (λ a b. laters-take-mono a b v) m m′ (omega (arith, laters-next-later m v n d))
+        (omega (arith, laters-next-later m′ v n′ d′))
         (omega (arith, upper-line m n, upper-line m′ n′, ap (line k) e, ap (line k) e′)) in
         omega arith
 
@@ -155,7 +166,8 @@ module _ (o : Outline) where
           let across : LetterAt (o .letters) (frameOf (next k) .later) i = (below, letter ∙ sym (turns k .later)) in
           let here : line k i ≡ m = rw (turns k .later) (q .across ∙ e) in
           let turned = along-next k (cornerAt o i) (q .on-chart) in
-          let within : startE o (next k) ≤ depth k i = omega (arith, formed .next-earlier k h, ap laters (r .split), laters-append (r .before) (false ∷ r .after)) in
+          let within : startE o (next k) ≤ depth k i =
+          omega (arith, formed .next-earlier k h, ap laters (r .split), laters-append (r .before) (false ∷ r .after)) in
           record {
             place = i;
             letter = across;
@@ -163,7 +175,9 @@ module _ (o : Outline) where
             only = λ j l g. once j i (stands j l) (stands i across) (g ∙ sym here);
             under = λ x x-col x-row f.
                 let cell = cell-next k x x-col x-row in
-                let column = under-from-column (word o k) (startE o k) (startL o k) (cellE k x) (cellL k x) (r .before) (r .after) (r .split) (e ∙ sym f ∙ cell-turned k x) in (
+                let column =
+                under-from-column (word o k) (startE o k) (startL o k) (cellE k x) (cellL k x) (r .before) (r .after) (r .split) (e
+                ∙ sym f ∙ cell-turned k x) in (
                   λ l. (column .1 (omega arith), under-from-start _ _ _ _ _ (omega arith) (omega arith)),
                   λ (u, w). omega (arith, column .0 u),
                 );
@@ -187,7 +201,9 @@ module _ (o : Outline) where
             under = λ x x-col x-row f.
                 let cell = cell-next k x x-col x-row in
                 let turned = cell-turned k x in
-                let row = under-from-row (word o (next k)) (startE o (next k)) (startL o (next k)) (cellE (next k) x) (cellL (next k) x) (r .before) (r .after) (r .split) (e ∙ sym f) in (
+                let row =
+                under-from-row (word o (next k)) (startE o (next k)) (startL o (next k)) (cellE (next k) x) (cellL (next k) x)
+                (r .before) (r .after) (r .split) (e ∙ sym f) in (
                   λ l. (
                     under-from-end _ _ _ _ _ (omega (arith, formed .next-later k h)) (omega (arith, formed .next-earlier k h)),
                     row .1 (omega arith),

@@ -55,7 +55,8 @@ module _ (o : Outline) where
       (below : cutCorner o 3 < size o) where
     pub cut-round : cut o 4 ≡ size o
     unfolding cutCorner
-    cut-round = omega (arith, cut-step 3, cuts 3 (omega arith), ahead-round (size o) (cornerPlace o 3) 0 (omega (arith, rise 2 (omega arith))))
+    cut-round =
+        omega (arith, cut-step 3, cuts 3 (omega arith), ahead-round (size o) (cornerPlace o 3) 0 (omega (arith, rise 2 (omega arith))))
 
     pub cuts-rise : (k : ℕ) → k < 4 → cut o k < cut o (suc k)
     cuts-rise k h =

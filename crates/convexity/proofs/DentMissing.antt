@@ -29,7 +29,8 @@ use Rattle.convexity.specs.Shape.{NoBackStep}
 use Rattle.convexity.proofs.Frame.{Dented, InTriangle, dent-in-piece, above-not-under}
 use Rattle.convexity.specs.parts.InFrame.{startE, startL, UnderFrom}
 use Rattle.convexity.proofs.RowEnds.{enclosed-iff}
-use Rattle.convexity.proofs.PathCells.{cellOf, cellE-cellOf, cellL-cellOf, col-cellOf, row-cellOf, pathCell, across-le, up-le, path-across-le, path-up-le, path-enclosed}
+use Rattle.convexity.proofs.PathCells.{cellOf, cellE-cellOf, cellL-cellOf, col-cellOf, row-cellOf, pathCell, across-le, up-le}
+use Rattle.convexity.proofs.PathCells.{path-across-le, path-up-le, path-enclosed}
 
 -- ---- a piece with a dent
 
@@ -66,19 +67,23 @@ dent-factor (f ∷ fs) d h = go (christoffel (f .word)) refl (dent-factor fs (fa
           after = fs;
           split = refl;
           repeated = falling-head d .repeated;
-          above = ⊎-elim (λ c. let z : _≡_ {A = ℕ} 0 1 = cc in absurd (omega arith)) (λ a. a) (christoffel-or-above (f .word) (falling-head d .lyndon));
+          above =
+              ⊎-elim (λ c. let z : _≡_ {A = ℕ} 0 1 = cc in
+              absurd (omega arith)) (λ a. a) (christoffel-or-above (f .word) (falling-head d .lyndon));
         }
 
 pub dented-word : (w : Word) → 0 < dentLength (factorsOf w) → Dented w
 dented-word w h =
     let g = factors-exist w in
     let r = dent-factor (factorsOf w) (g .falling) h in
-    subst (λ (v : Word). Dented v) (g .whole) (dent-in-piece (factorsOf w) (r .before) (r .factor) (r .after) (r .split) (r .repeated) (r .above))
+    subst (λ (v : Word). Dented v) (g .whole)
+    (dent-in-piece (factorsOf w) (r .before) (r .factor) (r .after) (r .split) (r .repeated) (r .above))
 
 -- ---- means in a frame
 
 module _ (a b c P P₁ P₂ P₃ Q Q₁ Q₂ Q₃ : ℕ) (some : 0 < a + b + c)
-    (p : P ≤ side - 1) (p₁ : P₁ ≤ side - 1) (p₂ : P₂ ≤ side - 1) (p₃ : P₃ ≤ side - 1) (q : Q ≤ side - 1) (q₁ : Q₁ ≤ side - 1) (q₂ : Q₂ ≤ side - 1) (q₃ : Q₃ ≤ side - 1)
+    (p : P ≤ side - 1) (p₁ : P₁ ≤ side - 1) (p₂ : P₂ ≤ side - 1) (p₃ : P₃ ≤ side - 1) (q : Q ≤ side - 1) (q₁ : Q₁ ≤ side - 1)
+    (q₂ : Q₂ ≤ side - 1) (q₃ : Q₃ ≤ side - 1)
     (across : (a + b + c) * P ≡ a * P₁ + b * P₂ + c * P₃) (up : (a + b + c) * Q ≡ a * Q₁ + b * Q₂ + c * Q₃) where
   P-flipped : (a + b + c) * (side - 1 - P) ≡ a * (side - 1 - P₁) + b * (side - 1 - P₂) + c * (side - 1 - P₃)
   P-flipped = mean-mirror (side - 1) a b c P P₁ P₂ P₃ _ _ _ _ (omega arith) (omega arith) (omega arith) (omega arith) across
@@ -116,12 +121,16 @@ module _ (o : Outline) (straight : NoBackStep o) where
 
     across-on-chart : P ≤ side - 1
     across-on-chart =
-        let m = mean-at-most (v .a) (v .b) (v .c) _ _ _ _ (earliers w) (v .some) (v .across) (earliers-take-le (v .i) w) (earliers-take-le (v .j) w) (earliers-take-le (v .k) w) in
+        let m =
+        mean-at-most (v .a) (v .b) (v .c) _ _ _ _ (earliers w) (v .some) (v .across) (earliers-take-le (v .i) w)
+        (earliers-take-le (v .j) w) (earliers-take-le (v .k) w) in
         omega (arith, across-le o straight k h)
 
     up-on-chart : Q ≤ side - 1
     up-on-chart =
-        let m = mean-at-most (v .a) (v .b) (v .c) _ _ _ _ (laters w) (v .some) (v .up) (laters-take-le (v .i) w) (laters-take-le (v .j) w) (laters-take-le (v .k) w) in
+        let m =
+        mean-at-most (v .a) (v .b) (v .c) _ _ _ _ (laters w) (v .some) (v .up) (laters-take-le (v .i) w) (laters-take-le (v .j) w)
+        (laters-take-le (v .k) w) in
         omega (arith, up-le o straight k h)
 
     cell-in-hull : InHull (encloses o) cell

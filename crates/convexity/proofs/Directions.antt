@@ -1,7 +1,8 @@
 -- Directions of edges increase clockwise: within a piece slopes decrease strictly, and the quadrants of the four pieces, each from its
 -- later letter, included, to its earlier one, excluded, follow one another.
 use Prim.Native.Nat.{ℕ, suc, pred, _+_, _*_, _≤_, _<_}
-use native.Mathlib.Nat.{le-refl, le-trans, mul-pos, mul-le-mul-right, mul-lt-mul-of-pos-left, mul-lt-mul-of-pos-right, lt-of-mul-lt-mul-left, eq-zero-or-pos}
+use native.Mathlib.Nat.{le-refl, le-trans, mul-pos, mul-le-mul-right, mul-lt-mul-of-pos-left, mul-lt-mul-of-pos-right}
+use native.Mathlib.Nat.{lt-of-mul-lt-mul-left, eq-zero-or-pos}
 use native.Mathlib.Omega.{arith}
 use mathlib.Core.Path.{_≡_, refl, sym, ap, _∙_}
 use mathlib.Core.Logic.{⊎-elim}
@@ -80,7 +81,8 @@ ends-later-some : (w : Word) → 0 < length w → EndsLater w → 0 < laters w
 ends-later-some w h ends =
     let i = pred (length w) in
     let e : suc i ≡ length w = omega arith in
-    let whole : w ≡ take i w ++ (getD w i false ∷ []) = sym (take-length w) ∙ ap (λ (n : ℕ). take n w) (sym e) ∙ take-suc w i false (omega arith) in
+    let whole : w ≡ take i w ++ (getD w i false ∷ []) = sym (take-length w) ∙ ap (λ (n : ℕ). take n w) (sym e)
+    ∙ take-suc w i false (omega arith) in
     omega (arith, laters-next-later i w (omega arith) (ends (take i w) (getD w i false) whole), laters-take-le (suc i) w)
 
 -- Every factor has a later letter: the last one because the word ends with it, any other because it is steeper than the next
@@ -91,7 +93,8 @@ first-rises f [] (edge, falls, rest) ends =
     let some : 0 < length w = rw length-copies (mul-pos (edge .repeated) (edge .some)) in
     rw laters-copies at (ends-later-some w some (rw append-nil at ends))
 first-rises f (g ∷ gs) (edge, falls, rest) ends =
-    ⊎-elim (λ z. absurd (omega (arith, ap (λ (n : ℕ). n * earliers (g .word)) z))) (λ z. mul-pos (edge .repeated) z) (eq-zero-or-pos (laters (f .word)))
+    ⊎-elim (λ z. absurd (omega (arith, ap (λ (n : ℕ). n * earliers (g .word)) z))) (λ z. mul-pos (edge .repeated) z)
+    (eq-zero-or-pos (laters (f .word)))
 
 -- Repeats do not change a slope
 edge-falls :
@@ -118,7 +121,8 @@ module _ (k : ℕ) (small : k < 4) {es : List Edge} (rest : Increasing (suc k) 0
   turning-factors f [] h ends a = more a (points f [] h ends) (turning-from (le-refl (suc k)) rest)
   turning-factors f (g ∷ gs) h ends a =
       more a (points f (g ∷ gs) h ends)
-      (turning-factors g gs (h .2) (ends-later-rest f (g ∷ gs) ends) (same-frame refl (edge-falls f g (h .0 .repeated) (h .2 .0 .repeated) (h .1))))
+      (turning-factors g gs (h .2) (ends-later-rest f (g ∷ gs) ends)
+      (same-frame refl (edge-falls f g (h .0 .repeated) (h .2 .0 .repeated) (h .1))))
 
   turning-piece : (fs : List Factor) → EdgesFall fs → EndsLater (written fs) → Increasing k 0 0 (pairs (edgesOf (frameOf k) fs) ++ es)
   unfolding pairs edgesOf
@@ -128,7 +132,8 @@ module _ (k : ℕ) (small : k < 4) {es : List Edge} (rest : Increasing (suc k) 0
 -- ---- the four pieces
 
 module _ (o : Outline) (straight : NoBackStep o) (smooth : dentPiece o ≡ 4) where
-  piece-turning : (k : ℕ) → k < 4 → {es : List Edge} → Increasing (suc k) 0 0 es → Increasing k 0 0 (pairs (edgesOf (frameOf k) (factors o k)) ++ es)
+  piece-turning : (k : ℕ) → k < 4 → {es : List Edge} → Increasing (suc k) 0 0 es
+      → Increasing k 0 0 (pairs (edgesOf (frameOf k) (factors o k)) ++ es)
   unfolding factors
   piece-turning k h rest =
       turning-piece k h rest (factors o k) (smooth-edges o smooth k h) (rw (factors-exist (word o k) .whole) (shape o straight .ends k h))
@@ -136,4 +141,5 @@ module _ (o : Outline) (straight : NoBackStep o) (smooth : dentPiece o ≡ 4) wh
   -- Directions increase clockwise from up, included, to just short of up again
   pub edges-turning : Increasing 0 0 0 (pairs (edges o))
   edges-turning =
-      rw (edge-pairs o) (piece-turning 0 (lit< tt) (piece-turning 1 (lit< tt) (piece-turning 2 (lit< tt) (rw append-nil at (piece-turning 3 (lit< tt) none)))))
+      rw (edge-pairs o) (piece-turning 0 (lit< tt)
+      (piece-turning 1 (lit< tt) (piece-turning 2 (lit< tt) (rw append-nil at (piece-turning 3 (lit< tt) none)))))

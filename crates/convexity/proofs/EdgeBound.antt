@@ -8,7 +8,8 @@ use native.Mathlib.Omega.{arith}
 use mathlib.Core.Path.{_≡_, refl, ap, _∙_}
 use mathlib.Core.Logic.{inl, inr}
 use mathlib.Core.Bool.{Bool, true, false, cond}
-use mathlib.Core.List.{List, [], _∷_, _++_, map, List·Memᴰ, List·Memᴰ·head, List·Memᴰ·tail, List·Memᴰ·cases-cons, List·Memᴰ·not-nil, Memᴰ·append-left, Memᴰ·append-right, Memᴰ·cast}
+use mathlib.Core.List.{List, [], _∷_, _++_, map, List·Memᴰ, List·Memᴰ·head, List·Memᴰ·tail, List·Memᴰ·cases-cons, List·Memᴰ·not-nil}
+use mathlib.Core.List.{Memᴰ·append-left, Memᴰ·append-right, Memᴰ·cast}
 use lib.ListN.{length, length-append}
 use lib.Dec.{lit<}
 use Rattle.base.specs.Below.{every}
@@ -134,7 +135,11 @@ later-in (g ∷ fs) h ends f m =
 
 copies-weigh : (fs : List Factor) → EdgesFall fs → EndsLater (written fs) → sumOf weight (map copy fs) ≤ 75
 copies-weigh fs h ends =
-    omega (arith, grid-weight, weighs-at-most-grid weight (grid 8 8) (copies-distinct fs h) λ c m. weighs-in-grid c (later c (mapped copy fs m)))
+    omega (
+      arith,
+      grid-weight,
+      weighs-at-most-grid weight (grid 8 8) (copies-distinct fs h) λ c m. weighs-in-grid c (later c (mapped copy fs m)),
+    )
   where
     later : (c : Copy) → (f : Factor) × List·Memᴰ f fs × (c ≡ copy f) → 0 < c .1
     later c r = rw (r .2) (later-in fs h ends (r .0) (r .1))

@@ -62,16 +62,19 @@ pub before-less : (f : Frame) (p q : Point) → along (f .earlier) p < along (f 
 unfolding before
 before-less f p q h = cc (lt-ltb (along (f .earlier) p) (along (f .earlier) q) h)
 
-pub before-level : (f : Frame) (p q : Point) → along (f .earlier) p ≡ along (f .earlier) q → along (f .later) p < along (f .later) q → before f p q ≡ true
+pub before-level : (f : Frame) (p q : Point) → along (f .earlier) p ≡ along (f .earlier) q → along (f .later) p < along (f .later) q
+    → before f p q ≡ true
 unfolding before
 before-level f p q e h =
-    let a : ltb (along (f .earlier) p) (along (f .earlier) q) ≡ false = le-ltb (along (f .earlier) p) (along (f .earlier) q) (omega arith) in
+    let a : ltb (along (f .earlier) p) (along (f .earlier) q) ≡ false =
+    le-ltb (along (f .earlier) p) (along (f .earlier) q) (omega arith) in
     let b : eqb (along (f .earlier) p) (along (f .earlier) q) ≡ true = eq-eqb (along (f .earlier) p) (along (f .earlier) q) e in
     let c : ltb (along (f .later) p) (along (f .later) q) ≡ true = lt-ltb (along (f .later) p) (along (f .later) q) h in
     cc
 
 pub before-cases : (f : Frame) (p q : Point) → before f p q ≡ true
-    → (along (f .earlier) p < along (f .earlier) q) ⊎ ((along (f .earlier) p ≡ along (f .earlier) q) × (along (f .later) p < along (f .later) q))
+    → (along (f .earlier) p < along (f .earlier) q)
+    ⊎ ((along (f .earlier) p ≡ along (f .earlier) q) × (along (f .later) p < along (f .later) q))
 unfolding before
 before-cases f p q h = go (ltb (along (f .earlier) p) (along (f .earlier) q)) refl h
   where
@@ -82,10 +85,14 @@ before-cases f p q h = go (ltb (along (f .earlier) p) (along (f .earlier) q)) re
     nearer = ltb (along (f .later) p) (along (f .later) q)
 
     go : (b : Bool) → ltb (along (f .earlier) p) (along (f .earlier) q) ≡ b → (b || (level && nearer)) ≡ true
-        → (along (f .earlier) p < along (f .earlier) q) ⊎ ((along (f .earlier) p ≡ along (f .earlier) q) × (along (f .later) p < along (f .later) q))
+        → (along (f .earlier) p < along (f .earlier) q)
+        ⊎ ((along (f .earlier) p ≡ along (f .earlier) q) × (along (f .later) p < along (f .later) q))
     go true e k = inl (ltb-true (along (f .earlier) p) (along (f .earlier) q) e)
     go false e k =
-        inr (eqb-true (along (f .earlier) p) (along (f .earlier) q) (and-left level nearer k), ltb-true (along (f .later) p) (along (f .later) q) (and-right level nearer k))
+        inr (
+          eqb-true (along (f .earlier) p) (along (f .earlier) q) (and-left level nearer k),
+          ltb-true (along (f .later) p) (along (f .later) q) (and-right level nearer k),
+        )
 
 pub before-irrefl : (f : Frame) (p : Point) → before f p p ≡ false
 before-irrefl f p = go (before f p p) refl
@@ -136,7 +143,8 @@ from-w-of o t =
     record {
       walked = rotated-walked o k h d;
       west = λ i l.
-          let (j, m) = turned o k h (d .closed) i (omega (arith, length-rotation o k h)) in rw (m .corner) (cornerPlace-first o 0 j (m .below));
+          let (j, m) = turned o k h (d .closed) i (omega (arith, length-rotation o k h)) in
+          rw (m .corner) (cornerPlace-first o 0 j (m .below));
     }
 
 -- ---- steps in a frame
@@ -148,8 +156,10 @@ on-chart o d i h = record { col = d .col-le i h; row = d .row-le i h }
 pub data Moved (f : Frame) (a : ℕ) (p q : Point) : Type 0 where
   earlier-on : a ≡ f .earlier → along (f .earlier) q ≡ along (f .earlier) p + 1 → along (f .later) q ≡ along (f .later) p → Moved f a p q
   later-on : a ≡ f .later → along (f .earlier) q ≡ along (f .earlier) p → along (f .later) q ≡ along (f .later) p + 1 → Moved f a p q
-  earlier-back : a ≡ opposite (f .earlier) → along (f .earlier) q + 1 ≡ along (f .earlier) p → along (f .later) q ≡ along (f .later) p → Moved f a p q
-  later-back : a ≡ opposite (f .later) → along (f .earlier) q ≡ along (f .earlier) p → along (f .later) q + 1 ≡ along (f .later) p → Moved f a p q
+  earlier-back : a ≡ opposite (f .earlier) → along (f .earlier) q + 1 ≡ along (f .earlier) p → along (f .later) q ≡ along (f .later) p
+      → Moved f a p q
+  later-back : a ≡ opposite (f .later) → along (f .earlier) q ≡ along (f .earlier) p → along (f .later) q + 1 ≡ along (f .later) p
+      → Moved f a p q
 
 zero-no : (n : ℕ) → eqb n 0 ≡ false → 0 < n
 zero-no n e = omega (arith, eqb-false n 0 e)
@@ -193,7 +203,8 @@ not-before-earlier f p q h =
       | no l ↦ omega arith
     ]
 
-pub not-before-later : (f : Frame) (p q : Point) → before f p q ≡ false → along (f .earlier) p ≡ along (f .earlier) q → along (f .later) q ≤ along (f .later) p
+pub not-before-later : (f : Frame) (p q : Point) → before f p q ≡ false → along (f .earlier) p ≡ along (f .earlier) q
+    → along (f .later) q ≤ along (f .later) p
 not-before-later f p q h e =
     elim (decLt (along (f .later) p) (along (f .later) q)) [
       | yes l ↦ let z : _≡_ {A = ℕ} 0 1 = cc (before-level f p q e l) in absurd (omega arith)
@@ -208,7 +219,8 @@ first-unique k p q c d g h =
     along-injective k p q c d e (omega (arith, not-before-later (frameOf k) p q g e, not-before-later (frameOf k) q p h (sym e)))
 
 -- Walks that leave the same corners have the same first corner of each piece
-pub first-shared : (o v : Outline) → Walked o → Walked v → SameCorners o v → (k : ℕ) → cornerAt o (cornerPlace o k) ≡ cornerAt v (cornerPlace v k)
+pub first-shared : (o v : Outline) → Walked o → Walked v → SameCorners o v → (k : ℕ)
+    → cornerAt o (cornerPlace o k) ≡ cornerAt v (cornerPlace v k)
 first-shared o v t u same k =
     let f = first-at-cornerPlace o k (omega (arith, t .long)) in
     let g = first-at-cornerPlace v k (omega (arith, u .long)) in
@@ -225,7 +237,8 @@ pub data Bend (f : Frame) (a b : ℕ) : Type 0 where
   by-earlier : a ≡ opposite (f .later) → b ≡ f .earlier → Bend f a b
 
 bend-of : (f : Frame) (a b : ℕ) (p c q : Point) → before f p c ≡ false → before f q c ≡ false
-    → (along (f .earlier) p ≡ along (f .earlier) q → along (f .later) p ≡ along (f .later) q → ⊥) → Moved f b c q → Moved f a p c → Bend f a b
+    → (along (f .earlier) p ≡ along (f .earlier) q → along (f .later) p ≡ along (f .later) q → ⊥) → Moved f b c q → Moved f a p c
+    → Bend f a b
 bend-of f a b p c q hp hq far (earlier-on x y z) (earlier-on x′ y′ z′) = absurd (omega (arith, not-before-earlier f p c hp))
 bend-of f a b p c q hp hq far (earlier-on x y z) (later-on x′ y′ z′) = absurd (omega (arith, not-before-later f p c hp (omega arith)))
 bend-of f a b p c q hp hq far (earlier-on x y z) (earlier-back x′ y′ z′) = absurd (far (omega arith) (omega arith))
@@ -290,5 +303,6 @@ module _ (o : Outline) (d : Walked o) where
       let (m, r) = place-after i h in
       let far : cornerAt o j ≡ cornerAt o m → ⊥ = λ e. r .apart (corner-injective o d j m l (r .below) e) in
       bend-of (frameOf k) (letterAt o j) (letterAt o i) (cornerAt o j) (cornerAt o i) (cornerAt o m) (t .none j l) (t .none m (r .below))
-      (λ x y. far (along-injective k (cornerAt o j) (cornerAt o m) (on-chart o d j (omega arith)) (on-chart o d m (omega (arith, r .below))) x y))
+      (λ x y. far (along-injective k (cornerAt o j) (cornerAt o m) (on-chart o d j (omega arith)) (on-chart o d m (omega (arith, r .below)))
+      x y))
       (rw (r .corner) at (moves k i h)) (rw corner-previous at (moves k j l))

@@ -1,7 +1,8 @@
 -- A point is under a path of decreasing edges exactly if it is on the right side of each edge: the path stays within one step of its own
 -- edge, and decreasing slopes carry the inequality to all others.
 use Prim.Native.Nat.{ℕ, zero, suc, pred, _+_, _*_, _≤_, _<_}
-use native.Mathlib.Nat.{add-assoc, add-zero, le-dest, le-of-lt, le-refl, mul-le-mul-left, mul-le-mul-right, lt-of-not-le, mul-lt-mul-of-pos-left, le-of-mul-le-mul-left}
+use native.Mathlib.Nat.{add-assoc, add-zero, le-dest, le-of-lt, le-refl, mul-le-mul-left, mul-le-mul-right, lt-of-not-le}
+use native.Mathlib.Nat.{mul-lt-mul-of-pos-left, le-of-mul-le-mul-left}
 use native.Mathlib.Decide.{decLe}
 use native.Mathlib.Omega.{arith}
 use mathlib.Core.Path.{_≡_, refl, sym, ap, _∙_, subst}
@@ -12,7 +13,8 @@ use lib.ListN.{length, take, drop, length-append}
 use lib.Seq.{take-append-seam, take-append-le, take-append-add, take-length, take-nil}
 use Rattle.words.specs.Word.{Word, earliers, laters}
 use Rattle.words.specs.Lyndon.{Factor, copies, written}
-use Rattle.words.proofs.Counts.{earliers-append, laters-append, earliers-laters, earliers-copies, laters-copies, earliers-take-drop, laters-take-drop, earliers-take-mono, laters-take-mono}
+use Rattle.words.proofs.Counts.{earliers-append, laters-append, earliers-laters, earliers-copies, laters-copies, earliers-take-drop}
+use Rattle.words.proofs.Counts.{laters-take-drop, earliers-take-mono, laters-take-mono}
 use Rattle.words.proofs.Dent.{Above, Triangle, above-triangle}
 
 -- Some point of the path of w is at or left of (p, q) and at or above it
@@ -63,7 +65,8 @@ pub rowwise : (w x y : Word) → w ≡ x ++ true ∷ y → (p q : ℕ) → later
 unfolding earliers laters
 rowwise w x y e p q h = (
   λ u. ⊎-elim (λ k. absurd (omega (arith, u .high))) (λ k. omega (arith, u .left)) (before-or-after w x true y e (u .upto)),
-  λ k. under-of-split w (x ++ true ∷ []) y (next-split w x true y e) p q (rw earliers-append (omega arith)) (rw laters-append (omega arith)),
+  λ k. under-of-split w (x ++ true ∷ []) y (next-split w x true y e) p q (rw earliers-append (omega arith))
+      (rw laters-append (omega arith)),
 )
 
 pub above-not-under : (w x y : Word) → w ≡ x ++ false ∷ y → Under w (earliers x) (laters x + 1) → ⊥
@@ -217,7 +220,8 @@ flat-after f (g ∷ gs) s h =
     let some : 0 < earliers (g .word) + laters (g .word) = omega (arith, g⁺ .some, earliers-laters (g .word)) in
     let steeper : laters (g .word) * earliers (f .word) ≤ earliers (g .word) * laters (f .word) = omega arith in
     flat-steeper _ _ _ _ (copies (g .times) (g .word) ++ written gs) some steeper
-    (flat-append _ _ (copies (g .times) (g .word)) (written gs) (flat-copies _ _ (g .times) (g .word) (g⁺ .hugs .under)) (flat-after g gs (h .1) (h .2)))
+    (flat-append _ _ (copies (g .times) (g .word)) (written gs) (flat-copies _ _ (g .times) (g .word) (g⁺ .hugs .under))
+    (flat-after g gs (h .1) (h .2)))
 
 -- The point one up and one left of each point of the path of w is over the line of slope b / a through its start
 Left : ℕ → ℕ → Word → Type 0
@@ -235,18 +239,22 @@ left-copies (suc k) w some h =
 pub sides-mono : (fs : List Factor) (vp vq p q p′ q′ : ℕ) → p ≤ p′ → q′ ≤ q → Sides fs vp vq p q → Sides fs vp vq p′ q′
 unfolding Sides
 sides-mono [] vp vq p q p′ q′ h k s = tt
-sides-mono (f ∷ fs) vp vq p q p′ q′ h k s =
-    (omega (arith, s .0, mul-le-mul-left (rise f) h, mul-le-mul-left (run f) k), sides-mono fs (vp + run f) (vq + rise f) p q p′ q′ h k (s .1))
+sides-mono (f ∷ fs) vp vq p q p′ q′ h k s = (
+  omega (arith, s .0, mul-le-mul-left (rise f) h, mul-le-mul-left (run f) k),
+  sides-mono fs (vp + run f) (vq + rise f) p q p′ q′ h k (s .1),
+)
 
 -- The first edge, if there is one, is no steeper than the vector (x, y)
 NoSteeper : List Factor → ℕ → ℕ → Type 0
 NoSteeper [] x y = Unit
 NoSteeper (g ∷ gs) x y = laters (g .word) * x ≤ earliers (g .word) * y
 
-no-steeper : (f : Factor) (fs : List Factor) (x y : ℕ) → 0 < length (f .word) → Falls f fs → laters (f .word) * x ≤ earliers (f .word) * y → NoSteeper fs x y
+no-steeper : (f : Factor) (fs : List Factor) (x y : ℕ) → 0 < length (f .word) → Falls f fs → laters (f .word) * x ≤ earliers (f .word) * y
+    → NoSteeper fs x y
 unfolding Falls NoSteeper
 no-steeper f [] x y some s h = tt
-no-steeper f (g ∷ gs) x y some s h = slope-trans _ _ (earliers (f .word)) (laters (f .word)) x y (omega (arith, earliers-laters (f .word))) (omega arith) h
+no-steeper f (g ∷ gs) x y some s h =
+    slope-trans _ _ (earliers (f .word)) (laters (f .word)) x y (omega (arith, earliers-laters (f .word))) (omega arith) h
 
 -- A point from which a steep vector leads to the start of the edges is on their right side
 sides-before : (fs : List Factor) → EdgesFall fs → (p q x y : ℕ) → NoSteeper fs x y → Sides fs (p + x) (q + y) p q
@@ -275,20 +283,24 @@ sides-own f fs h vp vq i m =
     let up : l + y ≡ rise f = laters-take-drop i c ∙ laters-copies k w in
     let p : vp + e + x ≡ vp + run f = omega arith in
     let q : vq + l + y ≡ vq + rise f = omega arith in
-    let steep : laters w * x ≤ earliers w * y = omega (arith, ap (λ (n : ℕ). laters w * n) across, ap (λ (n : ℕ). earliers w * n) up) in
-    (omega (arith, mul-le-mul-left k flat), rw (p, q) at (sides-before fs (h .2) (vp + e) (vq + l) x y (no-steeper f fs x y (h .0 .some) (h .1) steep)))
+    let steep : laters w * x ≤ earliers w * y = omega (arith, ap (λ (n : ℕ). laters w * n) across, ap (λ (n : ℕ). earliers w * n) up) in (
+      omega (arith, mul-le-mul-left k flat),
+      rw (p, q) at (sides-before fs (h .2) (vp + e) (vq + l) x y (no-steeper f fs x y (h .0 .some) (h .1) steep)),
+    )
 
 -- The points on the path after f's copies
 sides-after : (f : Factor) (fs : List Factor) → EdgesFall (f ∷ fs) → (vp vq j : ℕ) → j ≤ length (written fs)
     → Sides fs (vp + run f) (vq + rise f) (vp + run f + earliers (take j (written fs))) (vq + rise f + laters (take j (written fs)))
-    → Sides (f ∷ fs) vp vq (vp + earliers (copies (f .times) (f .word) ++ take j (written fs))) (vq + laters (copies (f .times) (f .word) ++ take j (written fs)))
+    → Sides (f ∷ fs) vp vq (vp + earliers (copies (f .times) (f .word) ++ take j (written fs)))
+    (vq + laters (copies (f .times) (f .word) ++ take j (written fs)))
 unfolding EdgesFall Sides Flat
 sides-after f fs h vp vq j m s =
     let k : ℕ = f .times in
     let w : Word = f .word in
     let t : Word = take j (written fs) in
     let flat : laters t * earliers w ≤ earliers t * laters w = flat-after f fs (h .1) (h .2) j m in
-    let p : vp + earliers (copies k w ++ t) ≡ vp + run f + earliers t = omega (arith, earliers-append (copies k w) t, earliers-copies k w) in
+    let p : vp + earliers (copies k w ++ t) ≡ vp + run f + earliers t =
+    omega (arith, earliers-append (copies k w) t, earliers-copies k w) in
     let q : vq + laters (copies k w ++ t) ≡ vq + rise f + laters t = omega (arith, laters-append (copies k w) t, laters-copies k w) in
     rw (p, q) (omega (arith, mul-le-mul-left k flat), s)
 
@@ -336,7 +348,8 @@ no-sides-above (f ∷ fs) h vp vq x y e s =
     let c : Word = copies (f .times) (f .word) in
     ⊎-elim (λ (t, p). own-side-fails f (h .0) vp vq x t p (s .0))
     (λ (t, p, q).
-    let across : earliers x ≡ run f + earliers t = omega (arith, ap earliers p, earliers-append c t, earliers-copies (f .times) (f .word)) in
+    let across : earliers x ≡ run f + earliers t =
+    omega (arith, ap earliers p, earliers-append c t, earliers-copies (f .times) (f .word)) in
     let up : laters x ≡ rise f + laters t = omega (arith, ap laters p, laters-append c t, laters-copies (f .times) (f .word)) in
     no-sides-above fs (h .2) (vp + run f) (vq + rise f) t y q (sides-mono fs _ _ _ _ _ _ (omega arith) (omega arith) (s .1)))
     (append-split c (written fs) x false y e)
@@ -350,7 +363,8 @@ under-iff-sides fs h p q high = (
     fails : Sides fs 0 0 p q → Over (written fs) p q → ⊥
     fails s o =
         let r : EarlierAt (written fs) p = o .at in
-        no-sides-above fs h 0 0 (r .before) (r .after) (r .split) (sides-mono fs 0 0 p q _ _ (omega (arith, r .count)) (omega (arith, o .low)) s)
+        no-sides-above fs h 0 0 (r .before) (r .after) (r .split)
+        (sides-mono fs 0 0 p q _ _ (omega (arith, r .count)) (omega (arith, o .low)) s)
 
 -- ---- a dent in a piece
 
@@ -417,10 +431,13 @@ copies-pos zero w h = absurd (omega arith)
 copies-pos (suc k) w h = refl
 
 -- If some factor has a point above it that is under its chord, the piece has a dent
-pub dent-in-piece : (fs before : List Factor) (f : Factor) (after : List Factor) → fs ≡ before ++ f ∷ after → 0 < f .times → Above (f .word) → Dented (written fs)
+pub dent-in-piece : (fs before : List Factor) (f : Factor) (after : List Factor) → fs ≡ before ++ f ∷ after → 0 < f .times → Above (f .word)
+    → Dented (written fs)
 unfolding written
 dent-in-piece fs before f after e h a =
     let w : Word = f .word in
     let rest : Word = copies (pred (f .times)) w ++ written after in
-    let first : written (f ∷ after) ≡ w ++ rest = ap (λ (c : Word). c ++ written after) (copies-pos (f .times) w h) ∙ append-assoc w (copies (pred (f .times)) w) (written after) in
-    dent-shift (written fs) (written before) w rest (ap written e ∙ written-append before (f ∷ after) ∙ ap (λ (c : Word). written before ++ c) first) a
+    let first : written (f ∷ after) ≡ w ++ rest = ap (λ (c : Word). c ++ written after) (copies-pos (f .times) w h)
+    ∙ append-assoc w (copies (pred (f .times)) w) (written after) in
+    dent-shift (written fs) (written before) w rest (ap written e ∙ written-append before (f ∷ after)
+    ∙ ap (λ (c : Word). written before ++ c) first) a

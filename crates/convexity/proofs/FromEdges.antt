@@ -175,16 +175,40 @@ module _ (o : Outline) (straight : NoBackStep o) (smooth : dentPiece o ≡ 4) wh
   pub edges-sizes : (k : ℕ) → k < 4 → sizesIn k (pairs (edges o)) ≡ sizes (factors o k)
   unfolding sizesIn
   edges-sizes zero h =
-      rw (all-pieces, keep 0 (lit< tt), skip 0 1 (lit< tt) (λ e. omega arith), skip 0 2 (lit< tt) (λ e. omega arith), skip 0 3 (lit< tt) (λ e. omega arith))
+      rw (
+        all-pieces,
+        keep 0 (lit< tt),
+        skip 0 1 (lit< tt) (λ e. omega arith),
+        skip 0 2 (lit< tt) (λ e. omega arith),
+        skip 0 3 (lit< tt) (λ e. omega arith),
+      )
       (append-nil _)
   edges-sizes (suc zero) h =
-      rw (all-pieces, skip 1 0 (lit< tt) (λ e. omega arith), keep 1 (lit< tt), skip 1 2 (lit< tt) (λ e. omega arith), skip 1 3 (lit< tt) (λ e. omega arith))
+      rw (
+        all-pieces,
+        skip 1 0 (lit< tt) (λ e. omega arith),
+        keep 1 (lit< tt),
+        skip 1 2 (lit< tt) (λ e. omega arith),
+        skip 1 3 (lit< tt) (λ e. omega arith),
+      )
       (append-nil _)
   edges-sizes (suc (suc zero)) h =
-      rw (all-pieces, skip 2 0 (lit< tt) (λ e. omega arith), skip 2 1 (lit< tt) (λ e. omega arith), keep 2 (lit< tt), skip 2 3 (lit< tt) (λ e. omega arith))
+      rw (
+        all-pieces,
+        skip 2 0 (lit< tt) (λ e. omega arith),
+        skip 2 1 (lit< tt) (λ e. omega arith),
+        keep 2 (lit< tt),
+        skip 2 3 (lit< tt) (λ e. omega arith),
+      )
       (append-nil _)
   edges-sizes (suc (suc (suc zero))) h =
-      rw (all-pieces, skip 3 0 (lit< tt) (λ e. omega arith), skip 3 1 (lit< tt) (λ e. omega arith), skip 3 2 (lit< tt) (λ e. omega arith), keep 3 (lit< tt))
+      rw (
+        all-pieces,
+        skip 3 0 (lit< tt) (λ e. omega arith),
+        skip 3 1 (lit< tt) (λ e. omega arith),
+        skip 3 2 (lit< tt) (λ e. omega arith),
+        keep 3 (lit< tt),
+      )
       (append-nil _)
   edges-sizes (suc (suc (suc (suc k)))) h = absurd (omega arith)
 
@@ -192,7 +216,8 @@ module _ (o : Outline) (straight : NoBackStep o) (smooth : dentPiece o ≡ 4) wh
   pub piece-from-edges : (k : ℕ) → k < 4 → piece o k ≡ pieceFrom k (pairs (edges o))
   unfolding pieceFrom
   piece-from-edges k h =
-      shape o straight .spelled k h ∙ ap (λ (w : Word). spell (frameOf k) (true ∷ w)) (word-sizes o smooth k h ∙ ap edgesWord (sym (edges-sizes k h)))
+      shape o straight .spelled k h
+      ∙ ap (λ (w : Word). spell (frameOf k) (true ∷ w)) (word-sizes o smooth k h ∙ ap edgesWord (sym (edges-sizes k h)))
 
   pub from-w-from-edges : o .letters ≡ lettersFrom (edges o)
   unfolding lettersFrom

@@ -22,14 +22,17 @@ use Rattle.convexity.specs.Frame.{Frame, frameOf, along, next}
 use Rattle.convexity.specs.Cut.{cut}
 use Rattle.convexity.specs.Edges.{Edge, pairs}
 use Rattle.convexity.specs.Pieces.{word, factors, edgesOf, edges}
-use Rattle.convexity.specs.Inside.{minℤ, maxℤ, noneOutside, colSteps, rowSteps, total, lowestMet, highestMet, within, insideAt, insideEdges}
+use Rattle.convexity.specs.Inside.{minℤ, maxℤ, noneOutside, colSteps, rowSteps, total, lowestMet, highestMet, within, insideAt}
+use Rattle.convexity.specs.Inside.{insideEdges}
 use Rattle.convexity.specs.Shape.{Shape}
 use Rattle.convexity.proofs.Frame.{Sides, run, rise}
 use Rattle.convexity.specs.parts.InFrame.{startOf, startE, startL, cellAlong, cellE, cellL}
 use Rattle.convexity.proofs.Ring.{next-lt, next-suc, next-round, all-round}
 use Rattle.base.proofs.IntegerOrder.{up, down, at-most-iff, not-at-most}
 use Rattle.base.proofs.Differences.{Is, is-self, is-add, is-unique, le-iff}
-use Rattle.convexity.proofs.Signed.{Counted, Lies, Placed, placed-cell, lies-next, stepCols, stepRows, step-lies, lies-step, reached, lies-end, lies-sides, pairs-append, none-outside-append, cols-append, rows-append, reached-append}
+use Rattle.convexity.proofs.Signed.{Counted, Lies, Placed, placed-cell, lies-next, stepCols, stepRows, step-lies, lies-step, reached}
+use Rattle.convexity.proofs.Signed.{lies-end, lies-sides, pairs-append, none-outside-append, cols-append, rows-append}
+use Rattle.convexity.proofs.Signed.{reached-append}
 
 -- ---- the vertices of a list of edges
 
@@ -83,12 +86,16 @@ meets-iff Q more ((d, e) ∷ es) v w = either (more d e es v w) (meets-iff Q mor
 spans-iff : (k : ℕ) (x : Point) (es : List Edge) (v w : ℤ) → (spans k x es v w ≡ true) ↔ Meets (λ a b. spans k x [] a b ≡ true) es v w
 unfolding spans lowestMet highestMet colSteps rowSteps
 spans-iff zero x = meets-iff (λ es v w. spans 0 x es v w ≡ true) λ d e es v w. min-iff v (lowestMet (colSteps es) (v +ℤ d)) (pos (x .col))
-spans-iff (suc zero) x = meets-iff (λ es v w. spans 1 x es v w ≡ true) λ d e es v w. max-iff w (highestMet (rowSteps es) (w +ℤ e)) (pos (x .row))
-spans-iff (suc (suc zero)) x = meets-iff (λ es v w. spans 2 x es v w ≡ true) λ d e es v w. max-iff v (highestMet (colSteps es) (v +ℤ d)) (pos (x .col))
-spans-iff (suc (suc (suc k))) x = meets-iff (λ es v w. spans 3 x es v w ≡ true) λ d e es v w. min-iff w (lowestMet (rowSteps es) (w +ℤ e)) (pos (x .row))
+spans-iff (suc zero) x =
+    meets-iff (λ es v w. spans 1 x es v w ≡ true) λ d e es v w. max-iff w (highestMet (rowSteps es) (w +ℤ e)) (pos (x .row))
+spans-iff (suc (suc zero)) x =
+    meets-iff (λ es v w. spans 2 x es v w ≡ true) λ d e es v w. max-iff v (highestMet (colSteps es) (v +ℤ d)) (pos (x .col))
+spans-iff (suc (suc (suc k))) x =
+    meets-iff (λ es v w. spans 3 x es v w ≡ true) λ d e es v w. min-iff w (lowestMet (rowSteps es) (w +ℤ e)) (pos (x .row))
 
 -- A vertex in frame k
-placed-spans : (k : ℕ) (x : Point) → x .col < side → x .row < side → {p q : ℕ} {v w : ℤ} → Placed k p q v w → (spans k x [] v w ≡ true) ↔ (p ≤ cellE k x)
+placed-spans : (k : ℕ) (x : Point) → x .col < side → x .row < side → {p q : ℕ} {v w : ℤ} → Placed k p q v w
+    → (spans k x [] v w ≡ true) ↔ (p ≤ cellE k x)
 unfolding spans lowestMet highestMet colSteps rowSteps Counted cellE cellAlong frameOf
 placed-spans zero x c r h = Iff·trans (le-iff (h .counted .0) (is-self (pos (x .col)))) (omega arith)
 placed-spans (suc zero) x c r h = Iff·trans (le-iff (is-self (pos (x .row))) (h .counted .1)) (omega arith)
@@ -119,12 +126,14 @@ pub record Passed (k o vp vq e l : ℕ) (v w : ℤ) : Type 0 where
   pub q-upto : q ≤ vq + l
 
 passed-start : {k o vp vq : ℕ} {x y : ℤ} (e l : ℕ) → Lies k o vp vq x y → Passed k o vp vq e l x y
-passed-start {vp = vp} {vq = vq} e l h = record { p = vp; q = vq; lies = h; p-from = le-refl vp; p-upto = omega arith; q-from = le-refl vq; q-upto = omega arith }
+passed-start {vp = vp} {vq = vq} e l h =
+    record { p = vp; q = vq; lies = h; p-from = le-refl vp; p-upto = omega arith; q-from = le-refl vq; q-upto = omega arith }
 
 -- What P implies at every vertex along a piece holds if P holds at one of them
 meets-passed :
     (P : ℤ → ℤ → Type 0) (N : Type 0) (k : ℕ) (fs : List Factor) {o vp vq : ℕ} {x y : ℤ} → Lies k o vp vq x y
-    → ((v w : ℤ) → Passed k o vp vq (earliers (written fs)) (laters (written fs)) v w → P v w → N) → Meets P (pairs (edgesOf (frameOf k) fs)) x y → N
+    → ((v w : ℤ) → Passed k o vp vq (earliers (written fs)) (laters (written fs)) v w → P v w → N)
+    → Meets P (pairs (edgesOf (frameOf k) fs)) x y → N
 unfolding Meets pairs edgesOf written
 meets-passed P N k [] {x = x} {y = y} h f m = f x y (passed-start _ _ h) m
 meets-passed P N k (g ∷ gs) {o = o} {vp = vp} {vq = vq} {x = x} {y = y} h f m =
@@ -138,7 +147,15 @@ meets-passed P N k (g ∷ gs) {o = o} {vp = vp} {vq = vq} {x = x} {y = y} h f m 
         let upward = laters-append (copies (g .times) (g .word)) (written gs) in
         let e = earliers-copies (g .times) (g .word) in
         let l = laters-copies (g .times) (g .word) in
-        record { p = i .p; q = i .q; lies = i .lies; p-from = omega arith; p-upto = omega arith; q-from = omega arith; q-upto = omega arith }
+        record {
+          p = i .p;
+          q = i .q;
+          lies = i .lies;
+          p-from = omega arith;
+          p-upto = omega arith;
+          q-from = omega arith;
+          q-upto = omega arith;
+        }
 
 -- ---- the cycle of the four pieces
 
@@ -177,7 +194,8 @@ module _ (o : Outline) where
   unfolding firstCol firstRow
   first-placed g zero l = first-placed-0
   first-placed g (suc k) l =
-      rw (next-suc k (omega arith)) at (next-corner g k (omega arith) (rw whole-piece at (lies-end k (factors o k) (first-placed g k (omega arith)))))
+      rw (next-suc k (omega arith)) at
+      (next-corner g k (omega arith) (rw whole-piece at (lies-end k (factors o k) (first-placed g k (omega arith)))))
 
   -- The last piece ends at the first cell of the first
   last-placed : Shape o → Placed 0 (startE o 0) (startL o 0) (firstCol 4) (firstRow 4)
@@ -218,13 +236,18 @@ module _ (o : Outline) where
         (λ m. omega (arith, placed-spans j x x-col x-row here .0 m))
         (λ m. omega (arith, placed-spans (next j) x x-col x-row after .0 m, g .next-earlier j h))
         (λ m. omega (arith, placed-spans (next (next j)) x x-col x-row across .0 m, g .next-later j h, g .next-earlier (next j) a))
-        (λ m. omega (arith, placed-spans (next (next (next j))) x x-col x-row back .0 m, rw (next-round j h) at (g .next-later (next (next (next j))) (next-lt (next (next j))))))
+        (λ m. omega (
+          arith,
+          placed-spans (next (next (next j))) x x-col x-row back .0 m,
+          rw (next-round j h) at (g .next-later (next (next (next j))) (next-lt (next (next j)))),
+        ))
 
     -- So the extreme along each frame's earlier letter is that of its piece's first cell
     extreme : (k : ℕ) → k < 4 → (spans k x (pairs (edges o)) (pos (o .start .col)) (pos (o .start .row)) ≡ true) ↔ (startE o k ≤ cellE k x)
     extreme k l =
         Iff·trans (spans-iff k x (pairs (edges o)) (pos (o .start .col)) (pos (o .start .row))) (
-          λ m. ⊎-elim (passes 0 (omega arith)) (⊎-elim (passes 1 (omega arith)) (⊎-elim (passes 2 (omega arith)) (passes 3 (omega arith)))) (meets-edges P .0 m),
+          λ m. ⊎-elim (passes 0 (omega arith)) (⊎-elim (passes 1 (omega arith)) (⊎-elim (passes 2 (omega arith)) (passes 3 (omega arith))))
+              (meets-edges P .0 m),
           λ n. meets-edges P .1 (among P k l (meets-here P _ _ _ (placed-spans k x x-col x-row (first-placed g k l) .1 n))),
         )
       where
@@ -240,11 +263,13 @@ module _ (o : Outline) where
     unfolding firstCol firstRow
     none-outside-iff = rw edge-pairs (split 0 _ (omega arith) (split 1 _ (omega arith) (split 2 _ (omega arith) (sides 3 (omega arith)))))
       where
-        sides : (k : ℕ) → k < 4 → (noneOutside (piecePairs k) (firstCol k) (firstRow k) (pos (x .col)) (pos (x .row)) ≡ true) ↔ RightSide x k
+        sides : (k : ℕ) → k < 4
+            → (noneOutside (piecePairs k) (firstCol k) (firstRow k) (pos (x .col)) (pos (x .row)) ≡ true) ↔ RightSide x k
         sides k l = lies-sides k (factors o k) (first-placed g k l) (placed-cell k x x-col x-row)
 
         split :
-            (k : ℕ) (es : List Edge) → k < 4 → {A : Type 0} → (noneOutside es (firstCol (suc k)) (firstRow (suc k)) (pos (x .col)) (pos (x .row)) ≡ true) ↔ A
+            (k : ℕ) (es : List Edge) → k < 4 → {A : Type 0}
+            → (noneOutside es (firstCol (suc k)) (firstRow (suc k)) (pos (x .col)) (pos (x .row)) ≡ true) ↔ A
             → (noneOutside (piecePairs k ++ es) (firstCol k) (firstRow k) (pos (x .col)) (pos (x .row)) ≡ true) ↔ (RightSide x k × A)
         split k es l i = rw (none-outside-append (piecePairs k) es) (Iff·trans (and-eq-true-iff _ _) (Iff·and (sides k l) i))
 
@@ -282,7 +307,8 @@ reached-total (d ∷ ds) x = reached-total ds (x +ℤ d) ∙ +ℤ-assoc x d (tot
 total-nil : (ds : List ℤ) (x : ℤ) → reached ds x ≡ x → total ds ≡ pos 0
 total-nil ds x e =
     let sum = is-add (is-self x) (is-self (total ds)) in
-    is-unique (is-self (total ds)) (is-self (pos 0)) (omega (arith, sum .eq, ap up (sym (reached-total ds x) ∙ e), ap down (sym (reached-total ds x) ∙ e)))
+    is-unique (is-self (total ds)) (is-self (pos 0))
+    (omega (arith, sum .eq, ap up (sym (reached-total ds x) ∙ e), ap down (sym (reached-total ds x) ∙ e)))
 
 module _ (o : Outline) where
   cols-reached : reached (colSteps (pairs (edges o))) (pos (o .start .col)) ≡ firstCol o 4
@@ -296,7 +322,8 @@ module _ (o : Outline) where
   -- The edges lead back to the anchor
   pub edges-return :
       Shape o → let es = pairs (edges o) in
-      (reached (colSteps es) (pos (o .start .col)) ≡ pos (o .start .col)) × (reached (rowSteps es) (pos (o .start .row)) ≡ pos (o .start .row))
+      (reached (colSteps es) (pos (o .start .col)) ≡ pos (o .start .col))
+      × (reached (rowSteps es) (pos (o .start .row)) ≡ pos (o .start .row))
   unfolding Counted firstCol firstRow
   edges-return h =
       let start = first-placed-0 o .counted in
@@ -323,7 +350,13 @@ placed-is-cell k {p} {q} {v} {w} l m h = go k (h .counted)
   where
     cell : (c r : ℕ) → c < side → r < side → Is v c 0 → Is w r 0 → IsCell v w
     cell c r i j x y =
-        record { cell = record { col = c; row = r }; col-is = is-unique x (is-self (pos c)) refl; row-is = is-unique y (is-self (pos r)) refl; col-on = i; row-on = j }
+        record {
+          cell = record { col = c; row = r };
+          col-is = is-unique x (is-self (pos c)) refl;
+          row-is = is-unique y (is-self (pos r)) refl;
+          col-on = i;
+          row-on = j;
+        }
 
     back : {z : ℤ} {n : ℕ} → n < side → Is z (side - 1) n → Is z (side - 1 - n) 0
     back i x = record { eq = omega (arith, x .eq) }
@@ -336,12 +369,19 @@ placed-is-cell k {p} {q} {v} {w} l m h = go k (h .counted)
 
 -- A vertex is a cell of the chart
 pub vertex-is-cell :
-    (o : Outline) → Shape o → (P : ℤ → ℤ → Type 0) → Meets P (pairs (edges o)) (pos (o .start .col)) (pos (o .start .row)) → (v : ℤ) × (w : ℤ) × IsCell v w × P v w
+    (o : Outline) → Shape o → (P : ℤ → ℤ → Type 0) → Meets P (pairs (edges o)) (pos (o .start .col)) (pos (o .start .row))
+    → (v : ℤ) × (w : ℤ) × IsCell v w × P v w
 vertex-is-cell o g P m =
-    ⊎-elim (passes 0 (omega arith)) (⊎-elim (passes 1 (omega arith)) (⊎-elim (passes 2 (omega arith)) (passes 3 (omega arith)))) (meets-edges o P .0 m)
+    ⊎-elim (passes 0 (omega arith)) (⊎-elim (passes 1 (omega arith)) (⊎-elim (passes 2 (omega arith)) (passes 3 (omega arith))))
+    (meets-edges o P .0 m)
   where
     passes : (j : ℕ) → j < 4 → MeetsPiece o P j → (v : ℤ) × (w : ℤ) × IsCell v w × P v w
     passes j h =
         meets-passed P _ j (factors o j) (first-placed o g j h) λ v w i p.
-        let i′ : Passed j (side - 1) (startE o j) (startL o j) (earliers (word o j)) (laters (word o j)) v w = rw whole-piece at i in
-        (v, w, placed-is-cell j (omega (arith, i′ .p-upto, g .next-later j h, g .next-earlier (next j) (next-lt j))) (omega (arith, i′ .q-upto, g .next-earlier j h)) (i′ .lies), p)
+        let i′ : Passed j (side - 1) (startE o j) (startL o j) (earliers (word o j)) (laters (word o j)) v w = rw whole-piece at i in (
+          v,
+          w,
+          placed-is-cell j (omega (arith, i′ .p-upto, g .next-later j h, g .next-earlier (next j) (next-lt j)))
+              (omega (arith, i′ .q-upto, g .next-earlier j h)) (i′ .lies),
+          p,
+        )

@@ -71,21 +71,37 @@ shifted x = at (suc (x .col)) (suc (x .row))
 module _ (o : Outline) where
   pub enclosed-level : (x : Point) → encloses o (x .col) (x .row) ≡ true → In o (shifted x)
   unfolding encloses
-  enclosed-level x e = omega (arith, eqb-true (ups (o .start) (o .letters) (x .col) (x .row)) (downs (o .start) (o .letters) (x .col) (x .row) + 1) e, ups-to (o .start) (o .letters) (x .col) (x .row), downs-to (o .start) (o .letters) (x .col) (x .row))
+  enclosed-level x e =
+      omega (
+        arith,
+        eqb-true (ups (o .start) (o .letters) (x .col) (x .row)) (downs (o .start) (o .letters) (x .col) (x .row) + 1) e,
+        ups-to (o .start) (o .letters) (x .col) (x .row),
+        downs-to (o .start) (o .letters) (x .col) (x .row),
+      )
 
   pub level-enclosed : (x : Point) → In o (shifted x) → encloses o (x .col) (x .row) ≡ true
   unfolding encloses
-  level-enclosed x h = eq-eqb (ups (o .start) (o .letters) (x .col) (x .row)) (downs (o .start) (o .letters) (x .col) (x .row) + 1) (rw (ups-to, downs-to) h)
+  level-enclosed x h =
+      eq-eqb (ups (o .start) (o .letters) (x .col) (x .row)) (downs (o .start) (o .letters) (x .col) (x .row) + 1) (rw (ups-to, downs-to) h)
 
   pub level-open : (x : Point) → Out o (shifted x) → encloses o (x .col) (x .row) ≡ false
   unfolding encloses
-  level-open x h = ne-eqb (ups (o .start) (o .letters) (x .col) (x .row)) (downs (o .start) (o .letters) (x .col) (x .row) + 1) (rw (ups-to, downs-to) (omega arith))
+  level-open x h =
+      ne-eqb (ups (o .start) (o .letters) (x .col) (x .row)) (downs (o .start) (o .letters) (x .col) (x .row) + 1)
+      (rw (ups-to, downs-to) (omega arith))
 
   -- For an enclosed cell some up is counted
-  pub up-counted : (c r : ℕ) → encloses o c r ≡ true → (i : ℕ) × LetterAt (o .letters) 1 i × (cornerAt o i .col ≤ c) × (cornerAt o i .row ≡ r)
+  pub up-counted : (c r : ℕ) → encloses o c r ≡ true
+      → (i : ℕ) × LetterAt (o .letters) 1 i × (cornerAt o i .col ≤ c) × (cornerAt o i .row ≡ r)
   unfolding encloses upAlong
   up-counted c r e =
-      let (i, l, g) = tally-found (λ q a. upAlong q a r && leb (q .col) c) (o .start) (o .letters) (omega (arith, ups-tally (o .start) (o .letters) c r, eqb-true (ups (o .start) (o .letters) c r) (downs (o .start) (o .letters) c r + 1) e)) in
+      let (i, l, g) =
+      tally-found (λ q a. upAlong q a r && leb (q .col) c) (o .start) (o .letters)
+      (omega (
+        arith,
+        ups-tally (o .start) (o .letters) c r,
+        eqb-true (ups (o .start) (o .letters) c r) (downs (o .start) (o .letters) c r + 1) e,
+      )) in
       let p = cornerAt o i in
       let (a, b) = tested (letterAt o i) 1 (p .row) r (and-left (upAlong p (letterAt o i) r) (leb (p .col) c) g) in
       (i, (l, a), leb-true (p .col) c (and-right (upAlong p (letterAt o i) r) (leb (p .col) c) g), b)

@@ -73,7 +73,8 @@ module _ (o : Outline) where
   in-col p i =
       elim (decLt 0 (p .col)) [
         | yes l ↦ l
-        | no l ↦ let e : p .col ≡ 0 = omega arith in absurd (omega (arith, ups-column-zero o (p .row), ap (λ (c : ℕ). upsTo o c (p .row)) e))
+        | no l ↦ let e : p .col ≡ 0 = omega arith in
+            absurd (omega (arith, ups-column-zero o (p .row), ap (λ (c : ℕ). upsTo o c (p .row)) e))
       ]
 
   in-row : (p : Point) → In o p → 0 < p .row
@@ -114,22 +115,27 @@ module _ (o : Outline) where
     corner i = cornerAt o i
 
     -- A frame's later letter at two places of one line, the second further along the earlier letter
-    apart-gap : (k i j : ℕ) → LetterAt (o .letters) (frameOf k .later) i → LetterAt (o .letters) (frameOf k .later) j → along (frameOf k .later) (corner i) ≡ along (frameOf k .later) (corner j)
+    apart-gap : (k i j : ℕ) → LetterAt (o .letters) (frameOf k .later) i → LetterAt (o .letters) (frameOf k .later) j
+        → along (frameOf k .later) (corner i) ≡ along (frameOf k .later) (corner j)
         → along (frameOf k .earlier) (corner i) < along (frameOf k .earlier) (corner j) → SomeMissing o
     unfolding frameOf along rightOf leftOf
     apart-gap zero i j e f r l =
-        gap (rightOf (corner i) 1) (leftOf (corner j) 1) (rightOf (corner j) 1) (between-row _ _ _ (omega arith) (omega arith) (omega arith) (omega arith) (omega arith))
+        gap (rightOf (corner i) 1) (leftOf (corner j) 1) (rightOf (corner j) 1)
+        (between-row _ _ _ (omega arith) (omega arith) (omega arith) (omega arith) (omega arith))
         (right-in o h up 1 i e) (left-out o h up 1 j f) (right-in o h up 1 j f)
     apart-gap (suc zero) i j e f r l =
-        gap (rightOf (corner j) 0) (leftOf (corner j) 0) (rightOf (corner i) 0) (between-col _ _ _ (omega arith) (omega arith) (omega arith) (omega arith) (omega arith))
+        gap (rightOf (corner j) 0) (leftOf (corner j) 0) (rightOf (corner i) 0)
+        (between-col _ _ _ (omega arith) (omega arith) (omega arith) (omega arith) (omega arith))
         (right-in o h up 0 j f) (left-out o h up 0 j f) (right-in o h up 0 i e)
     apart-gap (suc (suc zero)) i j e f r l =
         let level : corner i .row ≡ corner j .row = omega (arith, h .walked .row-le i (omega arith), h .walked .row-le j (omega arith)) in
-        gap (rightOf (corner j) 3) (leftOf (corner j) 3) (rightOf (corner i) 3) (between-row _ _ _ (omega arith) (omega arith) (omega arith) (omega arith) (omega arith))
+        gap (rightOf (corner j) 3) (leftOf (corner j) 3) (rightOf (corner i) 3)
+        (between-row _ _ _ (omega arith) (omega arith) (omega arith) (omega arith) (omega arith))
         (right-in o h up 3 j f) (left-out o h up 3 j f) (right-in o h up 3 i e)
     apart-gap (suc (suc (suc k))) i j e f r l =
         let level : corner i .col ≡ corner j .col = omega (arith, h .walked .col-le i (omega arith), h .walked .col-le j (omega arith)) in
-        gap (rightOf (corner i) 2) (leftOf (corner j) 2) (rightOf (corner j) 2) (between-col _ _ _ (omega arith) (omega arith) (omega arith) (omega arith) (omega arith))
+        gap (rightOf (corner i) 2) (leftOf (corner j) 2) (rightOf (corner j) 2)
+        (between-col _ _ _ (omega arith) (omega arith) (omega arith) (omega arith) (omega arith))
         (right-in o h up 2 i e) (left-out o h up 2 j f) (right-in o h up 2 j f)
 
     -- The same for any two places of one line, since their corners differ
@@ -143,37 +149,47 @@ module _ (o : Outline) where
                 | yes m ↦ apart-gap k j i f e (sym r) m
                 | no m ↦
                     absurd (n (corner-injective o (h .walked) i j (e .0) (f .0)
-                    (along-injective k (corner i) (corner j) (on-chart o (h .walked) i (omega arith)) (on-chart o (h .walked) j (omega arith)) (omega arith) r)))
+                    (along-injective k (corner i) (corner j) (on-chart o (h .walked) i (omega arith))
+                    (on-chart o (h .walked) j (omega arith)) (omega arith) r)))
               ]
         ]
 
     -- The later letter, and its opposite across the same line, not further along the earlier letter
     pub back-gap : (k i j : ℕ) → LetterAt (o .letters) (frameOf k .later) i → LetterAt (o .letters) (opposite (frameOf k .later)) j
-        → along (frameOf k .later) (corner i) + 1 ≡ along (frameOf k .later) (corner j) → along (frameOf k .earlier) (corner j) ≤ along (frameOf k .earlier) (corner i) → SomeMissing o
+        → along (frameOf k .later) (corner i) + 1 ≡ along (frameOf k .later) (corner j)
+        → along (frameOf k .earlier) (corner j) ≤ along (frameOf k .earlier) (corner i) → SomeMissing o
     unfolding frameOf along opposite rightOf leftOf
     back-gap zero i j e f r l =
-        gap (rightOf (corner j) 3) (leftOf (corner i) 1) (rightOf (corner i) 1) (between-row _ _ _ (omega arith) (omega arith) (omega arith) (omega arith) (omega arith))
+        gap (rightOf (corner j) 3) (leftOf (corner i) 1) (rightOf (corner i) 1)
+        (between-row _ _ _ (omega arith) (omega arith) (omega arith) (omega arith) (omega arith))
         (right-in o h up 3 j f) (left-out o h up 1 i e) (right-in o h up 1 i e)
     back-gap (suc zero) i j e f r l =
         let below : corner i .row ≤ corner j .row = omega (arith, h .walked .row-le i (omega arith)) in
-        gap (rightOf (corner i) 0) (leftOf (corner j) 2) (rightOf (corner j) 2) (between-col _ _ _ (omega arith) (omega arith) (omega arith) (omega arith) (omega arith))
+        gap (rightOf (corner i) 0) (leftOf (corner j) 2) (rightOf (corner j) 2)
+        (between-col _ _ _ (omega arith) (omega arith) (omega arith) (omega arith) (omega arith))
         (right-in o h up 0 i e) (left-out o h up 2 j f) (right-in o h up 2 j f)
     back-gap (suc (suc zero)) i j e f r l =
         let left : corner i .col ≤ corner j .col = omega (arith, h .walked .col-le i (omega arith)) in
-        let level : corner i .row ≡ corner j .row + 1 = omega (arith, h .walked .row-le i (omega arith), h .walked .row-le j (omega arith)) in
-        gap (rightOf (corner i) 3) (leftOf (corner j) 1) (rightOf (corner j) 1) (between-row _ _ _ (omega arith) (omega arith) (omega arith) (omega arith) (omega arith))
+        let level : corner i .row ≡ corner j .row + 1 =
+        omega (arith, h .walked .row-le i (omega arith), h .walked .row-le j (omega arith)) in
+        gap (rightOf (corner i) 3) (leftOf (corner j) 1) (rightOf (corner j) 1)
+        (between-row _ _ _ (omega arith) (omega arith) (omega arith) (omega arith) (omega arith))
         (right-in o h up 3 i e) (left-out o h up 1 j f) (right-in o h up 1 j f)
     back-gap (suc (suc (suc k))) i j e f r l =
-        let level : corner i .col ≡ corner j .col + 1 = omega (arith, h .walked .col-le i (omega arith), h .walked .col-le j (omega arith)) in
-        gap (rightOf (corner j) 0) (leftOf (corner i) 2) (rightOf (corner i) 2) (between-col _ _ _ (omega arith) (omega arith) (omega arith) (omega arith) (omega arith))
+        let level : corner i .col ≡ corner j .col + 1 =
+        omega (arith, h .walked .col-le i (omega arith), h .walked .col-le j (omega arith)) in
+        gap (rightOf (corner j) 0) (leftOf (corner i) 2) (rightOf (corner i) 2)
+        (between-col _ _ _ (omega arith) (omega arith) (omega arith) (omega arith) (omega arith))
         (right-in o h up 0 j f) (left-out o h up 2 i e) (right-in o h up 2 i e)
 
     -- An up, and a down along the same row that is not to its right
-    pub up-down : (i j : ℕ) → LetterAt (o .letters) 1 i → LetterAt (o .letters) 3 j → corner i .row + 1 ≡ corner j .row → corner j .col ≤ corner i .col → SomeMissing o
+    pub up-down : (i j : ℕ) → LetterAt (o .letters) 1 i → LetterAt (o .letters) 3 j → corner i .row + 1 ≡ corner j .row
+        → corner j .col ≤ corner i .col → SomeMissing o
     unfolding frameOf along opposite
     up-down i j e f r l = back-gap 0 i j e f r l
 
     -- A right, and a left along the same column that is not below it
-    pub right-left : (i j : ℕ) → LetterAt (o .letters) 0 i → LetterAt (o .letters) 2 j → corner i .col + 1 ≡ corner j .col → corner i .row ≤ corner j .row → SomeMissing o
+    pub right-left : (i j : ℕ) → LetterAt (o .letters) 0 i → LetterAt (o .letters) 2 j → corner i .col + 1 ≡ corner j .col
+        → corner i .row ≤ corner j .row → SomeMissing o
     unfolding frameOf along opposite
     right-left i j e f c l = back-gap 1 i j e f c (omega arith)

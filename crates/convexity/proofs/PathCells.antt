@@ -66,7 +66,8 @@ row-cellOf (suc (suc (suc k))) P Q h l = h
 -- ---- cells beside a letter of a frame
 
 -- The later letter that leaves (P, Q) has the cell (P, Q) to its right
-pub right-later : (k : ℕ) (p : Point) (P Q : ℕ) → CornerIn k p P Q → P ≤ side - 1 → Q ≤ side - 1 → rightOf p (frameOf k .later) ≡ shifted (cellOf k P Q)
+pub right-later : (k : ℕ) (p : Point) (P Q : ℕ) → CornerIn k p P Q → P ≤ side - 1 → Q ≤ side - 1
+    → rightOf p (frameOf k .later) ≡ shifted (cellOf k P Q)
 unfolding frameOf along cellOf rightOf leftOf
 right-later zero p P Q c h l = point-eq (shifted p) (shifted (at P Q)) (ap suc (c .across)) (ap suc (c .up))
 right-later (suc zero) p P Q c h l =
@@ -78,7 +79,8 @@ right-later (suc (suc (suc k))) p P Q c h l =
 
 -- So has the earlier letter that leaves (P, Q + 1). Where an earlier letter arrives and
 -- the walk turns left, the cell is in the corner of that turn
-pub right-earlier : (k : ℕ) (p : Point) (P Q : ℕ) → CornerIn k p P (suc Q) → P ≤ side - 1 → Q ≤ side - 1 → rightOf p (frameOf k .earlier) ≡ shifted (cellOf k P Q)
+pub right-earlier : (k : ℕ) (p : Point) (P Q : ℕ) → CornerIn k p P (suc Q) → P ≤ side - 1 → Q ≤ side - 1
+    → rightOf p (frameOf k .earlier) ≡ shifted (cellOf k P Q)
 unfolding frameOf along cellOf rightOf leftOf
 right-earlier zero p P Q c h l = point-eq (at (suc (p .col)) (p .row)) (shifted (at P Q)) (ap suc (c .across)) (c .up)
 right-earlier (suc zero) p P Q c h l = point-eq p (shifted (at Q (side - 1 - P))) (c .up) (omega arith)
@@ -154,16 +156,20 @@ module _ (o : Outline) (c : NoBackStep o) where
         up : letterAt o 0 ≡ 1
         up = leaves-upwards o (c .clockwise)
 
-        letter : (m : ℕ) → m < length spelt → (d : Bool) → getD spelt m false ≡ d → LetterAt (o .letters) (letterOf (frameOf k) d) (cut o k + m)
+        letter : (m : ℕ) → m < length spelt → (d : Bool) → getD spelt m false ≡ d
+            → LetterAt (o .letters) (letterOf (frameOf k) d) (cut o k + m)
         letter m n d e = (place-lt o c k h m n, letter-in-piece o c k h m n ∙ ap (letterOf (frameOf k)) e)
 
-        right : (m : ℕ) → m < length spelt → (d : Bool) → getD spelt m false ≡ d → In o (rightOf (cornerAt o (cut o k + m)) (letterOf (frameOf k) d))
+        right : (m : ℕ) → m < length spelt → (d : Bool) → getD spelt m false ≡ d
+            → In o (rightOf (cornerAt o (cut o k + m)) (letterOf (frameOf k) d))
         right m n d e = right-in o (c .walk) up (letterOf (frameOf k) d) (cut o k + m) (letter m n d e)
 
         corner : CornerIn k (cornerAt o b) (pathE o k i) (suc (pathL o k i))
-        corner = let q = corner-in-piece o c k h (suc i) (omega arith) in record { on-chart = q .on-chart; across = q .across; up = omega arith }
+        corner = let q = corner-in-piece o c k h (suc i) (omega arith) in
+            record { on-chart = q .on-chart; across = q .across; up = omega arith }
 
-        arrives-earlier : i < length (word o k) → getD spelt i false ≡ false → (d : Bool) → getD spelt (suc i) false ≡ d → In o (shifted (pathCell o k i))
+        arrives-earlier : i < length (word o k) → getD spelt i false ≡ false → (d : Bool) → getD spelt (suc i) false ≡ d
+            → In o (shifted (pathCell o k i))
         arrives-earlier m e false d =
             subst (In o) (right-earlier k (cornerAt o b) _ _ corner (path-across-le i) (path-up-le i)) (right (suc i) (omega arith) false d)
         arrives-earlier m e true d =
@@ -173,7 +179,8 @@ module _ (o : Outline) (c : NoBackStep o) where
             subst (In o)
             (ap (λ (p : Point). rightOf p (letterAt o a)) (sym (corner-suc o a n) ∙ next) ∙ ap (rightOf (cornerAt o b)) f
             ∙ right-earlier k (cornerAt o b) _ _ corner (path-across-le i) (path-up-le i))
-            (clockwise-left-turn o (c .walk .walked) 0 (from-w-lowest o (c .walk)) up a b n n′ next (g ∙ left-turn-letters k ∙ ap quarterTurn (sym f)))
+            (clockwise-left-turn o (c .walk .walked) 0 (from-w-lowest o (c .walk)) up a b n n′ next (g ∙ left-turn-letters k
+            ∙ ap quarterTurn (sym f)))
 
         arrives : (d : Bool) → getD spelt i false ≡ d → In o (shifted (pathCell o k i))
         arrives true e =

@@ -13,7 +13,8 @@ use Rattle.lattice.specs.Walked.{Walked}
 use Rattle.lattice.proofs.WalkLaws.{walked, Turned, turned}
 use Rattle.convexity.specs.Cut.{fromW, westPlace, clockwise, around}
 use Rattle.convexity.specs.Clockwise.{opposite, clockwiseForm, readFrom, sentFrom, placeSent, ReadAs}
-use Rattle.convexity.proofs.Clockwise.{letter-backward, corner-backward, west-first, form-clockwise, form-backward, simple-form, length-form}
+use Rattle.convexity.proofs.Clockwise.{letter-backward, corner-backward, west-first, form-clockwise, form-backward, simple-form}
+use Rattle.convexity.proofs.Clockwise.{length-form}
 
 -- After the end, a place continues from the start
 around-place : (n k i j : ℕ) → j < n → (k + i ≡ j) ⊎ (k + i ≡ n + j) → around n k i ≡ j
@@ -45,7 +46,11 @@ module _ (o : Outline) (h : Simple o) where
   by-way i j m f true e =
       record {
         below = m;
-        forward = λ _. (f .letter ∙ ap (λ (u : Outline). letterAt u j) (form-clockwise o e), f .corner ∙ ap (λ (u : Outline). cornerAt u j) (form-clockwise o e));
+        forward =
+            λ _. (
+              f .letter ∙ ap (λ (u : Outline). letterAt u j) (form-clockwise o e),
+              f .corner ∙ ap (λ (u : Outline). cornerAt u j) (form-clockwise o e),
+            );
         back = λ g. absurd (true≢false (sym e ∙ g));
       }
   by-way i j m f false e =

@@ -35,35 +35,43 @@ record Finds (f : Point → ℕ → Bool) (o : Outline) (u : ℕ) : Type 0 where
   found : f (cornerAt o u) (letterAt o u) ≡ true
   others : (i : ℕ) → i < size o → i ≢ u → f (cornerAt o i) (letterAt o i) ≡ false
 
-finds-next : (f : Point → ℕ → Bool) (p : Point) (a : ℕ) (w : List ℕ) (u : ℕ) → Finds f (outline p (a ∷ w)) (suc u) → Finds f (outline (step p a) w) u
+finds-next : (f : Point → ℕ → Bool) (p : Point) (a : ℕ) (w : List ℕ) (u : ℕ) → Finds f (outline p (a ∷ w)) (suc u)
+    → Finds f (outline (step p a) w) u
 unfolding cornerAt walk
-finds-next f p a w u h = record { below = omega (arith, h .below); found = h .found; others = λ i l n. h .others (suc i) (omega arith) (λ e. n (omega arith)) }
+finds-next f p a w u h =
+    record { below = omega (arith, h .below); found = h .found; others = λ i l n. h .others (suc i) (omega arith) (λ e. n (omega arith)) }
 
 -- The number of letters that pass, at corner columns up to c
-tally-only : (f : Point → ℕ → Bool) (c : ℕ) (p : Point) (w : List ℕ) (u : ℕ) → Finds f (outline p w) u → tally (λ q a. f q a && leb (q .col) c) p w ≡ count (leb (cornerAt (outline p w) u .col) c)
+tally-only : (f : Point → ℕ → Bool) (c : ℕ) (p : Point) (w : List ℕ) (u : ℕ) → Finds f (outline p w) u
+    → tally (λ q a. f q a && leb (q .col) c) p w ≡ count (leb (cornerAt (outline p w) u .col) c)
 unfolding tally cornerAt walk count
 tally-only f c p [] u h = absurd (omega (arith, h .below))
 tally-only f c p (a ∷ w) zero h =
     let none : tally (λ q b. f q b && leb (q .col) c) (step p a) w ≡ 0 =
     tally-none (λ q b. f q b && leb (q .col) c) (step p a) w (λ i l. rw (h .others (suc i) (omega arith) (λ e. omega arith))) in
     rw (h .found) (omega arith)
-tally-only f c p (a ∷ w) (suc u) h = rw (h .others 0 (omega arith) (λ e. omega arith)) (omega (arith, tally-only f c (step p a) w u (finds-next f p a w u h)))
+tally-only f c p (a ∷ w) (suc u) h =
+    rw (h .others 0 (omega arith) (λ e. omega arith)) (omega (arith, tally-only f c (step p a) w u (finds-next f p a w u h)))
 
 -- The corner column of the last letter that passes, or d if there is none
 lastColumn : (Point → ℕ → Bool) → Point → List ℕ → ℕ → ℕ
 lastColumn f p [] d = d
 lastColumn f p (a ∷ w) d = lastColumn f (step p a) w (cond (f p a) (p .col) d)
 
-last-none : (f : Point → ℕ → Bool) (p : Point) (w : List ℕ) (d : ℕ) → ((i : ℕ) → i < length w → f (cornerAt (outline p w) i) (getD w i 0) ≡ false) → lastColumn f p w d ≡ d
+last-none : (f : Point → ℕ → Bool) (p : Point) (w : List ℕ) (d : ℕ)
+    → ((i : ℕ) → i < length w → f (cornerAt (outline p w) i) (getD w i 0) ≡ false) → lastColumn f p w d ≡ d
 unfolding lastColumn cornerAt walk
 last-none f p [] d h = refl
 last-none f p (a ∷ w) d h = rw (h 0 (omega arith)) (last-none f (step p a) w d (λ i l. h (suc i) (omega arith)))
 
-last-only : (f : Point → ℕ → Bool) (p : Point) (w : List ℕ) (d u : ℕ) → Finds f (outline p w) u → lastColumn f p w d ≡ cornerAt (outline p w) u .col
+last-only : (f : Point → ℕ → Bool) (p : Point) (w : List ℕ) (d u : ℕ) → Finds f (outline p w) u
+    → lastColumn f p w d ≡ cornerAt (outline p w) u .col
 unfolding lastColumn cornerAt walk
 last-only f p [] d u h = absurd (omega (arith, h .below))
-last-only f p (a ∷ w) d zero h = rw (h .found) (last-none f (step p a) w (p .col) (λ i l. h .others (suc i) (omega arith) (λ e. omega arith)))
-last-only f p (a ∷ w) d (suc u) h = rw (h .others 0 (omega arith) (λ e. omega arith)) (last-only f (step p a) w d u (finds-next f p a w u h))
+last-only f p (a ∷ w) d zero h =
+    rw (h .found) (last-none f (step p a) w (p .col) (λ i l. h .others (suc i) (omega arith) (λ e. omega arith)))
+last-only f p (a ∷ w) d (suc u) h =
+    rw (h .others 0 (omega arith) (λ e. omega arith)) (last-only f (step p a) w d u (finds-next f p a w u h))
 
 -- The two columns of a row are of this form
 up-column-last : (p : Point) (w : List ℕ) (r d : ℕ) → upColumn p w r d ≡ lastColumn (λ q a. upAlong q a r) p w d
@@ -142,27 +150,35 @@ module _ (o : Outline) (c : NoBackStep o) where
     up-column = up-column-last (o .start) (o .letters) r 0 ∙ last-only (λ p a. upAlong p a r) (o .start) (o .letters) 0 (up .place) finds-up
 
     down-column : downColumn (o .start) (o .letters) r 0 ≡ downCol
-    down-column = down-column-last (o .start) (o .letters) r 0 ∙ last-only (λ p a. downAlong p a r) (o .start) (o .letters) 0 (down .place) finds-down
+    down-column = down-column-last (o .start) (o .letters) r 0
+        ∙ last-only (λ p a. downAlong p a r) (o .start) (o .letters) 0 (down .place) finds-down
 
     -- The row's ups in corner columns 0 to c: one, or none if c is left of it. The same for downs
     pub ups-row : (c : ℕ) → ups (o .start) (o .letters) c r ≡ count (leb (upColumn (o .start) (o .letters) r 0) c)
-    ups-row c = rw up-column (ups-tally (o .start) (o .letters) c r ∙ tally-only (λ p a. upAlong p a r) c (o .start) (o .letters) (up .place) finds-up)
+    ups-row c =
+        rw up-column (ups-tally (o .start) (o .letters) c r
+        ∙ tally-only (λ p a. upAlong p a r) c (o .start) (o .letters) (up .place) finds-up)
 
     pub downs-row : (c : ℕ) → downs (o .start) (o .letters) c r ≡ count (leb (downColumn (o .start) (o .letters) r 0) c)
-    downs-row c = rw down-column (downs-tally (o .start) (o .letters) c r ∙ tally-only (λ p a. downAlong p a r) c (o .start) (o .letters) (down .place) finds-down)
+    downs-row c =
+        rw down-column (downs-tally (o .start) (o .letters) c r
+        ∙ tally-only (λ p a. downAlong p a r) c (o .start) (o .letters) (down .place) finds-down)
 
     -- The enclosed cells of the row are those from its up to its down
     ends : (c : ℕ) → (encloses o c r ≡ true) ↔ ((upCol ≤ c) × (c < downCol))
     unfolding encloses
     ends c = rw (ups-row c, downs-row c, up-column, down-column) (sum-iff upCol downCol c)
 
-    pub row-ends : (c : ℕ) → (encloses o c r ≡ true) ↔ ((upColumn (o .start) (o .letters) r 0 ≤ c) × (c < downColumn (o .start) (o .letters) r 0))
+    pub row-ends : (c : ℕ)
+        → (encloses o c r ≡ true) ↔ ((upColumn (o .start) (o .letters) r 0 ≤ c) × (c < downColumn (o .start) (o .letters) r 0))
     row-ends c = rw (up-column, down-column) (ends c)
 
     -- The cell to the right of the up is one of them
     pub row-convex : upColumn (o .start) (o .letters) r 0 < downColumn (o .start) (o .letters) r 0
     unfolding frameOf along
-    row-convex = rw (up-column, down-column) (ends upCol .0 (rw (up .here) at (up-marked o (c .walk) (leaves-upwards o (c .clockwise)) (up .place) (up .letter))) .1)
+    row-convex =
+        rw (up-column, down-column)
+        (ends upCol .0 (rw (up .here) at (up-marked o (c .walk) (leaves-upwards o (c .clockwise)) (up .place) (up .letter))) .1)
 
     pub row-fits : downColumn (o .start) (o .letters) r 0 ≤ side
     row-fits = rw down-column (c .walk .walked .col-le (down .place) (omega (arith, down .letter .0)))
@@ -192,7 +208,9 @@ module _ (o : Outline) (c : NoBackStep o) where
     ups-off =
         ups-tally (o .start) (o .letters) c′ r ∙ tally-none (λ q a. upAlong q a r && leb (q .col) c′) (o .start) (o .letters) (λ i l.
         not-held _ (λ e.
-        let (a, b) = tested (letterAt o i) 1 (cornerAt o i .row) r (and-left (upAlong (cornerAt o i) (letterAt o i) r) (leb (cornerAt o i .col) c′) e) in
+        let (a, b) =
+        tested (letterAt o i) 1 (cornerAt o i .row) r
+        (and-left (upAlong (cornerAt o i) (letterAt o i) r) (leb (cornerAt o i .col) c′) e) in
         let lines = line-bounds o c 3 (omega arith) i (l, a) in
         off (omega (arith, bottom-start)) (omega (arith, top-start))))
 
@@ -201,7 +219,9 @@ module _ (o : Outline) (c : NoBackStep o) where
     downs-off =
         downs-tally (o .start) (o .letters) c′ r ∙ tally-none (λ q a. downAlong q a r && leb (q .col) c′) (o .start) (o .letters) (λ i l.
         not-held _ (λ e.
-        let (a, b) = tested (letterAt o i) 3 (cornerAt o i .row) (suc r) (and-left (downAlong (cornerAt o i) (letterAt o i) r) (leb (cornerAt o i .col) c′) e) in
+        let (a, b) =
+        tested (letterAt o i) 3 (cornerAt o i .row) (suc r)
+        (and-left (downAlong (cornerAt o i) (letterAt o i) r) (leb (cornerAt o i .col) c′) e) in
         let lines = line-bounds o c 1 (omega arith) i (l, a) in
         let h = c .walk .walked .row-le i (omega arith) in
         off (omega (arith, bottom-start, top-start)) (omega (arith, bottom-start, top-start))))
@@ -219,7 +239,8 @@ module _ (o : Outline) (c : NoBackStep o) where
       (omega (arith, row-ends r low high x .0 e, row-fits r low high), omega (arith, top-start))
 
   -- A cell of the chart is enclosed exactly if it is under the paths of all four pieces
-  pub enclosed-iff : (x : Point) → x .col < side → x .row < side → (encloses o (x .col) (x .row) ≡ true) ↔ ((k : ℕ) → k < 4 → UnderPiece o k x)
+  pub enclosed-iff : (x : Point) → x .col < side → x .row < side
+      → (encloses o (x .col) (x .row) ≡ true) ↔ ((k : ℕ) → k < 4 → UnderPiece o k x)
   unfolding cellE cellAlong frameOf
   enclosed-iff x l m = (
     λ e. let (low, high) = enclosed-row (x .col) (x .row) e in row-under (x .row) low high x refl l .0 e,

@@ -17,7 +17,9 @@ use Rattle.lattice.specs.Refusals.{Simple}
 use Rattle.lattice.specs.Walked.{Walked}
 use Rattle.lattice.proofs.WalkLaws.{walked, point-eq, corner-zero, corner-suc, corner-all, corner-injective, rotated-corners}
 use Rattle.lattice.proofs.WalkLaws.{rotated-walked, rotated-simple, outline-eq}
-use Rattle.lattice.proofs.Jumps.{rises, falls, upsTo, downsTo, upsAt, rightsAt, leftsAt, ups-to, downs-to, ups-jump-vertical, downs-jump-vertical, ups-column-zero, downs-column-zero, ups-row-zero, downs-row-zero, jump-horizontal, ups-found, downs-found, rights-found, lefts-found, ups-none, rights-none, lefts-none}
+use Rattle.lattice.proofs.Jumps.{rises, falls, upsTo, downsTo, upsAt, rightsAt, leftsAt, ups-to, downs-to, ups-jump-vertical}
+use Rattle.lattice.proofs.Jumps.{downs-jump-vertical, ups-column-zero, downs-column-zero, ups-row-zero, downs-row-zero, jump-horizontal}
+use Rattle.lattice.proofs.Jumps.{ups-found, downs-found, rights-found, lefts-found, ups-none, rights-none, lefts-none}
 use Rattle.lattice.proofs.RightHand.{leftOf, rightOf, OneAbove, left-hand, level, tally-rotation}
 use Rattle.convexity.specs.Cut.{westPlace, west, fromW, clockwise}
 use Rattle.convexity.specs.Pieces.{Reaches, dentPiece, edges}
@@ -26,7 +28,8 @@ use Rattle.convexity.specs.SameBlock.{SameCells, SameEdges}
 use Rattle.convexity.specs.Clockwise.{clockwiseForm, reversed, block, border}
 use Rattle.convexity.specs.Shape.{WalkFromW}
 use Rattle.convexity.proofs.Extreme.{from-w-of, first-shared}
-use Rattle.convexity.proofs.Levels.{enclosed-level, level-enclosed, leaves-upwards, from-w-lowest, left-of-anchor, below-anchor, anchor-lowest}
+use Rattle.convexity.proofs.Levels.{enclosed-level, level-enclosed, leaves-upwards, from-w-lowest, left-of-anchor, below-anchor}
+use Rattle.convexity.proofs.Levels.{anchor-lowest}
 use Rattle.convexity.proofs.AsSent.{block-from-w, edges-answer-sent}
 use Rattle.convexity.proofs.Clockwise.{simple-form, clockwise-form, from-w-form}
 
@@ -147,10 +150,18 @@ module _ (o o′ : Outline) (d : UpTurn o) (d′ : UpTurn o′) (same : SameEncl
   -- The cell at W is the same
   same-start : o .start ≡ o′ .start
   same-start =
-      let here : encloses o′ (o .start .col) (o .start .row) ≡ true = sym (same (o .start .col) (o .start .row)) ∙ anchor-lowest o (d .walk) (d .up) .enclosed in
-      let there : encloses o (o′ .start .col) (o′ .start .row) ≡ true = same (o′ .start .col) (o′ .start .row) ∙ anchor-lowest o′ (d′ .walk) (d′ .up) .enclosed in
-      let c : o .start .col ≡ o′ .start .col = omega (arith, west-left o′ d′ (o .start .col) (o .start .row) here, west-left o d (o′ .start .col) (o′ .start .row) there) in
-      point-eq (o .start) (o′ .start) c (omega (arith, west-low o d (o′ .start .col) (o′ .start .row) (sym c) there, west-low o′ d′ (o .start .col) (o .start .row) c here))
+      let here : encloses o′ (o .start .col) (o .start .row) ≡ true = sym (same (o .start .col) (o .start .row))
+      ∙ anchor-lowest o (d .walk) (d .up) .enclosed in
+      let there : encloses o (o′ .start .col) (o′ .start .row) ≡ true = same (o′ .start .col) (o′ .start .row)
+      ∙ anchor-lowest o′ (d′ .walk) (d′ .up) .enclosed in
+      let c : o .start .col ≡ o′ .start .col =
+      omega (arith, west-left o′ d′ (o .start .col) (o .start .row) here, west-left o d (o′ .start .col) (o′ .start .row) there) in
+      point-eq (o .start) (o′ .start) c
+      (omega (
+        arith,
+        west-low o d (o′ .start .col) (o′ .start .row) (sym c) there,
+        west-low o′ d′ (o .start .col) (o .start .row) c here,
+      ))
 
   -- Levels are 0 or 1, and the enclosed cells tell which
   same-levels : SameLevels o o′
@@ -213,11 +224,15 @@ module _ (o : Outline) (t : Walked o) where
 
   pub open-right : (c r : ℕ) → side ≤ c → encloses o c r ≡ false
   unfolding encloses
-  open-right c r h = ne-eqb (ups (o .start) (o .letters) c r) (downs (o .start) (o .letters) c r + 1) (omega (arith, level-past c h (suc r), ups-to (o .start) (o .letters) c r, downs-to (o .start) (o .letters) c r))
+  open-right c r h =
+      ne-eqb (ups (o .start) (o .letters) c r) (downs (o .start) (o .letters) c r + 1)
+      (omega (arith, level-past c h (suc r), ups-to (o .start) (o .letters) c r, downs-to (o .start) (o .letters) c r))
 
   pub open-above : (c r : ℕ) → side ≤ r → encloses o c r ≡ false
   unfolding encloses
-  open-above c r h = ne-eqb (ups (o .start) (o .letters) c r) (downs (o .start) (o .letters) c r + 1) (omega (arith, ups-past (suc c) r h, ups-to (o .start) (o .letters) c r))
+  open-above c r h =
+      ne-eqb (ups (o .start) (o .letters) c r) (downs (o .start) (o .letters) c r + 1)
+      (omega (arith, ups-past (suc c) r h, ups-to (o .start) (o .letters) c r))
 
 -- No cell off the chart is in a block
 pub open-off : (o : Outline) → Simple o → (c r : ℕ) → (side ≤ c) ⊎ (side ≤ r) → block o c r ≡ false
@@ -299,7 +314,8 @@ module _ (o : Outline) (h : Simple o) (k : ℕ) (b : k ≤ size o) where
   from-w-rotation =
       let d = walked o h in
       let closed : Closed (rotated k o) = rotated-walked o k b d .closed in
-      same-walk (fromW (rotated k o)) (fromW o) west-rotation (from-w-of (rotated k o) (rotated-simple o k b h) .walked) (from-w-of o h .walked)
+      same-walk (fromW (rotated k o)) (fromW o) west-rotation (from-w-of (rotated k o) (rotated-simple o k b h) .walked)
+      (from-w-of o h .walked)
       (λ C R.
       omega (
         arith,

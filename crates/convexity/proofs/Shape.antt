@@ -10,7 +10,8 @@ use mathlib.Core.Path.{_≡_, refl, sym, ap, _∙_}
 use mathlib.Core.Logic.{_⊎_, inl, inr, ⊎-elim}
 use mathlib.Core.Bool.{Bool, true, false, _||_}
 use mathlib.Core.List.{List, [], _∷_, _++_, map, append-nil}
-use lib.ListN.{length, getD, take, drop, length-append, length-take, length-drop, length-map, take-append-drop, List·getD-append, List·getD-map}
+use lib.ListN.{length, getD, take, drop, length-append, length-take, length-drop, length-map, take-append-drop, List·getD-append}
+use lib.ListN.{List·getD-map}
 use lib.Seq.{take-length, drop-cons, drop-length, drop-drop, getD-append-add, getD-append-seam, getD-take, getD-drop}
 use lib.Dec.{ltb, eqb}
 use borrow.Author.Tests.{ltb-false, eqb-true, eq-eqb, not-false}
@@ -31,8 +32,11 @@ use Rattle.convexity.specs.Clockwise.{opposite}
 use Rattle.convexity.specs.Shape.{NoBackStep, Shape}
 use Rattle.convexity.proofs.Ring.{next-lt, next-suc, round-ring, Apart, apart, Turns, turns, along-next}
 use Rattle.convexity.proofs.Levels.{leaves-upwards}
-use Rattle.convexity.proofs.Cuts.{ahead-round, cut-step, cut-zero, corner-west, cut-on, cut-round, cuts-rise, cuts-fit, piece-part, piece-length, piece-at, previous-zero, previous-pos, corner-first, corners-differ, coming-west, corner-after}
-use Rattle.convexity.proofs.Extreme.{FirstAt, on-chart, Moved, earlier-on, later-on, earlier-back, later-back, Bend, by-later, by-earlier, previous, corner-round, moves, bend}
+use Rattle.convexity.proofs.Cuts.{ahead-round, cut-step, cut-zero, corner-west, cut-on, cut-round, cuts-rise, cuts-fit, piece-part}
+use Rattle.convexity.proofs.Cuts.{piece-length, piece-at, previous-zero, previous-pos, corner-first, corners-differ, coming-west}
+use Rattle.convexity.proofs.Cuts.{corner-after}
+use Rattle.convexity.proofs.Extreme.{FirstAt, on-chart, Moved, earlier-on, later-on, earlier-back, later-back, Bend, by-later}
+use Rattle.convexity.proofs.Extreme.{by-earlier, previous, corner-round, moves, bend}
 
 -- If the search for a piece with a back-step finds none, it returns 4
 pub straight-of : (o : Outline) → ltb (backStepPiece o) 4 ≡ false → backStepPiece o ≡ 4
@@ -83,19 +87,22 @@ unfolding rounds
 rounds-after t i h = getD-append-add t (t ++ (t ++ t)) i 0 ∙ List·getD-append t (t ++ t) 0 i h
 
 -- Without back-steps the letters from cut k to the next cut are those of frame k
-of-piece : (o : Outline) → backStepPiece o ≡ 4 → (k : ℕ) → k < 4 → (i : ℕ) → cut o k ≤ i → i < cut o (suc k) → i < length (rounds (o .letters))
+of-piece : (o : Outline) → backStepPiece o ≡ 4 → (k : ℕ) → k < 4 → (i : ℕ) → cut o k ≤ i → i < cut o (suc k)
+    → i < length (rounds (o .letters))
     → LetterOf (frameOf k) (getD (rounds (o .letters)) i 0)
 unfolding backStepPiece backStepAt piece
 of-piece o e k h i a b c =
     let r : List ℕ = rounds (o .letters) in
     let m : ℕ = i - cut o k in
     let long : m < length (piece o k) = simp (length-take, length-drop) (omega arith) in
-    let none : ltb (backStepAt o k) (length (piece o k)) ≡ false = first-before (λ k. ltb (backStepAt o k) (length (piece o k))) 4 k (omega arith) in
+    let none : ltb (backStepAt o k) (length (piece o k)) ≡ false =
+    first-before (λ k. ltb (backStepAt o k) (length (piece o k))) 4 k (omega arith) in
     let straight : isBackStep (frameOf k) (getD (piece o k) m 0) ≡ false =
     first-before (λ i. isBackStep (frameOf k) (getD (piece o k) i 0)) (length (piece o k)) m
     (omega (arith, ltb-false (backStepAt o k) (length (piece o k)) none)) in
     let at : getD (piece o k) m 0 ≡ getD r i 0 =
-    getD-take (cut o (suc k) - cut o k) (drop (cut o k) r) m 0 (omega arith) ∙ getD-drop (cut o k) r m 0 ∙ ap (λ (j : ℕ). getD r j 0) (omega arith) in
+    getD-take (cut o (suc k) - cut o k) (drop (cut o k) r) m 0 (omega arith) ∙ getD-drop (cut o k) r m 0
+    ∙ ap (λ (j : ℕ). getD r j 0) (omega arith) in
     no-back-step-letter (frameOf k) (getD r i 0) (rw at at straight)
 
 -- ---- a list of a frame's letters as a word
@@ -217,15 +224,20 @@ module _ (o : Outline) (c : NoBackStep o) where
       let a : ℕ = cut o k in
       let b : ℕ = cut o (suc k) in
       let e : a + (b - a) ≡ b = omega (arith, rising k h) in
-      let rest : drop (b - a) (drop a (o .letters)) ≡ drop b (o .letters) = drop-drop (b - a) a (o .letters) ∙ ap (λ (m : ℕ). drop m (o .letters)) e in
-      rw (piece-part o cut-le k h) (sym (take-append-drop (b - a) (drop a (o .letters))) ∙ ap (λ (v : List ℕ). take (b - a) (drop a (o .letters)) ++ v) rest)
+      let rest : drop (b - a) (drop a (o .letters)) ≡ drop b (o .letters) = drop-drop (b - a) a (o .letters)
+      ∙ ap (λ (m : ℕ). drop m (o .letters)) e in
+      rw (piece-part o cut-le k h) (sym (take-append-drop (b - a) (drop a (o .letters)))
+      ∙ ap (λ (v : List ℕ). take (b - a) (drop a (o .letters)) ++ v) rest)
 
   pieces-whole : o .letters ≡ piece o 0 ++ (piece o 1 ++ (piece o 2 ++ piece o 3))
   pieces-whole =
-      let e0 : o .letters ≡ piece o 0 ++ drop (cut o 1) (o .letters) = ap (λ (m : ℕ). drop m (o .letters)) (sym (cut-zero o)) ∙ piece-rest 0 (omega arith) in
+      let e0 : o .letters ≡ piece o 0 ++ drop (cut o 1) (o .letters) = ap (λ (m : ℕ). drop m (o .letters)) (sym (cut-zero o))
+      ∙ piece-rest 0 (omega arith) in
       let e1 = piece-rest 1 (omega arith) in
       let e2 = piece-rest 2 (omega arith) in
-      let e3 : drop (cut o 3) (o .letters) ≡ piece o 3 = piece-rest 3 (omega arith) ∙ ap (λ (m : ℕ). piece o 3 ++ drop m (o .letters)) whole-from-w ∙ ap (λ (v : List ℕ). piece o 3 ++ v) (drop-length (o .letters)) ∙ append-nil (piece o 3) in
+      let e3 : drop (cut o 3) (o .letters) ≡ piece o 3 = piece-rest 3 (omega arith)
+      ∙ ap (λ (m : ℕ). piece o 3 ++ drop m (o .letters)) whole-from-w ∙ ap (λ (v : List ℕ). piece o 3 ++ v) (drop-length (o .letters))
+      ∙ append-nil (piece o 3) in
       e0 ∙ ap (λ (v : List ℕ). piece o 0 ++ v) (e1 ∙ ap (λ (v : List ℕ). piece o 1 ++ v) (e2 ∙ ap (λ (v : List ℕ). piece o 2 ++ v) e3))
 
   -- ---- a piece begins and ends with its later letter
@@ -249,14 +261,16 @@ module _ (o : Outline) (c : NoBackStep o) where
       (rw (place-before k h) at (bend o steps (next k) (cut o (next k)) (cut-first (next k) (next-lt k))))
 
   piece-first : (k : ℕ) → k < 4 → letterAt o (cut o k) ≡ frameOf k .later
-  piece-first = below-four _ (meeting 3 (omega arith) .1) (meeting 0 (omega arith) .1) (meeting 1 (omega arith) .1) (meeting 2 (omega arith) .1)
+  piece-first =
+      below-four _ (meeting 3 (omega arith) .1) (meeting 0 (omega arith) .1) (meeting 1 (omega arith) .1) (meeting 2 (omega arith) .1)
 
   -- ---- the four words
 
   piece-word : (k : ℕ) → k < 4 → piece o k ≡ frameOf k .later ∷ drop 1 (piece o k)
   piece-word k h =
       let r : cut o k < cut o (suc k) = rising k h in
-      let at : getD (piece o k) 0 0 ≡ frameOf k .later = piece-at o cut-le k h 0 (omega arith) ∙ ap (λ (i : ℕ). letterAt o i) (add-zero (cut o k)) ∙ piece-first k h in
+      let at : getD (piece o k) 0 0 ≡ frameOf k .later = piece-at o cut-le k h 0 (omega arith)
+      ∙ ap (λ (i : ℕ). letterAt o i) (add-zero (cut o k)) ∙ piece-first k h in
       drop-cons (piece o k) 0 0 (omega (arith, piece-length o cut-le k h)) ∙ ap (λ (a : ℕ). a ∷ drop 1 (piece o k)) at
 
   rest-at : (k : ℕ) → k < 4 → (i : ℕ) → suc i < cut o (suc k) - cut o k → getD (drop 1 (piece o k)) i 0 ≡ letterAt o (cut o k + suc i)
@@ -305,7 +319,8 @@ module _ (o : Outline) (c : NoBackStep o) where
       ∙ getD-spell (frameOf k) (true ∷ word o k) m l
 
   pub corner-in-piece : (k : ℕ) → k < 4 → (m : ℕ) → m ≤ length (true ∷ word o k)
-      → CornerIn k (cornerAt o (cut o k + m)) (startE o k + earliers (take m (true ∷ word o k))) (startL o k + laters (take m (true ∷ word o k)))
+      → CornerIn k (cornerAt o (cut o k + m)) (startE o k + earliers (take m (true ∷ word o k)))
+      (startL o k + laters (take m (true ∷ word o k)))
   unfolding startE startL startOf earliers laters
   corner-in-piece k h zero l =
       let m : cut o k ≤ size o = omega (arith, place-lt k h 0 (omega arith)) in
@@ -315,7 +330,8 @@ module _ (o : Outline) (c : NoBackStep o) where
       let j : ℕ = cut o k + m in
       let n : j < size o = place-lt k h m l in
       let c =
-      corner-on k (getD v m false) (cornerAt o j) (cornerAt o (suc j)) _ _ (on-chart o steps (suc j) n) (corner-in-piece k h m (omega arith))
+      corner-on k (getD v m false) (cornerAt o j) (cornerAt o (suc j)) _ _ (on-chart o steps (suc j) n)
+      (corner-in-piece k h m (omega arith))
       (rw (letter-in-piece k h m l) at (moves o steps k j n)) in
       rw (add-suc (cut o k) m)
       (record { on-chart = c .on-chart; across = omega (arith, earliers-take-suc m v l); up = omega (arith, laters-take-suc m v l) })
@@ -342,7 +358,8 @@ module _ (o : Outline) (c : NoBackStep o) where
   -- ---- the cycle
 
   -- The end of a piece
-  piece-end : (k : ℕ) → k < 4 → CornerIn k (startOf o (suc k)) (startE o k + earliers (true ∷ word o k)) (startL o k + laters (true ∷ word o k))
+  piece-end : (k : ℕ) → k < 4
+      → CornerIn k (startOf o (suc k)) (startE o k + earliers (true ∷ word o k)) (startL o k + laters (true ∷ word o k))
   unfolding startOf
   piece-end k h =
       let n : ℕ = length (true ∷ word o k) in

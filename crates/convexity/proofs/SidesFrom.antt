@@ -28,13 +28,15 @@ sides-shift (f ∷ fs) a b vp vq p q =
 
 -- Under a path from any start: subtract the start. If q is below the start, the path's first point is enough
 pub underfrom-iff-sides :
-    (fs : List Factor) → EdgesFall fs → (vp vq p q : ℕ) → vp ≤ p → q ≤ vq + laters (written fs) → UnderFrom (written fs) vp vq p q ↔ Sides fs vp vq p q
+    (fs : List Factor) → EdgesFall fs → (vp vq p q : ℕ) → vp ≤ p → q ≤ vq + laters (written fs)
+    → UnderFrom (written fs) vp vq p q ↔ Sides fs vp vq p q
 unfolding earliers laters
 underfrom-iff-sides fs h vp vq p q across up =
     elim (decLe vq q) [
       | yes k ↦ Iff·trans to-start (Iff·trans (under-iff-sides fs h (p - vp) (q - vq) (omega arith)) (from-start q (omega arith)))
       | no k ↦ (
-        λ u. sides-lower fs vp vq p vq q (omega arith) (from-start vq (omega arith) .0 (under-iff-sides fs h (p - vp) (q - vq) (omega arith) .0 (to-start .0 u))),
+        λ u. sides-lower fs vp vq p vq q (omega arith)
+            (from-start vq (omega arith) .0 (under-iff-sides fs h (p - vp) (q - vq) (omega arith) .0 (to-start .0 u))),
         λ s. first k,
       )
     ]
@@ -60,7 +62,8 @@ pub sides-mean :
 unfolding Sides
 sides-mean [] vp vq a b c p q p₁ q₁ p₂ q₂ p₃ q₃ some cols rows s₁ s₂ s₃ = tt
 sides-mean (f ∷ fs) vp vq a b c p q p₁ q₁ p₂ q₂ p₃ q₃ some cols rows s₁ s₂ s₃ = (
-  mean-le a b c _ _ _ _ _ _ _ _ some (mean-line (run f) (rise f * vp) a b c q q₁ q₂ q₃ rows) (mean-line (rise f) (run f * vq) a b c p p₁ p₂ p₃ cols)
+  mean-le a b c _ _ _ _ _ _ _ _ some (mean-line (run f) (rise f * vp) a b c q q₁ q₂ q₃ rows)
+      (mean-line (rise f) (run f * vq) a b c p p₁ p₂ p₃ cols)
       (s₁ .0) (s₂ .0) (s₃ .0),
   sides-mean fs (vp + run f) (vq + rise f) a b c p q p₁ q₁ p₂ q₂ p₃ q₃ some cols rows (s₁ .1) (s₂ .1) (s₃ .1),
 )

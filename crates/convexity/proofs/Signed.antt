@@ -31,7 +31,8 @@ not-negative-iff {z = negsuc n} h = ((λ e. absurd (let w : _≡_ {A = ℕ} 0 1 
 
 -- The same for two integers at once
 is-add-both :
-    {x y u v : ℤ} {a a′ b b′ c c′ d d′ : ℕ} → Is x a a′ × Is y b b′ → Is u c c′ × Is v d d′ → Is (x +ℤ u) (a + c) (a′ + c′) × Is (y +ℤ v) (b + d) (b′ + d′)
+    {x y u v : ℤ} {a a′ b b′ c c′ d d′ : ℕ} → Is x a a′ × Is y b b′ → Is u c c′ × Is v d d′
+    → Is (x +ℤ u) (a + c) (a′ + c′) × Is (y +ℤ v) (b + d) (b′ + d′)
 is-add-both h k = (is-add (h .0) (k .0), is-add (h .1) (k .1))
 
 -- The side value at a cell (c, r) of an edge (dx, dy) that starts at (x, y)
@@ -91,15 +92,18 @@ step-lies k e l =
   where
     go :
         (k : ℕ) {x y : ℤ}
-        → Is x (e * up (frameOf k .earlier-cols) + l * up (frameOf k .later-cols)) (e * down (frameOf k .earlier-cols) + l * down (frameOf k .later-cols))
-        → Is y (e * up (frameOf k .earlier-rows) + l * up (frameOf k .later-rows)) (e * down (frameOf k .earlier-rows) + l * down (frameOf k .later-rows))
+        → Is x (e * up (frameOf k .earlier-cols) + l * up (frameOf k .later-cols))
+        (e * down (frameOf k .earlier-cols) + l * down (frameOf k .later-cols))
+        → Is y (e * up (frameOf k .earlier-rows) + l * up (frameOf k .later-rows))
+        (e * down (frameOf k .earlier-rows) + l * down (frameOf k .later-rows))
         → Lies k 0 e l x y
     go zero c r = record { counted = omega arith }
     go (suc zero) c r = record { counted = omega arith }
     go (suc (suc zero)) c r = record { counted = omega arith }
     go (suc (suc (suc k))) c r = record { counted = omega arith }
 
-pub lies-step : (k : ℕ) {o p q e l : ℕ} {x y dx dy : ℤ} → Lies k o p q x y → Lies k 0 e l dx dy → Lies k o (p + e) (q + l) (x +ℤ dx) (y +ℤ dy)
+pub lies-step : (k : ℕ) {o p q e l : ℕ} {x y dx dy : ℤ} → Lies k o p q x y → Lies k 0 e l dx dy
+    → Lies k o (p + e) (q + l) (x +ℤ dx) (y +ℤ dy)
 unfolding Counted
 lies-step zero h d = record { counted = omega (arith, is-add-both (h .counted) (d .counted)) }
 lies-step (suc zero) h d = record { counted = omega (arith, is-add-both (h .counted) (d .counted)) }

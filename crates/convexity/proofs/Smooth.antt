@@ -24,7 +24,8 @@ pub dent-first : (f : Factor) (fs : List Factor) → Proper f → dentLength (f 
 unfolding dentLength
 dent-first f fs p e = go (christoffel (f .word)) refl e
   where
-    go : (b : Bool) → christoffel (f .word) ≡ b → _≡_ {A = ℕ} (elim b [ true ↦ dentLength fs | false ↦ length (f .word) ]) 0 → Christoffel (f .word) × (dentLength fs ≡ 0)
+    go : (b : Bool) → christoffel (f .word) ≡ b → _≡_ {A = ℕ} (elim b [ true ↦ dentLength fs | false ↦ length (f .word) ]) 0
+        → Christoffel (f .word) × (dentLength fs ≡ 0)
     go true c e′ = (christoffel-iff (f .word) .0 c, e′)
     go false c e′ = absurd (not-suc-le-zero (rw e′ at (p .lyndon .some)))
 

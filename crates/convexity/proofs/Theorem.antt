@@ -30,7 +30,8 @@ use Rattle.convexity.proofs.Ring.{next-lt, cell-next}
 use Rattle.convexity.proofs.Shape.{shape}
 use Rattle.convexity.proofs.UnderLaws.{under-from-left, under-from-high}
 use Rattle.convexity.proofs.Crossings.{UnderPiece}
-use Rattle.convexity.proofs.RowEnds.{enclosed-iff, enclosed-on-chart, enclosed-row, row-ends, row-convex, row-fits, bottom-lt-top, bottom, top}
+use Rattle.convexity.proofs.RowEnds.{enclosed-iff, enclosed-on-chart, enclosed-row, row-ends, row-convex, row-fits, bottom-lt-top}
+use Rattle.convexity.proofs.RowEnds.{bottom, top}
 use Rattle.convexity.proofs.SidesFrom.{underfrom-iff-sides, sides-mean}
 use Rattle.convexity.proofs.Inside.{inside-iff}
 use Rattle.convexity.proofs.Smooth.{smooth-edges}
@@ -59,7 +60,8 @@ module _ (o : Outline) (straight : NoBackStep o) where
   formed = shape o straight
 
   -- A cell within the next piece's extreme is no higher than this piece reaches
-  high-next : (x : Point) → x .col < side → x .row < side → ((k : ℕ) → k < 4 → startE o k ≤ cellE k x) → (k : ℕ) → k < 4 → cellL k x ≤ startL o k + laters (word o k)
+  high-next : (x : Point) → x .col < side → x .row < side → ((k : ℕ) → k < 4 → startE o k ≤ cellE k x) → (k : ℕ) → k < 4
+      → cellL k x ≤ startL o k + laters (word o k)
   high-next x c r within k h = omega (arith, cell-next k x c r, within (next k) (next-lt k), formed .next-earlier k h)
 
   -- Without a dent, under the path of a piece is the same as on the right side of its edges
@@ -90,7 +92,8 @@ module _ (o : Outline) (straight : NoBackStep o) where
   )
 
   -- E1: the edges decide which cells are in the block
-  pub edges-answer : dentPiece o ≡ 4 → (x : Point) → x .col < side → x .row < side → insideEdges (o .start) (edges o) x ≡ encloses o (x .col) (x .row)
+  pub edges-answer : dentPiece o ≡ 4 → (x : Point) → x .col < side → x .row < side
+      → insideEdges (o .start) (edges o) x ≡ encloses o (x .col) (x .row)
   unfolding UnderAll SidesAll
   edges-answer smooth x c r =
       let both = all-under-iff-sides smooth x c r in
@@ -99,7 +102,8 @@ module _ (o : Outline) (straight : NoBackStep o) where
       (λ e. both .0 (enclosed .0 e), λ a. enclosed .1 (both .1 a))
 
   -- A mean of cells within the extremes and on the right side of all edges is such a cell too
-  sides-all-mean : {x p q u : Point} → InTriangle x p q u → CellOnChart x → CellOnChart p → CellOnChart q → CellOnChart u → SidesAll p → SidesAll q → SidesAll u → SidesAll x
+  sides-all-mean : {x p q u : Point} → InTriangle x p q u → CellOnChart x → CellOnChart p → CellOnChart q → CellOnChart u → SidesAll p
+      → SidesAll q → SidesAll u → SidesAll x
   unfolding SidesAll cellE cellL
   sides-all-mean v xs ps qs us sp sq su k h =
       let across = along-mean (frameOf k .earlier) v xs ps qs us in
@@ -157,7 +161,8 @@ module _ (o : Outline) (straight : NoBackStep o) where
 
   -- The cells of these rows are the enclosed ones
   enclosed-rows : (c r : ℕ) → encloses o c r ≡ inRows lo hi (bottom o) (top o) c r
-  enclosed-rows c r = same-test (encloses o c r) (inRows lo hi (bottom o) (top o) c r) (there, back) (marked-within (at c r), within-marked (at c r))
+  enclosed-rows c r =
+      same-test (encloses o c r) (inRows lo hi (bottom o) (top o) c r) (there, back) (marked-within (at c r), within-marked (at c r))
     where
       there : encloses o c r ≡ true → Within lo hi (bottom o) (top o) (at c r)
       there e =

@@ -16,9 +16,12 @@ pub record Frame : Type 0 where
 -- The frames of pieces 1 to 4, counted here from 0
 unfoldable pub frameOf : ℕ → Frame
 frameOf zero = record { earlier = 0; later = 1; earlier-cols = pos 1; earlier-rows = pos 0; later-cols = pos 0; later-rows = pos 1 }
-frameOf (suc zero) = record { earlier = 3; later = 0; earlier-cols = pos 0; earlier-rows = negsuc 0; later-cols = pos 1; later-rows = pos 0 }
-frameOf (suc (suc zero)) = record { earlier = 2; later = 3; earlier-cols = negsuc 0; earlier-rows = pos 0; later-cols = pos 0; later-rows = negsuc 0 }
-frameOf (suc (suc (suc k))) = record { earlier = 1; later = 2; earlier-cols = pos 0; earlier-rows = pos 1; later-cols = negsuc 0; later-rows = pos 0 }
+frameOf (suc zero) =
+    record { earlier = 3; later = 0; earlier-cols = pos 0; earlier-rows = negsuc 0; later-cols = pos 1; later-rows = pos 0 }
+frameOf (suc (suc zero)) =
+    record { earlier = 2; later = 3; earlier-cols = negsuc 0; earlier-rows = pos 0; later-cols = pos 0; later-rows = negsuc 0 }
+frameOf (suc (suc (suc k))) =
+    record { earlier = 1; later = 2; earlier-cols = pos 0; earlier-rows = pos 1; later-cols = negsuc 0; later-rows = pos 0 }
 
 -- The piece after piece k, cyclically
 abbrev pub next : ℕ → ℕ

@@ -28,7 +28,8 @@ use Rattle.cut_places.specs.parts.Cuts.{areBelow, isForward, placeRead, 
 use Rattle.cut_places.proofs.CutLaws.{ahead-round, cuts-along}
 
 pub ahead-lt : (n a b : ℕ) → a < n → b < n → ahead n a b < n
-ahead-lt n a b h l = elim (decLe a b) [ yes m ↦ omega (arith, ahead-on n a b m) | no m ↦ omega (arith, ahead-round n a b (omega arith) (omega arith)) ]
+ahead-lt n a b h l =
+    elim (decLe a b) [ yes m ↦ omega (arith, ahead-on n a b m) | no m ↦ omega (arith, ahead-round n a b (omega arith) (omega arith)) ]
 
 read-lt : (forward : Bool) (n w p : ℕ) → w < n → p < n → placeRead forward n w p < n
 unfolding placeRead
@@ -85,18 +86,21 @@ module _ (o : Outline) (simple : Simple o) where
     where
       apart : (westPlace o ≡ p → ⊥) → cornerAt (reversed (fromW o)) (ahead (size o) p (westPlace o)) ≡ cornerAt o p
       apart e =
-          corner-backward (fromW o) from-w-walked (ahead (size o) p (westPlace o)) (omega (arith, from-w-size, ahead-lt (size o) p (westPlace o) l west-lt))
+          corner-backward (fromW o) from-w-walked (ahead (size o) p (westPlace o))
+          (omega (arith, from-w-size, ahead-lt (size o) p (westPlace o) l west-lt))
           ∙ ap (cornerAt (fromW o)) (omega (arith, from-w-size, ahead-back (size o) (westPlace o) p west-lt l e)) ∙ from-w-corner p l
 
       same : p ≡ westPlace o → cornerAt (reversed (fromW o)) (ahead (size o) p (westPlace o)) ≡ cornerAt o p
       same e =
           let z : ahead (size o) p (westPlace o) ≡ 0 = omega (arith, ahead-on (size o) p (westPlace o) (omega arith)) in
           let y : ahead (size o) (westPlace o) p ≡ 0 = omega (arith, ahead-on (size o) (westPlace o) p (omega arith)) in
-          ap (cornerAt (reversed (fromW o))) z ∙ corner-zero (reversed (fromW o)) ∙ sym (corner-zero (fromW o)) ∙ ap (cornerAt (fromW o)) (sym y) ∙ from-w-corner p l
+          ap (cornerAt (reversed (fromW o))) z ∙ corner-zero (reversed (fromW o)) ∙ sym (corner-zero (fromW o))
+          ∙ ap (cornerAt (fromW o)) (sym y) ∙ from-w-corner p l
 
   border-corner : (p : ℕ) → p < size o → cornerAt (border o) (placeRead (clockwise (fromW o)) (size o) (westPlace o) p) ≡ cornerAt o p
   unfolding placeRead
-  border-corner p l = ap (λ (v : Outline). cornerAt v (placeRead (clockwise (fromW o)) (size o) (westPlace o) p)) (from-w-form o simple) ∙ go (clockwise (fromW o))
+  border-corner p l = ap (λ (v : Outline). cornerAt v (placeRead (clockwise (fromW o)) (size o) (westPlace o) p)) (from-w-form o simple)
+      ∙ go (clockwise (fromW o))
     where
       go : (b : Bool) → cornerAt (cond b (fromW o) (reversed (fromW o))) (placeRead b (size o) (westPlace o) p) ≡ cornerAt o p
       go true = from-w-corner p l
@@ -141,7 +145,8 @@ module _ (n : ℕ) (f : Corners) where
       }
 
   places-below : Places n f → areBelow n f ≡ true
-  places-below p = rw (lt-ltb (f .west) n (p .west), lt-ltb (f .north) n (p .north), lt-ltb (f .east) n (p .east), lt-ltb (f .south) n (p .south))
+  places-below p =
+      rw (lt-ltb (f .west) n (p .west), lt-ltb (f .north) n (p .north), lt-ltb (f .east) n (p .east), lt-ltb (f .south) n (p .south))
 
 -- ---- the definition, by its two tests
 

@@ -37,7 +37,8 @@ module _ (l : List ℕ) (from to : ℕ) where
   pub part-dropped : from < to → take (to - (from + 1)) (drop (from + 1) l) ≡ drop 1 (take (to - from) (drop from l))
   part-dropped h =
       let e : to - from ≡ suc (to - (from + 1)) = omega arith in
-      sym (ap (λ (m : ℕ). drop 1 (take m (drop from l))) e ∙ drop-take-one (to - (from + 1)) (drop from l) ∙ ap (take (to - (from + 1))) (drop-drop 1 from l))
+      sym (ap (λ (m : ℕ). drop 1 (take m (drop from l))) e ∙ drop-take-one (to - (from + 1)) (drop from l)
+      ∙ ap (take (to - (from + 1))) (drop-drop 1 from l))
 
   part-empty : to ≤ from → drop 1 (take (to - from) (drop from l)) ≡ []
   part-empty h = let e : to - from ≡ 0 = omega arith in rw e
@@ -47,14 +48,16 @@ module _ (l : List ℕ) (from to : ℕ) where
 
 module _ {buffer : List ℕ} {from to k count : ℕ} {before : List ℤ} where
   -- A piece with a letter, and one with none
-  pub piece-part : from < to → to ≤ length buffer → (after : List ℤ) (r : InWord) → WordRead k (take (to - (from + 1)) (drop (from + 1) buffer)) count before after r
+  pub piece-part : from < to → to ≤ length buffer → (after : List ℤ) (r : InWord)
+      → WordRead k (take (to - (from + 1)) (drop (from + 1) buffer)) count before after r
       → PieceRead buffer from to k count before after r
   piece-part l h after (WordEdges n) t = record { within = refl; word = λ a b c. rw (part-dropped buffer from to l) at t }
   piece-part l h after (WordDent i m) t =
       let w : i + m ≤ to - (from + 1) = rw (part-length buffer from to h) at (t .within) in
       record { within = (omega arith, t .long); word = λ a b c. rw (part-dropped buffer from to l) at t }
 
-  pub piece-none : (from < to → to ≤ length buffer → longest ≤ to - (from + 1)) → PieceRead buffer from to k count before before (WordEdges count)
+  pub piece-none : (from < to → to ≤ length buffer → longest ≤ to - (from + 1))
+      → PieceRead buffer from to k count before before (WordEdges count)
   piece-none off =
       record {
         within = refl;
@@ -103,14 +106,22 @@ pub record Passed (buffer at : List ℕ) (before list : List ℤ) (count k : ℕ
   pub passed : k ≤ 4
   pub same : length list ≡ length before
   pub none : (o : Outline) → size o ≤ longest → Laid o at buffer → first (dented o) k ≡ k
-  pub beyond : (o : Outline) → size o ≤ longest → Laid o at buffer → 2 * edgeCount o ≤ length before → drop (2 * count) list ≡ drop (2 * count) before
+  pub beyond : (o : Outline) → size o ≤ longest → Laid o at buffer → 2 * edgeCount o ≤ length before
+      → drop (2 * count) list ≡ drop (2 * count) before
   pub counted : (o : Outline) → size o ≤ longest → Laid o at buffer → 2 * edgeCount o ≤ length before → count ≡ countUpTo o k
   pub edges : (o : Outline) → size o ≤ longest → Laid o at buffer → 2 * edgeCount o ≤ length before → take (2 * count) list ≡ edgesUpTo o k
 
 pub passed-start : (buffer at : List ℕ) (before : List ℤ) → Passed buffer at before before 0 0
 unfolding first countUpTo edgesUpTo
 passed-start buffer at before =
-    record { passed = omega arith; same = refl; none = λ o h l. refl; beyond = λ o h l room. refl; counted = λ o h l room. refl; edges = λ o h l room. refl }
+    record {
+      passed = omega arith;
+      same = refl;
+      none = λ o h l. refl;
+      beyond = λ o h l room. refl;
+      counted = λ o h l room. refl;
+      edges = λ o h l room. refl;
+    }
 
 -- Piece k lies in the buffer from x up to y, and its factors are found
 pub record Read (buffer at : List ℕ) (before list : List ℤ) (count k x y : ℕ) (after : List ℤ) (r : InWord) : Type 0 where
@@ -133,7 +144,8 @@ module _ {buffer at : List ℕ} {before list : List ℤ} {count k x y : ℕ} {af
     read-word short =
         let a = p .begins ∙ h .places k (omega (arith, p .piece-lt)) in
         let b = p .ends ∙ ap (λ (i : ℕ). getD at i 0) (add-one k) ∙ h .places (suc k) (p .piece-lt) in
-        p .found .word (omega (arith, cut-le-suc o k)) (omega (arith, cut-le-cut o (suc k) 4 (p .piece-lt), h .within)) (omega (arith, cut-suc-le o k))
+        p .found .word (omega (arith, cut-le-suc o k)) (omega (arith, cut-le-cut o (suc k) 4 (p .piece-lt), h .within))
+        (omega (arith, cut-suc-le o k))
 
   -- Its edges come after those of the pieces before it
   module _ {n : ℕ} (p : Read buffer at before list count k x y after (WordEdges n)) where
@@ -187,14 +199,16 @@ module _ {buffer at : List ℕ} {before list : List ℤ} {count k x y : ℕ} {af
             record {
               piece =
                   sym
-                  (first-stop (dented o) 4 k (p .pieces .none o short h) (lt-ltb 0 (dentLength (factors o k)) (omega (arith, p .found .within .1)))
+                  (first-stop (dented o) 4 k (p .pieces .none o short h)
+                  (lt-ltb 0 (dentLength (factors o k)) (omega (arith, p .found .within .1)))
                   (p .piece-lt));
               at = omega (arith, p .begins, h .places k (omega (arith, p .piece-lt)));
               size = size;
             };
       }
 
-pub passed-end : {buffer at : List ℕ} {before list : List ℤ} {count k : ℕ} → Passed buffer at before list count k → 4 ≤ k → FactorsRead buffer at before list (Edges count)
+pub passed-end : {buffer at : List ℕ} {before list : List ℤ} {count k : ℕ} → Passed buffer at before list count k → 4 ≤ k
+    → FactorsRead buffer at before list (Edges count)
 unfolding dentPiece
 passed-end {list = list} {count = count} {k = k} p l o short h =
     let e : k ≡ 4 = omega (arith, p .passed) in

@@ -20,9 +20,12 @@ pub record Units (f : Frame) : Type 0 where
 pub frame-units : (k : ℕ) → Units (frameOf k)
 unfolding frameOf
 frame-units zero = record { earlier-cols = omega arith; earlier-rows = omega arith; later-cols = omega arith; later-rows = omega arith }
-frame-units (suc zero) = record { earlier-cols = omega arith; earlier-rows = omega arith; later-cols = omega arith; later-rows = omega arith }
-frame-units (suc (suc zero)) = record { earlier-cols = omega arith; earlier-rows = omega arith; later-cols = omega arith; later-rows = omega arith }
-frame-units (suc (suc (suc k))) = record { earlier-cols = omega arith; earlier-rows = omega arith; later-cols = omega arith; later-rows = omega arith }
+frame-units (suc zero) =
+    record { earlier-cols = omega arith; earlier-rows = omega arith; later-cols = omega arith; later-rows = omega arith }
+frame-units (suc (suc zero)) =
+    record { earlier-cols = omega arith; earlier-rows = omega arith; later-cols = omega arith; later-rows = omega arith }
+frame-units (suc (suc (suc k))) =
+    record { earlier-cols = omega arith; earlier-rows = omega arith; later-cols = omega arith; later-rows = omega arith }
 
 unit-read : {a b : ℤ} → a ≡ b → natAbs b ≤ 1 → toZ w16 (ofZ w16 a) ≡ b
 unit-read {a} {b} e h = toZ-ofZ w16 a (rw e (fits-size w16 b (omega arith))) ∙ e

@@ -45,7 +45,8 @@ drop-set-before (x ∷ l) (suc i) (suc m) a h = drop-set-before l i m a (omega a
 pub drop-further : (l m : List ℤ) (a b : ℕ) → a ≤ b → drop a l ≡ drop a m → drop b l ≡ drop b m
 drop-further l m a b h e =
     let d : b ≡ a + (b - a) = omega arith in
-    ap (λ (n : ℕ). drop n l) d ∙ sym (drop-drop (b - a) a l) ∙ ap (drop (b - a)) e ∙ drop-drop (b - a) a m ∙ ap (λ (n : ℕ). drop n m) (sym d)
+    ap (λ (n : ℕ). drop n l) d ∙ sym (drop-drop (b - a) a l) ∙ ap (drop (b - a)) e ∙ drop-drop (b - a) a m
+    ∙ ap (λ (n : ℕ). drop n m) (sym d)
 
 pub put-behind : (l : List ℤ) (n : ℕ) (dx dy : ℤ) → n < length l / 2 → Put l n dx dy (set (set l (2 * n) dx) (2 * n + 1) dy) (n + 1)
 put-behind l n dx dy h =
@@ -53,7 +54,8 @@ put-behind l n dx dy h =
       grows = omega arith;
       one-more = λ room. refl;
       edges = λ room. rw (two, add-one) (take-two l (2 * n) dx dy (omega arith));
-      beyond = drop-set-before (set l (2 * n) dx) (2 * n + 1) (2 * (n + 1)) dy (omega arith) ∙ drop-set-before l (2 * n) (2 * (n + 1)) dx (omega arith);
+      beyond = drop-set-before (set l (2 * n) dx) (2 * n + 1) (2 * (n + 1)) dy (omega arith)
+          ∙ drop-set-before l (2 * n) (2 * (n + 1)) dx (omega arith);
     }
 
 pub put-nowhere : (l : List ℤ) (n : ℕ) (dx dy : ℤ) → length l / 2 ≤ n → Put l n dx dy l n
@@ -72,11 +74,20 @@ pub record Tracing (k : ℕ) (letters : List ℕ) (from : ℕ) (before list : Li
   pub counted : Room k letters from before → count + length (factorsIn k (drop at letters)) ≡ from + length (factorsIn k letters)
   pub edges :
       Room k letters from before
-      → take (2 * count) list ++ edgesOf (frameOf k) (factorsIn k (drop at letters)) ≡ take (2 * from) before ++ edgesOf (frameOf k) (factorsIn k letters)
+      → take (2 * count) list ++ edgesOf (frameOf k) (factorsIn k (drop at letters))
+      ≡ take (2 * from) before ++ edgesOf (frameOf k) (factorsIn k letters)
 
 pub tracing-start : (k : ℕ) (letters : List ℕ) (from : ℕ) (before : List ℤ) → Tracing k letters from before before from 0
 tracing-start k letters from before =
-    record { same = refl; passed = omega arith; dent-at = omega arith; dent-length = refl; beyond = refl; counted = λ room. refl; edges = λ room. refl }
+    record {
+      same = refl;
+      passed = omega arith;
+      dent-at = omega arith;
+      dent-length = refl;
+      beyond = refl;
+      counted = λ room. refl;
+      edges = λ room. refl;
+    }
 
 -- A first factor that is a Christoffel word is passed, and one that is not is the dent
 dentAt-true : (f : Factor) (fs : List Factor) → christoffel (f .word) ≡ true → dentAt (f ∷ fs) ≡ f .times * length (f .word) + dentAt fs
@@ -95,12 +106,14 @@ dentLength-false : (f : Factor) (fs : List Factor) → christoffel (f .word) ≡
 unfolding dentLength
 dentLength-false f fs e = rw (e, dentLength)
 
-edges-cons : (k : ℕ) (f : Factor) (fs : List Factor) (g : Edge) → EdgeOf (frameOf k) (f .times * earliers (f .word)) (f .times * laters (f .word)) g
+edges-cons : (k : ℕ) (f : Factor) (fs : List Factor) (g : Edge)
+    → EdgeOf (frameOf k) (f .times * earliers (f .word)) (f .times * laters (f .word)) g
     → g .dx ∷ g .dy ∷ edgesOf (frameOf k) fs ≡ edgesOf (frameOf k) (f ∷ fs)
 unfolding edgesOf
 edges-cons k f fs g e = rw (e .dx, e .dy)
 
-module _ {k : ℕ} {letters : List ℕ} {from : ℕ} {before list : List ℤ} {count at : ℕ} (t : Tracing k letters from before list count at) (short : length letters ≤ longest) (h : at < length letters)
+module _ {k : ℕ} {letters : List ℕ} {from : ℕ} {before list : List ℤ} {count at : ℕ} (t : Tracing k letters from before list count at)
+    (short : length letters ≤ longest) (h : at < length letters)
     {r : JudgedFactor} (e : r ≡ judged (factorsIn k (drop at letters))) where
   pub step : Step letters at (frameOf k .later) r
   step = step-at letters at (frameOf k .later) h e
@@ -152,7 +165,8 @@ module _ {k : ℕ} {letters : List ℕ} {from : ℕ} {before list : List ℤ} {c
       let yes : christoffel (step .first .word) ≡ true = sym judged-christoffel ∙ d in
       let here : dentAt (factorsIn k (drop at letters)) ≡ step .first .times * length (step .first .word) + dentAt rest =
       ap dentAt (step .factors) ∙ dentAt-true (step .first) rest yes in
-      let long : dentLength (factorsIn k (drop at letters)) ≡ dentLength rest = ap dentLength (step .factors) ∙ dentLength-true (step .first) rest yes in
+      let long : dentLength (factorsIn k (drop at letters)) ≡ dentLength rest = ap dentLength (step .factors)
+      ∙ dentLength-true (step .first) rest yes in
       let more : length (factorsIn k (drop at letters)) ≡ suc (length rest) = ap length (step .factors) in
       let space : (room : Room k letters from before) → 2 * (count + 1) ≤ length list =
       λ room. omega (arith, room, t .counted room, t .same) in
@@ -164,16 +178,19 @@ module _ {k : ℕ} {letters : List ℕ} {from : ℕ} {before list : List ℤ} {c
         beyond = put .beyond ∙ drop-further list before (2 * count) (2 * next) (omega (arith, put .grows)) (t .beyond);
         counted = λ room. omega (arith, t .counted room, put .one-more (space room));
         edges = λ room.
-            let e : EdgeOf (frameOf k) (step .first .times * earliers (step .first .word)) (step .first .times * laters (step .first .word)) g =
+            let e : EdgeOf (frameOf k) (step .first .times * earliers (step .first .word)) (step .first .times * laters (step .first .word))
+            g =
             rw (judged-run, judged-rise) at edge in
             ap (λ (n : ℕ). take (2 * n) after ++ edgesOf (frameOf k) rest) (put .one-more (space room)) ∙
             ap (λ (l : List ℤ). l ++ edgesOf (frameOf k) rest) (put .edges (space room)) ∙
             append-assoc (take (2 * count) list) (g .dx ∷ g .dy ∷ []) (edgesOf (frameOf k) rest) ∙
-            ap (λ (l : List ℤ). take (2 * count) list ++ l) (edges-cons k (step .first) rest g e ∙ ap (edgesOf (frameOf k)) (sym (step .factors))) ∙
+            ap (λ (l : List ℤ). take (2 * count) list ++ l) (edges-cons k (step .first) rest g e
+            ∙ ap (edgesOf (frameOf k)) (sym (step .factors))) ∙
             t .edges room;
       }
 
-pub tracing-end : {k : ℕ} {letters : List ℕ} {from : ℕ} {before list : List ℤ} {count at : ℕ} → Tracing k letters from before list count at → length letters ≤ at
+pub tracing-end : {k : ℕ} {letters : List ℕ} {from : ℕ} {before list : List ℤ} {count at : ℕ} → Tracing k letters from before list count at
+    → length letters ≤ at
     → EdgesPut k letters from before list count
 unfolding wordOf factorsOf dentLength edgesOf
 tracing-end {k} {letters} {from} {before} {list} {count} {at} t h =

@@ -17,8 +17,10 @@ meets-at P h [] x y start = h
 meets-at P h ((dx, dy) ∷ es) x y start = inl h
 meets-at P h ((dx, dy) ∷ es) x y (after m) = inr (meets-at P h es (x +ℤ dx) (y +ℤ dy) m)
 
-pub corner-is-cell : (o : Outline) → NoBackStep o → (u v : ℤ) → Met (pairs (edges o)) (pos (o .start .col)) (pos (o .start .row)) u v → IsCell u v
+pub corner-is-cell : (o : Outline) → NoBackStep o → (u v : ℤ) → Met (pairs (edges o)) (pos (o .start .col)) (pos (o .start .row)) u v
+    → IsCell u v
 corner-is-cell o straight u v m =
     let at : ℤ → ℤ → Type 0 = λ c r. (c ≡ u) × (r ≡ v) in
-    let (c, r, is, e) = vertex-is-cell o (shape o straight) at (meets-at at (refl, refl) (pairs (edges o)) (pos (o .start .col)) (pos (o .start .row)) m) in
+    let (c, r, is, e) =
+    vertex-is-cell o (shape o straight) at (meets-at at (refl, refl) (pairs (edges o)) (pos (o .start .col)) (pos (o .start .row)) m) in
     subst₂ IsCell (e .0) (e .1) is

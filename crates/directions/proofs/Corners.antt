@@ -13,7 +13,8 @@ use Rattle.directions.specs.CornerHull.{Met, start, after}
 use Rattle.base.proofs.IntegerOrder.{up, down}
 use Rattle.base.proofs.Differences.{Is}
 use Rattle.directions.proofs.Cross.{side-step, side-start, cross-self, cross-swap}
-use Rattle.directions.proofs.Directions.{Above, Least0, Most0, Forward, Backward, Sooner, halves, forwards, backwards, both-ways, falls-after, falls-before}
+use Rattle.directions.proofs.Directions.{Above, Least0, Most0, Forward, Backward, Sooner, halves, forwards, backwards, both-ways}
+use Rattle.directions.proofs.Directions.{falls-after, falls-before}
 
 -- ---- lists of edges with directions in clockwise order
 
@@ -40,7 +41,8 @@ pub data Ends : List Edge → ℤ → ℤ → ℤ → ℤ → Type 0 where
 -- Among the edges from (x, y) on, the edge (ex, ey) starts at (p, q), and the edges after it are fs
 pub data Leaves : List Edge → ℤ → ℤ → ℤ → ℤ → ℤ → ℤ → List Edge → Type 0 where
   first : {es : List Edge} {ex ey x y : ℤ} → Leaves ((ex, ey) ∷ es) x y ex ey x y es
-  later : {es fs : List Edge} {dx dy x y ex ey p q : ℤ} → Leaves es (x +ℤ dx) (y +ℤ dy) ex ey p q fs → Leaves ((dx, dy) ∷ es) x y ex ey p q fs
+  later : {es fs : List Edge} {dx dy x y ex ey p q : ℤ} → Leaves es (x +ℤ dx) (y +ℤ dy) ex ey p q fs
+      → Leaves ((dx, dy) ∷ es) x y ex ey p q fs
 
 leaves-after : {es fs : List Edge} {x y dx dy ex ey p q : ℤ} → AllAfter dx dy es → Leaves es x y ex ey p q fs → Sooner dx dy ex ey
 leaves-after (next b a) first = b
@@ -63,7 +65,8 @@ module _ (ex ey p q : ℤ) where
 
   -- After the edge: once a cross product is not above 0, side values decrease to that of the end
   after-down :
-      {es : List Edge} {x y u v s t fx fy : ℤ} → Sooner ex ey fx fy → Most0 (With fx fy) → AllAfter fx fy es → Ends es x y s t → Least0 (Side s t)
+      {es : List Edge} {x y u v s t fx fy : ℤ} → Sooner ex ey fx fy → Most0 (With fx fy) → AllAfter fx fy es → Ends es x y s t
+      → Least0 (Side s t)
       → Met es x y u v → Least0 (Side u v)
   after-down b l none none i start = i
   after-down {x = x} {y = y} b l (next {ex = gx} {ey = gy} h a) (next w) i start =
@@ -156,12 +159,14 @@ module _ (ex ey p q : ℤ) where
 
   -- strictly, if the edge is neither the first nor the last
   pub anchor-above :
-      {es fs : List Edge} {x y dx dy gx gy : ℤ} → Rising ((dx, dy) ∷ es) → Leaves es (x +ℤ dx) (y +ℤ dy) ex ey p q ((gx, gy) ∷ fs) → Ends ((dx, dy) ∷ es) x y x y
+      {es fs : List Edge} {x y dx dy gx gy : ℤ} → Rising ((dx, dy) ∷ es) → Leaves es (x +ℤ dx) (y +ℤ dy) ex ey p q ((gx, gy) ∷ fs)
+      → Ends ((dx, dy) ∷ es) x y x y
       → Above (Side x y)
   anchor-above {es = es} {fs = fs} {x = x} {y = y} {dx = dx} {dy = dy} {gx = gx} {gy = gy} (next f a r) g (next w) = go (leaves-facing r g)
     where
       rest : Backward ex ey → AllAfter ex ey ((gx, gy) ∷ fs) → Ends ((gx, gy) ∷ fs) (p +ℤ ex) (q +ℤ ey) x y → Above (Side x y)
-      rest e (next b c) (next v) = omega (arith, edge-end .eq, side-step ex ey p q (p +ℤ ex) (q +ℤ ey) gx gy .eq, back-step e b, back-end e c v)
+      rest e (next b c) (next v) =
+          omega (arith, edge-end .eq, side-step ex ey p q (p +ℤ ex) (q +ℤ ey) gx gy .eq, back-step e b, back-end e c v)
 
       go : Facing ex ey → Above (Side x y)
       go (ahead e) = omega (arith, side-step ex ey p q x y dx dy .eq, ahead-step e (leaves-after a g), ahead-anchor e r g)
@@ -169,7 +174,8 @@ module _ (ex ey p q : ℤ) where
 
 -- Every corner cell is on the inner side of every edge
 pub inner-side :
-    {es fs : List Edge} {x y u v ex ey p q : ℤ} → Rising es → Ends es x y x y → Met es x y u v → Leaves es x y ex ey p q fs → Least0 (sideValue ex ey p q u v)
+    {es fs : List Edge} {x y u v ex ey p q : ℤ} → Rising es → Ends es x y x y → Met es x y u v → Leaves es x y ex ey p q fs
+    → Least0 (sideValue ex ey p q u v)
 inner-side {ex = ex} {ey = ey} {p = p} {q = q} r w m g =
     let i = anchor ex ey p q r g w in
     round ex ey p q r g w i i m

@@ -67,13 +67,15 @@ cross-front dx dy ex ey =
     let b = is-cross (is-self dx) (is-self dy) (is-self ex) (is-self ey) in
     record { eq = omega (arith, a .eq, b .eq) }
 
-pub cross-opposites : (dx dy ex ey : ℤ) → Is (cross (negℤ dx) (negℤ dy) (negℤ ex) (negℤ ey)) (up (cross dx dy ex ey)) (down (cross dx dy ex ey))
+pub cross-opposites : (dx dy ex ey : ℤ)
+    → Is (cross (negℤ dx) (negℤ dy) (negℤ ex) (negℤ ey)) (up (cross dx dy ex ey)) (down (cross dx dy ex ey))
 cross-opposites dx dy ex ey = record { eq = omega (arith, cross-back (negℤ dx) (negℤ dy) ex ey .eq, cross-front dx dy ex ey .eq) }
 
 -- The cross product is additive in its first vector too
 pub cross-step :
     (ax ay dx dy px py : ℤ)
-    → Is (cross (ax +ℤ dx) (ay +ℤ dy) px py) (up (cross ax ay px py) + up (cross dx dy px py)) (down (cross ax ay px py) + down (cross dx dy px py))
+    → Is (cross (ax +ℤ dx) (ay +ℤ dy) px py) (up (cross ax ay px py) + up (cross dx dy px py))
+    (down (cross ax ay px py) + down (cross dx dy px py))
 cross-step ax ay dx dy px py =
     let a = is-cross (is-add (is-self ax) (is-self dx)) (is-add (is-self ay) (is-self dy)) (is-self px) (is-self py) in
     let b = is-cross (is-self ax) (is-self ay) (is-self px) (is-self py) in

@@ -35,7 +35,8 @@ opposite downward = upward
 
 -- With columns a, c, p as naturals and rows b - b′, d - d′, q - q′: three decreasing slopes
 slopes :
-    (a b b′ c d d′ p q q′ : ℕ) → 0 < c → 0 < a → b′ * c + a * d ≤ b * c + a * d′ → d′ * p + c * q < d * p + c * q′ → b′ * p + a * q < b * p + a * q′
+    (a b b′ c d d′ p q q′ : ℕ) → 0 < c → 0 < a → b′ * c + a * d ≤ b * c + a * d′ → d′ * p + c * q < d * p + c * q′
+    → b′ * p + a * q < b * p + a * q′
 slopes a b b′ c d d′ p q q′ hc ha h k =
     lt-of-mul-lt-mul-left c (omega (arith, mul-le-mul-right p h, mul-lt-mul-of-pos-right {k = a} k ha))
 
@@ -44,14 +45,16 @@ flat-cross a dy c ey = record { eq = omega (arith, is-cross (is-self (pos a)) (i
 
 -- Among forward directions the order is transitive, also if the first two are equal
 pub chain :
-    {dx dy ex ey fx fy : ℤ} → Forward dx dy → Forward ex ey → Forward fx fy → Least0 (cross dx dy ex ey) → Above (cross ex ey fx fy) → Above (cross dx dy fx fy)
+    {dx dy ex ey fx fy : ℤ} → Forward dx dy → Forward ex ey → Forward fx fy → Least0 (cross dx dy ex ey) → Above (cross ex ey fx fy)
+    → Above (cross dx dy fx fy)
 chain {dy = dy} {ey = ey} {fy = fy} (across {n = a}) (across {n = c}) (across {n = p}) h k =
     let m = flat-cross (suc a) dy (suc c) ey .eq in
     let n = flat-cross (suc c) ey (suc p) fy .eq in
     omega (
       arith,
       flat-cross (suc a) dy (suc p) fy .eq,
-      slopes (suc a) (up dy) (down dy) (suc c) (up ey) (down ey) (suc p) (up fy) (down fy) (omega arith) (omega arith) (omega arith) (omega arith),
+      slopes (suc a) (up dy) (down dy) (suc c) (up ey) (down ey) (suc p) (up fy) (down fy) (omega arith) (omega arith) (omega arith)
+          (omega arith),
     )
 chain {dy = dy} {ey = ey} {fy = fy} (across {n = a}) (across {n = c}) upward h k =
     omega (arith, flat-cross (suc c) ey 0 fy .eq)
@@ -75,12 +78,14 @@ both-ways upward = elim [ ]
 
 -- The opposites of backward directions
 backs-chain :
-    {dx dy ex ey fx fy : ℤ} → Backward dx dy → Backward ex ey → Backward fx fy → Above (cross dx dy ex ey) → Above (cross ex ey fx fy) → Above (cross dx dy fx fy)
+    {dx dy ex ey fx fy : ℤ} → Backward dx dy → Backward ex ey → Backward fx fy → Above (cross dx dy ex ey) → Above (cross ex ey fx fy)
+    → Above (cross dx dy fx fy)
 backs-chain {dx} {dy} {ex} {ey} {fx} {fy} d e f h k =
     omega (
       arith,
       cross-opposites dx dy fx fy .eq,
-      chain (opposite d) (opposite e) (opposite f) (omega (arith, cross-opposites dx dy ex ey .eq)) (omega (arith, cross-opposites ex ey fx fy .eq)),
+      chain (opposite d) (opposite e) (opposite f) (omega (arith, cross-opposites dx dy ex ey .eq))
+          (omega (arith, cross-opposites ex ey fx fy .eq)),
     )
 
 pub precedes-trans : {dx dy ex ey fx fy : ℤ} → Sooner dx dy ex ey → Sooner ex ey fx fy → Sooner dx dy fx fy

@@ -34,13 +34,15 @@ edge-after (d ∷ []) AllAfter.none i h = absurd (omega arith)
 edge-after (ex ∷ ey ∷ es) (AllAfter.next b a) zero h = b
 edge-after (ex ∷ ey ∷ es) (AllAfter.next b a) (suc i) h = rw (cols-next, rows-next) (edge-after es a i (omega arith))
 
-edge-precedes : (es : List ℤ) → Rising (pairs es) → (i j : ℕ) → i < j → Listed es j → Sooner (edgeCols es i) (edgeRows es i) (edgeCols es j) (edgeRows es j)
+edge-precedes : (es : List ℤ) → Rising (pairs es) → (i j : ℕ) → i < j → Listed es j
+    → Sooner (edgeCols es i) (edgeRows es i) (edgeCols es j) (edgeRows es j)
 unfolding edgeCols edgeRows pairs
 edge-precedes es r i zero h l = absurd (omega arith)
 edge-precedes [] Rising.none i (suc j) h l = absurd (omega arith)
 edge-precedes (d ∷ []) Rising.none i (suc j) h l = absurd (omega arith)
 edge-precedes (dx ∷ dy ∷ es) (Rising.next f a r) zero (suc j) h l = rw (cols-next, rows-next) (edge-after es a j (omega arith))
-edge-precedes (dx ∷ dy ∷ es) (Rising.next f a r) (suc i) (suc j) h l = simp (cols-next, rows-next) (edge-precedes es r i j (omega arith) (omega arith))
+edge-precedes (dx ∷ dy ∷ es) (Rising.next f a r) (suc i) (suc j) h l =
+    simp (cols-next, rows-next) (edge-precedes es r i j (omega arith) (omega arith))
 
 module _ (es : List ℤ) (passes : badDirections es ≡ false) where
   rises : Rising (pairs es)

@@ -10,7 +10,8 @@ use Rattle.directions.specs.Round.{cross}
 use Rattle.directions.specs.CornerHull.{Met, InCornerHull}
 use Rattle.base.proofs.IntegerOrder.{up, down}
 use Rattle.base.proofs.Differences.{Is, is-self, is-eq, is-unique, is-neg, is-add, is-minus, is-mul}
-use Rattle.base.proofs.IntegerRing.{times-assoc, times-left, minus-times, minus-shared-end, minus-shared-start, minus-step, there-and-back, opposite-way}
+use Rattle.base.proofs.IntegerRing.{times-assoc, times-left, minus-times, minus-shared-end, minus-shared-start, minus-step, there-and-back}
+use Rattle.base.proofs.IntegerRing.{opposite-way}
 use Rattle.directions.proofs.Cross.{is-cross, side-cross, side-step, nil-difference, cross-swap, cross-back, cross-step}
 use Rattle.directions.proofs.Directions.{Above, Least0, Most0}
 use Rattle.directions.proofs.Means.{Meanℤ, mean-of, mean-same, mean-minus}
@@ -47,7 +48,8 @@ fan-mean {w} {i} {j} {k} p d a s hb hf he eq =
     mean-of (omega (arith, l, m))
 
 -- From vectors that start at the anchor to cells
-pub shift-back : {w i j k : ℕ} (x c u d : ℤ) → w ≡ i + j + k → Meanℤ w i j k (c -ℤ x) (pos 0) (u -ℤ x) ((u -ℤ x) +ℤ d) → Meanℤ w i j k c x u (u +ℤ d)
+pub shift-back : {w i j k : ℕ} (x c u d : ℤ) → w ≡ i + j + k → Meanℤ w i j k (c -ℤ x) (pos 0) (u -ℤ x) ((u -ℤ x) +ℤ d)
+    → Meanℤ w i j k c x u (u +ℤ d)
 shift-back x c u d e h =
     let back : (z : ℤ) → (z -ℤ x) -ℤ negℤ x ≡ z =
     λ z. is-unique (is-minus (is-minus (is-self z) (is-self x)) (is-neg (is-self x))) (is-self z) (omega arith) in
@@ -85,7 +87,8 @@ module _ (x y c r : ℤ) where
 
     -- The cell is in the triangle of the anchor, the corner cell (u, v) and the next one
     pub triangle :
-        {es : List Edge} → Met es x y u v → Met es x y (u +ℤ dx) (v +ℤ dy) → Least0 (sideValue dx dy u v c r) → Most0 (Seen (u +ℤ dx) (v +ℤ dy)) → Least0 (Seen u v)
+        {es : List Edge} → Met es x y u v → Met es x y (u +ℤ dx) (v +ℤ dy) → Least0 (sideValue dx dy u v c r)
+        → Most0 (Seen (u +ℤ dx) (v +ℤ dy)) → Least0 (Seen u v)
         → Above (sideValue dx dy u v x y) → InCornerHull es x y c r
     unfolding Seen
     triangle m m′ s n l g =
@@ -106,8 +109,12 @@ module _ (x y c r : ℤ) where
           j = j;
           k = k;
           some = omega (arith, fan-sum .eq);
-          cols = shift-back x c u dx refl (fan-mean (c -ℤ x) dx (u -ℤ x) refl hb hf he (cramer-col (u -ℤ x) (v -ℤ y) dx dy (c -ℤ x) (r -ℤ y))) .is;
-          rows = shift-back y r v dy refl (fan-mean (r -ℤ y) dy (v -ℤ y) refl hb hf he (cramer-row (u -ℤ x) (v -ℤ y) dx dy (c -ℤ x) (r -ℤ y))) .is;
+          cols =
+              shift-back x c u dx refl (fan-mean (c -ℤ x) dx (u -ℤ x) refl hb hf he (cramer-col (u -ℤ x) (v -ℤ y) dx dy (c -ℤ x) (r -ℤ y)))
+              .is;
+          rows =
+              shift-back y r v dy refl (fan-mean (r -ℤ y) dy (v -ℤ y) refl hb hf he (cramer-row (u -ℤ x) (v -ℤ y) dx dy (c -ℤ x) (r -ℤ y)))
+              .is;
         }
 
   -- The anchor itself

@@ -24,7 +24,8 @@ module _ {es : List Edge} {x y c r : ℤ} (h : InCornerHull es x y c r) where
       record {
         side = λ ex ey u v fs l.
             mean-least (h .some) (mean-side ex ey u v refl cols rows)
-            (corner-inner g (h .p .met) .side ex ey u v fs l) (corner-inner g (h .q .met) .side ex ey u v fs l) (corner-inner g (h .t .met) .side ex ey u v fs l);
+            (corner-inner g (h .p .met) .side ex ey u v fs l) (corner-inner g (h .q .met) .side ex ey u v fs l)
+            (corner-inner g (h .t .met) .side ex ey u v fs l);
       }
 
   hull-cols : within (colSteps es) x c ≡ true
@@ -37,4 +38,7 @@ pub hull-inside :
     (x y : ℤ) (es : List Edge) (c r : ℤ) → badEdges es ≡ false → InCornerHull es x y c r → insideAt es x y c r ≡ true
 unfolding insideAt
 hull-inside x y es c r a h =
-    and-eq-true-iff _ _ .1 (and-eq-true-iff _ _ .1 (hull-cols h, hull-rows h), none-outside es x y c r (hull-inner h (passes-iff es x y .0 a)))
+    and-eq-true-iff _ _ .1 (
+      and-eq-true-iff _ _ .1 (hull-cols h, hull-rows h),
+      none-outside es x y c r (hull-inner h (passes-iff es x y .0 a)),
+    )

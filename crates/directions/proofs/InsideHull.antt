@@ -48,12 +48,15 @@ module _ {es : List Edge} {x y c r dx dy : ℤ} (g : Passed ((dx, dy) ∷ es) x 
       → (Above (Seen x y c r (u +ℤ ex) (v +ℤ ey)) → InCornerHull ((dx, dy) ∷ es) x y c r) → InCornerHull ((dx, dy) ∷ es) x y c r
   one {fs} {ex} {ey} {u} {v} {gx} {gy} l s more =
       elim (decLe (up (Seen x y c r (u +ℤ ex) (v +ℤ ey))) (down (Seen x y c r (u +ℤ ex) (v +ℤ ey)))) [
-        | yes n ↦ triangle x y c r u v ex ey (Met.after (leaves-met l)) (Met.after (leaves-met-next l)) (h .side ex ey u v ((gx, gy) ∷ fs) (later l)) n s
+        | yes n ↦
+            triangle x y c r u v ex ey (Met.after (leaves-met l)) (Met.after (leaves-met-next l))
+            (h .side ex ey u v ((gx, gy) ∷ fs) (later l)) n s
             (anchor-above ex ey u v (g .rises) l (g .returns))
         | no n ↦ more (omega arith)
       ]
 
-  fan : (fs : List Edge) {ex ey u v : ℤ} → Leaves es (x +ℤ dx) (y +ℤ dy) ex ey u v fs → Above (Seen x y c r u v) → InCornerHull ((dx, dy) ∷ es) x y c r
+  fan : (fs : List Edge) {ex ey u v : ℤ} → Leaves es (x +ℤ dx) (y +ℤ dy) ex ey u v fs → Above (Seen x y c r u v)
+      → InCornerHull ((dx, dy) ∷ es) x y c r
   fan [] {ex} {ey} {u} {v} l a =
       let e = nil-ends (leaves-end ex ey u v (later l) (g .returns)) in
       absurd (last x y c r ex ey u v (e .0) (e .1) (h .side ex ey u v [] (later l)) a)
@@ -61,8 +64,10 @@ module _ {es : List Edge} {x y c r dx dy : ℤ} (g : Passed ((dx, dy) ∷ es) x 
 
 -- Three or more edges
 pub inside-many :
-    {es : List Edge} {x y c r dx dy ex ey gx gy : ℤ} → Passed ((dx, dy) ∷ (ex, ey) ∷ (gx, gy) ∷ es) x y → Inner ((dx, dy) ∷ (ex, ey) ∷ (gx, gy) ∷ es) x y c r
+    {es : List Edge} {x y c r dx dy ex ey gx gy : ℤ} → Passed ((dx, dy) ∷ (ex, ey) ∷ (gx, gy) ∷ es) x y
+    → Inner ((dx, dy) ∷ (ex, ey) ∷ (gx, gy) ∷ es) x y c r
     → InCornerHull ((dx, dy) ∷ (ex, ey) ∷ (gx, gy) ∷ es) x y c r
 inside-many {es} {x} {y} {c} {r} {dx} {dy} {ex} {ey} {gx} {gy} g h =
-    let s : Least0 (cross dx dy (c -ℤ x) (r -ℤ y)) = rw (side-cross dx dy x y c r) at (h .side dx dy x y ((ex, ey) ∷ (gx, gy) ∷ es) first) in
+    let s : Least0 (cross dx dy (c -ℤ x) (r -ℤ y)) =
+    rw (side-cross dx dy x y c r) at (h .side dx dy x y ((ex, ey) ∷ (gx, gy) ∷ es) first) in
     one g h first (omega (arith, seen-step x y c r x y dx dy .eq, seen-anchor x y c r .eq)) (λ b. fan g h es (later first) b)

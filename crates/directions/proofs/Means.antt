@@ -22,25 +22,33 @@ pub record Meanℤ (w i j k : ℕ) (z p q t : ℤ) : Type 0 where
   pub is : pos w *ℤ z ≡ pos i *ℤ p +ℤ pos j *ℤ q +ℤ pos k *ℤ t
 
 -- As naturals
-weighs : (i j k : ℕ) (p q t : ℤ) → Is (pos i *ℤ p +ℤ pos j *ℤ q +ℤ pos k *ℤ t) (i * up p + j * up q + k * up t) (i * down p + j * down q + k * down t)
+weighs : (i j k : ℕ) (p q t : ℤ)
+    → Is (pos i *ℤ p +ℤ pos j *ℤ q +ℤ pos k *ℤ t) (i * up p + j * up q + k * up t) (i * down p + j * down q + k * down t)
 weighs i j k p q t =
     record {
-      eq = omega (arith, is-add (is-add (is-mul (is-self (pos i)) (is-self p)) (is-mul (is-self (pos j)) (is-self q))) (is-mul (is-self (pos k)) (is-self t)) .eq);
+      eq = omega (
+        arith,
+        is-add (is-add (is-mul (is-self (pos i)) (is-self p)) (is-mul (is-self (pos j)) (is-self q)))
+            (is-mul (is-self (pos k)) (is-self t)) .eq,
+      );
     }
 
 module _ {w i j k : ℕ} where
   mean-eq :
-      {z p q t : ℤ} → Meanℤ w i j k z p q t → w * up z + (i * down p + j * down q + k * down t) ≡ i * up p + j * up q + k * up t + w * down z
+      {z p q t : ℤ} → Meanℤ w i j k z p q t
+      → w * up z + (i * down p + j * down q + k * down t) ≡ i * up p + j * up q + k * up t + w * down z
   mean-eq {z} {p} {q} {t} h = omega (arith, is-eq (is-mul (is-self (pos w)) (is-self z)) (weighs i j k p q t) (h .is))
 
   pub mean-of :
-      {z p q t : ℤ} → w * up z + (i * down p + j * down q + k * down t) ≡ i * up p + j * up q + k * up t + w * down z → Meanℤ w i j k z p q t
+      {z p q t : ℤ} → w * up z + (i * down p + j * down q + k * down t) ≡ i * up p + j * up q + k * up t + w * down z
+      → Meanℤ w i j k z p q t
   mean-of {z} {p} {q} {t} e = record { is = is-unique (is-mul (is-self (pos w)) (is-self z)) (weighs i j k p q t) (omega arith) }
 
   pub mean-same : (z : ℤ) → w ≡ i + j + k → Meanℤ w i j k z z z z
   mean-same z e = mean-of (omega (arith, ap (λ (n : ℕ). n * up z) e, ap (λ (n : ℕ). n * down z) e))
 
-  pub mean-minus : {z p q t z′ p′ q′ t′ : ℤ} → Meanℤ w i j k z p q t → Meanℤ w i j k z′ p′ q′ t′ → Meanℤ w i j k (z -ℤ z′) (p -ℤ p′) (q -ℤ q′) (t -ℤ t′)
+  pub mean-minus : {z p q t z′ p′ q′ t′ : ℤ} → Meanℤ w i j k z p q t → Meanℤ w i j k z′ p′ q′ t′
+      → Meanℤ w i j k (z -ℤ z′) (p -ℤ p′) (q -ℤ q′) (t -ℤ t′)
   mean-minus h l = record { is = simp (times-minus, h .is, l .is, sum-minus) }
 
   pub mean-times : (e : ℤ) {z p q t : ℤ} → Meanℤ w i j k z p q t → Meanℤ w i j k (e *ℤ z) (e *ℤ p) (e *ℤ q) (e *ℤ t)
@@ -122,7 +130,8 @@ highest-bound (d ∷ ds) b x h = go (leZ x (highestMet ds (x +ℤ d))) (highest-
     go true l = l
     go false l = h x Reach.start
 
-pub between : (ds : List ℤ) (a b x c : ℤ) → ((u : ℤ) → Reach ds x u → AtMost a u × AtMost u b) → within ds x c ≡ true → AtMost a c × AtMost c b
+pub between : (ds : List ℤ) (a b x c : ℤ) → ((u : ℤ) → Reach ds x u → AtMost a u × AtMost u b) → within ds x c ≡ true
+    → AtMost a c × AtMost c b
 unfolding within
 between ds a b x c h e =
     let k = and-eq-true-iff (leZ (lowestMet ds x) c) (leZ c (highestMet ds x)) .0 e in
@@ -143,12 +152,15 @@ minus-low a b h = omega (arith, is-minus (is-self b) (is-self a) .eq)
 
 module _ {w i j k : ℕ} (g : 0 < w) (e : w ≡ i + j + k) where
   pub mean-low : (a : ℤ) {c p q t : ℤ} → Meanℤ w i j k c p q t → AtMost a p → AtMost a q → AtMost a t → AtMost a c
-  mean-low a {c} {p} {q} {t} h l m n = minus-low a c (mean-least g (mean-minus h (mean-same a e)) (low-minus a p l) (low-minus a q m) (low-minus a t n))
+  mean-low a {c} {p} {q} {t} h l m n =
+      minus-low a c (mean-least g (mean-minus h (mean-same a e)) (low-minus a p l) (low-minus a q m) (low-minus a t n))
 
   pub mean-high : (a : ℤ) {c p q t : ℤ} → Meanℤ w i j k c p q t → AtMost p a → AtMost q a → AtMost t a → AtMost c a
-  mean-high a {c} {p} {q} {t} h l m n = minus-low c a (mean-least g (mean-minus (mean-same a e) h) (low-minus p a l) (low-minus q a m) (low-minus t a n))
+  mean-high a {c} {p} {q} {t} h l m n =
+      minus-low c a (mean-least g (mean-minus (mean-same a e) h) (low-minus p a l) (low-minus q a m) (low-minus t a n))
 
-  pub mean-within : (ds : List ℤ) {x c p q t : ℤ} → Meanℤ w i j k c p q t → Reach ds x p → Reach ds x q → Reach ds x t → within ds x c ≡ true
+  pub mean-within : (ds : List ℤ) {x c p q t : ℤ} → Meanℤ w i j k c p q t → Reach ds x p → Reach ds x q → Reach ds x t
+      → within ds x c ≡ true
   unfolding within
   mean-within ds {x} {c} h p q t =
       let low = lowestMet ds x in

@@ -16,8 +16,19 @@ use Rattle.directions.specs.CornerHull.{chartNumber, onChart}
 
 pub number : (z : ℤ) → chartNumber z ≡ true → (n : ℕ) × (z ≡ pos n) × (n < side)
 unfolding chartNumber
-number (pos n) e = (n, refl, omega (arith, at-most-iff (pos n) (pos (side - 1)) .0 (and-eq-true-iff (leZ (pos 0) (pos n)) (leZ (pos n) (pos (side - 1))) .0 e .1)))
-number (negsuc n) e = absurd (omega (arith, at-most-iff (pos 0) (negsuc n) .0 (and-eq-true-iff (leZ (pos 0) (negsuc n)) (leZ (negsuc n) (pos (side - 1))) .0 e .0)))
+number (pos n) e = (
+  n,
+  refl,
+  omega (
+    arith,
+    at-most-iff (pos n) (pos (side - 1)) .0 (and-eq-true-iff (leZ (pos 0) (pos n)) (leZ (pos n) (pos (side - 1))) .0 e .1),
+  ),
+)
+number (negsuc n) e =
+    absurd (omega (
+      arith,
+      at-most-iff (pos 0) (negsuc n) .0 (and-eq-true-iff (leZ (pos 0) (negsuc n)) (leZ (negsuc n) (pos (side - 1))) .0 e .0),
+    ))
 
 -- Such a number fits in 16 bits without a sign
 pub number-fits : (z : ℤ) → chartNumber z ≡ true → T (nonNeg z) × Fits w16 (natAbs z)

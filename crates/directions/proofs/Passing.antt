@@ -194,7 +194,8 @@ outside-both dx dy es x y c r n =
 pub inner : (es : List Edge) (x y c r : ℤ) → noneOutside es x y c r ≡ true → Inner es x y c r
 inner es x y c r n = record { side = λ ex ey p q fs l. go n l }
   where
-    go : {es fs : List Edge} {x y ex ey p q : ℤ} → noneOutside es x y c r ≡ true → Leaves es x y ex ey p q fs → Least0 (sideValue ex ey p q c r)
+    go : {es fs : List Edge} {x y ex ey p q : ℤ} → noneOutside es x y c r ≡ true → Leaves es x y ex ey p q fs
+        → Least0 (sideValue ex ey p q c r)
     go n (first {es = es} {ex = ex} {ey = ey} {x = x} {y = y}) = outside-both ex ey es x y c r n .0
     go n (later {es = es} {dx = dx} {dy = dy} {x = x} {y = y} l) = go (outside-both dx dy es x y c r n .1) l
 

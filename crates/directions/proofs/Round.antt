@@ -22,14 +22,17 @@ use Rattle.directions.proofs.Passing.{facing, positive-above, precedes-
 -- The cross product is zero, and the scalar product is above 0
 abbrev Flat : ℤ → ℤ → ℤ → ℤ → Type 0
 Flat dx dy ex ey =
-    up dy * up ex + down dy * down ex + (up dx * down ey + down dx * up ey) ≡ up dy * down ex + down dy * up ex + (up dx * up ey + down dx * down ey)
+    up dy * up ex + down dy * down ex + (up dx * down ey + down dx * up ey)
+    ≡ up dy * down ex + down dy * up ex + (up dx * up ey + down dx * down ey)
 
 abbrev Along : ℤ → ℤ → ℤ → ℤ → Type 0
 Along dx dy ex ey =
-    up dx * down ex + down dx * up ex + (up dy * down ey + down dy * up ey) < up dx * up ex + down dx * down ex + (up dy * up ey + down dy * down ey)
+    up dx * down ex + down dx * up ex + (up dy * down ey + down dy * up ey) < up dx * up ex + down dx * down ex +
+    (up dy * up ey + down dy * down ey)
 
 module _ (dx dy ex ey : ℤ) where
-  crossed : Is (cross dx dy ex ey) (up dy * up ex + down dy * down ex + (up dx * down ey + down dx * up ey)) (up dy * down ex + down dy * up ex + (up dx * up ey + down dx * down ey))
+  crossed : Is (cross dx dy ex ey) (up dy * up ex + down dy * down ex + (up dx * down ey + down dx * up ey))
+      (up dy * down ex + down dy * up ex + (up dx * up ey + down dx * down ey))
   crossed = is-cross (is-self dx) (is-self dy) (is-self ex) (is-self ey)
 
   scalar :
@@ -78,7 +81,8 @@ down-neg (negsuc n) = refl
 
 -- Parallel directions of different halves are opposite
 flat-against : {dx dy ex ey : ℤ} → Forward dx dy → Backward ex ey → Flat dx dy ex ey → Along dx dy ex ey → ⊥
-flat-against {dx} {dy} {ex} {ey} d e f h = omega (arith, simp (up-neg, down-neg) at (flat-along d (opposite e) (simp (up-neg, down-neg) (omega arith))))
+flat-against {dx} {dy} {ex} {ey} d e f h =
+    omega (arith, simp (up-neg, down-neg) at (flat-along d (opposite e) (simp (up-neg, down-neg) (omega arith))))
 
 -- Parallel directions of the second half are the same
 flat-along-back : {dx dy ex ey : ℤ} → Backward dx dy → Backward ex ey → Flat dx dy ex ey → Along dx dy ex ey
@@ -123,14 +127,16 @@ pub strict : (dx dy ex ey : ℤ) → NotNil dx dy → NotNil ex ey → precedes 
 strict dx dy ex ey d e s = precedes-not-same (precedes-of (facing dx dy d) (facing ex ey e) s)
 
 pub transitive :
-    (dx dy ex ey fx fy : ℤ) → NotNil dx dy → NotNil ex ey → NotNil fx fy → precedes dx dy ex ey ≡ true → precedes ex ey fx fy ≡ true → precedes dx dy fx fy ≡ true
+    (dx dy ex ey fx fy : ℤ) → NotNil dx dy → NotNil ex ey → NotNil fx fy → precedes dx dy ex ey ≡ true → precedes ex ey fx fy ≡ true
+    → precedes dx dy fx fy ≡ true
 transitive dx dy ex ey fx fy d e f s t =
     let n = facing ex ey e in
     of-precedes (precedes-trans (precedes-of (facing dx dy d) n s) (precedes-of n (facing fx fy f) t))
 
 -- Total up to direction
 pub total-round :
-    (dx dy ex ey : ℤ) → NotNil dx dy → NotNil ex ey → (precedes dx dy ex ey ≡ true) ⊎ ((precedes ex ey dx dy ≡ true) ⊎ SameDirection dx dy ex ey)
+    (dx dy ex ey : ℤ) → NotNil dx dy → NotNil ex ey
+    → (precedes dx dy ex ey ≡ true) ⊎ ((precedes ex ey dx dy ≡ true) ⊎ SameDirection dx dy ex ey)
 total-round dx dy ex ey d e = ⊎-map of-precedes (⊎-map of-precedes (λ s. s)) (either-precedes (facing dx dy d) (facing ex ey e))
 
 -- Nothing comes before up

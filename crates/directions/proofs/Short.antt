@@ -46,12 +46,15 @@ one-reached e (Reach.after Reach.start) = e
 
 pub inside-none : {es : List Edge} (x y c r : ℤ) → within [] x c ≡ true → within [] y r ≡ true → InCornerHull es x y c r
 inside-none x y c r h k =
-    alone x y c r (between [] x x x c (λ u m. low-refl x u (none-reached m)) h) (between [] y y y r (λ u m. low-refl y u (none-reached m)) k)
+    alone x y c r (between [] x x x c (λ u m. low-refl x u (none-reached m)) h)
+    (between [] y y y r (λ u m. low-refl y u (none-reached m)) k)
 
 pub inside-one :
-    {es : List Edge} (x y c r dx dy : ℤ) → x +ℤ dx ≡ x → y +ℤ dy ≡ y → within (dx ∷ []) x c ≡ true → within (dy ∷ []) y r ≡ true → InCornerHull es x y c r
+    {es : List Edge} (x y c r dx dy : ℤ) → x +ℤ dx ≡ x → y +ℤ dy ≡ y → within (dx ∷ []) x c ≡ true → within (dy ∷ []) y r ≡ true
+    → InCornerHull es x y c r
 inside-one x y c r dx dy p q h k =
-    alone x y c r (between (dx ∷ []) x x x c (λ u m. low-refl x u (one-reached p m)) h) (between (dy ∷ []) y y y r (λ u m. low-refl y u (one-reached q m)) k)
+    alone x y c r (between (dx ∷ []) x x x c (λ u m. low-refl x u (one-reached p m)) h)
+    (between (dy ∷ []) y y y r (λ u m. low-refl y u (one-reached q m)) k)
 
 -- ---- a segment
 
@@ -73,7 +76,8 @@ segment {es} x y c r dx dy w i k g e h l =
       rows = rw e at (shift-back y r y dy e (mean y r dy l) .is);
     }
   where
-    mean : (x c d : ℤ) → w * up (c -ℤ x) + k * down d ≡ k * up d + w * down (c -ℤ x) → Meanℤ w i 0 k (c -ℤ x) (pos 0) (x -ℤ x) ((x -ℤ x) +ℤ d)
+    mean : (x c d : ℤ) → w * up (c -ℤ x) + k * down d ≡ k * up d + w * down (c -ℤ x)
+        → Meanℤ w i 0 k (c -ℤ x) (pos 0) (x -ℤ x) ((x -ℤ x) +ℤ d)
     mean x c d h =
         let z : (x -ℤ x) +ℤ d ≡ d = is-unique (is-add (is-minus (is-self x) (is-self x)) (is-self d)) (is-self d) (omega arith) in
         rw z (mean-of (omega arith))
@@ -88,7 +92,8 @@ two-reached p l (Reach.after Reach.start) = omega arith
 two-reached p l (Reach.after (Reach.after Reach.start)) = omega (arith, ap up p, ap down p)
 
 -- In a coordinate in which the edge does not decrease, the cell's distance is from 0 to that of the whole edge
-far : (x c d e : ℤ) → x +ℤ d +ℤ e ≡ x → Least0 d → within (d ∷ e ∷ []) x c ≡ true → Least0 (c -ℤ x) × (up (c -ℤ x) + down d ≤ up d + down (c -ℤ x))
+far : (x c d e : ℤ) → x +ℤ d +ℤ e ≡ x → Least0 d → within (d ∷ e ∷ []) x c ≡ true
+    → Least0 (c -ℤ x) × (up (c -ℤ x) + down d ≤ up d + down (c -ℤ x))
 far x c d e p l h =
     let s = is-add (is-self x) (is-self d) .eq in
     let m = is-minus (is-self c) (is-self x) .eq in
@@ -110,14 +115,16 @@ module _
 
 -- An edge to the right of the anchor: count its columns
 across-segment :
-    {es : List Edge} (x y c r dy : ℤ) (n : ℕ) → Least0 (c -ℤ x) → up (c -ℤ x) ≤ suc n + down (c -ℤ x) → Is (cross (pos (suc n)) dy (c -ℤ x) (r -ℤ y)) 0 0
+    {es : List Edge} (x y c r dy : ℤ) (n : ℕ) → Least0 (c -ℤ x) → up (c -ℤ x) ≤ suc n + down (c -ℤ x)
+    → Is (cross (pos (suc n)) dy (c -ℤ x) (r -ℤ y)) 0 0
     → InCornerHull ((pos (suc n), dy) ∷ es) x y c r
 across-segment x y c r dy n l h o =
     let k : ℕ = up (c -ℤ x) in
     let z : down (c -ℤ x) ≡ 0 = least-down (c -ℤ x) l in
     let f : Is (c -ℤ x) k 0 = record { eq = omega arith } in
     let g = is-cross (is-self (pos (suc n))) (is-self dy) f (is-self (r -ℤ y)) .eq in
-    segment x y c r (pos (suc n)) dy (suc n) (suc n - k) k (omega arith) (omega arith) (omega (arith, ap (λ (m : ℕ). n * m) z)) (omega (arith, g, o .eq))
+    segment x y c r (pos (suc n)) dy (suc n) (suc n - k) k (omega arith) (omega arith) (omega (arith, ap (λ (m : ℕ). n * m) z))
+    (omega (arith, g, o .eq))
 
 -- An edge straight up: count its rows
 upward-segment :
@@ -126,10 +133,12 @@ upward-segment :
 upward-segment x y c r n o l h =
     let k : ℕ = up (r -ℤ y) in
     let z : down (r -ℤ y) ≡ 0 = least-down (r -ℤ y) l in
-    segment x y c r (pos zero) (pos (suc n)) (suc n) (suc n - k) k (omega arith) (omega arith) (omega (arith, ap (λ (m : ℕ). n * m) (o .eq))) (omega (arith, ap (λ (m : ℕ). n * m) z))
+    segment x y c r (pos zero) (pos (suc n)) (suc n) (suc n - k) k (omega arith) (omega arith)
+    (omega (arith, ap (λ (m : ℕ). n * m) (o .eq))) (omega (arith, ap (λ (m : ℕ). n * m) z))
 
 forward-two :
-    {es : List Edge} {dx dy : ℤ} (x y c r ex ey : ℤ) → Forward dx dy → x +ℤ dx +ℤ ex ≡ x → y +ℤ dy +ℤ ey ≡ y → Is (cross dx dy (c -ℤ x) (r -ℤ y)) 0 0
+    {es : List Edge} {dx dy : ℤ} (x y c r ex ey : ℤ) → Forward dx dy → x +ℤ dx +ℤ ex ≡ x → y +ℤ dy +ℤ ey ≡ y
+    → Is (cross dx dy (c -ℤ x) (r -ℤ y)) 0 0
     → within (dx ∷ ex ∷ []) x c ≡ true → within (dy ∷ ey ∷ []) y r ≡ true → InCornerHull ((dx, dy) ∷ es) x y c r
 forward-two x y c r ex ey (Forward.across {n = n} {dy = dy}) p q o h k =
     let a = far x c (pos (suc n)) ex p (omega arith) h in

@@ -56,7 +56,8 @@ unfolding Counted
 frame-half zero p = forward-of _ _ (omega (arith, p .lies .counted)) (λ h. omega (arith, p .lies .counted, p .upward))
 frame-half (suc zero) p = forward-of _ _ (omega (arith, p .lies .counted)) (λ h. absurd (omega (arith, p .lies .counted, p .upward)))
 frame-half (suc (suc zero)) p = backward-of _ _ (omega (arith, p .lies .counted)) (λ h. omega (arith, p .lies .counted, p .upward))
-frame-half (suc (suc (suc k))) p = backward-of _ _ (omega (arith, p .lies .counted)) (λ h. absurd (omega (arith, p .lies .counted, p .upward)))
+frame-half (suc (suc (suc k))) p =
+    backward-of _ _ (omega (arith, p .lies .counted)) (λ h. absurd (omega (arith, p .lies .counted, p .upward)))
 
 frame-facing : (k : ℕ) {e l : ℕ} {dx dy : ℤ} → Points k e l dx dy → Facing dx dy
 frame-facing zero p = ahead (frame-half 0 p)
@@ -69,7 +70,8 @@ is-cross-both :
 is-cross-both h g = is-cross (h .0) (h .1) (g .0) (g .1)
 
 -- In one frame, a smaller slope lies clockwise
-slope-cross : (k : ℕ) {e l e′ l′ : ℕ} {dx dy ex ey : ℤ} → Lies k 0 e l dx dy → Lies k 0 e′ l′ ex ey → l′ * e < l * e′ → Above (cross dx dy ex ey)
+slope-cross : (k : ℕ) {e l e′ l′ : ℕ} {dx dy ex ey : ℤ} → Lies k 0 e l dx dy → Lies k 0 e′ l′ ex ey → l′ * e < l * e′
+    → Above (cross dx dy ex ey)
 unfolding Counted
 slope-cross zero h g s = omega (arith, is-cross-both (h .counted) (g .counted) .eq)
 slope-cross (suc zero) h g s = omega (arith, is-cross-both (h .counted) (g .counted) .eq)
@@ -100,7 +102,8 @@ later-precedes (suc (suc zero)) (suc (suc (suc zero))) h p q = backwards (frame-
 later-precedes (suc (suc (suc k))) (suc (suc (suc zero))) h p q = absurd (omega arith)
 later-precedes (suc (suc k)) (suc (suc (suc (suc k′)))) h p q = absurd (omega (arith, q .small))
 
-after-precedes : {k k′ e l e′ l′ : ℕ} {dx dy ex ey : ℤ} → After (suc k) e l k′ e′ l′ → Points k e l dx dy → Points k′ e′ l′ ex ey → Sooner dx dy ex ey
+after-precedes : {k k′ e l e′ l′ : ℕ} {dx dy ex ey : ℤ} → After (suc k) e l k′ e′ l′ → Points k e l dx dy → Points k′ e′ l′ ex ey
+    → Sooner dx dy ex ey
 after-precedes {k} {k′} (After.later-frame h) p q = later-precedes k k′ h p q
 after-precedes {k} {k′} (After.same-frame h s) p q =
     let e : k′ ≡ k = omega arith in
@@ -148,5 +151,6 @@ module _ (o : Outline) (h : Reaches o) (smooth : dentPiece (border o) ≡ 4) whe
   -- No two edges have the same direction
   pub directions-distinct :
       (i j : ℕ) → i < j → j < edgeCount (border o)
-      → SameDirection (edgeCols (edges (border o)) i) (edgeRows (edges (border o)) i) (edgeCols (edges (border o)) j) (edgeRows (edges (border o)) j) → ⊥
+      → SameDirection (edgeCols (edges (border o)) i) (edgeRows (edges (border o)) i) (edgeCols (edges (border o)) j)
+      (edgeRows (edges (border o)) j) → ⊥
   directions-distinct i j l m = passed-distinct (edges (border o)) taken-passes i j l (edge-listed j m)

@@ -24,7 +24,8 @@ first-two : {es : List Edge} {dx dy ex ey : ℤ} → Rising ((dx, dy) ∷ (ex, e
 first-two (Rising.next f (AllAfter.next b a) r) = b
 
 inner-hull :
-    (es : List Edge) (x y c r : ℤ) → Passed es x y → Inner es x y c r → within (colSteps es) x c ≡ true → within (rowSteps es) y r ≡ true → InCornerHull es x y c r
+    (es : List Edge) (x y c r : ℤ) → Passed es x y → Inner es x y c r → within (colSteps es) x c ≡ true → within (rowSteps es) y r ≡ true
+    → InCornerHull es x y c r
 unfolding colSteps rowSteps
 inner-hull [] x y c r g h k l = inside-none x y c r k l
 inner-hull ((dx, dy) ∷ []) x y c r g h k l =

@@ -2,7 +2,8 @@
 use Prim.Native.Nat.{ℕ, _+_, _*_}
 use mathlib.Core.Path.{_≡_, refl, sym, ap, ap₂, subst, subst₂}
 use mathlib.Core.Logic.{_↔_, ⊎-elim}
-use mathlib.Core.List.{List, [], _∷_, _++_, map, List·Memᴰ, List·Memᴰ·head, List·Memᴰ·tail, List·Memᴰ·not-nil, List·Memᴰ·cases-cons, List·Memᴰ·append-cases, List·Memᴰ·eq-of-singleton, Memᴰ·append-left, Memᴰ·map, Memᴰ·of-map}
+use mathlib.Core.List.{List, [], _∷_, _++_, map, List·Memᴰ, List·Memᴰ·head, List·Memᴰ·tail, List·Memᴰ·not-nil, List·Memᴰ·cases-cons}
+use mathlib.Core.List.{List·Memᴰ·append-cases, List·Memᴰ·eq-of-singleton, Memᴰ·append-left, Memᴰ·map, Memᴰ·of-map}
 use lib.IntN.{ℤ, pos, natAbs, _+ℤ_, _*ℤ_}
 use Rattle.chart.specs.declared.Point.{Point}
 use Rattle.convexity.specs.Edges.{Edge, pairs}
@@ -43,12 +44,14 @@ pub lines-are : (es : List Edge) (x y : ℤ) → Stays es x y → linesFrom es x
 unfolding linesFrom endsFrom
 lines-are [] x y s = refl
 lines-are (d ∷ []) x y s = refl
-lines-are ((dx, dy) ∷ e ∷ es) x y s = ap₂ _∷_ (line-cell (s _ _ (after start))) (lines-are (e ∷ es) (x +ℤ dx) (y +ℤ dy) (λ u v m. s u v (after m)))
+lines-are ((dx, dy) ∷ e ∷ es) x y s =
+    ap₂ _∷_ (line-cell (s _ _ (after start))) (lines-are (e ∷ es) (x +ℤ dx) (y +ℤ dy) (λ u v m. s u v (after m)))
 
 -- After an edge: the ends, and where the walk arrives
 corners-behind :
     (dx dy : ℤ) (es : List Edge) (x y : ℤ) → Stays ((dx, dy) ∷ es) x y
-    → cornersFrom es (x +ℤ dx) (y +ℤ dy) ≡ map cellOf (endsFrom ((dx, dy) ∷ es) x y) ++ ((reached (colSteps es) (x +ℤ dx), reached (rowSteps es) (y +ℤ dy)) ∷ [])
+    → cornersFrom es (x +ℤ dx) (y +ℤ dy)
+    ≡ map cellOf (endsFrom ((dx, dy) ∷ es) x y) ++ ((reached (colSteps es) (x +ℤ dx), reached (rowSteps es) (y +ℤ dy)) ∷ [])
 unfolding cornersFrom endsFrom colSteps rowSteps reached
 corners-behind dx dy [] x y s = refl
 corners-behind dx dy ((ex, ey) ∷ es) x y s =
@@ -72,7 +75,8 @@ met-here es {x} {y} e = subst₂ (Met es x y) (sym (ap (λ (c : Cell). c .0) e))
 listed-met : {u v : ℤ} (es : List Edge) (x y : ℤ) → List·Memᴰ {A = Cell} (u, v) (cornersFrom es x y) → Met es x y u v
 unfolding cornersFrom
 listed-met [] x y m = met-here [] (List·Memᴰ·eq-of-singleton m)
-listed-met ((dx, dy) ∷ es) x y m = ⊎-elim (met-here ((dx, dy) ∷ es)) (λ n. after (listed-met es (x +ℤ dx) (y +ℤ dy) n)) (List·Memᴰ·cases-cons m)
+listed-met ((dx, dy) ∷ es) x y m =
+    ⊎-elim (met-here ((dx, dy) ∷ es)) (λ n. after (listed-met es (x +ℤ dx) (y +ℤ dy) n)) (List·Memᴰ·cases-cons m)
 
 met-listed : {u v : ℤ} (es : List Edge) (x y : ℤ) → Met es x y u v → List·Memᴰ {A = Cell} (u, v) (cornersFrom es x y)
 unfolding cornersFrom
@@ -108,7 +112,8 @@ module _ (a : Point) (es : List ℤ) (ps : List Point) (met : corners a es ≡ m
       ⊎-elim
       (λ n. let (p, l, e) = Memᴰ·of-map cellOf (a ∷ ps) n in point-at p l e)
       (λ n. point-at a (List·Memᴰ·head refl) (sym (again-cell (pairs es) n)))
-      (List·Memᴰ·append-cases (map cellOf (a ∷ ps)) (subst (λ (cs : List Cell). List·Memᴰ {A = Cell} (u, v) cs) met (met-listed (pairs es) (pos (a .col)) (pos (a .row)) m)))
+      (List·Memᴰ·append-cases (map cellOf (a ∷ ps))
+      (subst (λ (cs : List Cell). List·Memᴰ {A = Cell} (u, v) cs) met (met-listed (pairs es) (pos (a .col)) (pos (a .row)) m)))
 
   pub met-point : {p : Point} → List·Memᴰ p (a ∷ ps) → Met (pairs es) (pos (a .col)) (pos (a .row)) (pos (p .col)) (pos (p .row))
   met-point {p} m =

@@ -33,16 +33,19 @@ module _ (n : ℕ) (small : n < 2 ^ 16) where
   digits : 2 * n + 1 < 2 ^ 24
   digits = omega arith
 
-  reduced : (x : Float) (a d : ℕ) → 0 < d → a * 1 ≡ n * d → HasValue x false (a * 2 + 1 * d) (d * 2) → HasValue x false ((2 * n + 1) * 2 ^ 148) (2 ^ 149)
+  reduced : (x : Float) (a d : ℕ) → 0 < d → a * 1 ≡ n * d → HasValue x false (a * 2 + 1 * d) (d * 2)
+      → HasValue x false ((2 * n + 1) * 2 ^ 148) (2 ^ 149)
   reduced nan a d D e h = absurd h
   reduced (inf s) a d D e h = absurd h
   reduced (fin s m j) a d D e h = (h .0, in-units (m * up j) (down j) n (2 ^ 148) (in-halves (m * up j) (down j) a d n D e (h .1)))
 
   -- The sum is a float, so rounding keeps it
-  rounded : (a d : ℕ) → 0 < d → a * 1 ≡ n * d → HasValue (round binary32 false (a * 2 + 1 * d) (d * 2)) false ((2 * n + 1) * 2 ^ 148) (2 ^ 149)
+  rounded : (a d : ℕ) → 0 < d → a * 1 ≡ n * d
+      → HasValue (round binary32 false (a * 2 + 1 * d) (d * 2)) false ((2 * n + 1) * 2 ^ 148) (2 ^ 149)
   rounded a d D e =
       reduced (round binary32 false (a * 2 + 1 * d) (d * 2)) a d D e
-      (round-exact binary32 false (a * 2 + 1 * d) (d * 2) (2 * n + 1) 148 (omega arith) digits (lt-of-lt-of-le (shl-lt 24 148 digits) (lit≤ tt)) (over-two a d n (2 ^ 148) e))
+      (round-exact binary32 false (a * 2 + 1 * d) (d * 2) (2 * n + 1) 148 (omega arith) digits
+      (lt-of-lt-of-le (shl-lt 24 148 digits) (lit≤ tt)) (over-two a d n (2 ^ 148) e))
 
   half-value : HasValue (half n) false ((2 * n + 1) * 2 ^ 148) (2 ^ 149)
   unfolding half add sum
@@ -68,4 +71,5 @@ module _ (n : ℕ) (small : n < 2 ^ 16) where
 
   pub half-raised : Raised n (half n)
   unfolding half
-  half-raised = record { held = add-fits binary32 (ofInt binary32 (pos n)) (fin false 1 (negsuc 0)); number = half-finite; exact = half-exact }
+  half-raised =
+      record { held = add-fits binary32 (ofInt binary32 (pos n)) (fin false 1 (negsuc 0)); number = half-finite; exact = half-exact }

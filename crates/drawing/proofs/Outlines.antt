@@ -52,7 +52,9 @@ module _ (o : Outline) (h : Reaches o) (smooth : dentPiece (border o) ≡ 4) whe
   met = let back = edges-return (border o) (shape (border o) (clear-of o h)) in corners-are a (pairs es) stays (back .0) (back .1)
 
   enclosed-iff : (x : Point) → x .col < side → x .row < side → (block o (x .col) (x .row) ≡ true) ↔ InHullOf (a ∷ ends) x
-  enclosed-iff x c r = rw (sym (edges-answer-sent o h smooth x c r)) (Iff·trans (inside-iff-hull a es x (taken-passes o h smooth)) (hull-iff a es ends met x))
+  enclosed-iff x c r =
+      rw (sym (edges-answer-sent o h smooth x c r))
+      (Iff·trans (inside-iff-hull a es x (taken-passes o h smooth)) (hull-iff a es ends met x))
 
   on-chart : (p : Point) → List·Memᴰ p (a ∷ ends) → (p .col < side) × (p .row < side)
   on-chart p m = cell-on (stays _ _ (met-point a es ends met m))
@@ -65,7 +67,8 @@ module _ (o : Outline) (h : Reaches o) (smooth : dentPiece (border o) ≡ 4) whe
         pieces = drawn;
         met = met;
         on-chart = on-chart;
-        raised = λ p m. let (c, r) = on-chart p m in (half-raised (p .col) (lt-trans c (lit< tt)), half-raised (p .row) (lt-trans r (lit< tt)));
+        raised = λ p m. let (c, r) = on-chart p m in
+            (half-raised (p .col) (lt-trans c (lit< tt)), half-raised (p .row) (lt-trans r (lit< tt)));
         turning = taken-passes o h smooth;
         hull = enclosed-iff;
       }

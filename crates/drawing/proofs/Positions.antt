@@ -35,7 +35,8 @@ abbrev pub lineToCell : Cell → Stroke
 lineToCell c = lineTo (c .0) (c .1)
 
 -- Line n leads to the corner cell reached after n + 1 edges
-lines-at : (es : List Edge) (x y : ℤ) (n : ℕ) (c : Cell) → suc n < length es → getD (linesFrom es x y) n None ≡ lineToCell (getD (cornersFrom es x y) (suc n) c)
+lines-at : (es : List Edge) (x y : ℤ) (n : ℕ) (c : Cell) → suc n < length es
+    → getD (linesFrom es x y) n None ≡ lineToCell (getD (cornersFrom es x y) (suc n) c)
 unfolding linesFrom cornersFrom
 lines-at [] x y n c h = absurd (omega arith)
 lines-at (d ∷ []) x y n c h = absurd (omega arith)
@@ -53,7 +54,8 @@ module _ (a : Point) (es : List ℤ) where
   position-line zero l h = absurd (omega arith)
   position-line (suc n) l h =
       stroke-later a es n
-      ∙ List·getD-append (linesFrom (pairs es) (pos (a .col)) (pos (a .row))) (Close ∷ []) None n (omega (arith, lines-length es (pos (a .col)) (pos (a .row))))
+      ∙ List·getD-append (linesFrom (pairs es) (pos (a .col)) (pos (a .row))) (Close ∷ []) None n
+      (omega (arith, lines-length es (pos (a .col)) (pos (a .row))))
       ∙ lines-at (pairs es) (pos (a .col)) (pos (a .row)) n (cellOf a) (omega (arith, pairs-length es))
 
   -- Then the close: after the last line, or after the move if there is no line
@@ -63,7 +65,8 @@ module _ (a : Point) (es : List ℤ) where
       let n : max 1 (length es / 2) ≡ suc (length es / 2 - 1) = omega arith in
       ap (strokeAt a es) n
       ∙ stroke-later a es (length es / 2 - 1)
-      ∙ getD-at (linesFrom (pairs es) (pos (a .col)) (pos (a .row))) Close [] None (length es / 2 - 1) (lines-length es (pos (a .col)) (pos (a .row)))
+      ∙ getD-at (linesFrom (pairs es) (pos (a .col)) (pos (a .row))) Close [] None (length es / 2 - 1)
+      (lines-length es (pos (a .col)) (pos (a .row)))
 
   -- Then nothing
   pub position-none : (n : ℕ) → max 1 (length es / 2) < n → strokeAt a es n ≡ None

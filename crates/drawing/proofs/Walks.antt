@@ -47,7 +47,8 @@ pub record Walked (es : List ℤ) (s : Stroke) (k : Corner) (n i : ℕ) : Type 0
   pub few : n < 65535
   pub near : After (65534 - n) k
 
-pub walked-start : (a : Point) (es : List ℤ) (n : ℕ) → a .col < 65536 → a .row < 65536 → n < 65535 → Walked es (strokeFrom (pairs es) (started a) n) (started a) n 0
+pub walked-start : (a : Point) (es : List ℤ) (n : ℕ) → a .col < 65536 → a .row < 65536 → n < 65535
+    → Walked es (strokeFrom (pairs es) (started a) n) (started a) n 0
 walked-start a es n c r h = record { passed = omega arith; piece = refl; few = h; near = after-start a c r (65534 - n) }
 
 module _ {es : List ℤ} {s : Stroke} {k : Corner} {n i : ℕ} (w : Walked es s k n i) where

@@ -67,7 +67,8 @@ module _ {k : ℕ} {c : Corner} (a : After k c) {dx dy : ℤ} (fx : SFits w16 dx
 
 -- A step from a cell of the chart fits
 pub on-chart-fits :
-    (c : Corner) {dx dy : ℤ} → onChart (c .col) (c .row) ≡ true → SFits w16 dx → SFits w16 dy → SFits w32 (c .col +ℤ dx) × SFits w32 (c .row +ℤ dy)
+    (c : Corner) {dx dy : ℤ} → onChart (c .col) (c .row) ≡ true → SFits w16 dx → SFits w16 dy
+    → SFits w32 (c .col +ℤ dx) × SFits w32 (c .row +ℤ dy)
 on-chart-fits c e fx fy = after-fits {k = 0} (record { col = near (on-parts _ _ e .0); row = near (on-parts _ _ e .1) }) fx fy (omega arith)
   where
     near : {z : ℤ} → chartNumber z ≡ true → Between (32768 * 0) (65535 + 32767 * 0) z

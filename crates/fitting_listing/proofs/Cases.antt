@@ -11,7 +11,8 @@ use Rattle.fitting_listing.specs.Bytes.{bytesOf}
 
 -- Opens every definition of a listing at once
 unfoldable listing : List ℕ → List ℕ
-unfolding Found.marked Found.afterMark Found.foundIn Found.width Text.digits Text.decimal Text.fieldText Text.lineText Text.textOf Lines.testedLine Lines.outlineIn Lines.listed Lines.linesFrom Lines.linesAt Lines.linesOf bytesOf computes
+unfolding Found.marked Found.afterMark Found.foundIn Found.width Text.digits Text.decimal Text.fieldText Text.lineText Text.textOf
+    Lines.testedLine Lines.outlineIn Lines.listed Lines.linesFrom Lines.linesAt Lines.linesOf bytesOf computes
 listing file = Text.textOf (Lines.linesOf file)
 
 H3 : List ℕ

@@ -17,7 +17,8 @@ use Rattle.fitting_listing.proofs.LinesLaws.{lines-long, lines-read}
 -- P is the property of the lines, and Q a property of the remaining bytes
 module _ (Q : List ℕ → Type 0) (P : Line → Type 0) (further : (j : ℕ) (w : List ℕ) → Q w → Q (drop j w))
     (tested : (n c r m : ℕ) (w : List ℕ) → Q w → foundIn w ≡ Record c r m → P (testedLine n (outlineIn c r m w)))
-    (wrong : (n at : ℕ) → P (line n faults.wrong-mark at)) (cut : (n at : ℕ) → P (line n faults.truncated at)) (long : P (line 0 faults.too-long most)) where
+    (wrong : (n at : ℕ) → P (line n faults.wrong-mark at)) (cut : (n at : ℕ)
+    → P (line n faults.truncated at)) (long : P (line 0 faults.too-long most)) where
   listed-all : (n at : ℕ) (w : List ℕ) (f : Found) (rest : List Line) → Q w → foundIn w ≡ f → ((l : Line) → List·Memᴰ l rest → P l)
       → (l : Line) → List·Memᴰ l (listed n at w f rest) → P l
   unfolding listed

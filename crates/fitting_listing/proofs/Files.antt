@@ -32,7 +32,8 @@ bytes-long : (o : Outline) → length (bytesOf o) ≡ header + length (o .letter
 unfolding bytesOf
 bytes-long o = omega arith
 
-record-listed : (n at : ℕ) (o : Outline) (w : List ℕ) → linesAt n at (bytesOf o ++ w) ≡ testedLine n o ∷ linesAt (n + 1) (at + length (bytesOf o)) w
+record-listed : (n at : ℕ) (o : Outline) (w : List ℕ)
+    → linesAt n at (bytesOf o ++ w) ≡ testedLine n o ∷ linesAt (n + 1) (at + length (bytesOf o)) w
 record-listed n at o w =
     let long = bytes-long o in
     lines-record n at (o .start .col) (o .start .row) (length (o .letters)) (bytesOf o ++ w) (found-record o w) ∙
@@ -47,7 +48,13 @@ records-listed n at (o ∷ os) w =
     let count : n + 1 + length os ≡ n + length (o ∷ os) = omega arith in
     let long : at + length (bytesOf o) + length (fileOf os) ≡ at + length (bytesOf o ++ fileOf os) =
     rw (length-append (bytesOf o) (fileOf os)) (omega arith) in
-    rw (append-assoc (bytesOf o) (fileOf os) w, record-listed n at o (fileOf os ++ w), records-listed (n + 1) (at + length (bytesOf o)) os w, count, long)
+    rw (
+      append-assoc (bytesOf o) (fileOf os) w,
+      record-listed n at o (fileOf os ++ w),
+      records-listed (n + 1) (at + length (bytesOf o)) os w,
+      count,
+      long,
+    )
     refl
 
 nothing-left : (n at : ℕ) → linesAt n at [] ≡ []

@@ -80,5 +80,6 @@ pub first-bytes-enough : (file : List ℕ) → linesOf (take (most + 1) file) �
 first-bytes-enough file =
     elim (decLe (length file) (most + 1)) [
       | yes h ↦ rw (take-all (most + 1) file h) refl
-      | no h ↦ lines-long (take (most + 1) file) (rw (length-take-le (most + 1) file (omega arith)) (omega arith)) ∙ sym (lines-long file (omega arith))
+      | no h ↦ lines-long (take (most + 1) file) (rw (length-take-le (most + 1) file (omega arith)) (omega arith))
+          ∙ sym (lines-long file (omega arith))
     ]

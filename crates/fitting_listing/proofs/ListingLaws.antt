@@ -30,7 +30,8 @@ pub making-begins : (all : List Line) (buffer : List ℕ) → Making all all 0 b
 unfolding writtenAt
 making-begins all buffer = record { finished = refl; end = omega arith; short = omega arith }
 
-pub making-line : {all left : List Line} {l : Line} {n : ℕ} {buffer text text′ : List ℕ} {at end : ℕ} → Making all (l ∷ left) n buffer text at
+pub making-line : {all left : List Line} {l : Line} {n : ℕ} {buffer text text′ : List ℕ} {at end : ℕ}
+    → Making all (l ∷ left) n buffer text at
     → Wrote (lineText l) at text text′ end → length (lineText l) ≤ 18 → Making all left (n + 1) buffer text′ end
 unfolding textOf
 making-line {all} {left} {l} {n} {buffer} {text} {text′} {at} {end} p q h =
@@ -44,7 +45,8 @@ making-line {all} {left} {l} {n} {buffer} {text} {text′} {at} {end} p q h =
       short = omega (arith, p .short);
     }
 
-pub making-ends : {all : List Line} {n : ℕ} {buffer text : List ℕ} {at : ℕ} → Making all [] n buffer text at → 18 * n ≤ room → Listed all buffer text at
+pub making-ends : {all : List Line} {n : ℕ} {buffer text : List ℕ} {at : ℕ} → Making all [] n buffer text at → 18 * n ≤ room
+    → Listed all buffer text at
 unfolding textOf
 making-ends {all} {n} {buffer} {text} {at} p h =
     let last = p .end in
@@ -58,7 +60,8 @@ pub record Going (file buffer text : List ℕ) (at n end : ℕ) : Type 0 where
   pub same : length text ≡ length buffer
 
 pub going-begins : (file buffer : List ℕ) → Going file buffer buffer 0 0 0
-going-begins file buffer = record { making = making-begins (linesAt 0 0 file) buffer; within = omega arith; records = omega arith; same = refl }
+going-begins file buffer =
+    record { making = making-begins (linesAt 0 0 file) buffer; within = omega arith; records = omega arith; same = refl }
 
 module _ {file buffer text : List ℕ} {at n end : ℕ} (g : Going file buffer text at n end) (small : length file ≤ most) where
   going-stops : linesAt n at (drop at file) ≡ [] → Listed (linesAt 0 0 file) buffer text end
@@ -74,7 +77,8 @@ module _ {file buffer text : List ℕ} {at n end : ℕ} (g : Going file buffer t
   fault-short : (a : ℕ) → a < 100000 → length (lineText (line n a at)) ≤ 18
   fault-short a h = line-short (line n a at) (omega (arith, g .within, g .records)) h (omega (arith, g .within))
 
-  pub going-wrong-mark : {text′ : List ℕ} {r : ℕ} → foundAt file at ≡ WrongMark → Wrote (lineText (line n faults.wrong-mark at)) end text text′ r
+  pub going-wrong-mark : {text′ : List ℕ} {r : ℕ} → foundAt file at ≡ WrongMark
+      → Wrote (lineText (line n faults.wrong-mark at)) end text text′ r
       → Listed (linesAt 0 0 file) buffer text′ r
   going-wrong-mark e = going-last (lines-wrong-mark n at (drop at file) e) (fault-short faults.wrong-mark (lit< tt))
 
@@ -111,6 +115,8 @@ letters-between {file} {at} {c} {r} {m} {next} n p =
     rw (count, drop-drop header at file) refl
 
 -- The only line of a file that is too long
-pub long-listed : {buffer text : List ℕ} {r : ℕ} → Wrote (lineText (line 0 faults.too-long most)) 0 buffer text r → Listed (line 0 faults.too-long most ∷ []) buffer text r
+pub long-listed : {buffer text : List ℕ} {r : ℕ} → Wrote (lineText (line 0 faults.too-long most)) 0 buffer text r
+    → Listed (line 0 faults.too-long most ∷ []) buffer text r
 long-listed {buffer} w =
-    making-ends (making-line (making-begins (line 0 faults.too-long most ∷ []) buffer) w (line-short (line 0 faults.too-long most) (lit< tt) (lit< tt) (lit< tt))) (lit≤ tt)
+    making-ends (making-line (making-begins (line 0 faults.too-long most ∷ []) buffer) w
+    (line-short (line 0 faults.too-long most) (lit< tt) (lit< tt) (lit< tt))) (lit≤ tt)

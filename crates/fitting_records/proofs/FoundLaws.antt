@@ -51,7 +51,8 @@ abbrev pub countAt : List ℕ → ℕ → ℕ
 countAt w i = wide (getD w (i + 2) 0) (getD w (i + 3) 0)
 
 after-at : (w : List ℕ) (i : ℕ) → i + 4 ≤ length w
-    → afterMark (drop i w) ≡ cond (leb (countAt w i) (length (drop (i + 4) w))) (Record (getD w i 0) (getD w (i + 1) 0) (countAt w i)) Truncated
+    → afterMark (drop i w)
+    ≡ cond (leb (countAt w i) (length (drop (i + 4) w))) (Record (getD w i 0) (getD w (i + 1) 0) (countAt w i)) Truncated
 unfolding afterMark
 after-at w i h =
     rw (

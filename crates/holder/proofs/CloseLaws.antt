@@ -20,8 +20,10 @@ either-named : (o : Outline) (b : Bool) (x y : Answered) → CellNamed o (replyF
 either-named o true x y c d = c
 either-named o false x y c d = d
 
-pub answer-named : (h : Holder) (p k : ℕ) (r : Answered) → r ≡ answerOf h (by p (Close k)) → CellNamed (outlineOf (draftOf h p)) (replyFields (r .reply))
+pub answer-named : (h : Holder) (p k : ℕ) (r : Answered) → r ≡ answerOf h (by p (Close k))
+    → CellNamed (outlineOf (draftOf h p)) (replyFields (r .reply))
 unfolding answerOf actOf actedOf replyFields
 answer-named h p k r e =
-    rw e (either-named (outlineOf (draftOf h p)) (badParty p) _ _ (record { anchor = λ z. absurd (omega (arith, z)); missing = λ z. absurd (omega (arith, z)) })
+    rw e (either-named (outlineOf (draftOf h p)) (badParty p) _ _
+    (record { anchor = λ z. absurd (omega (arith, z)); missing = λ z. absurd (omega (arith, z)) })
     (close-named (draftOf h p) (workOf h p (reachedBy (Close k))) k))

@@ -28,7 +28,8 @@ unfoldable pub blankDraft : Draft
 blankDraft = record { begun = false; start = record { col = 0; row = 0 }; letters = []; count = 0 }
 
 unfoldable pub blankWork : Work
-blankWork = record { taken = false; anchor = record { col = 0; row = 0 }; numbers = []; edges = 0; spans = record { first = []; past = [] } }
+blankWork =
+    record { taken = false; anchor = record { col = 0; row = 0 }; numbers = []; edges = 0; spans = record { first = []; past = [] } }
 
 -- The draft and the work at an index, read and replaced. The rest of the file reaches drafts and works only through these
 unfoldable pub draftOf : Holder → ℕ → Draft

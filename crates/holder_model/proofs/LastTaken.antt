@@ -10,11 +10,13 @@ use Rattle.base.specs.Put.{put}
 use Rattle.chart.specs.Outline.{Outline}
 use Rattle.chart.specs.Fields.{refusalFields}
 use Rattle.chart.specs.declared.Refusal.{Refusal}
-use Rattle.chart.specs.declared.Refusal.the-variants.{Count, Start, Letter, Leaves, Unclosed, Touches, BackStep, Dent, Room, List as BadList, Cell, Directions}
+use Rattle.chart.specs.declared.Refusal.the-variants.{Count, Start, Letter, Leaves, Unclosed, Touches, BackStep, Dent, Room}
+use Rattle.chart.specs.declared.Refusal.the-variants.{List as BadList, Cell, Directions}
 use Rattle.chart.specs.declared.Verdict.{Verdict}
 use Rattle.chart.specs.declared.Verdict.the-variants.{Taken, Refused}
 use Rattle.verdict.specs.Verdict.{verdictOf}
-use Rattle.holder_model.specs.Book.{Book, PartyModel, atWork, fresh, equalsWork, closedReply, workAfter, closes, acts, answer, bookAfter}
+use Rattle.holder_model.specs.Book.{Book, PartyModel, atWork, fresh, equalsWork, closedReply, workAfter, closes, acts, answer}
+use Rattle.holder_model.specs.Book.{bookAfter}
 use Rattle.holder_model.specs.LastTaken.{left, mark, marks, lastOr, lastTaken}
 use Rattle.calls.specs.Calls.{badParty, badPlace}
 use Rattle.calls.specs.Replies.{replyFields}
@@ -52,7 +54,8 @@ closed-work w o t (Refused f) ms = rw (refusal-numbered f)
 closed-work w o true (Taken n a) ms = refl
 closed-work w o false (Taken n a) ms = refl
 
-close-work : (d w : Option Outline) (ms : List (Option Outline)) → lastOr w (cond (clean (closes d w .reply)) (d ∷ []) [] ++ ms) ≡ lastOr (closes d w .work) ms
+close-work : (d w : Option Outline) (ms : List (Option Outline))
+    → lastOr w (cond (clean (closes d w .reply)) (d ∷ []) [] ++ ms) ≡ lastOr (closes d w .work) ms
 unfolding closes
 close-work none w ms = unfold replyFields in refl
 close-work (some o) w ms = closed-work w o (equalsWork o w) (verdictOf o) ms
@@ -66,7 +69,8 @@ module _ (k : ℕ) (g : PartyModel) (ms : List (Option Outline)) where
       go true = refl
       go false = refl
 
-  act-work : (a : Action) → lastOr (g .works k) (cond (clean (acts g a .reply)) (left k (g .draft) a) [] ++ ms) ≡ lastOr (acts g a .page .works k) ms
+  act-work : (a : Action)
+      → lastOr (g .works k) (cond (clean (acts g a .reply)) (left k (g .draft) a) [] ++ ms) ≡ lastOr (acts g a .page .works k) ms
   unfolding acts left put replyFields
   act-work (Begin s) = nothing (acts g (Begin s) .reply) (g .works k)
   act-work (Add a) = nothing (acts g (Add a) .reply) (g .works k)
@@ -74,13 +78,17 @@ module _ (k : ℕ) (g : PartyModel) (ms : List (Option Outline)) where
   act-work (Ask j q) = nothing (acts g (Ask j q) .reply) (g .works k)
   act-work (Clear j) = go (badPlace j) (eqb k j) refl refl
     where
-      go : (b e : Bool) → badPlace j ≡ b → eqb k j ≡ e → lastOr (g .works k) (cond (clean (acts g (Clear j) .reply)) (left k (g .draft) (Clear j)) [] ++ ms) ≡ lastOr (acts g (Clear j) .page .works k) ms
+      go : (b e : Bool) → badPlace j ≡ b → eqb k j ≡ e
+          → lastOr (g .works k) (cond (clean (acts g (Clear j) .reply)) (left k (g .draft) (Clear j)) [] ++ ms)
+          ≡ lastOr (acts g (Clear j) .page .works k) ms
       go true e p q = rw p
       go false true p q = rw (p, q) (unfold lastOr in refl)
       go false false p q = rw (p, q)
   act-work (Close j) = go (badPlace j) (eqb k j) refl refl
     where
-      go : (b e : Bool) → badPlace j ≡ b → eqb k j ≡ e → lastOr (g .works k) (cond (clean (acts g (Close j) .reply)) (left k (g .draft) (Close j)) [] ++ ms) ≡ lastOr (acts g (Close j) .page .works k) ms
+      go : (b e : Bool) → badPlace j ≡ b → eqb k j ≡ e
+          → lastOr (g .works k) (cond (clean (acts g (Close j) .reply)) (left k (g .draft) (Close j)) [] ++ ms)
+          ≡ lastOr (acts g (Close j) .page .works k) ms
       go true e p q = rw p
       go false true p q = rw (p, q, eqb-true k j q) (close-work (g .draft) (g .works j) ms)
       go false false p q = rw (p, q) (nothing (closes (g .draft) (g .works j) .reply) (g .works k))
@@ -89,11 +97,13 @@ module _ (k : ℕ) (g : PartyModel) (ms : List (Option Outline)) where
 
 module _ (p k : ℕ) where
   -- One call: the last of what it and the later calls put there
-  mark-work : (b : Book) (c : Call) (ms : List (Option Outline)) → lastOr (atWork b p k) (mark p k b c ++ ms) ≡ lastOr (atWork (answer b c .next) p k) ms
+  mark-work : (b : Book) (c : Call) (ms : List (Option Outline))
+      → lastOr (atWork b p k) (mark p k b c ++ ms) ≡ lastOr (atWork (answer b c .next) p k) ms
   unfolding mark answer put
   mark-work b c ms = go (badParty (c .party)) (eqb p (c .party)) refl refl
     where
-      go : (t e : Bool) → badParty (c .party) ≡ t → eqb p (c .party) ≡ e → lastOr (atWork b p k) (mark p k b c ++ ms) ≡ lastOr (atWork (answer b c .next) p k) ms
+      go : (t e : Bool) → badParty (c .party) ≡ t → eqb p (c .party) ≡ e
+          → lastOr (atWork b p k) (mark p k b c ++ ms) ≡ lastOr (atWork (answer b c .next) p k) ms
       go true false h e = rw (h, e)
       go false false h e = rw (h, e) (rw (e, atWork))
       go true true h e = rw (h, e) (unfold replyFields in refl)
@@ -109,7 +119,8 @@ module _ (p k : ℕ) where
   unfolding marks bookAfter
   marks-next b [] c = append-nil (mark p k b c)
   marks-next b (d ∷ cs) c =
-      rw (marks-next (answer b d .next) cs c) (sym (append-assoc (mark p k b d) (marks p k (answer b d .next) cs) (mark p k (bookAfter (answer b d .next) cs) c)))
+      rw (marks-next (answer b d .next) cs c)
+      (sym (append-assoc (mark p k b d) (marks p k (answer b d .next) cs) (mark p k (bookAfter (answer b d .next) cs) c)))
 
 last-append : (was : Option Outline) (ms ns : List (Option Outline)) → lastOr was (ms ++ ns) ≡ lastOr (lastOr was ms) ns
 unfolding lastOr
@@ -117,9 +128,11 @@ last-append was [] ns = refl
 last-append was (m ∷ ms) ns = last-append m ms ns
 
 -- The outline last taken after one more call: what that call puts there, or the one before
-pub last-taken-next : (p k : ℕ) (cs : List Call) (c : Call) → lastTaken p k (cs ++ (c ∷ [])) ≡ lastOr (lastTaken p k cs) (mark p k (bookAfter fresh cs) c)
+pub last-taken-next : (p k : ℕ) (cs : List Call) (c : Call)
+    → lastTaken p k (cs ++ (c ∷ [])) ≡ lastOr (lastTaken p k cs) (mark p k (bookAfter fresh cs) c)
 unfolding lastTaken
-last-taken-next p k cs c = ap (lastOr none) (marks-next p k fresh cs c) ∙ last-append none (marks p k fresh cs) (mark p k (bookAfter fresh cs) c)
+last-taken-next p k cs c = ap (lastOr none) (marks-next p k fresh cs c)
+    ∙ last-append none (marks p k fresh cs) (mark p k (bookAfter fresh cs) c)
 
 -- ---- the theorem
 

@@ -59,7 +59,9 @@ H6 = 1 ∷ 1 ∷ 1 ∷ 0 ∷ 3 ∷ 3 ∷ 0 ∷ 0 ∷ 3 ∷ 2 ∷ 2 ∷ 2 ∷ []
 
 -- Opens the model for the proofs that compute it
 opened : Bool
-unfolding query draw replied done H3 H4 H3-back H6 computes replyFields badCell Book.fresh Book.equalsWork Book.begins Book.adds Book.drops Book.closedReply Book.workAfter Book.closes Book.asked Book.askedRow Book.asks Book.acts Book.answer actsFrom put Book.repliesFrom Book.replies
+unfolding query draw replied done H3 H4 H3-back H6 computes replyFields badCell Book.fresh Book.equalsWork Book.begins Book.adds Book.drops
+    Book.closedReply Book.workAfter Book.closes Book.asked Book.askedRow Book.asks Book.acts Book.answer actsFrom put Book.repliesFrom
+    Book.replies
 opened = true
 
 -- The outlines of H3, of H4 and of H3 drawn backward pass 1 to 6 and have the same border
@@ -99,14 +101,17 @@ by-words t u =
     (done 13 ++ (replyFields (Book.closedReply u (Taken 4 (at 0 1))) ∷ worded inside ∷ worded outside ∷ numbered 11 ∷ [])))))
 
 -- H3, then H4, which is the same block from another start, then H3 drawn backward: "same" both times
-pub taken-then-same : replied (draw 2 (at 0 1) H3 ++ (draw 2 (at 1 1) H4 ++ (draw 2 (at 0 1) H3-back ++ (query 2 (at 1 2) ∷ query 2 (at 0 2) ∷ query 2 (at 0 side) ∷ []))))
+pub taken-then-same : replied
+    (draw 2 (at 0 1) H3 ++
+    (draw 2 (at 1 1) H4 ++ (draw 2 (at 0 1) H3-back ++ (query 2 (at 1 2) ∷ query 2 (at 0 2) ∷ query 2 (at 0 side) ∷ []))))
     ≡ done 13 ++ (accepted taken 4 (at 0 1) ∷ (done 13 ++ (accepted same 4 (at 0 1) ∷
     (done 13 ++ (accepted same 4 (at 0 1) ∷ worded inside ∷ worded outside ∷ numbered 11 ∷ [])))))
 unfolding opened by-words
 taken-then-same = λ z. by-words (same-h4 z) (same-h3-back z)
 
 -- With a clear between, nothing is at work, and H3 again is "taken". A refused close keeps what is at work and ends the draft
-pub clear-between : replied (draw 2 (at 0 1) H3 ++ (Clear 2 ∷ query 2 (at 1 1) ∷ (draw 2 (at 0 1) H3 ++ (draw 2 (at 0 0) H6 ++ (Close 2 ∷ query 2 (at 1 1) ∷ [])))))
+pub clear-between : replied
+    (draw 2 (at 0 1) H3 ++ (Clear 2 ∷ query 2 (at 1 1) ∷ (draw 2 (at 0 1) H3 ++ (draw 2 (at 0 0) H6 ++ (Close 2 ∷ query 2 (at 1 1) ∷ [])))))
     ≡ done 13 ++ (accepted taken 4 (at 0 1) ∷ worded no-word ∷ numbered 12 ∷ (done 13 ++ (accepted taken 4 (at 0 1) ∷ (done 13 ++
     (record { number = 9; word = no-word; place = 4; piece = 2; length = 4; col = 1; row = 1 } ∷ numbered 13 ∷ worded inside ∷ [])))))
 unfolding opened
@@ -118,7 +123,8 @@ drawn s w = Book.putDraft (Book.fresh 0) (some (record { start = s; letters = w 
 
 -- n adds of a letter to a draft that has room for them
 adding : (n : ℕ) (s : Point) (w : List ℕ) (acting : List Action) → length w + n ≤ longest →
-    map replyFields (actsFrom (drawn s w) (replicate n (Add 1) ++ acting)) ≡ done n ++ map replyFields (actsFrom (drawn s (w ++ replicate n 1)) acting)
+    map replyFields (actsFrom (drawn s w) (replicate n (Add 1) ++ acting))
+    ≡ done n ++ map replyFields (actsFrom (drawn s (w ++ replicate n 1)) acting)
 unfolding drawn done replyFields Book.fresh actsFrom Book.acts Book.adds
 adding zero s w acting fits = rw append-nil
 adding (suc n) s w acting fits =
@@ -141,7 +147,8 @@ from-page : map replyFields (actsFrom (Book.fresh 0) out-of-place)
     (done longest ++ (numbered 15 ∷ worded no-word ∷ numbered 13 ∷ []))
 unfolding opened drawn out-of-place
 from-page =
-    ap (λ (r : List Fields). numbered 12 ∷ numbered 13 ∷ numbered 13 ∷ numbered 13 ∷ numbered 2 ∷ worded no-word ∷ numbered 14 ∷ placed 3 0 ∷ r)
+    ap (λ (r : List Fields).
+    numbered 12 ∷ numbered 13 ∷ numbered 13 ∷ numbered 13 ∷ numbered 2 ∷ worded no-word ∷ numbered 14 ∷ placed 3 0 ∷ r)
     (adding longest (at 0 0) [] (Add 9 ∷ Drop ∷ Drop ∷ []) (lit≤ tt))
 
 -- Every refusal by the state: 12, 13 three times, 14, and 15 at 612 letters and not before; 2 and 3 where they belong
@@ -154,7 +161,9 @@ state-refusals = replied-alone out-of-place ∙ from-page
 -- before 20, and both before all others. A close refused by 20 ends the draft
 pub both-parties : map replyFields (Book.replies (
     map (by 1) (Begin (at 0 0) ∷ []) ++ (map (by 0) (draw 1 (at 0 1) H3) ++ (
-    by 2 (Close 4) ∷ by 1 (Clear 4) ∷ by 0 (Close 4) ∷ by 0 (query 1 (at 1 1)) ∷ by 1 (query 1 (at 1 1)) ∷ by 0 (query 3 (at 1 1)) ∷ by 1 (Close 4) ∷ by 1 (Close 1) ∷ []))))
-    ≡ done 14 ++ (accepted taken 4 (at 0 1) ∷ numbered 19 ∷ numbered 20 ∷ numbered 20 ∷ worded inside ∷ numbered 12 ∷ numbered 12 ∷ numbered 20 ∷ numbered 13 ∷ [])
+    by 2 (Close 4) ∷ by 1 (Clear 4) ∷ by 0 (Close 4) ∷ by 0 (query 1 (at 1 1)) ∷ by 1 (query 1 (at 1 1)) ∷ by 0 (query 3 (at 1 1)) ∷ by 1
+    (Close 4) ∷ by 1 (Close 1) ∷ []))))
+    ≡ done 14 ++ (accepted taken 4 (at 0 1)
+    ∷ numbered 19 ∷ numbered 20 ∷ numbered 20 ∷ worded inside ∷ numbered 12 ∷ numbered 12 ∷ numbered 20 ∷ numbered 13 ∷ [])
 unfolding opened
 both-parties = refl

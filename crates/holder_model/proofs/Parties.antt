@@ -54,7 +54,8 @@ module _ (p : ℕ) where
   own-page b d e [] = refl
   own-page b d e (c ∷ cs) = go (eqb p (c .party)) refl (λ f same. own-page (answer b c .next) f same cs)
     where
-      go : (t : Bool) → eqb p (c .party) ≡ t → ((f : Book) → answer b c .next p ≡ f p → repliesTo p cs (repliesFrom (answer b c .next) cs) ≡ repliesFrom f (callsOf p cs))
+      go : (t : Bool) → eqb p (c .party) ≡ t
+          → ((f : Book) → answer b c .next p ≡ f p → repliesTo p cs (repliesFrom (answer b c .next) cs) ≡ repliesFrom f (callsOf p cs))
           → repliesTo p (c ∷ cs) (repliesFrom b (c ∷ cs)) ≡ repliesFrom d (callsOf p (c ∷ cs))
       go true q rest =
           rw q (ap₂ _∷_ (reply-own b c q ∙ ap (λ (g : PartyModel). repliedTo g (c .action)) e ∙ sym (reply-own d c q))
@@ -72,4 +73,5 @@ module _ (p : ℕ) where
   alone h b [] = refl
   alone h b (a ∷ acting) =
       ap₂ _∷_ (reply-own b (by p a) (eq-eqb p p refl) ∙ unfold repliedTo in rw h)
-      (alone h (answer b (by p a) .next) acting ∙ ap (λ (g : PartyModel). actsFrom g acting) (next-page b (by p a) ∙ unfold turned in rw (h, eq-eqb p p refl)))
+      (alone h (answer b (by p a) .next) acting
+      ∙ ap (λ (g : PartyModel). actsFrom g acting) (next-page b (by p a) ∙ unfold turned in rw (h, eq-eqb p p refl)))

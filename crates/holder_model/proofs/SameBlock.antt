@@ -42,7 +42,8 @@ module _ (o v : Outline) (h : Simple o) (k : Simple v) where
   pub same-block-iff : (sameBlock o v ≡ true) ↔ SameCells o v
   unfolding sameBlock
   same-block-iff = (
-    λ e c r. off-chart c r λ a b. beq-same (block o c r) (block v c r) (every-at (λ c. Bool·beq (block o c r) (block v c r)) side (every-at _ side e r b) c a),
+    λ e c r. off-chart c r λ a b. beq-same (block o c r) (block v c r)
+        (every-at (λ c. Bool·beq (block o c r) (block v c r)) side (every-at _ side e r b) c a),
     λ same. every-of _ side (λ r b. every-of _ side (λ c a. same-beq (block o c r) (block v c r) (same c r))),
   )
 

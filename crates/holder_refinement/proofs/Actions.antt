@@ -39,7 +39,8 @@ pub record AgreesParty (g : PartyModel) (k : ℕ) (a : Acted) (n : OnParty) : Ty
 module _ (g : PartyModel) (d : Draft) (w : Work) (draft : IsDraft d (g .draft)) where
   -- ---- begin, add and drop leave every work
 
-  redraft-agrees : (k : ℕ) → IsWork w (g .works k) → (x : Drafted) (n : OnDraft) → AgreesDraft x n → AgreesParty g k (redrafted x w) (drafting g n)
+  redraft-agrees : (k : ℕ) → IsWork w (g .works k) → (x : Drafted) (n : OnDraft) → AgreesDraft x n
+      → AgreesParty g k (redrafted x w) (drafting g n)
   redraft-agrees k work x n (said, is) = record { reply = said; draft = is; work = work; others = λ j e. refl }
 
   -- ---- clear
@@ -49,24 +50,35 @@ module _ (g : PartyModel) (d : Draft) (w : Work) (draft : IsDraft d (g .draft)) 
   clear-agrees k work = go (badPlace k) work
     where
       go : (t : Bool) → IsWork w (g .works (cond t 0 k))
-          → AgreesParty g (cond t 0 k) (cond t (acted NoPlace d w) (acted Done d (removed w))) (cond t (record { reply = NoPlace; page = g }) (record { reply = Done; page = putWork g k none }))
+          → AgreesParty g (cond t 0 k) (cond t (acted NoPlace d w) (acted Done d (removed w)))
+          (cond t (record { reply = NoPlace; page = g }) (record { reply = Done; page = putWork g k none }))
       go true work = record { reply = refl; draft = draft; work = work; others = λ j e. refl }
-      go false work = record { reply = refl; draft = draft; work = rw (put-here (g .works) k none) (removed-stands w); others = put-elsewhere (g .works) k none }
+      go false work =
+          record {
+            reply = refl;
+            draft = draft;
+            work = rw (put-here (g .works) k none) (removed-stands w);
+            others = put-elsewhere (g .works) k none;
+          }
 
   -- ---- close
 
   -- What a close leaves: no draft, and a work that represents the model's
-  leaves : (k : ℕ) (a : Acted) (r : Reply) (v : Option Outline) → a .reply ≡ r → IsDraft (a .draft) none → IsWork (a .work) v → AgreesParty g k a (closing g k (record { reply = r; work = v }))
-  leaves k a r v said over is = record { reply = said; draft = over; work = rw (put-here (g .works) k v) is; others = put-elsewhere (g .works) k v }
+  leaves : (k : ℕ) (a : Acted) (r : Reply) (v : Option Outline) → a .reply ≡ r → IsDraft (a .draft) none → IsWork (a .work) v
+      → AgreesParty g k a (closing g k (record { reply = r; work = v }))
+  leaves k a r v said over is =
+      record { reply = said; draft = over; work = rw (put-here (g .works) k v) is; others = put-elsewhere (g .works) k v }
 
   -- The work becomes the draft's outline exactly if that was taken
-  closed-stands : (v : Option Outline) → IsWork w v → (o : Outline) (t : Verdict) → outlineOf d ≡ o → verdictOf o ≡ t → IsWork (closedWork d w (numbersOf o t) t) (workAfter v o t)
+  closed-stands : (v : Option Outline) → IsWork w v → (o : Outline) (t : Verdict) → outlineOf d ≡ o → verdictOf o ≡ t
+      → IsWork (closedWork d w (numbersOf o t) t) (workAfter v o t)
   unfolding closedWork workAfter
   closed-stands v work o (Refused f) own e = work
   closed-stands v work o (Taken n a) own e = rw own (taken-working o n a e)
 
   -- The draft's flag is known
-  flagged : (b : Bool) (k : ℕ) (x y : Acted) (n : OnParty) → d .begun ≡ b → AgreesParty g k (cond b x y) n → AgreesParty g k (cond (d .begun) x y) n
+  flagged : (b : Bool) (k : ℕ) (x y : Acted) (n : OnParty) → d .begun ≡ b → AgreesParty g k (cond b x y) n
+      → AgreesParty g k (cond (d .begun) x y) n
   flagged b k x y n e = subst (λ (t : Bool). AgreesParty g k (cond t x y) n) (sym e)
 
   judged-agrees : (k : ℕ) → IsWork w (g .works k) → (o : Option Outline) → IsDraft d o
@@ -78,14 +90,16 @@ module _ (g : PartyModel) (d : Draft) (w : Work) (draft : IsDraft d (g .draft)) 
       flagged true k _ _ _ (is .stands .begun)
       (subst (λ (x : Outline). AgreesParty g k (closedBy d w (judgedOf x)) (closing g k (closes (some o) (g .works k)))) (sym own)
       (rw (judged-verdict o, judged-numbers o)
-      (leaves k _ _ _ (closed-agrees w (g .works k) work o (verdictOf o) refl) (ended-stands is) (closed-stands (g .works k) work o (verdictOf o) own refl))))
+      (leaves k _ _ _ (closed-agrees w (g .works k) work o (verdictOf o) refl) (ended-stands is)
+      (closed-stands (g .works k) work o (verdictOf o) own refl))))
 
   close-agrees : (k : ℕ) → IsWork w (g .works (keptPlace k)) → AgreesParty g (keptPlace k) (closeOf d w k) (acts g (Close k))
   unfolding keptPlace closeOf acts
   close-agrees k work = go (badPlace k) work
     where
       go : (t : Bool) → IsWork w (g .works (cond t 0 k))
-          → AgreesParty g (cond t 0 k) (cond t (acted NoPlace (endOf d) w) (cond (d .begun) (closedBy d w (judgedOf (outlineOf d))) (acted NoDraft d w)))
+          → AgreesParty g (cond t 0 k)
+          (cond t (acted NoPlace (endOf d) w) (cond (d .begun) (closedBy d w (judgedOf (outlineOf d))) (acted NoDraft d w)))
           (cond t (record { reply = NoPlace; page = putDraft g none }) (closing g k (closes (g .draft) (g .works k))))
       go true work = record { reply = refl; draft = ended-stands draft; work = work; others = λ j e. refl }
       go false work = judged-agrees k work (g .draft) draft

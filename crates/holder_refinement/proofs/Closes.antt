@@ -59,24 +59,34 @@ closed-same true (Taken m b) n a = (λ e. (cc, refl), λ e. let z = e .0 in cc)
 closed-same false (Taken m b) n a = (λ e. (cc, cc), λ e. let z = e .1 in cc)
 
 -- A close by party p at place k after a list of calls, with the draft o
-module _ (p k : ℕ) (there : p < parties) (inside : k < places) (cs : List Call) (o : Outline) (draft : drafted (bookAfter fresh cs) p ≡ some o) where
+module _ (p k : ℕ) (there : p < parties) (inside : k < places) (cs : List Call) (o : Outline)
+    (draft : drafted (bookAfter fresh cs) p ≡ some o) where
   -- The reply of a close is the draft's verdict, and its word depends on the outline last taken
   pub close-reply : replyAfter cs (by p (Close k)) ≡ closedReply (equalsWork o (lastTaken p k cs)) (verdictOf o)
   unfolding answer acts closes
   close-reply =
-      reply-after cs (by p (Close k)) ∙ rw (lt-leb parties p there, lt-leb places k inside) (ap (λ (d : Option Outline). closes d (atWork (bookAfter fresh cs) p k) .reply) draft) ∙ ap (λ (w : Option Outline). closedReply (equalsWork o w) (verdictOf o)) (work-last-taken p k cs)
+      reply-after cs (by p (Close k))
+      ∙ rw (
+        lt-leb parties p there,
+        lt-leb places k inside,
+      ) (ap (λ (d : Option Outline). closes d (atWork (bookAfter fresh cs) p k) .reply) draft)
+      ∙ ap (λ (w : Option Outline). closedReply (equalsWork o w) (verdictOf o)) (work-last-taken p k cs)
 
   pub close-number : replyFields (replyAfter cs (by p (Close k))) .number ≡ verdictFields (verdictOf o) .number
   close-number = rw close-reply (closed-number (equalsWork o (lastTaken p k cs)) (verdictOf o))
 
   -- "Same" exactly if the draft is taken and has the cells of the outline last taken (contract 7.7)
-  pub close-same : (v : Outline) → lastTaken p k cs ≡ some v → (n : ℕ) (a : Point) → (replyAfter cs (by p (Close k)) ≡ Same n a) ↔ ((verdictOf o ≡ Taken n a) × SameCells o v)
+  pub close-same : (v : Outline) → lastTaken p k cs ≡ some v → (n : ℕ) (a : Point)
+      → (replyAfter cs (by p (Close k)) ≡ Same n a) ↔ ((verdictOf o ≡ Taken n a) × SameCells o v)
   unfolding equalsWork
   close-same v last n a = (
     λ e.
         let (t, s) = closed-same (equalsWork o (lastTaken p k cs)) (verdictOf o) n a .0 (sym close-reply ∙ e) in
         (t, same t .0 (sym (ap (equalsWork o) last) ∙ s)),
-    λ e. close-reply ∙ closed-same (equalsWork o (lastTaken p k cs)) (verdictOf o) n a .1 (e .0, ap (equalsWork o) last ∙ same (e .0) .1 (e .1)),
+    λ e. close-reply ∙ closed-same (equalsWork o (lastTaken p k cs)) (verdictOf o) n a .1 (
+      e .0,
+      ap (equalsWork o) last ∙ same (e .0) .1 (e .1),
+    ),
   )
     where
       working : Working (workOf (holderAfter freshHolder cs) p k) v
@@ -102,4 +112,5 @@ module _ (p k : ℕ) (there : p < parties) (inside : k < places) (cs : List Call
 
   pub close-names-lowest : (i q l : ℕ) (x : Point) → replyAfter cs (by p (Close k)) ≡ WasRefused (Dent i q l x) → LowestMissing (block o) x
   unfolding replyFields
-  close-names-lowest i q l x e = let named : CellNamed o (replyFields (WasRefused (Dent i q l x))) = rw e at close-named in named .missing refl
+  close-names-lowest i q l x e = let named : CellNamed o (replyFields (WasRefused (Dent i q l x))) = rw e at close-named in
+      named .missing refl

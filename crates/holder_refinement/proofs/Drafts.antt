@@ -58,7 +58,8 @@ if-false : (t : Bool) (x y : Drafted) {n : OnDraft} → t ≡ false → AgreesDr
 if-false true x y e k = absurd (true≢false e)
 if-false false x y e k = k
 
-either : {x y : Drafted} {m n : OnDraft} (t : Bool) → AgreesDraft x m → (t ≡ false → AgreesDraft y n) → AgreesDraft (cond t x y) (cond t m n)
+either : {x y : Drafted} {m n : OnDraft} (t : Bool) → AgreesDraft x m → (t ≡ false → AgreesDraft y n)
+    → AgreesDraft (cond t x y) (cond t m n)
 either true k l = k
 either false k l = l refl
 
@@ -68,7 +69,10 @@ pub begin-agrees : (d : Draft) (o : Option Outline) → IsDraft d o → (s : Poi
 unfolding beginOf begins begunAt outlineOf
 begin-agrees d none k s =
     if-false (d .begun) _ _ (k .stands)
-    (either (badStart s) (refl, k) λ on. (refl, record { space = k .space; stands = record { begun = refl; outline = refl; fits = omega arith } }))
+    (either (badStart s) (refl, k) λ on. (
+      refl,
+      record { space = k .space; stands = record { begun = refl; outline = refl; fits = omega arith } },
+    ))
 begin-agrees d (some o) k s = if-true (d .begun) _ _ (k .stands .begun) (refl, k)
 
 -- ---- add

@@ -37,7 +37,8 @@ call-agrees h b k c = go (badParty (c .party)) refl
         rw e (
           a .reply,
           represents-turned (c .party) h _ b _ k (written-turns (c .party) (reachedBy (c .action)) there at h (k .sized) _ _)
-              (written-page (c .party) (reachedBy (c .action)) there at h (k .sized) _ _ (b (c .party)) _ page (a .draft) (a .work) (a .others)),
+              (written-page (c .party) (reachedBy (c .action)) there at h (k .sized) _ _ (b (c .party)) _ page (a .draft) (a .work)
+              (a .others)),
         )
 
 -- ---- the list theorem
@@ -68,5 +69,7 @@ unfolding replyAfter
 reply-after cs c = call-agrees _ _ (represents-after cs) c .0
 
 -- So at each place of each party the holder keeps the anchor and the edges of the outline last taken there (contract 8.3)
-pub holder-last-taken : (p k : ℕ) → p < parties → k < places → (cs : List Call) → IsWork (workOf (holderAfter freshHolder cs) p k) (lastTaken p k cs)
-holder-last-taken p k there inside cs = subst (IsWork (workOf (holderAfter freshHolder cs) p k)) (work-last-taken p k cs) (represents-after cs .pages p there .works k inside)
+pub holder-last-taken : (p k : ℕ) → p < parties → k < places → (cs : List Call)
+    → IsWork (workOf (holderAfter freshHolder cs) p k) (lastTaken p k cs)
+holder-last-taken p k there inside cs =
+    subst (IsWork (workOf (holderAfter freshHolder cs) p k)) (work-last-taken p k cs) (represents-after cs .pages p there .works k inside)

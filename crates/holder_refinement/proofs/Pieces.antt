@@ -75,7 +75,8 @@ module _ (p k : ℕ) (there : p < parties) (inside : k < places) (cs : List Call
     -- The points are the hull's corner cells, in clockwise order, and their floats are exact
     pub pieces-draw : Draws a es (block o)
     pieces-draw =
-        let w : Working (workOf (holderAfter freshHolder cs) p k) o = subst (IsWork (workOf (holderAfter freshHolder cs) p k)) last (holder-last-taken p k there inside cs) in
+        let w : Working (workOf (holderAfter freshHolder cs) p k) o =
+        subst (IsWork (workOf (holderAfter freshHolder cs) p k)) last (holder-last-taken p k there inside cs) in
         outline-draws o (w .reaches) (w .undented)
 
     -- The cells that the lines lead to: one for each edge but the last
@@ -85,16 +86,19 @@ module _ (p k : ℕ) (there : p < parties) (inside : k < places) (cs : List Call
     pub piece-lines : length ends ≡ length es / 2 - 1
     unfolding drawing
     piece-lines =
-        let counted : length (linesFrom (pairs es) (pos (a .col)) (pos (a .row)) ++ (Close ∷ [])) ≡ length (map Line ends ++ (Close ∷ [])) = ap (λ (l : List Stroke). length (drop 1 l)) (pieces-draw .pieces) in
+        let counted : length (linesFrom (pairs es) (pos (a .col)) (pos (a .row)) ++ (Close ∷ [])) ≡ length (map Line ends ++ (Close ∷ [])) =
+        ap (λ (l : List Stroke). length (drop 1 l)) (pieces-draw .pieces) in
         let left = length-append (linesFrom (pairs es) (pos (a .col)) (pos (a .row))) (Close ∷ []) in
         let right = length-append (map Line ends) (Close ∷ []) in
         omega (arith, counted, left, right, length-map ends Line, lines-length es (pos (a .col)) (pos (a .row)))
 
-    pub piece-line : (n : ℕ) → n < length ends → reply (n + 1) ≡ Drawn (LineTo (half (getD ends n a .col)) (half (getD ends n a .row))) (getD ends n a)
+    pub piece-line : (n : ℕ) → n < length ends
+        → reply (n + 1) ≡ Drawn (LineTo (half (getD ends n a .col)) (half (getD ends n a .row))) (getD ends n a)
     unfolding strokeAt pieceOf cellIn
     piece-line n h =
         drawn (n + 1) (Line (getD ends n a))
-        (ap (λ (l : List Stroke). getD l (n + 1) None) (pieces-draw .pieces) ∙ ap (λ (i : ℕ). getD (Move a ∷ map Line ends ++ (Close ∷ [])) i None) (add-one n)
+        (ap (λ (l : List Stroke). getD l (n + 1) None) (pieces-draw .pieces)
+        ∙ ap (λ (i : ℕ). getD (Move a ∷ map Line ends ++ (Close ∷ [])) i None) (add-one n)
         ∙ List·getD-append (map Line ends) (Close ∷ []) None n (omega (arith, h, length-map ends Line))
         ∙ line-at ends n h a)
 

@@ -27,7 +27,8 @@ use Rattle.calls.specs.declared.Reading.{Reading}
 use Rattle.calls.specs.declared.Reply.{Reply}
 use Rattle.calls.specs.declared.Reply.the-variants.{Inside, Outside, Undecided, Refused as WasRefused, NothingAtWork}
 use Rattle.readings.specs.declared.Located.{Located}
-use Rattle.readings.specs.declared.Located.the-variants.{Inside as IsInside, Outside as IsOutside, Undecided as IsUndecided, Refused as IsRefused}
+use Rattle.readings.specs.declared.Located.the-variants.{Inside as IsInside, Outside as IsOutside, Undecided as IsUndecided}
+use Rattle.readings.specs.declared.Located.the-variants.{Refused as IsRefused}
 use Rattle.readings.specs.Sides.{PlacedEdge, edgesAlong, exactSide, computedSide}
 use Rattle.readings.specs.Located.{Held, badReading, exactlyInside, locatedOf}
 use Rattle.readings.specs.Claims.{Open, Answers, Centred}
@@ -105,11 +106,13 @@ module _ (p k : ℕ) (there : p < parties) (inside : k < places) (cs : List Call
       answers = outline-answers (border o) (clear-of o (working .reaches)) x held good
 
       -- Every computed side value is a finite number and a 32-bit float
-      pub reading-finite : (e : PlacedEdge) → List·Memᴰ e (edgesAlong a es) → T (finite (computedSide x e)) × T (fits binary32 (computedSide x e))
+      pub reading-finite : (e : PlacedEdge) → List·Memᴰ e (edgesAlong a es)
+          → T (finite (computedSide x e)) × T (fits binary32 (computedSide x e))
       reading-finite = answers .finite
 
       -- Rounding moves a side value by less than 1/64, in units of 2 ^ -149
-      pub reading-close : (e : PlacedEdge) → List·Memᴰ e (edgesAlong a es) → natAbs (value binary32 (computedSide x e) -ℤ exactSide x e) < 2 ^ 143
+      pub reading-close : (e : PlacedEdge) → List·Memᴰ e (edgesAlong a es)
+          → natAbs (value binary32 (computedSide x e) -ℤ exactSide x e) < 2 ^ 143
       reading-close = answers .close
 
       -- "Inside" is said only of readings that are exactly inside, and "outside" only of readings that are not
@@ -130,11 +133,13 @@ module _ (p k : ℕ) (there : p < parties) (inside : k < places) (cs : List Call
       )
 
       -- A reading is decided if all its exact side values are at least 1/32, and also if one of them is at most -1/32
-      pub reading-inner : ((e : PlacedEdge) → List·Memᴰ e (edgesAlong a es) → leZ (pos (2 ^ 144)) (exactSide x e) ≡ true) → reply ≡ Undecided → ⊥
+      pub reading-inner : ((e : PlacedEdge) → List·Memᴰ e (edgesAlong a es) → leZ (pos (2 ^ 144)) (exactSide x e) ≡ true)
+          → reply ≡ Undecided → ⊥
       unfolding locatedReply
       reading-inner h e = answers .inner h (is-found IsUndecided .0 e)
 
-      pub reading-outer : (e : PlacedEdge) → List·Memᴰ e (edgesAlong a es) → leZ (exactSide x e) (negℤ (pos (2 ^ 144))) ≡ true → reply ≡ Undecided → ⊥
+      pub reading-outer : (e : PlacedEdge) → List·Memᴰ e (edgesAlong a es) → leZ (exactSide x e) (negℤ (pos (2 ^ 144))) ≡ true
+          → reply ≡ Undecided → ⊥
       unfolding locatedReply
       reading-outer e m h u = answers .outer e m h (is-found IsUndecided .0 u)
 

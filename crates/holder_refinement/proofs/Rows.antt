@@ -47,7 +47,8 @@ rows-kept p k there inside cs =
 
 -- What a reply says about a row if its columns are exact
 module _ (marked : ℕ → ℕ → Bool) (r : ℕ) where
-  columns-said : (s : Span) → SpanExact marked r s → (a b : ℕ) → spanReply s ≡ Columns a b → (c : ℕ) → (marked c r ≡ true) ↔ ((a ≤ c) × (c ≤ b))
+  columns-said : (s : Span) → SpanExact marked r s → (a b : ℕ) → spanReply s ≡ Columns a b → (c : ℕ)
+      → (marked c r ≡ true) ↔ ((a ≤ c) × (c ≤ b))
   unfolding SpanExact spanReply
   columns-said Empty exact a b e c = let z : _≡_ {A = ℕ} 0 1 = cc in absurd (omega arith)
   columns-said (Run u v) exact a b e c = let p : u ≡ a = cc in let q : v ≡ b = cc in rw (sym p, sym q) (exact c)
@@ -58,7 +59,8 @@ module _ (marked : ℕ → ℕ → Bool) (r : ℕ) where
   none-said (Run u v) exact e c = let z : _≡_ {A = ℕ} 0 1 = cc in absurd (omega arith)
 
 -- Row r at party p's place k, after a list of calls, with o as the outline last taken
-module _ (p k : ℕ) (there : p < parties) (inside : k < places) (cs : List Call) (r : ℕ) (o : Outline) (last : lastTaken p k cs ≡ some o) (row : r < side) where
+module _ (p k : ℕ) (there : p < parties) (inside : k < places) (cs : List Call) (r : ℕ) (o : Outline) (last : lastTaken p k cs ≡ some o)
+    (row : r < side) where
   abbrev asking : Call
   asking = by p (Ask k (OfRow r))
 

@@ -75,9 +75,11 @@ module _ (p k : ℕ) (there : p < parties) (inside : k < places) (h : Holder) (s
       }
 
   -- They represent a state whose other works are unchanged
-  pub written-page : (g n : PartyModel) → HasParty h p g → IsDraft d (n .draft) → IsWork w (n .works k) → ((j : ℕ) → (j ≡ k → ⊥) → n .works j ≡ g .works j) → HasParty next p n
+  pub written-page : (g n : PartyModel) → HasParty h p g → IsDraft d (n .draft) → IsWork w (n .works k)
+      → ((j : ℕ) → (j ≡ k → ⊥) → n .works j ≡ g .works j) → HasParty next p n
   unfolding withDraft withWork draftOf workOf
-  written-page g n was draft work others = record { draft = rw (getD-set-same (h .drafts) p d blankDraft (omega (arith, s .drafts))) draft; works = works }
+  written-page g n was draft work others =
+      record { draft = rw (getD-set-same (h .drafts) p d blankDraft (omega (arith, s .drafts))) draft; works = works }
     where
       works : (j : ℕ) → j < places → IsWork (workOf next p j) (n .works j)
       works j m = go (eqb j k) refl
@@ -86,11 +88,15 @@ module _ (p k : ℕ) (there : p < parties) (inside : k < places) (h : Holder) (s
           go true e = rw (eqb-true j k e, getD-set-same (h .works) (slot p k) w blankWork (omega (arith, s .works))) work
           go false e =
               let apart : j ≡ k → ⊥ = differ j k e in
-              rw (getD-set-other (h .works) (slot p k) (slot p j) w blankWork (λ t. apart (omega (arith, t))), others j apart) (was .works j m)
+              rw (
+                getD-set-other (h .works) (slot p k) (slot p j) w blankWork (λ t. apart (omega (arith, t))),
+                others j apart,
+              ) (was .works j m)
 
 -- ---- the model after a call of party p
 
-pub represents-turned : (p : ℕ) (h n : Holder) (b : Book) (g : PartyModel) → Represents h b → Turns p h n → HasParty n p g → Represents n (put b p g)
+pub represents-turned : (p : ℕ) (h n : Holder) (b : Book) (g : PartyModel) → Represents h b → Turns p h n → HasParty n p g
+    → Represents n (put b p g)
 represents-turned p h n b g k t page = record { sized = t .sized; pages = pages }
   where
     pages : (q : ℕ) → q < parties → HasParty n q (put b p g q)
@@ -101,4 +107,5 @@ represents-turned p h n b g k t page = record { sized = t .sized; pages = pages 
         go false e =
             let apart : q ≡ p → ⊥ = differ q p e in
             let was : HasParty h q (b q) = k .pages q l in
-            rw (put-elsewhere b p g q apart) (record { draft = rw (t .drafts q apart) (was .draft); works = λ j m. rw (t .works q j apart m) (was .works j m) })
+            rw (put-elsewhere b p g q apart)
+            (record { draft = rw (t .drafts q apart) (was .draft); works = λ j m. rw (t .works q j apart m) (was .works j m) })

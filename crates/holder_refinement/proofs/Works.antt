@@ -84,7 +84,14 @@ module _ (o : Outline) (n : ℕ) (a : Point) (e : verdictOf o ≡ Taken n a) whe
   pub taken-working : Working (replaced a (numbersOf o (Taken n a)) n (spansOf o)) o
   unfolding replaced workEdges
   taken-working =
-      record { taken = refl; anchor = facts .anchor; edges = listed-edges; spans = refl; reaches = facts .reaches; undented = facts .undented }
+      record {
+        taken = refl;
+        anchor = facts .anchor;
+        edges = listed-edges;
+        spans = refl;
+        reaches = facts .reaches;
+        undented = facts .undented;
+      }
 
 -- ---- the same block
 
@@ -103,13 +110,16 @@ module _ (w : Work) (v o : Outline) (k : Working w v) (n : ℕ) (a : Point) (e :
       cells t =
           let both = and-eq-true-iff (samePoint (w .anchor) a) (sameℤs (workEdges w) es) .0 t in
           let p : border o .start ≡ border v .start = sym (f .anchor) ∙ sym (same-point (w .anchor) a (both .0)) ∙ k .anchor in
-          let q : edges (border o) ≡ edges (border v) = sym (listed-edges o n a e) ∙ sym (same-ℤs-iff (workEdges w) es .0 (both .1)) ∙ k .edges in
-          same-block-iff o v (f .reaches .simple) (k .reaches .simple) .1 (same-cells-iff o v (f .reaches) (k .reaches) (f .undented) (k .undented) .1 (p, q))
+          let q : edges (border o) ≡ edges (border v) = sym (listed-edges o n a e) ∙ sym (same-ℤs-iff (workEdges w) es .0 (both .1))
+          ∙ k .edges in
+          same-block-iff o v (f .reaches .simple) (k .reaches .simple) .1
+          (same-cells-iff o v (f .reaches) (k .reaches) (f .undented) (k .undented) .1 (p, q))
 
       edged : sameBlock o v ≡ true → (samePoint (w .anchor) a && sameℤs (workEdges w) es) ≡ true
       edged t =
           let same : SameEdges o v =
-          same-cells-iff o v (f .reaches) (k .reaches) (f .undented) (k .undented) .0 (same-block-iff o v (f .reaches .simple) (k .reaches .simple) .0 t) in
+          same-cells-iff o v (f .reaches) (k .reaches) (f .undented) (k .undented) .0
+          (same-block-iff o v (f .reaches .simple) (k .reaches .simple) .0 t) in
           and-eq-true-iff (samePoint (w .anchor) a) (sameℤs (workEdges w) es) .1 (
             same-point-self (w .anchor) a (k .anchor ∙ sym (same .0) ∙ sym (f .anchor)),
             same-ℤs-iff (workEdges w) es .1 (k .edges ∙ sym (same .1) ∙ sym (listed-edges o n a e)),
@@ -133,7 +143,8 @@ same-work w o n a e (some v) k = flag-true (w .taken) _ (k .taken) ∙ compared 
 -- ---- close
 
 -- The reply depends on the edges in the holder and on the cells in the model
-pub closed-agrees : (w : Work) (v : Option Outline) → IsWork w v → (o : Outline) (t : Verdict) → verdictOf o ≡ t → closedReply w (numbersOf o t) t ≡ closedInBook (equalsWork o v) t
+pub closed-agrees : (w : Work) (v : Option Outline) → IsWork w v → (o : Outline) (t : Verdict) → verdictOf o ≡ t
+    → closedReply w (numbersOf o t) t ≡ closedInBook (equalsWork o v) t
 unfolding closedReply closedInBook
 closed-agrees w v k o (Refused f) e = refl
 closed-agrees w v k o (Taken n a) e = ap (λ (s : Bool). cond s (Same n a) (WasTaken n a)) (same-work w o n a e v k)

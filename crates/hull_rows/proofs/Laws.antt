@@ -76,7 +76,8 @@ module _ (lo : ℕ → ℕ) (b t : ℕ) where
     spanning-end j d = omega (arith, s .above, s .under, furthest-furthest lo e t spanning-two .below)
 
     pub spanning-crosses : (j x : ℕ) → j ≡ nextRow lo t e → x ≡ crossing lo e j r → x ≡ hullLeft lo b t r
-    spanning-crosses j x d g = g ∙ ap (λ (z : ℕ). crossing lo e z r) d ∙ sym (climbed-writes lo b t e (s .left) (s .climbed) spanning-two r (s .above) (s .under))
+    spanning-crosses j x d g = g ∙ ap (λ (z : ℕ). crossing lo e z r) d
+        ∙ sym (climbed-writes lo b t e (s .left) (s .climbed) spanning-two r (s .above) (s .under))
 
     pub spanning-next : Climbing e (r + 1)
     spanning-next = record { left = s .left; climbed = s .climbed; above = omega (arith, s .above); under = λ m. omega (arith, s .under) }
@@ -125,10 +126,12 @@ module _ (lo : ℕ → ℕ) (b t : ℕ) (fits : t ≤ 256) where
               ∙ crossing-end lo i (nextRow lo t i) above)
         ]
 
-    pub leftward-next : (s : Spanning lo b t e r) (j x : ℕ) → rows l e ≡ lo e → j ≡ nextRow lo t e → x ≡ crossing (rows l) e j r → Leftward (set l r x) e (r + 1)
+    pub leftward-next : (s : Spanning lo b t e r) (j x : ℕ) → rows l e ≡ lo e → j ≡ nextRow lo t e → x ≡ crossing (rows l) e j r
+        → Leftward (set l r x) e (r + 1)
     leftward-next s j x c d g =
         let span = spanning-end lo b t e r s more j d in
-        let is-x : x ≡ hullLeft lo b t r = spanning-crosses lo b t e r s more j x d (g ∙ crossing-by (rows l) lo e j r c (w .ahead j (span .1))) in
+        let is-x : x ≡ hullLeft lo b t r =
+        spanning-crosses lo b t e r s more j x d (g ∙ crossing-by (rows l) lo e j r c (w .ahead j (span .1))) in
         let other : (z : ℕ) → (z ≡ r → ⊥) → rows (set l r x) z ≡ rows l z = λ z k. getD-set-other l r z x 0 k in
         record {
           sized = simp length-set (w .sized);

@@ -26,7 +26,8 @@ use Rattle.survey.specs.Survey.{surveyOf}
 use Rattle.convexity.specs.Cut.{cornerPlace, westPlace, fromW, clockwise}
 use Rattle.convexity.specs.Clockwise.{reversed, clockwiseForm, border, sentFrom, placeSent}
 use Rattle.convexity.specs.Pieces.{edges}
-use Rattle.convexity.proofs.Clockwise.{west-first, west-place-first, west-place-later, form-clockwise, form-backward, length-form, simple-form, clockwise-form, from-w-form}
+use Rattle.convexity.proofs.Clockwise.{west-first, west-place-first, west-place-later, form-clockwise, form-backward, length-form}
+use Rattle.convexity.proofs.Clockwise.{simple-form, clockwise-form, from-w-form}
 use Rattle.convexity.proofs.Corners.{corner-form}
 use Rattle.verdict.specs.Verdict.{roundVerdict, borderVerdict, afterSurvey, verdictOf, withRoom, testOf, bufferAfter, edgesAfter}
 use Rattle.verdict.proofs.VerdictLaws.{taken-fits}
@@ -98,7 +99,8 @@ module _ {o : Outline} {f : Corners} {cuts : Cuts} {v : ℕ} {buffer : List ℕ}
           let back : westPlace (reversed o) ≡ westPlace (clockwiseForm o) = ap westPlace (sym (form-backward o (sym e))) in
           elim (decLt 0 found) [
             | yes l ↦
-                q ∙ rw (ne-eqb found 0 (omega arith)) (ap (λ (i : ℕ). size o - i) found-is ∙ sym (west-place-later o d (omega (arith, found-is))) ∙ back)
+                q ∙ rw (ne-eqb found 0 (omega arith)) (ap (λ (i : ℕ). size o - i) found-is
+                ∙ sym (west-place-later o d (omega (arith, found-is))) ∙ back)
             | no l ↦
                 let z : found ≡ 0 = omega arith in
                 q ∙ rw z (sym (west-place-first o d (sym found-is ∙ z)) ∙ back)
@@ -109,7 +111,8 @@ module _ {o : Outline} {f : Corners} {cuts : Cuts} {v : ℕ} {buffer : List ℕ}
   unfolding fromW readRound
   border-is =
       outline-eq (outline p (take (size o) buffer)) (readOutline forward) (corner-is ∙ same-start forward)
-      (h .letters (omega (arith, found-lt)) (omega (arith, d .short)) ∙ ap (λ (i : ℕ). readRound forward i (o .letters)) found-is ∙ same-letters forward)
+      (h .letters (omega (arith, found-lt)) (omega (arith, d .short)) ∙ ap (λ (i : ℕ). readRound forward i (o .letters)) found-is
+      ∙ same-letters forward)
       ∙ ap readOutline way-is ∙ sym (from-w-form o (h .simple))
     where
       readOutline : Bool → Outline
@@ -127,7 +130,14 @@ module _ {o : Outline} {f : Corners} {cuts : Cuts} {v : ℕ} {buffer : List ℕ}
   border-length = ap size (sym border-is) ∙ length-take-le (size o) buffer letters-fit
 
   v-lt : v < size (border o)
-  v-lt = omega (arith, place-is, border-length, length-form o, west-first (clockwiseForm o) (walked (clockwiseForm o) (simple-form o (h .simple))) .below)
+  v-lt =
+      omega (
+        arith,
+        place-is,
+        border-length,
+        length-form o,
+        west-first (clockwiseForm o) (walked (clockwiseForm o) (simple-form o (h .simple))) .below,
+      )
 
   abbrev copied : Round
   copied = record { cuts = cuts; place = v; west = p; bottom = f .bottom; top = f .top }
@@ -147,10 +157,12 @@ module _ {o : Outline} {f : Corners} {cuts : Cuts} {v : ℕ} {buffer : List ℕ}
   copied-ready = rw border-is ready
 
   -- 8 and 9, or taken
-  pub copied-outcome : {before after : List ℤ} {r : Verdict} → OutcomeOfRound forward v (outline p (take (size o) buffer)) before after r → OutcomeOfBorder o before after r
+  pub copied-outcome : {before after : List ℤ} {r : Verdict} → OutcomeOfRound forward v (outline p (take (size o) buffer)) before after r
+      → OutcomeOfBorder o before after r
   unfolding borderVerdict placeSent
   copied-outcome {before} {after} {r} e =
-      subst (λ (place : ℕ → ℕ). Outcome (roundVerdict place (border o)) (edges (border o)) before after r) (λ z. sentFrom (way-is z) (border-length z) (place-is z))
+      subst (λ (place : ℕ → ℕ). Outcome (roundVerdict place (border o)) (edges (border o)) before after r)
+      (λ z. sentFrom (way-is z) (border-length z) (place-is z))
       (subst (λ (t : Outline). OutcomeOfRound forward v t before after r) border-is e)
 
 -- ---- the judgement
@@ -164,7 +176,8 @@ module _ (o : Outline) where
   unfolding verdictOf afterSurvey
   stopped-outcome h before = outcome-refused (edges (border o)) before (rw h refl)
 
-  pub passed-outcome : {c : Corners} → surveyOf o ≡ Passed c → {before after : List ℤ} {r : Verdict} → OutcomeOfBorder o before after r → OutcomeOf o before after r
+  pub passed-outcome : {c : Corners} → surveyOf o ≡ Passed c → {before after : List ℤ} {r : Verdict} → OutcomeOfBorder o before after r
+      → OutcomeOf o before after r
   unfolding verdictOf afterSurvey
   passed-outcome h e = rw h e
 
@@ -179,9 +192,14 @@ module _ (o : Outline) where
   zeros-room (Taken n a) e =
       rw (le-ltb (length zeros) (2 * n) (rw (length-replicate mostNumbers (pos 0)) (taken-fits o n a e)))
 
-  pub judged-of : {r : Verdict} {after : List ℤ} → r ≡ verdictOf o → after ≡ edgesAfter o zeros → record { verdict = r; numbers = after } ≡ judgedOf o
+  pub judged-of : {r : Verdict} {after : List ℤ} → r ≡ verdictOf o → after ≡ edgesAfter o zeros
+      → record { verdict = r; numbers = after } ≡ judgedOf o
   unfolding judgedOf edgesAfter testOf
-  judged-of v e = λ z. record { verdict = v z; numbers = (e ∙ ap (λ (x : Verdict). bufferAfter x (edges (border o)) zeros) (zeros-room (verdictOf o) refl)) z }
+  judged-of v e =
+      λ z. record {
+        verdict = v z;
+        numbers = (e ∙ ap (λ (x : Verdict). bufferAfter x (edges (border o)) zeros) (zeros-room (verdictOf o) refl)) z;
+      }
 
   -- The two parts of a judgement
   pub judged-verdict : judgedOf o .verdict ≡ verdictOf o

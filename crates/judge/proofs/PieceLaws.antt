@@ -67,10 +67,12 @@ module _ {o : Outline} (h : FromWest o) where
       (cornerPlace-first o 3 (cornerPlace o 1) (cornerPlace-lt o 1 (omega (arith, round-walked .long))))
 
   top-le-side : cornerAt o (cornerPlace o 1) .row ≤ side
-  top-le-side = round-walked .row-le (cornerPlace o 1) (omega (arith, round-walked .long, cornerPlace-lt o 1 (omega (arith, round-walked .long))))
+  top-le-side =
+      round-walked .row-le (cornerPlace o 1) (omega (arith, round-walked .long, cornerPlace-lt o 1 (omega (arith, round-walked .long))))
 
   -- A letter of the border as a place of the list as sent
-  place-sent : {forward : Bool} {v i r : ℕ} → v < size o → i ≤ 4 * longest → SentTo forward (size o) v i r → r ≡ sentFrom forward (size o) v i
+  place-sent : {forward : Bool} {v i r : ℕ} → v < size o → i ≤ 4 * longest → SentTo forward (size o) v i r
+      → r ≡ sentFrom forward (size o) v i
   place-sent l k e = e .place (omega (arith, round-walked .long)) (omega (arith, round-walked .short)) l k
 
 -- ---- the cell of a dent
@@ -97,7 +99,8 @@ unfolding withRoom bufferAfter
 outcome-refused es before e = record { verdict = e; buffer = rw (sym e) refl }
 
 -- The edges of a taken outline are written if there is room for them
-outcome-taken : {v : Verdict} {es before after : List ℤ} {n : ℕ} {a : Point} → Taken n a ≡ v → length es ≡ 2 * n → Written es (2 * n) before after → Outcome v es before after (Taken n a)
+outcome-taken : {v : Verdict} {es before after : List ℤ} {n : ℕ} {a : Point} → Taken n a ≡ v → length es ≡ 2 * n
+    → Written es (2 * n) before after → Outcome v es before after (Taken n a)
 unfolding withRoom bufferAfter
 outcome-taken {v} {es} {before} {after} {n} {a} e size l =
     record {
@@ -138,7 +141,8 @@ module _ {t : Round} {o : Outline} (h : RoundOf t o) where
   short = round-walked (h .walk) .short
 
   -- 8
-  pub step-outcome : {forward : Bool} {k i place : ℕ} → FoundAt (rounds (o .letters)) (t .cuts .at) k i → SentTo forward (size o) (t .place) i place → (before : List ℤ)
+  pub step-outcome : {forward : Bool} {k i place : ℕ} → FoundAt (rounds (o .letters)) (t .cuts .at) k i
+      → SentTo forward (size o) (t .place) i place → (before : List ℤ)
       → OutcomeOfRound forward (t .place) o before before (Refused (BackStep (k + 1) place))
   step-outcome {forward} {k} {i} {place} e p before =
       let d : place ≡ sentFrom forward (size o) (t .place) i =
@@ -157,13 +161,15 @@ module _ {t : Round} {o : Outline} (h : RoundOf t o) where
     laid = laid-once (h .places) (shape o clear .round)
 
     -- 9
-    pub dent-outcome : (forward : Bool) {k i l : ℕ} → DentRead (o .letters) (t .cuts .at) k i l → {f : Refusal} → f ≡ dentAs forward (t .place) o k i l → (before : List ℤ)
+    pub dent-outcome : (forward : Bool) {k i l : ℕ} → DentRead (o .letters) (t .cuts .at) k i l → {f : Refusal}
+        → f ≡ dentAs forward (t .place) o k i l → (before : List ℤ)
         → OutcomeOfRound forward (t .place) o before before (Refused f)
     dent-outcome forward e q before =
         outcome-refused (edges o) before (ap Refused q ∙ round-dent forward (t .place) o b (e .dent o short laid) (e .piece-lt))
 
     -- Taken
-    module _ {numbers : List ℤ} {m : ℕ} (e : (v : Outline) → size v ≤ longest → Laid v (t .cuts .at) (o .letters) → EdgesAre v zeros numbers m) where
+    module _ {numbers : List ℤ} {m : ℕ} (e : (v : Outline) → size v ≤ longest → Laid v (t .cuts .at) (o .letters)
+        → EdgesAre v zeros numbers m) where
       abbrev found : EdgesAre o zeros numbers m
       found = e o short laid
 
@@ -185,5 +191,6 @@ module _ {t : Round} {o : Outline} (h : RoundOf t o) where
       pub edges-outcome : (forward : Bool) {before after : List ℤ} → Written (take (2 * m) numbers) (2 * m) before after
           → OutcomeOfRound forward (t .place) o before after (Taken m (o .start))
       edges-outcome forward {before} {after} l =
-          outcome-taken (ap (λ (k : ℕ). Taken k (o .start)) (found .count room) ∙ round-taken forward (t .place) o b (found .none)) edges-size
+          outcome-taken (ap (λ (k : ℕ). Taken k (o .start)) (found .count room)
+          ∙ round-taken forward (t .place) o b (found .none)) edges-size
           (rw first-numbers at l)

@@ -76,7 +76,8 @@ fn dent(round: Round, letters: &[u8], piece: usize, at: usize, length: usize) ->
 fn edges(round: Round, letters: &[u8], buffer: &mut [i16]) -> Verdict
     requires { ⌜ RoundOf round (outline (round .west) (now letters)) ⌝ }
     requires { ⌜ ltb (backStepPiece (outline (round .west) (now letters))) 4 ≡ false ⌝ }
-    ensures { λ r. ⌜ OutcomeOfRound (round .cuts .forward) (round .place) (outline (round .west) (now (letters .entry))) (now (buffer .entry)) (now (buffer .exit)) r ⌝ }
+    ensures { λ r. ⌜ OutcomeOfRound (round .cuts .forward) (round .place) (outline (round .west) (now (letters .entry)))
+        (now (buffer .entry)) (now (buffer .exit)) r ⌝ }
 {
     let mut numbers = [0i16; MOST_NUMBERS];
     let factored = dents::read(round.cuts, letters, &mut numbers);
@@ -98,7 +99,8 @@ fn edges(round: Round, letters: &[u8], buffer: &mut [i16]) -> Verdict
 // Refusals 8 and 9 or the edges, for a border.
 fn pieces(round: Round, letters: &[u8], buffer: &mut [i16]) -> Verdict
     requires { ⌜ RoundOf round (outline (round .west) (now letters)) ⌝ }
-    ensures { λ r. ⌜ OutcomeOfRound (round .cuts .forward) (round .place) (outline (round .west) (now (letters .entry))) (now (buffer .entry)) (now (buffer .exit)) r ⌝ }
+    ensures { λ r. ⌜ OutcomeOfRound (round .cuts .forward) (round .place) (outline (round .west) (now (letters .entry)))
+        (now (buffer .entry)) (now (buffer .exit)) r ⌝ }
 {
     let found = back_steps::first(round.cuts, letters);
     match found {

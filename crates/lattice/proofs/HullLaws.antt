@@ -49,7 +49,8 @@ lowest-same same m =
 -- Only one missing cell is the lowest
 pub lowest-unique : {marked : ℕ → ℕ → Bool} {x y : Point} → LowestMissing marked x → LowestMissing marked y → x ≡ y
 unfolding After
-lowest-unique {marked} {x} {y} h k = ⊎-elim (λ e. e) (λ a. ⊎-elim sym (λ b. absurd (both a b)) (h .lowest y (k .missing))) (k .lowest x (h .missing))
+lowest-unique {marked} {x} {y} h k =
+    ⊎-elim (λ e. e) (λ a. ⊎-elim sym (λ b. absurd (both a b)) (h .lowest y (k .missing))) (k .lowest x (h .missing))
   where
     both : After y x → After x y → ⊥
     both (inl a) (inl b) = omega arith

@@ -84,18 +84,21 @@ tally-append f p [] v = omega arith
 tally-append f p (a ∷ u) v = omega (arith, tally-append f (step p a) u v)
 
 -- If no place passes; if some place passes; if at most one does
-pub tally-none : (f : Point → ℕ → Bool) (p : Point) (w : List ℕ) → ((i : ℕ) → i < length w → f (cornerAt (outline p w) i) (getD w i 0) ≡ false) → tally f p w ≡ 0
+pub tally-none : (f : Point → ℕ → Bool) (p : Point) (w : List ℕ)
+    → ((i : ℕ) → i < length w → f (cornerAt (outline p w) i) (getD w i 0) ≡ false) → tally f p w ≡ 0
 unfolding tally cornerAt walk count
 tally-none f p [] h = refl
 tally-none f p (a ∷ w) h = rw (h 0 (omega arith)) (omega (arith, tally-none f (step p a) w (λ i l. h (suc i) (omega arith))))
 
-pub tally-some : (f : Point → ℕ → Bool) (p : Point) (w : List ℕ) (i : ℕ) → i < length w → f (cornerAt (outline p w) i) (getD w i 0) ≡ true → 1 ≤ tally f p w
+pub tally-some : (f : Point → ℕ → Bool) (p : Point) (w : List ℕ) (i : ℕ) → i < length w → f (cornerAt (outline p w) i) (getD w i 0) ≡ true
+    → 1 ≤ tally f p w
 unfolding tally cornerAt walk count
 tally-some f p [] i l e = absurd (omega arith)
 tally-some f p (a ∷ w) zero l e = rw e (omega arith)
 tally-some f p (a ∷ w) (suc i) l e = omega (arith, tally-some f (step p a) w i (omega arith) e)
 
-pub tally-found : (f : Point → ℕ → Bool) (p : Point) (w : List ℕ) → 1 ≤ tally f p w → (i : ℕ) × (i < length w) × (f (cornerAt (outline p w) i) (getD w i 0) ≡ true)
+pub tally-found : (f : Point → ℕ → Bool) (p : Point) (w : List ℕ) → 1 ≤ tally f p w
+    → (i : ℕ) × (i < length w) × (f (cornerAt (outline p w) i) (getD w i 0) ≡ true)
 unfolding tally cornerAt walk count
 tally-found f p [] h = absurd (omega arith)
 tally-found f p (a ∷ w) h = go (f p a) refl (tally-found f (step p a) w)
@@ -108,7 +111,8 @@ tally-found f p (a ∷ w) h = go (f p a) refl (tally-found f (step p a) w)
 
 pub tally-once :
     (f : Point → ℕ → Bool) (p : Point) (w : List ℕ)
-    → ((i j : ℕ) → i < j → j < length w → f (cornerAt (outline p w) i) (getD w i 0) ≡ true → f (cornerAt (outline p w) j) (getD w j 0) ≡ true → ⊥)
+    → ((i j : ℕ) → i < j → j < length w → f (cornerAt (outline p w) i) (getD w i 0) ≡ true
+    → f (cornerAt (outline p w) j) (getD w j 0) ≡ true → ⊥)
     → tally f p w ≤ 1
 unfolding tally cornerAt walk count
 tally-once f p [] h = omega arith
@@ -179,16 +183,21 @@ module _ (o : Outline) where
   -- Off the chart there is nothing to count
   pub ups-column-zero : (R : ℕ) → upsTo o 0 R ≡ 0
   unfolding upsTo rises
-  ups-column-zero R = tally-none (rises 0 R) (o .start) (o .letters) (λ i l. and-false (eqb (letterAt o i) 1 && eqb (suc (cornerAt o i .row)) R) _ (leb·suc-zero (cornerAt o i .col)))
+  ups-column-zero R =
+      tally-none (rises 0 R) (o .start) (o .letters)
+      (λ i l. and-false (eqb (letterAt o i) 1 && eqb (suc (cornerAt o i .row)) R) _ (leb·suc-zero (cornerAt o i .col)))
 
   pub downs-column-zero : (R : ℕ) → downsTo o 0 R ≡ 0
   unfolding downsTo falls
-  downs-column-zero R = tally-none (falls 0 R) (o .start) (o .letters) (λ i l. and-false (eqb (letterAt o i) 3 && eqb (cornerAt o i .row) R) _ (leb·suc-zero (cornerAt o i .col)))
+  downs-column-zero R =
+      tally-none (falls 0 R) (o .start) (o .letters)
+      (λ i l. and-false (eqb (letterAt o i) 3 && eqb (cornerAt o i .row) R) _ (leb·suc-zero (cornerAt o i .col)))
 
   pub ups-row-zero : (C : ℕ) → upsTo o C 0 ≡ 0
   unfolding upsTo rises
   ups-row-zero C =
-      tally-none (rises C 0) (o .start) (o .letters) (λ i l. ap (λ (b : Bool). b && ltb (cornerAt o i .col) C) (and-false (eqb (letterAt o i) 1) _ (eqb·suc-zero (cornerAt o i .row))))
+      tally-none (rises C 0) (o .start) (o .letters)
+      (λ i l. ap (λ (b : Bool). b && ltb (cornerAt o i .col) C) (and-false (eqb (letterAt o i) 1) _ (eqb·suc-zero (cornerAt o i .row))))
 
   pub downs-row-zero : NeverLeaves o → (C : ℕ) → downsTo o C 0 ≡ 0
   unfolding downsTo falls leaves
@@ -234,12 +243,14 @@ module _ (x R : ℕ) where
   band-step p (suc zero) h = rw (add-one (p .row), eqb·suc-suc (p .row) R) (omega arith)
   band-step p (suc (suc zero)) h = band-left (p .col) (p .row) h
   band-step p (suc (suc (suc zero))) h = band-down (p .col) (p .row) h
-  band-step p (suc (suc (suc (suc a)))) h = rw (no-letter a 0 (omega arith), no-letter a 1 (omega arith), no-letter a 2 (omega arith), no-letter a 3 (omega arith))
+  band-step p (suc (suc (suc (suc a)))) h =
+      rw (no-letter a 0 (omega arith), no-letter a 1 (omega arith), no-letter a 2 (omega arith), no-letter a 3 (omega arith))
     where
       no-letter : (a k : ℕ) → k < 4 → eqb (suc (suc (suc (suc a)))) k ≡ false
       no-letter a k l = ne-eqb (suc (suc (suc (suc a)))) k (omega arith)
 
-  band-walk : (p : Point) (w : List ℕ) → NeverLeaves (outline p w) → inBand x R p + enters (outline p w) x R ≡ inBand x R (walk p w) + exits (outline p w) x R
+  band-walk : (p : Point) (w : List ℕ) → NeverLeaves (outline p w)
+      → inBand x R p + enters (outline p w) x R ≡ inBand x R (walk p w) + exits (outline p w) x R
   unfolding upsTo downsTo leftsAt rightsAt lettersAt tally walk cornerAt
   band-walk p [] h = omega arith
   band-walk p (a ∷ w) h = omega (arith, band-step p a (h 0 (omega arith)), band-walk (step p a) w (λ i l. h (suc i) (omega arith)))
@@ -278,7 +289,8 @@ module _ (o : Outline) where
   pub letters-some : (i : ℕ) → i < size o → 1 ≤ lettersAt o (letterAt o i) (cornerAt o i)
   unfolding lettersAt
   letters-some i l =
-      tally-some (letterFrom (letterAt o i) (cornerAt o i)) (o .start) (o .letters) i l (from-letter (letterAt o i) (cornerAt o i) (cornerAt o i) (letterAt o i) refl refl)
+      tally-some (letterFrom (letterAt o i) (cornerAt o i)) (o .start) (o .letters) i l
+      (from-letter (letterAt o i) (cornerAt o i) (cornerAt o i) (letterAt o i) refl refl)
 
   -- An up along a side leaves the side's lower end
   pub ups-at-letters : (x y : ℕ) → upsAt o x (suc y) ≡ lettersAt o 1 (at x y)

@@ -19,7 +19,10 @@ use Rattle.lattice.specs.Enclosed.{ups, downs, encloses}
 use Rattle.lattice.specs.Walked.{Walked, NeverLeaves}
 use Rattle.lattice.proofs.WalkLaws.{point-eq, step-right, step-up, step-left, step-down, corner-zero, corner-suc, corner-all}
 use Rattle.lattice.proofs.WalkLaws.{corner-injective, walk-append}
-use Rattle.lattice.proofs.Jumps.{tally, rises, falls, tally-append, upsTo, downsTo, lettersAt, upsAt, downsAt, rightsAt, leftsAt, ups-to, downs-to, ups-jump-vertical, downs-jump-vertical, ups-column-zero, downs-column-zero, jump-horizontal, letters-none, letters-one, ups-at-letters, ups-found, downs-found, rights-found, lefts-found, next, arrival-injective, no-return}
+use Rattle.lattice.proofs.Jumps.{tally, rises, falls, tally-append, upsTo, downsTo, lettersAt, upsAt, downsAt, rightsAt, leftsAt}
+use Rattle.lattice.proofs.Jumps.{ups-to, downs-to, ups-jump-vertical, downs-jump-vertical, ups-column-zero, downs-column-zero}
+use Rattle.lattice.proofs.Jumps.{jump-horizontal, letters-none, letters-one, ups-at-letters, ups-found, downs-found, rights-found}
+use Rattle.lattice.proofs.Jumps.{lefts-found, next, arrival-injective, no-return}
 
 -- The four cells around a corner, anticlockwise: cell k lies between the sides along which letters k and k + 1 leave. So it is to the
 -- left of letter k and to the right of letter k + 1
@@ -112,7 +115,12 @@ module _ (o : Outline) (h : NeverLeaves o) (c : Closed o) where
   jump q =
       below-four (Jump q)
       (omega (arith, jump-horizontal o h c (q .col) (q .row)))
-      (omega (arith, ups-jump-vertical o (q .col) (suc (q .row)), downs-jump-vertical o (q .col) (suc (q .row)), ups-at-letters o (q .col) (q .row)))
+      (omega (
+        arith,
+        ups-jump-vertical o (q .col) (suc (q .row)),
+        downs-jump-vertical o (q .col) (suc (q .row)),
+        ups-at-letters o (q .col) (q .row),
+      ))
       (jump-left (q .col) (q .row))
       (omega (arith, ups-jump-vertical o (q .col) (q .row), downs-jump-vertical o (q .col) (q .row)))
 
@@ -198,7 +206,8 @@ module _ (o : Outline) (t : Walked o) where
         right-arriving (corner i) (letter i) (t .letter i l) (t .stays i l)
         ∙ ap (λ (q : Point). leftOf q (opposite (letter i))) (sym (corner-suc o i l) ∙ e)
 
-    across-turn : (k : ℕ) → k < 4 → quarterTurn k ≢ letter j → quarterTurn k ≢ opposite (letter i) → SameLevel o (leftOf (corner j) k) (leftOf (corner j) (quarterTurn k))
+    across-turn : (k : ℕ) → k < 4 → quarterTurn k ≢ letter j → quarterTurn k ≢ opposite (letter i)
+        → SameLevel o (leftOf (corner j) k) (leftOf (corner j) (quarterTurn k))
     across-turn k b n m′ = rw (right-of-turn (corner j) k b (quarterTurn k) refl) at (across (quarterTurn k) (omega arith) n m′)
 
     straight : letter i ≢ quarterTurn (letter j) → SameLevel o (rightOf (corner i) (letter i)) (rightOf (corner j) (letter i))
@@ -207,7 +216,8 @@ module _ (o : Outline) (t : Walked o) where
         let a : letter i < 4 = t .letter i l in
         let b : letter j < 4 = t .letter j m in
         let s = opposite-sum (letter i) a in
-        rw (right-seen, right-of-turn (corner j) (quarterTurn behind) (omega arith) (letter i) (omega arith)) (across-turn behind (omega arith) (omega arith) (omega arith))
+        rw (right-seen, right-of-turn (corner j) (quarterTurn behind) (omega arith) (letter i) (omega arith))
+        (across-turn behind (omega arith) (omega arith) (omega arith))
 
     right-hand-next : SameLevel o (rightOf (corner i) (letter i)) (rightOf (corner j) (letter j))
     right-hand-next =
@@ -234,7 +244,8 @@ module _ (o : Outline) (t : Walked o) where
   from-start (suc i) l = omega (arith, from-start i (omega arith), right-hand-next i (suc i) (omega arith) l refl)
 
   -- All cells to the right of the walk have one level
-  pub right-hand : (i j : ℕ) → i < size o → j < size o → SameLevel o (rightOf (cornerAt o i) (letterAt o i)) (rightOf (cornerAt o j) (letterAt o j))
+  pub right-hand : (i j : ℕ) → i < size o → j < size o
+      → SameLevel o (rightOf (cornerAt o i) (letterAt o i)) (rightOf (cornerAt o j) (letterAt o j))
   right-hand i j l m = omega (arith, from-start i l, from-start j m)
 
   -- The cell to the right of a letter is one level above the cell to its left
@@ -268,7 +279,8 @@ pub record Lowest (o : Outline) (k : ℕ) : Type 0 where
 
 module _ (o : Outline) (t : Walked o) where
   -- The place before k, cyclically
-  pub place-before : (k : ℕ) → k < size o → (j : ℕ) × (j < size o) × (cornerAt o (suc j) ≡ cornerAt o k) × ((suc j ≡ k) ⊎ (suc j ≡ size o + k))
+  pub place-before : (k : ℕ) → k < size o
+      → (j : ℕ) × (j < size o) × (cornerAt o (suc j) ≡ cornerAt o k) × ((suc j ≡ k) ⊎ (suc j ≡ size o + k))
   place-before zero l =
       let n : suc (size o - 1) ≡ size o = omega arith in (
         size o - 1,
@@ -280,7 +292,8 @@ module _ (o : Outline) (t : Walked o) where
 
 -- A letter that goes neither left nor down is 0 or 1; one that comes neither from the left nor from below is 2 or 3
 leaving-step :
-    (p : Point) (a : ℕ) → a < 4 → leaves p a ≡ false → p .col ≤ step p a .col → (step p a .col ≡ p .col → p .row ≤ step p a .row) → (a ≡ 0) ⊎ (a ≡ 1)
+    (p : Point) (a : ℕ) → a < 4 → leaves p a ≡ false → p .col ≤ step p a .col → (step p a .col ≡ p .col → p .row ≤ step p a .row)
+    → (a ≡ 0) ⊎ (a ≡ 1)
 unfolding leaves step
 leaving-step p =
     below-four (λ a. leaves p a ≡ false → p .col ≤ step p a .col → (step p a .col ≡ p .col → p .row ≤ step p a .row) → (a ≡ 0) ⊎ (a ≡ 1))
@@ -387,7 +400,8 @@ module _ (o : Outline) (t : Walked o) (k : ℕ) (m : Lowest o k) where
         elim (decLe 1 (upsAt o C R)) [
           | yes a ↦
               let (i, b, e, d, c) = ups-found o C R a in
-              let cell : rightOf (cornerAt o i) (letterAt o i) ≡ at (suc C) R = (λ z. rightOf (d z) (e z)) ∙ ap (at (suc C)) (omega arith) in
+              let cell : rightOf (cornerAt o i) (letterAt o i) ≡ at (suc C) R = (λ z. rightOf (d z) (e z))
+              ∙ ap (at (suc C)) (omega arith) in
               inr (rw cell at (clockwise-right i b))
           | no a ↦
               elim (decLe 1 (downsAt o C R)) [
@@ -404,11 +418,13 @@ module _ (o : Outline) (t : Walked o) (k : ℕ) (m : Lowest o k) where
 
 -- Counts over a closed walk do not depend on its start
 
-pub tally-rotation : (f : Point → ℕ → Bool) (o : Outline) (k : ℕ) → Closed o → tally f (cornerAt o k) (rotated k o .letters) ≡ tally f (o .start) (o .letters)
+pub tally-rotation : (f : Point → ℕ → Bool) (o : Outline) (k : ℕ) → Closed o
+    → tally f (cornerAt o k) (rotated k o .letters) ≡ tally f (o .start) (o .letters)
 unfolding cornerAt
 tally-rotation f o k c =
     let p = walk (o .start) (take k (o .letters)) in
-    let around : walk p (drop k (o .letters)) ≡ o .start = sym (walk-append (o .start) (take k (o .letters)) (drop k (o .letters))) ∙ ap (walk (o .start)) (take-append-drop k (o .letters)) ∙ c in
+    let around : walk p (drop k (o .letters)) ≡ o .start = sym (walk-append (o .start) (take k (o .letters)) (drop k (o .letters)))
+    ∙ ap (walk (o .start)) (take-append-drop k (o .letters)) ∙ c in
     omega (
       arith,
       tally-append f p (drop k (o .letters)) (take k (o .letters)),
@@ -420,11 +436,13 @@ tally-rotation f o k c =
 module _ (o : Outline) (k : ℕ) (e : Closed o) (c r : ℕ) where
   pub ups-rotation : ups (cornerAt o k) (drop k (o .letters) ++ take k (o .letters)) c r ≡ ups (o .start) (o .letters) c r
   unfolding upsTo
-  ups-rotation = ups-to (cornerAt o k) (rotated k o .letters) c r ∙ tally-rotation (rises (suc c) (suc r)) o k e ∙ sym (ups-to (o .start) (o .letters) c r)
+  ups-rotation = ups-to (cornerAt o k) (rotated k o .letters) c r ∙ tally-rotation (rises (suc c) (suc r)) o k e
+      ∙ sym (ups-to (o .start) (o .letters) c r)
 
   pub downs-rotation : downs (cornerAt o k) (drop k (o .letters) ++ take k (o .letters)) c r ≡ downs (o .start) (o .letters) c r
   unfolding downsTo
-  downs-rotation = downs-to (cornerAt o k) (rotated k o .letters) c r ∙ tally-rotation (falls (suc c) (suc r)) o k e ∙ sym (downs-to (o .start) (o .letters) c r)
+  downs-rotation = downs-to (cornerAt o k) (rotated k o .letters) c r ∙ tally-rotation (falls (suc c) (suc r)) o k e
+      ∙ sym (downs-to (o .start) (o .letters) c r)
 
   pub encloses-rotation : encloses (rotated k o) c r ≡ encloses o c r
   unfolding encloses

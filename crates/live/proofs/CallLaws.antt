@@ -27,7 +27,8 @@ use Rattle.live_memory.proofs.Zeros.{zeros, zeros-fresh}
 use Rattle.live.specs.Called.{ifRoom, isCall, nextHolder, replyBy, pieceDrawn, pointBy, writes, Called, Done, PointDrawn, Freshened}
 
 -- Four arrays of these lengths
-pub fits-by : (m : Memory) → length (m .letters) ≡ letterBytes → length (m .rows) ≡ rowBytes → length (m .numbers) ≡ edgeNumbers → length (m .heads) ≡ headNumbers → Fits m
+pub fits-by : (m : Memory) → length (m .letters) ≡ letterBytes → length (m .rows) ≡ rowBytes → length (m .numbers) ≡ edgeNumbers
+    → length (m .heads) ≡ headNumbers → Fits m
 fits-by m l r n h = record { letters = l; rows = r; numbers = n; heads = h }
 
 -- ---- whether a call by its arguments has room
@@ -62,7 +63,8 @@ module _ (F : Type 0) (m : Memory) (d : Decoded) (reply : List ℕ) where
   unfolding isCall
   nothing-called n = undone (λ f. rw n)
 
-  pub replied-called : F → (c : Call) → d ≡ OfCall c → (n : Memory) (r : Reply) → Answers m n c r → (Fits m → Fits n) → (g : Fields) → g ≡ replyFields r → (l : List ℕ) → l ≡ replyAfter g reply
+  pub replied-called : F → (c : Call) → d ≡ OfCall c → (n : Memory) (r : Reply) → Answers m n c r → (Fits m → Fits n) → (g : Fields)
+      → g ≡ replyFields r → (l : List ℕ) → l ≡ replyAfter g reply
       → (b : Bool) → b ≡ true → Called F m n d reply l b
   unfolding isCall nextHolder replyBy writes
   replied-called f c e n r a kept g named l put b so =
@@ -77,9 +79,11 @@ module _ (F : Type 0) (m : Memory) (d : Decoded) (reply : List ℕ) where
       }
 
   -- The reply of a call is written where it has room
-  pub written-called : F → replyWidth ≤ length reply → (c : Call) → d ≡ OfCall c → (n : Memory) (r : Reply) → Answers m n c r → (Fits m → Fits n) → (g : Fields) → g ≡ replyFields r
+  pub written-called : F → replyWidth ≤ length reply → (c : Call) → d ≡ OfCall c → (n : Memory) (r : Reply) → Answers m n c r
+      → (Fits m → Fits n) → (g : Fields) → g ≡ replyFields r
       → (b : Bool) → b ≡ leb replyWidth (length reply) → (l : List ℕ) → l ≡ replyAfter g reply → Called F m n d reply l b
-  written-called f room c e n r a kept g named b told l put = replied-called f c e n r a kept g named l put b (told ∙ le-leb replyWidth (length reply) room)
+  written-called f room c e n r a kept g named b told l put =
+      replied-called f c e n r a kept g named l put b (told ∙ le-leb replyWidth (length reply) room)
 
 -- ---- a call by its arguments
 
@@ -90,10 +94,12 @@ module _ (F : Type 0) (m : Memory) (c : Call) (reply : List ℕ) where
   pub short-made : length reply < replyWidth → Called F m m (ifRoom c (length reply)) reply reply false
   short-made h = nothing-called F m (ifRoom c (length reply)) reply (ifRoom-short c (length reply) h)
 
-  pub written-made : F → replyWidth ≤ length reply → (n : Memory) (r : Reply) → Answers m n c r → (Fits m → Fits n) → (g : Fields) → g ≡ replyFields r → (b : Bool) → b ≡ leb replyWidth (length reply)
+  pub written-made : F → replyWidth ≤ length reply → (n : Memory) (r : Reply) → Answers m n c r → (Fits m → Fits n) → (g : Fields)
+      → g ≡ replyFields r → (b : Bool) → b ≡ leb replyWidth (length reply)
       → (l : List ℕ) → l ≡ replyAfter g reply → Called F m n (ifRoom c (length reply)) reply l b
   written-made f room n r a kept g named b told l put =
-      replied-called F m (ifRoom c (length reply)) reply f c (ifRoom-call c (length reply) room) n r a kept g named l put b (told ∙ le-leb replyWidth (length reply) room)
+      replied-called F m (ifRoom c (length reply)) reply f c (ifRoom-call c (length reply) room) n r a kept g named l put b (told
+      ∙ le-leb replyWidth (length reply) room)
 
 -- ---- a call whose arrays have their lengths
 
@@ -130,7 +136,8 @@ module _ (F : Type 0) (m n : Memory) (c : Call) (reply reply′ : List ℕ) (siz
 pub undrawn-point : (m : Memory) (d : Decoded) (point : List Float) → PointDrawn m d point point false
 undrawn-point m d point = record { drawn = λ z. absurd (true≢false (sym z)); undrawn = λ z. refl }
 
-pub drawn-point : (m : Memory) (c : Call) (room : ℕ) → replyWidth ≤ room → (point point′ : List Float) (n : Memory) (r : Reply) → Answers m n c r → (p : Piece) → p ≡ pieceIn r
+pub drawn-point : (m : Memory) (c : Call) (room : ℕ) → replyWidth ≤ room → (point point′ : List Float) (n : Memory) (r : Reply)
+    → Answers m n c r → (p : Piece) → p ≡ pieceIn r
     → point′ ≡ pointAfter p point → (b : Bool) → b ≡ leb replyWidth room → PointDrawn m (ifRoom c room) point point′ b
 unfolding pointBy pieceDrawn
 drawn-point m c room h point point′ n r a p pe e b told =
@@ -140,13 +147,15 @@ drawn-point m c room h point point′ n r a p pe e b told =
     }
 
 -- For a call whose reply has room
-pub point-drawn : (m : Memory) (c : Call) (room : ℕ) → room ≡ replyWidth → (point point′ : List Float) (b : Bool) → b ≡ true → PointDrawn m (ifRoom c room) point point′ b
+pub point-drawn : (m : Memory) (c : Call) (room : ℕ) → room ≡ replyWidth → (point point′ : List Float) (b : Bool) → b ≡ true
+    → PointDrawn m (ifRoom c room) point point′ b
     → point′ ≡ pieceDrawn (holderIn m) c point
 unfolding pointBy
 point-drawn m c room e point point′ b so p = p .drawn so ∙ rw (ifRoom-call c room (omega (arith, e)))
 
 -- Whether such a call is done
-pub ifRoom-done : (F : Type 0) (m n : Memory) (c : Call) (reply reply′ : List ℕ) (b : Bool) → F → length reply ≡ replyWidth → Called F m n (ifRoom c (length reply)) reply reply′ b → b ≡ true
+pub ifRoom-done : (F : Type 0) (m n : Memory) (c : Call) (reply reply′ : List ℕ) (b : Bool) → F → length reply ≡ replyWidth
+    → Called F m n (ifRoom c (length reply)) reply reply′ b → b ≡ true
 unfolding isCall
 ifRoom-done F m n c reply reply′ b f size t = t .done f ∙ rw (ifRoom-call c (length reply) (omega (arith, size)))
 
@@ -155,7 +164,8 @@ ifRoom-done F m n c reply reply′ b f size t = t .done f ∙ rw (ifRoom-call c 
 pub unfit-fresh : (m : Memory) → (Fits m → ⊥) → Freshened m m false
 unfit-fresh m off = record { done = λ f. absurd (off f); holder = λ f. absurd (off f); fits = λ f. f; unfit = λ n. (refl, refl) }
 
-pub fresh-lists : (m : Memory) → Fits m → (l r : List ℕ) (n : List ℤ) (h : List ℕ) → l ≡ zeros (length (m .letters)) → r ≡ zeros (length (m .rows)) → n ≡ replicate (length (m .numbers)) (pos 0) → h ≡ zeros (length (m .heads))
+pub fresh-lists : (m : Memory) → Fits m → (l r : List ℕ) (n : List ℤ) (h : List ℕ) → l ≡ zeros (length (m .letters))
+    → r ≡ zeros (length (m .rows)) → n ≡ replicate (length (m .numbers)) (pos 0) → h ≡ zeros (length (m .heads))
     → Freshened m (memory l r n h) true
 fresh-lists m f l r n h el er en eh =
     let l′ : l ≡ zeros letterBytes = el ∙ ap zeros (f .letters) in

@@ -55,7 +55,8 @@ fn close(
     place: usize,
 ) -> Reply
     requires { ⌜ (party < parties) × (place < places) × Fits (memory (now letters) (now rows) (now numbers) (now heads)) ⌝ }
-    ensures { λ r. ⌜ Acts (memory (now (letters .entry)) (now (rows .entry)) (now (numbers .entry)) (now (heads .entry))) (memory (now (letters .entry)) (now (rows .exit)) (now (numbers .exit)) (now (heads .exit))) party (Action.Close place) r ⌝ }
+    ensures { λ r. ⌜ Acts (memory (now (letters .entry)) (now (rows .entry)) (now (numbers .entry)) (now (heads .entry)))
+        (memory (now (letters .entry)) (now (rows .exit)) (now (numbers .exit)) (now (heads .exit))) party (Action.Close place) r ⌝ }
 {
     let at = 4 * party;
     if heads[at] == 0 {
@@ -104,7 +105,8 @@ pub fn close_at(
     place: u8,
 ) -> Reply
     requires { ⌜ (party < parties) × Fits (memory (now letters) (now rows) (now numbers) (now heads)) ⌝ }
-    ensures { λ r. ⌜ Acts (memory (now (letters .entry)) (now (rows .entry)) (now (numbers .entry)) (now (heads .entry))) (memory (now (letters .entry)) (now (rows .exit)) (now (numbers .exit)) (now (heads .exit))) party (Action.Close place) r ⌝ }
+    ensures { λ r. ⌜ Acts (memory (now (letters .entry)) (now (rows .entry)) (now (numbers .entry)) (now (heads .entry)))
+        (memory (now (letters .entry)) (now (rows .exit)) (now (numbers .exit)) (now (heads .exit))) party (Action.Close place) r ⌝ }
 {
     let at = place as usize;
     if PLACES <= at {
@@ -117,7 +119,9 @@ pub fn close_at(
 // 20, or leaves nothing at work at the place.
 pub fn clear(heads: &mut [u16], party: usize, place: u8) -> Reply
     requires { ⌜ (party < parties) × (length (now heads) ≡ headNumbers) ⌝ }
-    ensures { λ r. ⌜ ((letters rows : List ℕ) (numbers : List ℤ) → Acts (memory letters rows numbers (now (heads .entry))) (memory letters rows numbers (now (heads .exit))) party (Action.Clear place) r) ⌝ }
+    ensures { λ r. ⌜ ((letters rows : List ℕ) (numbers : List ℤ)
+        → Acts (memory letters rows numbers (now (heads .entry))) (memory letters rows numbers (now (heads .exit))) party
+        (Action.Clear place) r) ⌝ }
 {
     let at = place as usize;
     if PLACES <= at {
@@ -130,7 +134,9 @@ pub fn clear(heads: &mut [u16], party: usize, place: u8) -> Reply
 // 19, or a begin.
 pub fn begin_of(heads: &mut [u16], party: u8, start: Point) -> Reply
     requires { ⌜ length (now heads) ≡ headNumbers ⌝ }
-    ensures { λ r. ⌜ ((letters rows : List ℕ) (numbers : List ℤ) → Answers (memory letters rows numbers (now (heads .entry))) (memory letters rows numbers (now (heads .exit))) (by party (Action.Begin start)) r) ⌝ }
+    ensures { λ r. ⌜ ((letters rows : List ℕ) (numbers : List ℤ)
+        → Answers (memory letters rows numbers (now (heads .entry))) (memory letters rows numbers (now (heads .exit)))
+        (by party (Action.Begin start)) r) ⌝ }
 {
     let at = party as usize;
     if PARTIES <= at {
@@ -142,7 +148,9 @@ pub fn begin_of(heads: &mut [u16], party: u8, start: Point) -> Reply
 // 19, or an add.
 pub fn add_of(letters: &mut [u8], heads: &mut [u16], party: u8, letter: u8) -> Reply
     requires { ⌜ DraftsFit (now letters) (now heads) ⌝ }
-    ensures { λ r. ⌜ ((rows : List ℕ) (numbers : List ℤ) → Answers (memory (now (letters .entry)) rows numbers (now (heads .entry))) (memory (now (letters .exit)) rows numbers (now (heads .exit))) (by party (Action.Add letter)) r) ⌝ }
+    ensures { λ r. ⌜ ((rows : List ℕ) (numbers : List ℤ)
+        → Answers (memory (now (letters .entry)) rows numbers (now (heads .entry)))
+        (memory (now (letters .exit)) rows numbers (now (heads .exit))) (by party (Action.Add letter)) r) ⌝ }
 {
     let at = party as usize;
     if PARTIES <= at {
@@ -154,7 +162,9 @@ pub fn add_of(letters: &mut [u8], heads: &mut [u16], party: u8, letter: u8) -> R
 // 19, or a drop.
 pub fn drop_of(heads: &mut [u16], party: u8) -> Reply
     requires { ⌜ length (now heads) ≡ headNumbers ⌝ }
-    ensures { λ r. ⌜ ((letters rows : List ℕ) (numbers : List ℤ) → Answers (memory letters rows numbers (now (heads .entry))) (memory letters rows numbers (now (heads .exit))) (by party Action.Drop) r) ⌝ }
+    ensures { λ r. ⌜ ((letters rows : List ℕ) (numbers : List ℤ)
+        → Answers (memory letters rows numbers (now (heads .entry))) (memory letters rows numbers (now (heads .exit)))
+        (by party Action.Drop) r) ⌝ }
 {
     let at = party as usize;
     if PARTIES <= at {
@@ -166,7 +176,9 @@ pub fn drop_of(heads: &mut [u16], party: u8) -> Reply
 // 19, or a clear.
 pub fn clear_of(heads: &mut [u16], party: u8, place: u8) -> Reply
     requires { ⌜ length (now heads) ≡ headNumbers ⌝ }
-    ensures { λ r. ⌜ ((letters rows : List ℕ) (numbers : List ℤ) → Answers (memory letters rows numbers (now (heads .entry))) (memory letters rows numbers (now (heads .exit))) (by party (Action.Clear place)) r) ⌝ }
+    ensures { λ r. ⌜ ((letters rows : List ℕ) (numbers : List ℤ)
+        → Answers (memory letters rows numbers (now (heads .entry))) (memory letters rows numbers (now (heads .exit)))
+        (by party (Action.Clear place)) r) ⌝ }
 {
     let at = party as usize;
     if PARTIES <= at {
@@ -185,7 +197,8 @@ pub fn close_of(
     place: u8,
 ) -> Reply
     requires { ⌜ Fits (memory (now letters) (now rows) (now numbers) (now heads)) ⌝ }
-    ensures { λ r. ⌜ Answers (memory (now (letters .entry)) (now (rows .entry)) (now (numbers .entry)) (now (heads .entry))) (memory (now (letters .entry)) (now (rows .exit)) (now (numbers .exit)) (now (heads .exit))) (by party (Action.Close place)) r ⌝ }
+    ensures { λ r. ⌜ Answers (memory (now (letters .entry)) (now (rows .entry)) (now (numbers .entry)) (now (heads .entry)))
+        (memory (now (letters .entry)) (now (rows .exit)) (now (numbers .exit)) (now (heads .exit))) (by party (Action.Close place)) r ⌝ }
 {
     let at = party as usize;
     if PARTIES <= at {
@@ -197,7 +210,9 @@ pub fn close_of(
 // 19, 20, or where the cell lies.
 pub fn query_of(rows: &[u8], heads: &[u16], party: u8, place: u8, cell: Point) -> Reply
     requires { ⌜ (length (now rows) ≡ rowBytes) × (length (now heads) ≡ headNumbers) ⌝ }
-    ensures { λ r. ⌜ ((letters : List ℕ) (numbers : List ℤ) → Answers (memory letters (now (rows .entry)) numbers (now (heads .entry))) (memory letters (now (rows .entry)) numbers (now (heads .entry))) (by party (Action.Ask place (Question.Cell cell))) r) ⌝ }
+    ensures { λ r. ⌜ ((letters : List ℕ) (numbers : List ℤ)
+        → Answers (memory letters (now (rows .entry)) numbers (now (heads .entry)))
+        (memory letters (now (rows .entry)) numbers (now (heads .entry))) (by party (Action.Ask place (Question.Cell cell))) r) ⌝ }
 {
     let at = party as usize;
     if PARTIES <= at {
@@ -213,7 +228,9 @@ pub fn query_of(rows: &[u8], heads: &[u16], party: u8, place: u8, cell: Point) -
 // 19, 20, or the columns of the row.
 pub fn row_of(rows: &[u8], heads: &[u16], party: u8, place: u8, row: u16) -> Reply
     requires { ⌜ (length (now rows) ≡ rowBytes) × (length (now heads) ≡ headNumbers) ⌝ }
-    ensures { λ r. ⌜ ((letters : List ℕ) (numbers : List ℤ) → Answers (memory letters (now (rows .entry)) numbers (now (heads .entry))) (memory letters (now (rows .entry)) numbers (now (heads .entry))) (by party (Action.Ask place (Question.Row row))) r) ⌝ }
+    ensures { λ r. ⌜ ((letters : List ℕ) (numbers : List ℤ)
+        → Answers (memory letters (now (rows .entry)) numbers (now (heads .entry)))
+        (memory letters (now (rows .entry)) numbers (now (heads .entry))) (by party (Action.Ask place (Question.Row row))) r) ⌝ }
 {
     let at = party as usize;
     if PARTIES <= at {
@@ -229,7 +246,10 @@ pub fn row_of(rows: &[u8], heads: &[u16], party: u8, place: u8, row: u16) -> Rep
 // 19, 20, or where the reading lies.
 pub fn reading_of(numbers: &[i16], heads: &[u16], party: u8, place: u8, reading: Reading) -> Reply
     requires { ⌜ (length (now numbers) ≡ edgeNumbers) × (length (now heads) ≡ headNumbers) ⌝ }
-    ensures { λ r. ⌜ ((letters : List ℕ) (rows : List ℕ) → Answers (memory letters rows (now (numbers .entry)) (now (heads .entry))) (memory letters rows (now (numbers .entry)) (now (heads .entry))) (by party (Action.Ask place (Question.Reading reading))) r) ⌝ }
+    ensures { λ r. ⌜ ((letters : List ℕ) (rows : List ℕ)
+        → Answers (memory letters rows (now (numbers .entry)) (now (heads .entry)))
+        (memory letters rows (now (numbers .entry)) (now (heads .entry))) (by party (Action.Ask place (Question.Reading reading)))
+        r) ⌝ }
 {
     let at = party as usize;
     if PARTIES <= at {
@@ -245,7 +265,9 @@ pub fn reading_of(numbers: &[i16], heads: &[u16], party: u8, place: u8, reading:
 // 19, 20, or the path command at the position.
 pub fn piece_of(numbers: &[i16], heads: &[u16], party: u8, place: u8, position: u16) -> Reply
     requires { ⌜ (length (now numbers) ≡ edgeNumbers) × (length (now heads) ≡ headNumbers) ⌝ }
-    ensures { λ r. ⌜ ((letters : List ℕ) (rows : List ℕ) → Answers (memory letters rows (now (numbers .entry)) (now (heads .entry))) (memory letters rows (now (numbers .entry)) (now (heads .entry))) (by party (Action.Ask place (Question.Piece position))) r) ⌝ }
+    ensures { λ r. ⌜ ((letters : List ℕ) (rows : List ℕ)
+        → Answers (memory letters rows (now (numbers .entry)) (now (heads .entry)))
+        (memory letters rows (now (numbers .entry)) (now (heads .entry))) (by party (Action.Ask place (Question.Piece position))) r) ⌝ }
 {
     let at = party as usize;
     if PARTIES <= at {
@@ -260,7 +282,8 @@ pub fn piece_of(numbers: &[i16], heads: &[u16], party: u8, place: u8, position: 
 
 // Makes arrays of the right lengths a fresh holder.
 pub fn fresh(letters: &mut [u8], rows: &mut [u8], numbers: &mut [i16], heads: &mut [u16]) -> bool
-    ensures { λ r. ⌜ Freshened (memory (now (letters .entry)) (now (rows .entry)) (now (numbers .entry)) (now (heads .entry))) (memory (now (letters .exit)) (now (rows .exit)) (now (numbers .exit)) (now (heads .exit))) r ⌝ }
+    ensures { λ r. ⌜ Freshened (memory (now (letters .entry)) (now (rows .entry)) (now (numbers .entry)) (now (heads .entry)))
+        (memory (now (letters .exit)) (now (rows .exit)) (now (numbers .exit)) (now (heads .exit))) r ⌝ }
 {
     if letters.len() != LETTERS {
         return false;

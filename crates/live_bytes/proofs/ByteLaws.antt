@@ -23,7 +23,8 @@ pub received-other : (s : List ℕ) (room : ℕ) → replyWidth ≤ room → (le
 unfolding received decoded
 received-other s room h e = rw (le-leb replyWidth room h, ne-eqb (length s) callWidth e)
 
-pub received-call : (s : List ℕ) (room : ℕ) → replyWidth ≤ room → length s ≡ callWidth → (x y : ℕ) → x ≡ long (getD s 3 0) (getD s 4 0) (getD s 5 0) (getD s 6 0) → y ≡ long (getD s 7 0) (getD s 8 0) (getD s 9 0) (getD s 10 0)
+pub received-call : (s : List ℕ) (room : ℕ) → replyWidth ≤ room → length s ≡ callWidth → (x y : ℕ)
+    → x ≡ long (getD s 3 0) (getD s 4 0) (getD s 5 0) (getD s 6 0) → y ≡ long (getD s 7 0) (getD s 8 0) (getD s 9 0) (getD s 10 0)
     → received s room ≡ callOf (getD s 0 0) (getD s 1 0) (getD s 2 0) x y
 unfolding received decoded
 received-call s room h e x y ex ey = rw (le-leb replyWidth room h, eq-eqb (length s) callWidth e, ex, ey)

@@ -41,7 +41,10 @@ fn act(
     reply: &mut [u16],
 ) -> bool
     requires { ⌜ Fits (memory (now letters) (now rows) (now numbers) (now heads)) × (replyWidth ≤ length (now reply)) ⌝ }
-    ensures { λ r. ⌜ Called (Fits (memory (now (letters .entry)) (now (rows .entry)) (now (numbers .entry)) (now (heads .entry)))) (memory (now (letters .entry)) (now (rows .entry)) (now (numbers .entry)) (now (heads .entry))) (memory (now (letters .exit)) (now (rows .exit)) (now (numbers .exit)) (now (heads .exit))) (callOf number party place x y) (now (reply .entry)) (now (reply .exit)) r ⌝ }
+    ensures { λ r. ⌜ Called (Fits (memory (now (letters .entry)) (now (rows .entry)) (now (numbers .entry)) (now (heads .entry))))
+        (memory (now (letters .entry)) (now (rows .entry)) (now (numbers .entry)) (now (heads .entry)))
+        (memory (now (letters .exit)) (now (rows .exit)) (now (numbers .exit)) (now (heads .exit))) (callOf number party place x y)
+        (now (reply .entry)) (now (reply .exit)) r ⌝ }
 {
     match number {
         0 => reply::write(of_reply(begin_of(heads, party, point(x, y))), reply),
@@ -78,7 +81,10 @@ pub fn respond(
     bytes: &[u8],
     reply: &mut [u16],
 ) -> bool
-    ensures { λ r. ⌜ Called (Fits (memory (now (letters .entry)) (now (rows .entry)) (now (numbers .entry)) (now (heads .entry)))) (memory (now (letters .entry)) (now (rows .entry)) (now (numbers .entry)) (now (heads .entry))) (memory (now (letters .exit)) (now (rows .exit)) (now (numbers .exit)) (now (heads .exit))) (receivedOf (now (bytes .entry)) (length (now (reply .entry)))) (now (reply .entry)) (now (reply .exit)) r ⌝ }
+    ensures { λ r. ⌜ Called (Fits (memory (now (letters .entry)) (now (rows .entry)) (now (numbers .entry)) (now (heads .entry))))
+        (memory (now (letters .entry)) (now (rows .entry)) (now (numbers .entry)) (now (heads .entry)))
+        (memory (now (letters .exit)) (now (rows .exit)) (now (numbers .exit)) (now (heads .exit)))
+        (receivedOf (now (bytes .entry)) (length (now (reply .entry)))) (now (reply .entry)) (now (reply .exit)) r ⌝ }
 {
     if letters.len() != LETTERS {
         return false;

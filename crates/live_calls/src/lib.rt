@@ -22,7 +22,10 @@ ghost use Rattle.live_memory.specs.Layout.{rowBytes, edgeNumbers, headNumbers, 
 ghost use Rattle.live.specs.Called.{ifRoom, Called, PointDrawn};
 
 pub fn begin(heads: &mut [u16], party: u8, start: Point, reply: &mut [u16]) -> bool
-    ensures { λ r. ⌜ ((letters rows : List ℕ) (numbers : List ℤ) → Called (length (now (heads .entry)) ≡ headNumbers) (memory letters rows numbers (now (heads .entry))) (memory letters rows numbers (now (heads .exit))) (ifRoom (by party (Action.Begin start)) (length (now (reply .entry)))) (now (reply .entry)) (now (reply .exit)) r) ⌝ }
+    ensures { λ r. ⌜ ((letters rows : List ℕ) (numbers : List ℤ)
+        → Called (length (now (heads .entry))
+        ≡ headNumbers) (memory letters rows numbers (now (heads .entry))) (memory letters rows numbers (now (heads .exit)))
+        (ifRoom (by party (Action.Begin start)) (length (now (reply .entry)))) (now (reply .entry)) (now (reply .exit)) r) ⌝ }
 {
     if heads.len() != HEADS {
         return false;
@@ -35,7 +38,10 @@ pub fn begin(heads: &mut [u16], party: u8, start: Point, reply: &mut [u16]) -> b
 }
 
 pub fn add(letters: &mut [u8], heads: &mut [u16], party: u8, letter: u8, reply: &mut [u16]) -> bool
-    ensures { λ r. ⌜ ((rows : List ℕ) (numbers : List ℤ) → Called (DraftsFit (now (letters .entry)) (now (heads .entry))) (memory (now (letters .entry)) rows numbers (now (heads .entry))) (memory (now (letters .exit)) rows numbers (now (heads .exit))) (ifRoom (by party (Action.Add letter)) (length (now (reply .entry)))) (now (reply .entry)) (now (reply .exit)) r) ⌝ }
+    ensures { λ r. ⌜ ((rows : List ℕ) (numbers : List ℤ)
+        → Called (DraftsFit (now (letters .entry)) (now (heads .entry))) (memory (now (letters .entry)) rows numbers (now (heads .entry)))
+        (memory (now (letters .exit)) rows numbers (now (heads .exit)))
+        (ifRoom (by party (Action.Add letter)) (length (now (reply .entry)))) (now (reply .entry)) (now (reply .exit)) r) ⌝ }
 {
     if letters.len() != LETTERS {
         return false;
@@ -51,7 +57,10 @@ pub fn add(letters: &mut [u8], heads: &mut [u16], party: u8, letter: u8, reply: 
 }
 
 pub fn drop(heads: &mut [u16], party: u8, reply: &mut [u16]) -> bool
-    ensures { λ r. ⌜ ((letters rows : List ℕ) (numbers : List ℤ) → Called (length (now (heads .entry)) ≡ headNumbers) (memory letters rows numbers (now (heads .entry))) (memory letters rows numbers (now (heads .exit))) (ifRoom (by party Action.Drop) (length (now (reply .entry)))) (now (reply .entry)) (now (reply .exit)) r) ⌝ }
+    ensures { λ r. ⌜ ((letters rows : List ℕ) (numbers : List ℤ)
+        → Called (length (now (heads .entry))
+        ≡ headNumbers) (memory letters rows numbers (now (heads .entry))) (memory letters rows numbers (now (heads .exit)))
+        (ifRoom (by party Action.Drop) (length (now (reply .entry)))) (now (reply .entry)) (now (reply .exit)) r) ⌝ }
 {
     if heads.len() != HEADS {
         return false;
@@ -64,7 +73,10 @@ pub fn drop(heads: &mut [u16], party: u8, reply: &mut [u16]) -> bool
 }
 
 pub fn clear(heads: &mut [u16], party: u8, place: u8, reply: &mut [u16]) -> bool
-    ensures { λ r. ⌜ ((letters rows : List ℕ) (numbers : List ℤ) → Called (length (now (heads .entry)) ≡ headNumbers) (memory letters rows numbers (now (heads .entry))) (memory letters rows numbers (now (heads .exit))) (ifRoom (by party (Action.Clear place)) (length (now (reply .entry)))) (now (reply .entry)) (now (reply .exit)) r) ⌝ }
+    ensures { λ r. ⌜ ((letters rows : List ℕ) (numbers : List ℤ)
+        → Called (length (now (heads .entry))
+        ≡ headNumbers) (memory letters rows numbers (now (heads .entry))) (memory letters rows numbers (now (heads .exit)))
+        (ifRoom (by party (Action.Clear place)) (length (now (reply .entry)))) (now (reply .entry)) (now (reply .exit)) r) ⌝ }
 {
     if heads.len() != HEADS {
         return false;
@@ -85,7 +97,10 @@ pub fn close(
     place: u8,
     reply: &mut [u16],
 ) -> bool
-    ensures { λ r. ⌜ Called (Fits (memory (now (letters .entry)) (now (rows .entry)) (now (numbers .entry)) (now (heads .entry)))) (memory (now (letters .entry)) (now (rows .entry)) (now (numbers .entry)) (now (heads .entry))) (memory (now (letters .entry)) (now (rows .exit)) (now (numbers .exit)) (now (heads .exit))) (ifRoom (by party (Action.Close place)) (length (now (reply .entry)))) (now (reply .entry)) (now (reply .exit)) r ⌝ }
+    ensures { λ r. ⌜ Called (Fits (memory (now (letters .entry)) (now (rows .entry)) (now (numbers .entry)) (now (heads .entry))))
+        (memory (now (letters .entry)) (now (rows .entry)) (now (numbers .entry)) (now (heads .entry)))
+        (memory (now (letters .entry)) (now (rows .exit)) (now (numbers .exit)) (now (heads .exit)))
+        (ifRoom (by party (Action.Close place)) (length (now (reply .entry)))) (now (reply .entry)) (now (reply .exit)) r ⌝ }
 {
     if letters.len() != LETTERS {
         return false;
@@ -114,7 +129,12 @@ pub fn query(
     cell: Point,
     reply: &mut [u16],
 ) -> bool
-    ensures { λ r. ⌜ ((letters : List ℕ) (numbers : List ℤ) → Called ((length (now (rows .entry)) ≡ rowBytes) × (length (now (heads .entry)) ≡ headNumbers)) (memory letters (now (rows .entry)) numbers (now (heads .entry))) (memory letters (now (rows .entry)) numbers (now (heads .entry))) (ifRoom (by party (Action.Ask place (Question.Cell cell))) (length (now (reply .entry)))) (now (reply .entry)) (now (reply .exit)) r) ⌝ }
+    ensures { λ r. ⌜ ((letters : List ℕ) (numbers : List ℤ)
+        → Called ((length (now (rows .entry)) ≡ rowBytes)
+        × (length (now (heads .entry)) ≡ headNumbers)) (memory letters (now (rows .entry)) numbers (now (heads .entry)))
+        (memory letters (now (rows .entry)) numbers (now (heads .entry)))
+        (ifRoom (by party (Action.Ask place (Question.Cell cell))) (length (now (reply .entry)))) (now (reply .entry))
+        (now (reply .exit)) r) ⌝ }
 {
     if rows.len() != ROW_BYTES {
         return false;
@@ -130,7 +150,12 @@ pub fn query(
 }
 
 pub fn row(rows: &[u8], heads: &[u16], party: u8, place: u8, row: u16, reply: &mut [u16]) -> bool
-    ensures { λ r. ⌜ ((letters : List ℕ) (numbers : List ℤ) → Called ((length (now (rows .entry)) ≡ rowBytes) × (length (now (heads .entry)) ≡ headNumbers)) (memory letters (now (rows .entry)) numbers (now (heads .entry))) (memory letters (now (rows .entry)) numbers (now (heads .entry))) (ifRoom (by party (Action.Ask place (Question.Row row))) (length (now (reply .entry)))) (now (reply .entry)) (now (reply .exit)) r) ⌝ }
+    ensures { λ r. ⌜ ((letters : List ℕ) (numbers : List ℤ)
+        → Called ((length (now (rows .entry)) ≡ rowBytes)
+        × (length (now (heads .entry)) ≡ headNumbers)) (memory letters (now (rows .entry)) numbers (now (heads .entry)))
+        (memory letters (now (rows .entry)) numbers (now (heads .entry)))
+        (ifRoom (by party (Action.Ask place (Question.Row row))) (length (now (reply .entry)))) (now (reply .entry))
+        (now (reply .exit)) r) ⌝ }
 {
     if rows.len() != ROW_BYTES {
         return false;
@@ -153,7 +178,12 @@ pub fn reading(
     reading: Reading,
     reply: &mut [u16],
 ) -> bool
-    ensures { λ r. ⌜ ((letters : List ℕ) (rows : List ℕ) → Called ((length (now (numbers .entry)) ≡ edgeNumbers) × (length (now (heads .entry)) ≡ headNumbers)) (memory letters rows (now (numbers .entry)) (now (heads .entry))) (memory letters rows (now (numbers .entry)) (now (heads .entry))) (ifRoom (by party (Action.Ask place (Question.Reading reading))) (length (now (reply .entry)))) (now (reply .entry)) (now (reply .exit)) r) ⌝ }
+    ensures { λ r. ⌜ ((letters : List ℕ) (rows : List ℕ)
+        → Called ((length (now (numbers .entry)) ≡ edgeNumbers)
+        × (length (now (heads .entry)) ≡ headNumbers)) (memory letters rows (now (numbers .entry)) (now (heads .entry)))
+        (memory letters rows (now (numbers .entry)) (now (heads .entry)))
+        (ifRoom (by party (Action.Ask place (Question.Reading reading))) (length (now (reply .entry)))) (now (reply .entry))
+        (now (reply .exit)) r) ⌝ }
 {
     if numbers.len() != NUMBERS {
         return false;
@@ -178,8 +208,16 @@ pub fn piece(
     point: &mut [f32],
     reply: &mut [u16],
 ) -> bool
-    ensures call { λ r. ⌜ ((letters : List ℕ) (rows : List ℕ) → Called ((length (now (numbers .entry)) ≡ edgeNumbers) × (length (now (heads .entry)) ≡ headNumbers)) (memory letters rows (now (numbers .entry)) (now (heads .entry))) (memory letters rows (now (numbers .entry)) (now (heads .entry))) (ifRoom (by party (Action.Ask place (Question.Piece position))) (length (now (reply .entry)))) (now (reply .entry)) (now (reply .exit)) r) ⌝ }
-    ensures point { λ r. ⌜ ((letters : List ℕ) (rows : List ℕ) → PointDrawn (memory letters rows (now (numbers .entry)) (now (heads .entry))) (ifRoom (by party (Action.Ask place (Question.Piece position))) (length (now (reply .entry)))) (now (point .entry)) (now (point .exit)) r) ⌝ }
+    ensures call { λ r. ⌜ ((letters : List ℕ) (rows : List ℕ)
+        → Called ((length (now (numbers .entry)) ≡ edgeNumbers)
+        × (length (now (heads .entry)) ≡ headNumbers)) (memory letters rows (now (numbers .entry)) (now (heads .entry)))
+        (memory letters rows (now (numbers .entry)) (now (heads .entry)))
+        (ifRoom (by party (Action.Ask place (Question.Piece position))) (length (now (reply .entry)))) (now (reply .entry))
+        (now (reply .exit)) r) ⌝ }
+    ensures point { λ r. ⌜ ((letters : List ℕ) (rows : List ℕ)
+        → PointDrawn (memory letters rows (now (numbers .entry)) (now (heads .entry)))
+        (ifRoom (by party (Action.Ask place (Question.Piece position))) (length (now (reply .entry)))) (now (point .entry))
+        (now (point .exit)) r) ⌝ }
 {
     if numbers.len() != NUMBERS {
         return false;

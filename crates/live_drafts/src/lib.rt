@@ -18,7 +18,9 @@ ghost use Rattle.live_memory.specs.parts.Writes.{DraftPut, DraftAnswered};
 
 pub fn begin(heads: &mut [u16], party: usize, start: Point) -> Reply
     requires { ⌜ (party < parties) × (length (now heads) ≡ headNumbers) ⌝ }
-    ensures { λ r. ⌜ ((letters : List ℕ) → DraftAnswered letters (now (heads .entry)) letters (now (heads .exit)) party r (beginOf (draftAt letters (now (heads .entry)) party) start)) ⌝ }
+    ensures { λ r. ⌜ ((letters : List ℕ)
+        → DraftAnswered letters (now (heads .entry)) letters (now (heads .exit)) party r
+        (beginOf (draftAt letters (now (heads .entry)) party) start)) ⌝ }
 {
     let at = 4 * party;
     if heads[at] != 0 {
@@ -33,7 +35,8 @@ pub fn begin(heads: &mut [u16], party: usize, start: Point) -> Reply
 
 pub fn add(letters: &mut [u8], heads: &mut [u16], party: usize, letter: u8) -> Reply
     requires { ⌜ (party < parties) × DraftsFit (now letters) (now heads) ⌝ }
-    ensures { λ r. ⌜ DraftAnswered (now (letters .entry)) (now (heads .entry)) (now (letters .exit)) (now (heads .exit)) party r (addOf (draftAt (now (letters .entry)) (now (heads .entry)) party) letter) ⌝ }
+    ensures { λ r. ⌜ DraftAnswered (now (letters .entry)) (now (heads .entry)) (now (letters .exit)) (now (heads .exit)) party r
+        (addOf (draftAt (now (letters .entry)) (now (heads .entry)) party) letter) ⌝ }
 {
     let at = 4 * party;
     if heads[at] == 0 {
@@ -56,7 +59,8 @@ pub fn add(letters: &mut [u8], heads: &mut [u16], party: usize, letter: u8) -> R
 // Ends the draft.
 pub fn end(heads: &mut [u16], party: usize)
     requires { ⌜ (party < parties) × (length (now heads) ≡ headNumbers) ⌝ }
-    ensures { λ _. ⌜ ((letters : List ℕ) → DraftPut letters (now (heads .entry)) letters (now (heads .exit)) party (endOf (draftAt letters (now (heads .entry)) party))) ⌝ }
+    ensures { λ _. ⌜ ((letters : List ℕ)
+        → DraftPut letters (now (heads .entry)) letters (now (heads .exit)) party (endOf (draftAt letters (now (heads .entry)) party))) ⌝ }
 {
     let at = 4 * party;
     heads[at] = 0;
@@ -64,7 +68,9 @@ pub fn end(heads: &mut [u16], party: usize)
 
 pub fn drop(heads: &mut [u16], party: usize) -> Reply
     requires { ⌜ (party < parties) × (length (now heads) ≡ headNumbers) ⌝ }
-    ensures { λ r. ⌜ ((letters : List ℕ) → DraftAnswered letters (now (heads .entry)) letters (now (heads .exit)) party r (dropOf (draftAt letters (now (heads .entry)) party))) ⌝ }
+    ensures { λ r. ⌜ ((letters : List ℕ)
+        → DraftAnswered letters (now (heads .entry)) letters (now (heads .exit)) party r
+        (dropOf (draftAt letters (now (heads .entry)) party))) ⌝ }
 {
     let at = 4 * party;
     if heads[at] == 0 {

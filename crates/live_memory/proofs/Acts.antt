@@ -33,7 +33,8 @@ use Rattle.work.specs.Work.{listed, replaced, removed, hasEdges, answered}
 use Rattle.slots.specs.Slots.{acted, redrafted, clearOf, closedReply, closedWork, closedBy, closeOf, askOf, actedOf}
 use Rattle.holder.specs.declared.Holder.{Holder}
 use Rattle.holder.specs.declared.Answered.{Answered}
-use Rattle.holder.specs.Holder.{blankDraft, blankWork, draftOf, workOf, slot, withDraft, withWork, keptPlace, reachedBy, turned, actOf, answerOf}
+use Rattle.holder.specs.Holder.{blankDraft, blankWork, draftOf, workOf, slot, withDraft, withWork, keptPlace, reachedBy, turned, actOf}
+use Rattle.holder.specs.Holder.{answerOf}
 use Rattle.windows.specs.Windows.{window}
 use Rattle.live_memory.specs.Layout.{draftAt, workAt, holderOf, Memory, memory, holderIn}
 use Rattle.live_memory.specs.parts.Writes.{DraftPut, DraftAnswered, WorkPut, inHead, actWrites, callWrites, Acts, Answers}
@@ -72,24 +73,29 @@ module _ (letters heads letters′ heads′ rows : List ℕ) (numbers : List ℤ
   was = holderOf letters rows numbers heads
 
   drafted : (f : Draft → Drafted) → DraftAnswered letters heads letters′ heads′ p r (f (draftAt letters heads p))
-      → (r ≡ turned was p 0 (redrafted (f (draftOf was p)) (workOf was p 0)) .reply) × (holderOf letters′ rows numbers heads′ ≡ turned was p 0 (redrafted (f (draftOf was p)) (workOf was p 0)) .holder)
+      → (r ≡ turned was p 0 (redrafted (f (draftOf was p)) (workOf was p 0)) .reply)
+      × (holderOf letters′ rows numbers heads′ ≡ turned was p 0 (redrafted (f (draftOf was p)) (workOf was p 0)) .holder)
   drafted f s =
       let e : draftAt letters heads p ≡ draftOf was p = sym (draft-read letters rows numbers heads p l) in (
         s .reply ∙ ap (λ (d : Draft). f d .reply) e,
-        s .lists .holder rows numbers ∙ ap (λ (d : Draft). withDraft was p (f d .draft)) e ∙ sym (work-back was p 0 (f (draftOf was p) .draft)),
+        s .lists .holder rows numbers ∙ ap (λ (d : Draft). withDraft was p (f d .draft)) e
+            ∙ sym (work-back was p 0 (f (draftOf was p) .draft)),
       )
 
-  pub begin-acts : (s : Point) → DraftAnswered letters heads letters′ heads′ p r (beginOf (draftAt letters heads p) s) → Acts (memory letters rows numbers heads) (memory letters′ rows numbers heads′) p (Begin s) r
+  pub begin-acts : (s : Point) → DraftAnswered letters heads letters′ heads′ p r (beginOf (draftAt letters heads p) s)
+      → Acts (memory letters rows numbers heads) (memory letters′ rows numbers heads′) p (Begin s) r
   unfolding actOf actedOf reachedBy actWrites
   begin-acts s q = let both = drafted (λ (d : Draft). beginOf d s) q in
       record { reply = both .0; holder = both .1; others = λ i e. q .lists .others i (apart (4 * p) i e) }
 
-  pub add-acts : (a : ℕ) → DraftAnswered letters heads letters′ heads′ p r (addOf (draftAt letters heads p) a) → Acts (memory letters rows numbers heads) (memory letters′ rows numbers heads′) p (Add a) r
+  pub add-acts : (a : ℕ) → DraftAnswered letters heads letters′ heads′ p r (addOf (draftAt letters heads p) a)
+      → Acts (memory letters rows numbers heads) (memory letters′ rows numbers heads′) p (Add a) r
   unfolding actOf actedOf reachedBy actWrites
   add-acts a q = let both = drafted (λ (d : Draft). addOf d a) q in
       record { reply = both .0; holder = both .1; others = λ i e. q .lists .others i (apart (4 * p) i e) }
 
-  pub drop-acts : DraftAnswered letters heads letters′ heads′ p r (dropOf (draftAt letters heads p)) → Acts (memory letters rows numbers heads) (memory letters′ rows numbers heads′) p Drop r
+  pub drop-acts : DraftAnswered letters heads letters′ heads′ p r (dropOf (draftAt letters heads p))
+      → Acts (memory letters rows numbers heads) (memory letters′ rows numbers heads′) p Drop r
   unfolding actOf actedOf reachedBy actWrites
   drop-acts q = let both = drafted dropOf q in
       record { reply = both .0; holder = both .1; others = λ i e. q .lists .others i (apart (4 * p) i e) }
@@ -113,7 +119,8 @@ module _ (h : Holder) (p : ℕ) where
   unfolding actOf actedOf reachedBy clearOf
   clear-none k m = rw (kept-none k m, le-leb places k m)
 
-  ask-here : (k : ℕ) (q : Question) → k < places → actOf h p (Ask k q) ≡ turned h p k (acted (answered (workOf h p k) q) (draftOf h p) (workOf h p k))
+  ask-here : (k : ℕ) (q : Question) → k < places
+      → actOf h p (Ask k q) ≡ turned h p k (acted (answered (workOf h p k) q) (draftOf h p) (workOf h p k))
   unfolding actOf actedOf reachedBy askOf
   ask-here k q m = rw (kept-here k m, lt-leb places k m)
 
@@ -121,7 +128,10 @@ module _ (h : Holder) (p : ℕ) where
   unfolding actOf actedOf reachedBy askOf
   ask-none k q m = rw (kept-none k m, le-leb places k m)
 
-  close-here : (k : ℕ) → k < places → actOf h p (Close k) ≡ turned h p k (cond (draftOf h p .begun) (closedBy (draftOf h p) (workOf h p k) (judgedOf (outlineOf (draftOf h p)))) (acted NoDraft (draftOf h p) (workOf h p k)))
+  close-here : (k : ℕ) → k < places
+      → actOf h p (Close k)
+      ≡ turned h p k (cond (draftOf h p .begun) (closedBy (draftOf h p) (workOf h p k) (judgedOf (outlineOf (draftOf h p))))
+      (acted NoDraft (draftOf h p) (workOf h p k)))
   unfolding actOf actedOf reachedBy closeOf
   close-here k m = rw (kept-here k m, lt-leb places k m)
 
@@ -138,7 +148,8 @@ or-right false b e = e
 or-right true b e = absurd (true≢false e)
 
 -- The reply and the holder of a result, from the result
-acts-by : (m n : Memory) (p : ℕ) (a : Action) (r : Reply) (x : Answered) → actOf (holderIn m) p a ≡ x → r ≡ x .reply → holderIn n ≡ x .holder
+acts-by : (m n : Memory) (p : ℕ) (a : Action) (r : Reply) (x : Answered) → actOf (holderIn m) p a ≡ x → r ≡ x .reply
+    → holderIn n ≡ x .holder
     → ((i : ℕ) → actWrites p a i ≡ false → getD (n .heads) i 0 ≡ getD (m .heads) i 0) → Acts m n p a r
 acts-by m n p a r x e q w o =
     record { reply = q ∙ ap (λ (y : Answered). y .reply) (sym e); holder = w ∙ ap (λ (y : Answered). y .holder) (sym e); others = o }
@@ -155,7 +166,9 @@ module _ (p k i : ℕ) where
 
   close-work : k < places → actWrites p (Close k) i ≡ false → (i < 8 + 4 * slot p k) ⊎ (8 + 4 * slot p k + 4 ≤ i)
   unfolding actWrites
-  close-work m e = apart (8 + 4 * slot p k) i (sym (ap (λ (t : Bool). t && inHead (8 + 4 * slot p k) i) (lt-ltb k places m)) ∙ or-right (inHead (4 * p) i) _ e)
+  close-work m e =
+      apart (8 + 4 * slot p k) i (sym (ap (λ (t : Bool). t && inHead (8 + 4 * slot p k) i) (lt-ltb k places m))
+      ∙ or-right (inHead (4 * p) i) _ e)
 
 -- ---- clear and ask
 
@@ -164,82 +177,111 @@ module _ (letters rows : List ℕ) (numbers : List ℤ) (heads : List ℕ) (p : 
   lists = memory letters rows numbers heads
 
   pub clear-no-place : (k : ℕ) → places ≤ k → Acts lists lists p (Clear k) NoPlace
-  clear-no-place k m = acts-by lists lists p (Clear k) NoPlace _ (clear-none (holderIn lists) p k m) refl (sym (both-back (holderIn lists) p 0)) (λ i e. refl)
+  clear-no-place k m =
+      acts-by lists lists p (Clear k) NoPlace _ (clear-none (holderIn lists) p k m) refl (sym (both-back (holderIn lists) p 0))
+      (λ i e. refl)
 
   pub ask-no-place : (k : ℕ) (q : Question) → places ≤ k → Acts lists lists p (Ask k q) NoPlace
-  ask-no-place k q m = acts-by lists lists p (Ask k q) NoPlace _ (ask-none (holderIn lists) p k q m) refl (sym (both-back (holderIn lists) p 0)) (λ i e. refl)
+  ask-no-place k q m =
+      acts-by lists lists p (Ask k q) NoPlace _ (ask-none (holderIn lists) p k q m) refl (sym (both-back (holderIn lists) p 0))
+      (λ i e. refl)
 
-  pub ask-done : (k : ℕ) (q : Question) → k < places → (r : Reply) → r ≡ answered (workAt rows numbers heads (slot p k)) q → Acts lists lists p (Ask k q) r
+  pub ask-done : (k : ℕ) (q : Question) → k < places → (r : Reply) → r ≡ answered (workAt rows numbers heads (slot p k)) q
+      → Acts lists lists p (Ask k q) r
   ask-done k q m r e =
       acts-by lists lists p (Ask k q) r _ (ask-here (holderIn lists) p k q m)
-      (e ∙ ap (λ (w : Work). answered w q) (sym (work-read letters rows numbers heads p k l m))) (sym (both-back (holderIn lists) p k)) (λ i e. refl)
+      (e ∙ ap (λ (w : Work). answered w q) (sym (work-read letters rows numbers heads p k l m))) (sym (both-back (holderIn lists) p k))
+      (λ i e. refl)
 
-  pub clear-done : (k : ℕ) → k < places → (heads′ : List ℕ) → WorkPut rows numbers heads rows numbers heads′ p k (removed (workAt rows numbers heads (slot p k)))
+  pub clear-done : (k : ℕ) → k < places → (heads′ : List ℕ)
+      → WorkPut rows numbers heads rows numbers heads′ p k (removed (workAt rows numbers heads (slot p k)))
       → Acts lists (memory letters rows numbers heads′) p (Clear k) Done
   clear-done k m heads′ q =
       acts-by lists _ p (Clear k) Done _ (clear-here (holderIn lists) p k m) refl
-      (q .holder letters ∙ ap (λ (w : Work). withWork (holderIn lists) p k (removed w)) (sym (work-read letters rows numbers heads p k l m)) ∙ sym (work-alone (holderIn lists) p k (removed (workOf (holderIn lists) p k))))
+      (q .holder letters ∙ ap (λ (w : Work). withWork (holderIn lists) p k (removed w)) (sym (work-read letters rows numbers heads p k l m))
+      ∙ sym (work-alone (holderIn lists) p k (removed (workOf (holderIn lists) p k))))
       (λ i e. q .others i (clear-apart p k i m e))
 
   -- ---- close
 
   -- The draft ends, and nothing else changes
   ended : (k : ℕ) (heads′ : List ℕ) → DraftPut letters heads letters heads′ p (endOf (draftAt letters heads p))
-      → holderOf letters rows numbers heads′ ≡ withWork (withDraft (holderIn lists) p (endOf (draftOf (holderIn lists) p))) p k (workOf (holderIn lists) p k)
+      → holderOf letters rows numbers heads′
+      ≡ withWork (withDraft (holderIn lists) p (endOf (draftOf (holderIn lists) p))) p k (workOf (holderIn lists) p k)
   ended k heads′ q =
       q .holder rows numbers ∙ ap (λ (d : Draft). withDraft (holderIn lists) p (endOf d)) (sym (draft-read letters rows numbers heads p l))
       ∙ sym (work-back (holderIn lists) p k (endOf (draftOf (holderIn lists) p)))
 
-  pub close-no-place : (k : ℕ) → places ≤ k → (heads′ : List ℕ) → DraftPut letters heads letters heads′ p (endOf (draftAt letters heads p)) → Acts lists (memory letters rows numbers heads′) p (Close k) NoPlace
-  close-no-place k m heads′ q = acts-by lists _ p (Close k) NoPlace _ (close-none (holderIn lists) p k m) refl (ended 0 heads′ q) (λ i e. q .others i (close-draft p k i e))
+  pub close-no-place : (k : ℕ) → places ≤ k → (heads′ : List ℕ) → DraftPut letters heads letters heads′ p (endOf (draftAt letters heads p))
+      → Acts lists (memory letters rows numbers heads′) p (Close k) NoPlace
+  close-no-place k m heads′ q =
+      acts-by lists _ p (Close k) NoPlace _ (close-none (holderIn lists) p k m) refl (ended 0 heads′ q)
+      (λ i e. q .others i (close-draft p k i e))
 
   module _ (k : ℕ) (m : k < places) where
     pub close-no-draft : getD heads (4 * p) 0 ≡ 0 → Acts lists lists p (Close k) NoDraft
     close-no-draft e =
         acts-by lists lists p (Close k) NoDraft _
-        (close-here (holderIn lists) p k m ∙ ap (turned (holderIn lists) p k) (cond-no _ _ (ap (λ (d : Draft). d .begun) (draft-read letters rows numbers heads p l) ∙ none-begun letters heads p e)))
+        (close-here (holderIn lists) p k m
+        ∙ ap (turned (holderIn lists) p k)
+        (cond-no _ _ (ap (λ (d : Draft). d .begun) (draft-read letters rows numbers heads p l) ∙ none-begun letters heads p e)))
         refl (sym (both-back (holderIn lists) p k)) (λ i e. refl)
 
     module _ (e : getD heads (4 * p) 0 ≡ 0 → ⊥) (j : Judged) (judged : j ≡ judgedOf (outlineOf (draftAt letters heads p))) where
-      closes : actOf (holderIn lists) p (Close k) ≡ turned (holderIn lists) p k (closedBy (draftOf (holderIn lists) p) (workOf (holderIn lists) p k) j)
+      closes : actOf (holderIn lists) p (Close k)
+          ≡ turned (holderIn lists) p k (closedBy (draftOf (holderIn lists) p) (workOf (holderIn lists) p k) j)
       closes =
           close-here (holderIn lists) p k m
           ∙ ap (turned (holderIn lists) p k)
           (cond-yes _ _ (ap (λ (d : Draft). d .begun) (draft-read letters rows numbers heads p l) ∙ one-begun letters heads p e)
-          ∙ ap (closedBy (draftOf (holderIn lists) p) (workOf (holderIn lists) p k)) (ap (λ (d : Draft). judgedOf (outlineOf d)) (draft-read letters rows numbers heads p l) ∙ sym judged))
+          ∙ ap (closedBy (draftOf (holderIn lists) p) (workOf (holderIn lists) p k))
+          (ap (λ (d : Draft). judgedOf (outlineOf d)) (draft-read letters rows numbers heads p l) ∙ sym judged))
 
       module _ (f : Refusal) (v : j .verdict ≡ Refused f) where
-        refused-by : closedBy (draftOf (holderIn lists) p) (workOf (holderIn lists) p k) j ≡ acted (WasRefused f) (endOf (draftOf (holderIn lists) p)) (workOf (holderIn lists) p k)
+        refused-by : closedBy (draftOf (holderIn lists) p) (workOf (holderIn lists) p k) j
+            ≡ acted (WasRefused f) (endOf (draftOf (holderIn lists) p)) (workOf (holderIn lists) p k)
         unfolding closedBy closedReply closedWork
         refused-by = rw v
 
-        pub close-refused : (heads′ : List ℕ) → DraftPut letters heads letters heads′ p (endOf (draftAt letters heads p)) → Acts lists (memory letters rows numbers heads′) p (Close k) (WasRefused f)
-        close-refused heads′ q = acts-by lists _ p (Close k) (WasRefused f) _ (closes ∙ ap (turned (holderIn lists) p k) refused-by) refl (ended k heads′ q) (λ i e. q .others i (close-draft p k i e))
+        pub close-refused : (heads′ : List ℕ) → DraftPut letters heads letters heads′ p (endOf (draftAt letters heads p))
+            → Acts lists (memory letters rows numbers heads′) p (Close k) (WasRefused f)
+        close-refused heads′ q =
+            acts-by lists _ p (Close k) (WasRefused f) _ (closes
+            ∙ ap (turned (holderIn lists) p k) refused-by) refl (ended k heads′ q) (λ i e. q .others i (close-draft p k i e))
 
       module _ (n : ℕ) (a : Point) (v : j .verdict ≡ Taken n a) where
         abbrev next : Work
         next = replaced a (j .numbers) n (spansOf (outlineOf (draftOf (holderIn lists) p)))
 
         taken-by : closedBy (draftOf (holderIn lists) p) (workOf (holderIn lists) p k) j
-            ≡ acted (cond (hasEdges (workOf (holderIn lists) p k) a (listed (j .numbers) n)) (Same n a) (WasTaken n a)) (endOf (draftOf (holderIn lists) p)) next
+            ≡ acted (cond (hasEdges (workOf (holderIn lists) p k) a (listed (j .numbers) n)) (Same n a) (WasTaken n a))
+            (endOf (draftOf (holderIn lists) p)) next
         unfolding closedBy closedReply closedWork
         taken-by = rw v
 
-        module _ (same : Bool) (s : same ≡ hasEdges (workAt rows numbers heads (slot p k)) a (listed (j .numbers) n)) (r : Reply) (reply : r ≡ cond same (Same n a) (WasTaken n a))
-            (sp : Spans) (spans : sp ≡ spansOf (outlineOf (draftAt letters heads p))) (rows′ : List ℕ) (numbers′ : List ℤ) (heads₁ : List ℕ) (w : WorkPut rows numbers heads rows′ numbers′ heads₁ p k (replaced a (j .numbers) n sp))
+        module _ (same : Bool) (s : same ≡ hasEdges (workAt rows numbers heads (slot p k)) a (listed (j .numbers) n)) (r : Reply)
+            (reply : r ≡ cond same (Same n a) (WasTaken n a))
+            (sp : Spans) (spans : sp ≡ spansOf (outlineOf (draftAt letters heads p))) (rows′ : List ℕ) (numbers′ : List ℤ) (heads₁ : List ℕ)
+            (w : WorkPut rows numbers heads rows′ numbers′ heads₁ p k (replaced a (j .numbers) n sp))
             (heads′ : List ℕ) (q : DraftPut letters heads₁ letters heads′ p (endOf (draftAt letters heads₁ p))) where
           reply-is : r ≡ cond (hasEdges (workOf (holderIn lists) p k) a (listed (j .numbers) n)) (Same n a) (WasTaken n a)
-          reply-is = reply ∙ ap (λ (t : Bool). cond t (Same n a) (WasTaken n a)) (s ∙ ap (λ (x : Work). hasEdges x a (listed (j .numbers) n)) (sym (work-read letters rows numbers heads p k l m)))
+          reply-is =
+              reply ∙ ap (λ (t : Bool). cond t (Same n a) (WasTaken n a)) (s
+              ∙ ap (λ (x : Work). hasEdges x a (listed (j .numbers) n)) (sym (work-read letters rows numbers heads p k l m)))
 
           -- First the work is written
           middle : holderOf letters rows′ numbers′ heads₁ ≡ withWork (holderIn lists) p k next
-          middle = w .holder letters ∙ ap (λ (x : Spans). withWork (holderIn lists) p k (replaced a (j .numbers) n x)) (spans ∙ ap (λ (d : Draft). spansOf (outlineOf d)) (sym (draft-read letters rows numbers heads p l)))
+          middle = w .holder letters
+              ∙ ap (λ (x : Spans). withWork (holderIn lists) p k (replaced a (j .numbers) n x)) (spans
+              ∙ ap (λ (d : Draft). spansOf (outlineOf d)) (sym (draft-read letters rows numbers heads p l)))
 
           -- That leaves the draft
           same-draft : draftAt letters heads₁ p ≡ draftOf (holderIn lists) p
-          same-draft = sym (draft-read letters rows′ numbers′ heads₁ p l) ∙ ap (λ (g : Holder). draftOf g p) middle ∙ draft-after-work (holderIn lists) p k next
+          same-draft = sym (draft-read letters rows′ numbers′ heads₁ p l) ∙ ap (λ (g : Holder). draftOf g p) middle
+              ∙ draft-after-work (holderIn lists) p k next
 
-          left : holderOf letters rows′ numbers′ heads′ ≡ withWork (withDraft (holderIn lists) p (endOf (draftOf (holderIn lists) p))) p k next
+          left : holderOf letters rows′ numbers′ heads′
+              ≡ withWork (withDraft (holderIn lists) p (endOf (draftOf (holderIn lists) p))) p k next
           left =
               q .holder rows′ numbers′ ∙ ap₂ (λ (g : Holder) (d : Draft). withDraft g p (endOf d)) middle same-draft
               ∙ either-first (holderIn lists) p k (endOf (draftOf (holderIn lists) p)) next
@@ -254,7 +296,8 @@ pub no-party : (m : Memory) (c : Call) → parties ≤ c .party → Answers m m 
 unfolding answerOf
 no-party m c b = let e = le-leb parties (c .party) b in record { reply = rw e; holder = rw e; others = λ i z. refl }
 
-pub acts-answers : (m n : Memory) (c : Call) (r : Reply) (a : Action) → c .action ≡ a → c .party < parties → Acts m n (c .party) a r → Answers m n c r
+pub acts-answers : (m n : Memory) (c : Call) (r : Reply) (a : Action) → c .action ≡ a → c .party < parties → Acts m n (c .party) a r
+    → Answers m n c r
 unfolding answerOf callWrites
 acts-answers m n c r a t b q =
     let e = lt-leb parties (c .party) b in
@@ -266,10 +309,12 @@ acts-answers m n c r a t b q =
 
 -- ---- the outline of a draft
 
-pub outline-sent : (letters heads : List ℕ) (p : ℕ) (w : List ℕ) → w ≡ take (min (getD heads (4 * p + 3) 0) longest) (window (longest * p) longest letters)
+pub outline-sent : (letters heads : List ℕ) (p : ℕ) (w : List ℕ)
+    → w ≡ take (min (getD heads (4 * p + 3) 0) longest) (window (longest * p) longest letters)
     → outline (record { col = getD heads (4 * p + 1) 0; row = getD heads (4 * p + 2) 0 }) w ≡ outlineOf (draftAt letters heads p)
 unfolding outlineOf draftAt
 outline-sent letters heads p w e = rw e
 
-pub letters-window : (letters : List ℕ) (p count n : ℕ) → n ≡ min count longest → take n (drop (longest * p) letters) ≡ take (min count longest) (window (longest * p) longest letters)
+pub letters-window : (letters : List ℕ) (p count n : ℕ) → n ≡ min count longest
+    → take n (drop (longest * p) letters) ≡ take (min count longest) (window (longest * p) longest letters)
 letters-window letters p count n e = rw e (sym (take-take (min count longest) longest (drop (longest * p) letters) (omega arith)))

@@ -23,17 +23,32 @@ zeros n = replicate n 0
 zero-draft : (p : ℕ) → p < parties → draftAt (zeros letterBytes) (zeros headNumbers) p ≡ noDraft
 unfolding draftAt noDraft
 zero-draft p l =
-    rw (window-replicate {A = ℕ} (longest * p) longest letterBytes 0 (omega arith), getD-replicate {A = ℕ} headNumbers (4 * p) 0 0 (omega arith), getD-replicate {A = ℕ} headNumbers (4 * p + 1) 0 0 (omega arith), getD-replicate {A = ℕ} headNumbers (4 * p + 2) 0 0 (omega arith), getD-replicate {A = ℕ} headNumbers (4 * p + 3) 0 0 (omega arith))
+    rw (
+      window-replicate {A = ℕ} (longest * p) longest letterBytes 0 (omega arith),
+      getD-replicate {A = ℕ} headNumbers (4 * p) 0 0 (omega arith),
+      getD-replicate {A = ℕ} headNumbers (4 * p + 1) 0 0 (omega arith),
+      getD-replicate {A = ℕ} headNumbers (4 * p + 2) 0 0 (omega arith),
+      getD-replicate {A = ℕ} headNumbers (4 * p + 3) 0 0 (omega arith),
+    )
 
 zero-work : (s : ℕ) → s < parties * places → workAt (zeros rowBytes) (replicate edgeNumbers (pos 0)) (zeros headNumbers) s ≡ noWork
 unfolding workAt noWork
 zero-work s l =
-    rw (zeros-none s rowBytes (omega arith), window-replicate (mostNumbers * s) mostNumbers edgeNumbers (pos 0) (omega arith), getD-replicate {A = ℕ} headNumbers (8 + 4 * s) 0 0 (omega arith), getD-replicate {A = ℕ} headNumbers (8 + 4 * s + 1) 0 0 (omega arith), getD-replicate {A = ℕ} headNumbers (8 + 4 * s + 2) 0 0 (omega arith), getD-replicate {A = ℕ} headNumbers (8 + 4 * s + 3) 0 0 (omega arith))
+    rw (
+      zeros-none s rowBytes (omega arith),
+      window-replicate (mostNumbers * s) mostNumbers edgeNumbers (pos 0) (omega arith),
+      getD-replicate {A = ℕ} headNumbers (8 + 4 * s) 0 0 (omega arith),
+      getD-replicate {A = ℕ} headNumbers (8 + 4 * s + 1) 0 0 (omega arith),
+      getD-replicate {A = ℕ} headNumbers (8 + 4 * s + 2) 0 0 (omega arith),
+      getD-replicate {A = ℕ} headNumbers (8 + 4 * s + 3) 0 0 (omega arith),
+    )
 
 -- Arrays of zeros are a fresh holder
 pub zeros-fresh : holderOf (zeros letterBytes) (zeros rowBytes) (replicate edgeNumbers (pos 0)) (zeros headNumbers) ≡ freshHolder
 unfolding holderOf freshHolder
 zeros-fresh =
     ap₂ (λ (ds : List Draft) (ws : List Work). record { drafts = ds; works = ws })
-    (slots-below (λ (k : ℕ). noDraft) (draftAt (zeros letterBytes) (zeros headNumbers)) 0 parties (λ j b. zero-draft j (omega arith)) ∙ slots-replicate 0 parties noDraft)
-    (slots-below (λ (k : ℕ). noWork) (workAt (zeros rowBytes) (replicate edgeNumbers (pos 0)) (zeros headNumbers)) 0 (parties * places) (λ j b. zero-work j (omega arith)) ∙ slots-replicate 0 (parties * places) noWork)
+    (slots-below (λ (k : ℕ). noDraft) (draftAt (zeros letterBytes) (zeros headNumbers)) 0 parties (λ j b. zero-draft j (omega arith))
+    ∙ slots-replicate 0 parties noDraft)
+    (slots-below (λ (k : ℕ). noWork) (workAt (zeros rowBytes) (replicate edgeNumbers (pos 0)) (zeros headNumbers)) 0 (parties * places)
+    (λ j b. zero-work j (omega arith)) ∙ slots-replicate 0 (parties * places) noWork)

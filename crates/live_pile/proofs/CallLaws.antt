@@ -110,7 +110,8 @@ module _ (m : Memory) (c : PileCall) (reply : List ℕ) where
   pub short-called : length reply < replyWidth → Called m m c reply reply false
   short-called h = undone (λ f. sym (lt-leb replyWidth (length reply) h))
 
-  pub written-called : Fits m → replyWidth ≤ length reply → (n : Memory) (r : PileReply) → Acts m n c r → Fits n → (g : Fields) → g ≡ pileFields r
+  pub written-called : Fits m → replyWidth ≤ length reply → (n : Memory) (r : PileReply) → Acts m n c r → Fits n → (g : Fields)
+      → g ≡ pileFields r
       → (b : Bool) → b ≡ leb replyWidth (length reply) → (l : List ℕ) → l ≡ replyAfter g reply → Called m n c reply l b
   written-called f room n r a kept g named b told l put =
       let so : b ≡ true = told ∙ le-leb replyWidth (length reply) room in
@@ -146,7 +147,8 @@ module _ (g : Fields) (reply reply′ : List ℕ) (room : replyWidth ≤ length 
 
 -- ---- a call whose arrays have their lengths
 
-module _ (m n : Memory) (c : PileCall) (reply reply′ : List ℕ) (b : Bool) (f : Fits m) (size : length reply ≡ replyWidth) (t : Called m n c reply reply′ b) where
+module _ (m n : Memory) (c : PileCall) (reply reply′ : List ℕ) (b : Bool) (f : Fits m) (size : length reply ≡ replyWidth)
+    (t : Called m n c reply reply′ b) where
   pub sized-done : b ≡ true
   sized-done = t .done f ∙ le-leb replyWidth (length reply) (omega (arith, size))
 
@@ -159,7 +161,8 @@ module _ (m n : Memory) (c : PileCall) (reply reply′ : List ℕ) (b : Bool) (f
       }
 
 -- So a series can consist of such calls
-pub done-called : (m n : Memory) (c : PileCall) (reply reply′ : List ℕ) → Fits m → length reply ≡ replyWidth → Done m n c reply′ → Called m n c reply reply′ true
+pub done-called : (m n : Memory) (c : PileCall) (reply reply′ : List ℕ) → Fits m → length reply ≡ replyWidth → Done m n c reply′
+    → Called m n c reply reply′ true
 done-called m n c reply reply′ f size d =
     record {
       done = λ g. sym (le-leb replyWidth (length reply) (omega (arith, size)));
@@ -183,6 +186,7 @@ fresh-lists m f r s er es =
     record {
       done = λ f. refl;
       pile = λ f. rw (r′, s′) zeros-fresh;
-      fits = λ f. record { rows = ap length r′ ∙ length-replicate {A = ℕ} layerBytes 0; state = ap length s′ ∙ length-replicate {A = ℕ} 1 0 };
+      fits =
+          λ f. record { rows = ap length r′ ∙ length-replicate {A = ℕ} layerBytes 0; state = ap length s′ ∙ length-replicate {A = ℕ} 1 0 };
       unfit = λ n. absurd (n f);
     }

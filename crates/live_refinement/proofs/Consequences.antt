@@ -13,7 +13,8 @@ use Rattle.chart.specs.Outline.{Outline}
 use Rattle.chart.specs.declared.Fields.{Fields}
 use Rattle.chart.specs.declared.Point.{Point}
 use Rattle.chart.specs.declared.Refusal.{Refusal}
-use Rattle.chart.specs.declared.Refusal.the-variants.{Count, Start, Letter, Leaves, Unclosed, Touches, BackStep, Dent, Room, List as BadList, Cell, Directions}
+use Rattle.chart.specs.declared.Refusal.the-variants.{Count, Start, Letter, Leaves, Unclosed, Touches, BackStep, Dent, Room}
+use Rattle.chart.specs.declared.Refusal.the-variants.{List as BadList, Cell, Directions}
 use Rattle.chart.specs.declared.Verdict.{Verdict}
 use Rattle.chart.specs.declared.Verdict.the-variants.{Taken, Refused}
 use Rattle.chart.specs.Fields.{inside, outside, same, undecided, refusalFields, verdictFields}
@@ -28,7 +29,8 @@ use Rattle.spans.specs.declared.Span.{Span}
 use Rattle.spans.specs.declared.Span.the-variants.{None as Empty, Columns as Across}
 use Rattle.spans.specs.Spans.{rowSpan, SpanExact, spanReply}
 use Rattle.readings.specs.declared.Located.{Located}
-use Rattle.readings.specs.declared.Located.the-variants.{Inside as IsInside, Outside as IsOutside, Undecided as IsUndecided, Refused as IsRefused}
+use Rattle.readings.specs.declared.Located.the-variants.{Inside as IsInside, Outside as IsOutside, Undecided as IsUndecided}
+use Rattle.readings.specs.declared.Located.the-variants.{Refused as IsRefused}
 use Rattle.readings.specs.Located.{Held, badReading, exactlyInside, locatedOf}
 use Rattle.readings.specs.Claims.{Open}
 use Rattle.readings.specs.Replies.{locatedReply}
@@ -72,7 +74,8 @@ unfolding replyFields
 word-outside true = (λ e. absurd (omega (arith, e)), λ e. cc)
 word-outside false = (λ e. refl, λ e. refl)
 
-module _ (cs : List Call) (p k : ℕ) (there : p < parties) (place : k < places) (x : Point) (g : Fields) (replied : Replied cs (by p (Ask k (OfCell x))) g) where
+module _ (cs : List Call) (p k : ℕ) (there : p < parties) (place : k < places) (x : Point) (g : Fields)
+    (replied : Replied cs (by p (Ask k (OfCell x))) g) where
   -- 12 exactly if nothing was taken at the party's place since the last clear
   pub query-nothing : (g .number ≡ 12) ↔ (lastTaken p k cs ≡ none)
   query-nothing = rw (replied-by-value cs _ g replied) (Queries.query-nothing p k there place cs x)
@@ -80,10 +83,18 @@ module _ (cs : List Call) (p k : ℕ) (there : p < parties) (place : k < places)
   -- "Inside" exactly if the outline last taken there encloses the cell, otherwise "outside" (contract 8.4)
   module _ (o : Outline) (last : lastTaken p k cs ≡ some o) (col : x .col < side) (row : x .row < side) where
     pub query-inside : (g .word ≡ inside) ↔ (block o (x .col) (x .row) ≡ true)
-    query-inside = rw (replied-by-value cs _ g replied, Queries.query-answered p k there place cs x o last col row) (word-inside (block o (x .col) (x .row)))
+    query-inside =
+        rw (
+          replied-by-value cs _ g replied,
+          Queries.query-answered p k there place cs x o last col row,
+        ) (word-inside (block o (x .col) (x .row)))
 
     pub query-outside : (g .word ≡ outside) ↔ (block o (x .col) (x .row) ≡ false)
-    query-outside = rw (replied-by-value cs _ g replied, Queries.query-answered p k there place cs x o last col row) (word-outside (block o (x .col) (x .row)))
+    query-outside =
+        rw (
+          replied-by-value cs _ g replied,
+          Queries.query-answered p k there place cs x o last col row,
+        ) (word-outside (block o (x .col) (x .row)))
 
 -- ---- a close
 
@@ -131,7 +142,8 @@ never-same (Refused f) e = omega (arith, e, refusal-wordless f)
 never-same (Taken n a) e = omega (arith, e)
 
 -- A close by party p at place k with the draft o
-module _ (cs : List Call) (p k : ℕ) (there : p < parties) (place : k < places) (o : Outline) (draft : drafted (bookAfter fresh cs) p ≡ some o) (g : Fields)
+module _ (cs : List Call) (p k : ℕ) (there : p < parties) (place : k < places) (o : Outline)
+    (draft : drafted (bookAfter fresh cs) p ≡ some o) (g : Fields)
     (replied : Replied cs (by p (Close k)) g) where
   closed : g ≡ replyFields (closedReply (equalsWork o (lastTaken p k cs)) (verdictOf o))
   closed = replied-by-value cs _ g replied ∙ ap replyFields (Closes.close-reply p k there place cs o draft)
@@ -166,13 +178,15 @@ module _ (cs : List Call) (p k : ℕ) (there : p < parties) (place : k < places)
       from e =
           let (n, a, t) = taken-by-number (verdictOf o) (sym close-number ∙ e .0) in
           let s = Closes.close-same p k there place cs o draft v last n a .1 (t, e .1) in
-          ap (λ (f : Fields). f .word) closed ∙ word-same (equalsWork o (lastTaken p k cs)) (verdictOf o) .1 (n, a, sym (Closes.close-reply p k there place cs o draft) ∙ s)
+          ap (λ (f : Fields). f .word) closed
+          ∙ word-same (equalsWork o (lastTaken p k cs)) (verdictOf o) .1 (n, a, sym (Closes.close-reply p k there place cs o draft) ∙ s)
 
   -- Never if nothing is at work
   pub close-not-same : lastTaken p k cs ≡ none → g .word ≡ same → ⊥
   unfolding equalsWork
   close-not-same last e =
-      never-same (verdictOf o) (ap (λ (t : Bool). replyFields (closedReply t (verdictOf o)) .word) (sym (ap (equalsWork o) last)) ∙ sym (ap (λ (f : Fields). f .word) closed) ∙ e)
+      never-same (verdictOf o) (ap (λ (t : Bool). replyFields (closedReply t (verdictOf o)) .word) (sym (ap (equalsWork o) last))
+      ∙ sym (ap (λ (f : Fields). f .word) closed) ∙ e)
 
 -- ---- a row
 
@@ -182,7 +196,8 @@ unfolding SpanExact spanReply replyFields
 word-columns marked r Empty exact e c = absurd (omega (arith, e))
 word-columns marked r (Across a b) exact e c = exact c
 
-word-none : (marked : ℕ → ℕ → Bool) (r : ℕ) (s : Span) → SpanExact marked r s → replyFields (spanReply s) .word ≡ none-word → (c : ℕ) → marked c r ≡ false
+word-none : (marked : ℕ → ℕ → Bool) (r : ℕ) (s : Span) → SpanExact marked r s → replyFields (spanReply s) .word ≡ none-word → (c : ℕ)
+    → marked c r ≡ false
 unfolding SpanExact spanReply replyFields
 word-none marked r Empty exact e c = exact c
 word-none marked r (Across a b) exact e c = absurd (omega (arith, e))
@@ -192,7 +207,8 @@ unfolding spanReply replyFields
 either-word Empty = inr refl
 either-word (Across a b) = inl refl
 
-module _ (cs : List Call) (p k : ℕ) (there : p < parties) (place : k < places) (r : ℕ) (row : r < side) (o : Outline) (last : lastTaken p k cs ≡ some o) (g : Fields)
+module _ (cs : List Call) (p k : ℕ) (there : p < parties) (place : k < places) (r : ℕ) (row : r < side) (o : Outline)
+    (last : lastTaken p k cs ≡ some o) (g : Fields)
     (replied : Replied cs (by p (Ask k (OfRow r))) g) where
   spanned : g ≡ replyFields (spanReply (rowSpan (block o) r))
   spanned = replied-by-value cs _ g replied ∙ ap replyFields (Rows.row-reply p k there place cs r o last row)
@@ -203,23 +219,36 @@ module _ (cs : List Call) (p k : ℕ) (there : p < parties) (place : k < places)
   row-word = rw spanned (either-word (rowSpan (block o) r))
 
   pub row-columns : g .word ≡ columns → (c : ℕ) → (block o c r ≡ true) ↔ ((g .col ≤ c) × (c ≤ g .row))
-  row-columns e = let w = sym (ap (λ (f : Fields). f .word) spanned) ∙ e in rw spanned (word-columns (block o) r (rowSpan (block o) r) (Rows.row-exact p k there place cs r o last row) w)
+  row-columns e = let w = sym (ap (λ (f : Fields). f .word) spanned) ∙ e in
+      rw spanned (word-columns (block o) r (rowSpan (block o) r) (Rows.row-exact p k there place cs r o last row) w)
 
   pub row-none : g .word ≡ none-word → (c : ℕ) → block o c r ≡ false
-  row-none e = word-none (block o) r (rowSpan (block o) r) (Rows.row-exact p k there place cs r o last row) (sym (ap (λ (f : Fields). f .word) spanned) ∙ e)
+  row-none e =
+      word-none (block o) r (rowSpan (block o) r) (Rows.row-exact p k there place cs r o last row)
+      (sym (ap (λ (f : Fields). f .word) spanned) ∙ e)
 
 -- ---- a reading
 
 -- The word of a result
-word-of : (l : Located) → ((replyFields (locatedReply l) .word ≡ inside) ↔ (locatedReply l ≡ Inside)) × ((replyFields (locatedReply l) .word ≡ outside) ↔ (locatedReply l ≡ Outside))
+word-of : (l : Located)
+    → ((replyFields (locatedReply l) .word ≡ inside) ↔ (locatedReply l ≡ Inside))
+    × ((replyFields (locatedReply l) .word ≡ outside) ↔ (locatedReply l ≡ Outside))
     × ((replyFields (locatedReply l) .word ≡ undecided) ↔ (locatedReply l ≡ Undecided))
 unfolding locatedReply replyFields
-word-of IsInside = ((λ e. refl, λ e. refl), (λ e. absurd (omega (arith, e)), λ e. differ cc), (λ e. absurd (omega (arith, e)), λ e. differ cc))
-word-of IsOutside = ((λ e. absurd (omega (arith, e)), λ e. differ cc), (λ e. refl, λ e. refl), (λ e. absurd (omega (arith, e)), λ e. differ cc))
-word-of IsUndecided = ((λ e. absurd (omega (arith, e)), λ e. differ cc), (λ e. absurd (omega (arith, e)), λ e. differ cc), (λ e. refl, λ e. refl))
-word-of IsRefused = ((λ e. absurd (omega (arith, e)), λ e. differ cc), (λ e. absurd (omega (arith, e)), λ e. differ cc), (λ e. absurd (omega (arith, e)), λ e. differ cc))
+word-of IsInside =
+    ((λ e. refl, λ e. refl), (λ e. absurd (omega (arith, e)), λ e. differ cc), (λ e. absurd (omega (arith, e)), λ e. differ cc))
+word-of IsOutside =
+    ((λ e. absurd (omega (arith, e)), λ e. differ cc), (λ e. refl, λ e. refl), (λ e. absurd (omega (arith, e)), λ e. differ cc))
+word-of IsUndecided =
+    ((λ e. absurd (omega (arith, e)), λ e. differ cc), (λ e. absurd (omega (arith, e)), λ e. differ cc), (λ e. refl, λ e. refl))
+word-of IsRefused = (
+  (λ e. absurd (omega (arith, e)), λ e. differ cc),
+  (λ e. absurd (omega (arith, e)), λ e. differ cc),
+  (λ e. absurd (omega (arith, e)), λ e. differ cc),
+)
 
-module _ (cs : List Call) (p k : ℕ) (there : p < parties) (place : k < places) (x : Reading) (held : Held x) (good : badReading x ≡ false) (o : Outline) (last : lastTaken p k cs ≡ some o)
+module _ (cs : List Call) (p k : ℕ) (there : p < parties) (place : k < places) (x : Reading) (held : Held x) (good : badReading x ≡ false)
+    (o : Outline) (last : lastTaken p k cs ≡ some o)
     (g : Fields) (replied : Replied cs (by p (Ask k (OfReading x))) g) where
   abbrev found : Located
   found = locatedOf (border o .start) (edges (border o)) x
@@ -228,7 +257,8 @@ module _ (cs : List Call) (p k : ℕ) (there : p < parties) (place : k < places)
   reply-is = replied-by-value cs _ g replied ∙ ap replyFields (Readings.reading-reply p k there place cs x o last)
 
   -- The word determines the reply by value
-  word-iff : {w : ℕ} {r : Reply} → (replyFields (locatedReply found) .word ≡ w) ↔ (locatedReply found ≡ r) → (g .word ≡ w) ↔ (replyTo cs (by p (Ask k (OfReading x))) ≡ r)
+  word-iff : {w : ℕ} {r : Reply} → (replyFields (locatedReply found) .word ≡ w) ↔ (locatedReply found ≡ r)
+      → (g .word ≡ w) ↔ (replyTo cs (by p (Ask k (OfReading x))) ≡ r)
   word-iff i = (
     λ e. Readings.reading-reply p k there place cs x o last ∙ i .0 (sym (ap (λ (f : Fields). f .word) reply-is) ∙ e),
     λ e. ap (λ (f : Fields). f .word) reply-is ∙ i .1 (sym (Readings.reading-reply p k there place cs x o last) ∙ e),
@@ -250,13 +280,15 @@ module _ (cs : List Call) (p k : ℕ) (there : p < parties) (place : k < places)
 
 -- ---- a path command
 
-module _ (cs : List Call) (p k : ℕ) (there : p < parties) (place : k < places) (n : ℕ) (o : Outline) (last : lastTaken p k cs ≡ some o) where
-  -- The path command at position n of the drawing of the outline last taken: its word, and its point's cell (contract 7.11)
-  pub piece-fields : (g : Fields) → Replied cs (by p (Ask k (OfPiece n))) g → g ≡ replyFields (drawnReply (strokeAt (border o .start) (edges (border o)) n))
-  piece-fields g replied = replied-by-value cs _ g replied ∙ ap replyFields (Pieces.piece-reply p k there place cs o last n)
+module _ (cs : List Call) (p k : ℕ) (there : p < parties) (place : k < places) (n : ℕ) (o : Outline) (last : lastTaken p k cs ≡ some o)
+  where
+    -- The path command at position n of the drawing of the outline last taken: its word, and its point's cell (contract 7.11)
+    pub piece-fields : (g : Fields) → Replied cs (by p (Ask k (OfPiece n))) g
+        → g ≡ replyFields (drawnReply (strokeAt (border o .start) (edges (border o)) n))
+    piece-fields g replied = replied-by-value cs _ g replied ∙ ap replyFields (Pieces.piece-reply p k there place cs o last n)
 
-  -- The point that is written beside the reply: the two floats of a move or a line (contract 10.5)
-  pub piece-point : (h : Holder) → h ≡ holderAfter freshHolder cs → (point : List Float)
-      → pieceDrawn h (by p (Ask k (OfPiece n))) point ≡ pointAfter (pieceOf (strokeAt (border o .start) (edges (border o)) n)) point
-  unfolding pieceDrawn replyTo pieceIn drawnReply
-  piece-point h e point = rw e (ap (λ (r : Reply). pointAfter (pieceIn r) point) (Pieces.piece-reply p k there place cs o last n))
+    -- The point that is written beside the reply: the two floats of a move or a line (contract 10.5)
+    pub piece-point : (h : Holder) → h ≡ holderAfter freshHolder cs → (point : List Float)
+        → pieceDrawn h (by p (Ask k (OfPiece n))) point ≡ pointAfter (pieceOf (strokeAt (border o .start) (edges (border o)) n)) point
+    unfolding pieceDrawn replyTo pieceIn drawnReply
+    piece-point h e point = rw e (ap (λ (r : Reply). pointAfter (pieceIn r) point) (Pieces.piece-reply p k there place cs o last n))

@@ -22,13 +22,15 @@ use Rattle.wire.specs.declared.Decoded.{Decoded}
 use Rattle.wire.specs.declared.Decoded.the-variants.{Call as OfCall, Nothing}
 use Rattle.wire.specs.Wire.{replyWidth, decoded, received}
 use Rattle.live.specs.Called.{ifRoom}
-use Rattle.live_refinement.specs.Run.{Sent, Bytes, Arguments, Asked, Received, sentCall, callIn, withCall, callsIn, receivedInModel, nextBook, modelFrom, unreceived, Replied}
+use Rattle.live_refinement.specs.Run.{Sent, Bytes, Arguments, Asked, Received, sentCall, callIn, withCall, callsIn, receivedInModel}
+use Rattle.live_refinement.specs.Run.{nextBook, modelFrom, unreceived, Replied}
 use Rattle.live_refinement.proofs.Theorem.{run-theorem}
 
 -- ---- an entry of a whole list
 
 -- By value: the reply to c in a list of calls is the reply to c after the calls before it
-pub entry-by-value : (h : Holder) (us vs : List Call) (c : Call) (d : Reply) → getD (handledFrom h (us ++ (c ∷ vs))) (length us) d ≡ answerOf (holderAfter h us) c .reply
+pub entry-by-value : (h : Holder) (us vs : List Call) (c : Call) (d : Reply)
+    → getD (handledFrom h (us ++ (c ∷ vs))) (length us) d ≡ answerOf (holderAfter h us) c .reply
 unfolding handledFrom holderAfter
 entry-by-value h [] vs c d = refl
 entry-by-value h (u ∷ us) vs c d = entry-by-value (answerOf h u .holder) us vs c d
@@ -41,10 +43,12 @@ unfolding nextBook withCall bookAfter
 book-after b Nothing cs = refl
 book-after b (OfCall c) cs = refl
 
-booked-entry : (b : Book) (us : List Asked) (x : Asked) (vs : List Asked) → getD (modelFrom b (us ++ (x ∷ vs))) (length us) unreceived ≡ receivedInModel (bookAfter b (callsIn us)) (callIn x) (x .reply)
+booked-entry : (b : Book) (us : List Asked) (x : Asked) (vs : List Asked)
+    → getD (modelFrom b (us ++ (x ∷ vs))) (length us) unreceived ≡ receivedInModel (bookAfter b (callsIn us)) (callIn x) (x .reply)
 unfolding modelFrom callsIn bookAfter
 booked-entry b [] x vs = refl
-booked-entry b (u ∷ us) x vs = booked-entry (nextBook b (callIn u)) us x vs ∙ ap (λ (c : Book). receivedInModel c (callIn x) (x .reply)) (book-after b (callIn u) (callsIn us))
+booked-entry b (u ∷ us) x vs = booked-entry (nextBook b (callIn u)) us x vs
+    ∙ ap (λ (c : Book). receivedInModel c (callIn x) (x .reply)) (book-after b (callIn u) (callsIn us))
 
 -- A call that is answered has room for its reply
 room-of : (t : Bool) (d : Decoded) (c : Call) → cond t d Nothing ≡ OfCall c → t ≡ true
@@ -62,8 +66,10 @@ unfolding receivedInModel
 replied-by-value cs c g e =
     let x = e .asked in
     let xs = e .earlier ++ (x ∷ e .later) in
-    let received : getD (e .received) (length (e .earlier)) unreceived ≡ record { done = true; reply = replyAfter (replyFields (replyTo cs c)) (x .reply) } =
-    ap (λ (l : List Received). getD l (length (e .earlier)) unreceived) (run-theorem (e .given) (e .lists) (e .result) (e .fits) (e .freshened) xs (e .received) (e .left) (e .run))
+    let received : getD (e .received) (length (e .earlier)) unreceived
+    ≡ record { done = true; reply = replyAfter (replyFields (replyTo cs c)) (x .reply) } =
+    ap (λ (l : List Received). getD l (length (e .earlier)) unreceived)
+    (run-theorem (e .given) (e .lists) (e .result) (e .fits) (e .freshened) xs (e .received) (e .left) (e .run))
     ∙ booked-entry fresh (e .earlier) x (e .later)
     ∙ rw (e .calls, e .call, reply-after cs c) in
     sym (e .fields) ∙ ap (λ (y : Received). fieldsOf (y .reply)) received

@@ -22,7 +22,8 @@ use Rattle.wire.specs.declared.Decoded.{Decoded}
 use Rattle.wire.specs.declared.Decoded.the-variants.{Call as OfCall, Nothing}
 use Rattle.live_memory.specs.Layout.{Memory, holderIn, Fits}
 use Rattle.live.specs.Called.{isCall, nextHolder, replyBy, Called, Freshened}
-use Rattle.live_refinement.specs.Run.{Asked, Received, callIn, Run, stop, next, Calls, end, then, withCall, callsIn, receivedInModel, nextBook, modelFrom}
+use Rattle.live_refinement.specs.Run.{Asked, Received, callIn, Run, stop, next, Calls, end, then, withCall, callsIn, receivedInModel}
+use Rattle.live_refinement.specs.Run.{nextBook, modelFrom}
 
 abbrev received : Bool → List ℕ → Received
 received d l = record { done = d; reply = l }
@@ -35,7 +36,8 @@ module _ (F : Type 0) (m n : Memory) (d : Decoded) (reply reply′ : List ℕ) (
   unfolding isCall nextHolder replyBy
   by-value = go d refl
     where
-      go : (e : Decoded) → d ≡ e → (holderIn n ≡ nextHolder (holderIn m) d) × (received r reply′ ≡ received (isCall d) (replyBy (holderIn m) d reply))
+      go : (e : Decoded) → d ≡ e
+          → (holderIn n ≡ nextHolder (holderIn m) d) × (received r reply′ ≡ received (isCall d) (replyBy (holderIn m) d reply))
       go Nothing e =
           let no : r ≡ false = c .done f ∙ ap isCall e in
           let left = c .unaltered no in
@@ -61,7 +63,8 @@ module _ (b : Book) (h : Holder) (k : Represents h b) (d : Decoded) where
       go Nothing = k
       go (OfCall c) = call-agrees h b k c .1
 
-run-agrees : (m : Memory) (b : Book) → Fits m → Represents (holderIn m) b → (xs : List Asked) (ys : List Received) (k : Memory) → Run m xs ys k → ys ≡ modelFrom b xs
+run-agrees : (m : Memory) (b : Book) → Fits m → Represents (holderIn m) b → (xs : List Asked) (ys : List Received) (k : Memory)
+    → Run m xs ys k → ys ≡ modelFrom b xs
 unfolding modelFrom
 run-agrees m b f p [] [] k stop = refl
 run-agrees m b f p (x ∷ xs) (y ∷ ys) k (next {m = _} {n = n} F h c r) =
@@ -74,7 +77,8 @@ unfolding nextHolder withCall holderAfter
 after-next h Nothing cs = refl
 after-next h (OfCall c) cs = refl
 
-run-leaves : (m : Memory) → Fits m → (xs : List Asked) (ys : List Received) (k : Memory) → Run m xs ys k → Fits k × (holderIn k ≡ holderAfter (holderIn m) (callsIn xs))
+run-leaves : (m : Memory) → Fits m → (xs : List Asked) (ys : List Received) (k : Memory) → Run m xs ys k
+    → Fits k × (holderIn k ≡ holderAfter (holderIn m) (callsIn xs))
 unfolding callsIn holderAfter
 run-leaves m f [] [] k stop = (f, refl)
 run-leaves m f (x ∷ xs) (y ∷ ys) k (next {m = _} {n = n} F h c r) =
@@ -83,7 +87,8 @@ run-leaves m f (x ∷ xs) (y ∷ ys) k (next {m = _} {n = n} F h c r) =
     (rest .0, rest .1 ∙ ap (λ (g : Holder). holderAfter g (callsIn xs)) (one .0) ∙ after-next (holderIn m) (callIn x) (callsIn xs))
 
 -- Arrays that were made fresh, and calls made on them one by one, as bytes and by arguments in any mixture, with any reply buffers
-module _ (m n : Memory) (t : Bool) (f : Fits m) (s : Freshened m n t) (xs : List Asked) (ys : List Received) (k : Memory) (r : Run n xs ys k) where
+module _ (m n : Memory) (t : Bool) (f : Fits m) (s : Freshened m n t) (xs : List Asked) (ys : List Received) (k : Memory)
+    (r : Run n xs ys k) where
   -- What is received is what the model replies (contract 8.2 and 10.4)
   pub run-theorem : ys ≡ modelFrom fresh xs
   run-theorem = run-agrees n fresh (s .fits f) (rw (s .holder f) represents-fresh) xs ys k r
@@ -100,11 +105,13 @@ module _ (m n : Memory) (t : Bool) (f : Fits m) (s : Freshened m n t) (xs : List
 
 -- ---- the same for calls by their arguments only, as a C program makes them
 
-calls-handled : (m : Memory) (cs : List Call) (rs : List (List ℕ)) (k : Memory) → Calls m cs rs k → rs ≡ map (λ r. numbersOf (replyFields r)) (handledFrom (holderIn m) cs)
+calls-handled : (m : Memory) (cs : List Call) (rs : List (List ℕ)) (k : Memory) → Calls m cs rs k
+    → rs ≡ map (λ r. numbersOf (replyFields r)) (handledFrom (holderIn m) cs)
 unfolding handledFrom
 calls-handled m [] [] k end = refl
 calls-handled m (c ∷ cs) (reply ∷ rs) k (then {m = _} {n = n} d later) =
-    ap₂ _∷_ (d .replied) (calls-handled n cs rs k later ∙ ap (λ (h : Holder). map (λ r. numbersOf (replyFields r)) (handledFrom h cs)) (d .holder))
+    ap₂ _∷_ (d .replied) (calls-handled n cs rs k later
+    ∙ ap (λ (h : Holder). map (λ r. numbersOf (replyFields r)) (handledFrom h cs)) (d .holder))
 
 -- From arrays with a fresh holder, every reply is the model's, in seven numbers
 pub calls-theorem : (m : Memory) → holderIn m ≡ freshHolder → (cs : List Call) (rs : List (List ℕ)) (k : Memory) → Calls m cs rs k

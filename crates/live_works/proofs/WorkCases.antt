@@ -95,7 +95,9 @@ module _ (rows : List ℕ) (numbers : List ℤ) (heads : List ℕ) (s : ℕ) whe
 
     pub row-span : r < side → spanReply (spanAt (spansAt rows s) r) ≡ spanned (workAt rows numbers heads s) r
     unfolding spanned
-    row-span h = sym (cond-yes _ _ (busy rows numbers heads s e) ∙ cond-no _ _ (lt-leb side r h) ∙ ap (λ (x : Spans). spanReply (spanAt x r)) spans-are)
+    row-span h =
+        sym (cond-yes _ _ (busy rows numbers heads s e) ∙ cond-no _ _ (lt-leb side r h)
+        ∙ ap (λ (x : Spans). spanReply (spanAt x r)) spans-are)
 
   -- ---- the edges
 
@@ -117,7 +119,8 @@ module _ (rows : List ℕ) (numbers : List ℤ) (heads : List ℕ) (s : ℕ) whe
   unfolding readAt
   reading-none x e = sym (cond-no _ _ (idle rows numbers heads s e))
 
-  pub reading-here : (x : Reading) → (getD heads (8 + 4 * s) 0 ≡ 0 → ⊥) → locatedReply (locatedOf anchorAt edgesAt x) ≡ readAt (workAt rows numbers heads s) x
+  pub reading-here : (x : Reading) → (getD heads (8 + 4 * s) 0 ≡ 0 → ⊥)
+      → locatedReply (locatedOf anchorAt edgesAt x) ≡ readAt (workAt rows numbers heads s) x
   unfolding readAt workEdges workAt
   reading-here x e = sym (cond-yes _ _ (busy rows numbers heads s e))
 
@@ -125,12 +128,14 @@ module _ (rows : List ℕ) (numbers : List ℤ) (heads : List ℕ) (s : ℕ) whe
   unfolding drawnAt
   piece-none n e = sym (cond-no _ _ (idle rows numbers heads s e))
 
-  pub piece-here : (n : ℕ) → (getD heads (8 + 4 * s) 0 ≡ 0 → ⊥) → drawnReply (strokeAt anchorAt edgesAt n) ≡ drawnAt (workAt rows numbers heads s) n
+  pub piece-here : (n : ℕ) → (getD heads (8 + 4 * s) 0 ≡ 0 → ⊥)
+      → drawnReply (strokeAt anchorAt edgesAt n) ≡ drawnAt (workAt rows numbers heads s) n
   unfolding drawnAt workEdges workAt
   piece-here n e = sym (cond-yes _ _ (busy rows numbers heads s e))
 
 -- The first numbers of a window are those of the list from the window's start
-pub edges-window : (numbers : List ℤ) (s e n : ℕ) → n ≡ min (2 * e) mostNumbers → take n (drop (mostNumbers * s) numbers) ≡ listed (window (mostNumbers * s) mostNumbers numbers) e
+pub edges-window : (numbers : List ℤ) (s e n : ℕ) → n ≡ min (2 * e) mostNumbers
+    → take n (drop (mostNumbers * s) numbers) ≡ listed (window (mostNumbers * s) mostNumbers numbers) e
 unfolding listed
 edges-window numbers s e n h = rw h (sym (take-take (min (2 * e) mostNumbers) mostNumbers (drop (mostNumbers * s) numbers) (omega arith)))
 
@@ -144,8 +149,19 @@ module _ (rows : List ℕ) (numbers : List ℤ) (heads : List ℕ) (s : ℕ) (a 
   module _ (e : getD heads (8 + 4 * s) 0 ≡ 0 → ⊥) where
     pub has-apart : samePoint (anchorAt rows numbers heads s) a ≡ false → false ≡ hasEdges (workAt rows numbers heads s) a es
     unfolding hasEdges
-    has-apart p = sym (ap (λ (t : Bool). t && (samePoint (workAt rows numbers heads s .anchor) a && sameℤs (workEdges (workAt rows numbers heads s)) es)) (busy rows numbers heads s e) ∙ ap (λ (t : Bool). t && sameℤs (workEdges (workAt rows numbers heads s)) es) (ap (λ (x : Point). samePoint x a) (anchor-is rows numbers heads s) ∙ p))
+    has-apart p =
+        sym (ap (λ (t : Bool). t
+        && (samePoint (workAt rows numbers heads s .anchor) a && sameℤs (workEdges (workAt rows numbers heads s)) es))
+        (busy rows numbers heads s e)
+        ∙ ap (λ (t : Bool). t && sameℤs (workEdges (workAt rows numbers heads s)) es)
+        (ap (λ (x : Point). samePoint x a) (anchor-is rows numbers heads s) ∙ p))
 
-    pub has-here : samePoint (anchorAt rows numbers heads s) a ≡ true → (b : Bool) (l : List ℤ) → b ≡ sameℤs l es → l ≡ edgesAt rows numbers heads s → b ≡ hasEdges (workAt rows numbers heads s) a es
+    pub has-here : samePoint (anchorAt rows numbers heads s) a ≡ true → (b : Bool) (l : List ℤ) → b ≡ sameℤs l es
+        → l ≡ edgesAt rows numbers heads s → b ≡ hasEdges (workAt rows numbers heads s) a es
     unfolding hasEdges
-    has-here p b l q same = q ∙ ap (λ (x : List ℤ). sameℤs x es) (same ∙ sym (edges-are rows numbers heads s)) ∙ sym (ap (λ (t : Bool). t && (samePoint (workAt rows numbers heads s .anchor) a && sameℤs (workEdges (workAt rows numbers heads s)) es)) (busy rows numbers heads s e) ∙ ap (λ (t : Bool). t && sameℤs (workEdges (workAt rows numbers heads s)) es) (ap (λ (x : Point). samePoint x a) (anchor-is rows numbers heads s) ∙ p))
+    has-here p b l q same = q ∙ ap (λ (x : List ℤ). sameℤs x es) (same ∙ sym (edges-are rows numbers heads s))
+        ∙ sym (ap (λ (t : Bool). t
+        && (samePoint (workAt rows numbers heads s .anchor) a && sameℤs (workEdges (workAt rows numbers heads s)) es))
+        (busy rows numbers heads s e)
+        ∙ ap (λ (t : Bool). t && sameℤs (workEdges (workAt rows numbers heads s)) es)
+        (ap (λ (x : Point). samePoint x a) (anchor-is rows numbers heads s) ∙ p))

@@ -29,7 +29,9 @@ ghost use Rattle.live_memory.specs.parts.Writes.{WorkPut};
 // Leaves nothing at work at the place.
 pub fn remove(heads: &mut [u16], party: usize, place: usize)
     requires { ⌜ (party < parties) × (place < places) × (length (now heads) ≡ headNumbers) ⌝ }
-    ensures { λ _. ⌜ ((rows : List ℕ) (numbers : List ℤ) → WorkPut rows numbers (now (heads .entry)) rows numbers (now (heads .exit)) party place (removed (workAt rows numbers (now (heads .entry)) (4 * party + place)))) ⌝ }
+    ensures { λ _. ⌜ ((rows : List ℕ) (numbers : List ℤ)
+        → WorkPut rows numbers (now (heads .entry)) rows numbers (now (heads .exit)) party place
+        (removed (workAt rows numbers (now (heads .entry)) (4 * party + place)))) ⌝ }
 {
     let at = 8 + 4 * (4 * party + place);
     heads[at] = 0;
@@ -135,7 +137,8 @@ pub fn piece(numbers: &[i16], heads: &[u16], slot: usize, position: u16) -> Repl
 // Copies the numbers of edges into a buffer, from an index on.
 fn put_numbers(list: &[i16; MOST_NUMBERS], at: usize, buffer: &mut [i16])
     requires { ⌜ at + mostNumbers ≤ length (now buffer) ⌝ }
-    ensures { λ _. ⌜ (now (buffer .exit) ≡ paste (now (buffer .entry)) at (now (list .entry)) mostNumbers) × (length (now (list .entry)) ≡ mostNumbers) ⌝ }
+    ensures { λ _. ⌜ (now (buffer .exit) ≡ paste (now (buffer .entry)) at (now (list .entry)) mostNumbers)
+        × (length (now (list .entry)) ≡ mostNumbers) ⌝ }
 {
     let all = &list[..];
     let mut i = 0;
@@ -156,7 +159,8 @@ pub fn has(
     edges: u16,
 ) -> bool
     requires { ⌜ (slot < parties * places) × (length (now numbers) ≡ edgeNumbers) × (length (now heads) ≡ headNumbers) ⌝ }
-    ensures { λ r. ⌜ ((rows : List ℕ) → r ≡ hasEdges (workAt rows (now (numbers .entry)) (now (heads .entry)) slot) anchor (listed (now (list .entry)) edges)) ⌝ }
+    ensures { λ r. ⌜ ((rows : List ℕ) → r
+        ≡ hasEdges (workAt rows (now (numbers .entry)) (now (heads .entry)) slot) anchor (listed (now (list .entry)) edges)) ⌝ }
 {
     let at = 8 + 4 * slot;
     if heads[at] == 0 {
@@ -191,7 +195,8 @@ pub fn replace(
     edges: u16,
 )
     requires { ⌜ (party < parties) × (place < places) × WorksFit (now rows) (now numbers) (now heads) ⌝ }
-    ensures { λ _. ⌜ WorkPut (now (rows .entry)) (now (numbers .entry)) (now (heads .entry)) (now (rows .exit)) (now (numbers .exit)) (now (heads .exit)) party place (replaced anchor (now (list .entry)) edges (spansOf (outline start (now (letters .entry))))) ⌝ }
+    ensures { λ _. ⌜ WorkPut (now (rows .entry)) (now (numbers .entry)) (now (heads .entry)) (now (rows .exit)) (now (numbers .exit))
+        (now (heads .exit)) party place (replaced anchor (now (list .entry)) edges (spansOf (outline start (now (letters .entry))))) ⌝ }
 {
     let slot = 4 * party + place;
     put_outline(rows, slot, start, letters);

@@ -68,7 +68,8 @@ module _ {o : Outline} {a : Point} {es : List ℤ} (h : HasEdges o a es) where
   own-fit =
       record {
         passes = taken-passes o (h .reaches) (h .smooth);
-        placed = met-every onChart (pairs (edges (border o))) _ _ (λ u v m. cell-on (corner-is-cell (border o) (clear-of o (h .reaches)) u v m));
+        placed =
+            met-every onChart (pairs (edges (border o))) _ _ (λ u v m. cell-on (corner-is-cell (border o) (clear-of o (h .reaches)) u v m));
       }
 
   pub taken-fit : Fit (polygon a es)

@@ -24,4 +24,5 @@ rows-exchanged p q =
 
 pub nesting-exchanged : (p q : Polygon) → nesting q p ≡ exchanged (nesting p q)
 unfolding nesting
-nesting-exchanged p q = ap (byTests (liesWithin q p) (liesWithin p q)) (rows-exchanged p q) ∙ tests-exchanged (liesWithin p q) (liesWithin q p) (rowsMeet p q)
+nesting-exchanged p q = ap (byTests (liesWithin q p) (liesWithin p q)) (rows-exchanged p q)
+    ∙ tests-exchanged (liesWithin p q) (liesWithin q p) (rowsMeet p q)

@@ -40,7 +40,8 @@ within-of ds x c l h = and-eq-true-iff _ _ .1 (at-most-iff (lowestMet ds x) c .1
 
 module _ {w i j k : ℕ} (g : 0 < w) (e : w ≡ i + j + k) where
   mean-between :
-      (ds : List ℤ) (x c : ℤ) {p q t : ℤ} → Meanℤ w i j k c p q t → within ds x p ≡ true → within ds x q ≡ true → within ds x t ≡ true → within ds x c ≡ true
+      (ds : List ℤ) (x c : ℤ) {p q t : ℤ} → Meanℤ w i j k c p q t → within ds x p ≡ true → within ds x q ≡ true → within ds x t ≡ true
+      → within ds x c ≡ true
   mean-between ds x c {p} {q} {t} h l m n =
       let a = within-parts ds x p l in
       let b = within-parts ds x q m in
@@ -48,11 +49,14 @@ module _ {w i j k : ℕ} (g : 0 < w) (e : w ≡ i + j + k) where
       within-of ds x c (mean-low g e (lowestMet ds x) h (a .0) (b .0) (d .0)) (mean-high g e (highestMet ds x) h (a .1) (b .1) (d .1))
 
   mean-inner :
-      {es : List Edge} {x y c r cp rp cq rq ct rt : ℤ} → Meanℤ w i j k c cp cq ct → Meanℤ w i j k r rp rq rt → Inner es x y cp rp → Inner es x y cq rq
+      {es : List Edge} {x y c r cp rp cq rq ct rt : ℤ} → Meanℤ w i j k c cp cq ct → Meanℤ w i j k r rp rq rt → Inner es x y cp rp
+      → Inner es x y cq rq
       → Inner es x y ct rt → Inner es x y c r
   mean-inner h l p q t =
       record {
-        side = λ ex ey u v fs m. mean-least g (mean-side ex ey u v e h l) (p .side ex ey u v fs m) (q .side ex ey u v fs m) (t .side ex ey u v fs m);
+        side =
+            λ ex ey u v fs m. mean-least g (mean-side ex ey u v e h l) (p .side ex ey u v fs m) (q .side ex ey u v fs m)
+            (t .side ex ey u v fs m);
       }
 
   pub mean-inside :
@@ -62,5 +66,6 @@ module _ {w i j k : ℕ} (g : 0 < w) (e : w ≡ i + j + k) where
       let a = inside-parts es x y cp rp p in
       let b = inside-parts es x y cq rq q in
       let d = inside-parts es x y ct rt t in
-      inside-of-parts es x y c r (mean-between (colSteps es) x c h (a .0) (b .0) (d .0)) (mean-between (rowSteps es) y r l (a .1) (b .1) (d .1))
+      inside-of-parts es x y c r (mean-between (colSteps es) x c h (a .0) (b .0) (d .0))
+      (mean-between (rowSteps es) y r l (a .1) (b .1) (d .1))
       (none-outside es x y c r (mean-inner h l (inner es x y cp rp (a .2)) (inner es x y cq rq (b .2)) (inner es x y ct rt (d .2))))

@@ -34,7 +34,11 @@ module _ (p : Polygon) (fit : Fit p) where
       let p = corner-low (h .p .met) in
       let q = corner-low (h .q .met) in
       let t = corner-low (h .t .met) in
-      omega (arith, mean-high (h .some) refl (pos (side - 1)) cols (p .0) (q .0) (t .0), mean-high (h .some) refl (pos (side - 1)) rows (p .1) (q .1) (t .1))
+      omega (
+        arith,
+        mean-high (h .some) refl (pos (side - 1)) cols (p .0) (q .0) (t .0),
+        mean-high (h .some) refl (pos (side - 1)) rows (p .1) (q .1) (t .1),
+      )
 
 -- ---- the theorem
 

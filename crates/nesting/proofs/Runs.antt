@@ -25,7 +25,8 @@ In lo hi c = (lo ≤ c) × (c < hi)
 -- The side value at column c is dy·c plus the side value at column 0
 pub side-column :
     (dx dy x y r : ℤ) (c : ℕ)
-    → Is (sideValue dx dy x y (pos c) r) (up (sideValue dx dy x y (pos 0) r) + up dy * c) (down (sideValue dx dy x y (pos 0) r) + down dy * c)
+    → Is (sideValue dx dy x y (pos c) r) (up (sideValue dx dy x y (pos 0) r) + up dy * c)
+    (down (sideValue dx dy x y (pos 0) r) + down dy * c)
 side-column dx dy x y r c =
     let s = is-cross (is-self dx) (is-self dy) (is-minus (is-self (pos c)) (is-self x)) (is-self (r -ℤ y)) in
     let t = is-cross (is-self dx) (is-self dy) (is-minus (is-self (pos 0)) (is-self x)) (is-self (r -ℤ y)) in
@@ -51,7 +52,8 @@ in-edge (negsuc n) (pos b) c h = omega (arith, le-div-iff-mul-le {k = suc n} {x 
 in-edge (negsuc n) (negsuc b) c h = absurd (omega arith)
 
 -- All edges
-edges-in : (es : List Edge) (x y r : ℤ) (c : ℕ) → c < side → noneOutside es x y (pos c) r ≡ true → In (edgesFrom es x y r) (edgesTo es x y r) c
+edges-in : (es : List Edge) (x y r : ℤ) (c : ℕ) → c < side → noneOutside es x y (pos c) r ≡ true
+    → In (edgesFrom es x y r) (edgesTo es x y r) c
 unfolding noneOutside edgesFrom edgesTo
 edges-in [] x y r c l e = omega arith
 edges-in ((dx, dy) ∷ es) x y r c l e =
@@ -132,7 +134,8 @@ run-below p r = go (within (rowSteps (p .edges)) (pos (p .anchor .row)) (pos r))
   where
     go :
         (s : Bool)
-        → cond s (min (endAfter (highestMet (colSteps (p .edges)) (pos (p .anchor .col)))) (edgesTo (p .edges) (pos (p .anchor .col)) (pos (p .anchor .row)) (pos r))) 0
+        → cond s (min (endAfter (highestMet (colSteps (p .edges)) (pos (p .anchor .col))))
+        (edgesTo (p .edges) (pos (p .anchor .col)) (pos (p .anchor .row)) (pos r))) 0
         ≤ side
     go true = omega (arith, edges-below (p .edges) (pos (p .anchor .col)) (pos (p .anchor .row)) (pos r))
     go false = omega arith

@@ -29,14 +29,16 @@ corner-hull {es} {x} {y} {u} {v} m =
 
 -- A cell inside the first polygon is a mean of its corner cells, so it is inside any polygon that contains them
 corners-hold :
-    (es : List Edge) (x y : ℤ) (fs : List Edge) (a b c r : ℤ) → ((u v : ℤ) → Met es x y u v → insideAt fs a b u v ≡ true) → InCornerHull es x y c r
+    (es : List Edge) (x y : ℤ) (fs : List Edge) (a b c r : ℤ) → ((u v : ℤ) → Met es x y u v → insideAt fs a b u v ≡ true)
+    → InCornerHull es x y c r
     → insideAt fs a b c r ≡ true
 corners-hold es x y fs a b c r h m =
     mean-inside (m .some) refl fs a b c r (m .p .col) (m .p .row) (m .q .col) (m .q .row) (m .t .col) (m .t .row) (record { is = m .cols })
     (record { is = m .rows }) (h _ _ (m .p .met)) (h _ _ (m .q .met)) (h _ _ (m .t .met))
 
 -- For a polygon that passes, a cell is in the hull exactly if it is inside
-pub holds-iff : (p : Polygon) → Fit p → (c r : ℕ) → (insideAt (p .edges) (pos (p .anchor .col)) (pos (p .anchor .row)) (pos c) (pos r) ≡ true) ↔ Holds p (record { col = c; row = r })
+pub holds-iff : (p : Polygon) → Fit p → (c r : ℕ)
+    → (insideAt (p .edges) (pos (p .anchor .col)) (pos (p .anchor .row)) (pos c) (pos r) ≡ true) ↔ Holds p (record { col = c; row = r })
 holds-iff p fit c r = inside-at-iff-hull (pos (p .anchor .col)) (pos (p .anchor .row)) (p .edges) (pos c) (pos r) (fit .passes)
 
 -- Corner cells of a polygon

@@ -18,7 +18,8 @@ byTests false false false = Apart
 
 -- Every corner cell of the first is inside the second
 unfoldable pub liesWithin : Polygon → Polygon → Bool
-liesWithin p q = cornersInside (p .edges) (pos (p .anchor .col)) (pos (p .anchor .row)) (q .edges) (pos (q .anchor .col)) (pos (q .anchor .row))
+liesWithin p q =
+    cornersInside (p .edges) (pos (p .anchor .col)) (pos (p .anchor .row)) (q .edges) (pos (q .anchor .col)) (pos (q .anchor .row))
 
 unfoldable pub nesting : Polygon → Polygon → Nesting
 nesting p q = byTests (liesWithin p q) (liesWithin q p) (rowsMeet p q)

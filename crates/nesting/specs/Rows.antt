@@ -47,12 +47,14 @@ endAfter (negsuc n) = 0
 -- The interval of row r, within the extremes of the corner cells
 unfoldable pub runFrom : Polygon → ℕ → ℕ
 runFrom p r =
-    max (startAt (lowestMet (colSteps (p .edges)) (pos (p .anchor .col)))) (edgesFrom (p .edges) (pos (p .anchor .col)) (pos (p .anchor .row)) (pos r))
+    max (startAt (lowestMet (colSteps (p .edges)) (pos (p .anchor .col))))
+    (edgesFrom (p .edges) (pos (p .anchor .col)) (pos (p .anchor .row)) (pos r))
 
 unfoldable pub runTo : Polygon → ℕ → ℕ
 runTo p r =
     cond (within (rowSteps (p .edges)) (pos (p .anchor .row)) (pos r))
-    (min (endAfter (highestMet (colSteps (p .edges)) (pos (p .anchor .col)))) (edgesTo (p .edges) (pos (p .anchor .col)) (pos (p .anchor .row)) (pos r)))
+    (min (endAfter (highestMet (colSteps (p .edges)) (pos (p .anchor .col))))
+    (edgesTo (p .edges) (pos (p .anchor .col)) (pos (p .anchor .row)) (pos r)))
     0
 
 -- The intervals of two polygons in row r have a common column

@@ -34,7 +34,8 @@ drop-take (suc a) m (x ∷ l) = rw suc-add (drop-take a m l)
 pub part-of-take : (a b e : ℕ) (l : List ℕ) → a ≤ b → b ≤ e → take (b - a) (drop a (take e l)) ≡ take (b - a) (drop a l)
 part-of-take a b e l h k =
     let z : e ≡ a + (e - a) = omega arith in
-    ap (λ (n : ℕ). take (b - a) (drop a (take n l))) z ∙ ap (take (b - a)) (drop-take a (e - a) l) ∙ take-take (b - a) (e - a) (drop a l) (omega arith)
+    ap (λ (n : ℕ). take (b - a) (drop a (take n l))) z ∙ ap (take (b - a)) (drop-take a (e - a) l)
+    ∙ take-take (b - a) (e - a) (drop a l) (omega arith)
 
 module _ {o : Outline} {at buffer : List ℕ} (h : Laid o at buffer) where
   pub laid-rising : (k : ℕ) → k < 4 → getD at k 0 ≤ getD at (suc k) 0
@@ -62,4 +63,5 @@ laid-round {o} places = record { places = places; within = omega (arith, length-
 
 -- Read once, if the pieces go round once
 pub laid-once : {o : Outline} {at : List ℕ} → ((k : ℕ) → k ≤ 4 → getD at k 0 ≡ cut o k) → cut o 4 ≡ size o → Laid o at (o .letters)
-laid-once {o} places round = record { places = places; within = omega arith; letters = sym (take-rounds (o .letters) (cut o 4) (omega arith)) }
+laid-once {o} places round =
+    record { places = places; within = omega arith; letters = sym (take-rounds (o .letters) (cut o 4) (omega arith)) }

@@ -55,7 +55,9 @@ kept-nothing s h =
     record {
       exact = λ c r.
           not-held (inSpans s c r) (λ e.
-          let k = ltb-true c (rows (s .past) r) (and-right (leb (rows (s .first) r) c) (ltb c (rows (s .past) r)) (and-right (ltb r side) _ e)) in
+          let k =
+          ltb-true c (rows (s .past) r) (and-right (leb (rows (s .first) r) c) (ltb c (rows (s .past) r)) (and-right (ltb r side) _ e))
+          in
           omega (arith, h r));
       whole = λ x m. true≢false (sym (m .hull .p-marked));
       fits = λ r. omega (arith, h r);
@@ -85,7 +87,9 @@ kept-some o n a e =
 
 -- Past the last layer nothing is kept
 past-last : (l : ℕ) → layers ≤ l → layerAt (replicate layers noSpans) l ≡ record { first = []; past = [] }
-past-last l h = List·getD-eq-default (replicate layers noSpans) (record { first = []; past = [] }) {n = l} (omega (arith, length-replicate {A = Spans} layers noSpans))
+past-last l h =
+    List·getD-eq-default (replicate layers noSpans) (record { first = []; past = [] }) {n = l}
+    (omega (arith, length-replicate {A = Spans} layers noSpans))
 
 -- ---- in step
 
@@ -139,8 +143,14 @@ module _ (b : PileBook) (p : Pile) (t : InStep b p) where
         size = length-set (p .layers) l s ∙ t .size;
         kept = λ i.
             elim (ℕ-discrete i l) [
-              | yes e ↦ rw (e, put-here (b .layers) l v, getD-set-same (p .layers) l s (record { first = []; past = [] }) (omega (arith, t .size))) k
-              | no e ↦ rw (put-elsewhere (b .layers) l v i e, getD-set-other (p .layers) l i s (record { first = []; past = [] }) e) (t .kept i)
+              | yes e ↦
+                  rw (
+                    e,
+                    put-here (b .layers) l v,
+                    getD-set-same (p .layers) l s (record { first = []; past = [] }) (omega (arith, t .size)),
+                  ) k
+              | no e ↦
+                  rw (put-elsewhere (b .layers) l v i e, getD-set-other (p .layers) l i s (record { first = []; past = [] }) e) (t .kept i)
             ];
         same = refl;
         whole = λ e. absurd (true≢false (sym e));
@@ -148,12 +158,14 @@ module _ (b : PileBook) (p : Pile) (t : InStep b p) where
 
   -- ---- the calls
 
-  set-verdict : (l : ℕ) (o : Outline) → l ≤ lastLayer → (v : Verdict) → verdictOf o ≡ v → (setAs p l o v .reply ≡ Judged v) × InStep (setBook b l o v) (setAs p l o v .pile)
+  set-verdict : (l : ℕ) (o : Outline) → l ≤ lastLayer → (v : Verdict) → verdictOf o ≡ v
+      → (setAs p l o v .reply ≡ Judged v) × InStep (setBook b l o v) (setAs p l o v .pile)
   unfolding setAs setBook
   set-verdict l o h (Refused f) e = (refl, t)
   set-verdict l o h (Taken n a) e = (refl, step-put l (some o) (spansOf o) h (kept-some o n a e))
 
-  step-set : (l : ℕ) (o : Outline) → Answers b (Set l o) (setOf p l o .reply) × InStep (next b (Set l o) (setOf p l o .reply)) (setOf p l o .pile)
+  step-set : (l : ℕ) (o : Outline)
+      → Answers b (Set l o) (setOf p l o .reply) × InStep (next b (Set l o) (setOf p l o .reply)) (setOf p l o .pile)
   unfolding Answers next setOf
   step-set l o =
       elim (decLt lastLayer l) [
@@ -193,10 +205,12 @@ module _ (b : PileBook) (p : Pile) (t : InStep b p) where
   step-query : (l : ℕ) (x : Point) → queryOf p l x ≡ queried b l x
   unfolding queryOf queried locatedIn located
   step-query l x =
-      rw (t .same) (ap (λ (v : Bool). cond (ltb lastLayer l) Layer (cond (b .passed) (cond (badCell x) Cell (cond v Inside Outside)) NotPassed)) (t .kept l .exact (x .col) (x .row)))
+      rw (t .same) (ap (λ (v : Bool). cond (ltb lastLayer l) Layer
+      (cond (b .passed) (cond (badCell x) Cell (cond v Inside Outside)) NotPassed)) (t .kept l .exact (x .col) (x .row)))
 
 -- Each call's reply is the model's, and the two stay in step
-call-agrees : (b : PileBook) (p : Pile) → InStep b p → (c : PileCall) → Answers b c (answerOf p c .reply) × InStep (next b c (answerOf p c .reply)) (answerOf p c .pile)
+call-agrees : (b : PileBook) (p : Pile) → InStep b p → (c : PileCall)
+    → Answers b c (answerOf p c .reply) × InStep (next b c (answerOf p c .reply)) (answerOf p c .pile)
 unfolding answerOf Answers next
 call-agrees b p t (Set l o) = step-set b p t l o
 call-agrees b p t (SetEmpty l) = step-empty b p t l
@@ -228,7 +242,8 @@ bookOf cs = bookAfter fresh cs (pileReplies freshPile cs)
 abbrev pub pileOf : List PileCall → Pile
 pileOf cs = pileAfter freshPile cs
 
-passed-query : (b : PileBook) (l : ℕ) (x : Point) → b .passed ≡ true → l ≤ lastLayer → badCell x ≡ false → queried b l x ≡ located (b .layers l) x
+passed-query : (b : PileBook) (l : ℕ) (x : Point) → b .passed ≡ true → l ≤ lastLayer → badCell x ≡ false
+    → queried b l x ≡ located (b .layers l) x
 unfolding queried
 passed-query b l x e h k = rw (le-ltb lastLayer l h, e, k)
 
@@ -283,11 +298,13 @@ module _ (ls : Layers) where
   checked-once r s (passes cs rs) (column c h d f) = absurd (no-dent (cs c h) d)
   checked-once r s (passes cs rs) (row i h cs′ d f) = absurd (no-dent (rs i h) d)
   checked-once r s (column c h d f) (passes cs rs) = absurd (no-dent (cs c h) d)
-  checked-once r s (column c h d f) (column c′ h′ d′ f′) = ap (Dented 0) (least (λ k. HasDent (columnMarks ls k)) (λ k. Convex (columnMarks ls k)) (λ k. no-dent) c c′ d f d′ f′)
+  checked-once r s (column c h d f) (column c′ h′ d′ f′) =
+      ap (Dented 0) (least (λ k. HasDent (columnMarks ls k)) (λ k. Convex (columnMarks ls k)) (λ k. no-dent) c c′ d f d′ f′)
   checked-once r s (column c h d f) (row i h′ cs d′ f′) = absurd (no-dent (cs c h) d)
   checked-once r s (row i h cs d f) (passes cs′ rs) = absurd (no-dent (rs i h) d)
   checked-once r s (row i h cs d f) (column c h′ d′ f′) = absurd (no-dent (cs c h′) d′)
-  checked-once r s (row i h cs d f) (row i′ h′ cs′ d′ f′) = ap (Dented 1) (least (λ k. HasDent (rowMarks ls k)) (λ k. Convex (rowMarks ls k)) (λ k. no-dent) i i′ d f d′ f′)
+  checked-once r s (row i h cs d f) (row i′ h′ cs′ d′ f′) =
+      ap (Dented 1) (least (λ k. HasDent (rowMarks ls k)) (λ k. Convex (rowMarks ls k)) (λ k. no-dent) i i′ d f d′ f′)
 
 answer-once : (b : PileBook) (c : PileCall) (r s : PileReply) → Answers b c r → Answers b c s → r ≡ s
 unfolding Answers

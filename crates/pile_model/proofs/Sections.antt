@@ -133,7 +133,8 @@ module _ (v : Option Outline) (s : Spans) (t : KeptAs v s) where
       f r = inRow (s .first) (s .past) c r
 
       run : Run f
-      run i j k h l m e g = row-marks c j (omega arith) ∙ marks-run c i j k h l m (sym (row-marks c i (omega arith)) ∙ e) (sym (row-marks c k m) ∙ g)
+      run i j k h l m e g = row-marks c j (omega arith)
+          ∙ marks-run c i j k h l m (sym (row-marks c i (omega arith)) ∙ e) (sym (row-marks c k m) ∙ g)
 
   row-exact : (c r : ℕ) → r < side → (marks v c r ≡ true) ↔ ((rows (s .first) r ≤ c) × (c < rows (s .past) r))
   unfolding inRow

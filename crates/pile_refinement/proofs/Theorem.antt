@@ -16,7 +16,8 @@ use Rattle.pile_model.proofs.ListTheorem.{pile-theorem, replies-once, bookOf, s
 use Rattle.live_pile.specs.Layout.{layerBytes, Memory, memory, pileIn, Fits}
 use Rattle.live_pile.specs.Called.{Freshened}
 use Rattle.live_pile.proofs.CallLaws.{fits-by, fresh-lists}
-use Rattle.pile_refinement.specs.Series.{Asked, Received, Series, stop, made, Calls, end, then, roomy, callsIn, answered, passedOver, receivedFor}
+use Rattle.pile_refinement.specs.Series.{Asked, Received, Series, stop, made, Calls, end, then, roomy, callsIn, answered, passedOver}
+use Rattle.pile_refinement.specs.Series.{receivedFor}
 
 abbrev received : Bool → List ℕ → Received
 received b l = record { done = b; reply = l }
@@ -32,7 +33,8 @@ module _ (x : Asked) (xs : List Asked) where
   unfolding callsIn
   callsIn-none e = rw e
 
-  receivedFor-room : (r : PileReply) (rs : List PileReply) → roomy x ≡ true → receivedFor (x ∷ xs) (r ∷ rs) ≡ answered x r ∷ receivedFor xs rs
+  receivedFor-room : (r : PileReply) (rs : List PileReply) → roomy x ≡ true
+      → receivedFor (x ∷ xs) (r ∷ rs) ≡ answered x r ∷ receivedFor xs rs
   unfolding receivedFor
   receivedFor-room r rs e = rw e
 
@@ -83,7 +85,8 @@ series-received m f (x ∷ xs) (y ∷ ys) n (made {m = _} {k = k} c s) = go (roo
         let no : y .done ≡ false = c .done f ∙ e in
         let (same, same-reply) = c .unaltered no in (
           ap₂ _∷_ (ap₂ received no same-reply) (rest ∙ ap (λ (k : Memory). receivedFor xs (pileReplies (pileIn k) (callsIn xs))) same)
-              ∙ sym (ap (λ (cs : List PileCall). receivedFor (x ∷ xs) (pileReplies (pileIn m) cs)) (callsIn-none x xs e) ∙ receivedFor-none x xs _ e),
+              ∙ sym (ap (λ (cs : List PileCall). receivedFor (x ∷ xs) (pileReplies (pileIn m) cs)) (callsIn-none x xs e)
+              ∙ receivedFor-none x xs _ e),
           fit,
           left ∙ ap (λ (k : Memory). pileAfter (pileIn k) (callsIn xs)) same ∙ sym (ap (pileAfter (pileIn m)) (callsIn-none x xs e)),
         )
@@ -107,7 +110,8 @@ module _ (m n : Memory) (t : Bool) (f : Fits m) (s : Freshened m n t) (xs : List
   -- No other replies are the model's
   pub series-once : (rs : List PileReply) → AllAnswer fresh (callsIn xs) rs → ys ≡ receivedFor xs rs
   series-once rs a =
-      series-fresh ∙ ap (receivedFor xs) (replies-once (callsIn xs) fresh (pileReplies freshPile (callsIn xs)) rs (pile-theorem (callsIn xs)) a)
+      series-fresh ∙ ap (receivedFor xs)
+      (replies-once (callsIn xs) fresh (pileReplies freshPile (callsIn xs)) rs (pile-theorem (callsIn xs)) a)
 
   -- The state says whether the model has passed
   pub state-theorem : pileIn k .passed ≡ bookOf (callsIn xs) .passed

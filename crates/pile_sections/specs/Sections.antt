@@ -1,4 +1,5 @@
--- The section at each column and each row of a pile's layers, and the first that is dented (contract 12.2 to 12.4). The layers are those kept.
+-- The section at each column and each row of a pile's layers, and the first that is dented (contract 12.2 to 12.4). The layers are those
+-- kept.
 use Prim.Native.Nat.{ℕ, _-_}
 use mathlib.Core.Bool.{Bool, not, _&&_}
 use mathlib.Core.List.{List, []}
@@ -29,10 +30,12 @@ afterHighest s c = side - first (λ k. inRow (s .first) (s .past) c (side - 1 - 
 
 -- The section at column c: for each layer, the rows with that column. The section at row r: for each layer, the columns of that row
 unfoldable pub columnSection : List Spans → ℕ → Section
-columnSection ls c = record { lo = table (λ l. lowestRow (layerAt ls l) c) 0 layers; past = table (λ l. afterHighest (layerAt ls l) c) 0 layers }
+columnSection ls c =
+    record { lo = table (λ l. lowestRow (layerAt ls l) c) 0 layers; past = table (λ l. afterHighest (layerAt ls l) c) 0 layers }
 
 unfoldable pub rowSection : List Spans → ℕ → Section
-rowSection ls r = record { lo = table (λ l. rows (layerAt ls l .first) r) 0 layers; past = table (λ l. rows (layerAt ls l .past) r) 0 layers }
+rowSection ls r =
+    record { lo = table (λ l. rows (layerAt ls l .first) r) 0 layers; past = table (λ l. rows (layerAt ls l .past) r) 0 layers }
 
 unfoldable pub columnClear : List Spans → ℕ → Bool
 columnClear ls c = clear (numbers (columnSection ls c .lo)) (numbers (columnSection ls c .past))

@@ -26,7 +26,8 @@ not-negative-machine (negsuc a) = refl
 pub at-most-difference : (a b : ℤ) → leZ b a ≡ notNegative (a -ℤ b)
 at-most-difference a b =
     let iff = le-iff (is-self (pos 0)) (is-minus (is-self a) (is-self b)) in
-    same-test (leZ b a) (leZ (pos 0) (a -ℤ b)) (at-most-iff b a) (λ e. omega (arith, iff .0 e), λ h. iff .1 (omega arith)) ∙ not-negative-machine (a -ℤ b)
+    same-test (leZ b a) (leZ (pos 0) (a -ℤ b)) (at-most-iff b a) (λ e. omega (arith, iff .0 e), λ h. iff .1 (omega arith))
+    ∙ not-negative-machine (a -ℤ b)
 
 pub positive-machine : (a : ℤ) → ltZ (pos 0) a ≡ positive a
 unfolding positive

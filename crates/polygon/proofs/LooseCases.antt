@@ -52,11 +52,13 @@ module _ (a : Point) (es : List ℤ) (x : Point) where
   unfolding looseOf
   loose-cell e h k = rw (e, h, k)
 
-  pub loose-turning : badList es ≡ false → badCell a ≡ false → badCell x ≡ false → badDirections es ≡ true → Refused Directions ≡ looseOf a es x
+  pub loose-turning : badList es ≡ false → badCell a ≡ false → badCell x ≡ false → badDirections es ≡ true
+      → Refused Directions ≡ looseOf a es x
   unfolding looseOf
   loose-turning e h k t = rw (e, h, k, t)
 
   pub loose-edges :
-      badList es ≡ false → badCell a ≡ false → badCell x ≡ false → badDirections es ≡ false → looseOf a es x ≡ cond (insideEdges a es x) Inside Outside
+      badList es ≡ false → badCell a ≡ false → badCell x ≡ false → badDirections es ≡ false
+      → looseOf a es x ≡ cond (insideEdges a es x) Inside Outside
   unfolding looseOf
   loose-edges e h k t = rw (e, h, k, t)

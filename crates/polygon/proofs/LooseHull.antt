@@ -28,7 +28,8 @@ module _ (a : Point) (es : List ℤ) (x : Point) where
 
   named :
       (l c t i : Bool) → badDirections es ≡ t → insideEdges a es x ≡ i
-      → HullNamed a es x (positionFields (cond l (Refused BadList) (cond c (Refused Cell) (cond t (Refused Directions) (cond i Inside Outside)))))
+      → HullNamed a es x (positionFields
+      (cond l (Refused BadList) (cond c (Refused Cell) (cond t (Refused Directions) (cond i Inside Outside)))))
   named true c t i p q = unnamed BadList refl
   named false true t i p q = unnamed Cell refl
   named false false true i p q = unnamed Directions refl
@@ -53,7 +54,8 @@ turned-back a es x = go (badList es) (badCell a || badCell x) (badDirections es)
     number p = positionFields p .number
 
     go :
-        (l c t i : Bool) → cond l (Refused BadList) (cond c (Refused Cell) (cond t (Refused Directions) (cond i Inside Outside))) ≡ Refused Directions
+        (l c t i : Bool) → cond l (Refused BadList) (cond c (Refused Cell) (cond t (Refused Directions) (cond i Inside Outside)))
+        ≡ Refused Directions
         → t ≡ true
     go true c t i e = absurd (omega (arith, ap number e))
     go false true t i e = absurd (omega (arith, ap number e))
@@ -62,5 +64,6 @@ turned-back a es x = go (badList es) (badCell a || badCell x) (badDirections es)
     go false false false false e = absurd (omega (arith, ap number e))
 
 -- So it is never refused by 16 for the edges of a taken outline
-pub taken-passed : (o : Outline) → Reaches o → dentPiece (border o) ≡ 4 → (a x : Point) → looseOf a (edges (border o)) x ≡ Refused Directions → ⊥
+pub taken-passed : (o : Outline) → Reaches o → dentPiece (border o) ≡ 4 → (a x : Point)
+    → looseOf a (edges (border o)) x ≡ Refused Directions → ⊥
 taken-passed o h smooth a x e = true≢false (sym (turned-back a (edges (border o)) x e) ∙ taken-passes o h smooth)

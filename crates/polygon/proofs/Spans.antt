@@ -11,7 +11,8 @@ use lib.Signed.{leZ}
 use Rattle.chart.specs.Limits.{longestList}
 use Rattle.chart.specs.declared.Point.{Point}
 use Rattle.convexity.specs.Edges.{Edge, pairs}
-use Rattle.convexity.specs.Inside.{notNegative, minℤ, maxℤ, sideValue, noneOutside, colSteps, rowSteps, lowestMet, highestMet, within, insideAt, insideEdges}
+use Rattle.convexity.specs.Inside.{notNegative, minℤ, maxℤ, sideValue, noneOutside, colSteps, rowSteps, lowestMet, highestMet, within}
+use Rattle.convexity.specs.Inside.{insideAt, insideEdges}
 use Rattle.polygon.specs.declared.Span.{Span}
 use Rattle.polygon.specs.parts.Span.{begun, met, spans}
 use mir.Syntax.{w16}
@@ -31,12 +32,14 @@ meets f (d ∷ ds) x = f (x +ℤ d) || meets f ds (x +ℤ d)
 
 -- If the smaller of two numbers passes a test whenever one of them does, the lowest number met
 -- passes it exactly if some number met does. The same for the highest
-pub lowest-meets : (f : ℤ → Bool) → ((a b : ℤ) → f (minℤ a b) ≡ (f a || f b)) → (ds : List ℤ) (x : ℤ) → f (lowestMet ds x) ≡ (f x || meets f ds x)
+pub lowest-meets : (f : ℤ → Bool) → ((a b : ℤ) → f (minℤ a b) ≡ (f a || f b)) → (ds : List ℤ) (x : ℤ)
+    → f (lowestMet ds x) ≡ (f x || meets f ds x)
 unfolding meets lowestMet
 lowest-meets f h [] x = sym (or-false _)
 lowest-meets f h (d ∷ ds) x = h x (lowestMet ds (x +ℤ d)) ∙ ap (λ (b : Bool). f x || b) (lowest-meets f h ds (x +ℤ d))
 
-pub highest-meets : (f : ℤ → Bool) → ((a b : ℤ) → f (maxℤ a b) ≡ (f a || f b)) → (ds : List ℤ) (x : ℤ) → f (highestMet ds x) ≡ (f x || meets f ds x)
+pub highest-meets : (f : ℤ → Bool) → ((a b : ℤ) → f (maxℤ a b) ≡ (f a || f b)) → (ds : List ℤ) (x : ℤ)
+    → f (highestMet ds x) ≡ (f x || meets f ds x)
 unfolding meets highestMet
 highest-meets f h [] x = sym (or-false _)
 highest-meets f h (d ∷ ds) x = h x (highestMet ds (x +ℤ d)) ∙ ap (λ (b : Bool). f x || b) (highest-meets f h ds (x +ℤ d))
@@ -47,7 +50,8 @@ withinFrom p ds x c = (leZ (p .low) c || meets (λ z. leZ z c) ds x) && (leZ c (
 
 within-begun : (ds : List ℤ) (x c : ℤ) → within ds x c ≡ withinFrom (begun x) ds x c
 unfolding within withinFrom begun
-within-begun ds x c = rw (lowest-meets (λ z. leZ z c) (λ a b. min-at-most a b c) ds x, highest-meets (leZ c) (λ a b. max-at-least a b c) ds x)
+within-begun ds x c =
+    rw (lowest-meets (λ z. leZ z c) (λ a b. min-at-most a b c) ds x, highest-meets (leZ c) (λ a b. max-at-least a b c) ds x)
 
 within-met : (p : Span) (d : ℤ) (ds : List ℤ) (x c : ℤ) → withinFrom p (d ∷ ds) x c ≡ withinFrom (met p (x +ℤ d)) ds (x +ℤ d) c
 unfolding withinFrom met meets
@@ -78,8 +82,10 @@ inside-from-is [] k p q c r = sym (simp (within-end, and-true))
 inside-from-is ((dx, dy) ∷ es) k p q c r =
     let x = k .col +ℤ dx in
     let y = k .row +ℤ dy in
-    ap (λ (b : Bool). notNegative (sideValue dx dy (k .col) (k .row) c r) && b) (inside-from-is es (stepped k dx dy) (met p x) (met q y) c r)
-    ∙ and-last (notNegative (sideValue dx dy (k .col) (k .row) c r)) (withinFrom (met p x) (colSteps es) x c) (withinFrom (met q y) (rowSteps es) y r)
+    ap (λ (b : Bool). notNegative (sideValue dx dy (k .col) (k .row) c r) && b)
+    (inside-from-is es (stepped k dx dy) (met p x) (met q y) c r)
+    ∙ and-last (notNegative (sideValue dx dy (k .col) (k .row) c r)) (withinFrom (met p x) (colSteps es) x c)
+    (withinFrom (met q y) (rowSteps es) y r)
     (noneOutside es x y c r)
     ∙ rw (within-met p dx (colSteps es) (k .col) c, within-met q dy (rowSteps es) (k .row) r)
 
@@ -89,7 +95,8 @@ pub inside-from-anchor :
     → insideEdges a es x ≡ insideFrom (pairs es) (started a) (begun (pos (a .col))) (begun (pos (a .row))) (pos (x .col)) (pos (x .row))
 unfolding insideEdges insideAt
 inside-from-anchor a es x =
-    simp within-begun (sym (inside-from-is (pairs es) (started a) (begun (pos (a .col))) (begun (pos (a .row))) (pos (x .col)) (pos (x .row))))
+    simp within-begun (sym
+    (inside-from-is (pairs es) (started a) (begun (pos (a .col))) (begun (pos (a .row))) (pos (x .col)) (pos (x .row))))
 
 -- ---- one iteration of the loop
 
@@ -118,7 +125,8 @@ module _ {es : List ℤ} {c r : ℤ} {k₀ : Corner} {p₀ q₀ : Span} {k : Cor
         SFits w16 (edgeAt es i .0) → SFits w16 (edgeAt es i .1) → notNegative nextSide ≡ true
         → let k′ = stepped k (edgeAt es i .0) (edgeAt es i .1) in
         Walked es c r k₀ p₀ q₀ k′ (met p (k′ .col)) (met q (k′ .row)) (i + 2)
-    walked-edge fx fy e = record { short = w .short; passed = omega arith; near = after-step (w .near) fx fy (omega arith); left = next-from ∙ rw e }
+    walked-edge fx fy e =
+        record { short = w .short; passed = omega arith; near = after-step (w .near) fx fy (omega arith); left = next-from ∙ rw e }
 
     -- A side value is negative: the cell is outside
     pub walked-outside : notNegative nextSide ≡ false → insideFrom (pairs es) k₀ p₀ q₀ c r ≡ false

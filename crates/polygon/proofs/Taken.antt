@@ -33,8 +33,10 @@ module _ {o : Outline} {a : Point} {es : List ℤ} (h : HasEdges o a es) where
   unfolding badList
   taken-listed =
       let even : length es % 2 ≡ 0 = ap (λ (m : ℕ). m % 2) listed-size ∙ mul-mod-right 2 (edgeCount (border o)) in
-      or-false-iff (eqb (length es % 2) 1) (ltb longestList (length es)) .1
-      (ne-eqb (length es % 2) 1 (λ e. omega arith), le-ltb longestList (length es) (omega (arith, listed-size, edges-fit o (h .reaches) (h .smooth))))
+      or-false-iff (eqb (length es % 2) 1) (ltb longestList (length es)) .1 (
+        ne-eqb (length es % 2) 1 (λ e. omega arith),
+        le-ltb longestList (length es) (omega (arith, listed-size, edges-fit o (h .reaches) (h .smooth))),
+      )
 
   -- The anchor is a cell of the block, so it is on the chart
   on-chart : (a .col < side) × (a .row < side)
@@ -53,4 +55,5 @@ module _ {o : Outline} {a : Point} {es : List ℤ} (h : HasEdges o a es) where
 
   pub taken-anchored : badCell a ≡ false
   unfolding badCell
-  taken-anchored = or-false-iff (leb side (a .col)) (leb side (a .row)) .1 (lt-leb side (a .col) (on-chart .0), lt-leb side (a .row) (on-chart .1))
+  taken-anchored =
+      or-false-iff (leb side (a .col)) (leb side (a .row)) .1 (lt-leb side (a .col) (on-chart .0), lt-leb side (a .row) (on-chart .1))

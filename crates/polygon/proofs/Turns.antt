@@ -59,7 +59,8 @@ module _ (es : List ℤ) (i : ℕ) (h : i + 1 < length es) where
 
   module _ (e : (isNil (edgeAt es i .0) && isNil (edgeAt es i .1)) ≡ false) where
     pub turns-on-next :
-        i + 2 + 1 < length es → turnsOn (pairs (drop i es)) ≡ precedes (edgeAt es i .0) (edgeAt es i .1) (edgeAt es (i + 2) .0) (edgeAt es (i + 2) .1)
+        i + 2 + 1 < length es
+        → turnsOn (pairs (drop i es)) ≡ precedes (edgeAt es i .0) (edgeAt es i .1) (edgeAt es (i + 2) .0) (edgeAt es (i + 2) .1)
     unfolding turnsOn precedesFirst
     turns-on-next l = rw (next-edge es i h, e, next-edge es (i + 2) l)
 
@@ -96,7 +97,8 @@ module _ {es : List ℤ} {k : Corner} {i : ℕ} (t : Turned es k i) where
     pub turned-edge :
         SFits w16 (edgeAt es i .0) → SFits w16 (edgeAt es i .1) → turnsOn (pairs (drop i es)) ≡ true
         → Turned es (stepped k (edgeAt es i .0) (edgeAt es i .1)) (i + 2)
-    turned-edge fx fy e = record { short = t .short; passed = omega arith; near = after-step (t .near) fx fy (omega arith); left = next-turns ∙ rw e }
+    turned-edge fx fy e =
+        record { short = t .short; passed = omega arith; near = after-step (t .near) fx fy (omega arith); left = next-turns ∙ rw e }
 
     -- An edge that is zero or does not come before the next
     pub turned-off : turnsOn (pairs (drop i es)) ≡ false → badDirections es ≡ true

@@ -62,6 +62,7 @@ turnedBack =
     ask (at 0 0) (pos 0 ∷ pos 1 ∷ pos 0 ∷ pos 1 ∷ pos 0 ∷ negsuc 1 ∷ []) (at 0 0) (numbered 16) ∷
     ask (at 5 5) (pos 1 ∷ pos 0 ∷ negsuc 0 ∷ negsuc 0 ∷ pos 0 ∷ pos 1 ∷ []) (at 5 5) (numbered 16) ∷
     ask (at 5 5) (pos 0 ∷ negsuc 0 ∷ pos 0 ∷ pos 1 ∷ []) (at 5 5) (numbered 16) ∷
-    ask (at 5 5) (pos 0 ∷ pos 1 ∷ pos 1 ∷ negsuc 0 ∷ negsuc 0 ∷ pos 0 ∷ pos 0 ∷ pos 1 ∷ pos 1 ∷ negsuc 0 ∷ negsuc 0 ∷ pos 0 ∷ []) (at 5 5) (numbered 16) ∷
+    ask (at 5 5) (pos 0 ∷ pos 1 ∷ pos 1 ∷ negsuc 0 ∷ negsuc 0 ∷ pos 0 ∷ pos 0 ∷ pos 1 ∷ pos 1 ∷ negsuc 0 ∷ negsuc 0 ∷ pos 0 ∷ []) (at 5 5)
+    (numbered 16) ∷
     ask (at 5 5) (pos 0 ∷ pos 0 ∷ pos 1 ∷ []) (at 5 5) (numbered 10) ∷
     ask (at 5 5) (pos 0 ∷ pos 0 ∷ []) (at 5 255) (numbered 11) ∷ []

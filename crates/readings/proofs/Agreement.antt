@@ -64,7 +64,9 @@ module _ (a : Point) (es : List ℤ) (r : Reading) where
 
   told : (l : Located) → locatedOf a es r ≡ l → Told l
   unfolding answer locatedOf sided
-  told l e = subst Told e (says (badReading r) (staysOn a es) (withinExtremes a es r) (any (far r) (edgesAlong a es)) (any (near r) (edgesAlong a es)))
+  told l e =
+      subst Told e (says (badReading r) (staysOn a es) (withinExtremes a es r) (any (far r) (edgesAlong a es))
+      (any (near r) (edgesAlong a es)))
 
   -- 11 is given exactly for a bad number
   pub refused-iff : (locatedOf a es r ≡ Refused) ↔ (badReading r ≡ true)
@@ -103,11 +105,13 @@ module _ (a : Point) (es : List ℤ) (r : Reading) (held : Held r) (good : badRe
   computed-close e m = side-close r e (good-numbers .0) (good-numbers .1) (stays-small a es on e m)
 
   -- The two comparisons, in units of 2 ^ -149
-  pub far-value : (e : PlacedEdge) → List·Memᴰ e (edgesAlong a es) → far r e ≡ leZ (value binary32 (computedSide r e)) (negℤ (pos sixtyFourth))
+  pub far-value : (e : PlacedEdge) → List·Memᴰ e (edgesAlong a es)
+      → far r e ≡ leZ (value binary32 (computedSide r e)) (negℤ (pos sixtyFourth))
   unfolding far
   far-value e m = rw low-is at (le-value binary32 (computedSide r e) (fin true 1 (negsuc 5)) (computed-close e m .exact) low-exact)
 
-  pub near-value : (e : PlacedEdge) → List·Memᴰ e (edgesAlong a es) → near r e ≡ not (leZ (pos sixtyFourth) (value binary32 (computedSide r e)))
+  pub near-value : (e : PlacedEdge) → List·Memᴰ e (edgesAlong a es)
+      → near r e ≡ not (leZ (pos sixtyFourth) (value binary32 (computedSide r e)))
   unfolding near
   near-value e m = rw high-is at (lt-value binary32 (computedSide r e) (fin false 1 (negsuc 5)) (computed-close e m .exact) high-exact)
 
@@ -141,7 +145,8 @@ module _ (a : Point) (es : List ℤ) (r : Reading) (held : Held r) where
         (⊎-elim (λ out. true≢false (sym within ∙ out)) (λ some.
         let (e, m, f) = any-found (far r) (edgesAlong a es) some in
         true≢false (sym (all-at (λ e. notNegative (exactSide r e)) (edgesAlong a es) sides e m)
-        ∙ far-negative sixtyFourth (value binary32 (computedSide r e)) (exactSide r e) (computed-close a es r held good on e m .near) (sym (far-value a es r held good on e m) ∙ f))))
+        ∙ far-negative sixtyFourth (value binary32 (computedSide r e)) (exactSide r e) (computed-close a es r held good on e m .near)
+        (sym (far-value a es r held good on e m) ∙ f))))
         why)
 
     -- ---- when the answer is "undecided"
@@ -165,23 +170,30 @@ module _ (a : Point) (es : List ℤ) (r : Reading) (held : Held r) where
             let none-far = not-held (any (far r) (edgesAlong a es)) (λ some.
             let (e, m, f) = any-found (far r) (edgesAlong a es) some in
             true≢false (sym f ∙ far-value a es r held good on e m ∙ o .none-far e m)) in
-            let some = any-at (near r) (edgesAlong a es) (o .edge) (o .met) (near-value a es r held good on (o .edge) (o .met) ∙ ap not (o .close)) in
+            let some =
+            any-at (near r) (edgesAlong a es) (o .edge) (o .met) (near-value a es r held good on (o .edge) (o .met)
+            ∙ ap not (o .close)) in
             rw (good, on, o .within, none-far, some),
       )
 
       -- The answer is decided if all exact values are at least 1/32
-      pub decided-inside : ((e : PlacedEdge) → List·Memᴰ e (edgesAlong a es) → leZ (pos (2 ^ 144)) (exactSide r e) ≡ true) → locatedOf a es r ≡ Undecided → ⊥
+      pub decided-inside : ((e : PlacedEdge) → List·Memᴰ e (edgesAlong a es) → leZ (pos (2 ^ 144)) (exactSide r e) ≡ true)
+          → locatedOf a es r ≡ Undecided → ⊥
       decided-inside h e =
           let o = undecided-iff .0 e in
-          true≢false (sym (inner-beyond sixtyFourth (value binary32 (computedSide r (o .edge))) (exactSide r (o .edge)) (computed-close a es r held good on (o .edge) (o .met) .near) (h (o .edge) (o .met))) ∙ o .close)
+          true≢false (sym (inner-beyond sixtyFourth (value binary32 (computedSide r (o .edge))) (exactSide r (o .edge))
+          (computed-close a es r held good on (o .edge) (o .met) .near) (h (o .edge) (o .met))) ∙ o .close)
 
       -- It is decided too if one is at most -1/32
-      pub decided-outside : (e : PlacedEdge) → List·Memᴰ e (edgesAlong a es) → leZ (exactSide r e) (negℤ (pos (2 ^ 144))) ≡ true → locatedOf a es r ≡ Undecided → ⊥
+      pub decided-outside : (e : PlacedEdge) → List·Memᴰ e (edgesAlong a es) → leZ (exactSide r e) (negℤ (pos (2 ^ 144))) ≡ true
+          → locatedOf a es r ≡ Undecided → ⊥
       decided-outside e m h u =
-          true≢false (sym (outer-far sixtyFourth (value binary32 (computedSide r e)) (exactSide r e) (computed-close a es r held good on e m .near) h) ∙ undecided-iff .0 u .none-far e m)
+          true≢false (sym (outer-far sixtyFourth (value binary32 (computedSide r e)) (exactSide r e)
+          (computed-close a es r held good on e m .near) h) ∙ undecided-iff .0 u .none-far e m)
 
       -- On an edge of what is exactly inside it is always undecided
-      pub undecided-on-edge : exactlyInside a es r ≡ true → (e : PlacedEdge) → List·Memᴰ e (edgesAlong a es) → exactSide r e ≡ pos 0 → locatedOf a es r ≡ Undecided
+      pub undecided-on-edge : exactlyInside a es r ≡ true → (e : PlacedEdge) → List·Memᴰ e (edgesAlong a es) → exactSide r e ≡ pos 0
+          → locatedOf a es r ≡ Undecided
       unfolding exactlyInside
       undecided-on-edge i e m z =
           let (within, sides) = and-eq-true-iff (withinExtremes a es r) (all (λ e. notNegative (exactSide r e)) (edgesAlong a es)) .0 i in
@@ -190,10 +202,12 @@ module _ (a : Point) (es : List ℤ) (r : Reading) (held : Held r) where
             none-far =
                 λ e m. not-held _ (λ f.
                 true≢false (sym (all-at (λ e. notNegative (exactSide r e)) (edgesAlong a es) sides e m)
-                ∙ far-negative sixtyFourth (value binary32 (computedSide r e)) (exactSide r e) (computed-close a es r held good on e m .near) f));
+                ∙ far-negative sixtyFourth (value binary32 (computedSide r e)) (exactSide r e)
+                (computed-close a es r held good on e m .near) f));
             edge = e;
             met = m;
-            close = level-near sixtyFourth (value binary32 (computedSide r e)) (exactSide r e) (computed-close a es r held good on e m .near) z;
+            close =
+                level-near sixtyFourth (value binary32 (computedSide r e)) (exactSide r e) (computed-close a es r held good on e m .near) z;
           })
 
       -- All claims together

@@ -19,18 +19,30 @@ module _ (K : ℕ) (c z : ℤ) (close : natAbs (c -ℤ z) < K) where
 
   pub far-negative : leZ c (negℤ (pos K)) ≡ true → notNegative z ≡ false
   far-negative h =
-      not-held (notNegative z) (λ n. omega (arith, parts .0, parts .1, close, le-iff (is-self c) (is-neg (is-self (pos K))) .0 h, not-negative-iff (is-self z) .0 n))
+      not-held (notNegative z)
+      (λ n. omega (
+        arith,
+        parts .0,
+        parts .1,
+        close,
+        le-iff (is-self c) (is-neg (is-self (pos K))) .0 h,
+        not-negative-iff (is-self z) .0 n,
+      ))
 
   pub beyond-positive : leZ (pos K) c ≡ true → notNegative z ≡ true
   beyond-positive h = not-negative-iff (is-self z) .1 (omega (arith, parts .0, parts .1, close, le-iff (is-self (pos K)) (is-self c) .0 h))
 
   pub inner-beyond : leZ (pos (2 * K)) z ≡ true → leZ (pos K) c ≡ true
-  inner-beyond h = le-iff (is-self (pos K)) (is-self c) .1 (omega (arith, parts .0, parts .1, close, le-iff (is-self (pos (2 * K))) (is-self z) .0 h))
+  inner-beyond h =
+      le-iff (is-self (pos K)) (is-self c) .1 (omega (arith, parts .0, parts .1, close, le-iff (is-self (pos (2 * K))) (is-self z) .0 h))
 
   pub outer-far : leZ z (negℤ (pos (2 * K))) ≡ true → leZ c (negℤ (pos K)) ≡ true
   outer-far h =
-      le-iff (is-self c) (is-neg (is-self (pos K))) .1 (omega (arith, parts .0, parts .1, close, le-iff (is-self z) (is-neg (is-self (pos (2 * K)))) .0 h))
+      le-iff (is-self c) (is-neg (is-self (pos K))) .1
+      (omega (arith, parts .0, parts .1, close, le-iff (is-self z) (is-neg (is-self (pos (2 * K)))) .0 h))
 
   -- On the edge itself
   pub level-near : z ≡ pos 0 → leZ (pos K) c ≡ false
-  level-near e = not-held (leZ (pos K) c) (λ h. omega (arith, parts .0, parts .1, close, le-iff (is-self (pos K)) (is-self c) .0 h, ap up e, ap down e))
+  level-near e =
+      not-held (leZ (pos K) c)
+      (λ h. omega (arith, parts .0, parts .1, close, le-iff (is-self (pos K)) (is-self c) .0 h, ap up e, ap down e))

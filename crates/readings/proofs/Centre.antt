@@ -25,31 +25,46 @@ use Rattle.readings.proofs.Numbers.{small-is}
 use Rattle.readings.proofs.Agreement.{inside-exact, outside-exact}
 
 ones-side :
-    (f : Format) (dx dy x y c r : ℤ) → sideValue dx dy (inUnits f x) (inUnits f y) (inUnits f c) (inUnits f r) ≡ inUnits f (sideValue dx dy x y c r)
+    (f : Format) (dx dy x y c r : ℤ)
+    → sideValue dx dy (inUnits f x) (inUnits f y) (inUnits f c) (inUnits f r) ≡ inUnits f (sideValue dx dy x y c r)
 unfolding sideValue
 ones-side f dx dy x y c r =
-    rw (units-minus f c x, units-minus f r y, units-times f dy (c -ℤ x), units-times f dx (r -ℤ y)) (units-minus f (dy *ℤ (c -ℤ x)) (dx *ℤ (r -ℤ y)))
+    rw (
+      units-minus f c x,
+      units-minus f r y,
+      units-times f dy (c -ℤ x),
+      units-times f dx (r -ℤ y),
+    ) (units-minus f (dy *ℤ (c -ℤ x)) (dx *ℤ (r -ℤ y)))
 
 ones-negative : (f : Format) (z : ℤ) → notNegative (inUnits f z) ≡ notNegative z
 unfolding inUnits
 ones-negative f z =
-    sym (not-negative-machine (inUnits f z)) ∙ ap (λ n. leZ n (inUnits f z)) (sym (zero-*ℤ (pos (2 ^ low f)))) ∙ units-le f (pos 0) z ∙ not-negative-machine z
+    sym (not-negative-machine (inUnits f z)) ∙ ap (λ n. leZ n (inUnits f z)) (sym (zero-*ℤ (pos (2 ^ low f)))) ∙ units-le f (pos 0) z
+    ∙ not-negative-machine z
 
 -- ---- the reading at the centre of a cell
 
 -- There is one for every cell of the chart
-pub centre-of : (x : Point) → x .col < side → x .row < side → Centred (record { angle = ofInt binary32 (pos (x .col)); load = ofInt binary32 (pos (x .row)) }) x
+pub centre-of : (x : Point) → x .col < side → x .row < side
+    → Centred (record { angle = ofInt binary32 (pos (x .col)); load = ofInt binary32 (pos (x .row)) }) x
 centre-of x c r = record { col = small-is (pos (x .col)) (le-of-suc-le-suc c); row = small-is (pos (x .row)) (le-of-suc-le-suc r) }
 
 module _ (r : Reading) (x : Point) (at : Centred r x) where
   side-centre : (dx dy u v : ℤ)
-      → notNegative (exactSide r (record { cols = dx; rows = dy; col = u; row = v })) ≡ notNegative (sideValue dx dy u v (pos (x .col)) (pos (x .row)))
+      → notNegative (exactSide r (record { cols = dx; rows = dy; col = u; row = v }))
+      ≡ notNegative (sideValue dx dy u v (pos (x .col)) (pos (x .row)))
   unfolding exactSide
   side-centre dx dy u v =
-      rw (at .col, at .row, ones-side binary32 dx dy u v (pos (x .col)) (pos (x .row))) (ones-negative binary32 (sideValue dx dy u v (pos (x .col)) (pos (x .row))))
+      rw (
+        at .col,
+        at .row,
+        ones-side binary32 dx dy u v (pos (x .col)) (pos (x .row)),
+      )
+      (ones-negative binary32 (sideValue dx dy u v (pos (x .col)) (pos (x .row))))
 
   sides-centre :
-      (es : List Edge) (u v : ℤ) → all (λ e. notNegative (exactSide r e)) (edgesFrom es u v) ≡ noneOutside es u v (pos (x .col)) (pos (x .row))
+      (es : List Edge) (u v : ℤ)
+      → all (λ e. notNegative (exactSide r e)) (edgesFrom es u v) ≡ noneOutside es u v (pos (x .col)) (pos (x .row))
   unfolding all edgesFrom noneOutside
   sides-centre [] u v = refl
   sides-centre ((dx, dy) ∷ es) u v = ap₂ _&&_ (side-centre dx dy u v) (sides-centre es (u +ℤ dx) (v +ℤ dy))

@@ -22,9 +22,11 @@ use Rattle.readings.proofs.Side.{Small}
 step-size : (x d : ℤ) → Cell x → Cell (x +ℤ d) → natAbs d ≤ 254
 step-size x d p q =
     let e = is-eq (is-add (is-self x) (is-self d)) (is-self (pos (q .n))) (q .is) in
-    size-at-most 254 (is-self d) (omega (arith, ap up (p .is), ap down (p .is), q .small)) (omega (arith, ap up (p .is), ap down (p .is), p .small))
+    size-at-most 254 (is-self d) (omega (arith, ap up (p .is), ap down (p .is), q .small))
+    (omega (arith, ap up (p .is), ap down (p .is), p .small))
 
-from-small : (es : List Edge) (x y : ℤ) → Cell x → Cell y → all endsOn (edgesFrom es x y) ≡ true → (e : PlacedEdge) → List·Memᴰ e (edgesFrom es x y) → Small e
+from-small : (es : List Edge) (x y : ℤ) → Cell x → Cell y → all endsOn (edgesFrom es x y) ≡ true → (e : PlacedEdge)
+    → List·Memᴰ e (edgesFrom es x y) → Small e
 unfolding edgesFrom all endsOn
 from-small [] x y p q h e m = absurd (List·Memᴰ·not-nil m)
 from-small ((dx, dy) ∷ es) x y p q h e m =
@@ -33,7 +35,8 @@ from-small ((dx, dy) ∷ es) x y p q h e m =
     let px = cell-of (x +ℤ dx) (ends .0) in
     let py = cell-of (y +ℤ dy) (ends .1) in
     ⊎-elim
-    (λ (d : e ≡ record { cols = dx; rows = dy; col = x; row = y }). subst Small (sym d) (record { col = p; row = q; cols = step-size x dx p px; rows = step-size y dy q py }))
+    (λ (d : e ≡ record { cols = dx; rows = dy; col = x; row = y }). subst Small (sym d)
+    (record { col = p; row = q; cols = step-size x dx p px; rows = step-size y dy q py }))
     (from-small es (x +ℤ dx) (y +ℤ dy) px py (both .1) e)
     (List·Memᴰ·cases-cons m)
 

@@ -28,7 +28,8 @@ le-self : (a : ℤ) → leZ a a ≡ true
 le-self a = le-iff (is-self a) (is-self a) .1 (omega arith)
 
 le-both : (a b : ℤ) → leZ a b ≡ true → leZ b a ≡ true → b ≡ a
-le-both a b h k = is-unique (is-self b) (is-self a) (omega (arith, le-iff (is-self a) (is-self b) .0 h, le-iff (is-self b) (is-self a) .0 k))
+le-both a b h k =
+    is-unique (is-self b) (is-self a) (omega (arith, le-iff (is-self a) (is-self b) .0 h, le-iff (is-self b) (is-self a) .0 k))
 
 module _ (a : Point) (r : Reading) (good : badReading r ≡ false) (on : staysOn a [] ≡ true) where
   -- At its centre the reading is inside, and everywhere else outside
@@ -52,12 +53,15 @@ module _ (a : Point) (r : Reading) (good : badReading r ≡ false) (on : staysOn
 back-ring : (dx dy p q a b : ℤ) → dy *ℤ a ≡ dx *ℤ b → negℤ dy *ℤ (p -ℤ a) -ℤ negℤ dx *ℤ (q -ℤ b) ≡ negℤ (dy *ℤ p -ℤ dx *ℤ q)
 back-ring dx dy p q a b e =
     is-unique
-    (is-minus (is-mul (is-neg (is-self dy)) (is-minus (is-self p) (is-self a))) (is-mul (is-neg (is-self dx)) (is-minus (is-self q) (is-self b))))
+    (is-minus (is-mul (is-neg (is-self dy)) (is-minus (is-self p) (is-self a)))
+    (is-mul (is-neg (is-self dx)) (is-minus (is-self q) (is-self b))))
     (is-neg (is-minus (is-mul (is-self dy) (is-self p)) (is-mul (is-self dx) (is-self q))))
     (omega (arith, is-eq (is-mul (is-self dy) (is-self a)) (is-mul (is-self dx) (is-self b)) e))
 
 minus-plus : (z a b : ℤ) → z -ℤ (a +ℤ b) ≡ z -ℤ a -ℤ b
-minus-plus z a b = is-unique (is-minus (is-self z) (is-add (is-self a) (is-self b))) (is-minus (is-minus (is-self z) (is-self a)) (is-self b)) (omega arith)
+minus-plus z a b =
+    is-unique (is-minus (is-self z) (is-add (is-self a) (is-self b))) (is-minus (is-minus (is-self z) (is-self a)) (is-self b))
+    (omega arith)
 
 back-side :
     (f : Format) (dx dy x y X Y : ℤ)
@@ -65,7 +69,8 @@ back-side :
 unfolding sideValue
 back-side f dx dy x y X Y =
     rw (units-plus f x dx, units-plus f y dy, minus-plus X (inUnits f x) (inUnits f dx), minus-plus Y (inUnits f y) (inUnits f dy))
-    (back-ring dx dy (X -ℤ inUnits f x) (Y -ℤ inUnits f y) (inUnits f dx) (inUnits f dy) (units-times f dy dx ∙ ap (inUnits f) (*ℤ-comm dy dx) ∙ sym (units-times f dx dy)))
+    (back-ring dx dy (X -ℤ inUnits f x) (Y -ℤ inUnits f y) (inUnits f dx) (inUnits f dy) (units-times f dy dx
+    ∙ ap (inUnits f) (*ℤ-comm dy dx) ∙ sym (units-times f dx dy)))
 
 -- On its line and between its extremes every reading is undecided
 pub flat-undecided :

@@ -59,10 +59,11 @@ module _ (o : Outline) (straight : NoBackStep o) where
   pub outline-answers : (r : Reading) → Held r → badReading r ≡ false → Answers (o .start) (edges o) r
   outline-answers r held good = answers (o .start) (edges o) r held edges-stay good
 
-  module _ (smooth : dentPiece o ≡ 4) (x : Point) (c : x .col < side) (r : x .row < side) (p : Reading) (held : Held p) (at : Centred p x) where
-    -- At a cell's centre "inside" means that the cell is enclosed, and "outside" that it is not
-    pub centre-enclosed : locatedOf (o .start) (edges o) p ≡ Inside → encloses o (x .col) (x .row) ≡ true
-    centre-enclosed e = sym (edges-answer o straight smooth x c r) ∙ centre-inside p x at held (o .start) (edges o) e
+  module _ (smooth : dentPiece o ≡ 4) (x : Point) (c : x .col < side) (r : x .row < side) (p : Reading) (held : Held p) (at : Centred p x)
+    where
+      -- At a cell's centre "inside" means that the cell is enclosed, and "outside" that it is not
+      pub centre-enclosed : locatedOf (o .start) (edges o) p ≡ Inside → encloses o (x .col) (x .row) ≡ true
+      centre-enclosed e = sym (edges-answer o straight smooth x c r) ∙ centre-inside p x at held (o .start) (edges o) e
 
-    pub centre-open : locatedOf (o .start) (edges o) p ≡ Outside → encloses o (x .col) (x .row) ≡ false
-    centre-open e = sym (edges-answer o straight smooth x c r) ∙ centre-outside p x at held (o .start) (edges o) edges-stay e
+      pub centre-open : locatedOf (o .start) (edges o) p ≡ Outside → encloses o (x .col) (x .row) ≡ false
+      centre-open e = sym (edges-answer o straight smooth x c r) ∙ centre-outside p x at held (o .start) (edges o) edges-stay e

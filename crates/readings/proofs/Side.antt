@@ -26,7 +26,8 @@ unfolding inUnits
 apart X x p q =
     rw (p .is, q .is)
     (size-at-most (254 * 2 ^ 149) (is-minus (is-self (pos (p .n))) (is-self (pos (q .n * 2 ^ 149))))
-    (first (p .n) (q .n * 2 ^ 149) (254 * 2 ^ 149) (p .high)) (second (p .n) (q .n * 2 ^ 149) (254 * 2 ^ 149) (mul-le-mul-right (2 ^ 149) (q .small))))
+    (first (p .n) (q .n * 2 ^ 149) (254 * 2 ^ 149) (p .high))
+    (second (p .n) (q .n * 2 ^ 149) (254 * 2 ^ 149) (mul-le-mul-right (2 ^ 149) (q .small))))
   where
     first : (a b k : ℕ) → a ≤ k → a + 0 ≤ 0 + b + k
     first a b k h = omega arith
@@ -34,10 +35,12 @@ apart X x p q =
     second : (a b k : ℕ) → b ≤ k → 0 + b ≤ a + 0 + k
     second a b k h = omega arith
 
-difference : (X : Float) (x : ℤ) → Good X → Cell x → Near binary32 (sub binary32 X (ofInt binary32 x)) (value binary32 X -ℤ inUnits binary32 x) (2 ^ 132)
+difference : (X : Float) (x : ℤ) → Good X → Cell x
+    → Near binary32 (sub binary32 X (ofInt binary32 x)) (value binary32 X -ℤ inUnits binary32 x) (2 ^ 132)
 difference X x p q =
     let s = cell-size q in
-    rw (small-is x s) at (sub-near binary32 X (ofInt binary32 x) 132 (p .exact) (small-exact x s) (lit≤ tt) (rw (small-is x s) (below (natAbs (value binary32 X -ℤ inUnits binary32 x)) (2 ^ 149) (2 ^ 157) (apart X x p q) refl (lit≤ tt))))
+    rw (small-is x s) at (sub-near binary32 X (ofInt binary32 x) 132 (p .exact) (small-exact x s) (lit≤ tt)
+    (rw (small-is x s) (below (natAbs (value binary32 X -ℤ inUnits binary32 x)) (2 ^ 149) (2 ^ 157) (apart X x p q) refl (lit≤ tt))))
   where
     below : (n U P : ℕ) → n ≤ 254 * U → P ≡ 256 * U → 0 < U → n < P
     below n U P h p u = omega arith
@@ -49,12 +52,17 @@ product : (d : ℤ) (y : Float) (z : ℤ) → natAbs d ≤ 254 → natAbs z ≤ 
     → Near binary32 (mul binary32 (ofInt binary32 d) y) (d *ℤ z) (510 * 2 ^ 132)
 product d y z small high h =
     let v = value binary32 y in
-    let size : natAbs v ≤ 254 * 2 ^ 149 + 2 ^ 132 = whole (natAbs v) (natAbs (v -ℤ z)) (natAbs z) (2 ^ 132) (254 * 2 ^ 149) (size-back v z) (h .near) high in
-    let r = mul-near binary32 d y 140 (few-digits d small) (h .exact) (lit≤ tt) (below (natAbs (d *ℤ v)) (2 ^ 132) (2 ^ 149) (2 ^ 165) (size-product-le d v small size) refl refl (lit≤ tt)) in
+    let size : natAbs v ≤ 254 * 2 ^ 149 + 2 ^ 132 =
+    whole (natAbs v) (natAbs (v -ℤ z)) (natAbs z) (2 ^ 132) (254 * 2 ^ 149) (size-back v z) (h .near) high in
+    let r =
+    mul-near binary32 d y 140 (few-digits d small) (h .exact) (lit≤ tt)
+    (below (natAbs (d *ℤ v)) (2 ^ 132) (2 ^ 149) (2 ^ 165) (size-product-le d v small size) refl refl (lit≤ tt)) in
     let p = value binary32 (mul binary32 (ofInt binary32 d) y) in
     record {
       exact = r .exact;
-      near = sum (natAbs (p -ℤ d *ℤ z)) (natAbs (p -ℤ d *ℤ v)) (natAbs (d *ℤ v -ℤ d *ℤ z)) (2 ^ 132) (2 ^ 140) (size-triangle p (d *ℤ v) (d *ℤ z)) (r .near) refl (rw size-products (mul-le-mul small (h .near)));
+      near =
+          sum (natAbs (p -ℤ d *ℤ z)) (natAbs (p -ℤ d *ℤ v)) (natAbs (d *ℤ v -ℤ d *ℤ z)) (2 ^ 132) (2 ^ 140)
+          (size-triangle p (d *ℤ v) (d *ℤ z)) (r .near) refl (rw size-products (mul-le-mul small (h .near)));
     }
   where
     whole : (n a b E K : ℕ) → n ≤ a + b → a ≤ E → b ≤ K → n ≤ K + E
@@ -81,7 +89,8 @@ pub record Close (x : Float) (z : ℤ) : Type 0 where
   pub near : natAbs (value binary32 x -ℤ z) < 2 ^ 143
 
 last :
-    (u v : Float) (P Q : ℤ) → natAbs P ≤ 254 * (254 * 2 ^ 149) → natAbs Q ≤ 254 * (254 * 2 ^ 149) → Near binary32 u P (510 * 2 ^ 132) → Near binary32 v Q (510 * 2 ^ 132)
+    (u v : Float) (P Q : ℤ) → natAbs P ≤ 254 * (254 * 2 ^ 149) → natAbs Q ≤ 254 * (254 * 2 ^ 149) → Near binary32 u P (510 * 2 ^ 132)
+    → Near binary32 v Q (510 * 2 ^ 132)
     → Close (sub binary32 u v) (P -ℤ Q)
 last u v P Q p q h k =
     let a = value binary32 u in
@@ -94,12 +103,14 @@ last u v P Q p q h k =
     record {
       exact = r .exact;
       near =
-          sum (natAbs (s -ℤ (P -ℤ Q))) (natAbs (s -ℤ (a -ℤ b))) (natAbs (a -ℤ b -ℤ (P -ℤ Q))) (natAbs (a -ℤ P)) (natAbs (b -ℤ Q)) (2 ^ 132) (2 ^ 141) (2 ^ 143)
+          sum (natAbs (s -ℤ (P -ℤ Q))) (natAbs (s -ℤ (a -ℤ b))) (natAbs (a -ℤ b -ℤ (P -ℤ Q))) (natAbs (a -ℤ P)) (natAbs (b -ℤ Q)) (2 ^ 132)
+          (2 ^ 141) (2 ^ 143)
           (size-triangle s (a -ℤ b) (P -ℤ Q)) (size-differences a b P Q) (r .near) (h .near) (k .near) refl refl (lit≤ tt);
     }
   where
     below :
-        (n a b x y p q E U R : ℕ) → n ≤ a + b → a ≤ x + p → b ≤ y + q → x ≤ 510 * E → y ≤ 510 * E → p ≤ 254 * (254 * U) → q ≤ 254 * (254 * U) → U ≡ 131072 * E
+        (n a b x y p q E U R : ℕ) → n ≤ a + b → a ≤ x + p → b ≤ y + q → x ≤ 510 * E → y ≤ 510 * E → p ≤ 254 * (254 * U)
+        → q ≤ 254 * (254 * U) → U ≡ 131072 * E
         → R ≡ 131072 * U → 0 < E → n < R
     below n a b x y p q E U R h k l m o i j u r e = omega arith
 
@@ -117,7 +128,8 @@ side-close r e p q h =
     let Q = value binary32 Y -ℤ inUnits binary32 (e .row) in
     let a = apart X (e .col) p (h .col) in
     let b = apart Y (e .row) q (h .row) in
-    last (mul binary32 (ofInt binary32 (e .rows)) (sub binary32 X (ofInt binary32 (e .col)))) (mul binary32 (ofInt binary32 (e .cols)) (sub binary32 Y (ofInt binary32 (e .row))))
+    last (mul binary32 (ofInt binary32 (e .rows)) (sub binary32 X (ofInt binary32 (e .col))))
+    (mul binary32 (ofInt binary32 (e .cols)) (sub binary32 Y (ofInt binary32 (e .row))))
     (e .rows *ℤ P) (e .cols *ℤ Q) (size-product-le (e .rows) P (h .rows) a) (size-product-le (e .cols) Q (h .cols) b)
     (product (e .rows) (sub binary32 X (ofInt binary32 (e .col))) P (h .rows) a (difference X (e .col) p (h .col)))
     (product (e .cols) (sub binary32 Y (ofInt binary32 (e .row))) Q (h .cols) b (difference Y (e .row) q (h .row)))

@@ -16,16 +16,20 @@ use Rattle.convexity.specs.Edges.{pairs}
 use Rattle.convexity.specs.Inside.{minℤ, maxℤ, sideValue, colSteps, rowSteps, lowestMet, highestMet}
 use Rattle.directions.specs.CornerHull.{chartNumber, onChart}
 use Rattle.readings.specs.Sides.{PlacedEdge, edgesFrom, exactSide, computedSide}
-use Rattle.readings.specs.Located.{badNumber, badReading, between, withinExtremes, far, near, sided, endsOn, staysOn, locatedOf, readingOf}
+use Rattle.readings.specs.Located.{badNumber, badReading, between, withinExtremes, far, near, sided, endsOn, staysOn, locatedOf}
+use Rattle.readings.specs.Located.{readingOf}
 use Rattle.calls.specs.Replies.{replyFields}
 use Rattle.readings.specs.Replies.{locatedReply}
 use Rattle.readings.specs.Specimens.{Asked, specimens, answered}
 
 computed : all answered specimens ≡ true
-unfolding all any answered specimens sameFields negative units value inUnits minℤ maxℤ pairs colSteps rowSteps lowestMet highestMet edgesFrom computedSide ofBits ofInt sub mul le lt badNumber badReading between withinExtremes far near sided chartNumber onChart endsOn staysOn locatedOf readingOf locatedReply replyFields
+unfolding all any answered specimens sameFields negative units value inUnits minℤ maxℤ pairs colSteps rowSteps lowestMet highestMet
+    edgesFrom computedSide ofBits ofInt sub mul le lt badNumber badReading between withinExtremes far near sided chartNumber onChart endsOn
+    staysOn locatedOf readingOf locatedReply replyFields
 computed = refl
 
-pub specimens-hold : (h : Asked) → List·Memᴰ h specimens → replyFields (locatedReply (locatedOf (h .anchor) (h .edges) (readingOf (h .angle) (h .load)))) ≡ h .fields
+pub specimens-hold : (h : Asked) → List·Memᴰ h specimens
+    → replyFields (locatedReply (locatedOf (h .anchor) (h .edges) (readingOf (h .angle) (h .load)))) ≡ h .fields
 unfolding answered
 specimens-hold h m = same-fields _ _ (all-at answered specimens computed h m)
 

@@ -66,7 +66,8 @@ between-from : (ds : List ℤ) (x : ℤ) (v : Float) → between ds x v ≡ betw
 unfolding between betweenFrom met
 between-from ds x v = rw (lowest-meets (under v) (λ a b. min-under a b v) ds x, highest-meets (over v) (λ a b. max-over a b v) ds x)
 
-between-step : (m : Met) (d : ℤ) (ds : List ℤ) (x : ℤ) (v : Float) → betweenFrom m (d ∷ ds) x v ≡ betweenFrom (met m (x +ℤ d) v) ds (x +ℤ d) v
+between-step : (m : Met) (d : ℤ) (ds : List ℤ) (x : ℤ) (v : Float)
+    → betweenFrom m (d ∷ ds) x v ≡ betweenFrom (met m (x +ℤ d) v) ds (x +ℤ d) v
 unfolding betweenFrom met meets
 between-step m d ds x v = simp or-assoc
 
@@ -108,7 +109,8 @@ one-more true true true false g m n k w F h = refl
 one-more true true false b g m n k w F h = refl
 one-more true false s b g m n k w F h = rw or-assoc at h
 
-ended : (w : Walk) (x y : ℤ) (r : Reading) → settled w ≡ answer true (betweenFrom (w .cols) [] x (r .angle) && betweenFrom (w .rows) [] y (r .load)) false (w .near || false)
+ended : (w : Walk) (x y : ℤ) (r : Reading)
+    → settled w ≡ answer true (betweenFrom (w .cols) [] x (r .angle) && betweenFrom (w .rows) [] y (r .load)) false (w .near || false)
 unfolding settled
 ended w x y r = sym (simp (between-end, and-true, or-false))
 
@@ -123,7 +125,8 @@ from-whole ((dx, dy) ∷ es) w r =
     let e = edgeOf w dx dy in
     let rest = edgesFrom es x y in
     rw (between-step (w .cols) dx (colSteps es) (k .col) (r .angle), between-step (w .rows) dy (rowSteps es) (k .row) (r .load))
-    (one-more (onChart x y) (far r e) (all endsOn rest) (betweenFrom (w′ .cols) (colSteps es) x (r .angle) && betweenFrom (w′ .rows) (rowSteps es) y (r .load))
+    (one-more (onChart x y) (far r e) (all endsOn rest)
+    (betweenFrom (w′ .cols) (colSteps es) x (r .angle) && betweenFrom (w′ .rows) (rowSteps es) y (r .load))
     (any (far r) rest) (w .near) (near r e) (any (near r) rest) w′ (λ w′. from es w′ r) (from-whole es w′ r))
 
 -- The walk from an anchor on the chart locates a reading that is not refused
@@ -160,7 +163,8 @@ passed-on : (w : Walk) (dx dy : ℤ) (r : Reading) → Onward (passed w dx dy r)
 unfolding passed moved arrived
 passed-on w dx dy r = go (onChart (w .at .col +ℤ dx) (w .at .row +ℤ dy)) refl (far r (edgeOf w dx dy))
   where
-    go : (t : Bool) → onChart (w .at .col +ℤ dx) (w .at .row +ℤ dy) ≡ t → (f : Bool) → Onward (cond t (cond f Out (On (moved w dx dy r))) Out)
+    go : (t : Bool) → onChart (w .at .col +ℤ dx) (w .at .row +ℤ dy) ≡ t → (f : Bool)
+        → Onward (cond t (cond f Out (On (moved w dx dy r))) Out)
     go false e f = tt
     go true e true = tt
     go true e false = e
@@ -171,7 +175,8 @@ pub record Walked (es : List ℤ) (r : Reading) (w₀ w : Walk) (i : ℕ) : Type
   pub on : onChart (w .at .col) (w .at .row) ≡ true
   pub left : from (pairs es) w₀ r ≡ from (pairs (drop i es)) w r
 
-pub walked-start : (es : List ℤ) (r : Reading) (a : Point) → onChart (pos (a .col)) (pos (a .row)) ≡ true → Walked es r (begun a r) (begun a r) 0
+pub walked-start : (es : List ℤ) (r : Reading) (a : Point) → onChart (pos (a .col)) (pos (a .row)) ≡ true
+    → Walked es r (begun a r) (begun a r) 0
 unfolding begun arrived
 walked-start es r a on = record { passed = omega arith; on = on; left = refl }
 

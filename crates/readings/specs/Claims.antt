@@ -35,8 +35,10 @@ pub record Answers (a : Point) (es : List ℤ) (r : Reading) : Type 0 where
   -- when the answer is "undecided"
   pub undecided : (locatedOf a es r ≡ Undecided) ↔ Open a es r
   -- the answer is decided if all exact side values are at least 1/32, and if one is at most -1/32
-  pub inner : ((e : PlacedEdge) → List·Memᴰ e (edgesAlong a es) → leZ (pos (2 ^ 144)) (exactSide r e) ≡ true) → locatedOf a es r ≡ Undecided → ⊥
-  pub outer : (e : PlacedEdge) → List·Memᴰ e (edgesAlong a es) → leZ (exactSide r e) (negℤ (pos (2 ^ 144))) ≡ true → locatedOf a es r ≡ Undecided → ⊥
+  pub inner : ((e : PlacedEdge) → List·Memᴰ e (edgesAlong a es) → leZ (pos (2 ^ 144)) (exactSide r e) ≡ true) → locatedOf a es r ≡ Undecided
+      → ⊥
+  pub outer : (e : PlacedEdge) → List·Memᴰ e (edgesAlong a es) → leZ (exactSide r e) (negℤ (pos (2 ^ 144))) ≡ true
+      → locatedOf a es r ≡ Undecided → ⊥
 
 -- The reading is the centre of the cell x: its numbers are the cell's column and row
 pub record Centred (r : Reading) (x : Point) : Type 0 where

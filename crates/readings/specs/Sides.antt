@@ -26,7 +26,8 @@ edgesAlong a es = edgesFrom (pairs es) (pos (a .col)) (pos (a .row))
 -- The side value of contract 3.14, exact: corner cell and reading both in units of 2 ^ -149
 unfoldable pub exactSide : Reading → PlacedEdge → ℤ
 exactSide r e =
-    sideValue (e .cols) (e .rows) (inUnits binary32 (e .col)) (inUnits binary32 (e .row)) (value binary32 (r .angle)) (value binary32 (r .load))
+    sideValue (e .cols) (e .rows) (inUnits binary32 (e .col)) (inUnits binary32 (e .row)) (value binary32 (r .angle))
+    (value binary32 (r .load))
 
 -- The same five steps on floats, each rounded
 unfoldable pub computedSide : Reading → PlacedEdge → Float

@@ -53,16 +53,19 @@ module _ (h : Holder) (n : ℕ) (s l : List ℕ) where
     unfolding callsFrom followed
     calls-some = rw e
 
-    listFrom-some : listFrom h (suc n) s l ≡ numbersOf (replyFields (answerOf h x .reply)) ++ listFrom (answerOf h x .holder) n (drop callWidth s) (drop replyWidth l)
+    listFrom-some : listFrom h (suc n) s l
+        ≡ numbersOf (replyFields (answerOf h x .reply)) ++ listFrom (answerOf h x .holder) n (drop callWidth s) (drop replyWidth l)
     unfolding listFrom written handledFrom
     listFrom-some =
         let cs = callsFrom n (drop callWidth s) in
         let m : replyWidth * suc (length cs) ≡ replyWidth + replyWidth * length cs = omega arith in
         rw (calls-some, m, sym (drop-drop (replyWidth * length cs) replyWidth l))
-        (append-assoc (numbersOf (replyFields (answerOf h x .reply))) (written (handledFrom (answerOf h x .holder) cs)) (drop (replyWidth * length cs) (drop replyWidth l)))
+        (append-assoc (numbersOf (replyFields (answerOf h x .reply))) (written (handledFrom (answerOf h x .holder) cs))
+        (drop (replyWidth * length cs) (drop replyWidth l)))
 
 -- From a fresh holder: the model's replies, by the list theorem
-listFrom-fresh : (script buffer : List ℕ) → listFrom freshHolder (min (length script / callWidth) (length buffer / replyWidth)) script buffer ≡ repliesAfter script buffer
+listFrom-fresh : (script buffer : List ℕ)
+    → listFrom freshHolder (min (length script / callWidth) (length buffer / replyWidth)) script buffer ≡ repliesAfter script buffer
 unfolding listFrom repliesAfter handled callsRead
 listFrom-fresh script buffer =
     let cs = callsRead script (length buffer) in
@@ -107,9 +110,11 @@ pub record Underway (script buffer : List ℕ) (end : ℕ) (h : Holder) (done : 
   pub begun : done ≤ end
   pub same-length : length list ≡ length buffer
   pub count : length (callsRead script (length buffer)) ≡ done + length (callsFrom (end - done) (drop (callWidth * done) script))
-  pub whole : repliesAfter script buffer ≡ take (replyWidth * done) list ++ listFrom h (end - done) (drop (callWidth * done) script) (drop (replyWidth * done) list)
+  pub whole : repliesAfter script buffer
+      ≡ take (replyWidth * done) list ++ listFrom h (end - done) (drop (callWidth * done) script) (drop (replyWidth * done) list)
 
-underway-first : (script buffer : List ℕ) (end : ℕ) (h : Holder) → end ≡ min (length script / callWidth) (length buffer / replyWidth) → h ≡ freshHolder → Underway script buffer end h 0 buffer
+underway-first : (script buffer : List ℕ) (end : ℕ) (h : Holder) → end ≡ min (length script / callWidth) (length buffer / replyWidth)
+    → h ≡ freshHolder → Underway script buffer end h 0 buffer
 unfolding callsRead
 underway-first script buffer end h most e =
     record {
@@ -125,9 +130,11 @@ underway-first script buffer end h most e =
 abbrev zeroLists : Memory
 zeroLists = memory (zeros letterBytes) (zeros rowBytes) (replicate edgeNumbers (pos 0)) (zeros headNumbers)
 
-pub underway-zeros : (script buffer : List ℕ) (end : ℕ) → end ≡ min (length script / callWidth) (length buffer / replyWidth) → Fits zeroLists × Underway script buffer end (holderIn zeroLists) 0 buffer
+pub underway-zeros : (script buffer : List ℕ) (end : ℕ) → end ≡ min (length script / callWidth) (length buffer / replyWidth)
+    → Fits zeroLists × Underway script buffer end (holderIn zeroLists) 0 buffer
 underway-zeros script buffer end most = (
-  fits-by zeroLists (length-replicate {A = ℕ} letterBytes 0) (length-replicate {A = ℕ} rowBytes 0) (length-replicate edgeNumbers (pos 0)) (length-replicate {A = ℕ} headNumbers 0),
+  fits-by zeroLists (length-replicate {A = ℕ} letterBytes 0) (length-replicate {A = ℕ} rowBytes 0) (length-replicate edgeNumbers (pos 0))
+      (length-replicate {A = ℕ} headNumbers 0),
   underway-first script buffer end (holderIn zeroLists) most zeros-fresh,
 )
 
@@ -152,7 +159,8 @@ module _ (script buffer : List ℕ) (end : ℕ) (h : Holder) (done : ℕ) (list 
 
   pub underway-list : Stopped → list ≡ repliesAfter script buffer
   underway-list z =
-      sym (st .whole ∙ ap (λ (t : List ℕ). take (replyWidth * done) list ++ t) (listFrom-none h (end - done) s l z) ∙ take-append-drop (replyWidth * done) list)
+      sym (st .whole ∙ ap (λ (t : List ℕ). take (replyWidth * done) list ++ t) (listFrom-none h (end - done) s l z)
+      ∙ take-append-drop (replyWidth * done) list)
 
   -- ---- one call
 
@@ -182,14 +190,18 @@ module _ (script buffer : List ℕ) (end : ℕ) (h : Holder) (done : ℕ) (list 
           let a = take (replyWidth * done) list in
           let la : length a ≡ replyWidth * done = length-take-le (replyWidth * done) list (omega (arith, st .numbers)) in
           let lf : length (a ++ n) ≡ replyWidth * (done + 1) = length-append a n ∙ omega arith in
-          let shape : next ≡ a ++ n ++ drop replyWidth l = ap (λ (t : List ℕ). a ++ t) (replyAfter-room f l room) ∙ sym (append-assoc a n (drop replyWidth l)) in
-          let front : take (replyWidth * (done + 1)) next ≡ a ++ n = ap (take (replyWidth * (done + 1))) shape ∙ take-at (a ++ n) (drop replyWidth l) (replyWidth * (done + 1)) lf in
-          let back : drop (replyWidth * (done + 1)) next ≡ drop replyWidth l = ap (drop (replyWidth * (done + 1))) shape ∙ drop-at (a ++ n) (drop replyWidth l) (replyWidth * (done + 1)) lf in
+          let shape : next ≡ a ++ n ++ drop replyWidth l = ap (λ (t : List ℕ). a ++ t) (replyAfter-room f l room)
+          ∙ sym (append-assoc a n (drop replyWidth l)) in
+          let front : take (replyWidth * (done + 1)) next ≡ a ++ n = ap (take (replyWidth * (done + 1))) shape
+          ∙ take-at (a ++ n) (drop replyWidth l) (replyWidth * (done + 1)) lf in
+          let back : drop (replyWidth * (done + 1)) next ≡ drop replyWidth l = ap (drop (replyWidth * (done + 1))) shape
+          ∙ drop-at (a ++ n) (drop replyWidth l) (replyWidth * (done + 1)) lf in
           let ll : length l ≡ length list - replyWidth * done = length-drop (replyWidth * done) list in
           let ld : length (drop replyWidth l) ≡ length l - replyWidth = length-drop replyWidth l in
           let size : length next ≡ length list = ap length shape ∙ length-append (a ++ n) (drop replyWidth l) ∙ omega (arith, room) in
           let further : callWidth * done + callWidth ≡ callWidth * (done + 1) = omega arith in
-          let left : drop callWidth s ≡ drop (callWidth * (done + 1)) script = drop-drop callWidth (callWidth * done) script ∙ ap (λ (t : ℕ). drop t script) further in
+          let left : drop callWidth s ≡ drop (callWidth * (done + 1)) script = drop-drop callWidth (callWidth * done) script
+          ∙ ap (λ (t : ℕ). drop t script) further in
           let one : end - done ≡ suc (end - (done + 1)) = omega arith in
           record {
             bytes = st .bytes;
@@ -205,7 +217,8 @@ module _ (script buffer : List ℕ) (end : ℕ) (h : Holder) (done : ℕ) (list 
 
     -- The holder's arrays, and the part of the buffer for the reply, after these bytes
     module _ (m k : Memory) (b : Bool) (part : List ℕ) (n : ℕ) (sent : n ≡ callWidth) (is : holderIn m ≡ h) (f : Fits m)
-        (t : Called (Fits m) m k (received (take n s) (length (take (length list - replyWidth * done) l))) (take (length list - replyWidth * done) l) part b) where
+        (t : Called (Fits m) m k (received (take n s) (length (take (length list - replyWidth * done) l)))
+        (take (length list - replyWidth * done) l) part b) where
       abbrev listed : List ℕ
       listed = take (replyWidth * done) list ++ (part ++ drop (length list - replyWidth * done) l)
 
@@ -226,8 +239,11 @@ module _ (script buffer : List ℕ) (end : ℕ) (h : Holder) (done : ℕ) (list 
       pub stops-at-none : not b ≡ true → Stopped × (listed ≡ list)
       stops-at-none off =
           let no : b ≡ false = not-true b off in
-          let e : decoded (take callWidth s) ≡ Nothing = sym d-is ∙ unanswered d (sym no ∙ t .done f) in
-          (calls-none h (end - done) s l e, listed-part ∙ ap (λ (p : List ℕ). take (replyWidth * done) list ++ p) (t .unaltered no .1 ∙ buffer-part) ∙ take-append-drop (replyWidth * done) list)
+          let e : decoded (take callWidth s) ≡ Nothing = sym d-is ∙ unanswered d (sym no ∙ t .done f) in (
+            calls-none h (end - done) s l e,
+            listed-part ∙ ap (λ (p : List ℕ). take (replyWidth * done) list ++ p) (t .unaltered no .1 ∙ buffer-part)
+                ∙ take-append-drop (replyWidth * done) list,
+          )
 
       -- A call: the loop continues with the next holder
       by-call : (x : Call) → d ≡ OfCall x → b ≡ true → Underway script buffer end (holderIn k) (done + 1) listed

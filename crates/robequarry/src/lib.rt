@@ -47,7 +47,8 @@ pub extern "C" fn rq_test(
     edges: &mut [i16],
     reply: &mut [u16; NUMBERS],
 )
-    ensures reply { λ _. ⌜ now (reply .exit) ≡ numbersOf (testFields (outline (at col row) (now (letters .entry))) (length (now (edges .entry)))) ⌝ }
+    ensures reply { λ _. ⌜ now (reply .exit)
+        ≡ numbersOf (testFields (outline (at col row) (now (letters .entry))) (length (now (edges .entry)))) ⌝ }
     ensures edges { λ _. ⌜ now (edges .exit) ≡ edgesAfter (outline (at col row) (now (letters .entry))) (now (edges .entry)) ⌝ }
     ensures cell { λ _. ⌜ CellNamed (outline (at col row) (now (letters .entry))) (fieldsOf (now (reply .exit))) ⌝ }
 {
@@ -65,7 +66,8 @@ pub extern "C" fn rq_loose_query(
     row: u16,
     reply: &mut [u16; NUMBERS],
 )
-    ensures reply { λ _. ⌜ now (reply .exit) ≡ numbersOf (positionFields (looseOf (at «anchor_col» «anchor_row») (now (edges .entry)) (at col row))) ⌝ }
+    ensures reply { λ _. ⌜ now (reply .exit)
+        ≡ numbersOf (positionFields (looseOf (at «anchor_col» «anchor_row») (now (edges .entry)) (at col row))) ⌝ }
     ensures hull { λ _. ⌜ HullNamed (at «anchor_col» «anchor_row») (now (edges .entry)) (at col row) (fieldsOf (now (reply .exit))) ⌝ }
 {
     let anchor = Point {
@@ -85,9 +87,12 @@ pub extern "C" fn rq_border(
     letters: &mut [u8],
     reply: &mut [u16; NUMBERS],
 )
-    ensures reply { λ _. ⌜ now (reply .exit) ≡ numbersOf (tracedFields (tracedOf (at «anchor_col» «anchor_row») (now (edges .entry)) (length (now (letters .entry))))) ⌝ }
-    ensures letters { λ _. ⌜ now (letters .exit) ≡ lettersAfter (at «anchor_col» «anchor_row») (now (edges .entry)) (now (letters .entry)) ⌝ }
-    ensures outline { λ _. ⌜ BorderNamed (at «anchor_col» «anchor_row») (now (edges .entry)) (fieldsOf (now (reply .exit))) (now (letters .exit)) ⌝ }
+    ensures reply { λ _. ⌜ now (reply .exit)
+        ≡ numbersOf (tracedFields (tracedOf (at «anchor_col» «anchor_row») (now (edges .entry)) (length (now (letters .entry))))) ⌝ }
+    ensures letters { λ _. ⌜ now (letters .exit)
+        ≡ lettersAfter (at «anchor_col» «anchor_row») (now (edges .entry)) (now (letters .entry)) ⌝ }
+    ensures outline { λ _. ⌜ BorderNamed (at «anchor_col» «anchor_row») (now (edges .entry)) (fieldsOf (now (reply .exit)))
+        (now (letters .exit)) ⌝ }
 {
     let anchor = Point {
         col: anchor_col,
@@ -108,8 +113,11 @@ pub extern "C" fn rq_compare(
     edges_2: &[i16],
     reply: &mut [u16; NUMBERS],
 )
-    ensures reply { λ _. ⌜ now (reply .exit) ≡ numbersOf (comparisonFields (comparisonOf (at «anchor_col_1» «anchor_row_1») (now («edges_1» .entry)) (at «anchor_col_2» «anchor_row_2») (now («edges_2» .entry)))) ⌝ }
-    ensures cells { λ _. ⌜ CellsNamed (polygon (at «anchor_col_1» «anchor_row_1») (now («edges_1» .entry))) (polygon (at «anchor_col_2» «anchor_row_2») (now («edges_2» .entry))) (fieldsOf (now (reply .exit))) ⌝ }
+    ensures reply { λ _. ⌜ now (reply .exit)
+        ≡ numbersOf (comparisonFields (comparisonOf (at «anchor_col_1» «anchor_row_1») (now («edges_1» .entry))
+        (at «anchor_col_2» «anchor_row_2») (now («edges_2» .entry)))) ⌝ }
+    ensures cells { λ _. ⌜ CellsNamed (polygon (at «anchor_col_1» «anchor_row_1») (now («edges_1» .entry)))
+        (polygon (at «anchor_col_2» «anchor_row_2») (now («edges_2» .entry))) (fieldsOf (now (reply .exit))) ⌝ }
 {
     let first = Point {
         col: anchor_col_1,
@@ -132,9 +140,11 @@ pub extern "C" fn rq_witness(
     cells: &mut [u16],
     reply: &mut [u16; NUMBERS],
 )
-    ensures reply { λ _. ⌜ now (reply .exit) ≡ numbersOf (witnessedFields (witnessedOf (outline (at col row) (now (letters .entry))) (length (now (cells .entry))))) ⌝ }
+    ensures reply { λ _. ⌜ now (reply .exit)
+        ≡ numbersOf (witnessedFields (witnessedOf (outline (at col row) (now (letters .entry))) (length (now (cells .entry))))) ⌝ }
     ensures cells { λ _. ⌜ now (cells .exit) ≡ cellsAfter (outline (at col row) (now (letters .entry))) (now (cells .entry)) ⌝ }
-    ensures named { λ _. ⌜ WitnessNamed (outline (at col row) (now (letters .entry))) (fieldsOf (now (reply .exit))) (now (cells .entry)) (now (cells .exit)) ⌝ }
+    ensures named { λ _. ⌜ WitnessNamed (outline (at col row) (now (letters .entry))) (fieldsOf (now (reply .exit))) (now (cells .entry))
+        (now (cells .exit)) ⌝ }
 {
     let witnessed = witness_call::witness(Point { col, row }, letters, cells);
     put(of_witnessed(witnessed), reply);
@@ -149,9 +159,11 @@ pub extern "C" fn rq_complete(
     out: &mut [u8],
     reply: &mut [u16; NUMBERS],
 )
-    ensures reply { λ _. ⌜ now (reply .exit) ≡ numbersOf (completedFields (completedOf (outline (at col row) (now (letters .entry))) (length (now (out .entry))))) ⌝ }
+    ensures reply { λ _. ⌜ now (reply .exit)
+        ≡ numbersOf (completedFields (completedOf (outline (at col row) (now (letters .entry))) (length (now (out .entry))))) ⌝ }
     ensures letters { λ _. ⌜ now (out .exit) ≡ completionAfter (outline (at col row) (now (letters .entry))) (now (out .entry)) ⌝ }
-    ensures cells { λ _. ⌜ CompletionNamed (outline (at col row) (now (letters .entry))) (fieldsOf (now (reply .exit))) (now (out .exit)) ⌝ }
+    ensures cells { λ _. ⌜ CompletionNamed (outline (at col row) (now (letters .entry))) (fieldsOf (now (reply .exit)))
+        (now (out .exit)) ⌝ }
 {
     let completed = completion_call::complete(Point { col, row }, letters, out);
     put(of_completed(completed), reply);

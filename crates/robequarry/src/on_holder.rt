@@ -29,7 +29,8 @@ pub extern "C" fn rq_fresh_parts(
     numbers: &mut [i16; NUMBERS],
     heads: &mut [u16; HEADS],
 )
-    ensures holder { λ _. ⌜ holderIn (memory (now (letters .exit)) (now (rows .exit)) (now (numbers .exit)) (now (heads .exit))) ≡ freshHolder ⌝ }
+    ensures holder { λ _. ⌜ holderIn (memory (now (letters .exit)) (now (rows .exit)) (now (numbers .exit)) (now (heads .exit)))
+        ≡ freshHolder ⌝ }
     ensures fits { λ _. ⌜ Fits (memory (now (letters .exit)) (now (rows .exit)) (now (numbers .exit)) (now (heads .exit))) ⌝ }
 {
     live::fresh(
@@ -49,7 +50,9 @@ pub extern "C" fn rq_begin_parts(
     row: u16,
     reply: &mut [u16; REPLY],
 )
-    ensures { λ _. ⌜ ((letters rows : List ℕ) (numbers : List ℤ) → Done (memory letters rows numbers (now (heads .entry))) (memory letters rows numbers (now (heads .exit))) (by party (Action.Begin (at col row))) (now (reply .exit))) ⌝ }
+    ensures { λ _. ⌜ ((letters rows : List ℕ) (numbers : List ℤ)
+        → Done (memory letters rows numbers (now (heads .entry))) (memory letters rows numbers (now (heads .exit)))
+        (by party (Action.Begin (at col row))) (now (reply .exit))) ⌝ }
 {
     live_calls::begin(&mut heads[..], party, Point { col, row }, &mut reply[..]);
 }
@@ -63,7 +66,9 @@ pub extern "C" fn rq_add_parts(
     letter: u8,
     reply: &mut [u16; REPLY],
 )
-    ensures { λ _. ⌜ ((rows : List ℕ) (numbers : List ℤ) → Done (memory (now (letters .entry)) rows numbers (now (heads .entry))) (memory (now (letters .exit)) rows numbers (now (heads .exit))) (by party (Action.Add letter)) (now (reply .exit))) ⌝ }
+    ensures { λ _. ⌜ ((rows : List ℕ) (numbers : List ℤ)
+        → Done (memory (now (letters .entry)) rows numbers (now (heads .entry)))
+        (memory (now (letters .exit)) rows numbers (now (heads .exit))) (by party (Action.Add letter)) (now (reply .exit))) ⌝ }
 {
     live_calls::add(
         &mut letters[..],
@@ -77,7 +82,9 @@ pub extern "C" fn rq_add_parts(
 // Drop (contract 7.5).
 #[no_mangle]
 pub extern "C" fn rq_drop_parts(heads: &mut [u16; HEADS], party: u8, reply: &mut [u16; REPLY])
-    ensures { λ _. ⌜ ((letters rows : List ℕ) (numbers : List ℤ) → Done (memory letters rows numbers (now (heads .entry))) (memory letters rows numbers (now (heads .exit))) (by party Action.Drop) (now (reply .exit))) ⌝ }
+    ensures { λ _. ⌜ ((letters rows : List ℕ) (numbers : List ℤ)
+        → Done (memory letters rows numbers (now (heads .entry))) (memory letters rows numbers (now (heads .exit))) (by party Action.Drop)
+        (now (reply .exit))) ⌝ }
 {
     live_calls::drop(&mut heads[..], party, &mut reply[..]);
 }
@@ -90,7 +97,9 @@ pub extern "C" fn rq_clear_parts(
     place: u8,
     reply: &mut [u16; REPLY],
 )
-    ensures { λ _. ⌜ ((letters rows : List ℕ) (numbers : List ℤ) → Done (memory letters rows numbers (now (heads .entry))) (memory letters rows numbers (now (heads .exit))) (by party (Action.Clear place)) (now (reply .exit))) ⌝ }
+    ensures { λ _. ⌜ ((letters rows : List ℕ) (numbers : List ℤ)
+        → Done (memory letters rows numbers (now (heads .entry))) (memory letters rows numbers (now (heads .exit)))
+        (by party (Action.Clear place)) (now (reply .exit))) ⌝ }
 {
     live_calls::clear(&mut heads[..], party, place, &mut reply[..]);
 }
@@ -106,7 +115,9 @@ pub extern "C" fn rq_close_parts(
     place: u8,
     reply: &mut [u16; REPLY],
 )
-    ensures { λ _. ⌜ Done (memory (now (letters .entry)) (now (rows .entry)) (now (numbers .entry)) (now (heads .entry))) (memory (now (letters .entry)) (now (rows .exit)) (now (numbers .exit)) (now (heads .exit))) (by party (Action.Close place)) (now (reply .exit)) ⌝ }
+    ensures { λ _. ⌜ Done (memory (now (letters .entry)) (now (rows .entry)) (now (numbers .entry)) (now (heads .entry)))
+        (memory (now (letters .entry)) (now (rows .exit)) (now (numbers .exit)) (now (heads .exit))) (by party (Action.Close place))
+        (now (reply .exit)) ⌝ }
 {
     live_calls::close(
         &letters[..],
@@ -130,7 +141,10 @@ pub extern "C" fn rq_query_parts(
     row: u16,
     reply: &mut [u16; REPLY],
 )
-    ensures { λ _. ⌜ ((letters : List ℕ) (numbers : List ℤ) → Done (memory letters (now (rows .entry)) numbers (now (heads .entry))) (memory letters (now (rows .entry)) numbers (now (heads .entry))) (by party (Action.Ask place (Question.Cell (at col row)))) (now (reply .exit))) ⌝ }
+    ensures { λ _. ⌜ ((letters : List ℕ) (numbers : List ℤ)
+        → Done (memory letters (now (rows .entry)) numbers (now (heads .entry)))
+        (memory letters (now (rows .entry)) numbers (now (heads .entry))) (by party (Action.Ask place (Question.Cell (at col row))))
+        (now (reply .exit))) ⌝ }
 {
     live_calls::query(
         &rows[..],
@@ -152,7 +166,10 @@ pub extern "C" fn rq_row_parts(
     row: u16,
     reply: &mut [u16; REPLY],
 )
-    ensures { λ _. ⌜ ((letters : List ℕ) (numbers : List ℤ) → Done (memory letters (now (rows .entry)) numbers (now (heads .entry))) (memory letters (now (rows .entry)) numbers (now (heads .entry))) (by party (Action.Ask place (Question.Row row))) (now (reply .exit))) ⌝ }
+    ensures { λ _. ⌜ ((letters : List ℕ) (numbers : List ℤ)
+        → Done (memory letters (now (rows .entry)) numbers (now (heads .entry)))
+        (memory letters (now (rows .entry)) numbers (now (heads .entry))) (by party (Action.Ask place (Question.Row row)))
+        (now (reply .exit))) ⌝ }
 {
     live_calls::row(&rows[..], &heads[..], party, place, row, &mut reply[..]);
 }
@@ -168,7 +185,10 @@ pub extern "C" fn rq_reading_parts(
     load: f32,
     reply: &mut [u16; REPLY],
 )
-    ensures { λ _. ⌜ ((letters rows : List ℕ) → Done (memory letters rows (now (numbers .entry)) (now (heads .entry))) (memory letters rows (now (numbers .entry)) (now (heads .entry))) (by party (Action.Ask place (Question.Reading (record { angle = angle; load = load })))) (now (reply .exit))) ⌝ }
+    ensures { λ _. ⌜ ((letters rows : List ℕ)
+        → Done (memory letters rows (now (numbers .entry)) (now (heads .entry)))
+        (memory letters rows (now (numbers .entry)) (now (heads .entry)))
+        (by party (Action.Ask place (Question.Reading (record { angle = angle; load = load })))) (now (reply .exit))) ⌝ }
 {
     live_calls::reading(
         &numbers[..],
@@ -191,8 +211,13 @@ pub extern "C" fn rq_piece_parts(
     point: &mut [f32; 2],
     reply: &mut [u16; REPLY],
 )
-    ensures call { λ _. ⌜ ((letters rows : List ℕ) → Done (memory letters rows (now (numbers .entry)) (now (heads .entry))) (memory letters rows (now (numbers .entry)) (now (heads .entry))) (by party (Action.Ask place (Question.Piece position))) (now (reply .exit))) ⌝ }
-    ensures point { λ _. ⌜ ((letters rows : List ℕ) → now (point .exit) ≡ pieceDrawn (holderIn (memory letters rows (now (numbers .entry)) (now (heads .entry)))) (by party (Action.Ask place (Question.Piece position))) (now (point .entry))) ⌝ }
+    ensures call { λ _. ⌜ ((letters rows : List ℕ)
+        → Done (memory letters rows (now (numbers .entry)) (now (heads .entry)))
+        (memory letters rows (now (numbers .entry)) (now (heads .entry))) (by party (Action.Ask place (Question.Piece position)))
+        (now (reply .exit))) ⌝ }
+    ensures point { λ _. ⌜ ((letters rows : List ℕ) → now (point .exit)
+        ≡ pieceDrawn (holderIn (memory letters rows (now (numbers .entry)) (now (heads .entry))))
+        (by party (Action.Ask place (Question.Piece position))) (now (point .entry))) ⌝ }
 {
     live_calls::piece(
         &numbers[..],
@@ -215,7 +240,10 @@ pub extern "C" fn rq_call_parts(
     call: &[u8],
     reply: &mut [u16; REPLY],
 ) -> bool
-    ensures { λ r. ⌜ Called (Fits (memory (now (letters .entry)) (now (rows .entry)) (now (numbers .entry)) (now (heads .entry)))) (memory (now (letters .entry)) (now (rows .entry)) (now (numbers .entry)) (now (heads .entry))) (memory (now (letters .exit)) (now (rows .exit)) (now (numbers .exit)) (now (heads .exit))) (received (now (call .entry)) replyWidth) (now (reply .entry)) (now (reply .exit)) r ⌝ }
+    ensures { λ r. ⌜ Called (Fits (memory (now (letters .entry)) (now (rows .entry)) (now (numbers .entry)) (now (heads .entry))))
+        (memory (now (letters .entry)) (now (rows .entry)) (now (numbers .entry)) (now (heads .entry)))
+        (memory (now (letters .exit)) (now (rows .exit)) (now (numbers .exit)) (now (heads .exit)))
+        (received (now (call .entry)) replyWidth) (now (reply .entry)) (now (reply .exit)) r ⌝ }
     ensures fits { λ _. ⌜ Fits (memory (now (letters .entry)) (now (rows .entry)) (now (numbers .entry)) (now (heads .entry))) ⌝ }
 {
     live_bytes::respond(

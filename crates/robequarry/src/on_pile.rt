@@ -35,7 +35,8 @@ pub extern "C" fn rq_pile_set_parts(
     letters: &[u8],
     reply: &mut [u16; REPLY],
 )
-    ensures call { λ _. ⌜ Done (memory (now (rows .entry)) (now (state .entry))) (memory (now (rows .exit)) (now (state .exit))) (Set layer (outline (at col row) (now (letters .entry)))) (now (reply .exit)) ⌝ }
+    ensures call { λ _. ⌜ Done (memory (now (rows .entry)) (now (state .entry))) (memory (now (rows .exit)) (now (state .exit)))
+        (Set layer (outline (at col row) (now (letters .entry)))) (now (reply .exit)) ⌝ }
     ensures cell { λ _. ⌜ CellNamed (outline (at col row) (now (letters .entry))) (fieldsOf (now (reply .exit))) ⌝ }
 {
     live_pile::set(
@@ -56,7 +57,8 @@ pub extern "C" fn rq_pile_empty_parts(
     layer: u8,
     reply: &mut [u16; REPLY],
 )
-    ensures { λ _. ⌜ Done (memory (now (rows .entry)) (now (state .entry))) (memory (now (rows .exit)) (now (state .exit))) (SetEmpty layer) (now (reply .exit)) ⌝ }
+    ensures { λ _. ⌜ Done (memory (now (rows .entry)) (now (state .entry))) (memory (now (rows .exit)) (now (state .exit))) (SetEmpty layer)
+        (now (reply .exit)) ⌝ }
 {
     live_pile::set_empty(&mut rows[..], &mut state[..], layer, &mut reply[..]);
 }
@@ -68,8 +70,10 @@ pub extern "C" fn rq_pile_check_parts(
     state: &mut [u8; STATE_BYTES],
     reply: &mut [u16; REPLY],
 )
-    ensures call { λ _. ⌜ Done (memory (now (rows .entry)) (now (state .entry))) (memory (now (rows .entry)) (now (state .exit))) Check (now (reply .exit)) ⌝ }
-    ensures meaning { λ _. ⌜ CheckWritten (CheckedRuns (layersOf (now (rows .entry)))) (NoDent (layersOf (now (rows .entry)))) (now (reply .entry)) (now (reply .exit)) ⌝ }
+    ensures call { λ _. ⌜ Done (memory (now (rows .entry)) (now (state .entry))) (memory (now (rows .entry)) (now (state .exit))) Check
+        (now (reply .exit)) ⌝ }
+    ensures meaning { λ _. ⌜ CheckWritten (CheckedRuns (layersOf (now (rows .entry)))) (NoDent (layersOf (now (rows .entry))))
+        (now (reply .entry)) (now (reply .exit)) ⌝ }
 {
     live_pile::check(&rows[..], &mut state[..], &mut reply[..]);
 }
@@ -84,7 +88,8 @@ pub extern "C" fn rq_pile_query_parts(
     row: u16,
     reply: &mut [u16; REPLY],
 )
-    ensures { λ _. ⌜ Done (memory (now (rows .entry)) (now (state .entry))) (memory (now (rows .entry)) (now (state .entry))) (Query layer (at col row)) (now (reply .exit)) ⌝ }
+    ensures { λ _. ⌜ Done (memory (now (rows .entry)) (now (state .entry))) (memory (now (rows .entry)) (now (state .entry)))
+        (Query layer (at col row)) (now (reply .exit)) ⌝ }
 {
     live_pile::query(
         &rows[..],

@@ -36,7 +36,8 @@ size-units f x = go (negative x) (units f x)
 
 -- A difference of fewer than 2 ^ (prec + 1 + t) units moves by at most 2 ^ t
 pub sub-near :
-    (f : Format) (x y : Float) (t : ℕ) → Exact f x → Exact f y → prec f + suc t ≤ low f + emax f → natAbs (value f x -ℤ value f y) < 2 ^ (prec f + suc t)
+    (f : Format) (x y : Float) (t : ℕ) → Exact f x → Exact f y → prec f + suc t ≤ low f + emax f
+    → natAbs (value f x -ℤ value f y) < 2 ^ (prec f + suc t)
     → Near f (sub f x y) (value f x -ℤ value f y) (2 ^ t)
 sub-near f x y t p q fine h =
     let d = is-minus (value-is f x) (value-is f y) in
@@ -64,7 +65,8 @@ whole-is f z h =
     let w = whole f z h in
     let v = whole-value f (ofInt f z) (w .sign) (natAbs z) (w .has) in
     is-unique (value-is f (ofInt f z)) (is-mul (w .is) (is-self (pos (2 ^ low f))))
-    (parts (w .sign) (natAbs z) (2 ^ low f) (above f (ofInt f z)) (below f (ofInt f z)) (above-is f (ofInt f z) (w .sign) (natAbs z * 2 ^ low f) v) (below-is f (ofInt f z) (w .sign) (natAbs z * 2 ^ low f) v))
+    (parts (w .sign) (natAbs z) (2 ^ low f) (above f (ofInt f z)) (below f (ofInt f z))
+    (above-is f (ofInt f z) (w .sign) (natAbs z * 2 ^ low f) v) (below-is f (ofInt f z) (w .sign) (natAbs z * 2 ^ low f) v))
   where
     parts :
         (s : Bool) (n u a b : ℕ) → a ≡ cond s 0 (n * u) → b ≡ cond s (n * u) 0
@@ -74,7 +76,8 @@ whole-is f z h =
 
 -- A product by such a number, of fewer than 2 ^ (prec + 1 + t) units, moves by at most 2 ^ t
 pub mul-near :
-    (f : Format) (z : ℤ) (y : Float) (t : ℕ) → natAbs z < 2 ^ prec f → Exact f y → prec f + suc t ≤ low f + emax f → natAbs (z *ℤ value f y) < 2 ^ (prec f + suc t)
+    (f : Format) (z : ℤ) (y : Float) (t : ℕ) → natAbs z < 2 ^ prec f → Exact f y → prec f + suc t ≤ low f + emax f
+    → natAbs (z *ℤ value f y) < 2 ^ (prec f + suc t)
     → Near f (mul f (ofInt f z) y) (z *ℤ value f y) (2 ^ t)
 mul-near f z y t small q fine h =
     let w = whole f z small in
@@ -82,6 +85,7 @@ mul-near f z y t small q fine h =
     (mul-rounds f (ofInt f z) y (w .sign) (natAbs z) (suc t) (w .has) q fine (rw (size-product, size-units) at h))
   where
     product :
-        (s : Bool) (n a b : ℕ) {x : ℤ} → Is x (cond s 0 n * a + cond s n 0 * b) (cond s 0 n * b + cond s n 0 * a) → Is x (n * cond s b a) (n * cond s a b)
+        (s : Bool) (n a b : ℕ) {x : ℤ} → Is x (cond s 0 n * a + cond s n 0 * b) (cond s 0 n * b + cond s n 0 * a)
+        → Is x (n * cond s b a) (n * cond s a b)
     product true n a b h = record { eq = omega arith }
     product false n a b h = record { eq = omega arith }

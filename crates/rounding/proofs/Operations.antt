@@ -49,7 +49,8 @@ round-units f s num den w t D fine e h =
   where
     signed :
         (s : Bool) (g w p : ℕ) → g * 2 ≤ w * 2 + p → w * 2 ≤ g * 2 + p
-        → ((cond s 0 g + cond s w 0) * 2 ≤ (cond s 0 w + cond s g 0) * 2 + p) × ((cond s 0 w + cond s g 0) * 2 ≤ (cond s 0 g + cond s w 0) * 2 + p)
+        → ((cond s 0 g + cond s w 0) * 2 ≤ (cond s 0 w + cond s g 0) * 2 + p)
+        × ((cond s 0 w + cond s g 0) * 2 ≤ (cond s 0 g + cond s w 0) * 2 + p)
     signed true g w p o u = omega arith
     signed false g w p o u = omega arith
 
@@ -67,7 +68,8 @@ in-order : (f : Format) (a b c v w : ℕ) → 0 < c → a * 2 ^ low f ≡ v * c 
 in-order f a b c v w C p q l = le-of-mul-le-mul-right {k = c} (omega (arith, mul-le-mul-right (2 ^ low f) l)) C
 
 round-difference :
-    (f : Format) (s : Bool) (a b c v w t : ℕ) → 0 < c → prec f + t ≤ low f + emax f → a * 2 ^ low f ≡ v * c → b * 2 ^ low f ≡ w * c → b ≤ a → v < w + 2 ^ (prec f + t)
+    (f : Format) (s : Bool) (a b c v w t : ℕ) → 0 < c → prec f + t ≤ low f + emax f → a * 2 ^ low f ≡ v * c → b * 2 ^ low f ≡ w * c → b ≤ a
+    → v < w + 2 ^ (prec f + t)
     → Rounds f (round f s (a - b) c) (cond s w v) (cond s v w) t
 round-difference f s a b c v w t C fine p q l h =
     let k : w ≤ v = in-order f b a c w v C q p l in
@@ -80,28 +82,42 @@ round-difference f s a b c v w t C fine p q l h =
     exchanged false k = omega arith
 
 sum-rounds :
-    (f : Format) (s : Bool) (a : ℕ) (r : Bool) (b c v w t : ℕ) → 0 < c → prec f + t ≤ low f + emax f → a * 2 ^ low f ≡ v * c → b * 2 ^ low f ≡ w * c
-    → cond s 0 v + cond r 0 w < cond s v 0 + cond r w 0 + 2 ^ (prec f + t) → cond s v 0 + cond r w 0 < cond s 0 v + cond r 0 w + 2 ^ (prec f + t)
+    (f : Format) (s : Bool) (a : ℕ) (r : Bool) (b c v w t : ℕ) → 0 < c → prec f + t ≤ low f + emax f → a * 2 ^ low f ≡ v * c
+    → b * 2 ^ low f ≡ w * c
+    → cond s 0 v + cond r 0 w < cond s v 0 + cond r w 0 + 2 ^ (prec f + t)
+    → cond s v 0 + cond r w 0 < cond s 0 v + cond r 0 w + 2 ^ (prec f + t)
     → Rounds f (sum f s a r b c) (cond s 0 v + cond r 0 w) (cond s v 0 + cond r w 0) t
 unfolding sum
 sum-rounds f false a false b c v w t C fine p q h k =
-    rounds-as f (round f false (a + b) c) (v + w) 0 (v + w) 0 t refl (round-units f false (a + b) c (v + w) t C fine (omega arith) (omega arith))
+    rounds-as f (round f false (a + b) c) (v + w) 0 (v + w) 0 t refl
+    (round-units f false (a + b) c (v + w) t C fine (omega arith) (omega arith))
 sum-rounds f true a true b c v w t C fine p q h k =
-    rounds-as f (round f true (a + b) c) 0 (v + w) 0 (v + w) t refl (round-units f true (a + b) c (v + w) t C fine (omega arith) (omega arith))
+    rounds-as f (round f true (a + b) c) 0 (v + w) 0 (v + w) t refl
+    (round-units f true (a + b) c (v + w) t C fine (omega arith) (omega arith))
 sum-rounds f false a true b c v w t C fine p q h k = go (ltb a b) (ltb→lt a b) (nltb→le a b)
   where
-    go : (x : Bool) → (T x → a < b) → (T (not x) → b ≤ a) → Rounds f (cond x (round f true (b - a) c) (round f false (a - b) c)) (v + 0) (0 + w) t
-    go true l g = rounds-as f (round f true (b - a) c) v w (v + 0) (0 + w) t (omega arith) (round-difference f true b a c w v t C fine q p (le-of-lt (l tt)) (omega arith))
-    go false l g = rounds-as f (round f false (a - b) c) v w (v + 0) (0 + w) t (omega arith) (round-difference f false a b c v w t C fine p q (g tt) (omega arith))
+    go : (x : Bool) → (T x → a < b) → (T (not x) → b ≤ a)
+        → Rounds f (cond x (round f true (b - a) c) (round f false (a - b) c)) (v + 0) (0 + w) t
+    go true l g =
+        rounds-as f (round f true (b - a) c) v w (v + 0) (0 + w) t (omega arith)
+        (round-difference f true b a c w v t C fine q p (le-of-lt (l tt)) (omega arith))
+    go false l g =
+        rounds-as f (round f false (a - b) c) v w (v + 0) (0 + w) t (omega arith)
+        (round-difference f false a b c v w t C fine p q (g tt) (omega arith))
 sum-rounds f true a false b c v w t C fine p q h k = go (ltb a b) (ltb b a) (ltb→lt a b) (nltb→le a b) (nltb→le b a)
   where
     go :
         (x y : Bool) → (T x → a < b) → (T (not x) → b ≤ a) → (T (not y) → a ≤ b)
         → Rounds f (cond x (round f false (b - a) c) (round f y (a - b) c)) (0 + w) (v + 0) t
-    go true y l g n = rounds-as f (round f false (b - a) c) w v (0 + w) (v + 0) t (omega arith) (round-difference f false b a c w v t C fine q p (le-of-lt (l tt)) (omega arith))
-    go false true l g n = rounds-as f (round f true (a - b) c) w v (0 + w) (v + 0) t (omega arith) (round-difference f true a b c v w t C fine p q (g tt) (omega arith))
+    go true y l g n =
+        rounds-as f (round f false (b - a) c) w v (0 + w) (v + 0) t (omega arith)
+        (round-difference f false b a c w v t C fine q p (le-of-lt (l tt)) (omega arith))
+    go false true l g n =
+        rounds-as f (round f true (a - b) c) w v (0 + w) (v + 0) t (omega arith)
+        (round-difference f true a b c v w t C fine p q (g tt) (omega arith))
     go false false l g n =
-        rounds-as f (round f false (a - b) c) v w (0 + w) (v + 0) t (omega (arith, in-order f a b c v w C p q (n tt), in-order f b a c w v C q p (g tt)))
+        rounds-as f (round f false (a - b) c) v w (0 + w) (v + 0) t
+        (omega (arith, in-order f a b c v w C p q (n tt), in-order f b a c w v C q p (g tt)))
         (round-difference f false a b c v w t C fine p q (g tt) (omega arith))
 
 -- x - y, if its size is below 2 ^ (prec + t) units
@@ -115,12 +131,14 @@ sub-rounds f (inf s) y t p q fine h k = absurd (p .is)
 sub-rounds f (fin s m e) nan t p q fine h k = absurd (q .is)
 sub-rounds f (fin s m e) (inf r) t p q fine h k = absurd (q .is)
 sub-rounds f (fin s m e) (fin false n d) t p q fine h k =
-    sum-rounds f s (m * up e * down d) true (n * up d * down e) (down e * down d) (units f (fin s m e)) (units f (fin false n d)) t (mul-pos (down-pos e) (down-pos d)) fine
+    sum-rounds f s (m * up e * down d) true (n * up d * down e) (down e * down d) (units f (fin s m e)) (units f (fin false n d)) t
+    (mul-pos (down-pos e) (down-pos d)) fine
     (over-left (m * up e) (2 ^ low f) (units f (fin s m e)) (down e) (down d) (p .is .1))
     (over-right (n * up d) (2 ^ low f) (units f (fin false n d)) (down d) (down e) (q .is .1))
     h k
 sub-rounds f (fin s m e) (fin true n d) t p q fine h k =
-    sum-rounds f s (m * up e * down d) false (n * up d * down e) (down e * down d) (units f (fin s m e)) (units f (fin true n d)) t (mul-pos (down-pos e) (down-pos d)) fine
+    sum-rounds f s (m * up e * down d) false (n * up d * down e) (down e * down d) (units f (fin s m e)) (units f (fin true n d)) t
+    (mul-pos (down-pos e) (down-pos d)) fine
     (over-left (m * up e) (2 ^ low f) (units f (fin s m e)) (down e) (down d) (p .is .1))
     (over-right (n * up d) (2 ^ low f) (units f (fin true n d)) (down d) (down e) (q .is .1))
     h k
@@ -145,7 +163,8 @@ magnitude false n w p h = omega arith
 
 -- x * y, where x is the whole number n with the sign s, if the size of the product is below 2 ^ (prec + t) units
 pub mul-rounds :
-    (f : Format) (x y : Float) (s : Bool) (n t : ℕ) → HasValue x s n 1 → Exact f y → prec f + t ≤ low f + emax f → n * (above f y + below f y) < 2 ^ (prec f + t)
+    (f : Format) (x y : Float) (s : Bool) (n t : ℕ) → HasValue x s n 1 → Exact f y → prec f + t ≤ low f + emax f
+    → n * (above f y + below f y) < 2 ^ (prec f + t)
     → Rounds f (mul f x y) (n * cond s (below f y) (above f y)) (n * cond s (above f y) (below f y)) t
 unfolding mul above below negative
 mul-rounds f nan y s n t p q fine h = absurd p

@@ -42,12 +42,18 @@ below-iff true false a b = ((λ h. omega (arith, ltb→lt 0 (a + b) h)), λ h. l
 below-iff true true a b = ((λ h. omega (arith, ltb→lt b a h)), λ h. lt→ltb b a (omega arith))
 
 level-iff : (s t : Bool) (a b : ℕ) → T (Ieee.level s a t b) ↔ (cond s 0 a + cond t b 0 ≡ cond t 0 b + cond s a 0)
-level-iff false false a b = ((λ h. omega (arith, eqb→eq a b (and-l (eqb a b) true h))), λ h. and-i (eqb a b) true (eqb-of a b (omega arith)) tt)
-level-iff false true a b =
-    ((λ h. omega (arith, eqb→eq a b (and-l (eqb a b) (eqb a 0) h), eqb→eq a 0 (and-r (eqb a b) (eqb a 0) h))), λ h. and-i (eqb a b) (eqb a 0) (eqb-of a b (omega arith)) (eqb-of a 0 (omega arith)))
-level-iff true false a b =
-    ((λ h. omega (arith, eqb→eq a b (and-l (eqb a b) (eqb a 0) h), eqb→eq a 0 (and-r (eqb a b) (eqb a 0) h))), λ h. and-i (eqb a b) (eqb a 0) (eqb-of a b (omega arith)) (eqb-of a 0 (omega arith)))
-level-iff true true a b = ((λ h. omega (arith, eqb→eq a b (and-l (eqb a b) true h))), λ h. and-i (eqb a b) true (eqb-of a b (omega arith)) tt)
+level-iff false false a b =
+    ((λ h. omega (arith, eqb→eq a b (and-l (eqb a b) true h))), λ h. and-i (eqb a b) true (eqb-of a b (omega arith)) tt)
+level-iff false true a b = (
+  (λ h. omega (arith, eqb→eq a b (and-l (eqb a b) (eqb a 0) h), eqb→eq a 0 (and-r (eqb a b) (eqb a 0) h))),
+  λ h. and-i (eqb a b) (eqb a 0) (eqb-of a b (omega arith)) (eqb-of a 0 (omega arith)),
+)
+level-iff true false a b = (
+  (λ h. omega (arith, eqb→eq a b (and-l (eqb a b) (eqb a 0) h), eqb→eq a 0 (and-r (eqb a b) (eqb a 0) h))),
+  λ h. and-i (eqb a b) (eqb a 0) (eqb-of a b (omega arith)) (eqb-of a 0 (omega arith)),
+)
+level-iff true true a b =
+    ((λ h. omega (arith, eqb→eq a b (and-l (eqb a b) true h))), λ h. and-i (eqb a b) true (eqb-of a b (omega arith)) tt)
 
 either-iff : (p q : Bool) (x y : ℕ) → T p ↔ (x < y) → T q ↔ (x ≡ y) → T (p || q) ↔ (x ≤ y)
 either-iff p q x y i j = (
@@ -89,8 +95,10 @@ le-iff f (fin s m e) (fin t n d) p q =
     let b = n * up d * down e in
     let v = units f (fin s m e) in
     let w = units f (fin t n d) in
-    Iff·trans (either-iff (Ieee.below s a t b) (Ieee.level s a t b) (cond s 0 a + cond t b 0) (cond t 0 b + cond s a 0) (below-iff s t a b) (level-iff s t a b))
-    (le-scaled (cond s 0 a + cond t b 0) (cond t 0 b + cond s a 0) (cond s 0 v + cond t w 0) (cond t 0 w + cond s v 0) (2 ^ low f) (down e * down d) (pow-pos (low f)) (mul-pos (down-pos e) (down-pos d))
+    Iff·trans (either-iff (Ieee.below s a t b) (Ieee.level s a t b) (cond s 0 a + cond t b 0) (cond t 0 b + cond s a 0) (below-iff s t a b)
+    (level-iff s t a b))
+    (le-scaled (cond s 0 a + cond t b 0) (cond t 0 b + cond s a 0) (cond s 0 v + cond t w 0) (cond t 0 w + cond s v 0) (2 ^ low f)
+    (down e * down d) (pow-pos (low f)) (mul-pos (down-pos e) (down-pos d))
     (parts s t a b v w (2 ^ low f) (down e * down d) (left f s m e t n d p q) (right f s m e t n d p q))
     (parts t s b a w v (2 ^ low f) (down e * down d) (right f s m e t n d p q) (left f s m e t n d p q)))
 
@@ -108,7 +116,8 @@ lt-not-le : (s t : Bool) (a b : ℕ) → Ieee.below s a t b ≡ not (Ieee.below 
 lt-not-le s t a b =
     let back = Ieee.below t b s a || Ieee.level t b s a in
     same-test _ _ (Iff·trans (Iff·symm (held (Ieee.below s a t b))) (below-iff s t a b))
-    (strict back _ _ (Iff·trans (Iff·symm (held back)) (either-iff (Ieee.below t b s a) (Ieee.level t b s a) _ _ (below-iff t s b a) (level-iff t s b a))))
+    (strict back _ _ (Iff·trans (Iff·symm (held back))
+    (either-iff (Ieee.below t b s a) (Ieee.level t b s a) _ _ (below-iff t s b a) (level-iff t s b a))))
   where
     strict : (b : Bool) (m n : ℕ) → (b ≡ true) ↔ (n ≤ m) → (not b ≡ true) ↔ (m < n)
     strict true m n h = ((λ e. absurd (true≢false (sym e))), λ l. absurd (omega (arith, h .0 refl)))

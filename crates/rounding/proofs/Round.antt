@@ -1,7 +1,8 @@
 -- A rounded fraction lies within half a place of the fraction, since it is the nearest multiple of the place. Everything is in units of
 -- the format's smallest positive value and multiplied by the fraction's divisor.
 use Prim.Native.Nat.{ℕ, zero, suc, _+_, _-_, _*_, _/_, _%_, _^_, _≤_, _<_, compare, Ordering, Ordering·lt, Ordering·eq, Ordering·gt}
-use native.Mathlib.Nat.{le-trans, le-of-eq, lt-of-le-of-lt, mul-le-mul, mul-le-mul-left, mul-pos, div-add-mod', mod-lt, div-div-eq-div-mul, div-lt-iff-lt-mul}
+use native.Mathlib.Nat.{le-trans, le-of-eq, lt-of-le-of-lt, mul-le-mul, mul-le-mul-left, mul-pos, div-add-mod', mod-lt, div-div-eq-div-mul}
+use native.Mathlib.Nat.{div-lt-iff-lt-mul}
 use native.Mathlib.Omega.{arith}
 use mathlib.Core.Path.{_≡_, sym, subst}
 use mathlib.Core.Bool.{Bool, not}
@@ -64,15 +65,18 @@ kept-le : (p n den : ℕ) → kept p n den ≤ 2 ^ p
 kept-le p n den =
     let k = drop p n den in
     let u = den * 2 ^ k in
-    le-trans (nearest-le (n / u) (compare (n % u * 2) u)) (subst (λ (x : ℕ). x < 2 ^ p) (div-div-eq-div-mul n den (2 ^ k)) (kept-lt p (n / den)))
+    le-trans (nearest-le (n / u) (compare (n % u * 2) u))
+    (subst (λ (x : ℕ). x < 2 ^ p) (div-div-eq-div-mul n den (2 ^ k)) (kept-lt p (n / den)))
 
 -- q places of 2 ^ k, in units
-spread : (q den n k t : ℕ) → Half q n (den * 2 ^ k) → 2 ^ k ≤ 2 ^ t → (q * 2 ^ k * den * 2 ≤ n * 2 + den * 2 ^ t) × (n * 2 ≤ q * 2 ^ k * den * 2 + den * 2 ^ t)
+spread : (q den n k t : ℕ) → Half q n (den * 2 ^ k) → 2 ^ k ≤ 2 ^ t
+    → (q * 2 ^ k * den * 2 ≤ n * 2 + den * 2 ^ t) × (n * 2 ≤ q * 2 ^ k * den * 2 + den * 2 ^ t)
 spread q den n k t h l =
     let w : den * 2 ^ k ≤ den * 2 ^ t = mul-le-mul-left den l in
     omega arith
 
-pub round-near : (f : Format) (s : Bool) (num den t : ℕ) → 0 < den → prec f + t ≤ low f + emax f → num * 2 ^ low f < 2 ^ (prec f + t) * den → Rounded f s num den t
+pub round-near : (f : Format) (s : Bool) (num den t : ℕ) → 0 < den → prec f + t ≤ low f + emax f → num * 2 ^ low f < 2 ^ (prec f + t) * den
+    → Rounded f s num den t
 round-near f s num den t D fits h =
     let p = prec f in
     let n = num * 2 ^ low f in
@@ -82,7 +86,9 @@ round-near f s num den t D fits h =
     let fine : grid f num den < 2 ^ (low f + suc (emax f)) = lt-of-le-of-lt top (pow-lt (omega arith)) in
     let near = spread (kept p n den) den n k t (closest-half n (den * 2 ^ k) (mul-pos D (pow-pos k))) (pow-mono k-le) in
     record {
-      value = subst (λ (x : Float). HasValue x s (grid f num den) (2 ^ low f)) (sym (round-is f s num den)) (units-val f s (kept p n den) k fine);
+      value =
+          subst (λ (x : Float). HasValue x s (grid f num den) (2 ^ low f)) (sym (round-is f s num den))
+          (units-val f s (kept p n den) k fine);
       over = near .0;
       under = near .1;
     }

@@ -27,8 +27,16 @@ use Rattle.row_sides.specs.parts.Passed.{Tells, Passed}
 
 -- ---- the row of a letter
 
-tells-by : (y a x : ℕ) → x < corners → ((p : Point) → p .row ≡ y → (r : ℕ) → r < side → alongRow r p a ≡ true → x ≡ r) → ((p : Point) → p .row ≡ y → (r : ℕ) → r < side → x ≡ r → alongRow r p a ≡ true) → Tells y a x
-tells-by y a x l f g = record { below = l; tells = λ p e r h. same-test {P = x ≡ r} (alongRow r p a) (eqb x r) (f p e r h, g p e r h) ((λ d. eqb-true x r d), λ d. eq-eqb x r d) }
+tells-by : (y a x : ℕ) → x < corners → ((p : Point) → p .row ≡ y → (r : ℕ) → r < side → alongRow r p a ≡ true → x ≡ r)
+    → ((p : Point) → p .row ≡ y → (r : ℕ) → r < side → x ≡ r → alongRow r p a ≡ true) → Tells y a x
+tells-by y a x l f g =
+    record {
+      below = l;
+      tells = λ p e r h. same-test {P = x ≡ r} (alongRow r p a) (eqb x r) (f p e r h, g p e r h) (
+        (λ d. eqb-true x r d),
+        λ d. eq-eqb x r d,
+      );
+    }
 
 pub tells-up : (y a : ℕ) → y < corners → a ≡ 1 → Tells y a y
 tells-up y a l e =
@@ -92,8 +100,10 @@ module _ (p : Point) where
   unfolding step
   to-itself zero f g h i = absurd (f refl)
   to-itself (suc zero) f g h i = absurd (g refl)
-  to-itself (suc (suc zero)) f g h i = point-eq p (step p 2) (elim (decLt 0 (p .col)) [ yes l ↦ absurd (h refl l) | no l ↦ omega arith ]) refl
-  to-itself (suc (suc (suc zero))) f g h i = point-eq p (step p 3) refl (elim (decLt 0 (p .row)) [ yes l ↦ absurd (i refl l) | no l ↦ omega arith ])
+  to-itself (suc (suc zero)) f g h i =
+      point-eq p (step p 2) (elim (decLt 0 (p .col)) [ yes l ↦ absurd (h refl l) | no l ↦ omega arith ]) refl
+  to-itself (suc (suc (suc zero))) f g h i =
+      point-eq p (step p 3) refl (elim (decLt 0 (p .row)) [ yes l ↦ absurd (i refl l) | no l ↦ omega arith ])
   to-itself (suc (suc (suc (suc a)))) f g h i = refl
 
 -- ---- what is kept
@@ -116,13 +126,16 @@ passing-start o =
       lo-size = length-replicate {A = ℕ} corners side;
       en-size = length-replicate {A = ℕ} corners side;
       hi-size = length-replicate {A = ℕ} corners 0;
-      two = λ r h. let e = getD-replicate {A = ℕ} corners r side 0 (omega arith) in ap (λ (n : ℕ). keptTwo r (o .start) (o .letters) (record { one = n; two = n })) e;
-      last = λ r h. ap (greatestOver (alongRow r) (λ q. q .col) (o .start) (o .letters)) (getD-replicate {A = ℕ} corners r 0 0 (omega arith));
+      two = λ r h. let e = getD-replicate {A = ℕ} corners r side 0 (omega arith) in
+          ap (λ (n : ℕ). keptTwo r (o .start) (o .letters) (record { one = n; two = n })) e;
+      last =
+          λ r h. ap (greatestOver (alongRow r) (λ q. q .col) (o .start) (o .letters)) (getD-replicate {A = ℕ} corners r 0 0 (omega arith));
       lowest = refl;
       highest = refl;
     }
 
-pub passing-end : (o : Outline) (i : ℕ) (p : Point) (lo en hi : List ℕ) (low high : ℕ) → size o ≤ i → Passing o i p lo en hi low high → Passed o lo en hi low high
+pub passing-end : (o : Outline) (i : ℕ) (p : Point) (lo en hi : List ℕ) (low high : ℕ) → size o ≤ i → Passing o i p lo en hi low high
+    → Passed o lo en hi low high
 unfolding keptTwo leastOver greatestOver
 passing-end o i p lo en hi low high l k =
     let d = drop-of-length-le (o .letters) l in
@@ -135,16 +148,20 @@ passing-end o i p lo en hi low high l k =
     }
 
 -- The corner is on the chart
-pub passing-on : (o : Outline) (i : ℕ) (p : Point) (lo en hi : List ℕ) (low high : ℕ) → Simple o → i < size o → Passing o i p lo en hi low high → (p .col < corners) × (p .row < corners)
+pub passing-on : (o : Outline) (i : ℕ) (p : Point) (lo en hi : List ℕ) (low high : ℕ) → Simple o → i < size o
+    → Passing o i p lo en hi low high → (p .col < corners) × (p .row < corners)
 passing-on o i p lo en hi low high s l k =
-    let w = walked o s in
-    (omega (arith, ap (λ (q : Point). q .col) (k .at), w .col-le i (omega arith)), omega (arith, ap (λ (q : Point). q .row) (k .at), w .row-le i (omega arith)))
+    let w = walked o s in (
+      omega (arith, ap (λ (q : Point). q .col) (k .at), w .col-le i (omega arith)),
+      omega (arith, ap (λ (q : Point). q .row) (k .at), w .row-le i (omega arith)),
+    )
 
 two-eq : (s t : Two) → s .one ≡ t .one → s .two ≡ t .two → s ≡ t
 two-eq s t e f = λ i. record { one = e i; two = f i }
 
 -- One letter
-module _ (o : Outline) (i : ℕ) (p : Point) (lo en hi : List ℕ) (low high : ℕ) (l : i < size o) (k : Passing o i p lo en hi low high) (x : ℕ) (t : Tells (p .row) (letterAt o i) x) where
+module _ (o : Outline) (i : ℕ) (p : Point) (lo en hi : List ℕ) (low high : ℕ) (l : i < size o) (k : Passing o i p lo en hi low high) (x : ℕ)
+    (t : Tells (p .row) (letterAt o i) x) where
   abbrev rest : List ℕ
   rest = drop (suc i) (o .letters)
 
@@ -156,22 +173,31 @@ module _ (o : Outline) (i : ℕ) (p : Point) (lo en hi : List ℕ) (low high : �
       → one ≡ keepTwo (p .col) (record { one = rows lo x; two = rows en x }) .one
       → two ≡ keepTwo (p .col) (record { one = rows lo x; two = rows en x }) .two
       → (r : ℕ) → r < side
-      → _≡_ {A = Two} (record { one = rows (set lo x one) r; two = rows (set en x two) r }) (cond (alongRow r p (letterAt o i)) (keepTwo (p .col) (record { one = rows lo r; two = rows en r })) (record { one = rows lo r; two = rows en r }))
+      → _≡_ {A = Two} (record { one = rows (set lo x one) r; two = rows (set en x two) r })
+      (cond (alongRow r p (letterAt o i)) (keepTwo (p .col) (record { one = rows lo r; two = rows en r }))
+      (record { one = rows lo r; two = rows en r }))
   pick-two one two e f r h = rw (t .tells p refl r h) (go (eqb x r) refl)
     where
-      go : (b : Bool) → eqb x r ≡ b → _≡_ {A = Two} (record { one = rows (set lo x one) r; two = rows (set en x two) r }) (cond b (keepTwo (p .col) (record { one = rows lo r; two = rows en r })) (record { one = rows lo r; two = rows en r }))
+      go : (b : Bool) → eqb x r ≡ b
+          → _≡_ {A = Two} (record { one = rows (set lo x one) r; two = rows (set en x two) r })
+          (cond b (keepTwo (p .col) (record { one = rows lo r; two = rows en r })) (record { one = rows lo r; two = rows en r }))
       go true d =
           let z : x ≡ r = eqb-true x r d in
           two-eq _ _
-          (subst (λ (y : ℕ). rows (set lo x one) y ≡ keepTwo (p .col) (record { one = rows lo y; two = rows en y }) .one) z (getD-set-same lo x one 0 (omega (arith, k .lo-size, t .below)) ∙ e))
-          (subst (λ (y : ℕ). rows (set en x two) y ≡ keepTwo (p .col) (record { one = rows lo y; two = rows en y }) .two) z (getD-set-same en x two 0 (omega (arith, k .en-size, t .below)) ∙ f))
+          (subst (λ (y : ℕ). rows (set lo x one) y ≡ keepTwo (p .col) (record { one = rows lo y; two = rows en y }) .one) z
+          (getD-set-same lo x one 0 (omega (arith, k .lo-size, t .below)) ∙ e))
+          (subst (λ (y : ℕ). rows (set en x two) y ≡ keepTwo (p .col) (record { one = rows lo y; two = rows en y }) .two) z
+          (getD-set-same en x two 0 (omega (arith, k .en-size, t .below)) ∙ f))
       go false d = two-eq _ _ (getD-set-other lo x r one 0 (differ r d)) (getD-set-other en x r two 0 (differ r d))
 
-  pick-last : (last : ℕ) → last ≡ max (p .col) (rows hi x) → (r : ℕ) → r < side → rows (set hi x last) r ≡ cond (alongRow r p (letterAt o i)) (max (p .col) (rows hi r)) (rows hi r)
+  pick-last : (last : ℕ) → last ≡ max (p .col) (rows hi x) → (r : ℕ) → r < side
+      → rows (set hi x last) r ≡ cond (alongRow r p (letterAt o i)) (max (p .col) (rows hi r)) (rows hi r)
   pick-last last g r h = rw (t .tells p refl r h) (go (eqb x r) refl)
     where
       go : (b : Bool) → eqb x r ≡ b → rows (set hi x last) r ≡ cond b (max (p .col) (rows hi r)) (rows hi r)
-      go true d = subst (λ (y : ℕ). rows (set hi x last) y ≡ max (p .col) (rows hi y)) (eqb-true x r d) (getD-set-same hi x last 0 (omega (arith, k .hi-size, t .below)) ∙ g)
+      go true d =
+          subst (λ (y : ℕ). rows (set hi x last) y ≡ max (p .col) (rows hi y)) (eqb-true x r d)
+          (getD-set-same hi x last 0 (omega (arith, k .hi-size, t .below)) ∙ g)
       go false d = getD-set-other hi x r last 0 (differ r d)
 
   pub passing-next :
@@ -189,7 +215,10 @@ module _ (o : Outline) (i : ℕ) (p : Point) (lo en hi : List ℕ) (low high : �
         en-size = length-set en x two ∙ k .en-size;
         hi-size = length-set hi x last ∙ k .hi-size;
         two = λ r h. (λ j. keptTwo r (s j) (left j) (pick-two one two e f r h j)) ∙ (rw (drop-cons (o .letters) i 0 l) at (k .two r h));
-        last = λ r h. (λ j. greatestOver (alongRow r) (λ (z : Point). z .col) (s j) (left j) (pick-last last g r h j)) ∙ (rw (drop-cons (o .letters) i 0 l) at (k .last r h));
-        lowest = (λ j. leastOver (λ z a. true) (λ (z : Point). z .row) (s j) (left j) (m j)) ∙ (rw (drop-cons (o .letters) i 0 l) at (k .lowest));
-        highest = (λ j. greatestOver (λ z a. true) (λ (z : Point). z .row) (s j) (left j) (n j)) ∙ (rw (drop-cons (o .letters) i 0 l) at (k .highest));
+        last = λ r h. (λ j. greatestOver (alongRow r) (λ (z : Point). z .col) (s j) (left j) (pick-last last g r h j))
+            ∙ (rw (drop-cons (o .letters) i 0 l) at (k .last r h));
+        lowest = (λ j. leastOver (λ z a. true) (λ (z : Point). z .row) (s j) (left j) (m j))
+            ∙ (rw (drop-cons (o .letters) i 0 l) at (k .lowest));
+        highest = (λ j. greatestOver (λ z a. true) (λ (z : Point). z .row) (s j) (left j) (n j))
+            ∙ (rw (drop-cons (o .letters) i 0 l) at (k .highest));
       }

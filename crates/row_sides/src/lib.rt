@@ -48,7 +48,8 @@ struct Pair {
 }
 
 fn keep(c: u16, one: u16, two: u16) -> Pair
-    ensures { λ r. ⌜ (r .one ≡ keepTwo c (record { one = one; two = two }) .one) × (r .two ≡ keepTwo c (record { one = one; two = two }) .two) ⌝ }
+    ensures { λ r. ⌜ (r .one ≡ keepTwo c (record { one = one; two = two }) .one)
+        × (r .two ≡ keepTwo c (record { one = one; two = two }) .two) ⌝ }
 {
     if c < one {
         return Pair { one: c, two: one };

@@ -43,7 +43,8 @@ same-or-after-row g y (inr (inr p)) = omega arith
 
 module _ (lo hi : ℕ → ℕ) (b t : ℕ) (rows : Rows lo hi b t) where
   mirrored : Mirrored lo hi (λ r. side - hi r) (λ r. side - lo r) b t
-  mirrored = record { begins = λ r h l. omega (arith, rows .nonempty r h l, rows .fits r h l); ends = λ r h l. omega (arith, rows .fits r h l) }
+  mirrored =
+      record { begins = λ r h l. omega (arith, rows .nonempty r h l, rows .fits r h l); ends = λ r h l. omega (arith, rows .fits r h l) }
 
   -- A gap on the left of the mirror image is a gap on the right of the block
   left-right : (g : Point) → Left (λ r. side - hi r) (λ r. side - lo r) b t b g → RightRow lo hi b t (g .row)
@@ -73,12 +74,21 @@ module _ (lo hi : ℕ → ℕ) (b t : ℕ) (rows : Rows lo hi b t) where
     -- A hull cell below both gaps is in the block
     below-within : (y : Point) → InHull (inRows lo hi b t) y → y .row < g .row → y .row < r → Within lo hi b t y
     below-within y h l m =
-        record { above = hull-above rows h; below = hull-below rows h; begun = left .clear y h (hull-above rows h) l; before = right .clear y h m }
+        record {
+          above = hull-above rows h;
+          below = hull-below rows h;
+          begun = left .clear y h (hull-above rows h) l;
+          before = right .clear y h m;
+        }
 
     -- The lower gap is missing; in the same row, the left one
-    lower-gap : (a : Bool) → leb (g .row) r ≡ a → cond a g (record { col = hi r; row = r }) .row < t → Missing (inRows lo hi b t) (cond a g (record { col = hi r; row = r }))
+    lower-gap : (a : Bool) → leb (g .row) r ≡ a → cond a g (record { col = hi r; row = r }) .row < t
+        → Missing (inRows lo hi b t) (cond a g (record { col = hi r; row = r }))
     lower-gap true e l =
-        record { hull = left .reach l (g .col) (omega arith) (left .left l); open-cell = outside-open g (λ w. omega (arith, left .left l, w .begun)) }
+        record {
+          hull = left .reach l (g .col) (omega arith) (left .left l);
+          open-cell = outside-open g (λ w. omega (arith, left .left l, w .begun));
+        }
     lower-gap false e l = record { hull = right .reach l; open-cell = outside-open _ (λ w. omega (arith, w .before)) }
 
     lower-first : (a : Bool) → leb (g .row) r ≡ a → (y : Point) → Missing (inRows lo hi b t) y →
@@ -87,7 +97,8 @@ module _ (lo hi : ℕ → ℕ) (b t : ℕ) (rows : Rows lo hi b t) where
         let h = k .hull in
         let l : g .row ≤ r = leb-true _ _ e in
         same-or-after g y
-        (elim (decLt (y .row) (g .row)) [ yes m ↦ absurd (open-outside y (k .open-cell) (below-within y h m (omega arith))) | no m ↦ omega arith ])
+        (elim (decLt (y .row) (g .row))
+        [ yes m ↦ absurd (open-outside y (k .open-cell) (below-within y h m (omega arith))) | no m ↦ omega arith ])
         (λ d. left .furthest (omega (arith, hull-below rows h)) y h d)
     lower-first false e y k =
         let h = k .hull in
@@ -97,12 +108,19 @@ module _ (lo hi : ℕ → ℕ) (b t : ℕ) (rows : Rows lo hi b t) where
         (λ d.
         elim (decLt (y .col) (hi r)) [
           | yes m ↦
-              absurd (open-outside y (k .open-cell) (record { above = hull-above rows h; below = hull-below rows h; begun = left .clear y h (hull-above rows h) (omega arith); before = rw d m }))
+              absurd (open-outside y (k .open-cell)
+              (record {
+                above = hull-above rows h;
+                below = hull-below rows h;
+                begun = left .clear y h (hull-above rows h) (omega arith);
+                before = rw d m;
+              }))
           | no m ↦ omega arith
         ])
 
 -- If the search stops below row t, it has found a missing cell
-pub search-sound : {lo hi : ℕ → ℕ} {b t : ℕ} → Rows lo hi b t → lowestGap lo hi b t .row < t → Missing (inRows lo hi b t) (lowestGap lo hi b t)
+pub search-sound : {lo hi : ℕ → ℕ} {b t : ℕ} → Rows lo hi b t → lowestGap lo hi b t .row < t
+    → Missing (inRows lo hi b t) (lowestGap lo hi b t)
 unfolding lowestGap
 search-sound {lo} {hi} {b} {t} rows = lower-gap lo hi b t rows _ _ (chain-bottom lo hi b t rows) (chain-right lo hi b t rows) _ refl
 
@@ -115,7 +133,8 @@ search-first {lo} {hi} {b} {t} rows = lower-first lo hi b t rows _ _ (chain-bott
 
 -- If a cell is missing, the search finds the lowest one, leftmost in its row
 pub search-lowest :
-    {lo hi : ℕ → ℕ} {b t : ℕ} → Rows lo hi b t → (x : Point) → Missing (inRows lo hi b t) x → LowestMissing (inRows lo hi b t) (lowestGap lo hi b t)
+    {lo hi : ℕ → ℕ} {b t : ℕ} → Rows lo hi b t → (x : Point) → Missing (inRows lo hi b t) x
+    → LowestMissing (inRows lo hi b t) (lowestGap lo hi b t)
 search-lowest rows x m =
     let l = search-first rows in
     record { missing = search-sound rows (omega (arith, same-or-after-row _ _ (l x m), hull-below rows (m .hull))); lowest = l }

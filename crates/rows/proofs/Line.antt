@@ -39,29 +39,37 @@ module _ {p q x : Point} where
   pub right-from : p .row ≤ q .row → p .row ≤ x .row → Right p q x ↔ SlopeLe p q p x
   right-from l m =
       let f = height p q l in
-      let g = height p x m in
-      (λ h. omega (arith, f (p .col), f (x .col), g (p .col), g (q .col)), λ h. omega (arith, f (p .col), f (x .col), g (p .col), g (q .col)))
+      let g = height p x m in (
+        λ h. omega (arith, f (p .col), f (x .col), g (p .col), g (q .col)),
+        λ h. omega (arith, f (p .col), f (x .col), g (p .col), g (q .col)),
+      )
 
   -- Both go up to q
   pub right-to : p .row ≤ q .row → x .row ≤ q .row → Right p q x ↔ SlopeLe x q p q
   right-to l m =
       let f = height p q l in
-      let g = height x q m in
-      (λ h. omega (arith, f (q .col), f (x .col), g (q .col), g (p .col)), λ h. omega (arith, f (q .col), f (x .col), g (q .col), g (p .col)))
+      let g = height x q m in (
+        λ h. omega (arith, f (q .col), f (x .col), g (q .col), g (p .col)),
+        λ h. omega (arith, f (q .col), f (x .col), g (q .col), g (p .col)),
+      )
 
   -- One goes from p up to x, the other from x up to q
   pub right-between : p .row ≤ x .row → x .row ≤ q .row → Right p q x ↔ SlopeLe x q p x
   right-between l m =
       let f = height p x l in
-      let g = height x q m in
-      (λ h. omega (arith, f (p .col), f (q .col), f (x .col), g (p .col), g (x .col)), λ h. omega (arith, f (p .col), f (q .col), f (x .col), g (p .col), g (x .col)))
+      let g = height x q m in (
+        λ h. omega (arith, f (p .col), f (q .col), f (x .col), g (p .col), g (x .col)),
+        λ h. omega (arith, f (p .col), f (q .col), f (x .col), g (p .col), g (x .col)),
+      )
 
   -- One goes from p up to q, the other from q up to x
   pub right-on : p .row ≤ q .row → q .row ≤ x .row → Right p q x ↔ SlopeLe p q q x
   right-on l m =
       let f = height p q l in
-      let g = height q x m in
-      (λ h. omega (arith, f (p .col), f (q .col), f (x .col), g (p .col), g (q .col)), λ h. omega (arith, f (p .col), f (q .col), f (x .col), g (p .col), g (q .col)))
+      let g = height q x m in (
+        λ h. omega (arith, f (p .col), f (q .col), f (x .col), g (p .col), g (q .col)),
+        λ h. omega (arith, f (p .col), f (q .col), f (x .col), g (p .col), g (q .col)),
+      )
 
 -- Four points: each law is `slope-trans`, with the segments in another place
 
@@ -102,7 +110,8 @@ pub right-cycle : {p q x : Point} → Right x p q → Right p q x
 right-cycle h = omega arith
 
 -- Every point further right in the same row is right of the line too
-beyond-offsets : (p q : Point) (r c y z : ℕ) → q .row ≡ p .row + z → Right p q (record { col = c; row = r }) → Right p q (record { col = c + y; row = r })
+beyond-offsets : (p q : Point) (r c y z : ℕ) → q .row ≡ p .row + z → Right p q (record { col = c; row = r })
+    → Right p q (record { col = c + y; row = r })
 beyond-offsets p q r c y z i h = omega (arith, ap (λ n. n * y) i, h .holds)
 
 pub right-beyond : {p q x : Point} (c : ℕ) → p .row ≤ q .row → c ≤ x .col → Right p q (record { col = c; row = x .row }) → Right p q x
@@ -126,9 +135,11 @@ right-of-end {p} {q} {x} l e h =
 -- The mean of a linear function of the coordinates
 mean-sum :
     (i k j : ℕ) {x u v w : Point} (h : InTriangle x u v w) →
-    Mean (h .a) (h .b) (h .c) (i * x .col + k + j * x .row) (i * u .col + k + j * u .row) (i * v .col + k + j * v .row) (i * w .col + k + j * w .row)
+    Mean (h .a) (h .b) (h .c) (i * x .col + k + j * x .row) (i * u .col + k + j * u .row) (i * v .col + k + j * v .row)
+    (i * w .col + k + j * w .row)
 mean-sum i k j h =
-    mean-add (h .a) (h .b) (h .c) _ _ _ _ _ _ _ _ (mean-line i k (h .a) (h .b) (h .c) _ _ _ _ (h .cols)) (mean-times j (h .a) (h .b) (h .c) _ _ _ _ (h .rows))
+    mean-add (h .a) (h .b) (h .c) _ _ _ _ _ _ _ _ (mean-line i k (h .a) (h .b) (h .c) _ _ _ _ (h .cols))
+    (mean-times j (h .a) (h .b) (h .c) _ _ _ _ (h .rows))
 
 -- A triangle is right of a line if its three corners are
 pub right-mean : {p q x u v w : Point} → InTriangle x u v w → Right p q u → Right p q v → Right p q w → Right p q x
@@ -164,12 +175,14 @@ triangle-offsets p q u x y z g w i j k l e h =
       rows = omega (arith, ap (λ n. suc g * z * n) i, ap (λ n. suc g * y * n) j, ap (λ n. w * n) k);
     }
 
-pub right-in-triangle : {p q u x : Point} → p .row < q .row → p .row ≤ x .row → x .row ≤ q .row → u .row ≡ x .row → x .col < u .col → Right p q x → InTriangle x p q u
+pub right-in-triangle : {p q u x : Point} → p .row < q .row → p .row ≤ x .row → x .row ≤ q .row → u .row ≡ x .row → x .col < u .col
+    → Right p q x → InTriangle x p q u
 right-in-triangle {p} {q} {u} {x} l m n e k h =
     let d = right-between m n .0 h .le in
     let y = x .row - p .row in
     let z = q .row - x .row in
-    triangle-offsets p q u x y z (u .col - suc (x .col)) ((y + z) * x .col - (z * p .col + y * q .col)) (omega arith) (omega arith) e (omega arith) (omega arith) (omega arith)
+    triangle-offsets p q u x y z (u .col - suc (x .col)) ((y + z) * x .col - (z * p .col + y * q .col)) (omega arith) (omega arith) e
+    (omega arith) (omega arith) (omega arith)
 
 -- A triangle lies within the rows and columns of its corners
 pub triangle-above : {x p q u : Point} (k : ℕ) → InTriangle x p q u → k ≤ p .row → k ≤ q .row → k ≤ u .row → k ≤ x .row

@@ -37,14 +37,17 @@ module _ {lo hi lo′ hi′ : ℕ → ℕ} {b t : ℕ} (m : Mirrored lo hi lo′
       record { above = w .above; below = w .below; begun = omega arith; before = omega arith }
 
 triangle-mirror :
-    {x p q u : Point} → x .col < side → p .col < side → q .col < side → u .col < side → InTriangle x p q u → InTriangle (mirror x) (mirror p) (mirror q) (mirror u)
+    {x p q u : Point} → x .col < side → p .col < side → q .col < side → u .col < side → InTriangle x p q u
+    → InTriangle (mirror x) (mirror p) (mirror q) (mirror u)
 triangle-mirror {x} {p} {q} {u} i j k l h =
     record {
       a = h .a;
       b = h .b;
       c = h .c;
       some = h .some;
-      cols = mean-mirror 254 (h .a) (h .b) (h .c) (x .col) (p .col) (q .col) (u .col) _ _ _ _ (omega arith) (omega arith) (omega arith) (omega arith) (h .cols);
+      cols =
+          mean-mirror 254 (h .a) (h .b) (h .c) (x .col) (p .col) (q .col) (u .col) _ _ _ _ (omega arith) (omega arith) (omega arith)
+          (omega arith) (h .cols);
       rows = h .rows;
     }
 
@@ -60,5 +63,6 @@ mirrored-hull m k h =
       q-marked = within-marked (mirror (h .q)) (mirrored-within m (q-within k h));
       t-marked = within-marked (mirror (h .t)) (mirrored-within m (t-within k h));
       triangle =
-          triangle-mirror (hull-cols k h) (within-cols k (p-within k h)) (within-cols k (q-within k h)) (within-cols k (t-within k h)) (h .triangle);
+          triangle-mirror (hull-cols k h) (within-cols k (p-within k h)) (within-cols k (q-within k h)) (within-cols k (t-within k h))
+          (h .triangle);
     }

@@ -17,7 +17,8 @@ use Rattle.chart.specs.Outline.{Outline}
 use Rattle.lattice.specs.Chart.{step, leaves, cornerAt, size, letterAt}
 use Rattle.lattice.specs.Refusals.{Simple}
 use Rattle.lattice.specs.Enclosed.{upAlong, downAlong}
-use Rattle.rows.specs.Search.{upColumn, downColumn, lowestGap, numbered, cornerNumbered, stride, wrapped, keptColumn, keptUp, keptDown, missingCell, foundCell}
+use Rattle.rows.specs.Search.{upColumn, downColumn, lowestGap, numbered, cornerNumbered, stride, wrapped, keptColumn, keptUp}
+use Rattle.rows.specs.Search.{keptDown, missingCell, foundCell}
 use Rattle.rows.specs.parts.Rows.{rows, Marked, RowEnds}
 use Rattle.lattice.specs.Walked.{Walked}
 use Rattle.lattice.proofs.WalkLaws.{walked, point-eq, corner-zero, corner-suc}
@@ -74,7 +75,8 @@ module _ (along : Point → ℕ → ℕ → Bool) (n₀ : ℕ) (w : List ℕ) wh
       }
 
   kept-next :
-      (i n m : ℕ) (l l′ : List ℕ) → i < length w → Marked (along (cornerNumbered n) (getD w i 0)) (n % 256) l l′ → m ≡ wrapped n (getD w i 0) →
+      (i n m : ℕ) (l l′ : List ℕ) → i < length w → Marked (along (cornerNumbered n) (getD w i 0)) (n % 256) l l′
+      → m ≡ wrapped n (getD w i 0) →
       Kept along n₀ w i n l → Kept along n₀ w (i + 1) m l′
   unfolding keptColumn
   kept-next i n m l l′ h d e k = record { size = d .size; rest = λ r b. go r b (k .rest r b) }
@@ -103,7 +105,8 @@ module _ (n₀ : ℕ) (w : List ℕ) where
 
   module _ (i n m : ℕ) (lo hi lo′ hi′ : List ℕ) where
     pub marks-next :
-        i < length w → Marked (upAlong (cornerNumbered n) (getD w i 0)) (n % 256) lo lo′ → Marked (downAlong (cornerNumbered n) (getD w i 0)) (n % 256) hi hi′ →
+        i < length w → Marked (upAlong (cornerNumbered n) (getD w i 0)) (n % 256) lo lo′
+        → Marked (downAlong (cornerNumbered n) (getD w i 0)) (n % 256) hi hi′ →
         m ≡ wrapped n (getD w i 0) → Marks n₀ w i n lo hi → Marks n₀ w (i + 1) m lo′ hi′
     marks-next h u d e t =
         record { ups = kept-next upAlong n₀ w i n m lo lo′ h u e (t .ups); downs = kept-next downAlong n₀ w i n m hi hi′ h d e (t .downs) }
@@ -143,12 +146,14 @@ one-less n h k = omega arith
 number-left : (c r : ℕ) → 0 < c → c ≤ side → r ≤ side → r % 256 * 256 + c % 256 - 1 ≡ r % 256 * 256 + (c - 1) % 256
 number-left c r l h k = omega arith
 
-wrapped-staying : (p : Point) (a : ℕ) → p .col ≤ side → p .row ≤ side → a < 4 → leaves p a ≡ false → wrapped (numbered p) a ≡ numbered (step p a)
+wrapped-staying : (p : Point) (a : ℕ) → p .col ≤ side → p .row ≤ side → a < 4 → leaves p a ≡ false
+    → wrapped (numbered p) a ≡ numbered (step p a)
 unfolding wrapped step
 wrapped-staying p zero h k l e = omega (arith, stays-right p 0 e refl)
 wrapped-staying p (suc zero) h k l e = omega (arith, stays-up p 1 e refl)
 wrapped-staying p (suc (suc zero)) h k l e =
-    let low : 0 < p .col = omega (arith, stays-left p 2 e refl) in one-less (numbered p) (omega arith) (omega arith) ∙ number-left (p .col) (p .row) low h k
+    let low : 0 < p .col = omega (arith, stays-left p 2 e refl) in
+    one-less (numbered p) (omega arith) (omega arith) ∙ number-left (p .col) (p .row) low h k
 wrapped-staying p (suc (suc (suc zero))) h k l e = omega (arith, stays-down p 3 e refl)
 wrapped-staying p (suc (suc (suc (suc a)))) h k l e = absurd (omega arith)
 
@@ -164,9 +169,11 @@ module _ (o : Outline) (simple : Simple o) where
   -- No letter of an outline leaves the chart, so each number is that of the walk's corner
   kept-column : (along : Point → ℕ → ℕ → Bool) (column : Point → List ℕ → ℕ → ℕ → ℕ) → ((p : Point) (r d : ℕ) → column p [] r d ≡ d) →
       ((p : Point) (a : ℕ) (v : List ℕ) (r d : ℕ) → column p (a ∷ v) r d ≡ column (step p a) v r (cond (along p a r) (p .col) d)) →
-      (r m i d : ℕ) → i + m ≡ size o → keptColumn along (numbered (cornerAt o i)) (drop i (o .letters)) r d ≡ column (cornerAt o i) (drop i (o .letters)) r d
+      (r m i d : ℕ) → i + m ≡ size o
+      → keptColumn along (numbered (cornerAt o i)) (drop i (o .letters)) r d ≡ column (cornerAt o i) (drop i (o .letters)) r d
   unfolding keptColumn
-  kept-column along column none more r zero i d h = let e : size o ≤ i = omega arith in rw (drop-of-length-le (o .letters) e) (sym (none (cornerAt o i) r d))
+  kept-column along column none more r zero i d h = let e : size o ≤ i = omega arith in
+      rw (drop-of-length-le (o .letters) e) (sym (none (cornerAt o i) r d))
   kept-column along column none more r (suc m) i d h =
       let l : i < size o = omega arith in
       let p : Point = cornerAt o i in
@@ -177,7 +184,8 @@ module _ (o : Outline) (simple : Simple o) where
       let next : wrapped (numbered p) a ≡ numbered (cornerAt o (suc i)) =
       wrapped-staying p a col row (walk .letter i l) (walk .stays i l) ∙ ap (λ (q : Point). numbered q) (sym (corner-suc o i l)) in
       rw (drop-cons (o .letters) i 0 l, more p a v r d, ← corner-suc o i l)
-      (kept-more along (numbered p) a v r d (corner-numbered p col row) next ∙ kept-column along column none more r m (suc i) (cond (along p a r) (p .col) d) (omega arith))
+      (kept-more along (numbered p) a v r d (corner-numbered p col row) next
+      ∙ kept-column along column none more r m (suc i) (cond (along p a r) (p .col) d) (omega arith))
 
   pub kept-up : (r : ℕ) → keptUp o r ≡ upColumn (o .start) (o .letters) r 0
   unfolding upColumn

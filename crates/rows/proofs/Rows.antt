@@ -81,13 +81,16 @@ module _ {lo hi : ℕ → ℕ} {b t : ℕ} {x : Point} (k : Rows lo hi b t) (h :
 
   pub hull-below : x .row < t
   hull-below =
-      let l = triangle-below (pred t) (h .triangle) (omega (arith, p-within .below)) (omega (arith, q-within .below)) (omega (arith, t-within .below)) in
+      let l =
+      triangle-below (pred t) (h .triangle) (omega (arith, p-within .below)) (omega (arith, q-within .below))
+      (omega (arith, t-within .below)) in
       omega (arith, k .below)
 
   pub hull-cols : x .col < side
   hull-cols =
       let l =
-      triangle-cols (pred side) (h .triangle) (omega (arith, within-cols k p-within)) (omega (arith, within-cols k q-within)) (omega (arith, within-cols k t-within)) in
+      triangle-cols (pred side) (h .triangle) (omega (arith, within-cols k p-within)) (omega (arith, within-cols k q-within))
+      (omega (arith, within-cols k t-within)) in
       omega arith
 
   -- If every row begins right of a line, then the whole hull is right of the line

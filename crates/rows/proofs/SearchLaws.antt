@@ -93,7 +93,8 @@ module _ (lo : ℕ → ℕ) (i j : ℕ) where
   gapRow-none h g =
       omega (
         arith,
-        first-none (λ k. ltb (crossing lo i j (suc i + k)) (lo (suc i + k))) (j - suc i) (λ k l. le-ltb (crossing lo i j (suc i + k)) (lo (suc i + k)) (g (suc i + k) (omega arith) (omega arith))),
+        first-none (λ k. ltb (crossing lo i j (suc i + k)) (lo (suc i + k))) (j - suc i)
+            (λ k l. le-ltb (crossing lo i j (suc i + k)) (lo (suc i + k)) (g (suc i + k) (omega arith) (omega arith))),
       )
 
   pub gapRow-found : (r : ℕ) → i < r → r < j → NoGap lo i j r → crossing lo i j r < lo r → gapRow lo i j ≡ r
@@ -199,7 +200,9 @@ module _ (f g : ℕ → ℕ) (t : ℕ) (same : (r : ℕ) → r < t → f r ≡ g
   furthest-same : (i j k n : ℕ) → i < t → j < t → k + n ≤ t → furthest f i j k n ≡ furthest g i j k n
   unfolding furthest
   furthest-same i j k zero a b c = refl
-  furthest-same i j k (suc n) a b c = rw (as-far-left-same i j k a b (omega arith)) (go (asFarLeft g i j k) (λ m. λ (l : m < t). furthest-same i m (suc k) n a l (omega arith)))
+  furthest-same i j k (suc n) a b c =
+      rw (as-far-left-same i j k a b (omega arith))
+      (go (asFarLeft g i j k) (λ m. λ (l : m < t). furthest-same i m (suc k) n a l (omega arith)))
     where
       go :
           (b : Bool) → ((m : ℕ) → m < t → furthest f i m (suc k) n ≡ furthest g i m (suc k) n) →
@@ -248,7 +251,8 @@ module _ (f g : ℕ → ℕ) (t : ℕ) (same : (r : ℕ) → r < t → f r ≡ g
       ]
 
 -- The lower gap, from the result p of the search up the left side and the result q of the search up the mirror image m of the right side
-module _ (lo hi m : ℕ → ℕ) (b t : ℕ) (p q : Point) (mirror : (r : ℕ) → r < t → m r ≡ side - hi r) (left : p ≡ chain lo t b (t - b)) (right : q ≡ chain m t b (t - b)) where
+module _ (lo hi m : ℕ → ℕ) (b t : ℕ) (p q : Point) (mirror : (r : ℕ) → r < t
+    → m r ≡ side - hi r) (left : p ≡ chain lo t b (t - b)) (right : q ≡ chain m t b (t - b)) where
   right-row : q ≡ chain (λ r. side - hi r) t b (t - b)
   right-row = right ∙ chain-same m (λ r. side - hi r) t mirror b (t - b)
 
@@ -262,7 +266,8 @@ module _ (lo hi m : ℕ → ℕ) (b t : ℕ) (p q : Point) (mirror : (r : ℕ) �
 
 -- Rows with the same ends below the top have the same lower gap
 pub lowestGap-same :
-    (lo hi lo′ hi′ : ℕ → ℕ) (b t : ℕ) → ((r : ℕ) → r < t → lo r ≡ lo′ r) → ((r : ℕ) → r < t → hi r ≡ hi′ r) → lowestGap lo hi b t ≡ lowestGap lo′ hi′ b t
+    (lo hi lo′ hi′ : ℕ → ℕ) (b t : ℕ) → ((r : ℕ) → r < t → lo r ≡ lo′ r) → ((r : ℕ) → r < t → hi r ≡ hi′ r)
+    → lowestGap lo hi b t ≡ lowestGap lo′ hi′ b t
 lowestGap-same lo hi lo′ hi′ b t begin end =
     let m : ℕ → ℕ = λ r. side - hi r in
     let p = chain lo t b (t - b) in
@@ -271,7 +276,8 @@ lowestGap-same lo hi lo′ hi′ b t begin end =
     let left : p ≡ chain lo′ t b (t - b) = chain-same lo lo′ t begin b (t - b) in
     elim (decLt (q .row) (p .row)) [
       | no h ↦
-          sym (lowestGap-left lo hi m b t p q (λ r l. refl) refl refl (omega arith)) ∙ lowestGap-left lo′ hi′ m b t p q mirror left refl (omega arith)
+          sym (lowestGap-left lo hi m b t p q (λ r l. refl) refl refl (omega arith))
+          ∙ lowestGap-left lo′ hi′ m b t p q mirror left refl (omega arith)
       | yes h ↦
           sym (lowestGap-right lo hi m b t p q (λ r l. refl) refl refl h)
           ∙ ap (λ (x : ℕ). at x (q .row)) (end (q .row) (omega (arith, chain-row-le lo t b (t - b))))

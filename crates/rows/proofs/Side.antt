@@ -15,7 +15,8 @@ use Rattle.chart.specs.declared.Point.{Point}
 use Rattle.lattice.specs.Hull.{InHull}
 use Rattle.rows.specs.parts.Rows.{inRows}
 use Rattle.rows.specs.Search.{asFarLeft, furthest, crossing, gapRow, chain}
-use Rattle.rows.proofs.Line.{Right, SlopeLe, right-from, right-between, right-trans, right-turn, right-start, right-end, right-cycle, right-of-start, right-of-end, right-in-triangle}
+use Rattle.rows.proofs.Line.{Right, SlopeLe, right-from, right-between, right-trans, right-turn, right-start, right-end, right-cycle}
+use Rattle.rows.proofs.Line.{right-of-start, right-of-end, right-in-triangle}
 use Rattle.rows.proofs.Rows.{Rows, begin, begin-marked, hull-right}
 
 -- Of rows i + 1 to k - 1, row j is the furthest left, seen from row i
@@ -42,7 +43,9 @@ furthest-step lo i j k f = go (asFarLeft lo i j k) refl
           below = omega arith;
           right = λ r l m. elim (below-suc r k m) [
             | inl d ↦ rw d right-end
-            | inr m′ ↦ right-trans (f .above) (omega arith) (omega arith) (as-far-left-true lo i j k (omega arith) (omega arith) e) (f .right r l m′)
+            | inr m′ ↦
+                right-trans (f .above) (omega arith) (omega arith) (as-far-left-true lo i j k (omega arith) (omega arith) e)
+                (f .right r l m′)
           ];
         }
     go false e =
@@ -60,16 +63,19 @@ unfolding furthest
 furthest-more lo i j k zero t e f =
     let e′ : k ≡ t = omega arith in
     rw e′ at f
-furthest-more lo i j k (suc n) t e f = furthest-more lo i (cond (asFarLeft lo i j k) k j) (suc k) n t (omega arith) (furthest-step lo i j k f)
+furthest-more lo i j k (suc n) t e f =
+    furthest-more lo i (cond (asFarLeft lo i j k) k j) (suc k) n t (omega arith) (furthest-step lo i j k f)
 
 pub furthest-start : (lo : ℕ → ℕ) (i : ℕ) → Furthest lo i (suc i) (suc (suc i))
-furthest-start lo i = record { above = omega arith; below = omega arith; right = λ r l m. let e : r ≡ suc i = omega arith in rw e right-end }
+furthest-start lo i =
+    record { above = omega arith; below = omega arith; right = λ r l m. let e : r ≡ suc i = omega arith in rw e right-end }
 
 pub furthest-furthest : (lo : ℕ → ℕ) (i t : ℕ) → suc i < t → Furthest lo i (furthest lo i (suc i) (suc (suc i)) (t - suc (suc i))) t
 furthest-furthest lo i t h = furthest-more lo i (suc i) (suc (suc i)) (t - suc (suc i)) t (omega arith) (furthest-start lo i)
 
 -- A cell of row r is right of the line from row i to row j exactly if its column is at least the crossing
-pub crossing-le : (lo : ℕ → ℕ) (i j r c : ℕ) → i < j → i ≤ r → r ≤ j → (crossing lo i j r ≤ c) ↔ Right (begin lo i) (begin lo j) (record { col = c; row = r })
+pub crossing-le : (lo : ℕ → ℕ) (i j r c : ℕ) → i < j → i ≤ r → r ≤ j
+    → (crossing lo i j r ≤ c) ↔ Right (begin lo i) (begin lo j) (record { col = c; row = r })
 unfolding crossing
 crossing-le lo i j r c l m n =
     let e = right-between {p = begin lo i} {q = begin lo j} {x = record { col = c; row = r }} m n in
@@ -97,7 +103,8 @@ furthest-edge lo b t i j c f r h l =
     ]
 
 pub edge-corner : (lo : ℕ → ℕ) (b t i j : ℕ) → i < j → Edge lo b t i j → Corner lo b t j
-edge-corner lo b t i j l e r k h m n o = right-turn {p = begin lo i} l (omega arith) (omega arith) (e r h (omega arith)) (e k (omega arith) o)
+edge-corner lo b t i j l e r k h m n o =
+    right-turn {p = begin lo i} l (omega arith) (omega arith) (e r h (omega arith)) (e k (omega arith) o)
 
 -- r is the first row after i and before j that begins right of the line, or j if there is none
 record GapRow (lo : ℕ → ℕ) (i j r : ℕ) : Type 0 where
@@ -134,11 +141,13 @@ module _ (lo hi : ℕ → ℕ) (b t : ℕ) (rows : Rows lo hi b t) where
   Clear i = (y : Point) → InHull (inRows lo hi b t) y → y .row ≡ i → lo i ≤ y .col
 
   -- No hull cell is left of the crossing in its row
-  edge-crossing : (i j : ℕ) → i < j → Edge lo b t i j → (y : Point) → InHull (inRows lo hi b t) y → i ≤ y .row → y .row ≤ j → crossing lo i j (y .row) ≤ y .col
+  edge-crossing : (i j : ℕ) → i < j → Edge lo b t i j → (y : Point) → InHull (inRows lo hi b t) y → i ≤ y .row → y .row ≤ j
+      → crossing lo i j (y .row) ≤ y .col
   edge-crossing i j l e y h m n = crossing-le lo i j (y .row) (y .col) l m n .1 (hull-right rows h (omega arith) e)
 
   -- A cell at or right of the crossing and left of its row is in the hull
-  crossing-reach : (i j r : ℕ) → i < r → r < j → b ≤ i → j < t → (c : ℕ) → crossing lo i j r ≤ c → c < lo r → InHull (inRows lo hi b t) (record { col = c; row = r })
+  crossing-reach : (i j r : ℕ) → i < r → r < j → b ≤ i → j < t → (c : ℕ) → crossing lo i j r ≤ c → c < lo r
+      → InHull (inRows lo hi b t) (record { col = c; row = r })
   crossing-reach i j r l m h k c n o =
       record {
         p = begin lo i;
@@ -147,7 +156,9 @@ module _ (lo hi : ℕ → ℕ) (b t : ℕ) (rows : Rows lo hi b t) where
         p-marked = begin-marked rows i (omega arith) (omega arith);
         q-marked = begin-marked rows j (omega arith) (omega arith);
         t-marked = begin-marked rows r (omega arith) (omega arith);
-        triangle = right-in-triangle (omega arith) (omega arith) (omega arith) refl o (crossing-le lo i j r c (omega arith) (omega arith) (omega arith) .0 n);
+        triangle =
+            right-in-triangle (omega arith) (omega arith) (omega arith) refl o
+            (crossing-le lo i j r c (omega arith) (omega arith) (omega arith) .0 n);
       }
 
   bottom-corner : Corner lo b t b
@@ -190,7 +201,9 @@ module _ (lo hi : ℕ → ℕ) (b t : ℕ) (rows : Rows lo hi b t) where
           }
       go false d =
           let m : r ≡ j = omega (arith, ltb-false r j d) in
-          let n = rest (edge-corner lo b t i j (omega arith) e) (λ y k f. right-of-end {p = begin lo i} {q = begin lo j} (omega arith) f (hull-right rows k (omega arith) e)) in
+          let n =
+          rest (edge-corner lo b t i j (omega arith) e)
+          (λ y k f. right-of-end {p = begin lo i} {q = begin lo j} (omega arith) f (hull-right rows k (omega arith) e)) in
           record {
             clear =
                 λ y k o q. elim (decLt (y .row) j) [ yes s ↦ clear y k o (omega arith) | no s ↦ n .clear y k (omega arith) q ];
@@ -208,7 +221,8 @@ module _ (lo hi : ℕ → ℕ) (b t : ℕ) (rows : Rows lo hi b t) where
       chain-edge i _ _ _ h (f .below) (furthest-edge lo b t i _ c f) (gapRow-gap lo i _ (f .above)) k
       (chain-left n _ (omega arith) (omega arith) (f .below))
     where
-      go : (a : Bool) → leb t (suc i) ≡ a → (g : Point) → (suc i < t → Left lo hi b t i g) → Left lo hi b t i (cond a (record { col = 0; row = t }) g)
+      go : (a : Bool) → leb t (suc i) ≡ a → (g : Point) → (suc i < t → Left lo hi b t i g)
+          → Left lo hi b t i (cond a (record { col = 0; row = t }) g)
       go true d g rest =
           record {
             clear = λ y h m o. let f : y .row ≡ i = omega (arith, leb-true t (suc i) d) in rw f (k y h f);

@@ -28,7 +28,8 @@ as-far-left-offsets a b c x y z e =
       | no l ↦ rw (le-leb (c * x + a * z) (b * y) (omega arith), le-leb (c * x + a * y) (b * y + a * x) (omega arith))
     ]
 
-pub as-far-left-columns : (lo : ℕ → ℕ) (i j k : ℕ) → i ≤ j → j ≤ k → leb (lo k * (j - i) + lo i * (k - i - (j - i))) (lo j * (k - i)) ≡ asFarLeft lo i j k
+pub as-far-left-columns : (lo : ℕ → ℕ) (i j k : ℕ) → i ≤ j → j ≤ k
+    → leb (lo k * (j - i) + lo i * (k - i - (j - i))) (lo j * (k - i)) ≡ asFarLeft lo i j k
 unfolding asFarLeft
 as-far-left-columns lo i j k l m = as-far-left-offsets (lo i) (lo j) (lo k) (j - i) (k - i) (k - i - (j - i)) (omega arith)
 
@@ -64,7 +65,8 @@ module _ (lo : ℕ → ℕ) (t i j k : ℕ) (f : Furthest lo i j (suc j)) (g : F
       ∙ e)
 
 -- Seen from row i, row j is the furthest left of the rows up to j, and no row above it and below row t is as far left
-module _ (lo : ℕ → ℕ) (t i j : ℕ) (f : Furthest lo i j (suc j)) (below : j < t) (off : (r : ℕ) → j < r → r < t → asFarLeft lo i j r ≡ false) where
+module _ (lo : ℕ → ℕ) (t i j : ℕ) (f : Furthest lo i j (suc j)) (below : j < t) (off : (r : ℕ) → j < r → r < t
+    → asFarLeft lo i j r ≡ false) where
   -- The search stays at row j, and from a lower row it reaches row j
   furthest-stays : (k n : ℕ) → k + n ≡ t → j < k → furthest lo i j k (t - k) ≡ j
   furthest-stays k zero e h = furthest-end lo i t j k (omega arith)
@@ -76,9 +78,11 @@ module _ (lo : ℕ → ℕ) (t i j : ℕ) (f : Furthest lo i j (suc j)) (below :
       let d : k ≡ j = omega arith in
       let c = right-as-far-left lo i m j (omega arith) (omega arith) (f .right m l (omega arith)) in
       rw d (furthest-next lo i t m j true below c ∙ furthest-stays (j + 1) (t - (j + 1)) (omega arith) (omega arith))
-  furthest-reaches m k (suc n) e l h = go (asFarLeft lo i m k) refl λ r. λ (a : i < r) (b : r < k + 1). furthest-reaches r (k + 1) n (omega arith) a b
+  furthest-reaches m k (suc n) e l h =
+      go (asFarLeft lo i m k) refl λ r. λ (a : i < r) (b : r < k + 1). furthest-reaches r (k + 1) n (omega arith) a b
     where
-      go : (b : Bool) → asFarLeft lo i m k ≡ b → ((r : ℕ) → i < r → r < k + 1 → furthest lo i r (k + 1) (t - (k + 1)) ≡ j) → furthest lo i m k (t - k) ≡ j
+      go : (b : Bool) → asFarLeft lo i m k ≡ b → ((r : ℕ) → i < r → r < k + 1 → furthest lo i r (k + 1) (t - (k + 1)) ≡ j)
+          → furthest lo i m k (t - k) ≡ j
       go true d rest = furthest-next lo i t m k true (omega arith) d ∙ rest k (omega arith) (omega arith)
       go false d rest = furthest-next lo i t m k false (omega arith) d ∙ rest m l (omega arith)
 

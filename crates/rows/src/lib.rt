@@ -8,7 +8,8 @@ ghost use lib.ListN.{length};
 ghost use lib.Dec.{leb, ltb};
 ghost use Rattle.chart.specs.Limits.{side};
 ghost use Rattle.chart.specs.Outline.{outline};
-ghost use Rattle.rows.specs.Search.{furthest as furthestOf, crossing as crossingOf, gapRow, chain as chainOf, lowestGap, cornerNumbered, stride as strideOf, foundCell};
+ghost use Rattle.rows.specs.Search.{furthest as furthestOf, crossing as crossingOf, gapRow, chain as chainOf, lowestGap};
+ghost use Rattle.rows.specs.Search.{cornerNumbered, stride as strideOf, foundCell};
 ghost use Rattle.lattice.specs.Enclosed.{upAlong, downAlong};
 ghost use Rattle.rows.specs.parts.Rows.{rows, Marked, RowEnds, Tangents};
 

@@ -16,7 +16,8 @@ use Rattle.chart.specs.declared.Point.{Point}
 use Rattle.chart.specs.Outline.{at}
 use Rattle.lattice.specs.Hull.{InHull, Missing, Convex}
 use Rattle.sections.specs.declared.Reach.{Reach}
-use Rattle.sections.specs.Sections.{layers, fold, ceiling, above, lowLine, highLine, full, alone, joined, joinedFrom, reached, wholeIn, whole, clear}
+use Rattle.sections.specs.Sections.{layers, fold, ceiling, above, lowLine, highLine, full, alone, joined, joinedFrom, reached}
+use Rattle.sections.specs.Sections.{wholeIn, whole, clear}
 use Rattle.sections.proofs.Lines.{Runs, Line, own, line, Upper}
 use Rattle.sections.proofs.Quotients.{ceiling-iff, above-iff}
 use Rattle.sections.proofs.Sides.{Dir}
@@ -25,10 +26,12 @@ use Rattle.sections.proofs.Theorem.{Strict, here, across, strict, hull-
 -- ---- what a fold gathers
 
 at-most-min : (r a b : ℕ) → (min a b ≤ r) ↔ ((a ≤ r) ⊎ (b ≤ r))
-at-most-min r a b = ((λ h. elim (decLe a r) [ yes l ↦ inl l | no l ↦ inr (omega arith) ]), λ s. elim s [ inl l ↦ omega arith | inr l ↦ omega arith ])
+at-most-min r a b =
+    ((λ h. elim (decLe a r) [ yes l ↦ inl l | no l ↦ inr (omega arith) ]), λ s. elim s [ inl l ↦ omega arith | inr l ↦ omega arith ])
 
 below-max : (r a b : ℕ) → (r < max a b) ↔ ((r < a) ⊎ (r < b))
-below-max r a b = ((λ h. elim (decLe (suc r) a) [ yes l ↦ inl l | no l ↦ inr (omega arith) ]), λ s. elim s [ inl l ↦ omega arith | inr l ↦ omega arith ])
+below-max r a b =
+    ((λ h. elim (decLe (suc r) a) [ yes l ↦ inl l | no l ↦ inr (omega arith) ]), λ s. elim s [ inl l ↦ omega arith | inr l ↦ omega arith ])
 
 -- One of the steps below n makes Q true
 abbrev Some : (ℕ → Type 0) → ℕ → Type 0
@@ -41,7 +44,8 @@ module _ {A : Type 0} (P : A → Type 0) (Q : ℕ → Type 0) (f : ℕ → A →
   fold-iff zero law a = (λ h. inl h, λ s. elim s [ inl h ↦ h | inr (k, l, q) ↦ absurd (omega arith) ])
   fold-iff (suc n) law a = step (fold-iff n (λ k l. law k (omega arith)) a) (law n (omega arith) (fold f n a))
     where
-      step : P (fold f n a) ↔ (P a ⊎ Some Q n) → P (f n (fold f n a)) ↔ (P (fold f n a) ⊎ Q n) → P (f n (fold f n a)) ↔ (P a ⊎ Some Q (suc n))
+      step : P (fold f n a) ↔ (P a ⊎ Some Q n) → P (f n (fold f n a)) ↔ (P (fold f n a) ⊎ Q n)
+          → P (f n (fold f n a)) ↔ (P a ⊎ Some Q (suc n))
       step rest last = (
         λ h. elim (last .0 h) [ inl g ↦ later (rest .0 g) | inr q ↦ inr (n, omega arith, q) ],
         λ s.
@@ -92,7 +96,10 @@ module _ (lo past : ℕ → ℕ) where
             let e′ =
             fold-iff P (λ k. (full lo past (suc j + k) ≡ true) × Q i j (suc j + k)) (λ k. joined lo past i j (suc j + k)) (layers - suc j)
             (λ k l a. one i j (suc j + k) h (omega arith) a) r in
-            rw e (λ g. elim (e′ .0 g) [ inl p ↦ inl p | inr q ↦ inr (refl, q) ], λ s. elim s [ inl p ↦ e′ .1 (inl p) | inr (_, q) ↦ e′ .1 (inr q) ])
+            rw e (
+              λ g. elim (e′ .0 g) [ inl p ↦ inl p | inr q ↦ inr (refl, q) ],
+              λ s. elim s [ inl p ↦ e′ .1 (inl p) | inr (_, q) ↦ e′ .1 (inr q) ],
+            )
         go false e = rw e (λ g. inl g, λ s. elim s [ inl p ↦ p | inr (f, q) ↦ absurd (true≢false (sym f)) ])
 
     reached-iff : (j : ℕ) → j < layers → P (reached lo past j) ↔ (P (alone lo past j) ⊎ Crossed j)
@@ -121,14 +128,16 @@ module _ (lo past : ℕ → ℕ) where
     abbrev Beyond : Reach → Type 0
     Beyond r = x < r .high
 
-    low-law : (i j k : ℕ) → i < j → j < k → (r : Reach) → full lo past k ≡ true → Below (joined lo past i j k r) ↔ (Below r ⊎ (lowLine lo i j k ≤ (k - i) * x))
+    low-law : (i j k : ℕ) → i < j → j < k → (r : Reach) → full lo past k ≡ true
+        → Below (joined lo past i j k r) ↔ (Below r ⊎ (lowLine lo i j k ≤ (k - i) * x))
     unfolding joined
     low-law i j k h l r f =
         let e = ceiling-iff (lowLine lo i j k) (k - i) x (omega arith) in
         let m = at-most-min x (r .low) (ceiling (lowLine lo i j k) (k - i)) in
         rw f (λ g. elim (m .0 g) [ inl p ↦ inl p | inr p ↦ inr (e .0 p) ], λ s. m .1 (elim s [ inl p ↦ inl p | inr p ↦ inr (e .1 p) ]))
 
-    high-law : (i j k : ℕ) → i < j → j < k → (r : Reach) → full lo past k ≡ true → Beyond (joined lo past i j k r) ↔ (Beyond r ⊎ ((k - i) * x ≤ highLine past i j k))
+    high-law : (i j k : ℕ) → i < j → j < k → (r : Reach) → full lo past k ≡ true
+        → Beyond (joined lo past i j k r) ↔ (Beyond r ⊎ ((k - i) * x ≤ highLine past i j k))
     unfolding joined
     high-law i j k h l r f =
         let e = above-iff (highLine past i j k) (k - i) x (omega arith) in
@@ -215,7 +224,8 @@ module _ (marked : ℕ → ℕ → Bool) (lo past : ℕ → ℕ) (t : InRuns mar
   upper-below : (j r : ℕ) → Upper filled (hi lo past) j r → r < side
   upper-below j r (own f h) = omega (arith, t .fits j, filled-is j f)
   upper-below j r (line i k f g a b l h) =
-      bounded (k - i) (k - j) (j - i) (past i - 1) (past k - 1) (omega arith) (omega arith) (omega (arith, t .fits i, filled-is i f)) (omega (arith, t .fits k, filled-is k g)) h
+      bounded (k - i) (k - j) (j - i) (past i - 1) (past k - 1) (omega arith) (omega arith) (omega (arith, t .fits i, filled-is i f))
+      (omega (arith, t .fits k, filled-is k g)) h
     where
       bounded : (c d e y z : ℕ) → c ≡ d + e → 0 < c → y < side → z < side → c * r ≤ d * y + e * z → r < side
       bounded c d e y z q p u v m =
@@ -234,7 +244,8 @@ module _ (marked : ℕ → ℕ → Bool) (lo past : ℕ → ℕ) (t : InRuns mar
       (upper-layer (x .col) (x .row) u, upper-below (x .col) (x .row) u)
 
   -- The hull's cells in a layer are those that the loops find
-  hull-reached : (x : Point) → InHull marked x → (x .col < layers) × (reached lo past (x .col) .low ≤ x .row) × (x .row < reached lo past (x .col) .high)
+  hull-reached : (x : Point) → InHull marked x
+      → (x .col < layers) × (reached lo past (x .col) .low ≤ x .row) × (x .row < reached lo past (x .col) .high)
   hull-reached x h =
       let u = hull-upper marked filled lo (hi lo past) runs x h in
       let (near, below) = hull-on-plane x h in (
@@ -259,8 +270,10 @@ module _ (marked : ℕ → ℕ → Bool) (lo past : ℕ → ℕ) (t : InRuns mar
           → (b || (leb (lo j) (reached lo past j .low) && leb (reached lo past j .high) (past j))) ≡ true → marked j r ≡ true
       go true f g = let c : reached lo past j .high ≤ reached lo past j .low = leb-true _ _ f in absurd (omega arith)
       go false f g =
-          let a : lo j ≤ reached lo past j .low = leb-true _ _ (and-left (leb (lo j) (reached lo past j .low)) (leb (reached lo past j .high) (past j)) g) in
-          let b : reached lo past j .high ≤ past j = leb-true _ _ (and-right (leb (lo j) (reached lo past j .low)) (leb (reached lo past j .high) (past j)) g) in
+          let a : lo j ≤ reached lo past j .low =
+          leb-true _ _ (and-left (leb (lo j) (reached lo past j .low)) (leb (reached lo past j .high) (past j)) g) in
+          let b : reached lo past j .high ≤ past j =
+          leb-true _ _ (and-right (leb (lo j) (reached lo past j .low)) (leb (reached lo past j .high) (past j)) g) in
           t .exact j r .1 (omega arith, omega arith)
 
   pub clear-convex : clear lo past ≡ true → Convex marked
@@ -285,7 +298,8 @@ module _ (marked : ℕ → ℕ → Bool) (lo past : ℕ → ℕ) (t : InRuns mar
         | no l ↦ missing (reached lo past j .low) (omega arith) gap (λ a b. l a)
       ]
     where
-      missing : (r : ℕ) → reached lo past j .low ≤ r → r < reached lo past j .high → (lo j ≤ r → r < past j → ⊥) → (x : Point) × Missing marked x
+      missing : (r : ℕ) → reached lo past j .low ≤ r → r < reached lo past j .high → (lo j ≤ r → r < past j → ⊥)
+          → (x : Point) × Missing marked x
       missing r a b h = (at j r, record { hull = reached-hull j r near a b; open-cell = open-of j r h })
 
   pub unclear-missing : clear lo past ≡ false → (x : Point) × Missing marked x

@@ -37,4 +37,5 @@ pub fan :
     (f + d) * x .row ≤ f * z .row + d * t .row →
     InTriangle x z q t
 fan x z q t d e f p i j k l =
-    fan-by x z q t d e f ((e + d) * x .row - (e * z .row + d * q .row)) (f * z .row + d * t .row - (f + d) * x .row) p i j (omega arith) (omega arith)
+    fan-by x z q t d e f ((e + d) * x .row - (e * z .row + d * q .row)) (f * z .row + d * t .row - (f + d) * x .row) p i j (omega arith)
+    (omega arith)

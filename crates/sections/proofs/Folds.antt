@@ -14,7 +14,8 @@ module _ {A : Type 0} (a : A) where
   fold-next f n m e h g = rw e (g ∙ ap (f n) h)
 
   -- The same with steps counted from b
-  pub fold-from : (f : ℕ → A → A) (b k : ℕ) {x y : A} → b ≤ k → x ≡ fold (λ n. f (b + n)) (k - b) a → y ≡ f k x → y ≡ fold (λ n. f (b + n)) (k + 1 - b) a
+  pub fold-from : (f : ℕ → A → A) (b k : ℕ) {x y : A} → b ≤ k → x ≡ fold (λ n. f (b + n)) (k - b) a → y ≡ f k x
+      → y ≡ fold (λ n. f (b + n)) (k + 1 - b) a
   fold-from f b k {x} h e g = fold-next (λ n. f (b + n)) (k - b) (k + 1 - b) (omega arith) e (g ∙ ap (λ (m : ℕ). f m x) (omega arith))
 
   pub fold-none : (f : ℕ → A → A) (n : ℕ) → n ≡ 0 → a ≡ fold f n a

@@ -11,8 +11,10 @@ use Rattle.sections.specs.Sections.{layers, ceiling, above}
 pub ceiling-iff : (a d r : ℕ) → 0 < d → (ceiling a d ≤ r) ↔ (a ≤ d * r)
 unfolding ceiling
 ceiling-iff a d r p =
-    let law = div-lt-iff-lt-mul {k = d} {x = a + (d - 1)} {y = suc r} p in
-    ((λ h. let g : (a + (d - 1)) / d < suc r = omega arith in omega (arith, law .0 g)), λ h. let g : a + (d - 1) < suc r * d = omega arith in omega (arith, law .1 g))
+    let law = div-lt-iff-lt-mul {k = d} {x = a + (d - 1)} {y = suc r} p in (
+      (λ h. let g : (a + (d - 1)) / d < suc r = omega arith in omega (arith, law .0 g)),
+      λ h. let g : a + (d - 1) < suc r * d = omega arith in omega (arith, law .1 g),
+    )
 
 pub above-iff : (a d r : ℕ) → 0 < d → (r < above a d) ↔ (d * r ≤ a)
 unfolding above

@@ -123,8 +123,10 @@ apex :
     a * d ≡ b * e + c * f →
     (a + b + c) * r ≡ a * y₁ + b * y₂ + c * y₃ →
     Dir u (e * y₁ + d * y₂) ((d + e) * r) ⊎ Dir u (f * y₁ + d * y₃) ((d + f) * r)
-apex true a b c d e f r y₁ y₂ y₃ p s h k = one-of-two b c _ _ _ _ (others-count a b c d e f p s h) (mean-of-sides a b c d e f r y₁ y₂ y₃ h k)
-apex false a b c d e f r y₁ y₂ y₃ p s h k = one-of-two b c _ _ _ _ (others-count a b c d e f p s h) (sym (mean-of-sides a b c d e f r y₁ y₂ y₃ h k))
+apex true a b c d e f r y₁ y₂ y₃ p s h k =
+    one-of-two b c _ _ _ _ (others-count a b c d e f p s h) (mean-of-sides a b c d e f r y₁ y₂ y₃ h k)
+apex false a b c d e f r y₁ y₂ y₃ p s h k =
+    one-of-two b c _ _ _ _ (others-count a b c d e f p s h) (sym (mean-of-sides a b c d e f r y₁ y₂ y₃ h k))
 
 turned : {x p q t : Point} → InTriangle x p q t → InTriangle x q t p
 turned h = record { a = h .b; b = h .c; c = h .a; some = omega arith; cols = omega (arith, h .cols); rows = omega (arith, h .rows) }
@@ -196,11 +198,14 @@ module _ (u : Bool) (full : ℕ → Bool) (end : ℕ → ℕ) where
       (Dir u (f * p .row + d * t .row) ((d + f) * x .row) → Line (Dir u) full end (x .col) (x .row)) →
       Line (Dir u) full end (x .col) (x .row)
   apex-lines x p q t h d e f l g q-line t-line =
-      elim (apex u (h .a) (h .b) (h .c) d e f (x .row) (p .row) (q .row) (t .row) l (h .some) g (h .rows)) [ inl i ↦ q-line i | inr i ↦ t-line i ]
+      elim (apex u (h .a) (h .b) (h .c) d e f (x .row) (p .row) (q .row) (t .row) l (h .some) g (h .rows))
+      [ inl i ↦ q-line i | inr i ↦ t-line i ]
 
   apex-left :
-      (x p q t : Point) → InTriangle x p q t → Mark p → Mark q → Mark t → p .col ≤ x .col → x .col < q .col → x .col < t .col → Line (Dir u) full end (x .col) (x .row)
-  apex-left x p q t h m n o k l g = elim (decLt (p .col) (x .col)) [ yes s ↦ lines s | no s ↦ level x p q t h m n o (flat s .0) (flat s .1) (flat s .2) ]
+      (x p q t : Point) → InTriangle x p q t → Mark p → Mark q → Mark t → p .col ≤ x .col → x .col < q .col → x .col < t .col
+      → Line (Dir u) full end (x .col) (x .row)
+  apex-left x p q t h m n o k l g =
+      elim (decLt (p .col) (x .col)) [ yes s ↦ lines s | no s ↦ level x p q t h m n o (flat s .0) (flat s .1) (flat s .2) ]
     where
       flat : (p .col < x .col → ⊥) → (h .a * p .col ≡ h .a * x .col) × (h .b * q .col ≡ h .b * x .col) × (h .c * t .col ≡ h .c * x .col)
       flat s = level-right (h .a) (h .b) (h .c) (x .col) (p .col) (q .col) (t .col) (h .cols) (omega arith) (omega arith) (omega arith)
@@ -213,7 +218,8 @@ module _ (u : Bool) (full : ℕ → Bool) (end : ℕ → ℕ) where
           (λ i. side x p t m o (omega arith) (omega arith) (omega arith) (dir-as u refl (ap (λ z. z * x .row) (omega arith)) i))
 
   apex-right :
-      (x p q t : Point) → InTriangle x p q t → Mark p → Mark q → Mark t → x .col < p .col → q .col ≤ x .col → t .col ≤ x .col → Line (Dir u) full end (x .col) (x .row)
+      (x p q t : Point) → InTriangle x p q t → Mark p → Mark q → Mark t → x .col < p .col → q .col ≤ x .col → t .col ≤ x .col
+      → Line (Dir u) full end (x .col) (x .row)
   apex-right x p q t h m n o k l g =
       apex-lines x p q t h (p .col - x .col) (x .col - q .col) (x .col - t .col) (omega arith)
       (distances-right (h .a) (h .b) (h .c) _ _ _ _ _ _ _ (omega arith) (omega arith) (omega arith) (h .cols))
@@ -246,7 +252,9 @@ module _ (u : Bool) (full : ℕ → Bool) (end : ℕ → ℕ) where
               | no l ↦
                   elim (decLe (t .col) (x .col)) [
                     | yes g ↦ apex-left x t p q (turned (turned h)) o m n g (omega arith) (omega arith)
-                    | no g ↦ absurd (none-left (h .a) (h .b) (h .c) (x .col) (p .col) (q .col) (t .col) (h .some) (h .cols) (omega arith) (omega arith) (omega arith))
+                    | no g ↦
+                        absurd (none-left (h .a) (h .b) (h .c) (x .col) (p .col) (q .col) (t .col) (h .some) (h .cols) (omega arith)
+                        (omega arith) (omega arith))
                   ]
             ]
       ]

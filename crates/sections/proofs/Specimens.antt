@@ -5,7 +5,8 @@ use mathlib.Core.Bool.{true, false}
 use lib.Dec.{lit≤}
 use Rattle.base.specs.Below.{every}
 use Rattle.lattice.specs.Hull.{InTriangle}
-use Rattle.sections.specs.Sections.{fold, ceiling, above, lowLine, highLine, full, alone, joined, joinedFrom, reached, wholeIn, whole, clear}
+use Rattle.sections.specs.Sections.{fold, ceiling, above, lowLine, highLine, full, alone, joined, joinedFrom, reached, wholeIn, whole}
+use Rattle.sections.specs.Sections.{clear}
 
 -- Cells (0, 1), (1, 2) and (2, 0), as layer and row
 three : ℕ → ℕ
@@ -30,7 +31,8 @@ unfolding three three-past fold ceiling above lowLine highLine full alone joined
 independent-dent = refl
 
 -- (1, 1) is the mean of the three, with equal weights
-missing-one : InTriangle (record { col = 1; row = 1 }) (record { col = 0; row = 1 }) (record { col = 1; row = 2 }) (record { col = 2; row = 0 })
+missing-one : InTriangle (record { col = 1; row = 1 }) (record { col = 0; row = 1 }) (record { col = 1; row = 2 })
+    (record { col = 2; row = 0 })
 missing-one = record { a = 1; b = 1; c = 1; some = lit≤ tt; cols = refl; rows = refl }
 
 -- Cells (0, 0) and (2, 1): the hull has no whole row in the empty layer 1

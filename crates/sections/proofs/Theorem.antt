@@ -15,7 +15,8 @@ use Rattle.sections.proofs.Fan.{fan}
 
 pub data Strict (u : Bool) (full : ℕ → Bool) (end : ℕ → ℕ) (j r : ℕ) : Type 0 where
   here : full j ≡ true → Dir u (end j) r → Strict u full end j r
-  across : (i k : ℕ) → full i ≡ true → full k ≡ true → i < j → j < k → Dir u ((k - j) * end i + (j - i) * end k) ((k - i) * r) → Strict u full end j r
+  across : (i k : ℕ) → full i ≡ true → full k ≡ true → i < j → j < k → Dir u ((k - j) * end i + (j - i) * end k) ((k - i) * r)
+      → Strict u full end j r
 
 pub strict : (u : Bool) (full : ℕ → Bool) (end : ℕ → ℕ) (j r : ℕ) → Line (Dir u) full end j r → Strict u full end j r
 strict u full end j r (own f h) = here f h
@@ -68,10 +69,14 @@ module _ (marked : ℕ → ℕ → Bool) (full : ℕ → Bool) (lo hi : ℕ → 
   high-mark p m = record { is-full = runs .is-full (p .col) (p .row) m; reached = runs .to-hi (p .col) (p .row) m }
 
   pub hull-lower : (x : Point) → InHull marked x → Lower full lo (x .col) (x .row)
-  hull-lower x h = triangle-line true full lo x (h .p) (h .q) (h .t) (h .triangle) (low-mark _ (h .p-marked)) (low-mark _ (h .q-marked)) (low-mark _ (h .t-marked))
+  hull-lower x h =
+      triangle-line true full lo x (h .p) (h .q) (h .t) (h .triangle) (low-mark _ (h .p-marked)) (low-mark _ (h .q-marked))
+      (low-mark _ (h .t-marked))
 
   pub hull-upper : (x : Point) → InHull marked x → Upper full hi (x .col) (x .row)
-  hull-upper x h = triangle-line false full hi x (h .p) (h .q) (h .t) (h .triangle) (high-mark _ (h .p-marked)) (high-mark _ (h .q-marked)) (high-mark _ (h .t-marked))
+  hull-upper x h =
+      triangle-line false full hi x (h .p) (h .q) (h .t) (h .triangle) (high-mark _ (h .p-marked)) (high-mark _ (h .q-marked))
+      (high-mark _ (h .t-marked))
 
   -- ---- from the lines to the hull
 
@@ -81,11 +86,13 @@ module _ (marked : ℕ → ℕ → Bool) (full : ℕ → Bool) (lo hi : ℕ → 
   high-end : (l : ℕ) → full l ≡ true → marked l (hi l) ≡ true
   high-end l f = runs .in-run l (hi l) f (runs .ordered l f) (omega arith)
 
-  of : {x p q t : Point} → marked (p .col) (p .row) ≡ true → marked (q .col) (q .row) ≡ true → marked (t .col) (t .row) ≡ true → InTriangle x p q t → InHull marked x
+  of : {x p q t : Point} → marked (p .col) (p .row) ≡ true → marked (q .col) (q .row) ≡ true → marked (t .col) (t .row) ≡ true
+      → InTriangle x p q t → InHull marked x
   of {p = p} {q = q} {t = t} m n o h = record { p = p; q = q; t = t; p-marked = m; q-marked = n; t-marked = o; triangle = h }
 
   pub marked-hull : (x : Point) → marked (x .col) (x .row) ≡ true → InHull marked x
-  marked-hull x m = of {p = x} {q = x} {t = x} m m m (record { a = 1; b = 0; c = 0; some = omega arith; cols = omega arith; rows = omega arith })
+  marked-hull x m =
+      of {p = x} {q = x} {t = x} m m m (record { a = 1; b = 0; c = 0; some = omega arith; cols = omega arith; rows = omega arith })
 
   -- The lower line goes through p and t, the upper one through s and u
   between : (j r : ℕ) → Strict true full lo j r → Strict false full hi j r → InHull marked (record { col = j; row = r })

@@ -3,7 +3,8 @@ use chart::SIDE;
 ghost use Prim.Native.Nat.{_+_, _-_, _*_, _≤_, _<_, min, max};
 ghost use mathlib.Core.Path.{_≡_};
 ghost use Rattle.chart.specs.Limits.{side};
-ghost use Rattle.sections.specs.Sections.{layers, numbers, Bounded, ceiling, above, full as fullOf, alone as aloneOf, joined as joinedOf, joinedFrom, reached as reachedOf, whole as wholeOf, clear};
+ghost use Rattle.sections.specs.Sections.{layers, numbers, Bounded, ceiling, above, full as fullOf, alone as aloneOf};
+ghost use Rattle.sections.specs.Sections.{joined as joinedOf, joinedFrom, reached as reachedOf, whole as wholeOf, clear};
 
 // How many layers a pile has.
 pub const LAYERS: usize = 16;

@@ -23,7 +23,8 @@ use Rattle.work.specs.Work.{listed, hasEdges}
 use Rattle.slots.specs.declared.Acted.{Acted}
 use Rattle.slots.specs.Slots.{closedReply, closedBy, closeOf}
 
-closed-named : (o : Outline) (w : Work) (es : List ℤ) (v : Verdict) → CellNamed o (verdictFields v) → CellNamed o (replyFields (closedReply w es v))
+closed-named : (o : Outline) (w : Work) (es : List ℤ) (v : Verdict) → CellNamed o (verdictFields v)
+    → CellNamed o (replyFields (closedReply w es v))
 unfolding closedReply replyFields
 closed-named o w es (Refused f) c = c
 closed-named o w es (Taken n a) c = go (hasEdges w a (listed es n))
@@ -32,7 +33,8 @@ closed-named o w es (Taken n a) c = go (hasEdges w a (listed es n))
     go true = record { anchor = c .anchor; missing = c .missing }
     go false = record { anchor = c .anchor; missing = c .missing }
 
-either-named : (o : Outline) (b : Bool) (x y : Acted) → CellNamed o (replyFields (x .reply)) → CellNamed o (replyFields (y .reply)) → CellNamed o (replyFields (cond b x y .reply))
+either-named : (o : Outline) (b : Bool) (x y : Acted) → CellNamed o (replyFields (x .reply)) → CellNamed o (replyFields (y .reply))
+    → CellNamed o (replyFields (cond b x y .reply))
 either-named o true x y c d = c
 either-named o false x y c d = d
 

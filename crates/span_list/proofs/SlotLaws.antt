@@ -28,7 +28,8 @@ module _ (rows : List ℕ) (s : ℕ) where
 
   pub past-at : (r : ℕ) → r < side → rowOf (spansAt rows s .past) r ≡ getD rows (slotBytes * s + r + side) 0
   unfolding spansAt
-  past-at r h = getD-take side (drop (slotBytes * s + side) rows) r 0 h ∙ getD-drop (slotBytes * s + side) rows r 0 ∙ ap (λ (i : ℕ). getD rows i 0) (omega arith)
+  past-at r h = getD-take side (drop (slotBytes * s + side) rows) r 0 h ∙ getD-drop (slotBytes * s + side) rows r 0
+      ∙ ap (λ (i : ℕ). getD rows i 0) (omega arith)
 
   -- From the two bytes of a row
   module _ (r : ℕ) (h : r < side) (e : Ends) (is : e ≡ endsAt rows s r) where
@@ -48,7 +49,8 @@ module _ (rows : List ℕ) (s : ℕ) where
 
 -- ---- written
 
-module _ (rows : List ℕ) (s : ℕ) (x : Spans) (room : slotBytes * s + slotBytes ≤ length rows) (left : length (x .first) ≡ side) (right : length (x .past) ≡ side) where
+module _ (rows : List ℕ) (s : ℕ) (x : Spans) (room : slotBytes * s + slotBytes ≤ length rows) (left : length (x .first) ≡ side)
+    (right : length (x .past) ≡ side) where
   abbrev rows₁ : List ℕ
   rows₁ = paste rows (slotBytes * s) (x .first) side
 
@@ -80,7 +82,8 @@ module _ (rows : List ℕ) (s : ℕ) (x : Spans) (room : slotBytes * s + slotByt
       record {
         here =
             ap₂ (λ (a b : List ℕ). record { first = a; past = b })
-            (window-paste-before rows₁ (slotBytes * s + side) side (x .past) room₂ right (slotBytes * s) side (omega arith) ∙ window-paste rows (slotBytes * s) side (x .first) room₁ left)
+            (window-paste-before rows₁ (slotBytes * s + side) side (x .past) room₂ right (slotBytes * s) side (omega arith)
+            ∙ window-paste rows (slotBytes * s) side (x .first) room₁ left)
             (window-paste rows₁ (slotBytes * s + side) side (x .past) room₂ right);
         elsewhere = λ j q.
             ⊎-elim (λ o. rw (before (slotBytes * j) (omega arith), before (slotBytes * j + side) (omega arith)))
@@ -89,15 +92,22 @@ module _ (rows : List ℕ) (s : ℕ) (x : Spans) (room : slotBytes * s + slotByt
       }
 
   -- From what each copy left
-  pub copies-put : (r₁ : List ℕ) → r₁ ≡ paste rows (slotBytes * s) (x .first) side → (r₂ : List ℕ) → r₂ ≡ paste r₁ (slotBytes * s + side) (x .past) side → SpansPut rows r₂ s x
+  pub copies-put : (r₁ : List ℕ) → r₁ ≡ paste rows (slotBytes * s) (x .first) side → (r₂ : List ℕ)
+      → r₂ ≡ paste r₁ (slotBytes * s + side) (x .past) side → SpansPut rows r₂ s x
   copies-put r₁ e₁ r₂ e₂ = rw (e₂, e₁) halves-put
 
-pub zeros-put : (rows : List ℕ) (s : ℕ) → slotBytes * s + slotBytes ≤ length rows → (r₁ : List ℕ) → r₁ ≡ paste rows (slotBytes * s) (replicate side 0) side
+pub zeros-put : (rows : List ℕ) (s : ℕ) → slotBytes * s + slotBytes ≤ length rows → (r₁ : List ℕ)
+    → r₁ ≡ paste rows (slotBytes * s) (replicate side 0) side
     → (r₂ : List ℕ) → r₂ ≡ paste r₁ (slotBytes * s + side) (replicate side 0) side → SpansPut rows r₂ s noSpans
 unfolding noSpans
-zeros-put rows s room r₁ e₁ r₂ e₂ = copies-put rows s noSpans room (length-replicate {A = ℕ} side 0) (length-replicate {A = ℕ} side 0) r₁ e₁ r₂ e₂
+zeros-put rows s room r₁ e₁ r₂ e₂ =
+    copies-put rows s noSpans room (length-replicate {A = ℕ} side 0) (length-replicate {A = ℕ} side 0) r₁ e₁ r₂ e₂
 
 -- A list of zeros has no cell in any slot
 pub zeros-none : (s n : ℕ) → slotBytes * s + slotBytes ≤ n → spansAt (replicate n 0) s ≡ noSpans
 unfolding spansAt noSpans
-zeros-none s n h = rw (window-replicate {A = ℕ} (slotBytes * s) side n 0 (omega arith), window-replicate {A = ℕ} (slotBytes * s + side) side n 0 (omega arith))
+zeros-none s n h =
+    rw (
+      window-replicate {A = ℕ} (slotBytes * s) side n 0 (omega arith),
+      window-replicate {A = ℕ} (slotBytes * s + side) side n 0 (omega arith),
+    )

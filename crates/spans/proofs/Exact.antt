@@ -27,7 +27,8 @@ use Rattle.convexity.specs.Shape.{NoBackStep}
 use Rattle.convexity.proofs.AsSent.{block-from-w, clear-of}
 use Rattle.convexity.proofs.Levels.{ups-tally, downs-tally}
 use Rattle.convexity.proofs.Clockwise.{form-clockwise, form-backward, simple-form, ups-backward, downs-backward}
-use Rattle.convexity.proofs.RowEnds.{bottom, top, ups-row, downs-row, ups-off, downs-off, row-ends, row-convex, enclosed-row, enclosed-on-chart}
+use Rattle.convexity.proofs.RowEnds.{bottom, top, ups-row, downs-row, ups-off, downs-off, row-ends, row-convex, enclosed-row}
+use Rattle.convexity.proofs.RowEnds.{enclosed-on-chart}
 use Rattle.spans.specs.Spans.{lastBelow, rowSpan, lesser, greater, leftSide, rightSide, spansOf, inSpans, spanFrom, spanAt, SpanExact}
 use Rattle.spans.specs.Spans.{Describes}
 use Rattle.spans.specs.declared.Span.the-variants.{None, Columns}
@@ -88,7 +89,10 @@ as-sent o h r u d t = go (clockwise (fromW o)) refl
     read : Counts (clockwiseForm o) r u d
     read =
         let s : Simple (clockwiseForm o) = simple-form o h in
-        record { up = λ c. sym (from-w-ups (clockwiseForm o) s c r) ∙ t .up c; down = λ c. sym (from-w-downs (clockwiseForm o) s c r) ∙ t .down c }
+        record {
+          up = λ c. sym (from-w-ups (clockwiseForm o) s c r) ∙ t .up c;
+          down = λ c. sym (from-w-downs (clockwiseForm o) s c r) ∙ t .down c;
+        }
 
     go : (b : Bool) → clockwise (fromW o) ≡ b → Counts o r u d ⊎ Counts o r d u
     go true e = inl (subst (λ (v : Outline). Counts v r u d) (form-clockwise o e) read)
@@ -126,7 +130,8 @@ record Between (o : Outline) (r m n : ℕ) : Type 0 where
   right : rightSide o r ≡ n
 
 module _ (o : Outline) (h : Simple o) (r : ℕ) where
-  sides-of : (a b : ℕ) → upColumn (o .start) (o .letters) r 0 ≡ a → downColumn (o .start) (o .letters) r 0 ≡ b → Between o r (lesser a b) (greater a b)
+  sides-of : (a b : ℕ) → upColumn (o .start) (o .letters) r 0 ≡ a → downColumn (o .start) (o .letters) r 0 ≡ b
+      → Between o r (lesser a b) (greater a b)
   unfolding leftSide rightSide
   sides-of a b e f = record { left = rw (kept-up o h r, kept-down o h r, e, f); right = rw (kept-up o h r, kept-down o h r, e, f) }
 
@@ -166,11 +171,18 @@ right-le o r = greater-le _ _ side (up-le o r) (down-le o r)
 pub past-le : (o : Outline) (r : ℕ) → rows (spansOf o .past) r ≤ side
 unfolding spansOf
 past-le o r =
-    elim (decLt r side) [ yes l ↦ rw (kept-past o r l) (right-le o r) | no l ↦ omega (arith, table-past (rightSide o) 0 side r (omega arith)) ]
+    elim (decLt r side) [
+      | yes l ↦ rw (kept-past o r l) (right-le o r)
+      | no l ↦ omega (
+        arith,
+        table-past (rightSide o) 0 side r (omega arith),
+      )
+    ]
 
 -- ---- a search in a row whose marked columns are one interval
 
-found-columns : (marked : ℕ → ℕ → Bool) (r a b : ℕ) → a < side → first (λ c. marked c r) side ≡ a → lastBelow (λ c. marked c r) side ≡ b → rowSpan marked r ≡ Columns a b
+found-columns : (marked : ℕ → ℕ → Bool) (r a b : ℕ) → a < side → first (λ c. marked c r) side ≡ a → lastBelow (λ c. marked c r) side ≡ b
+    → rowSpan marked r ≡ Columns a b
 unfolding rowSpan some
 found-columns marked r a b l e f = rw (e, f, lt-ltb a side l)
 
@@ -185,13 +197,15 @@ module _ (marked : ℕ → ℕ → Bool) (r : ℕ) where
 
     run-first : b ≤ side → Run → a < b → first (λ c. marked c r) side ≡ a
     run-first fits e l =
-        first-is (λ c. marked c r) side a (omega arith) (λ j k. not-held (marked j r) (λ g. omega (arith, e j .0 g))) (e a .1 (omega arith, l))
+        first-is (λ c. marked c r) side a (omega arith) (λ j k. not-held (marked j r) (λ g. omega (arith, e j .0 g)))
+        (e a .1 (omega arith, l))
 
     run-last : b ≤ side → Run → a < b → lastBelow (λ c. marked c r) side ≡ b - 1
     unfolding lastBelow
     run-last fits e l =
         let n : first (λ k. marked (side - 1 - k) r) side ≡ side - b =
-        first-is (λ k. marked (side - 1 - k) r) side (side - b) (omega arith) (λ j k. not-held (marked (side - 1 - j) r) (λ g. omega (arith, e (side - 1 - j) .0 g)))
+        first-is (λ k. marked (side - 1 - k) r) side (side - b) (omega arith)
+        (λ j k. not-held (marked (side - 1 - j) r) (λ g. omega (arith, e (side - 1 - j) .0 g)))
         (e (side - 1 - (side - b)) .1 (omega arith, omega arith)) in
         rw n (omega arith)
 
@@ -235,15 +249,20 @@ module _ (o : Outline) (h : Reaches o) where
 
       inside : bottom t ≤ r → r < top t → (block o c r ≡ true) ↔ ((leftSide o r ≤ c) × (c < rightSide o r))
       inside low high =
-          let b = between-once o (h .simple) r _ _ (row-convex t clear r low high) (record { up = ups-row t clear r low high; down = downs-row t clear r low high }) in
+          let b =
+          between-once o (h .simple) r _ _ (row-convex t clear r low high)
+          (record { up = ups-row t clear r low high; down = downs-row t clear r low high }) in
           let e = enclosed c r in
           let f = row-ends t clear r low high c in
           rw (b .left, b .right) (λ g. f .0 (e .0 g), λ g. e .1 (f .1 g))
 
       outside : (bottom t ≤ r → r < top t → ⊥) → (block o c r ≡ true) ↔ ((leftSide o r ≤ c) × (c < rightSide o r))
       outside off′ =
-          let b = between-off o (h .simple) r (record { up = ups-off t clear r off′; down = downs-off t clear r off′ }) in
-          (λ e. let (low, high) = enclosed-row t clear c r (enclosed c r .0 e) in absurd (off′ low high), λ g. absurd (omega (arith, g, b .left, b .right)))
+          let b = between-off o (h .simple) r (record { up = ups-off t clear r off′; down = downs-off t clear r off′ }) in (
+            λ e. let (low, high) = enclosed-row t clear c r (enclosed c r .0 e) in
+                absurd (off′ low high),
+            λ g. absurd (omega (arith, g, b .left, b .right)),
+          )
 
   off-chart : (c r : ℕ) → side ≤ r → block o c r ≡ false
   off-chart c r l = not-held (block o c r) (λ e. omega (arith, enclosed-on-chart t (clear-of o h) c r (enclosed c r .0 e)))
@@ -255,7 +274,8 @@ module _ (o : Outline) (h : Reaches o) where
       elim (decLt r side) [
         | yes l ↦
             rw (lt-ltb r side l, kept-first o r l, kept-past o r l)
-            (same-test (leb (leftSide o r) c && ltb c (rightSide o r)) (block o c r) (in-interval (leftSide o r) (rightSide o r) c) (row-exact c r))
+            (same-test (leb (leftSide o r) c && ltb c (rightSide o r)) (block o c r) (in-interval (leftSide o r) (rightSide o r) c)
+            (row-exact c r))
         | no l ↦ rw (le-ltb r side (omega arith), off-chart c r (omega arith))
       ]
 
@@ -264,7 +284,8 @@ module _ (o : Outline) (h : Reaches o) where
   unfolding spanAt
   spans-search r =
       elim (decLt r side) [
-        | yes l ↦ rw (lt-leb side r l, kept-first o r l, kept-past o r l) (sym (run-span (block o) r _ _ (right-le o r) (λ c. row-exact c r)))
+        | yes l ↦
+            rw (lt-leb side r l, kept-first o r l, kept-past o r l) (sym (run-span (block o) r _ _ (right-le o r) (λ c. row-exact c r)))
         | no l ↦ rw (le-leb side r (omega arith)) (sym (none-span (block o) r (λ c. off-chart c r (omega arith))))
       ]
 

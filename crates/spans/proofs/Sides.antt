@@ -56,23 +56,34 @@ module _ (along : Point → ℕ → ℕ → Bool) (r : ℕ) where
     column-none [] p d b h = none p d
     column-none (a ∷ w) p d b h = more p a w d ∙ go (along p a r) refl (λ e. column-none w (step p a) e b)
       where
-        go : (x : Bool) → along p a r ≡ x → ((e : ℕ) → ((c : ℕ) → b ≤ c → sides c (step p a) w ≡ 0) → column (step p a) w r e ≡ e) → column (step p a) w r (cond x (p .col) d) ≡ d
+        go : (x : Bool) → along p a r ≡ x → ((e : ℕ) → ((c : ℕ) → b ≤ c → sides c (step p a) w ≡ 0) → column (step p a) w r e ≡ e)
+            → column (step p a) w r (cond x (p .col) d) ≡ d
         go false e rest = rest d (λ c l. omega (arith, h c l))
         go true e rest =
             let top : ℕ = b + p .col in
-            absurd (omega (arith, h top (omega arith), ap (λ (x : Bool). count (x && leb (p .col) top)) e, count-held (p .col) top (omega arith)))
+            absurd (omega (
+              arith,
+              h top (omega arith),
+              ap (λ (x : Bool). count (x && leb (p .col) top)) e,
+              count-held (p .col) top (omega arith),
+            ))
 
     pub column-once : (w : List ℕ) (p : Point) (d m : ℕ) → ((c : ℕ) → sides c p w ≡ count (leb m c)) → column p w r d ≡ m
     unfolding tally count
     column-once [] p d m h = absurd (omega (arith, h m, count-held m m (omega arith)))
     column-once (a ∷ w) p d m h = more p a w d ∙ go (along p a r) refl (λ e. column-once w (step p a) e m)
       where
-        go : (x : Bool) → along p a r ≡ x → ((e : ℕ) → ((c : ℕ) → sides c (step p a) w ≡ count (leb m c)) → column (step p a) w r e ≡ m) → column (step p a) w r (cond x (p .col) d) ≡ m
+        go : (x : Bool) → along p a r ≡ x → ((e : ℕ) → ((c : ℕ) → sides c (step p a) w ≡ count (leb m c)) → column (step p a) w r e ≡ m)
+            → column (step p a) w r (cond x (p .col) d) ≡ m
         go false e rest = rest d (λ c. omega (arith, h c, ap (λ (x : Bool). count (x && leb (p .col) c)) e))
         go true e rest =
             let at : (c : ℕ) → count (leb (p .col) c) + sides c (step p a) w ≡ count (leb m c) =
             λ c. ap (λ (x : Bool). count (x && leb (p .col) c) + sides c (step p a) w) (sym e) ∙ h c in
-            let rest-none : (c : ℕ) → p .col ≤ c → sides c (step p a) w ≡ 0 = λ c l. omega (arith, at c, count-held (p .col) c l, count-le (leb m c)) in
+            let rest-none : (c : ℕ) → p .col ≤ c
+            → sides c (step p a) w ≡ 0 = λ c l. omega (arith, at c, count-held (p .col) c l, count-le (leb m c)) in
             let le : m ≤ p .col = held-count m (p .col) (omega (arith, at (p .col), count-held (p .col) (p .col) (omega arith))) in
-            let ge : p .col ≤ m = held-count (p .col) m (omega (arith, at m, count-held m m (omega arith), sides-rise m (p .col) le w (step p a), rest-none (p .col) (omega arith))) in
+            let ge : p .col ≤ m =
+            held-count (p .col) m
+            (omega (arith, at m, count-held m m (omega arith), sides-rise m (p .col) le w (step p a), rest-none (p .col) (omega arith)))
+            in
             column-none w (step p a) (p .col) (p .col) rest-none ∙ omega arith

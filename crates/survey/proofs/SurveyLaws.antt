@@ -57,7 +57,8 @@ module _ (o : Outline) where
           unfolding surveyOf
           survey-unclosed e = rw (a, b, c, d, e)
 
-          pub survey-touches : unclosed o ≡ false → ltb (touchingPlace o) (size o - 1) ≡ true → Stopped (Touches (touchingPlace o)) ≡ surveyOf o
+          pub survey-touches : unclosed o ≡ false → ltb (touchingPlace o) (size o - 1) ≡ true
+              → Stopped (Touches (touchingPlace o)) ≡ surveyOf o
           unfolding surveyOf
           survey-touches e f = rw (a, b, c, d, e, f)
 

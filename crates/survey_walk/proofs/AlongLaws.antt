@@ -17,9 +17,11 @@ use Rattle.survey_walk.specs.parts.Numbers.{colNumber, colStride, offCha
 use Rattle.survey_walk.specs.Corners.{cornersOf}
 use Rattle.survey_walk.specs.parts.Walks.{Begun, Out, MetAt, AllRound}
 use Rattle.survey_walk.proofs.NumberLaws.{Visits, west-least, north-least, east-greatest, south-greatest}
-use Rattle.survey_walk.proofs.WalkLaws.{size-small, reached-on-chart, out-start, out-next, out-leaves, rows-next, out-stays, out-number}
+use Rattle.survey_walk.proofs.WalkLaws.{size-small, reached-on-chart, out-start, out-next, out-leaves, rows-next, out-stays}
+use Rattle.survey_walk.proofs.WalkLaws.{out-number}
 use Rattle.survey_walk.proofs.MetLaws.{Passed, passed-start, met-again, new, passed-next, passed-end}
-use Rattle.survey_walk.proofs.KeptLaws.{firstOf, first-le, place-le, Kept, kept-start, kept-lower, kept-higher, kept-end, col-place, col-corner, row-place, row-row}
+use Rattle.survey_walk.proofs.KeptLaws.{firstOf, first-le, place-le, Kept, kept-start, kept-lower, kept-higher, kept-end, col-place}
+use Rattle.survey_walk.proofs.KeptLaws.{col-corner, row-place, row-row}
 
 pub record Along (o : Outline) (i by-col by-row : ℕ) (met : List ℕ) (w n e s : ℕ) : Type 0 where
   pub out : Out o i by-col
@@ -69,7 +71,8 @@ module _ (o : Outline) (b : Begun o) where
         along-leaves f = (l, out-leaves o b (t .out) l e f)
 
         -- The current corner is new: it was not passed before
-        module _ (h : isSet met (m / 65536) ≡ false) {g : ℕ} (k : g ≡ rowStride (letterAt o i % 4)) (f : offChart ((n + d) % 4294967296) ≡ false) where
+        module _ (h : isSet met (m / 65536) ≡ false) {g : ℕ} (k : g ≡ rowStride (letterAt o i % 4))
+            (f : offChart ((n + d) % 4294967296) ≡ false) where
           is-new : isSet met (rowNumber (cornerAt o i) i / 65536) ≡ false
           is-new = rw number at h
 

@@ -37,7 +37,8 @@ module _ (o : Outline) (k : ℕ) where
     unfolding least
     kept-start e = e
 
-    module _ {i best n : ℕ} (t : Kept i best) (c : n ≡ f (cornerAt o i) i) (v : Visits (cornerAt o i) (cornerAt o (firstOf i)) i (firstOf i)) where
+    module _ {i best n : ℕ} (t : Kept i best) (c : n ≡ f (cornerAt o i) i)
+        (v : Visits (cornerAt o i) (cornerAt o (firstOf i)) i (firstOf i)) where
       -- The current corner if it comes first, and otherwise the one kept
       chosen : (x : Bool) → x ≡ before (frameOf k) (cornerAt o i) (cornerAt o (firstOf i)) → Kept (i + 1) (cond x n best)
       unfolding least

@@ -57,7 +57,9 @@ module _ (o : Outline) where
         go : (i : ℕ) → Passed i met → (j : ℕ) → j < i → cornerAt o j ≡ cornerAt o i → i < size o → i - 1 ≡ touchingPlace o
         go zero t j l e n = absurd (omega arith)
         go (suc i) t j l e n =
-            let found : meets o i ≡ true = some-of (λ j. samePoint (cornerAt o j) (cornerAt o (suc i))) (suc i) j l (same-point-self (cornerAt o j) (cornerAt o (suc i)) e) in
+            let found : meets o i ≡ true =
+            some-of (λ j. samePoint (cornerAt o j) (cornerAt o (suc i))) (suc i) j l
+            (same-point-self (cornerAt o j) (cornerAt o (suc i)) e) in
             let last : suc i - 1 ≡ i = omega arith in
             let none : first (meets o) i ≡ i = rw last at (t .none) in
             rw last (sym (first-stop (meets o) (size o - 1) i none found (omega arith)))
@@ -102,7 +104,9 @@ module _ (o : Outline) where
               let none : first (meets o) i ≡ i = rw last at (t .none) in
               let next : suc i + 1 - 1 ≡ i + 1 = omega arith in
               rw next
-              (first-step (meets o) i none (absent-first (λ j. samePoint (cornerAt o j) (cornerAt o (suc i))) (suc i) λ j l. not-same-point (cornerAt o j) (cornerAt o (suc i)) (f j l)))
+              (first-step (meets o) i none
+              (absent-first (λ j. samePoint (cornerAt o j) (cornerAt o (suc i))) (suc i) λ j l. not-same-point (cornerAt o j)
+              (cornerAt o (suc i)) (f j l)))
 
   pub passed-end : {i : ℕ} {met : List ℕ} → Passed i met → i ≡ size o → touchingPlace o ≡ size o - 1
   unfolding touchingPlace

@@ -59,7 +59,8 @@ off-col n h = go (ltb side (n / 1024 % 1024))
     go true = refl
     go false = lt-ltb side (n / 1048576) h
 
-pub col-leaves : (p : Point) (i : ℕ) → OnChart p → i < 1023 → (a : ℕ) → a < 4 → leaves p a ≡ true → offChart ((colNumber p i + colStride a) % 4294967296) ≡ true
+pub col-leaves : (p : Point) (i : ℕ) → OnChart p → i < 1023 → (a : ℕ) → a < 4 → leaves p a ≡ true
+    → offChart ((colNumber p i + colStride a) % 4294967296) ≡ true
 unfolding leaves
 col-leaves p i h s zero l e = off-col ((colNumber p i + colStride 0) % 4294967296) (omega (arith, leb-true side (p .col) e))
 col-leaves p i h s (suc zero) l e = off-row ((colNumber p i + colStride 1) % 4294967296) (omega (arith, leb-true side (p .row) e))
@@ -69,7 +70,8 @@ col-leaves p i h s (suc (suc (suc (suc a)))) l e = absurd (omega arith)
 
 -- ---- the numbers of the set
 
-pub row-injective : (p q : Point) (i j : ℕ) → OnChart p → OnChart q → i < 65536 → j < 65536 → rowNumber p i / 65536 ≡ rowNumber q j / 65536 → p ≡ q
+pub row-injective : (p q : Point) (i j : ℕ) → OnChart p → OnChart q → i < 65536 → j < 65536 → rowNumber p i / 65536 ≡ rowNumber q j / 65536
+    → p ≡ q
 row-injective p q i j h k l m e = point-eq p q (omega arith) (omega arith)
 
 -- ---- the order of a frame

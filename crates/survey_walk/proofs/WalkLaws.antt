@@ -16,7 +16,8 @@ use Rattle.chart.specs.Limits.{longest}
 use Rattle.chart.specs.Outline.{Outline, outline}
 use Rattle.lattice.specs.Chart.{samePoint, step, leaves, walk, cornerAt, size, letterAt}
 use Rattle.lattice.specs.Refusals.{letterPlace, leavingPlace, Stays, unclosed}
-use Rattle.lattice.proofs.WalkLaws.{OnChart, point-eq, same-point-self, not-same-point, first-absent, step-on-chart, corner-zero, corner-suc, corner-all, corners-on-chart}
+use Rattle.lattice.proofs.WalkLaws.{OnChart, point-eq, same-point-self, not-same-point, first-absent, step-on-chart, corner-zero}
+use Rattle.lattice.proofs.WalkLaws.{corner-suc, corner-all, corners-on-chart}
 use Rattle.lattice.proofs.Staying.{start-on-chart, stays-at}
 use Rattle.survey_walk.specs.parts.Numbers.{colNumber, colStride, offChart, rowNumber, rowStride}
 use Rattle.survey_walk.specs.parts.Walks.{Begun, Out, RestOf}
@@ -39,7 +40,8 @@ module _ (o : Outline) (b : Begun o) where
   reached-on-chart h zero l = rw (corner-zero o) (start-on-chart (o .start) (b .started))
   reached-on-chart {i} h (suc j) l =
       rw (corner-suc o j (omega (arith, h .passed)))
-      (step-on-chart (cornerAt o j) (letterAt o j) (first-none-at leavesAt i (h .none) j (omega arith)) (reached-on-chart h j (omega arith)))
+      (step-on-chart (cornerAt o j) (letterAt o j) (first-none-at leavesAt i (h .none) j (omega arith))
+      (reached-on-chart h j (omega arith)))
 
   pub out-start : {n : ℕ} → n ≡ colNumber (o .start) 0 → Out o 0 n
   out-start e = record { passed = omega arith; none = first-zero leavesAt; number = rw (corner-zero o) e }
@@ -71,7 +73,8 @@ module _ (o : Outline) (b : Begun o) where
         go true f = rw to (col-leaves (cornerAt o i) i here place-small (letterAt o i) small f)
         go false f =
             ap offChart (to ∙ col-next (cornerAt o i) i here place-small (letterAt o i) small f)
-            ∙ col-stays (step (cornerAt o i) (letterAt o i)) (i + 1) (step-on-chart (cornerAt o i) (letterAt o i) f here) (omega (arith, size-small))
+            ∙ col-stays (step (cornerAt o i) (letterAt o i)) (i + 1) (step-on-chart (cornerAt o i) (letterAt o i) f here)
+            (omega (arith, size-small))
 
     pub out-next : offChart ((n + d) % 4294967296) ≡ false → Out o (i + 1) ((n + d) % 4294967296)
     out-next f =
@@ -145,5 +148,6 @@ pub away-unclosed : (o : Outline) → Begun o → Stays o → {n : ℕ} → n �
 unfolding unclosed
 away-unclosed o b t e =
     let start = start-on-chart (o .start) (b .started) in
-    let end : OnChart (walk (o .start) (o .letters)) = rw (corner-all o) at (corners-on-chart o start (stays-at o t) (size o) (omega arith)) in
+    let end : OnChart (walk (o .start) (o .letters)) =
+    rw (corner-all o) at (corners-on-chart o start (stays-at o t) (size o) (omega arith)) in
     rw e (ap not (same-number (walk (o .start) (o .letters)) (o .start) (size o) end start (omega (arith, size-small o b))))

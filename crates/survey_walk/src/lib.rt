@@ -9,7 +9,8 @@ ghost use lib.Dec.{eqb};
 ghost use Rattle.chart.specs.Limits.{side};
 ghost use Rattle.chart.specs.declared.Point.{Point};
 ghost use Rattle.chart.specs.Outline.{outline};
-ghost use Rattle.survey_walk.specs.parts.Numbers.{colNumber, colStride, offChart, rowNumber, rowStride, lowerOf, higherOf, cornersFrom};
+ghost use Rattle.survey_walk.specs.parts.Numbers.{colNumber, colStride, offChart, rowNumber, rowStride, lowerOf, higherOf};
+ghost use Rattle.survey_walk.specs.parts.Numbers.{cornersFrom};
 ghost use Rattle.survey_walk.specs.parts.Walks.{Begun, Out, RestOf, WalkedAs};
 
 // The places of the letters that leave W, N, E and S, the corner W, and the rows of S and N.
@@ -189,7 +190,8 @@ pub struct Rest {
 
 // Refusal 4 and the end of the walk, without marks, from the corner at a place on, with its number.
 pub fn walk_on(w: &[u8], from: usize, number: u32) -> Rest
-    ensures { λ r. ⌜ ((s : Point) → Begun (outline s (now (w .entry))) → Out (outline s (now (w .entry))) from number → RestOf (outline s (now (w .entry))) r) ⌝ }
+    ensures { λ r. ⌜ ((s : Point) → Begun (outline s (now (w .entry))) → Out (outline s (now (w .entry))) from number
+        → RestOf (outline s (now (w .entry))) r) ⌝ }
 {
     let mut by_col = number;
     let mut i = from;

@@ -125,10 +125,12 @@ module _ (p : Polygon) (fit : Fit p) {r : ℕ} (c : ℕ) (left right : Chord p r
           let n = natural p fit e in
           elim (decLe (n .y) (n .v)) [
             | yes k ↦
-                grows (n .v) (n .y) (n .x) (n .u) (n .u * n .y) (n .v * n .x) (left .x) (left .y) (left .u) (left .v) (left .m) (left .t) (left .m + left .t) r _
+                grows (n .v) (n .y) (n .x) (n .u) (n .u * n .y) (n .v * n .x) (left .x) (left .y) (left .u) (left .v) (left .m) (left .t)
+                (left .m + left .t) r _
                 refl (left .rows) refl c (left .some) k l (corner-passes e (left .one)) (corner-passes e (left .two))
             | no k ↦
-                falls (n .v) (n .y) (n .x) (n .u) (n .u * n .y) (n .v * n .x) (right .x) (right .y) (right .u) (right .v) (right .m) (right .t) (right .m + right .t) r _
+                falls (n .v) (n .y) (n .x) (n .u) (n .u * n .y) (n .v * n .x) (right .x) (right .y) (right .u) (right .v) (right .m)
+                (right .t) (right .m + right .t) r _
                 refl (right .rows) refl c (right .some) (omega arith) h (corner-passes e (right .one)) (corner-passes e (right .two))
           ]
 
@@ -137,7 +139,8 @@ module _ (p : Polygon) (fit : Fit p) {r : ℕ} (c : ℕ) (left right : Chord p r
   low-by ds z x u c a b (inl k) = omega (arith, lowest-least ds a)
   low-by ds z x u c a b (inr k) = omega (arith, lowest-least ds b)
 
-  high-by : (ds : List ℤ) (z : ℤ) (x u c : ℕ) → Reach ds z (pos x) → Reach ds z (pos u) → (c ≤ x) ⊎ (c ≤ u) → AtMost (pos c) (highestMet ds z)
+  high-by : (ds : List ℤ) (z : ℤ) (x u c : ℕ) → Reach ds z (pos x) → Reach ds z (pos u) → (c ≤ x) ⊎ (c ≤ u)
+      → AtMost (pos c) (highestMet ds z)
   high-by ds z x u c a b (inl k) = omega (arith, highest-most ds a)
   high-by ds z x u c a b (inr k) = omega (arith, highest-most ds b)
 
@@ -145,9 +148,13 @@ module _ (p : Polygon) (fit : Fit p) {r : ℕ} (c : ℕ) (left right : Chord p r
   chords-inside =
       inside-of-parts es X Y (pos c) (pos r)
       (within-of (colSteps es) X (pos c)
-      (low-by (colSteps es) X (left .x) (left .u) c (met-col (left .one)) (met-col (left .two)) (not-above (left .m) (left .t) (left .x) (left .u) c (left .some) l))
-      (high-by (colSteps es) X (right .x) (right .u) c (met-col (right .one)) (met-col (right .two)) (not-below (right .m) (right .t) (right .x) (right .u) c (right .some) h)))
+      (low-by (colSteps es) X (left .x) (left .u) c (met-col (left .one)) (met-col (left .two))
+      (not-above (left .m) (left .t) (left .x) (left .u) c (left .some) l))
+      (high-by (colSteps es) X (right .x) (right .u) c (met-col (right .one)) (met-col (right .two))
+      (not-below (right .m) (right .t) (right .x) (right .u) c (right .some) h)))
       (within-of (rowSteps es) Y (pos r)
-      (low-by (rowSteps es) Y (left .y) (left .v) r (met-row (left .one)) (met-row (left .two)) (not-above (left .m) (left .t) (left .y) (left .v) r (left .some) (omega (arith, left .rows))))
-      (high-by (rowSteps es) Y (left .y) (left .v) r (met-row (left .one)) (met-row (left .two)) (not-below (left .m) (left .t) (left .y) (left .v) r (left .some) (omega (arith, left .rows)))))
+      (low-by (rowSteps es) Y (left .y) (left .v) r (met-row (left .one)) (met-row (left .two))
+      (not-above (left .m) (left .t) (left .y) (left .v) r (left .some) (omega (arith, left .rows))))
+      (high-by (rowSteps es) Y (left .y) (left .v) r (met-row (left .one)) (met-row (left .two))
+      (not-below (left .m) (left .t) (left .y) (left .v) r (left .some) (omega (arith, left .rows)))))
       (none-outside es X Y (pos c) (pos r) chords-inner)

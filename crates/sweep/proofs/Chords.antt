@@ -55,10 +55,12 @@ pub record Natural (ex ey p q : ℤ) : Type 0 where
 
 module _ {ex ey p q : ℤ} (n : Natural ex ey p q) where
   pub is-ex : Is ex (n .u) (n .x)
-  is-ex = record { eq = omega (arith, is-add (is-self p) (is-self ex) .eq, ap up (n .isX), ap down (n .isX), ap up (n .isU), ap down (n .isU)) }
+  is-ex =
+      record { eq = omega (arith, is-add (is-self p) (is-self ex) .eq, ap up (n .isX), ap down (n .isX), ap up (n .isU), ap down (n .isU)) }
 
   pub is-ey : Is ey (n .v) (n .y)
-  is-ey = record { eq = omega (arith, is-add (is-self q) (is-self ey) .eq, ap up (n .isY), ap down (n .isY), ap up (n .isV), ap down (n .isV)) }
+  is-ey =
+      record { eq = omega (arith, is-add (is-self q) (is-self ey) .eq, ap up (n .isY), ap down (n .isY), ap up (n .isV), ap down (n .isV)) }
 
   way : (c : ℕ) (z : ℤ) (k : ℕ) → z ≡ pos k → Is (pos c -ℤ z) c k
   way c z k e = record { eq = omega (arith, is-minus (is-self (pos c)) (is-self z) .eq, ap up e, ap down e) }
@@ -69,5 +71,6 @@ module _ {ex ey p q : ℤ} (n : Natural ex ey p q) where
       rw (side-cross ex ey p q (pos c) (pos r)) (record { eq = omega (arith, s .eq) })
 
   -- A cell is on its inner side exactly if it passes a linear test
-  pub side-passes : (c r : ℕ) → Least0 (sideValue ex ey p q (pos c) (pos r)) ↔ Passes (n .v) (n .y) (n .x) (n .u) (n .u * n .y) (n .v * n .x) c r
+  pub side-passes : (c r : ℕ)
+      → Least0 (sideValue ex ey p q (pos c) (pos r)) ↔ Passes (n .v) (n .y) (n .x) (n .u) (n .u * n .y) (n .v * n .x) c r
   side-passes c r = ((λ h. omega (arith, side-is c r .eq)), λ h. omega (arith, side-is c r .eq))

@@ -21,13 +21,15 @@ use Rattle.sweep.specs.parts.Sweep.{between, cornerFrom, cornerTo, riseF
 pub data FromItem (es : List Edge) (x y : ℤ) (r c : ℕ) : Type 0 where
   corner : {u v : ℤ} → Met es x y u v → v ≡ pos r → startAt u ≤ c → FromItem es x y r c
   edge :
-      {ex ey p q : ℤ} {fs : List Edge} → Leaves es x y ex ey p q fs → between q (q +ℤ ey) r ≡ true → edgeFrom ey (sideValue ex ey p q (pos 0) (pos r)) ≤ c
+      {ex ey p q : ℤ} {fs : List Edge} → Leaves es x y ex ey p q fs → between q (q +ℤ ey) r ≡ true
+      → edgeFrom ey (sideValue ex ey p q (pos 0) (pos r)) ≤ c
       → FromItem es x y r c
 
 pub data ToItem (es : List Edge) (x y : ℤ) (r c : ℕ) : Type 0 where
   corner : {u v : ℤ} → Met es x y u v → v ≡ pos r → c < endAfter u → ToItem es x y r c
   edge :
-      {ex ey p q : ℤ} {fs : List Edge} → Leaves es x y ex ey p q fs → between (q +ℤ ey) q r ≡ true → c < edgeTo ey (sideValue ex ey p q (pos 0) (pos r))
+      {ex ey p q : ℤ} {fs : List Edge} → Leaves es x y ex ey p q fs → between (q +ℤ ey) q r ≡ true
+      → c < edgeTo ey (sideValue ex ey p q (pos 0) (pos r))
       → ToItem es x y r c
 
 module _ (r c : ℕ) (l : c < side) where

@@ -212,13 +212,15 @@ module _ (p : Polygon) (fit : Fit p) (r c : ℕ) (l : c < side) where
         | no f ↦
             let at : n .y ≡ r = omega arith in
             let z : t ≡ 0 = omega arith in
-            FromItem.corner (leaves-start d) (n .isY ∙ ap pos at) (rw (n .isX) (le-of-mul-le-mul-left {k = m} (omega (arith, rw z at k)) (omega arith)))
+            FromItem.corner (leaves-start d) (n .isY
+            ∙ ap pos at) (rw (n .isX) (le-of-mul-le-mul-left {k = m} (omega (arith, rw z at k)) (omega arith)))
         | yes f ↦
             elim (decLt r (n .v)) [
               | no g ↦
                   let at : n .v ≡ r = omega arith in
                   let z : m ≡ 0 = omega arith in
-                  FromItem.corner (leaves-finish d) (n .isV ∙ ap pos at) (rw (n .isU) (le-of-mul-le-mul-left {k = t} (omega (arith, rw z at k)) (omega arith)))
+                  FromItem.corner (leaves-finish d) (n .isV
+                  ∙ ap pos at) (rw (n .isU) (le-of-mul-le-mul-left {k = t} (omega (arith, rw z at k)) (omega arith)))
               | yes g ↦
                   FromItem.edge d (between-of (n .y) (n .v) (n .isY) (n .isV) f g)
                   (edge-in ey (sideValue ex ey a b (pos 0) (pos r)) c l (column-side ex ey a b .1 h) .0)
@@ -337,10 +339,12 @@ module _ (p : Polygon) (fit : Fit p) (r c : ℕ) (l : c < side) where
             let s = corner-place p fit (lowest .1) in
             let k = not-at-most (pos r) bottom g in
             let some : 0 < r = omega (arith, k, ap up (s .isRow), ap down (s .isRow)) in
-            falls-to (r - 1) (high-fails (r - 1) (omega arith) (leZ top (pos (r - 1))) refl) (at-most-iff bottom (pos (r - 1)) .1 (omega (arith, k))) (omega arith) (omega arith)
+            falls-to (r - 1) (high-fails (r - 1) (omega arith) (leZ top (pos (r - 1))) refl)
+            (at-most-iff bottom (pos (r - 1)) .1 (omega (arith, k))) (omega arith) (omega arith)
         go true true f g =
             let m = col-met es (reach-high (colSteps es) X) in
-            ToItem.corner (m .1) (flat (m .1) (at-most-iff (pos r) bottom .0 g) (at-most-iff top (pos r) .0 f)) (end-iff (highestMet (colSteps es) X) c .0 (cols .1))
+            ToItem.corner (m .1) (flat (m .1) (at-most-iff (pos r) bottom .0 g) (at-most-iff top (pos r) .0 f))
+            (end-iff (highestMet (colSteps es) X) c .0 (cols .1))
 
     inside-run : In (rowFrom p r) (rowTo p r) c
     unfolding rowFrom rowTo

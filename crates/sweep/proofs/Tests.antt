@@ -48,7 +48,12 @@ says-within a b c d h =
 module _ (p q : Polygon) (one : Fit p) (two : Fit q) where
   within-runs : Within (Holds p) (Holds q) → rowsWithin p q ≡ true
   unfolding rowsWithin
-  within-runs w = every-of _ side λ r l. says-within (rowFrom p r) (rowTo p r) (rowFrom q r) (rowTo q r) (λ some. (holds r (rowFrom p r) (omega (arith, run-below p r)) (omega arith), holds r (rowTo p r - 1) (omega (arith, run-below p r)) (omega arith)))
+  within-runs w =
+      every-of _ side λ r l. says-within (rowFrom p r) (rowTo p r) (rowFrom q r) (rowTo q r)
+      (λ some. (
+        holds r (rowFrom p r) (omega (arith, run-below p r)) (omega arith),
+        holds r (rowTo p r - 1) (omega (arith, run-below p r)) (omega arith),
+      ))
     where
       holds : (r n : ℕ) → n < side → In (rowFrom p r) (rowTo p r) n → In (rowFrom q r) (rowTo q r) n
       holds r n l h = run-holds q two r n l .1 (w (record { col = n; row = r }) (run-holds p one r n l .0 h))

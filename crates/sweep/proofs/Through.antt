@@ -21,10 +21,12 @@ pub record Turns (P : ℤ → Bool) (es : List Edge) (x y : ℤ) : Type 0 where
 
 module _ (P : ℤ → Bool) where
   turns-later : {es : List Edge} {dx dy x y : ℤ} → Turns P es (x +ℤ dx) (y +ℤ dy) → Turns P ((dx, dy) ∷ es) x y
-  turns-later t = record { ex = t .ex; ey = t .ey; p = t .p; q = t .q; fs = t .fs; leaves = later (t .leaves); before = t .before; after = t .after }
+  turns-later t =
+      record { ex = t .ex; ey = t .ey; p = t .p; q = t .q; fs = t .fs; leaves = later (t .leaves); before = t .before; after = t .after }
 
   -- Along the first edge, or later
-  turns-next : {es : List Edge} {dx dy x y : ℤ} → P y ≡ false → (P (y +ℤ dy) ≡ false → Turns P es (x +ℤ dx) (y +ℤ dy)) → Turns P ((dx, dy) ∷ es) x y
+  turns-next : {es : List Edge} {dx dy x y : ℤ} → P y ≡ false → (P (y +ℤ dy) ≡ false → Turns P es (x +ℤ dx) (y +ℤ dy))
+      → Turns P ((dx, dy) ∷ es) x y
   turns-next {es} {dx} {dy} {x} {y} f more = go (P (y +ℤ dy)) refl
     where
       go : (s : Bool) → P (y +ℤ dy) ≡ s → Turns P ((dx, dy) ∷ es) x y
@@ -46,7 +48,8 @@ module _ (P : ℤ → Bool) where
   turns-from (after m) f (Ends.next w) t = turns-later (turns-from m f w t)
 
   -- The theorem
-  pub turns : {es : List Edge} {x y u v s t : ℤ} → Ends es x y x y → Met es x y u v → P v ≡ false → Met es x y s t → P t ≡ true → Turns P es x y
+  pub turns : {es : List Edge} {x y u v s t : ℤ} → Ends es x y x y → Met es x y u v → P v ≡ false → Met es x y s t → P t ≡ true
+      → Turns P es x y
   turns {es} {x} {y} w l f h t = go (P y) refl
     where
       go : (b : Bool) → P y ≡ b → Turns P es x y

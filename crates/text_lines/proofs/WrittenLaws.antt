@@ -37,7 +37,8 @@ length-written zero t buffer = length-over t buffer
 length-written (suc at) t [] = refl
 length-written (suc at) t (x ∷ buffer) = ap suc (length-written at t buffer)
 
-over-behind : (end : ℕ) (s t buffer : List ℕ) → end ≡ min (length s) (length buffer) → writtenAt end t (over s buffer) ≡ over (s ++ t) buffer
+over-behind : (end : ℕ) (s t buffer : List ℕ) → end ≡ min (length s) (length buffer)
+    → writtenAt end t (over s buffer) ≡ over (s ++ t) buffer
 unfolding over writtenAt
 over-behind zero [] t buffer e = refl
 over-behind (suc end) [] t buffer e = absurd (omega (arith, e))
@@ -60,7 +61,8 @@ written-behind (suc at) end s t [] e = written-nil end t
 written-behind (suc at) zero s t (x ∷ buffer) e = absurd (omega (arith, e))
 written-behind (suc at) (suc end) s t (x ∷ buffer) e = ap (λ (l : List ℕ). x ∷ l) (written-behind at end s t buffer (omega (arith, e)))
 
-pub wrote-behind : {s t : List ℕ} {at end r : ℕ} {before between after : List ℕ} → Wrote s at before between end → Wrote t end between after r
+pub wrote-behind : {s t : List ℕ} {at end r : ℕ} {before between after : List ℕ} → Wrote s at before between end
+    → Wrote t end between after r
     → Wrote (s ++ t) at before after r
 wrote-behind {s} {t} {at} {end} {r} {before} p q =
     record {

@@ -21,7 +21,9 @@ use Rattle.convexity.proofs.AsSent.{edges-answer-sent, dented-iff-missing, name
 use Rattle.verdict.specs.Verdict.{cellFound, dentIn, verdictOf, testOf, testFields, edgesAfter}
 use Rattle.verdict.specs.Dents.{Dented, dentOf}
 use Rattle.verdict.specs.Named.{cellOf, CellNamed}
-use Rattle.verdict.proofs.VerdictLaws.{pastEight, reaches-of, dented-or-not, TakenFacts, taken-facts, verdict-dented, verdict-taken, dented-of-nine, nine-of-dented, nine-iff-dented, roomy, test-refused, test-short, test-taken, edges-first}
+use Rattle.verdict.proofs.VerdictLaws.{pastEight, reaches-of, dented-or-not, TakenFacts, taken-facts, verdict-dented, verdict-taken}
+use Rattle.verdict.proofs.VerdictLaws.{dented-of-nine, nine-of-dented, nine-iff-dented, roomy, test-refused, test-short, test-taken}
+use Rattle.verdict.proofs.VerdictLaws.{edges-first}
 
 module _ (o : Outline) where
   -- An outline that passes refusals 1 to 8 is refused by 9 exactly if a cell is missing
@@ -61,12 +63,14 @@ module _ (o : Outline) where
       go (Refused f) e = same (test-refused o m f e ∙ sym e)
       go (Taken n a) e =
           elim (decLt m (2 * n)) [
-            | yes h ↦ rw (test-short o m n a e h) (record { anchor = λ z. absurd (omega (arith, z)); missing = λ z. absurd (omega (arith, z)) })
+            | yes h ↦
+                rw (test-short o m n a e h) (record { anchor = λ z. absurd (omega (arith, z)); missing = λ z. absurd (omega (arith, z)) })
             | no h ↦ same (test-taken o m n a e (omega arith) ∙ sym e)
           ]
 
   -- The anchor and the edges in the buffer of a taken outline decide which cells are enclosed
-  pub taken-answers : (buffer : List ℤ) (n : ℕ) (a : Point) → testOf o (length buffer) ≡ Taken n a → (x : Point) → x .col < side → x .row < side
+  pub taken-answers : (buffer : List ℤ) (n : ℕ) (a : Point) → testOf o (length buffer) ≡ Taken n a → (x : Point) → x .col < side
+      → x .row < side
       → insideEdges a (take (2 * n) (edgesAfter o buffer)) x ≡ block o (x .col) (x .row)
   taken-answers buffer n a e x i j =
       let f : TakenFacts o n a = taken-facts o n a (roomy o (length buffer) n a e .verdict) in

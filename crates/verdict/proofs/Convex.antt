@@ -54,7 +54,8 @@ module _ (o : Outline) where
       passed e =
           let r : Reaches o = reaches-of o (rw e) in (
             straight-of (border o) (r .straight),
-            ⊎-elim (λ d. absurd (omega (arith, e, nine-of-dented o (record { reaches = r; dented = d })))) (λ u. u) (dented-or-not (border o)),
+            ⊎-elim (λ d. absurd (omega (arith, e, nine-of-dented o (record { reaches = r; dented = d })))) (λ u. u)
+                (dented-or-not (border o)),
           )
 
       taken : Convex (block o) → number (verdictOf o) ≡ 0

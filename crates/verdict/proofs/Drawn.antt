@@ -27,10 +27,14 @@ said-alike p q t = go (ltb (backStepPiece t) 4) (ltb (dentPiece t) 4)
     go :
         (b d : Bool) →
         SameButPlace
-        (verdictFields (cond b (Refused (backStepIn p t (backStepPiece t))) (cond d (Refused (dentIn p t (dentPiece t))) (Taken (edgeCount t) (t .start)))))
-        (verdictFields (cond b (Refused (backStepIn q t (backStepPiece t))) (cond d (Refused (dentIn q t (dentPiece t))) (Taken (edgeCount t) (t .start)))))
-    go true d = record { number = refl; word = refl; piece = refl; length = refl; col = refl; row = refl; edges = λ z. absurd (omega arith) }
-    go false true = record { number = refl; word = refl; piece = refl; length = refl; col = refl; row = refl; edges = λ z. absurd (omega arith) }
+        (verdictFields (cond b (Refused (backStepIn p t (backStepPiece t)))
+        (cond d (Refused (dentIn p t (dentPiece t))) (Taken (edgeCount t) (t .start)))))
+        (verdictFields (cond b (Refused (backStepIn q t (backStepPiece t)))
+        (cond d (Refused (dentIn q t (dentPiece t))) (Taken (edgeCount t) (t .start)))))
+    go true d =
+        record { number = refl; word = refl; piece = refl; length = refl; col = refl; row = refl; edges = λ z. absurd (omega arith) }
+    go false true =
+        record { number = refl; word = refl; piece = refl; length = refl; col = refl; row = refl; edges = λ z. absurd (omega arith) }
     go false false = record { number = refl; word = refl; piece = refl; length = refl; col = refl; row = refl; edges = λ z. refl }
 
 -- After 1 to 6 the border decides
@@ -38,11 +42,13 @@ verdict-border : (o : Outline) → Simple o → verdictOf o ≡ roundVerdict (pl
 unfolding verdictOf afterSurvey borderVerdict
 verdict-border o h = rw (← survey-passed o h)
 
-same-border-verdict : (o v : Outline) → Simple o → Simple v → border o ≡ border v → SameButPlace (verdictFields (verdictOf o)) (verdictFields (verdictOf v))
+same-border-verdict : (o v : Outline) → Simple o → Simple v → border o ≡ border v
+    → SameButPlace (verdictFields (verdictOf o)) (verdictFields (verdictOf v))
 same-border-verdict o v h k e = rw (verdict-border o h, verdict-border v k, e) (said-alike (placeSent o) (placeSent v) (border v))
 
 -- Outlines of the same block that pass 1 to 6 get the same reply, except for places
-pub same-block-verdict : (o v : Outline) → Simple o → Simple v → SameCells o v → SameButPlace (verdictFields (verdictOf o)) (verdictFields (verdictOf v))
+pub same-block-verdict : (o v : Outline) → Simple o → Simple v → SameCells o v
+    → SameButPlace (verdictFields (verdictOf o)) (verdictFields (verdictOf v))
 same-block-verdict o v h k same = same-border-verdict o v h k (same-from-w-iff o v h k .0 same)
 
 -- So does an outline drawn backward; if taken, it has the same anchor and the same edges

@@ -113,7 +113,8 @@ module _ (o : Outline) where
 
   smooth-undented : (k : ℕ) → Smooth o k → dentedAt t k ≡ false
   smooth-undented k h =
-      le-ltb 0 (dentLength (factors t k)) (omega (arith, ap dentLength (factors-are k (h .factors) (h .factoring)), dent-none (h .factors) (h .christoffel)))
+      le-ltb 0 (dentLength (factors t k))
+      (omega (arith, ap dentLength (factors-are k (h .factors) (h .factoring)), dent-none (h .factors) (h .christoffel)))
 
   undented-smooth : (k : ℕ) → dentedAt t k ≡ false → Smooth o k
   undented-smooth k e =
@@ -165,14 +166,16 @@ module _ (o : Outline) where
         ap dentAt e ∙ dent-at (h .dent) (h .after) (h .dented) (h .before) (h .smooth) in
         let some : 0 < length (h .dent .word) = dent-some (h .before) (h .factoring .falling) in
         let first : dentPiece t ≡ k =
-        first-is (dentedAt t) 4 k (h .below) (λ j l. smooth-undented j (h .earlier j l)) (lt-ltb 0 (dentLength (factors t k)) (omega arith)) in
+        first-is (dentedAt t) 4 k (h .below) (λ j l. smooth-undented j (h .earlier j l)) (lt-ltb 0 (dentLength (factors t k)) (omega arith))
+        in
         let d : dentPiece t < 4 = omega (arith, h .below) in
         let piece : k + 1 ≡ p = sym (h .piece) in
         let place : placeSent o (pieceCut o k + 1 + dentAt (factors t k)) ≡ i =
         ap (λ (n : ℕ). placeSent o (pieceCut o k + 1 + n)) at ∙ sym (h .place) in
         let copy : dentLength (factors t k) ≡ l = size ∙ sym (h .copy) in
         let cell : cellFound (border o) ≡ x = lowest-unique (cell-lowest d) (h .cell) in
-        verdict-dented o (record { reaches = r; dented = d }) ∙ ap Refused (dent-named k first ∙ λ j. Dent (piece j) (place j) (copy j) (cell j))
+        verdict-dented o (record { reaches = r; dented = d })
+        ∙ ap Refused (dent-named k first ∙ λ j. Dent (piece j) (place j) (copy j) (cell j))
       where
         dent-some : (before : List Factor) → Falling (before ++ h .dent ∷ h .after) → 0 < length (h .dent .word)
         dent-some [] d = falling-head d .lyndon .some
@@ -207,7 +210,8 @@ module _ (o : Outline) where
               piece = cc;
               place =
                   sym place ∙
-                  ap (λ (n : ℕ). placeSent o (pieceCut o k + 1 + n)) (ap dentAt (f .whole) ∙ dent-at (f .dent) (f .after) (f .dented) (f .before) (f .smooth));
+                  ap (λ (n : ℕ). placeSent o (pieceCut o k + 1 + n)) (ap dentAt (f .whole)
+                  ∙ dent-at (f .dent) (f .after) (f .dented) (f .before) (f .smooth));
               copy = sym copy ∙ ap dentLength (f .whole) ∙ dent-length (f .dent) (f .after) (f .dented) (f .before) (f .smooth);
               cell = subst (λ (y : Point). LowestMissing (block o) y) cell (cell-lowest d);
             }

@@ -43,8 +43,12 @@ slanted = record { word = false ∷ true ∷ []; times = 1 } ∷ []
 
 pub h3-smooth : (k : ℕ) → k < 4 → Smooth h3 k
 unfolding computes
-h3-smooth zero h = record { factors = slanted; factoring = factors-exist (pieceWord h3 0); christoffel = more (christoffel-iff _ .0 refl) none }
-h3-smooth (suc zero) h = record { factors = slanted; factoring = factors-exist (pieceWord h3 1); christoffel = more (christoffel-iff _ .0 refl) none }
-h3-smooth (suc (suc zero)) h = record { factors = slanted; factoring = factors-exist (pieceWord h3 2); christoffel = more (christoffel-iff _ .0 refl) none }
-h3-smooth (suc (suc (suc zero))) h = record { factors = slanted; factoring = factors-exist (pieceWord h3 3); christoffel = more (christoffel-iff _ .0 refl) none }
+h3-smooth zero h =
+    record { factors = slanted; factoring = factors-exist (pieceWord h3 0); christoffel = more (christoffel-iff _ .0 refl) none }
+h3-smooth (suc zero) h =
+    record { factors = slanted; factoring = factors-exist (pieceWord h3 1); christoffel = more (christoffel-iff _ .0 refl) none }
+h3-smooth (suc (suc zero)) h =
+    record { factors = slanted; factoring = factors-exist (pieceWord h3 2); christoffel = more (christoffel-iff _ .0 refl) none }
+h3-smooth (suc (suc (suc zero))) h =
+    record { factors = slanted; factoring = factors-exist (pieceWord h3 3); christoffel = more (christoffel-iff _ .0 refl) none }
 h3-smooth (suc (suc (suc (suc k)))) h = absurd (omega arith)

@@ -31,7 +31,8 @@ use Rattle.convexity.specs.Clockwise.{border, placeSent}
 use Rattle.convexity.specs.Pieces.{backStepPiece, factors, dentLength, dentPiece, edges, edgeCount, Reaches}
 use Rattle.convexity.proofs.Bounds.{edges-length}
 use Rattle.convexity.proofs.EdgeBound.{edges-fit}
-use Rattle.verdict.specs.Verdict.{backStepIn, dentIn, roundVerdict, borderVerdict, afterSurvey, verdictOf, withRoom, testOf, bufferAfter, edgesAfter}
+use Rattle.verdict.specs.Verdict.{backStepIn, dentIn, roundVerdict, borderVerdict, afterSurvey, verdictOf, withRoom, testOf}
+use Rattle.verdict.specs.Verdict.{bufferAfter, edgesAfter}
 use Rattle.verdict.specs.Dents.{Dented, dentOf}
 
 -- ---- refusals 1 to 8
@@ -59,7 +60,8 @@ link true f v s e rest = inr (record { refusal = f; some = s; early = e; answer 
 link false f v s e rest = rest refl
 
 -- The same link in the survey
-survey-link : {R : Type 0} {n : ℕ} (b : Bool) (f : Refusal) (c : Surveyed) (v : Verdict) → 0 < refusalFields f .number → refusalFields f .number ≤ n
+survey-link : {R : Type 0} {n : ℕ} (b : Bool) (f : Refusal) (c : Surveyed) (v : Verdict) → 0 < refusalFields f .number
+    → refusalFields f .number ≤ n
     → (b ≡ false → R ⊎ Early n (afterSurvey c v)) → R ⊎ Early n (afterSurvey (cond b (Stopped f) c) v)
 unfolding afterSurvey
 survey-link true f c v s e rest = inr (record { refusal = f; some = s; early = e; answer = refl })
@@ -104,7 +106,8 @@ module _ (o : Outline) where
       straight : Simple o → Reaches o ⊎ Early 8 (verdictOf o)
       straight h =
           rw (← survey-passed o h)
-          (link (ltb (backStepPiece (border o)) 4) (backStepIn (placeSent o) (border o) (backStepPiece (border o))) _ (lit< tt) (lit≤ tt) λ s.
+          (link (ltb (backStepPiece (border o)) 4) (backStepIn (placeSent o) (border o) (backStepPiece (border o))) _ (lit< tt) (lit≤ tt)
+          λ s.
           inl (record { simple = h; straight = s }))
 
   -- If the answer is none of 1 to 8, none of these applies
@@ -231,4 +234,5 @@ module _ (o : Outline) where
   edges-first buffer n a e =
       let k : TakenFacts n a = taken-facts n a (roomy (length buffer) n a e .verdict) in
       ap (take (2 * n)) (edges-after buffer n a e) ∙
-      take-at (edges (border o)) (drop (length (edges (border o))) buffer) (2 * n) (edges-length (border o) ∙ ap (λ (j : ℕ). 2 * j) (sym (k .count)))
+      take-at (edges (border o)) (drop (length (edges (border o))) buffer) (2 * n) (edges-length (border o)
+      ∙ ap (λ (j : ℕ). 2 * j) (sym (k .count)))

@@ -21,7 +21,8 @@ module _ {A : Type 0} where
   pub window-replicate : (a w n : ℕ) (x : A) → a + w ≤ n → window a w (replicate n x) ≡ replicate w x
   window-replicate a w n x h =
       let e : a + (w + (n - (a + w))) ≡ n = omega arith in
-      ap (λ (k : ℕ). window a w (replicate k x)) (sym e) ∙ ap (take w) (drop-replicate a (w + (n - (a + w))) x) ∙ take-replicate w (n - (a + w)) x
+      ap (λ (k : ℕ). window a w (replicate k x)) (sym e) ∙ ap (take w) (drop-replicate a (w + (n - (a + w))) x)
+      ∙ take-replicate w (n - (a + w)) x
 
   pub slots-replicate : (i n : ℕ) (x : A) → slotsFrom (λ (k : ℕ). x) i n ≡ replicate n x
   unfolding slotsFrom

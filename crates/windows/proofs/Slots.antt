@@ -6,7 +6,8 @@ use mathlib.Core.Path.{_≡_, refl, sym, ap, ap₂, _∙_}
 use mathlib.Core.Logic.{_⊎_, inl, inr, ⊎-elim}
 use mathlib.Core.List.{List, [], _∷_, _++_, append-assoc}
 use lib.ListN.{length, take, drop, getD, set}
-use lib.Seq.{take-set-le, take-set-lt, drop-set-lt, drop-set-add, take-nil, take-all, take-at, drop-at, take-append-le, take-take, drop-drop, length-take-le, paste, drop-paste}
+use lib.Seq.{take-set-le, take-set-lt, drop-set-lt, drop-set-add, take-nil, take-all, take-at, drop-at, take-append-le, take-take}
+use lib.Seq.{drop-drop, length-take-le, paste, drop-paste}
 use mathlib.Core.Bool.{Bool, true, false}
 use lib.Dec.{ltb}
 use borrow.Author.Tests.{ltb-true, ltb-false}
@@ -24,14 +25,16 @@ module _ {A : Type 0} where
   slots-below f g i (suc n) e = ap₂ _∷_ (e i (omega arith)) (slots-below f g (suc i) n (λ j l. e j (omega arith)))
 
   -- Two lists of values that differ in one place only
-  pub slots-set : (f g : ℕ → A) (i n k : ℕ) (v : A) → k < n → g (i + k) ≡ v → ((j : ℕ) → (j ≡ i + k → ⊥) → g j ≡ f j) → slotsFrom g i n ≡ set (slotsFrom f i n) k v
+  pub slots-set : (f g : ℕ → A) (i n k : ℕ) (v : A) → k < n → g (i + k) ≡ v → ((j : ℕ) → (j ≡ i + k → ⊥) → g j ≡ f j)
+      → slotsFrom g i n ≡ set (slotsFrom f i n) k v
   unfolding slotsFrom
   slots-set f g i zero k v l here others = absurd (omega arith)
   slots-set f g i (suc n) zero v l here others =
       ap₂ _∷_ (ap g (sym (add-zero i)) ∙ here) (slots-same f g (suc i) n (λ j m. others j (λ q. omega arith)))
   slots-set f g i (suc n) (suc k) v l here others =
       let shift : suc i + k ≡ i + suc k = omega arith in
-      ap₂ _∷_ (others i (λ q. omega arith)) (slots-set f g (suc i) n k v (omega arith) (ap g shift ∙ here) (λ j m. others j (λ q. m (omega arith))))
+      ap₂ _∷_ (others i (λ q. omega arith))
+      (slots-set f g (suc i) n k v (omega arith) (ap g shift ∙ here) (λ j m. others j (λ q. m (omega arith))))
 
   pub slots-at : (f : ℕ → A) (i n k : ℕ) (d : A) → k < n → getD (slotsFrom f i n) k d ≡ f (i + k)
   unfolding slotsFrom
@@ -49,7 +52,8 @@ module _ {A : Type 0} where
   pub window-after : (a w n : ℕ) (l : List A) (v : A) → a + w ≤ n → window a w (set l n v) ≡ window a w l
   window-after a w n l v h =
       let e : a + (n - a) ≡ n = add-sub-of-le (omega arith) in
-      ap (λ (m : ℕ). window a w (set l m v)) (sym e) ∙ ap (take w) (drop-set-add a l (n - a) v) ∙ take-set-le w (drop a l) (n - a) v (omega arith)
+      ap (λ (m : ℕ). window a w (set l m v)) (sym e) ∙ ap (take w) (drop-set-add a l (n - a) v)
+      ∙ take-set-le w (drop a l) (n - a) v (omega arith)
 
 -- ---- a copy into a list: the window that it fills, and the others
 
@@ -81,7 +85,8 @@ module _ {A : Type 0} where
         let e : at + n + (b - (at + n)) ≡ b = add-sub-of-le h in
         let same : drop (at + n) (paste d at s n) ≡ drop (at + n) d = drop-paste d at s n (omega arith) (omega arith) in
         ap (take w)
-        (ap (λ (m : ℕ). drop m (paste d at s n)) (sym e) ∙ sym (drop-drop (b - (at + n)) (at + n) (paste d at s n)) ∙ ap (drop (b - (at + n))) same
+        (ap (λ (m : ℕ). drop m (paste d at s n)) (sym e) ∙ sym (drop-drop (b - (at + n)) (at + n) (paste d at s n))
+        ∙ ap (drop (b - (at + n))) same
         ∙ drop-drop (b - (at + n)) (at + n) d
         ∙ ap (λ (m : ℕ). drop m d) e)
 

@@ -5,7 +5,8 @@ use Rattle.wire.specs.declared.Decoded.the-variants.{Nothing}
 use Rattle.wire.specs.Wire.{callOf}
 
 -- A number other than 0 to 8 is not a call
-pub callOf-none : (n p k x y : ℕ) → (n ≡ 0 → ⊥) → (n ≡ 1 → ⊥) → (n ≡ 2 → ⊥) → (n ≡ 3 → ⊥) → (n ≡ 4 → ⊥) → (n ≡ 5 → ⊥) → (n ≡ 6 → ⊥) → (n ≡ 7 → ⊥) → (n ≡ 8 → ⊥) → Nothing ≡ callOf n p k x y
+pub callOf-none : (n p k x y : ℕ) → (n ≡ 0 → ⊥) → (n ≡ 1 → ⊥) → (n ≡ 2 → ⊥) → (n ≡ 3 → ⊥) → (n ≡ 4 → ⊥) → (n ≡ 5 → ⊥) → (n ≡ 6 → ⊥)
+    → (n ≡ 7 → ⊥) → (n ≡ 8 → ⊥) → Nothing ≡ callOf n p k x y
 unfolding callOf
 callOf-none zero p k x y h0 h1 h2 h3 h4 h5 h6 h7 h8 = absurd (h0 refl)
 callOf-none (suc zero) p k x y h0 h1 h2 h3 h4 h5 h6 h7 h8 = absurd (h1 refl)

@@ -48,7 +48,8 @@ callOf (suc (suc (suc (suc (suc (suc (suc (suc (suc n))))))))) p k x y = Nothing
 unfoldable pub decoded : List ℕ → Decoded
 decoded s =
     cond (eqb (length s) callWidth)
-    (callOf (getD s 0 0) (getD s 1 0) (getD s 2 0) (long (getD s 3 0) (getD s 4 0) (getD s 5 0) (getD s 6 0)) (long (getD s 7 0) (getD s 8 0) (getD s 9 0) (getD s 10 0)))
+    (callOf (getD s 0 0) (getD s 1 0) (getD s 2 0) (long (getD s 3 0) (getD s 4 0) (getD s 5 0) (getD s 6 0))
+    (long (getD s 7 0) (getD s 8 0) (getD s 9 0) (getD s 10 0)))
     Nothing
 
 -- The call that is answered. Nothing if the reply does not fit into so many numbers

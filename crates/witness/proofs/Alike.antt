@@ -75,7 +75,12 @@ module _ (f g p q : ℕ → ℕ) (b t : ℕ) (begins : (r : ℕ) → r < t → f
                   rw (le-ltb c (f r) (omega arith), le-ltb c (g r) (omega arith), lt-ltb c (p r) k, lt-ltb c (q r) (omega arith))
                   (three-eq (first-alike r r l refl) (last-alike r r l refl) (last-alike r r l refl))
               | no k ↦
-                  rw (le-ltb c (f r) (omega arith), le-ltb c (g r) (omega arith), le-ltb c (p r) (omega arith), le-ltb c (q r) (omega arith))
+                  rw (
+                    le-ltb c (f r) (omega arith),
+                    le-ltb c (g r) (omega arith),
+                    le-ltb c (p r) (omega arith),
+                    le-ltb c (q r) (omega arith),
+                  )
                   (right-alike r h l (omega (arith, w .before)))
             ]
       ]

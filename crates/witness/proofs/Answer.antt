@@ -9,7 +9,8 @@ use mathlib.Core.List.{List}
 use lib.ListN.{length}
 use borrow.Author.Tests.{lt-ltb, le-ltb}
 use Rattle.chart.specs.declared.Refusal.{Refusal}
-use Rattle.chart.specs.declared.Refusal.the-variants.{Count, Start, Letter, Leaves, Unclosed, Touches, BackStep, Dent, Room, List as BadList, Cell, Directions}
+use Rattle.chart.specs.declared.Refusal.the-variants.{Count, Start, Letter, Leaves, Unclosed, Touches, BackStep, Dent, Room}
+use Rattle.chart.specs.declared.Refusal.the-variants.{List as BadList, Cell, Directions}
 use Rattle.chart.specs.Fields.{refusalFields}
 use Rattle.chart.specs.Outline.{Outline}
 use Rattle.lattice.specs.Refusals.{Simple}
@@ -21,7 +22,8 @@ use Rattle.survey.proofs.SurveyLaws.{survey-passed, survey-simple}
 use Rattle.witness.specs.declared.Witnessed.{Witnessed}
 use Rattle.witness.specs.declared.Witnessed.the-variants.{Found, None, Refused}
 use Rattle.witness.specs.Gap.{isMissing, lowestMissing, witnessOf}
-use Rattle.witness.specs.Witnessed.{sixNumbers, shownIn, pastSurvey, witnessedOf, witnessedFields, threeNumbers, shownAfter, cellsAfter}
+use Rattle.witness.specs.Witnessed.{sixNumbers, shownIn, pastSurvey, witnessedOf, witnessedFields, threeNumbers, shownAfter}
+use Rattle.witness.specs.Witnessed.{cellsAfter}
 use Rattle.witness.specs.Named.{cellIn, WitnessNamed}
 use Rattle.witness.proofs.Theorem.{missing-lowest, missing-none, witness-holds}
 

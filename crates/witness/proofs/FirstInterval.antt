@@ -26,7 +26,8 @@ use Rattle.completion.specs.parts.Sides.{alongRow, firstSide, lastSide, lowestC
 use Rattle.completion.proofs.HullRows.{Ends}
 use Rattle.completion.proofs.BlockEnds.{block-joined, ends}
 use Rattle.completion.proofs.Folds.{least-met, least-is-met}
-use Rattle.completion.proofs.Sides.{Side, along-cases, along-up, along-down, side-sent, side-read, first-side, last-side, lowest-corner, highest-corner}
+use Rattle.completion.proofs.Sides.{Side, along-cases, along-up, along-down, side-sent, side-read, first-side, last-side, lowest-corner}
+use Rattle.completion.proofs.Sides.{highest-corner}
 use Rattle.witness.specs.Gap.{secondSide}
 use Rattle.witness.proofs.Gap.{FirstRun}
 
@@ -50,7 +51,14 @@ module _ (o : Outline) (h : Simple o) where
   goes-on : (c r : ℕ) → block o c r ≡ true → (Side o r (suc c) → ⊥) → block o (suc c) r ≡ true
   goes-on c r e n =
       level-enclosed (clockwiseForm o) (at (suc c) r)
-      (omega (arith, enclosed-level (clockwiseForm o) (at c r) e, ups-jump-vertical (clockwiseForm o) (suc c) (suc r), downs-jump-vertical (clockwiseForm o) (suc c) (suc r), no-ups, no-downs))
+      (omega (
+        arith,
+        enclosed-level (clockwiseForm o) (at c r) e,
+        ups-jump-vertical (clockwiseForm o) (suc c) (suc r),
+        downs-jump-vertical (clockwiseForm o) (suc c) (suc r),
+        no-ups,
+        no-downs,
+      ))
     where
       no-ups : upsAt (clockwiseForm o) (suc c) (suc r) ≡ 0
       no-ups =
@@ -58,7 +66,13 @@ module _ (o : Outline) (h : Simple o) where
             | no k ↦ omega arith
             | yes k ↦
                 let (i, l, a, d, _) = ups-found (clockwiseForm o) (suc c) (suc r) k in
-                absurd (n (side-sent o h r (suc c) (record { place = i; below = l; passes = along-up r (cornerAt (clockwiseForm o) i) (letterAt (clockwiseForm o) i) a (row-is d ∙ omega arith); value = col-is d })))
+                absurd (n (side-sent o h r (suc c)
+                (record {
+                  place = i;
+                  below = l;
+                  passes = along-up r (cornerAt (clockwiseForm o) i) (letterAt (clockwiseForm o) i) a (row-is d ∙ omega arith);
+                  value = col-is d;
+                })))
           ]
 
       no-downs : downsAt (clockwiseForm o) (suc c) (suc r) ≡ 0
@@ -67,7 +81,13 @@ module _ (o : Outline) (h : Simple o) where
             | no k ↦ omega arith
             | yes k ↦
                 let (i, l, a, d) = downs-found (clockwiseForm o) (suc c) (suc r) k in
-                absurd (n (side-sent o h r (suc c) (record { place = i; below = l; passes = along-down r (cornerAt (clockwiseForm o) i) (letterAt (clockwiseForm o) i) a (row-is d); value = col-is d })))
+                absurd (n (side-sent o h r (suc c)
+                (record {
+                  place = i;
+                  below = l;
+                  passes = along-down r (cornerAt (clockwiseForm o) i) (letterAt (clockwiseForm o) i) a (row-is d);
+                  value = col-is d;
+                })))
           ]
 
   -- A side right of an enclosed cell runs down, and the cell after it is not enclosed
@@ -78,13 +98,16 @@ module _ (o : Outline) (h : Simple o) where
       let i = m .place in
       let p = cornerAt (clockwiseForm o) i in
       let a = letterAt (clockwiseForm o) i in
-      let k : Out (clockwiseForm o) (leftOf p a) = clockwise-left (clockwiseForm o) w (westPlace (clockwiseForm o)) lowest up i (m .below) in
+      let k : Out (clockwiseForm o) (leftOf p a) =
+      clockwise-left (clockwiseForm o) w (westPlace (clockwiseForm o)) lowest up i (m .below) in
       elim (along-cases r p a (m .passes)) [
         | inl (d, q) ↦
-            let cell : leftOf p a ≡ at (suc c) (suc r) = ap (leftOf p) d ∙ point-eq (at (p .col) (suc (p .row))) (at (suc c) (suc r)) (m .value) (ap suc q) in
+            let cell : leftOf p a ≡ at (suc c) (suc r) = ap (leftOf p) d
+            ∙ point-eq (at (p .col) (suc (p .row))) (at (suc c) (suc r)) (m .value) (ap suc q) in
             absurd (omega (arith, enclosed-level (clockwiseForm o) (at c r) e, subst (Out (clockwiseForm o)) cell k))
         | inr (d, q) ↦
-            let cell : leftOf p a ≡ at (suc (suc c)) (suc r) = ap (leftOf p) d ∙ point-eq (at (suc (p .col)) (p .row)) (at (suc (suc c)) (suc r)) (ap suc (m .value)) q in
+            let cell : leftOf p a ≡ at (suc (suc c)) (suc r) = ap (leftOf p) d
+            ∙ point-eq (at (suc (p .col)) (p .row)) (at (suc (suc c)) (suc r)) (ap suc (m .value)) q in
             level-open (clockwiseForm o) (at (suc c) r) (subst (Out (clockwiseForm o)) cell k)
       ]
 
@@ -92,8 +115,10 @@ module _ (o : Outline) (h : Simple o) where
 
   pub side-ends : Ends (block o) (firstSide o) (lastSide o) (lowestCorner o) (highestCorner o)
   side-ends =
-      subst₂ (λ (f g : ℕ → ℕ). Ends (block o) f g (lowestCorner o) (highestCorner o)) (λ i r. sym (first-side o h r) i) (λ i r. sym (last-side o h r) i)
-      (subst₂ (λ (m n : ℕ). Ends (block o) (firstCell (block o)) (pastCell (block o)) m n) (sym (lowest-corner o h)) (sym (highest-corner o h))
+      subst₂ (λ (f g : ℕ → ℕ). Ends (block o) f g (lowestCorner o) (highestCorner o)) (λ i r. sym (first-side o h r) i)
+      (λ i r. sym (last-side o h r) i)
+      (subst₂ (λ (m n : ℕ). Ends (block o) (firstCell (block o)) (pastCell (block o)) m n) (sym (lowest-corner o h))
+      (sym (highest-corner o h))
       (ends (block o) (block-joined o h)))
 
   abbrev beyond : ℕ → Point → ℕ → Bool
@@ -107,7 +132,12 @@ module _ (o : Outline) (h : Simple o) where
       let a = letterAt o (s .place) in
       let d : firstSide o r < p .col = omega (arith, s .value) in
       least-met (beyond r) (λ p. p .col) (o .start) (o .letters) side c
-      (record { place = s .place; below = s .below; passes = and-eq-true-iff (alongRow r p a) (ltb (firstSide o r) (p .col)) .1 (s .passes, lt-ltb (firstSide o r) (p .col) d); value = s .value })
+      (record {
+        place = s .place;
+        below = s .below;
+        passes = and-eq-true-iff (alongRow r p a) (ltb (firstSide o r) (p .col)) .1 (s .passes, lt-ltb (firstSide o r) (p .col) d);
+        value = s .value;
+      })
 
   second-met : (r : ℕ) → (secondSide o r ≡ side) ⊎ (Side o r (secondSide o r) × (firstSide o r < secondSide o r))
   unfolding secondSide
@@ -118,7 +148,10 @@ module _ (o : Outline) (h : Simple o) where
             let p = cornerAt o (s .place) in
             let a = letterAt o (s .place) in
             let both = and-eq-true-iff (alongRow r p a) (ltb (firstSide o r) (p .col)) .0 (s .passes) in
-            inr (record { place = s .place; below = s .below; passes = both .0; value = s .value }, omega (arith, ltb-true (firstSide o r) (p .col) (both .1), s .value))
+            inr (
+              record { place = s .place; below = s .below; passes = both .0; value = s .value },
+              omega (arith, ltb-true (firstSide o r) (p .col) (both .1), s .value),
+            )
       ]
 
   module _ (r : ℕ) (low : lowestCorner o ≤ r) (high : r < highestCorner o) where
@@ -139,7 +172,8 @@ module _ (o : Outline) (h : Simple o) where
         ∙ goes-on (firstSide o r + d) r (run-to d (omega arith)) (λ s. omega (arith, second-le r (suc (firstSide o r + d)) s (omega arith)))
 
     run-at : (c : ℕ) → firstSide o r ≤ c → c < secondSide o r → block o c r ≡ true
-    run-at c m l = let e : c ≡ firstSide o r + (c - firstSide o r) = omega arith in ap (λ (d : ℕ). block o d r) e ∙ run-to (c - firstSide o r) (omega arith)
+    run-at c m l = let e : c ≡ firstSide o r + (c - firstSide o r) = omega arith in
+        ap (λ (d : ℕ). block o d r) e ∙ run-to (c - firstSide o r) (omega arith)
 
     run-ended : block o (secondSide o r) r ≡ false
     run-ended = go (block o (secondSide o r) r) refl
@@ -151,7 +185,8 @@ module _ (o : Outline) (h : Simple o) where
               | inl e ↦ absurd (omega (arith, block-joined o h .on-chart (secondSide o r) r d))
               | inr (s, l) ↦
                   let e : secondSide o r ≡ suc (pred (secondSide o r)) = omega arith in
-                  ap (λ (c : ℕ). block o c r) e ∙ stops (pred (secondSide o r)) r (run-at (pred (secondSide o r)) (omega arith) (omega arith)) (subst (Side o r) e s)
+                  ap (λ (c : ℕ). block o c r) e
+                  ∙ stops (pred (secondSide o r)) r (run-at (pred (secondSide o r)) (omega arith) (omega arith)) (subst (Side o r) e s)
             ]
 
     pub first-run : FirstRun (block o) (firstSide o) (secondSide o) r

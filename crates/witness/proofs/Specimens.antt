@@ -23,11 +23,16 @@ use Rattle.witness.specs.Witnessed
 
 -- Opens the definitions for what follows
 opened : Bool
-unfolding Below.first Below.further Chart.step Enclosed.upAlong Enclosed.downAlong Search.asFarLeft Search.furthest Search.crossing HullRows.leftFrom HullRows.hullLeft HullRows.hullRight Sides.alongRow Sides.leastOver Sides.greatestOver Sides.firstSide Sides.lastSide Sides.lowestCorner Sides.highestCorner Three.edgeRow Three.lowerEnd Three.upperEnd Three.firstIn Three.lastIn Three.fromLeft Three.fromRight Three.fromRow Three.threeFor Gap.openColumn Gap.hasGap Gap.lowestRow Gap.lowestOpen Gap.secondSide Gap.isMissing Gap.lowestMissing Gap.witnessFor Gap.witnessOf
+unfolding Below.first Below.further Chart.step Enclosed.upAlong Enclosed.downAlong Search.asFarLeft Search.furthest Search.crossing
+    HullRows.leftFrom HullRows.hullLeft HullRows.hullRight Sides.alongRow Sides.leastOver Sides.greatestOver Sides.firstSide Sides.lastSide
+    Sides.lowestCorner Sides.highestCorner Three.edgeRow Three.lowerEnd Three.upperEnd Three.firstIn Three.lastIn Three.fromLeft
+    Three.fromRight Three.fromRow Three.threeFor Gap.openColumn Gap.hasGap Gap.lowestRow Gap.lowestOpen Gap.secondSide Gap.isMissing
+    Gap.lowestMissing Gap.witnessFor Gap.witnessOf
 opened = true
 
 called : Bool
-unfolding Witnessed.shownIn Witnessed.pastSurvey Witnessed.witnessedOf Witnessed.witnessedFields Witnessed.threeNumbers Witnessed.shownAfter Witnessed.cellsAfter
+unfolding Witnessed.shownIn Witnessed.pastSurvey Witnessed.witnessedOf Witnessed.witnessedFields Witnessed.threeNumbers Witnessed.shownAfter
+    Witnessed.cellsAfter
 called = true
 
 -- Some cell is missing: which one, and which three cells have it in their triangle
@@ -84,7 +89,8 @@ pub record Answers (o : Outline) (n : ℕ) (f : Fields) (after : List ℕ) : Typ
 
 -- H6 with a buffer of eight numbers and of five; H1, one cell; H8, which meets a corner twice
 h6-answer :
-    Answers (drawn (1 ∷ 1 ∷ 1 ∷ 0 ∷ 3 ∷ 3 ∷ 0 ∷ 0 ∷ 3 ∷ 2 ∷ 2 ∷ 2 ∷ [])) 8 (accepted no-word 0 (at 1 1)) (2 ∷ 0 ∷ 0 ∷ 2 ∷ 0 ∷ 1 ∷ 0 ∷ 0 ∷ [])
+    Answers (drawn (1 ∷ 1 ∷ 1 ∷ 0 ∷ 3 ∷ 3 ∷ 0 ∷ 0 ∷ 3 ∷ 2 ∷ 2 ∷ 2 ∷ [])) 8 (accepted no-word 0 (at 1 1))
+    (2 ∷ 0 ∷ 0 ∷ 2 ∷ 0 ∷ 1 ∷ 0 ∷ 0 ∷ [])
 unfolding opened computes called
 h6-answer = record { replied = refl; written = refl }
 

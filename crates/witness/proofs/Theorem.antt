@@ -39,12 +39,16 @@ module _ (o : Outline) (h : Simple o) where
   -- If the search finds a cell, it is the lowest missing one
   pub missing-lowest : isMissing o ≡ true → LowestMissing (block o) (lowestMissing o)
   unfolding isMissing lowestMissing
-  missing-lowest e = finds (block o) (firstSide o) (secondSide o) (lastSide o) (lowestCorner o) (highestCorner o) (side-ends o h) (first-run o h) (ltb-true row (highestCorner o) e)
+  missing-lowest e =
+      finds (block o) (firstSide o) (secondSide o) (lastSide o) (lowestCorner o) (highestCorner o) (side-ends o h) (first-run o h)
+      (ltb-true row (highestCorner o) e)
 
   -- If it finds none, none is missing
   pub missing-none : isMissing o ≡ false → Convex (block o)
   unfolding isMissing
-  missing-none e = none-missing (block o) (firstSide o) (secondSide o) (lastSide o) (lowestCorner o) (highestCorner o) (side-ends o h) (first-run o h) (ltb-false row (highestCorner o) e)
+  missing-none e =
+      none-missing (block o) (firstSide o) (secondSide o) (lastSide o) (lowestCorner o) (highestCorner o) (side-ends o h) (first-run o h)
+      (ltb-false row (highestCorner o) e)
 
   pub missing-iff : (isMissing o ≡ true) ↔ ((x : Point) × Missing (block o) x)
   missing-iff = ((λ e. (lowestMissing o, missing-lowest e .missing)), λ m. go (isMissing o) refl m)
@@ -86,7 +90,8 @@ module _ (o : Outline) (h : Simple o) where
 
 -- For an outline with a dent and no back-step, the search of refusal 9 finds the same cell
 pub missing-same : (o : Outline) → Reaches o → dentPiece (border o) < 4
-    → lowestMissing o ≡ missingCell (border o) (cornerAt (border o) (cornerPlace (border o) 3) .row) (cornerAt (border o) (cornerPlace (border o) 1) .row)
+    → lowestMissing o ≡ missingCell (border o) (cornerAt (border o) (cornerPlace (border o) 3) .row)
+    (cornerAt (border o) (cornerPlace (border o) 1) .row)
 missing-same o r d = lowest-is o (r .simple) _ (named-lowest o r d)
 
 -- ---- outlines of the same block, in either direction and from any start
@@ -99,5 +104,7 @@ module _ (o v : Outline) (h : Simple o) (k : Simple v) (same : SameCells o v) wh
   unfolding witnessFor
   witness-alike x =
       (λ i. threeFor (λ r. first-side o h r i) (λ r. last-side o h r i) (lowest-corner o h i) (highest-corner o h i) x)
-      ∙ (λ i. threeFor (firstCell (λ c r. same c r i)) (pastCell (λ c r. same c r i)) (firstRow (λ c r. same c r i)) (pastRow (λ c r. same c r i)) x)
-      ∙ (λ i. threeFor (λ r. sym (first-side v k r) i) (λ r. sym (last-side v k r) i) (sym (lowest-corner v k) i) (sym (highest-corner v k) i) x)
+      ∙ (λ i. threeFor (firstCell (λ c r. same c r i)) (pastCell (λ c r. same c r i)) (firstRow (λ c r. same c r i))
+      (pastRow (λ c r. same c r i)) x)
+      ∙ (λ i. threeFor (λ r. sym (first-side v k r) i) (λ r. sym (last-side v k r) i) (sym (lowest-corner v k) i)
+      (sym (highest-corner v k) i) x)

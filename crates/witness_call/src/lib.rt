@@ -33,7 +33,9 @@ fn put(a: Point, b: Point, d: Point, cells: &mut [u16])
 fn show(start: Point, letters: &[u8], cells: &mut [u16]) -> Witnessed
     requires { ⌜ Simple (outline start (now letters)) ⌝ }
     ensures answer { λ r. ⌜ r ≡ shownIn (length (now (cells .entry))) (outline start (now (letters .entry))) ⌝ }
-    ensures cells { λ r. ⌜ now (cells .exit) ≡ shownAfter (shownIn (length (now (cells .entry))) (outline start (now (letters .entry)))) (witnessOf (outline start (now (letters .entry)))) (now (cells .entry)) ⌝ }
+    ensures cells { λ r. ⌜ now (cells .exit)
+        ≡ shownAfter (shownIn (length (now (cells .entry))) (outline start (now (letters .entry))))
+        (witnessOf (outline start (now (letters .entry)))) (now (cells .entry)) ⌝ }
 {
     if cells.len() < SIX {
         return Witnessed::Refused(Refusal::List);
@@ -55,7 +57,8 @@ fn show(start: Point, letters: &[u8], cells: &mut [u16]) -> Witnessed
 pub fn witness(start: Point, letters: &[u8], cells: &mut [u16]) -> Witnessed
     ensures answer { λ r. ⌜ r ≡ witnessedOf (outline start (now (letters .entry))) (length (now (cells .entry))) ⌝ }
     ensures cells { λ r. ⌜ now (cells .exit) ≡ cellsAfter (outline start (now (letters .entry))) (now (cells .entry)) ⌝ }
-    ensures named { λ r. ⌜ WitnessNamed (outline start (now (letters .entry))) (witnessedFields r) (now (cells .entry)) (now (cells .exit)) ⌝ }
+    ensures named { λ r. ⌜ WitnessNamed (outline start (now (letters .entry))) (witnessedFields r) (now (cells .entry))
+        (now (cells .exit)) ⌝ }
 {
     let surveyed = survey::survey(start, letters);
     match surveyed {

@@ -55,7 +55,8 @@ module _ {lo hi : ℕ → ℕ} {i j k n c r : ℕ} {x a b d : Point} where
         three = rw (lt-ltb c (lo r) l) (cells (is-at a (lo i) i f) (is-at b (lo j) j g) (is-at d (lo r) r h));
       }
 
-  pub shows-row : lo r ≤ c → c < hi r → {p : ℕ} → p ≡ pred (hi r) → At x c r → At a (lo r) r → At b p r → At d p r → Shows lo hi i j k n c r true x a b d
+  pub shows-row : lo r ≤ c → c < hi r → {p : ℕ} → p ≡ pred (hi r) → At x c r → At a (lo r) r → At b p r → At d p r
+      → Shows lo hi i j k n c r true x a b d
   unfolding threeBy firstIn lastIn
   shows-row l m q e f g h =
       record {
@@ -66,7 +67,8 @@ module _ {lo hi : ℕ → ℕ} {i j k n c r : ℕ} {x a b d : Point} where
             (cells (is-at a (lo r) r f) (is-at b (pred (hi r)) r (g .0 ∙ q, g .1)) (is-at d (pred (hi r)) r (h .0 ∙ q, h .1)));
       }
 
-  pub shows-right : lo r ≤ c → hi r ≤ c → {p q u : ℕ} → p ≡ pred (hi k) → q ≡ pred (hi n) → u ≡ pred (hi r) → At x c r → At a p k → At b q n → At d u r → Shows lo hi i j k n c r true x a b d
+  pub shows-right : lo r ≤ c → hi r ≤ c → {p q u : ℕ} → p ≡ pred (hi k) → q ≡ pred (hi n) → u ≡ pred (hi r) → At x c r → At a p k → At b q n
+      → At d u r → Shows lo hi i j k n c r true x a b d
   unfolding threeBy firstIn lastIn
   shows-right l m s t v e f g h =
       record {
@@ -74,7 +76,8 @@ module _ {lo hi : ℕ → ℕ} {i j k n c r : ℕ} {x a b d : Point} where
         is-cell = is-at x c r e;
         three =
             rw (le-ltb c (lo r) l, le-ltb c (hi r) m)
-            (cells (is-at a (pred (hi k)) k (f .0 ∙ s, f .1)) (is-at b (pred (hi n)) n (g .0 ∙ t, g .1)) (is-at d (pred (hi r)) r (h .0 ∙ v, h .1)));
+            (cells (is-at a (pred (hi k)) k (f .0 ∙ s, f .1)) (is-at b (pred (hi n)) n (g .0 ∙ t, g .1))
+            (is-at d (pred (hi r)) r (h .0 ∙ v, h .1)));
       }
 
 -- ---- a current edge
@@ -87,7 +90,12 @@ module _ (f : ℕ → ℕ) (b t : ℕ) (two : suc b < t) where
     pub row : r < t → cond (leb r (nextRow f t i)) i (nextRow f t i) ≡ lowerEnd f b t r
 
   on-start : On b b
-  on-start = record { low = omega arith; high = two; row = λ l. rw (le-leb b (nextRow f t b) (omega (arith, furthest-furthest f b t two .above))) (sym (row-first f b t two)) }
+  on-start =
+      record {
+        low = omega arith;
+        high = two;
+        row = λ l. rw (le-leb b (nextRow f t b) (omega (arith, furthest-furthest f b t two .above))) (sym (row-first f b t two));
+      }
 
   on-next : (r i : ℕ) → b ≤ r → r < t → i ≡ lowerEnd f b t r → On i (r + 1)
   on-next r i h l e =
@@ -107,7 +115,8 @@ module _ (f : ℕ → ℕ) (b t : ℕ) (two : suc b < t) where
     pub starts : b ≤ i
 
   -- The next row of the table leads to it
-  module _ {next : ℕ → ℕ} {i r e : ℕ} (known : Tangents f next b t) (o : On i r) (h : b ≤ r) (l : r < t) (g : e ≡ cond (leb r (next i)) i (next i)) where
+  module _ {next : ℕ → ℕ} {i r e : ℕ} (known : Tangents f next b t) (o : On i r) (h : b ≤ r) (l : r < t)
+      (g : e ≡ cond (leb r (next i)) i (next i)) where
     is-lower : e ≡ lowerEnd f b t r
     is-lower = g ∙ ap (λ (z : ℕ). cond (leb r z) i z) (known .furthest-left i (o .low) (o .high)) ∙ o .row l
 
@@ -117,7 +126,8 @@ module _ (f : ℕ → ℕ) (b t : ℕ) (two : suc b < t) where
     pub edge-of : (j : ℕ) → j ≡ next e → Edge r e j
     edge-of j q =
         let s = row-spans f b t two r h l in
-        let d : j ≡ nextRow f t (lowerEnd f b t r) = q ∙ known .furthest-left e (edge-within .0) (edge-within .1) ∙ ap (nextRow f t) is-lower in
+        let d : j ≡ nextRow f t (lowerEnd f b t r) = q ∙ known .furthest-left e (edge-within .0) (edge-within .1)
+        ∙ ap (nextRow f t) is-lower in
         record {
           is-low = is-lower;
           is-high = d;
@@ -142,7 +152,14 @@ module _ (lo en hi m : ℕ → ℕ) (b t : ℕ) (two : suc b < t) (mirrors : (s 
     pub clear : (s : ℕ) → b ≤ s → s < r → hasGap lo en hi b t s ≡ false
 
   pub searching-start : Searching b b b
-  searching-start = record { low = omega arith; high = omega arith; left = on-start lo b t two; right = on-start m b t two; clear = λ s h l. absurd (omega arith) }
+  searching-start =
+      record {
+        low = omega arith;
+        high = omega arith;
+        left = on-start lo b t two;
+        right = on-start m b t two;
+        clear = λ s h l. absurd (omega arith);
+      }
 
   -- The edges across row r, the columns u and x where they cross it, and the column c to test
   pub record Across (r i j k n u x c : ℕ) : Type 0 where
@@ -160,11 +177,15 @@ module _ (lo en hi m : ℕ → ℕ) (b t : ℕ) (two : suc b < t) (mirrors : (s 
 
     opened : c ≡ openColumn lo en hi b t r
     unfolding openColumn
-    opened = a .is-column ∙ ap (λ (z : ℕ). cond (ltb z (lo r)) z (en r)) (edge-crosses lo b t two r i j u (a .low) (a .high) (a .left) (a .crosses-left))
+    opened = a .is-column
+        ∙ ap (λ (z : ℕ). cond (ltb z (lo r)) z (en r)) (edge-crosses lo b t two r i j u (a .low) (a .high) (a .left) (a .crosses-left))
 
     gap-is : (g : Bool) → g ≡ ltb c (side - x) → g ≡ hasGap lo en hi b t r
     unfolding hasGap hullRight
-    gap-is g e = e ∙ (λ z. ltb (opened z) (side - (edge-crosses m b t two r k n x (a .low) (a .high) (a .right) (a .crosses-right) ∙ left-same m mirrored b t mirrors two r (a .low) (a .high)) z))
+    gap-is g e =
+        e ∙ (λ z. ltb (opened z)
+        (side - (edge-crosses m b t two r k n x (a .low) (a .high) (a .right) (a .crosses-right)
+        ∙ left-same m mirrored b t mirrors two r (a .low) (a .high)) z))
 
     pub searching-next : ((s : ℕ) → b ≤ s → s < r → hasGap lo en hi b t s ≡ false) → ltb c (side - x) ≡ false → Searching i k (r + 1)
     searching-next clear g =
@@ -180,7 +201,9 @@ module _ (lo en hi m : ℕ → ℕ) (b t : ℕ) (two : suc b < t) (mirrors : (s 
     unfolding lowestRow
     lowest-row clear g =
         let d : b + (r - b) ≡ r = omega (arith, a .low) in
-        ap (λ (z : ℕ). b + z) (first-is (λ z. hasGap lo en hi b t (b + z)) (t - b) (r - b) (omega (arith, a .low, a .high)) (λ z q. clear (b + z) (omega arith) (omega arith)) (ap (hasGap lo en hi b t) d ∙ sym (gap-is _ refl) ∙ g)) ∙ d
+        ap (λ (z : ℕ). b + z)
+        (first-is (λ z. hasGap lo en hi b t (b + z)) (t - b) (r - b) (omega (arith, a .low, a .high))
+        (λ z q. clear (b + z) (omega arith) (omega arith)) (ap (hasGap lo en hi b t) d ∙ sym (gap-is _ refl) ∙ g)) ∙ d
 
     same-three : threeBy lo hi i j k n c r ≡ threeFor lo hi b t (at c r)
     unfolding threeBy threeFor fromLeft fromRight fromRow firstIn lastIn upperEnd
@@ -189,14 +212,17 @@ module _ (lo en hi m : ℕ → ℕ) (b t : ℕ) (two : suc b < t) (mirrors : (s 
         let q = a .right .is-high ∙ upper-same m mirrored b t mirrors two r (a .low) (a .high) in
         λ z. threeBy lo hi (a .left .is-low z) (a .left .is-high z) (p z) (q z) c r
 
-    pub answers-found : (found : Bool) (cell p q v : Point) → ((s : ℕ) → b ≤ s → s < r → hasGap lo en hi b t s ≡ false) → ltb c (side - x) ≡ true → Shows lo hi i j k n c r found cell p q v → Answers lo en hi b t found cell p q v
+    pub answers-found : (found : Bool) (cell p q v : Point) → ((s : ℕ) → b ≤ s → s < r → hasGap lo en hi b t s ≡ false)
+        → ltb c (side - x) ≡ true → Shows lo hi i j k n c r found cell p q v → Answers lo en hi b t found cell p q v
     unfolding lowestOpen
     answers-found found cell p q v clear g s =
         let e = lowest-row clear g in
         record {
           none = λ z. absurd (true≢false (sym (s .is-found) ∙ z));
           some = λ z. omega (arith, a .high);
-          lowest = λ z. s .is-cell ∙ point-eq (at c r) (at (openColumn lo en hi b t (lowestRow lo en hi b t)) (lowestRow lo en hi b t)) (opened ∙ ap (openColumn lo en hi b t) (sym e)) (sym e);
+          lowest = λ z. s .is-cell
+              ∙ point-eq (at c r) (at (openColumn lo en hi b t (lowestRow lo en hi b t)) (lowestRow lo en hi b t)) (opened
+              ∙ ap (openColumn lo en hi b t) (sym e)) (sym e);
           three = λ z. ap (threeFor lo hi b t) (s .is-cell) ∙ sym same-three ∙ s .three;
         }
 
@@ -204,4 +230,9 @@ module _ (lo en hi m : ℕ → ℕ) (b t : ℕ) (two : suc b < t) (mirrors : (s 
   unfolding lowestRow
   answers-none i k r l s cell p q v =
       let e = first-none (λ z. hasGap lo en hi b t (b + z)) (t - b) (λ z a. s .clear (b + z) (omega arith) (omega arith)) in
-      record { none = λ z. omega arith; some = λ z. absurd (true≢false (sym z)); lowest = λ z. absurd (true≢false (sym z)); three = λ z. absurd (true≢false (sym z)) }
+      record {
+        none = λ z. omega arith;
+        some = λ z. absurd (true≢false (sym z));
+        lowest = λ z. absurd (true≢false (sym z));
+        three = λ z. absurd (true≢false (sym z));
+      }

@@ -67,7 +67,11 @@ module _ (o : Outline) (h : Simple o) (lo en hi : List ℕ) (b t : ℕ) (p : Pas
       let f = first-run o h r (omega (arith, p .lowest)) (omega (arith, p .highest)) in
       let d = p .first r (inner r m) in
       let e = p .second r (inner r m) in
-      record { begun = omega (arith, f .begun); run = λ c x y. f .run c (omega arith) (omega arith); ended = ap (λ (c : ℕ). block o c r) e ∙ f .ended }
+      record {
+        begun = omega (arith, f .begun);
+        run = λ c x y. f .run c (omega arith) (omega arith);
+        ended = ap (λ (c : ℕ). block o c r) e ∙ f .ended;
+      }
 
   -- A cell of the hull has the same three cells from the arrays as from the sides
   three-sent : (x : Point) → InHull (block o) x → threeFor (rows lo) (rows hi) b t x ≡ witnessFor o x
@@ -80,10 +84,15 @@ module _ (o : Outline) (h : Simple o) (lo en hi : List ℕ) (b t : ℕ) (p : Pas
   pub found-of : (found : Bool) (x u v w : Point) → Answers (rows lo) (rows en) (rows hi) b t found x u v w → Finds o found x u v w
   unfolding witnessOf
   found-of found x u v w a =
-      let low : found ≡ true → LowestMissing (block o) x = λ e. subst (LowestMissing (block o)) (sym (a .lowest e)) (finds (block o) (rows lo) (rows en) (rows hi) b t array-ends array-runs (a .some e)) in
+      let low : found ≡ true
+      → LowestMissing (block o) x =
+      λ e. subst (LowestMissing (block o)) (sym (a .lowest e))
+      (finds (block o) (rows lo) (rows en) (rows hi) b t array-ends array-runs (a .some e)) in
       let here : found ≡ true → lowestMissing o ≡ x = λ e. lowest-is o h x (low e) in
       record {
-        missing = told found refl (λ e. missing-iff o h .1 (x, low e .missing)) (λ e. full-iff o h .1 (none-missing (block o) (rows lo) (rows en) (rows hi) b t array-ends array-runs (a .none e)));
+        missing =
+            told found refl (λ e. missing-iff o h .1 (x, low e .missing))
+            (λ e. full-iff o h .1 (none-missing (block o) (rows lo) (rows en) (rows hi) b t array-ends array-runs (a .none e)));
         lowest = λ e. sym (here e);
         three = λ e. ap (witnessFor o) (here e) ∙ sym (three-sent x (low e .missing .hull)) ∙ a .three e;
       }
@@ -93,8 +102,10 @@ module _ (o : Outline) (h : Simple o) (lo en hi : List ℕ) (b t : ℕ) (p : Pas
       told false e y n = e ∙ sym (n e)
 
 -- The rows of the corners under other names
-pub passed-at : (o : Outline) (lo en hi : List ℕ) (low high b t : ℕ) → b ≡ low → t ≡ high → Passed o lo en hi low high → Passed o lo en hi b t
-passed-at o lo en hi low high b t d e p = record { first = p .first; second = p .second; last = p .last; lowest = d ∙ p .lowest; highest = e ∙ p .highest }
+pub passed-at : (o : Outline) (lo en hi : List ℕ) (low high b t : ℕ) → b ≡ low → t ≡ high → Passed o lo en hi low high
+    → Passed o lo en hi b t
+passed-at o lo en hi low high b t d e p =
+    record { first = p .first; second = p .second; last = p .last; lowest = d ∙ p .lowest; highest = e ∙ p .highest }
 
 -- ---- one row
 
@@ -118,20 +129,29 @@ module _ (lo en hi : ℕ → ℕ) (b : ℕ) (fits : hi b ≤ side) (run : lo b <
   unfolding lowestRow
   single-none l found x u v w f =
       let e = first-none (λ z. hasGap lo en hi b (b + 1) (b + z)) (b + 1 - b) (λ z a. test-is z a ∙ le-ltb (en b) (hi b) l) in
-      record { none = λ z. omega arith; some = λ z. absurd (true≢false (sym z ∙ f)); lowest = λ z. absurd (true≢false (sym z ∙ f)); three = λ z. absurd (true≢false (sym z ∙ f)) }
+      record {
+        none = λ z. omega arith;
+        some = λ z. absurd (true≢false (sym z ∙ f));
+        lowest = λ z. absurd (true≢false (sym z ∙ f));
+        three = λ z. absurd (true≢false (sym z ∙ f));
+      }
 
   same : en b < hi b → threeFor lo hi b (b + 1) (at (en b) b) ≡ threeBy lo hi b b b b (en b) b
   unfolding threeFor threeBy fromRow firstIn lastIn
   same l = rw (le-ltb (en b) (lo b) (omega arith), lt-ltb (en b) (hi b) l) refl
 
-  pub single-found : en b < hi b → (found : Bool) (x u v w : Point) → Shows lo hi b b b b (en b) b found x u v w → Answers lo en hi b (b + 1) found x u v w
+  pub single-found : en b < hi b → (found : Bool) (x u v w : Point) → Shows lo hi b b b b (en b) b found x u v w
+      → Answers lo en hi b (b + 1) found x u v w
   unfolding lowestRow lowestOpen
   single-found l found x u v w s =
-      let e0 = first-is (λ z. hasGap lo en hi b (b + 1) (b + z)) (b + 1 - b) 0 (omega arith) (λ z a. absurd (omega arith)) (test-is 0 (omega arith) ∙ lt-ltb (en b) (hi b) l) in
+      let e0 =
+      first-is (λ z. hasGap lo en hi b (b + 1) (b + z)) (b + 1 - b) 0 (omega arith) (λ z a. absurd (omega arith))
+      (test-is 0 (omega arith) ∙ lt-ltb (en b) (hi b) l) in
       let e : b + first (λ z. hasGap lo en hi b (b + 1) (b + z)) (b + 1 - b) ≡ b = omega arith in
       record {
         none = λ z. absurd (true≢false (sym (s .is-found) ∙ z));
         some = λ z. omega arith;
-        lowest = λ z. s .is-cell ∙ point-eq (at (en b) b) (lowestOpen lo en hi b (b + 1)) (sym column-is ∙ ap (openColumn lo en hi b (b + 1)) (sym e)) (sym e);
+        lowest = λ z. s .is-cell
+            ∙ point-eq (at (en b) b) (lowestOpen lo en hi b (b + 1)) (sym column-is ∙ ap (openColumn lo en hi b (b + 1)) (sym e)) (sym e);
         three = λ z. ap (threeFor lo hi b (b + 1)) (s .is-cell) ∙ same l ∙ s .three;
       }

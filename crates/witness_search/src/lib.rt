@@ -119,7 +119,8 @@ pub fn search<'a>(
     t: usize,
 ) -> Shown
     requires { ⌜ (b + 1 < t) × (t ≤ side) ⌝ }
-    ensures { λ s. ⌜ Answers (rows (now (lo .entry))) (rows (now (en .entry))) (rows (now (hi .entry))) b t (s .found) (s .cell) (s .a) (s .b) (s .d) ⌝ }
+    ensures { λ s. ⌜ Answers (rows (now (lo .entry))) (rows (now (en .entry))) (rows (now (hi .entry))) b t (s .found) (s .cell) (s .a)
+        (s .b) (s .d) ⌝ }
 {
     let m = mirrored(hi);
     let left = tangents(lo, b, t);
@@ -167,7 +168,8 @@ fn nothing() -> Shown
 // For one row alone: a gap within it.
 fn single<'a>(lo: &'a [u16; 256], en: &'a [u16; 256], hi: &'a [u16; 256], b: usize) -> Shown
     requires { ⌜ (b < 256) × (rows (now hi) b ≤ side) × (rows (now lo) b < rows (now en) b) ⌝ }
-    ensures { λ s. ⌜ Answers (rows (now (lo .entry))) (rows (now (en .entry))) (rows (now (hi .entry))) b (b + 1) (s .found) (s .cell) (s .a) (s .b) (s .d) ⌝ }
+    ensures { λ s. ⌜ Answers (rows (now (lo .entry))) (rows (now (en .entry))) (rows (now (hi .entry))) b (b + 1) (s .found) (s .cell)
+        (s .a) (s .b) (s .d) ⌝ }
 {
     let c = en[b];
     if c < hi[b] {

@@ -6,7 +6,8 @@ use mathlib.Core.Logic.{_↔_}
 use mathlib.Core.Bool.{Bool, true, false, not, _&&_, Bool·beq}
 use mathlib.Core.List.{[], _∷_}
 use native.Mathlib.Decide.{decLe, decLt}
-use native.Mathlib.Nat.{zero-mul, suc-mul, mul-zero, mul-one, one-mul, mul-mod-right, mod-add-div, div-one, zero-div, mod-lt, mod-add-div', mul-le-mul-right}
+use native.Mathlib.Nat.{zero-mul, suc-mul, mul-zero, mul-one, one-mul, mul-mod-right, mod-add-div, div-one, zero-div, mod-lt, mod-add-div'}
+use native.Mathlib.Nat.{mul-le-mul-right}
 use native.Mathlib.Omega.{arith}
 use lib.ListN.{length, take, getD}
 use lib.Dec.{ltb, eqb}
@@ -52,7 +53,8 @@ coprime-iff k n pos = (to, from)
     to h (suc (suc i)) a b p q =
         let e : i + 2 ≡ suc (suc i) = omega arith in
         let t = every-at test (n - 1) h i (omega (arith, factor-le (suc (suc i)) b n q pos)) in
-        absurd (both-pass (k % (i + 2)) (n % (i + 2)) t (rw (e, ← p) (mul-mod-right (suc (suc i)) a)) (rw (e, ← q) (mul-mod-right (suc (suc i)) b)))
+        absurd (both-pass (k % (i + 2)) (n % (i + 2)) t (rw (e, ← p) (mul-mod-right (suc (suc i)) a))
+        (rw (e, ← q) (mul-mod-right (suc (suc i)) b)))
 
     from : ((d a b : ℕ) → d * a ≡ k → d * b ≡ n → d ≤ 1) → every test (n - 1) ≡ true
     from h =
@@ -151,11 +153,13 @@ coprime-pos (suc k) n l c = omega arith
 
 pub coprime-lt : (k n : ℕ) → 1 < n → k ≤ n → Coprime k n → k < n
 unfolding Coprime
-coprime-lt k n l h c = elim (decLt k n) [ yes s ↦ s | no s ↦ let e : n ≡ k = omega arith in absurd (omega (arith, c n 1 1 (mul-one n ∙ e) (mul-one n))) ]
+coprime-lt k n l h c =
+    elim (decLt k n) [ yes s ↦ s | no s ↦ let e : n ≡ k = omega arith in absurd (omega (arith, c n 1 1 (mul-one n ∙ e) (mul-one n))) ]
 
 -- If remainders are below n, order of numbers implies order of quotients
 quotient-le : (q r p s n : ℕ) → r + q * n ≤ s + p * n → s < n → q ≤ p
-quotient-le q r p s n e l = elim (decLe q p) [ yes h ↦ h | no h ↦ absurd (omega (arith, mul-le-mul-right {m = suc p} {n = q} n (omega arith))) ]
+quotient-le q r p s n e l =
+    elim (decLe q p) [ yes h ↦ h | no h ↦ absurd (omega (arith, mul-le-mul-right {m = suc p} {n = q} n (omega arith))) ]
 
 -- One step of k modulo n: the floor stays exactly if the remainder grows, and otherwise grows by one
 module _ (k n x : ℕ) (pos : 0 < k) (small : k < n) where

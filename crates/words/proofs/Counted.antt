@@ -6,7 +6,10 @@ use mathlib.Core.Logic.{_↔_}
 use mathlib.Core.Bool.{Bool, true, false, not, false≢true}
 use mathlib.Core.List.{List, [], _∷_, _++_, append-assoc}
 use native.Mathlib.Decide.{decLe}
-use native.Mathlib.Nat.{zero-add, suc-add, zero-mul, suc-mul, add-mul, mul-left-comm, mod-lt, mod-eq-of-lt, mod-add-mod, add-mul-mod-self-left, mul-add-mod-self-left, mul-lt-mul-of-pos-left, lt-of-mul-lt-mul-left, mul-zero, mul-one, one-mul, mul-add, mul-pos, mul-le-mul-left, le-of-mul-le-mul-left, zero-div, mul-mod-right, mod-add-div, le-dest, mul-div-cancel-left, eq-of-mul-eq-mul-right}
+use native.Mathlib.Nat.{zero-add, suc-add, zero-mul, suc-mul, add-mul, mul-left-comm, mod-lt, mod-eq-of-lt, mod-add-mod}
+use native.Mathlib.Nat.{add-mul-mod-self-left, mul-add-mod-self-left, mul-lt-mul-of-pos-left, lt-of-mul-lt-mul-left, mul-zero, mul-one}
+use native.Mathlib.Nat.{one-mul, mul-add, mul-pos, mul-le-mul-left, le-of-mul-le-mul-left, zero-div, mul-mod-right, mod-add-div, le-dest}
+use native.Mathlib.Nat.{mul-div-cancel-left, eq-of-mul-eq-mul-right}
 use native.Mathlib.Omega.{arith}
 use lib.ListN.{length, take, getD}
 use lib.Seq.{take-all}
@@ -108,7 +111,8 @@ module _ (k n : ℕ) (pos : 0 < k) (small : k < n) where
 
   made-laters : laters made ≡ k
   made-laters =
-      sym (ap laters (take-all n made (omega (arith, length-listed (countedLetter k n) n)))) ∙ prefix n (omega arith) ∙ mul-div-cancel-left k (omega arith)
+      sym (ap laters (take-all n made (omega (arith, length-listed (countedLetter k n) n)))) ∙ prefix n (omega arith)
+      ∙ mul-div-cancel-left k (omega arith)
 
   made-letters : Letters made k n
   made-letters = record { letter = λ i l. rw (letter-listed (countedLetter k n) n i l) (countedLetter-iff k n i) }
@@ -129,7 +133,8 @@ counted-longer a b l c =
     let many : laters w ≡ b = made-laters b n pos small in
     rw (christoffelWord-longer a b l)
     (record {
-      christoffel = longer {w = w} (omega arith) (rw (many, long) d) (rw (many, long) (remainders-letters w b n .1 (made-letters b n pos small)));
+      christoffel =
+          longer {w = w} (omega arith) (rw (many, long) d) (rw (many, long) (remainders-letters w b n .1 (made-letters b n pos small)));
       earlier = omega (arith, earliers-laters w);
       later = many;
     })
@@ -231,7 +236,8 @@ divides-times (suc g) x y t e (suc l) pos c p q =
     go (coprime-divides e (suc l) y x c even .0) (coprime-divides e (suc l) y x c even .1)
   where
     go : (u : ℕ) → y ≡ u * suc l → suc g ≤ t
-    go u h = factor-le (suc g) u t (eq-of-mul-eq-mul-right (suc l) (omega arith) (suc g * u) t (omega (arith, ap (λ (m : ℕ). suc g * m) h))) pos
+    go u h =
+        factor-le (suc g) u t (eq-of-mul-eq-mul-right (suc l) (omega arith) (suc g * u) t (omega (arith, ap (λ (m : ℕ). suc g * m) h))) pos
 
 pub common-times : (t e l : ℕ) → 0 < t → Coprime e l → common (t * e) (t * l) ≡ t
 common-times t e l pos c =
@@ -247,7 +253,11 @@ factor-edge f p c =
     let t = f .times in
     let w = f .word in
     let g : common (t * earliers w) (t * laters w) ≡ t = common-times t (earliers w) (laters w) (p .repeated) (coprime-counts w c) in
-    rw (g, mul-div-cancel-left (earliers w) (p .repeated), mul-div-cancel-left (laters w) (p .repeated)) (ap (copies t) (christoffel-counted w c))
+    rw (
+      g,
+      mul-div-cancel-left (earliers w) (p .repeated),
+      mul-div-cancel-left (laters w) (p .repeated),
+    ) (ap (copies t) (christoffel-counted w c))
 
 -- ---- the word of an edge has the edge's run and rise
 
@@ -291,7 +301,8 @@ copies-listed (suc g) n f again =
 mod-scaled : (g x n : ℕ) → 0 < g → 0 < n → g * x % (g * n) ≡ g * (x % n)
 mod-scaled g x n pos some =
     let e : g * x ≡ g * (x % n) + g * n * (x / n) = omega (arith, ap (λ (m : ℕ). g * m) (mod-add-div x n)) in
-    ap (λ (m : ℕ). m % (g * n)) e ∙ add-mul-mod-self-left (g * (x % n)) (g * n) (x / n) ∙ mod-eq-of-lt (mul-lt-mul-of-pos-left (mod-lt x some) pos)
+    ap (λ (m : ℕ). m % (g * n)) e ∙ add-mul-mod-self-left (g * (x % n)) (g * n) (x / n)
+    ∙ mod-eq-of-lt (mul-lt-mul-of-pos-left (mod-lt x some) pos)
 
 letter-again : (k n i : ℕ) → countedLetter k n (n + i) ≡ countedLetter k n i
 unfolding countedLetter
@@ -316,7 +327,8 @@ christoffelWord-rising zero (suc zero) h = refl
 christoffelWord-rising zero (suc (suc b)) h = christoffelWord-longer 0 (suc (suc b)) (omega arith)
 christoffelWord-rising (suc a) (suc b) h = christoffelWord-longer (suc a) (suc b) (omega arith)
 
-copies-rising : (g a b : ℕ) → 0 < g → 0 < b → copies g (christoffelWord a b) ≡ listed (countedLetter (g * b) (g * a + g * b)) (g * a + g * b)
+copies-rising : (g a b : ℕ) → 0 < g → 0 < b
+    → copies g (christoffelWord a b) ≡ listed (countedLetter (g * b) (g * a + g * b)) (g * a + g * b)
 copies-rising g a b pos some =
     let n = a + b in
     let e : g * n ≡ g * a + g * b = mul-add g a b in
@@ -354,4 +366,5 @@ pub edgesWord-append : (es fs : List (ℕ × ℕ)) → edgesWord (es ++ fs) ≡ 
 unfolding edgesWord
 edgesWord-append [] fs = refl
 edgesWord-append (e ∷ es) fs =
-    ap (λ (w : Word). edgeWord (e .0) (e .1) ++ w) (edgesWord-append es fs) ∙ sym (append-assoc (edgeWord (e .0) (e .1)) (edgesWord es) (edgesWord fs))
+    ap (λ (w : Word). edgeWord (e .0) (e .1) ++ w) (edgesWord-append es fs)
+    ∙ sym (append-assoc (edgeWord (e .0) (e .1)) (edgesWord es) (edgesWord fs))

@@ -86,7 +86,8 @@ pub laters-take-suc : (i : ℕ) (w : Word) → i < length w → laters (take (su
 laters-take-suc i w h = ap laters (take-suc w i false h) ∙ laters-append (take i w) (getD w i false ∷ [])
 
 -- The same if the letter is known
-pub earliers-next-earlier : (i : ℕ) (w : Word) → i < length w → getD w i false ≡ false → earliers (take (suc i) w) ≡ suc (earliers (take i w))
+pub earliers-next-earlier : (i : ℕ) (w : Word) → i < length w → getD w i false ≡ false
+    → earliers (take (suc i) w) ≡ suc (earliers (take i w))
 unfolding earliers
 earliers-next-earlier i w h e = omega (arith, rw e at (earliers-take-suc i w h))
 

@@ -1,7 +1,8 @@
 -- A word that is smaller than all its proper suffixes is a Christoffel word unless a lattice point straight above its path lies on or
 -- under its chord: each such suffix first rises no less than the word does.
 use Prim.Native.Nat.{ℕ, zero, suc, _+_, _*_, _/_, _≤_, _<_}
-use native.Mathlib.Nat.{add-zero, le-dest, le-refl, mul-le-mul-left, mul-le-mul-right, div-eq-of-lt-le, lt-of-not-le, lt-div-mul-add, lt-of-mul-lt-mul-left}
+use native.Mathlib.Nat.{add-zero, le-dest, le-refl, mul-le-mul-left, mul-le-mul-right, div-eq-of-lt-le, lt-of-not-le, lt-div-mul-add}
+use native.Mathlib.Nat.{lt-of-mul-lt-mul-left}
 use native.Mathlib.Decide.{decLe}
 use native.Mathlib.Omega.{arith}
 use mathlib.Core.Path.{_≡_, refl, sym, ap, _∙_, subst}
@@ -31,7 +32,8 @@ higher : (w : Word) → (Above w → ⊥) → (u x y : Word) → w ≡ x ++ fals
     → earliers (u ++ (x ++ true ∷ [])) * laters w < laters (u ++ (x ++ true ∷ [])) * earliers w
 unfolding earliers laters
 higher w flat u x y e h =
-    let up : earliers x * laters w < (laters x + 1) * earliers w = lt-of-not-le (λ k. flat (record { before = x; after = y; split = e; over = k })) in
+    let up : earliers x * laters w < (laters x + 1) * earliers w =
+    lt-of-not-le (λ k. flat (record { before = x; after = y; split = e; over = k })) in
     simp (earliers-append, laters-append) (omega arith)
 
 rejoin : (w u v x z : Word) → w ≡ u ++ v → v ≡ x ++ true ∷ z → w ≡ u ++ (x ++ true ∷ []) ++ z
@@ -57,7 +59,8 @@ never-over w lyn flat (suc n) u v hn e hu hv h =
     elim (decLe (length z) 0) [
       | yes k ↦ omega (arith, whole-on-chord w u′ z whole k)
       | no k ↦
-          never-over w lyn flat n u′ z (omega (arith, simp length-append at (ap length (d .right)))) whole (simp length-append (omega arith)) (lt-of-not-le k)
+          never-over w lyn flat n u′ z (omega (arith, simp length-append at (ap length (d .right)))) whole
+          (simp length-append (omega arith)) (lt-of-not-le k)
           (omega arith)
     ]
 
@@ -152,16 +155,20 @@ module _ (w : Word) (lyn : ByDiff w) (flat : Above w → ⊥) (long : 1 < length
 
   floor-low : (i : ℕ) → i ≤ length w → laters (take i w) * length w ≤ i * laters w
   floor-low i h =
-      under-lengths _ _ i _ _ (length w) (counts-take i w h) (earliers-laters w) (on-or-under (take i w) (drop i w) (sym (take-append-drop i w)))
+      under-lengths _ _ i _ _ (length w) (counts-take i w h) (earliers-laters w)
+      (on-or-under (take i w) (drop i w) (sym (take-append-drop i w)))
 
   floor-high : (i : ℕ) → i ≤ length w → i * laters w < (laters (take i w) + 1) * length w
   floor-high i h =
-      left-lengths _ _ i _ _ (length w) (counts-take i w h) (earliers-laters w) (left-over (take i w) (drop i w) (sym (take-append-drop i w)))
+      left-lengths _ _ i _ _ (length w) (counts-take i w h) (earliers-laters w)
+      (left-over (take i w) (drop i w) (sym (take-append-drop i w)))
 
   floor-strict : (i : ℕ) → 0 < i → i < length w → laters (take i w) * length w < i * laters w
   floor-strict i some h =
       let within : i ≤ length w = omega arith in
-      let under : laters (take i w) * earliers w < earliers (take i w) * laters w = strictly-under w lyn flat (take i w) (drop i w) (sym (take-append-drop i w)) (rw length-take-le some) (rw length-drop (omega arith)) in
+      let under : laters (take i w) * earliers w < earliers (take i w) * laters w =
+      strictly-under w lyn flat (take i w) (drop i w) (sym (take-append-drop i w)) (rw length-take-le some)
+      (rw length-drop (omega arith)) in
       strictly-under-lengths _ _ i _ _ (length w) (counts-take i w within) (earliers-laters w) under
 
   dent-floor : (i : ℕ) → i ≤ length w → laters (take i w) ≡ i * laters w / length w
@@ -195,7 +202,8 @@ floors-no-above w some floor a =
     let begins : take i w ≡ u = ap (take i) split ∙ take-at u (a .after) i long in
     let e : earliers (take i w) ≡ earliers (a .before) + 1 = ap earliers begins ∙ earliers-append (a .before) (false ∷ []) in
     let l : laters (take i w) ≡ laters (a .before) = ap laters begins ∙ laters-append (a .before) (false ∷ []) ∙ omega arith in
-    let high : i * laters w < (laters (take i w) + 1) * length w = omega (arith, lt-div-mul-add {a = i * laters w} some, ap (λ (k : ℕ). k * length w) (floor i (omega arith))) in
+    let high : i * laters w < (laters (take i w) + 1) * length w =
+    omega (arith, lt-div-mul-add {a = i * laters w} some, ap (λ (k : ℕ). k * length w) (floor i (omega arith))) in
     let left = left-of-lengths _ _ i _ _ (length w) (counts-take i w (omega arith)) (earliers-laters w) high in
     let left′ : (earliers (a .before) + 1) * laters w < (laters (a .before) + 1) * earliers w + laters w = rw (← e, ← l) left in
     omega (arith, a .over)
@@ -226,8 +234,10 @@ above-found : (w u v : Word) → w ≡ u ++ v → AboveFrom (earliers w) (laters
 unfolding AboveFrom earliers laters
 above-found w u [] e a = absurd a
 above-found w u (false ∷ v) e (inl h) = record { before = u; after = v; split = e; over = h }
-above-found w u (false ∷ v) e (inr a) = above-found w (u ++ false ∷ []) v (e ∙ simp append-assoc) (simp (earliers-append, laters-append, add-zero) a)
-above-found w u (true ∷ v) e a = above-found w (u ++ true ∷ []) v (e ∙ simp append-assoc) (simp (earliers-append, laters-append, add-zero) a)
+above-found w u (false ∷ v) e (inr a) =
+    above-found w (u ++ false ∷ []) v (e ∙ simp append-assoc) (simp (earliers-append, laters-append, add-zero) a)
+above-found w u (true ∷ v) e a =
+    above-found w (u ++ true ∷ []) v (e ∙ simp append-assoc) (simp (earliers-append, laters-append, add-zero) a)
 
 of-above : (w : Word) → Above w → AboveFrom (earliers w) (laters w) 0 0 w
 of-above w a =

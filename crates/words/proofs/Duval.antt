@@ -12,7 +12,8 @@ use mathlib.Core.List.{[], _∷_, _++_, append-assoc, append-nil}
 use lib.ListN.{length, length-append}
 use Rattle.words.specs.Word.{Word, Less, begins, differs, Differs, Begins}
 use Rattle.words.specs.Lyndon.{Lyndon, copies}
-use Rattle.words.proofs.Order.{Compared, lower, higher, shorter, longer, compared, less-asymm, less-append, differs-append, Cuts, inside, beyond, cuts}
+use Rattle.words.proofs.Order.{Compared, lower, higher, shorter, longer, compared, less-asymm, less-append, differs-append, Cuts}
+use Rattle.words.proofs.Order.{inside, beyond, cuts}
 use Rattle.words.proofs.Lyndon.{lyndon-differences, length-cut}
 use Rattle.words.proofs.Factors.{lyndon-lower, lyndon-join, Stops}
 
@@ -42,7 +43,8 @@ lyndon-raise {p} q y l e =
     -- t ++ false ∷ y is a suffix of p
     below : (u t : Word) → 0 < length u → q ≡ u ++ t → Differs p (t ++ false ∷ y)
     below u t hu f =
-        lyndon-lower l u (t ++ false ∷ y) (e ∙ ap (λ (w : Word). w ++ false ∷ y) f ∙ append-assoc u t (false ∷ y)) hu (omega (arith, length-append t (false ∷ y)))
+        lyndon-lower l u (t ++ false ∷ y) (e ∙ ap (λ (w : Word). w ++ false ∷ y) f
+        ∙ append-assoc u t (false ∷ y)) hu (omega (arith, length-append t (false ∷ y)))
 
     go : (u t : Word) → 0 < length u → q ≡ u ++ t → Compared q t → Differs (q ++ true ∷ []) (t ++ true ∷ [])
     go u t hu f (lower d) = differs-append (true ∷ []) (true ∷ []) d
@@ -50,7 +52,13 @@ lyndon-raise {p} q y l e =
     go u t hu f (shorter s g) = absurd (omega (arith, length-cut u t f, length-cut q s g))
     go u t hu f (longer [] g) = absurd (omega (arith, length-cut u t f, length-cut t [] g))
     go u t hu f (longer (false ∷ s) g) =
-        record { same = t; low = s ++ true ∷ []; high = []; left = ap (λ (w : Word). w ++ true ∷ []) g ∙ append-assoc t (false ∷ s) (true ∷ []); right = refl }
+        record {
+          same = t;
+          low = s ++ true ∷ [];
+          high = [];
+          left = ap (λ (w : Word). w ++ true ∷ []) g ∙ append-assoc t (false ∷ s) (true ∷ []);
+          right = refl;
+        }
     go u t hu f (longer (true ∷ s) g) =
         absurd
         (less-asymm (differs (below u t hu f))
@@ -65,7 +73,8 @@ lyndon-raise {p} q y l e =
 
     cut : (u v : Word) → 0 < length u → 0 < length v → Cuts q (true ∷ []) u v → Differs (q ++ true ∷ []) v
     cut u v hu hv (inside a t f g) = subst (λ (w : Word). Differs (q ++ true ∷ []) w) (sym g) (go u (a ∷ t) hu f (compared q (a ∷ t)))
-    cut u v hu hv (beyond [] f g) = subst (λ (w : Word). Differs (q ++ true ∷ []) w) g (go u [] hu (sym (append-nil u ∙ f ∙ append-nil q)) (compared q []))
+    cut u v hu hv (beyond [] f g) =
+        subst (λ (w : Word). Differs (q ++ true ∷ []) w) g (go u [] hu (sym (append-nil u ∙ f ∙ append-nil q)) (compared q []))
     cut u v hu hv (beyond (a ∷ t) f g) = absurd (omega (arith, length-cut (a ∷ t) v g))
 
 -- Copies of p followed by a larger Lyndon word: a Lyndon word larger than p
@@ -83,7 +92,8 @@ lyndon-larger m {p} q y l e =
 -- ---- (b) the same letter
 
 -- Either q with its next letter is still a proper prefix of p, or it is p, and there is one more copy
-pub step-same : (m : ℕ) {p : Word} (q : Word) (b : Bool) (y : Word) → p ≡ q ++ b ∷ y → Begins (q ++ b ∷ []) p ⊎ ((q ++ b ∷ [] ≡ p) × (copies m p ++ (q ++ b ∷ []) ≡ copies (suc m) p))
+pub step-same : (m : ℕ) {p : Word} (q : Word) (b : Bool) (y : Word) → p ≡ q ++ b ∷ y
+    → Begins (q ++ b ∷ []) p ⊎ ((q ++ b ∷ [] ≡ p) × (copies m p ++ (q ++ b ∷ []) ≡ copies (suc m) p))
 step-same m {p} q b [] e = inr (sym e, ap (λ (w : Word). copies m p ++ w) (sym e) ∙ copies-append m p)
 step-same m q b (c ∷ y) e = inl (record { next = c; rest = y; whole = e ∙ sym (append-assoc q (b ∷ []) (c ∷ y)) })
 

@@ -9,7 +9,8 @@ use mathlib.Core.List.{List, [], _∷_, _++_, append-assoc, append-nil, append-c
 use lib.ListN.{length, length-append}
 use Rattle.words.specs.Word.{Word, Less, begins, differs, Differs, less}
 use Rattle.words.specs.Lyndon.{Lyndon, Factor, copies, written, Proper, Falling, none, last, then, Factoring, same, push, factorsOf}
-use Rattle.words.proofs.Order.{less-iff, same-iff, less-trans, less-irrefl, less-asymm, compare-words, prefix-cases, differs-prepend, differs-append, differs-append-left, differs-trans, Cuts, inside, beyond, cuts}
+use Rattle.words.proofs.Order.{less-iff, same-iff, less-trans, less-irrefl, less-asymm, compare-words, prefix-cases, differs-prepend}
+use Rattle.words.proofs.Order.{differs-append, differs-append-left, differs-trans, Cuts, inside, beyond, cuts}
 use Rattle.words.proofs.Lyndon.{lyndon-differences, lyndon-single, length-cut}
 
 -- ---- joining Lyndon words
@@ -34,7 +35,8 @@ lyndon-join {u} {v} lu lv l =
     })
   where
     go : (x y : Word) → 0 < length x → 0 < length y → Cuts u v x y → Differs (u ++ v) y
-    go x y hx hy (inside a t e f) = subst (λ (w : Word). Differs (u ++ v) w) (sym f) (differs-append v v (lyndon-lower lu x (a ∷ t) e hx (omega arith)))
+    go x y hx hy (inside a t e f) =
+        subst (λ (w : Word). Differs (u ++ v) w) (sym f) (differs-append v v (lyndon-lower lu x (a ∷ t) e hx (omega arith)))
     go x y hx hy (beyond [] e f) = subst (λ (w : Word). Differs (u ++ v) w) f (differs-join lu lv l)
     go x y hx hy (beyond (a ∷ t) e f) = differs-trans (differs-join lu lv l) (lyndon-lower lv (a ∷ t) y f (omega arith) hy)
 
@@ -42,19 +44,23 @@ lyndon-join {u} {v} lu lv l =
 pub lyndon-join-copies : (k : ℕ) {u v : Word} → Lyndon u → Lyndon v → Less u v → Lyndon (u ++ copies k v)
 unfolding copies
 lyndon-join-copies zero {u} {v} lu lv l = rw append-nil lu
-lyndon-join-copies (suc k) {u} {v} lu lv l = rw (← append-assoc u v (copies k v)) (lyndon-join-copies k (lyndon-join lu lv l) lv (differs (differs-join lu lv l)))
+lyndon-join-copies (suc k) {u} {v} lu lv l =
+    rw (← append-assoc u v (copies k v)) (lyndon-join-copies k (lyndon-join lu lv l) lv (differs (differs-join lu lv l)))
 
 -- ---- a factorisation exists
 
-push-less : (s : Word) (f : Factor) (fs : List Factor) → less s (f .word) ≡ true → push s (f ∷ fs) ≡ push (s ++ copies (f .times) (f .word)) fs
+push-less : (s : Word) (f : Factor) (fs : List Factor) → less s (f .word) ≡ true
+    → push s (f ∷ fs) ≡ push (s ++ copies (f .times) (f .word)) fs
 unfolding push
 push-less s f fs e = rw (push, e)
 
-push-same : (s : Word) (f : Factor) (fs : List Factor) → less s (f .word) ≡ false → same s (f .word) ≡ true → push s (f ∷ fs) ≡ record { word = f .word; times = suc (f .times) } ∷ fs
+push-same : (s : Word) (f : Factor) (fs : List Factor) → less s (f .word) ≡ false → same s (f .word) ≡ true
+    → push s (f ∷ fs) ≡ record { word = f .word; times = suc (f .times) } ∷ fs
 unfolding push
 push-same s f fs e h = rw (push, e, h)
 
-push-first : (s : Word) (f : Factor) (fs : List Factor) → less s (f .word) ≡ false → same s (f .word) ≡ false → push s (f ∷ fs) ≡ record { word = s; times = 1 } ∷ f ∷ fs
+push-first : (s : Word) (f : Factor) (fs : List Factor) → less s (f .word) ≡ false → same s (f .word) ≡ false
+    → push s (f ∷ fs) ≡ record { word = s; times = 1 } ∷ f ∷ fs
 unfolding push
 push-first s f fs e h = rw (push, e, h)
 
@@ -76,7 +82,9 @@ falling-more {f} (then p l h) = then (proper-suc (f .times) (p .lyndon)) l h
 
 -- A word that is neither smaller nor equal is larger
 larger-of-tests : (u v : Word) → less u v ≡ false → same u v ≡ false → Less v u
-larger-of-tests u v e d = ⊎-elim (λ l. absurd (false≢true (sym e ∙ less-iff u v .1 l))) (⊎-elim (λ p. absurd (false≢true (sym d ∙ same-iff u v .1 p))) (λ l. l)) (compare-words u v)
+larger-of-tests u v e d =
+    ⊎-elim (λ l. absurd (false≢true (sym e ∙ less-iff u v .1 l))) (⊎-elim (λ p. absurd (false≢true (sym d ∙ same-iff u v .1 p))) (λ l. l))
+    (compare-words u v)
 
 -- A Lyndon word in front of a factorisation
 pub factoring-push : (fs : List Factor) (s : Word) → Lyndon s → Falling fs → Factoring (s ++ written fs) (push s fs)
@@ -97,7 +105,8 @@ factoring-push (f ∷ fs) s l h = go (less s (f .word)) (same s (f .word)) refl 
         rw (push-same s f fs e d)
         (record {
           falling = falling-more h;
-          whole = append-assoc (f .word) (copies (f .times) (f .word)) (written fs) ∙ ap (λ (w : Word). w ++ (copies (f .times) (f .word) ++ written fs)) (sym (same-iff s (f .word) .0 d));
+          whole = append-assoc (f .word) (copies (f .times) (f .word)) (written fs)
+              ∙ ap (λ (w : Word). w ++ (copies (f .times) (f .word) ++ written fs)) (sym (same-iff s (f .word) .0 d));
         })
     go false false e d ih =
         rw (push-first s f fs e d) (record { falling = then (proper-suc 0 l) (larger-of-tests s (f .word) e d) h; whole = simp append-nil })
@@ -107,7 +116,8 @@ unfolding factorsOf written
 factors-exist [] = record { falling = none; whole = refl }
 factors-exist (a ∷ w) =
     let f : Factoring w (factorsOf w) = factors-exist w in
-    subst (λ (v : Word). Factoring (a ∷ v) (push (a ∷ []) (factorsOf w))) (f .whole) (factoring-push (factorsOf w) (a ∷ []) (lyndon-single a) (f .falling))
+    subst (λ (v : Word). Factoring (a ∷ v) (push (a ∷ []) (factorsOf w))) (f .whole)
+    (factoring-push (factorsOf w) (a ∷ []) (lyndon-single a) (f .falling))
 
 -- ---- there is only one
 
@@ -150,24 +160,35 @@ ends-copies :
     → Ends g h
 unfolding copies
 ends-copies zero p r h m rest g t e some = rest g t e some
-ends-copies (suc k) p r h m rest g t e some = go (cuts p (copies k p ++ r) g t (sym (append-assoc p (copies k p) r) ∙ e)) (ends-copies k p r h m rest)
+ends-copies (suc k) p r h m rest g t e some =
+    go (cuts p (copies k p ++ r) g t (sym (append-assoc p (copies k p) r) ∙ e)) (ends-copies k p r h m rest)
   where
     go : Cuts p (copies k p ++ r) g t → ((x z : Word) → copies k p ++ r ≡ x ++ z → 0 < length x → Ends x h) → Ends g h
     go (inside a z f d) ih = record { before = []; part = g; whole = refl; some = some; small = at-most-trans (prefix-cases (a ∷ z) f) m }
     go (beyond [] f d) ih = record { before = []; part = g; whole = refl; some = some; small = at-most-trans (inl (f ∙ append-nil p)) m }
     go (beyond (a ∷ z) f d) ih =
         let i : Ends (a ∷ z) h = ih (a ∷ z) t d (omega arith) in
-        record { before = p ++ i .before; part = i .part; whole = f ∙ ap (λ (w : Word). p ++ w) (i .whole) ∙ sym (append-assoc p (i .before) (i .part)); some = i .some; small = i .small }
+        record {
+          before = p ++ i .before;
+          part = i .part;
+          whole = f ∙ ap (λ (w : Word). p ++ w) (i .whole) ∙ sym (append-assoc p (i .before) (i .part));
+          some = i .some;
+          small = i .small;
+        }
 
-ends-falling : {f : Factor} {fs : List Factor} → Falling (f ∷ fs) → (h : Word) → AtMost (f .word) h → (g t : Word) → written (f ∷ fs) ≡ g ++ t → 0 < length g → Ends g h
+ends-falling : {f : Factor} {fs : List Factor} → Falling (f ∷ fs) → (h : Word) → AtMost (f .word) h → (g t : Word)
+    → written (f ∷ fs) ≡ g ++ t → 0 < length g → Ends g h
 unfolding written
 ends-falling {f} (last p) h m = ends-copies (f .times) (f .word) [] h m (λ g t e some. absurd (omega (arith, length-cut g t e)))
-ends-falling {f} (then {g = f′} {fs} p l k) h m = ends-copies (f .times) (f .word) (written (f′ ∷ fs)) h m (ends-falling k h (inr (less-of-less-of-at-most l m)))
+ends-falling {f} (then {g = f′} {fs} p l k) h m =
+    ends-copies (f .times) (f .word) (written (f′ ∷ fs)) h m (ends-falling k h (inr (less-of-less-of-at-most l m)))
 
 -- The first factor is the largest Lyndon prefix: a longer one would have a suffix that
 -- is at most the first factor, and so smaller than itself
-pub first-largest : {f : Factor} {fs : List Factor} → Falling (f ∷ fs) → (g t : Word) → Lyndon g → written (f ∷ fs) ≡ g ++ t → AtMost g (f .word)
-first-largest {f} {fs} h g t l e = let i : Ends g (f .word) = ends-falling h (f .word) (inl refl) g t e (l .some) in go (i .before) (i .part) (i .whole) (i .some) (i .small)
+pub first-largest : {f : Factor} {fs : List Factor} → Falling (f ∷ fs) → (g t : Word) → Lyndon g → written (f ∷ fs) ≡ g ++ t
+    → AtMost g (f .word)
+first-largest {f} {fs} h g t l e = let i : Ends g (f .word) = ends-falling h (f .word) (inl refl) g t e (l .some) in
+    go (i .before) (i .part) (i .whole) (i .some) (i .small)
   where
     go : (x s : Word) → g ≡ x ++ s → 0 < length s → AtMost s (f .word) → AtMost g (f .word)
     go [] s d some m = at-most-trans (inl d) m
@@ -206,7 +227,8 @@ copies-unique (suc k) (suc m) p r s hr hs e =
     (ap suc (i .0), i .1)
 
 -- Of two factorisations of a word, each first factor is at most the other
-first-at-most : {f g : Factor} {fs gs : List Factor} → Falling (f ∷ fs) → Falling (g ∷ gs) → written (f ∷ fs) ≡ written (g ∷ gs) → AtMost (g .word) (f .word)
+first-at-most : {f g : Factor} {fs gs : List Factor} → Falling (f ∷ fs) → Falling (g ∷ gs) → written (f ∷ fs) ≡ written (g ∷ gs)
+    → AtMost (g .word) (f .word)
 first-at-most {f} {g} hf hg e = let w = written-first hg in first-largest hf (g .word) (w .0) (falling-head hg .lyndon) (e ∙ w .1)
 
 falling-some : {f : Factor} {fs : List Factor} → Falling (f ∷ fs) → written (f ∷ fs) ≡ [] → ⊥
@@ -220,7 +242,8 @@ falling-unique (f ∷ fs) [] hf hg e = absurd (falling-some hf e)
 falling-unique (f ∷ fs) (g ∷ gs) hf hg e =
     let p : f .word ≡ g .word = at-most-antisymm (first-at-most hg hf (sym e)) (first-at-most hf hg e) in
     let c : (f .times ≡ g .times) × (written fs ≡ written gs) =
-    copies-unique (f .times) (g .times) (f .word) (written fs) (written gs) (not-once-more hf) (λ t d. not-once-more hg t (d ∙ ap (λ (w : Word). w ++ t) p))
+    copies-unique (f .times) (g .times) (f .word) (written fs) (written gs) (not-once-more hf)
+    (λ t d. not-once-more hg t (d ∙ ap (λ (w : Word). w ++ t) p))
     (e ∙ ap (λ (w : Word). copies (g .times) w ++ written gs) (sym p))
     in
     let q : fs ≡ gs = falling-unique fs gs (falling-tail hf) (falling-tail hg) (c .1) in
@@ -239,13 +262,15 @@ abbrev pub Stops : Word → Word → Type 0
 Stops p r = Less r p
 
 -- Then the first factor of r, a prefix of r, is smaller than p too
-falling-before : {p : Word} {k : ℕ} (fs : List Factor) → Lyndon p → 0 < k → Stops p (written fs) → Falling fs → Falling (record { word = p; times = k } ∷ fs)
+falling-before : {p : Word} {k : ℕ} (fs : List Factor) → Lyndon p → 0 < k → Stops p (written fs) → Falling fs
+    → Falling (record { word = p; times = k } ∷ fs)
 falling-before [] l some s h = last (record { lyndon = l; repeated = some })
 falling-before (f ∷ fs) l some s h =
     let w = written-first h in
     then (record { lyndon = l; repeated = some }) (less-of-at-most-of-less (prefix-cases (w .0) (w .1)) s) h
 
-pub factors-first : (p r : Word) (k : ℕ) → Lyndon p → 0 < k → Stops p r → factorsOf (copies k p ++ r) ≡ record { word = p; times = k } ∷ factorsOf r
+pub factors-first : (p r : Word) (k : ℕ) → Lyndon p → 0 < k → Stops p r
+    → factorsOf (copies k p ++ r) ≡ record { word = p; times = k } ∷ factorsOf r
 unfolding written
 factors-first p r k l some s =
     let f : Factoring r (factorsOf r) = factors-exist r in

@@ -41,7 +41,8 @@ first-letter [] h = absurd (omega arith)
 first-letter (a ∷ u) h = (a, u, refl)
 
 -- One or more copies of a Lyndon word, and nothing else
-read-copies : {w : Word} {i j : ℕ} (p : Word) (m : ℕ) → Lyndon p → 0 < m → take j w ≡ copies m p → i + length p ≡ j → j ≤ length w → Read w i j
+read-copies : {w : Word} {i j : ℕ} (p : Word) (m : ℕ) → Lyndon p → 0 < m → take j w ≡ copies m p → i + length p ≡ j → j ≤ length w
+    → Read w i j
 read-copies p m l some f g h =
     let a = first-letter p (l .some) in
     record {
@@ -68,7 +69,8 @@ module _ {w : Word} {i j : ℕ} (r : Read w i j) where
   -- The letters read, and the rest
   read-whole : w ≡ copies (r .times) (r .word) ++ (r .begun ++ drop j w)
   read-whole =
-      sym (take-append-drop j w) ∙ ap (λ (u : Word). u ++ drop j w) (r .front) ∙ append-assoc (copies (r .times) (r .word)) (r .begun) (drop j w)
+      sym (take-append-drop j w) ∙ ap (λ (u : Word). u ++ drop j w) (r .front)
+      ∙ append-assoc (copies (r .times) (r .word)) (r .begun) (drop j w)
 
   read-length : j ≡ r .times * length (r .word) + length (r .begun)
   read-length =
@@ -94,7 +96,8 @@ letter-back (suc k) {p} q b y t i h e g = ap (λ (u : Word). getD u i false) cut
   where
     cut : copies (suc k) p ++ t ≡ (copies k p ++ q) ++ b ∷ (y ++ t)
     cut =
-        ap (λ (u : Word). u ++ t) (sym (copies-append k p) ∙ ap (λ (u : Word). copies k p ++ u) e ∙ sym (append-assoc (copies k p) q (b ∷ y)))
+        ap (λ (u : Word). u ++ t) (sym (copies-append k p) ∙ ap (λ (u : Word). copies k p ++ u) e
+        ∙ sym (append-assoc (copies k p) q (b ∷ y)))
         ∙ append-assoc (copies k p ++ q) (b ∷ y) t
 
     here : length (copies k p ++ q) ≡ i
@@ -110,7 +113,8 @@ module _ {w : Word} {i j : ℕ} (r : Read w i j) where
   pub read-letter : getD w i false ≡ r .next
   read-letter =
       ap (λ (u : Word). getD u i false) (read-whole r)
-      ∙ letter-back (r .times) (r .begun) (r .next) (r .rest) (r .begun ++ drop j w) i (r .some) (r .proper) (omega (arith, r .gap, read-length r))
+      ∙ letter-back (r .times) (r .begun) (r .next) (r .rest) (r .begun ++ drop j w) i (r .some) (r .proper)
+      (omega (arith, r .gap, read-length r))
 
   -- With letter j read too
   read-more : j < length w → take (suc j) w ≡ copies (r .times) (r .word) ++ (r .begun ++ getD w j false ∷ [])
@@ -142,7 +146,8 @@ module _ {w : Word} {i j : ℕ} (r : Read w i j) where
             within = h;
           }
 
-      whole : (r .begun ++ r .next ∷ [] ≡ r .word) × (copies (r .times) (r .word) ++ (r .begun ++ r .next ∷ []) ≡ copies (suc (r .times)) (r .word)) → Read w (suc i) (suc j)
+      whole : (r .begun ++ r .next ∷ [] ≡ r .word)
+          × (copies (r .times) (r .word) ++ (r .begun ++ r .next ∷ []) ≡ copies (suc (r .times)) (r .word)) → Read w (suc i) (suc j)
       whole s = read-copies (r .word) (suc (r .times)) (r .lyndon) (omega arith) (front ∙ s .1) (omega (arith, r .gap)) h
 
   -- A larger letter: everything read is one Lyndon word
@@ -153,7 +158,8 @@ module _ {w : Word} {i j : ℕ} (r : Read w i j) where
       lyndon-larger (r .times) (r .begun) (r .rest) (r .lyndon) (rw (← e, read-letter) (r .proper))
       in
       let p : take (suc j) w ≡ copies (r .times) (r .word) ++ (r .begun ++ true ∷ []) = rw f at (read-more h) in
-      read-copies (take (suc j) w) 1 (rw p l) (omega arith) (sym (append-nil (take (suc j) w))) (omega (arith, length-take-le (suc j) w h)) h
+      read-copies (take (suc j) w) 1 (rw p l) (omega arith) (sym (append-nil (take (suc j) w))) (omega (arith, length-take-le (suc j) w h))
+      h
 
   -- One period is the prefix of j - i letters
   read-period : take (j - i) w ≡ r .word
@@ -169,7 +175,8 @@ module _ {w : Word} {i j : ℕ} (r : Read w i j) where
   unfolding firstOf
   found s =
       let p : j - i ≡ length (r .word) = omega (arith, r .gap) in
-      let m : j / length (r .word) ≡ r .times = div-eq-of-lt-le (length (r .word)) (omega (arith, read-length r)) (omega (arith, read-length r, begun-lt r)) in
+      let m : j / length (r .word) ≡ r .times =
+      div-eq-of-lt-le (length (r .word)) (omega (arith, read-length r)) (omega (arith, read-length r, begun-lt r)) in
       let f : factorsOf w ≡ record { word = r .word; times = r .times } ∷ factorsOf (r .begun ++ drop j w) =
       ap factorsOf (read-whole r) ∙ factors-first (r .word) (r .begun ++ drop j w) (r .times) (r .lyndon) (r .some) s
       in
@@ -226,7 +233,8 @@ rank-le true = omega arith
 length-after : (l : List ℕ) (from later : ℕ) → length (wordOf later (drop from l)) ≡ length l - from
 length-after l from later = length-wordOf later (drop from l) ∙ length-drop from l
 
-letter-after : (l : List ℕ) (from later i : ℕ) → from ≤ i → i < length l → getD (wordOf later (drop from l)) (i - from) false ≡ eqb (getD l i 0) later
+letter-after : (l : List ℕ) (from later i : ℕ) → from ≤ i → i < length l
+    → getD (wordOf later (drop from l)) (i - from) false ≡ eqb (getD l i 0) later
 letter-after l from later i p h =
     let e : from + (i - from) ≡ i = omega arith in
     letter-wordOf later (drop from l) (i - from) (omega (arith, length-drop from l))
@@ -242,17 +250,24 @@ laters-after :
     (l : List ℕ) (from later j : ℕ)
     → from ≤ j
     → j < length l
-    → laters (take (j + 1 - from) (wordOf later (drop from l))) ≡ laters (take (j - from) (wordOf later (drop from l))) + rankOf (getD l j 0) later
+    → laters (take (j + 1 - from) (wordOf later (drop from l)))
+    ≡ laters (take (j - from) (wordOf later (drop from l))) + rankOf (getD l j 0) later
 laters-after l from later j p h =
     let w = wordOf later (drop from l) in
     let e : j + 1 - from ≡ suc (j - from) = omega arith in
-    rw (e, laters-take-suc (j - from) w (omega (arith, length-after l from later)), letter-after l from later j p h, laters-one (eqb (getD l j 0) later))
+    rw (
+      e,
+      laters-take-suc (j - from) w (omega (arith, length-after l from later)),
+      letter-after l from later j p h,
+      laters-one (eqb (getD l j 0) later),
+    )
 
 read-at : {w : Word} {i j i′ j′ : ℕ} → i ≡ i′ → j ≡ j′ → Read w i j → Read w i′ j′
 read-at p q r = rw (← p, ← q) r
 
 pub search-start :
-    (l : List ℕ) (from later : ℕ) → from < length l → Search l from later from (from + 1) (rankOf (getD l from 0) later) (rankOf (getD l from 0) later)
+    (l : List ℕ) (from later : ℕ) → from < length l
+    → Search l from later from (from + 1) (rankOf (getD l from 0) later) (rankOf (getD l from 0) later)
 unfolding laters
 search-start l from later h =
     let none : from - from ≡ 0 = omega arith in
@@ -324,7 +339,9 @@ module _ {l : List ℕ} {from later i j all one : ℕ} (s : Search l from later 
         few = few-more;
         whole = more h;
         period = rw d (s .period);
-        read = read-at (omega (arith, s .start)) (omega (arith, s .start, s .ahead)) (read-same (s .read) (inside h) (here ∙ p ∙ sym (there h)));
+        read =
+            read-at (omega (arith, s .start)) (omega (arith, s .start, s .ahead))
+            (read-same (s .read) (inside h) (here ∙ p ∙ sym (there h)));
       }
 
   -- The answer when the search stops
@@ -339,7 +356,8 @@ module _ {l : List ℕ} {from later i j all one : ℕ} (s : Search l from later 
   answer e = let d : j - from - (i - from) ≡ j - i = omega (arith, s .start, s .ahead) in rw (s .period) (sym (rw d at e))
 
   pub search-end :
-      length l ≤ j → record { length = j - i; times = (j - from) / (j - i); laters = one } ≡ firstOf (factorsOf (wordOf later (drop from l)))
+      length l ≤ j → record { length = j - i; times = (j - from) / (j - i); laters = one }
+      ≡ firstOf (factorsOf (wordOf later (drop from l)))
   search-end h = answer (found-at-end (s .read) (omega (arith, length-after l from later)))
 
   search-smaller :
@@ -378,6 +396,7 @@ module _ {l : List ℕ} {from later i j all one : ℕ} (s : Search l from later 
 
 -- After the list's end there are no letters
 pub search-none :
-    (l : List ℕ) (from later : ℕ) → length l ≤ from → record { length = 0; times = 0; laters = 0 } ≡ firstOf (factorsOf (wordOf later (drop from l)))
+    (l : List ℕ) (from later : ℕ) → length l ≤ from
+    → record { length = 0; times = 0; laters = 0 } ≡ firstOf (factorsOf (wordOf later (drop from l)))
 unfolding wordOf factorsOf firstOf
 search-none l from later h = rw (drop-of-length-le l h)

@@ -10,7 +10,8 @@ use lib.ListN.{length, take, drop, length-append, length-drop, take-append-drop}
 use lib.Seq.{length-take-le, take-append-seam, drop-append-seam}
 use Rattle.words.specs.Word.{Word, Less, differs, Differs}
 use Rattle.words.specs.Lyndon.{Lyndon, rotation}
-use Rattle.words.proofs.Order.{Compared, lower, higher, shorter, longer, compared, less-asymm, less-cancel, differs-append, differs-append-left, differs-append-right, differs-of-less}
+use Rattle.words.proofs.Order.{Compared, lower, higher, shorter, longer, compared, less-asymm, less-cancel, differs-append}
+use Rattle.words.proofs.Order.{differs-append-left, differs-append-right, differs-of-less}
 
 -- Smaller than each of its proper suffixes
 pub record BySuffixes (w : Word) : Type 0 where
@@ -32,7 +33,9 @@ unfolding rotation
 rotation-append u v = simp (take-append-seam, drop-append-seam)
 
 pub less-rotation : {w : Word} (u v : Word) → Lyndon w → w ≡ u ++ v → 0 < length u → 0 < length v → Less w (v ++ u)
-less-rotation {w} u v l e hu hv = subst (λ (x : Word). Less w x) (ap (rotation (length u)) e ∙ rotation-append u v) (l .least (length u) hu (omega (arith, length-cut u v e)))
+less-rotation {w} u v l e hu hv =
+    subst (λ (x : Word). Less w x) (ap (rotation (length u)) e
+    ∙ rotation-append u v) (l .least (length u) hu (omega (arith, length-cut u v e)))
 
 differences-of-lyndon : (w : Word) → Lyndon w → ByDifferences w
 differences-of-lyndon w l = record { some = l .some; lower = λ u v e hu hv. go u v e hu hv (compared w v) }
@@ -44,7 +47,9 @@ differences-of-lyndon w l = record { some = l .some; lower = λ u v e hu hv. go 
     go u v e hu hv (longer t f) = absurd (less-asymm uv<tv (differs (differs-append v v t<u)))
       where
         t<u : Differs t u
-        t<u = differs-of-less (less-cancel v t u .0 (subst (λ (x : Word). Less x (v ++ u)) f (less-rotation u v l e hu hv))) (omega (arith, length-cut u v e, length-cut v t f))
+        t<u =
+            differs-of-less (less-cancel v t u .0 (subst (λ (x : Word). Less x (v ++ u)) f (less-rotation u v l e hu hv)))
+            (omega (arith, length-cut u v e, length-cut v t f))
 
         uv<tv : Less (u ++ v) (t ++ v)
         uv<tv = subst (λ (x : Word). Less x (t ++ v)) e (less-rotation v t l f hv (omega (arith, length-cut u v e, length-cut v t f)))
@@ -59,7 +64,8 @@ lyndon-of-suffixes w b = record { some = b .some; least = λ i h k. differs (dif
     cut : (i : ℕ) → 0 < i → i < length w → Differs w (drop i w)
     cut i h k =
         differs-of-less
-        (b .smaller (take i w) (drop i w) (sym (take-append-drop i w)) (omega (arith, length-take-le i w (omega arith))) (omega (arith, length-drop i w)))
+        (b .smaller (take i w) (drop i w) (sym (take-append-drop i w)) (omega (arith, length-take-le i w (omega arith)))
+        (omega (arith, length-drop i w)))
         (omega (arith, length-drop i w))
 
 -- Smaller than every other rotation, and smaller than every proper suffix, are equivalent

@@ -1,7 +1,8 @@
 -- The Christoffel test in one pass: the remainder of i·k is updated in steps of k, and k and n have a common divisor exactly if a
 -- remainder before the last is 0.
 use Prim.Native.Nat.{ℕ, zero, suc, _+_, _-_, _*_, _/_, _%_, _≤_, _<_}
-use native.Mathlib.Nat.{zero-mul, suc-mul, mul-zero, mul-assoc, mul-comm, zero-mod, mod-lt, mod-eq-of-lt, mod-eq-sub-mod, mod-add-mod, mul-mod-left, mod-add-div', mul-le-mul-right}
+use native.Mathlib.Nat.{zero-mul, suc-mul, mul-zero, mul-assoc, mul-comm, zero-mod, mod-lt, mod-eq-of-lt, mod-eq-sub-mod, mod-add-mod}
+use native.Mathlib.Nat.{mul-mod-left, mod-add-div', mul-le-mul-right}
 use native.Mathlib.Numerals.{add-one}
 use native.Mathlib.Decide.{decLe}
 use native.Mathlib.Omega.{arith}
@@ -102,7 +103,8 @@ module _ {l : List ℕ} {later k i r : ℕ} (s : Walked l later k i r) where
   remainder-next : (r + k) % length l ≡ suc i * k % length l
   remainder-next = rw (s .remainder, mod-add-mod (i * k) (length l) k, suc-mul)
 
-  fits-next : (next : ℕ) → i < length l → next ≡ (r + k) % length l → fits (wordOf later l) k (length l) i ≡ not (Bool·beq (eqb (getD l i 0) later) (ltb r next))
+  fits-next : (next : ℕ) → i < length l → next ≡ (r + k) % length l
+      → fits (wordOf later l) k (length l) i ≡ not (Bool·beq (eqb (getD l i 0) later) (ltb r next))
   fits-next next h e =
       rw (letter-wordOf later l i h, ← s .remainder, ← remainder-next, ← e) (beq-not (eqb (getD l i 0) later) (ltb r next))
 
@@ -118,7 +120,8 @@ module _ {l : List ℕ} {later k i r : ℕ} (s : Walked l later k i r) where
         small = rw e (mod-lt (r + k) {m = length l} (omega arith));
         remainder = rw add-one (e ∙ remainder-next);
         letters = λ j p. elim (below-suc j i (omega arith)) [ inl d ↦ rw d (fits-next next h e ∙ ap not f) | inr q ↦ s .letters j q ];
-        apart = λ j m p q. elim (below-suc j i (omega arith)) [ inl d ↦ z (omega arith) (s .remainder ∙ rw d at q) | inr t ↦ s .apart j m t q ];
+        apart =
+            λ j m p q. elim (below-suc j i (omega arith)) [ inl d ↦ z (omega arith) (s .remainder ∙ rw d at q) | inr t ↦ s .apart j m t q ];
       }
 
   -- A letter that fails
@@ -130,7 +133,8 @@ module _ {l : List ℕ} {later k i r : ℕ} (s : Walked l later k i r) where
       → false ≡ (coprime k (length l) && remainders (wordOf later l) k (length l))
   unfolding remainders
   walked-misfit next h e f =
-      rw (every-false (fits (wordOf later l) k (length l)) (length l) i h (fits-next next h e ∙ ap not f)) (sym (and-false (coprime k (length l))))
+      rw (every-false (fits (wordOf later l) k (length l)) (length l) i h (fits-next next h e ∙ ap not f))
+      (sym (and-false (coprime k (length l))))
 
   -- A remainder 0 before the last
   pub walked-zero : i < length l → 0 < i → r ≡ 0 → false ≡ (coprime k (length l) && remainders (wordOf later l) k (length l))
@@ -162,5 +166,6 @@ christoffel-tests (a ∷ b ∷ w) h = refl
 pub christoffel-long :
     (later : ℕ) (l : List ℕ)
     → 2 ≤ length l
-    → (coprime (laters (wordOf later l)) (length l) && remainders (wordOf later l) (laters (wordOf later l)) (length l)) ≡ christoffel (wordOf later l)
+    → (coprime (laters (wordOf later l)) (length l) && remainders (wordOf later l) (laters (wordOf later l)) (length l))
+    ≡ christoffel (wordOf later l)
 christoffel-long later l h = rw (← length-wordOf later l) (christoffel-tests (wordOf later l) (omega (arith, length-wordOf later l)))

@@ -5,7 +5,8 @@ use mathlib.Core.Path.{_≡_, refl, sym, ap, _∙_}
 use mathlib.Core.Bool.{Bool, true, false}
 use mathlib.Core.List.{[], _∷_, _++_}
 use native.Mathlib.Decide.{decLt}
-use native.Mathlib.Nat.{add-zero, mul-le-mul-right, mul-lt-mul-of-pos-right, lt-of-mul-lt-mul-left, lt-of-mul-lt-mul-right, le-div-iff-mul-le, div-mul-le-self, lt-div-mul-add}
+use native.Mathlib.Nat.{add-zero, mul-le-mul-right, mul-lt-mul-of-pos-right, lt-of-mul-lt-mul-left, lt-of-mul-lt-mul-right}
+use native.Mathlib.Nat.{le-div-iff-mul-le, div-mul-le-self, lt-div-mul-add}
 use native.Mathlib.Omega.{arith}
 use lib.ListN.{length, take, drop, length-append, length-drop}
 use lib.Seq.{take-append-le, take-append-add, take-append-seam, take-length}
@@ -30,7 +31,8 @@ floor-strict w f i pos less =
     elim (decLt (laters (take i w) * length w) (i * laters w)) [
       | yes h ↦ h
       | no h ↦
-          absurd (coprime-no-multiple (laters w) (length w) i (laters (take i w)) (f .coprime) pos less (omega (arith, floor-le w f i (omega arith))))
+          absurd (coprime-no-multiple (laters w) (length w) i (laters (take i w)) (f .coprime) pos less
+          (omega (arith, floor-le w f i (omega arith))))
     ]
 
 -- The same in terms of the two letters: the prefix has i letters and the word n
@@ -59,7 +61,8 @@ slope-of-lengths u v h =
 
 -- The prefix up to a letter, and with that letter
 count-at : (s t : Word) (a : Bool) (w : Word) → w ≡ s ++ a ∷ t → laters (take (length s + 1) w) ≡ laters s + laters (a ∷ [])
-count-at s t a w e = ap (λ (x : Word). laters (take (length s + 1) x)) e ∙ ap laters (take-append-add s (a ∷ t) 1) ∙ laters-append s (a ∷ [])
+count-at s t a w e = ap (λ (x : Word). laters (take (length s + 1) x)) e ∙ ap laters (take-append-add s (a ∷ t) 1)
+    ∙ laters-append s (a ∷ [])
 
 length-at : (s t : Word) (a : Bool) (w : Word) → w ≡ s ++ a ∷ t → length s + 1 ≤ length w
 length-at s t a w e = omega (arith, ap length e, length-append s (a ∷ t))
@@ -110,7 +113,8 @@ less-cons a u v (differs d) =
     })
 
 -- A word is smaller if none of its prefixes has more later letters, and one has fewer
-pub less-of-counts : (m : ℕ) (u v : Word) → ((j : ℕ) → j ≤ m → laters (take j u) ≤ laters (take j v)) → laters (take m u) < laters (take m v) → Less u v
+pub less-of-counts : (m : ℕ) (u v : Word) → ((j : ℕ) → j ≤ m → laters (take j u) ≤ laters (take j v))
+    → laters (take m u) < laters (take m v) → Less u v
 unfolding laters
 less-of-counts zero u v h l = absurd (omega arith)
 less-of-counts (suc m) u [] h l = absurd (omega arith)

@@ -59,7 +59,8 @@ module _ (w : Word) (f : Factor) (fs : List Factor) (e : factorsOf w ≡ f ∷ f
       ∙ drop-at (copies (f .times) (f .word)) (written fs) (f .times * length (f .word)) (length-copies (f .times) (f .word))
 
   pub first-within : f .times * length (f .word) ≤ length w
-  first-within = omega (arith, ap length whole, length-append (copies (f .times) (f .word)) (written fs), length-copies (f .times) (f .word))
+  first-within =
+      omega (arith, ap length whole, length-append (copies (f .times) (f .word)) (written fs), length-copies (f .times) (f .word))
 
   -- The other factors are those of the rest
   pub factors-rest : fs ≡ factorsOf (drop (f .times * length (f .word)) w)
@@ -73,7 +74,8 @@ module _ (w : Word) (f : Factor) (fs : List Factor) (e : factorsOf w ≡ f ∷ f
       sym (ap (λ (u : Word). take (length (f .word)) u) (sym (factoring .whole) ∙ t .1) ∙ take-append-seam (f .word) (t .0))
 
   pub first-length : length (f .word) ≤ length w
-  first-length = let t = written-first (factoring .falling) in omega (arith, ap length (sym (factoring .whole) ∙ t .1), length-append (f .word) (t .0))
+  first-length = let t = written-first (factoring .falling) in
+      omega (arith, ap length (sym (factoring .whole) ∙ t .1), length-append (f .word) (t .0))
 
 -- ---- in a list of letters, from an index on
 
@@ -91,7 +93,8 @@ pub record Step (l : List ℕ) (at later : ℕ) (r : JudgedFactor) : Type 0 wher
   pub copy : first .word ≡ wordOf later (take (r .length) (drop at l))
   pub factors : factorsOf (wordOf later (drop at l)) ≡ first ∷ factorsOf (wordOf later (drop (at + r .times * r .length) l))
 
-step-of : (l : List ℕ) (at later : ℕ) (f : Factor) (fs : List Factor) → at < length l → factorsOf (wordOf later (drop at l)) ≡ f ∷ fs → Step l at later (judge f)
+step-of : (l : List ℕ) (at later : ℕ) (f : Factor) (fs : List Factor) → at < length l → factorsOf (wordOf later (drop at l)) ≡ f ∷ fs
+    → Step l at later (judge f)
 step-of l at later f fs h e =
     let w = wordOf later (drop at l) in
     let size = f .times * length (f .word) in
@@ -106,17 +109,22 @@ step-of l at later f fs h e =
       ahead = omega (arith, first-some w f fs e, mul-le-mul-right (length (f .word)) (first-repeated w f fs e));
       within = omega (arith, first-within w f fs e, length-wordOf later (drop at l), length-drop at l);
       copy = first-word w f fs e ∙ sym (wordOf-take later (length (f .word)) (drop at l));
-      factors = e ∙ ap (λ (gs : List Factor). f ∷ gs) (factors-rest w f fs e ∙ ap factorsOf (sym (wordOf-drop later size (drop at l)) ∙ ap (wordOf later) (drop-drop size at l)));
+      factors =
+          e ∙ ap (λ (gs : List Factor). f ∷ gs) (factors-rest w f fs e
+          ∙ ap factorsOf (sym (wordOf-drop later size (drop at l)) ∙ ap (wordOf later) (drop-drop size at l)));
     }
 
-pub step-at : (l : List ℕ) (at later : ℕ) → at < length l → {r : JudgedFactor} → r ≡ judged (factorsOf (wordOf later (drop at l))) → Step l at later r
+pub step-at : (l : List ℕ) (at later : ℕ) → at < length l → {r : JudgedFactor} → r ≡ judged (factorsOf (wordOf later (drop at l)))
+    → Step l at later r
 unfolding judged
 step-at l at later h e =
     let d = factors-head (wordOf later (drop at l)) (omega (arith, length-wordOf later (drop at l), length-drop at l)) in
-    subst (λ (r : JudgedFactor). Step l at later r) (sym (e ∙ ap judged (d .factors))) (step-of l at later (d .first) (d .others) h (d .factors))
+    subst (λ (r : JudgedFactor). Step l at later r) (sym (e ∙ ap judged (d .factors)))
+    (step-of l at later (d .first) (d .others) h (d .factors))
 
 -- At the end of the list there is no factor
-pub judged-none : (l : List ℕ) (at later : ℕ) → length l ≤ at → record { length = 0; times = 0; laters = 0; christoffel = false } ≡ judged (factorsOf (wordOf later (drop at l)))
+pub judged-none : (l : List ℕ) (at later : ℕ) → length l ≤ at
+    → record { length = 0; times = 0; laters = 0; christoffel = false } ≡ judged (factorsOf (wordOf later (drop at l)))
 unfolding wordOf factorsOf judged
 judged-none l at later h = rw (drop-of-length-le l h)
 

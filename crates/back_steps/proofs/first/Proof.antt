@@ -10,7 +10,8 @@ use borrow.Author.Tests.{ltb-true, ltb-false}
 use Rattle.convexity.specs.Pieces.{rounds}
 use Rattle.back_steps.specs.parts.BackSteps.{Within}
 use Rattle.pieces.proofs.LaidLaws.{length-rounds}
-use Rattle.back_steps.proofs.BackStepLaws.{Searched, searched-start, InPiece, searched-next, searched-found, searched-end, searched-off, part-length}
+use Rattle.back_steps.proofs.BackStepLaws.{Searched, searched-start, InPiece, searched-next, searched-found, searched-end}
+use Rattle.back_steps.proofs.BackStepLaws.{searched-off, part-length}
 use Rattle.back_steps.proofs.first.Statement.{statement}
 use Rattle.back_steps.proofs.first.Tie as tie
 
@@ -49,7 +50,8 @@ returns c =
     let n = length-rounds (a .letters .now) in
     searched-off (rounds (a .letters .now)) (a .cuts .at) k (search needs)
     (λ rises within.
-    ⊎-elim (λ w. omega (arith, w .taken)) (λ w. omega (arith, ltb-true (4 * length (a .letters .now)) (getD (a .cuts .at) (k + 1) 0) (w .1 .taken))) (c .if1 .came))
+    ⊎-elim (λ w. omega (arith, w .taken))
+    (λ w. omega (arith, ltb-true (4 * length (a .letters .now)) (getD (a .cuts .at) (k + 1) 0) (w .1 .taken))) (c .if1 .came))
 
 -- After the test the piece lies in the letters read cyclically
 module _ (c : tie.Else2 Inv-loop μ-loop) where
@@ -63,14 +65,20 @@ module _ (c : tie.Else2 Inv-loop μ-loop) where
   letters = c .before .before .before .before .before .before .args .letters .now
 
   lies : Within (getD at k 0) (getD at (k + 1) 0) letters
-  lies = record { short = c .before .before .before .before .before .before .pre; rises = c .before .if1 .left; round = ltb-false _ _ (c .if2 .left) }
+  lies =
+      record {
+        short = c .before .before .before .before .before .before .pre;
+        rises = c .before .if1 .left;
+        round = ltb-false _ _ (c .if2 .left);
+      }
 
 straight-for-requires : tie.Need-straight-for-requires Inv-loop μ-loop
 straight-for-requires c κs = lies c
 
 -- The search in one piece
 here : (c : tie.After-straight-for Inv-loop μ-loop)
-    → InPiece (rounds (letters (c .before))) (at (c .before)) (k (c .before)) (getD (at (c .before)) (k (c .before)) 0) (getD (at (c .before)) (k (c .before) + 1) 0) (c .straight-for .result)
+    → InPiece (rounds (letters (c .before))) (at (c .before)) (k (c .before)) (getD (at (c .before)) (k (c .before)) 0)
+    (getD (at (c .before)) (k (c .before) + 1) 0) (c .straight-for .result)
 here c =
     let l = lies (c .before) in
     record {

@@ -40,12 +40,14 @@ loop-again c =
     let at = iteration .before in
     let f = at .before .pair-at .ensures in (
       omega (arith, iteration .loop-test .taken),
-      λ e. passed-next (at .loop .inv .1 (or-left (at .loop .found) _ e)) (iteration .loop-test .taken) (sym (back-step-is f _) ∙ or-right (at .loop .found) _ e),
+      λ e. passed-next (at .loop .inv .1 (or-left (at .loop .found) _ e)) (iteration .loop-test .taken) (sym (back-step-is f _)
+          ∙ or-right (at .loop .found) _ e),
     )
 
 returns : tie.Need-returns Inv-loop μ-loop
 returns c e =
-    let all : length (c .before .before .before .before .args .piece .now) ≡ c .before .loop .i = omega (arith, c .before .loop .inv .0, c .loop-test .left) in
+    let all : length (c .before .before .before .before .args .piece .now) ≡ c .before .loop .i =
+    omega (arith, c .before .loop .inv .0, c .loop-test .left) in
     all ∙ passed-end (c .before .loop .inv .1 e) (c .loop-test .left)
 
 pub some-back-step-spec : {M : Type 1} → statement M

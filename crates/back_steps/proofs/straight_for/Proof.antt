@@ -33,7 +33,8 @@ returns-2 c =
     let inside = c .before .before .before in
     let start = inside .before .before in
     let once = part-once (start .pre) (inside .if1 .left) in
-    sym (part-length (start .pre)) ∙ ap length (sym once) ∙ c .before .some-back-step .ensures (c .if2 .left) ∙ ap (straightFor (start .args .k)) once
+    sym (part-length (start .pre)) ∙ ap length (sym once) ∙ c .before .some-back-step .ensures (c .if2 .left)
+    ∙ ap (straightFor (start .args .k)) once
 
 pub straight-for-spec : {M : Type 1} → statement M
 straight-for-spec =

@@ -19,7 +19,8 @@ listed c = sym (c .before .bad-list .ensures) ∙ c .if1 .left
 anchored : (c : tie.Else2) → badCell (c .before .before .before .before .before .args .anchor) ≡ false
 anchored c = sym (c .before .bad-cell .ensures) ∙ c .if2 .left
 
-turned : (c : tie.After-bad-directions) → c .bad-directions .result ≡ badDirections (c .before .before .before .before .before .before .args .edges .now)
+turned : (c : tie.After-bad-directions)
+    → c .bad-directions .result ≡ badDirections (c .before .before .before .before .before .before .args .edges .now)
 turned c = c .bad-directions .ensures ∙ turning-short _ (short-list _ (listed (c .before .before .before)))
 
 returns : tie.Need-returns
@@ -29,7 +30,8 @@ bad-cell-requires : tie.Need-bad-cell-requires
 bad-cell-requires c κs = search needs
 
 returns-2 : tie.Need-returns-2
-returns-2 c = let a = traced-anchor _ _ _ (listed (c .before .before)) (sym (c .before .bad-cell .ensures) ∙ c .if2 .taken) in (a .answer, (a .letters, a .named))
+returns-2 c = let a = traced-anchor _ _ _ (listed (c .before .before)) (sym (c .before .bad-cell .ensures) ∙ c .if2 .taken) in
+    (a .answer, (a .letters, a .named))
 
 bad-directions-requires : tie.Need-bad-directions-requires
 bad-directions-requires c κs = search needs
@@ -37,7 +39,8 @@ bad-directions-requires c κs = search needs
 returns-3 : tie.Need-returns-3
 returns-3 c =
     let e = c .before .before in
-    let a = traced-turning _ _ _ (listed (e .before .before)) (anchored e) (sym (turned (c .before)) ∙ c .if3 .taken) in (a .answer, (a .letters, a .named))
+    let a = traced-turning _ _ _ (listed (e .before .before)) (anchored e) (sym (turned (c .before)) ∙ c .if3 .taken) in
+    (a .answer, (a .letters, a .named))
 
 trace-requires : tie.Need-trace-requires
 trace-requires c κs =

@@ -28,7 +28,8 @@ kept c =
     let s = c .before in
     let a = s .args in
     let i = c .loop .inv in
-    ap length (i .1) ∙ length-paste (a .letters .now) 0 (a .list .now) (c .loop .i) (omega (arith, i .0, s .pre)) (omega (arith, i .0, s .pre))
+    ap length (i .1) ∙ length-paste (a .letters .now) 0 (a .list .now) (c .loop .i) (omega (arith, i .0, s .pre))
+    (omega (arith, i .0, s .pre))
 
 slice-write-letters : tie.Need-slice-write-letters Inv-loop μ-loop
 slice-write-letters c = omega (arith, kept (c .before .before), c .before .before .before .pre, c .before .loop-test .taken)

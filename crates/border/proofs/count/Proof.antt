@@ -16,7 +16,9 @@ use Rattle.border.proofs.count.Statement.{statement}
 use Rattle.border.proofs.count.Tie as tie
 
 abbrev Inv-loop : tie.InvT-loop
-Inv-loop edges letters₀ i₀ letters i = (length edges ≤ longestList) × (i ≤ length edges) × (letters + stepCount (pairs (drop i edges)) ≡ 4 + stepCount (pairs edges)) × (letters ≤ 4 + 32768 * i)
+Inv-loop edges letters₀ i₀ letters i =
+    (length edges ≤ longestList) × (i ≤ length edges) × (letters + stepCount (pairs (drop i edges)) ≡ 4 + stepCount (pairs edges))
+    × (letters ≤ 4 + 32768 * i)
 
 abbrev μ-loop : tie.MeasureT-loop
 μ-loop edges letters₀ i₀ letters i = length edges - i
@@ -67,7 +69,8 @@ cols-are :
     c .size .result ≡ natAbs (edgeAt (l .before .args .edges .now) (l .loop .i) .0)
 cols-are c =
     let l = c .before .before .before .before in
-    simp (toZ-ofZ w16 (edgeAt (l .before .args .edges .now) (l .loop .i) .0) (record { sfits = c .before .before .dx .given })) at (c .size .ensures .0)
+    simp (toZ-ofZ w16 (edgeAt (l .before .args .edges .now) (l .loop .i) .0) (record { sfits = c .before .before .dx .given })) at
+    (c .size .ensures .0)
 
 rows-are :
     (c : tie.After-size2 Inv-loop μ-loop) →
@@ -75,7 +78,8 @@ rows-are :
     c .size2 .result ≡ natAbs (edgeAt (l .before .args .edges .now) (l .loop .i) .1)
 rows-are c =
     let l = c .before .before .before .before .before in
-    simp (toZ-ofZ w16 (edgeAt (l .before .args .edges .now) (l .loop .i) .1) (record { sfits = c .before .before .dy .given })) at (c .size2 .ensures .0)
+    simp (toZ-ofZ w16 (edgeAt (l .before .args .edges .now) (l .loop .i) .1) (record { sfits = c .before .before .dy .given })) at
+    (c .size2 .ensures .0)
 
 loop-again : tie.Need-loop-again Inv-loop μ-loop
 loop-again c =

@@ -70,11 +70,13 @@ module _ (c : tie.After-verdict) where
   compared = taken-compared (sent tested) _ _ zeros taken (list tested)
 
 array-share-prefix-numbers : tie.Need-array-share-prefix-numbers
-array-share-prefix-numbers c = omega (arith, room-for (c .before .before .before), c .before .before .before .before .before .before .test .kept .1 .1 .0)
+array-share-prefix-numbers c =
+    omega (arith, room-for (c .before .before .before), c .before .before .before .before .before .before .test .kept .1 .1 .0)
 
 slice-aggregate-same-numbers : tie.Need-slice-aggregate-same-numbers
 slice-aggregate-same-numbers c =
-    sym (length-take-le _ _ (let v = c .before .before .before .before in omega (arith, room-for v, v .before .before .before .test .kept .1 .1 .0)))
+    sym (length-take-le _ _ (let v = c .before .before .before .before in
+    omega (arith, room-for v, v .before .before .before .test .kept .1 .1 .0)))
 
 same-numbers-requires : tie.Need-same-numbers-requires
 same-numbers-requires c κs = search needs
@@ -83,7 +85,8 @@ returns : tie.Need-returns
 returns c =
     let t = c .before .before .before in
     let a = t .before .before .before .args in
-    sym (not-taken (sent t) (a .anchor) (a .edges .now) zeros (omega (arith, length-replicate mostNumbers (pos 0))) (sym (said t) ∙ c .enum-told .given .1))
+    sym (not-taken (sent t) (a .anchor) (a .edges .now) zeros (omega (arith, length-replicate mostNumbers (pos 0))) (sym (said t)
+    ∙ c .enum-told .given .1))
 
 returns-2 : tie.Need-returns-2
 returns-2 c =

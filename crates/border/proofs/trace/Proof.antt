@@ -14,7 +14,8 @@ count-requires : tie.Need-count-requires
 count-requires c κs = short-list _ (c .before .pre .0)
 
 returns : tie.Need-returns
-returns c = let n = c .before in let s = n .before .before in long-none _ _ _ (s .pre .0) (s .pre .1) (s .pre .2) (n .count .ensures) (c .if1 .taken)
+returns c = let n = c .before in let s = n .before .before in
+    long-none _ _ _ (s .pre .0) (s .pre .1) (s .pre .2) (n .count .ensures) (c .if1 .taken)
 
 slice-aggregate-build : tie.Need-slice-aggregate-build
 slice-aggregate-build c = search needs
@@ -42,7 +43,8 @@ returns-2 c =
     let b = t .before .before .before in
     let n = b .before .before .before in
     let s = n .before .before in
-    untaken-none _ _ _ (s .pre .0) (s .pre .1) (s .pre .2) (n .count .ensures) _ (b .build .ensures) (sym (t .taken-as .ensures) ∙ not-true _ (c .if2 .taken))
+    untaken-none _ _ _ (s .pre .0) (s .pre .1) (s .pre .2) (n .count .ensures) _ (b .build .ensures) (sym (t .taken-as .ensures)
+    ∙ not-true _ (c .if2 .taken))
 
 returns-3 : tie.Need-returns-3
 returns-3 c =
@@ -50,7 +52,8 @@ returns-3 c =
     let b = t .before .before .before in
     let n = b .before .before .before in
     let s = n .before .before in
-    short-none _ _ _ (s .pre .0) (s .pre .1) (s .pre .2) (n .count .ensures) _ (b .build .ensures) (sym (t .taken-as .ensures) ∙ not-false _ (c .before .if2 .left)) (c .if3 .taken)
+    short-none _ _ _ (s .pre .0) (s .pre .1) (s .pre .2) (n .count .ensures) _ (b .build .ensures) (sym (t .taken-as .ensures)
+    ∙ not-false _ (c .before .if2 .left)) (c .if3 .taken)
 
 slice-aggregate-copy : tie.Need-slice-aggregate-copy
 slice-aggregate-copy c = search needs
@@ -72,7 +75,8 @@ returns-4 c =
     let b = t .before .before .before in
     let n = b .before .before .before in
     let s = n .before .before in
-    copied _ _ _ (s .pre .0) (s .pre .1) (s .pre .2) (n .count .ensures) _ (b .build .ensures) (sym (t .taken-as .ensures) ∙ not-false _ (room .before .if2 .left))
+    copied _ _ _ (s .pre .0) (s .pre .1) (s .pre .2) (n .count .ensures) _ (b .build .ensures) (sym (t .taken-as .ensures)
+    ∙ not-false _ (room .before .if2 .left))
     (room .if3 .left) (d .copy .ensures)
 
 pub trace-spec : {M : Type 1} → statement M

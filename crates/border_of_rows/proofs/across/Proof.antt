@@ -29,7 +29,14 @@ room : (c : tie.In-loop Inv-loop μ-loop) → c .before .loop .k < length (c .be
 room c =
     let args = c .before .before .args in
     let iteration = c .before .loop in
-    omega (arith, c .loop-test .taken, iteration .inv .1, iteration .inv .2 .sized, c .before .before .pre, across-fits (args .a) (args .b) (iteration .x) (iteration .inv .0))
+    omega (
+      arith,
+      c .loop-test .taken,
+      iteration .inv .1,
+      iteration .inv .2 .sized,
+      c .before .before .pre,
+      across-fits (args .a) (args .b) (iteration .x) (iteration .inv .0),
+    )
 
 slice-write-out : tie.Need-slice-write-out Inv-loop μ-loop
 slice-write-out c = room (c .before)
@@ -63,10 +70,18 @@ loop-again c =
     elim (c .if1 .came) [
       | inl (l, d, e) ↦
           let more = onward-more (args .a) (args .b) (iteration .x) (iteration .inv .0) (l .taken) in
-          rw (d, e) (more .1, omega (arith, iteration .inv .1, ap length (more .0), length-append w (0 ∷ [])), wrote-same (sym (more .0)) (wrote-next (iteration .inv .2) (iteration .k) 0 (iteration .inv .1) here))
+          rw (d, e) (
+            more .1,
+            omega (arith, iteration .inv .1, ap length (more .0), length-append w (0 ∷ [])),
+            wrote-same (sym (more .0)) (wrote-next (iteration .inv .2) (iteration .k) 0 (iteration .inv .1) here),
+          )
       | inr (l, d, e) ↦
           let more = backward-more (args .a) (args .b) (iteration .x) (iteration .inv .0) (omega (arith, l .left, t .loop-test .taken)) in
-          rw (d, e) (more .1, omega (arith, iteration .inv .1, ap length (more .0), length-append w (2 ∷ [])), wrote-same (sym (more .0)) (wrote-next (iteration .inv .2) (iteration .k) 2 (iteration .inv .1) here))
+          rw (d, e) (
+            more .1,
+            omega (arith, iteration .inv .1, ap length (more .0), length-append w (2 ∷ [])),
+            wrote-same (sym (more .0)) (wrote-next (iteration .inv .2) (iteration .k) 2 (iteration .inv .1) here),
+          )
     ]
 
 same-length : tie.Need-same-length Inv-loop μ-loop

@@ -23,7 +23,8 @@ abbrev μ-loop : tie.MeasureT-loop
 μ-loop hi y e out₀ at k₀ i₀ out k i = i - y
 
 slice-write-out : tie.Need-slice-write-out Inv-loop μ-loop
-slice-write-out c = let s = c .before in omega (arith, s .pre .2, fall-some (rows (now (s .args .hi))) (s .args .y) (s .args .e - s .args .y))
+slice-write-out c = let s = c .before in
+    omega (arith, s .pre .2, fall-some (rows (now (s .args .hi))) (s .args .y) (s .args .e - s .args .y))
 
 add-k : tie.Need-add-k Inv-loop μ-loop
 add-k c = omega arith
@@ -52,7 +53,9 @@ element-copy-out-across-2 c = omega arith
 -- An iteration has room for one row
 room :
     (c : tie.In-loop Inv-loop μ-loop)
-    → c .before .loop .k + suc (length (across (rows (now (c .before .before .before .args .hi)) (c .before .loop .i)) (rows (now (c .before .before .before .args .hi)) (c .before .loop .i - 1)))) ≤ length (c .before .loop .out)
+    → c .before .loop .k + suc
+    (length (across (rows (now (c .before .before .before .args .hi)) (c .before .loop .i))
+    (rows (now (c .before .before .before .args .hi)) (c .before .loop .i - 1)))) ≤ length (c .before .loop .out)
 room c =
     let s = c .before .before .before in
     let iteration = c .before .loop in
@@ -105,7 +108,9 @@ loop-again c =
       length-set (c .before .before .across .last .0) k 3 ∙ said .1 .sized ∙ iteration .inv .3,
       λ before h.
           let written = iteration .inv .4 before h in
-          wrote-same (sym more) (wrote-next (wrote-both written (iteration .k) (iteration .inv .2) (said .1)) k 3 e (omega (arith, room t, said .0, written .sized))),
+          wrote-same (sym more)
+          (wrote-next (wrote-both written (iteration .k) (iteration .inv .2) (said .1)) k 3 e
+          (omega (arith, room t, said .0, written .sized))),
     )
 
 same-length : tie.Need-same-length Inv-loop μ-loop
@@ -118,7 +123,9 @@ returns c =
     let out = s .args .out .now in
     let at = s .args .at in
     let e : iteration .i ≡ s .args .y = omega (arith, iteration .inv .0) in
-    let w : descent (rows (now (s .args .hi))) (iteration .i) (s .args .e - iteration .i) ≡ descent (rows (now (s .args .hi))) (s .args .y) (s .args .e - s .args .y) = ap (λ (i : ℕ). descent (rows (now (s .args .hi))) i (s .args .e - i)) e in
+    let w : descent (rows (now (s .args .hi))) (iteration .i) (s .args .e - iteration .i)
+    ≡ descent (rows (now (s .args .hi))) (s .args .y) (s .args .e - s .args .y) =
+    ap (λ (i : ℕ). descent (rows (now (s .args .hi))) i (s .args .e - i)) e in
     let some = fall-some (rows (now (s .args .hi))) (s .args .y) (s .args .e - s .args .y) in
     let first = wrote-next (wrote-none out at) at 3 (omega arith) (omega (arith, s .pre .2)) in
     (omega (arith, iteration .inv .2, ap length w), wrote-same w (iteration .inv .4 out first))

@@ -31,12 +31,20 @@ loop-holds c =
 -- An iteration has room for one row
 room :
     (c : tie.In-loop Inv-loop μ-loop)
-    → c .before .loop .k + suc (length (across (rows (now (c .before .before .before .args .lo)) (c .before .loop .i)) (rows (now (c .before .before .before .args .lo)) (c .before .loop .i + 1)))) ≤ length (c .before .loop .out)
+    → c .before .loop .k + suc
+    (length (across (rows (now (c .before .before .before .args .lo)) (c .before .loop .i))
+    (rows (now (c .before .before .before .args .lo)) (c .before .loop .i + 1)))) ≤ length (c .before .loop .out)
 room c =
     let s = c .before .before .before in
     let iteration = c .before .loop in
     let l = c .loop-test .taken in
-    omega (arith, iteration .inv .2, iteration .inv .3 .sized, s .pre .2, rise-fits (rows (now (s .args .lo))) (s .args .y) (iteration .i) (s .args .e) (iteration .inv .0) l)
+    omega (
+      arith,
+      iteration .inv .2,
+      iteration .inv .3 .sized,
+      s .pre .2,
+      rise-fits (rows (now (s .args .lo))) (s .args .y) (iteration .i) (s .args .e) (iteration .inv .0) l,
+    )
 
 slice-write-out : tie.Need-slice-write-out Inv-loop μ-loop
 slice-write-out c = omega (arith, room c)
@@ -94,7 +102,9 @@ returns c =
     let s = c .before .before .before in
     let iteration = c .before .loop in
     let e : iteration .i ≡ s .args .e = omega (arith, iteration .inv .1) in
-    let w : toRow (rows (now (s .args .lo))) (s .args .y) (iteration .i - s .args .y) ≡ toRow (rows (now (s .args .lo))) (s .args .y) (s .args .e - s .args .y) = ap (λ (i : ℕ). toRow (rows (now (s .args .lo))) (s .args .y) (i - s .args .y)) e in
+    let w : toRow (rows (now (s .args .lo))) (s .args .y) (iteration .i - s .args .y)
+    ≡ toRow (rows (now (s .args .lo))) (s .args .y) (s .args .e - s .args .y) =
+    ap (λ (i : ℕ). toRow (rows (now (s .args .lo))) (s .args .y) (i - s .args .y)) e in
     (omega (arith, iteration .inv .2, ap length w), wrote-same w (iteration .inv .3))
 
 pub rise-spec : {M : Type 1} → statement M

@@ -36,7 +36,8 @@ bottom s = across (right s (s .args .b)) (left s (s .args .b))
 abbrev last : tie.Start → List ℕ
 last s = toRow (left s) (s .args .b) (s .args .m - s .args .b)
 
-room : (s : tie.Start) → length (first s) + 1 + length (top s) + length (fallen s) + length (bottom s) + length (last s) ≤ length (now (s .args .out))
+room : (s : tie.Start)
+    → length (first s) + 1 + length (top s) + length (fallen s) + length (bottom s) + length (last s) ≤ length (now (s .args .out))
 room s = omega (arith, round-length (left s) (right s) (s .args .b) (s .args .t) (s .args .m) (s .pre .0 .1), s .pre .1)
 
 -- The letters up to each call
@@ -105,7 +106,8 @@ record Back (c : tie.After-across2) : Type 0 where
 back : (c : tie.After-across2) → Back c
 back c = let said = c .across2 .ensures in record { at = said .0; front = front-more (down (descended c) .front) (said .0) (said .1) }
 
-done : (c : tie.After-rise2) → Front (now (start-5 c .args .out)) (asBottom (start-5 c) ++ last (start-5 c)) (c .rise2 .last .1 .1 .1 .0) (c .rise2 .result)
+done : (c : tie.After-rise2)
+    → Front (now (start-5 c .args .out)) (asBottom (start-5 c) ++ last (start-5 c)) (c .rise2 .last .1 .1 .1 .0) (c .rise2 .result)
 done c = let said = c .rise2 .ensures in front-more (back (returned c) .front) (said .0) (said .1)
 
 sub-top : tie.Need-sub-top
@@ -137,7 +139,8 @@ element-copy-out-across-2 c = search needs
 
 across-requires : tie.Need-across-requires
 across-requires c κs =
-    let r = c .before .before .before .before .before in omega (arith, room (begun r), up r .at, up r .wrote .sized, length-set (r .rise .last .1 .1 .1 .0) (r .rise .result) 1)
+    let r = c .before .before .before .before .before in
+    omega (arith, room (begun r), up r .at, up r .wrote .sized, length-set (r .rise .last .1 .1 .1 .0) (r .rise .result) 1)
 
 fall-requires : tie.Need-fall-requires
 fall-requires c κs =
@@ -180,7 +183,8 @@ same-length c = done (c .before .before) .wrote .sized
 returns : tie.Need-returns
 returns c =
     let s = start-5 (c .before .before) in
-    wrote-front (wrote-same (round-parts (left s) (right s) (s .args .b) (s .args .t) (s .args .m) (s .pre .0 .1)) (done (c .before .before) .wrote))
+    wrote-front (wrote-same (round-parts (left s) (right s) (s .args .b) (s .args .t) (s .args .m) (s .pre .0 .1))
+    (done (c .before .before) .wrote))
 
 pub round-spec : {M : Type 1} → statement M
 round-spec =

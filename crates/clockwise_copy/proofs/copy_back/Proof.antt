@@ -71,7 +71,8 @@ returns c =
     let at = c .before in
     let a = at .before .before .before .args in
     let w = a .list .now in
-    pasting-end (at .loop .inv) (room at) (omega (arith, length-backward w, c .loop-test .left)) ∙ ap (paste (a .round .now) (a .to) (backward w)) (length-backward w)
+    pasting-end (at .loop .inv) (room at) (omega (arith, length-backward w, c .loop-test .left))
+    ∙ ap (paste (a .round .now) (a .to) (backward w)) (length-backward w)
 
 pub copy-back-spec : {M : Type 1} → statement M
 copy-back-spec =

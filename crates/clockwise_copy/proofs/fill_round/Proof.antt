@@ -12,7 +12,9 @@ use Rattle.clockwise_copy.proofs.fill_round.Tie as tie
 
 returns : tie.Need-returns
 returns c =
-    let a = c .before .before .before .args in λ k short. absurd (⊎-elim (λ w. omega (arith, w .taken)) (λ w. omega (arith, ltb-true (length (a .w .now)) (a .from) (w .1 .taken))) (c .if1 .came))
+    let a = c .before .before .before .args in
+    λ k short. absurd (⊎-elim (λ w. omega (arith, w .taken)) (λ w. omega (arith, ltb-true (length (a .w .now)) (a .from) (w .1 .taken)))
+    (c .if1 .came))
 
 -- After the test the place is one of the list, and there is room
 from-le : (c : tie.Else2) → c .before .before .before .before .args .from ≤ length (c .before .before .before .before .args .w .now)
@@ -41,7 +43,8 @@ copy-requires-2 c κs =
     let copied = c .before .before .before .before in
     let past = copied .before .before .before .before in
     let a = past .before .before .before .before .args in
-    room-forward (a .w .now) (a .from) (from-le past) (a .round .now) (copied .copy .last .1 .0) (past .before .if1 .left) (copied .copy .ensures)
+    room-forward (a .w .now) (a .from) (from-le past) (a .round .now) (copied .copy .last .1 .0) (past .before .if1 .left)
+    (copied .copy .ensures)
 
 same-length : tie.Need-same-length
 same-length c = search needs
@@ -52,7 +55,9 @@ returns-2 c k room =
     let first = copied .before .before .before .before .before in
     let test = first .before .before .before in
     let a = test .before .before .before .before .before .args in
-    rw (test .if3 .taken) (round-forward (a .w .now) (a .from) k (a .round .now) (first .copy .last .1 .0) room (first .copy .ensures) (copied .copy2 .ensures))
+    rw (test .if3 .taken)
+    (round-forward (a .w .now) (a .from) k (a .round .now) (first .copy .last .1 .0) room (first .copy .ensures)
+    (copied .copy2 .ensures))
 
 slice-aggregate-copy-back : tie.Need-slice-aggregate-copy-back
 slice-aggregate-copy-back c = sym (length-up-to _ _ (from-le (c .before .before)))
@@ -77,7 +82,8 @@ copy-back-requires-2 c κs =
     let copied = c .before .before .before .before in
     let past = copied .before .before .before .before in
     let a = past .before .before .before .before .args in
-    room-backward (a .w .now) (a .from) (from-le past) (a .round .now) (copied .copy-back .last .1 .0) (past .before .if1 .left) (copied .copy-back .ensures)
+    room-backward (a .w .now) (a .from) (from-le past) (a .round .now) (copied .copy-back .last .1 .0) (past .before .if1 .left)
+    (copied .copy-back .ensures)
 
 same-length-2 : tie.Need-same-length-2
 same-length-2 c = search needs
@@ -88,7 +94,8 @@ returns-3 c k room =
     let first = copied .before .before .before .before .before in
     let test = first .before .before .before in
     let a = test .before .before .before .before .before .args in
-    rw (test .if3 .left) (round-backward (a .w .now) (a .from) k (a .round .now) (first .copy-back .last .1 .0) room (first .copy-back .ensures) (copied .copy-back2 .ensures))
+    rw (test .if3 .left) (round-backward (a .w .now) (a .from) k (a .round .now) (first .copy-back .last .1 .0) room
+    (first .copy-back .ensures) (copied .copy-back2 .ensures))
 
 pub fill-round-spec : {M : Type 1} → statement M
 fill-round-spec =

@@ -18,7 +18,8 @@ returns c =
       place = λ p q l m.
           absurd
           (⊎-elim (λ w. omega (arith, w .taken))
-          (⊎-elim (λ w. omega (arith, leb-true (a .n) (a .w) (w .1 .taken))) (λ w. omega (arith, ltb-true (4 * longest) (a .i) (w .2 .taken)))) (c .if1 .came));
+          (⊎-elim (λ w. omega (arith, leb-true (a .n) (a .w) (w .1 .taken)))
+          (λ w. omega (arith, ltb-true (4 * longest) (a .i) (w .2 .taken)))) (c .if1 .came));
     }
 
 add-at : tie.Need-add-at

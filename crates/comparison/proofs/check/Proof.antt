@@ -16,7 +16,8 @@ list-good c = sym (c .before .bad-list .ensures) ∙ c .if1 .left
 anchor-good : (c : tie.Else2) → badCell (c .before .before .before .before .args .anchor) ≡ false
 anchor-good c = sym (c .before .bad-cell .ensures) ∙ c .if2 .left
 
-turning-is : (c : tie.After-bad-directions) → c .bad-directions .result ≡ badDirections (c .before .before .before .before .before .args .edges .now)
+turning-is : (c : tie.After-bad-directions)
+    → c .bad-directions .result ≡ badDirections (c .before .before .before .before .before .args .edges .now)
 turning-is c = c .bad-directions .ensures ∙ turning-short _ (short-list _ (list-good (c .before .before .before)))
 
 turning-good : (c : tie.Else3) → badDirections (c .before .before .before .before .before .before .args .edges .now) ≡ false
@@ -49,13 +50,15 @@ returns-4 : tie.Need-returns-4
 returns-4 c =
     let three = c .before .before in
     let two = three .before .before in
-    checked-walk _ _ (list-good (two .before .before)) (anchor-good two) (turning-good three) (not-true _ (sym (c .before .leaves-chart .ensures) ∙ c .if4 .taken))
+    checked-walk _ _ (list-good (two .before .before)) (anchor-good two) (turning-good three)
+    (not-true _ (sym (c .before .leaves-chart .ensures) ∙ c .if4 .taken))
 
 returns-5 : tie.Need-returns-5
 returns-5 c =
     let three = c .before .before in
     let two = three .before .before in
-    checked-fit _ _ (list-good (two .before .before)) (anchor-good two) (turning-good three) (not-false _ (sym (c .before .leaves-chart .ensures) ∙ c .if4 .left))
+    checked-fit _ _ (list-good (two .before .before)) (anchor-good two) (turning-good three)
+    (not-false _ (sym (c .before .leaves-chart .ensures) ∙ c .if4 .left))
 
 pub check-spec : {M : Type 1} → statement M
 check-spec =

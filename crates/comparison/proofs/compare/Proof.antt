@@ -17,7 +17,8 @@ abbrev found : tie.After-write → Comparison
 found c = c .before .before .before .relate .result
 
 written : (c : tie.After-write) → c .write .last .1 .0 ≡ numbersOf (comparisonFields (found c))
-written c = c .write .ensures .1 ∙ seven-written _ _ (c .before .write-arg .given .0 .1) ∙ ap numbersOf (c .before .before .of-comparison .ensures)
+written c = c .write .ensures .1 ∙ seven-written _ _ (c .before .write-arg .given .0 .1)
+    ∙ ap numbersOf (c .before .before .of-comparison .ensures)
 
 fields : (c : tie.After-write) → fieldsOf (c .write .last .1 .0) ≡ comparisonFields (found c)
 fields c = ap fieldsOf (written c) ∙ read-back (comparisonFields (found c))

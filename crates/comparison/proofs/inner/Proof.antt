@@ -29,7 +29,8 @@ enum-told-6 : tie.Need-enum-told-6
 enum-told-6 c = search needs
 
 -- In the arm that has a nesting, the list is the nesting's
-found-is : (c : tie.After-known-told) (n : Nesting) → c .before .comparison .given .0 .0 ≡ n → returnedWith n ≡ returnedBy (c .before .before .before .args .comparison)
+found-is : (c : tie.After-known-told) (n : Nesting) → c .before .comparison .given .0 .0 ≡ n
+    → returnedWith n ≡ returnedBy (c .before .before .before .args .comparison)
 unfolding returnedBy
 found-is c n e = sym (ap returnedBy (c .before .comparison .given .1 ∙ ap Found e))
 

@@ -73,7 +73,8 @@ on-chart-requires c κs = search needs
 returns : tie.Need-returns Inv-loop μ-loop
 returns c =
     let l = c .before .before .before in
-    sym (ap not (whole (l .before) ∙ leaving-off (l .loop .inv) (omega arith) (sym (c .before .on-chart .ensures) ∙ not-true _ (c .if1 .taken))))
+    sym (ap not (whole (l .before)
+    ∙ leaving-off (l .loop .inv) (omega arith) (sym (c .before .on-chart .ensures) ∙ not-true _ (c .if1 .taken))))
 
 mul-further : tie.Need-mul-further Inv-loop μ-loop
 mul-further c = omega arith

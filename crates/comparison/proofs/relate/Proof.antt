@@ -14,7 +14,8 @@ first-fit : (c : tie.After-enum-told) → let s = c .before .before .before .arg
 first-fit c = sym (c .enum-told .given .1) ∙ c .before .before .check .ensures
 
 second-fit :
-    (c : tie.After-enum-told2) → let s = c .before .before .before .before .before .before .args in Fit ≡ checkedOf (s .other) (s .others .now)
+    (c : tie.After-enum-told2) → let s = c .before .before .before .before .before .before .args in
+    Fit ≡ checkedOf (s .other) (s .others .now)
 second-fit c = sym (c .enum-told2 .given .1) ∙ c .before .before .check2 .ensures
 
 check-requires : tie.Need-check-requires
@@ -39,17 +40,20 @@ nest-requires : tie.Need-nest-requires
 nest-requires c κs = (fit-passes _ _ (first-fit (c .before .before .before)), fit-passes _ _ (second-fit c))
 
 returns : tie.Need-returns
-returns c = answer-named _ _ _ _ _ (compared-first _ _ _ _ _ (sym (c .before .refusal .given .1) ∙ c .before .before .before .check .ensures))
+returns c =
+    answer-named _ _ _ _ _ (compared-first _ _ _ _ _ (sym (c .before .refusal .given .1) ∙ c .before .before .before .check .ensures))
 
 returns-2 : tie.Need-returns-2
 returns-2 c =
     let two = c .before .before .before in
-    answer-named _ _ _ _ _ (compared-second _ _ _ _ _ (first-fit (two .before)) (sym (c .before .refusal2 .given .1) ∙ two .check2 .ensures))
+    answer-named _ _ _ _ _
+    (compared-second _ _ _ _ _ (first-fit (two .before)) (sym (c .before .refusal2 .given .1) ∙ two .check2 .ensures))
 
 returns-3 : tie.Need-returns-3
 returns-3 c =
     let told = c .before in
-    answer-named _ _ _ _ _ (ap Found (c .nest .ensures) ∙ compared-found _ _ _ _ (first-fit (told .before .before .before)) (second-fit told))
+    answer-named _ _ _ _ _ (ap Found (c .nest .ensures)
+    ∙ compared-found _ _ _ _ (first-fit (told .before .before .before)) (second-fit told))
 
 pub relate-spec : {M : Type 1} → statement M
 relate-spec =

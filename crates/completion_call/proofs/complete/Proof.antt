@@ -21,7 +21,9 @@ write-letters-requires c κs = survey-simple _ (sym (c .before .before .before .
 
 returns : tie.Need-returns
 returns c =
-    let said = stopped-answers _ (now (c .before .before .before .before .before .before .args .out)) (sym (c .before .before .before .survey .ensures) ∙ c .before .surveyed .given .1) in
+    let said =
+    stopped-answers _ (now (c .before .before .before .before .before .before .args .out))
+    (sym (c .before .before .before .survey .ensures) ∙ c .before .surveyed .given .1) in
     (said .answer, (said .letters, said .named))
 
 same-length : tie.Need-same-length

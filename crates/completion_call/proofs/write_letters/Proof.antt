@@ -39,7 +39,8 @@ top d = d .wide2 .result
 below : (d : tie.After-wide2) → (bottom d < top d) × (top d ≤ side)
 below d =
     let k = d .before .before .pass .result in
-    array-below (drawn (begun d)) (begun d .pre) (k .lo) (k .en) (k .hi) (k .low) (k .high) (bottom d) (top d) (d .before .before .pass .ensures)
+    array-below (drawn (begun d)) (begun d .pre) (k .lo) (k .en) (k .hi) (k .low) (k .high) (bottom d) (top d)
+    (d .before .before .pass .ensures)
     (d .before .wide .ensures .0) (d .wide2 .ensures .0)
 
 -- The two sides: where the hull's rows begin, from the left and from the right, and where they end
@@ -55,12 +56,18 @@ over c = c .before .before .before .before .before .before .left2 .last .0
 abbrev ends : tie.After-lowest2 → List ℕ
 ends c = c .before .before .before .before .mirrored2 .result
 
-sided : (c : tie.After-lowest2) → Sided (drawn (begun (rowed c))) (begun (rowed c) .pre) (rows (begins c)) (rows (over c)) (rows (ends c)) (bottom (rowed c)) (top (rowed c))
+sided : (c : tie.After-lowest2)
+    → Sided (drawn (begun (rowed c))) (begun (rowed c) .pre) (rows (begins c)) (rows (over c)) (rows (ends c)) (bottom (rowed c))
+    (top (rowed c))
 sided c =
     let d = rowed c in
     let k = d .before .before .pass .result in
-    sides (drawn (begun d)) (begun d .pre) (k .lo) (k .en) (k .hi) (k .low) (k .high) (bottom d) (top d) (d .before .before .pass .ensures) (d .before .wide .ensures .0)
-    (d .wide2 .ensures .0) (c .before .before .before .before .before .before .before .before .mirrored .result) (begins c) (over c) (ends c) (c .before .before .before .before .before .before .before .before .before .before .before .left .ensures) (c .before .before .before .before .before .before .before .before .mirrored .ensures) (c .before .before .before .before .before .before .left2 .ensures)
+    sides (drawn (begun d)) (begun d .pre) (k .lo) (k .en) (k .hi) (k .low) (k .high) (bottom d) (top d) (d .before .before .pass .ensures)
+    (d .before .wide .ensures .0)
+    (d .wide2 .ensures .0) (c .before .before .before .before .before .before .before .before .mirrored .result) (begins c) (over c)
+    (ends c) (c .before .before .before .before .before .before .before .before .before .before .before .left .ensures)
+    (c .before .before .before .before .before .before .before .before .mirrored .ensures)
+    (c .before .before .before .before .before .before .left2 .ensures)
     (c .before .before .before .before .mirrored2 .ensures)
 
 -- The hull, with the count of its letters
@@ -70,11 +77,14 @@ reached c = rowed (c .before)
 abbrev count : tie.After-wide3 → ℕ
 count c = 2 * (top (reached c) - bottom (reached c)) + 2 * c .wide3 .result
 
-hull : (c : tie.After-wide3) → HullOf (drawn (begun (reached c))) (begins (c .before)) (ends (c .before)) (bottom (reached c)) (top (reached c)) (c .before .before .before .lowest .result) (count c)
+hull : (c : tie.After-wide3)
+    → HullOf (drawn (begun (reached c))) (begins (c .before)) (ends (c .before)) (bottom (reached c)) (top (reached c))
+    (c .before .before .before .lowest .result) (count c)
 hull c =
     let l = c .before in
     let d = reached c in
-    hull-of (drawn (begun d)) (begun d .pre) (begins l) (over l) (ends l) (bottom d) (top d) (l .before .before .lowest .result) (l .lowest2 .result) (count c) (sided l)
+    hull-of (drawn (begun d)) (begun d .pre) (begins l) (over l) (ends l) (bottom d) (top d) (l .before .before .lowest .result)
+    (l .lowest2 .result) (count c) (sided l)
     (l .before .before .lowest .ensures) (l .lowest2 .ensures) (ap (λ (n : ℕ). 2 * (top d - bottom d) + 2 * n) (c .wide3 .ensures .0))
 
 left-requires : tie.Need-left-requires
@@ -160,7 +170,8 @@ returns-2 : tie.Need-returns-2
 returns-2 c =
     let w = c .before .before .before .before .before .before .before in
     let s = begun (reached w) in
-    hull-answers (drawn s) (now (s .args .out)) (s .pre) (hull w) _ (c .before .before .before .before .before .before .if1 .left) (c .before .before .round .ensures)
+    hull-answers (drawn s) (now (s .args .out)) (s .pre) (hull w) _ (c .before .before .before .before .before .before .if1 .left)
+    (c .before .before .round .ensures)
 
 pub write-letters-spec : {M : Type 1} → statement M
 write-letters-spec =

@@ -24,7 +24,8 @@ returns c =
     (c .if1 .came)
 
 -- After these tests the four are places of a list that is not too long
-places : (c : tie.Else2) → Places (length (c .before .before .before .before .args .letters .now)) (c .before .before .before .before .args .found)
+places : (c : tie.Else2)
+    → Places (length (c .before .before .before .before .args .letters .now)) (c .before .before .before .before .args .found)
 places c = below-places _ _ (sym (c .before .are-below .ensures) ∙ not-false _ (c .if2 .left))
 
 shared-slice-read-forward : tie.Need-shared-slice-read-forward
@@ -80,7 +81,15 @@ add-fourth : tie.Need-add-fourth
 add-fourth c =
     let h = within (c .before .before .before .before) in
     let small = steps-le (h .0) (h .1) (h .2) in
-    omega (arith, h .3, small, c .ahead4 .ensures, c .before .ahead3 .ensures, c .before .before .ahead2 .ensures, c .before .before .before .ahead .ensures)
+    omega (
+      arith,
+      h .3,
+      small,
+      c .ahead4 .ensures,
+      c .before .ahead3 .ensures,
+      c .before .before .ahead2 .ensures,
+      c .before .before .before .ahead .ensures,
+    )
 
 returns-2 : tie.Need-returns-2
 unfolding isForward

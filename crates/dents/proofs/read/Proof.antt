@@ -46,7 +46,8 @@ module _ (c : tie.After-read-piece Inv-loop μ-loop) where
   at = c .before .before .before .before .before .before .args .cuts .at
 
   here :
-      Read (c .before .before .before .before .before .before .args .ring .now) at (c .before .before .before .before .before .before .args .list .now)
+      Read (c .before .before .before .before .before .before .args .ring .now) at
+      (c .before .before .before .before .before .before .args .list .now)
       (c .before .before .before .loop .list) (c .before .before .before .loop .edges) k (getD at k 0) (getD at (k + 1) 0)
       (c .read-piece .last .1 .1 .1 .1 .0) (c .read-piece .result)
   here =
@@ -62,7 +63,8 @@ module _ (c : tie.After-read-piece Inv-loop μ-loop) where
 -- What it is read as decides
 module _ {r : InWord} (c : tie.After-read-piece Inv-loop μ-loop) (e : c .read-piece .result ≡ r) where
   read-as :
-      Read (c .before .before .before .before .before .before .args .ring .now) (at c) (c .before .before .before .before .before .before .args .list .now)
+      Read (c .before .before .before .before .before .before .args .ring .now) (at c)
+      (c .before .before .before .before .before .before .args .list .now)
       (c .before .before .before .loop .list) (c .before .before .before .loop .edges) (k c) (getD (at c) (k c) 0) (getD (at c) (k c + 1) 0)
       (c .read-piece .last .1 .1 .1 .1 .0) r
   read-as = rw (sym e) (here c)

@@ -41,7 +41,8 @@ returns-3 : tie.Need-returns-3
 returns-3 c =
     let a = c .before .before .args in
     piece-none
-    (λ l h. absurd (⊎-elim (λ w. omega (arith, leb-false (a .to) (length (a .ring .now)) (w .1 .left))) (λ w. omega (arith, w .left)) (c .if1 .came)))
+    (λ l h. absurd (⊎-elim (λ w. omega (arith, leb-false (a .to) (length (a .ring .now)) (w .1 .left))) (λ w. omega (arith, w .left))
+    (c .if1 .came)))
 
 pub read-piece-spec : {M : Type 1} → statement M
 read-piece-spec =

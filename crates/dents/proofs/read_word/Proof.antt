@@ -33,16 +33,20 @@ factor-at-requires c κs = search needs
 -- What is judged is the first factor of the rest in the frame of piece k
 judged-rest : (c : tie.After-factor-at Inv-loop μ-loop)
     → let start = c .before .before .before in
-    c .factor-at .result ≡ judged (factorsIn (start .before .before .args .k) (drop (c .before .before .loop .at) (start .before .before .args .letters .now)))
+    c .factor-at .result ≡ judged
+    (factorsIn (start .before .before .args .k) (drop (c .before .before .loop .at) (start .before .before .args .letters .now)))
 judged-rest c = rw (sym (c .before .before .before .pair-at .ensures .later)) (c .factor-at .ensures)
 
 step-here : (c : tie.After-factor-at Inv-loop μ-loop)
     → let start = c .before .before .before .before .before in
     Step (start .args .letters .now) (c .before .before .loop .at) (frameOf (start .args .k) .later) (c .factor-at .result)
-step-here c = step (c .before .before .loop .inv) (c .before .before .before .before .before .pre) (c .before .loop-test .taken) (judged-rest c)
+step-here c =
+    step (c .before .before .loop .inv) (c .before .before .before .before .before .pre) (c .before .loop-test .taken) (judged-rest c)
 
-rise-here : (c : tie.After-factor-at Inv-loop μ-loop) → c .factor-at .result .times * c .factor-at .result .laters ≤ c .factor-at .result .times * c .factor-at .result .length
-rise-here c = rise-le (c .before .before .loop .inv) (c .before .before .before .before .before .pre) (c .before .loop-test .taken) (judged-rest c)
+rise-here : (c : tie.After-factor-at Inv-loop μ-loop)
+    → c .factor-at .result .times * c .factor-at .result .laters ≤ c .factor-at .result .times * c .factor-at .result .length
+rise-here c =
+    rise-le (c .before .before .loop .inv) (c .before .before .before .before .before .pre) (c .before .loop-test .taken) (judged-rest c)
 
 same-length : tie.Need-same-length Inv-loop μ-loop
 same-length c = search needs
@@ -50,20 +54,23 @@ same-length c = search needs
 returns : tie.Need-returns Inv-loop μ-loop
 returns c =
     let seen = c .before .before in
-    tracing-dent (seen .before .before .loop .inv) (seen .before .before .before .before .before .pre) (seen .before .loop-test .taken) (judged-rest seen) (not-true _ (c .if1 .taken))
+    tracing-dent (seen .before .before .loop .inv) (seen .before .before .before .before .before .pre) (seen .before .loop-test .taken)
+    (judged-rest seen) (not-true _ (c .if1 .taken))
 
 mul-size : tie.Need-mul-size Inv-loop μ-loop
 mul-size c = let h = step-here (c .before .before .before) in omega (arith, h .within)
 
 mul-rise : tie.Need-mul-rise Inv-loop μ-loop
-mul-rise c = let h = step-here (c .before .before .before .before) in omega (arith, rise-here (c .before .before .before .before), h .within)
+mul-rise c = let h = step-here (c .before .before .before .before) in
+    omega (arith, rise-here (c .before .before .before .before), h .within)
 
 sub-edge-of : tie.Need-sub-edge-of Inv-loop μ-loop
 sub-edge-of c = rise-here (c .before .before .before .before)
 
 cast-edge-of : tie.Need-cast-edge-of Inv-loop μ-loop
 cast-edge-of c =
-    let seen = c .before .before .before .before in let h = step-here seen in omega (arith, h .within, seen .before .before .before .before .before .pre)
+    let seen = c .before .before .before .before in let h = step-here seen in
+    omega (arith, h .within, seen .before .before .before .before .before .pre)
 
 cast-edge-of-2 : tie.Need-cast-edge-of-2 Inv-loop μ-loop
 cast-edge-of-2 c =
@@ -74,8 +81,10 @@ cast-edge-of-2 c =
 edge-of-requires : tie.Need-edge-of-requires Inv-loop μ-loop
 edge-of-requires c κs =
     let seen = c .before .before .before .before in
-    let h = step-here seen in
-    (omega (arith, h .within, seen .before .before .before .before .before .pre), omega (arith, h .within, rise-here seen, seen .before .before .before .before .before .pre))
+    let h = step-here seen in (
+      omega (arith, h .within, seen .before .before .before .before .before .pre),
+      omega (arith, h .within, rise-here seen, seen .before .before .before .before .before .pre),
+    )
 
 put-requires : tie.Need-put-requires Inv-loop μ-loop
 put-requires c κs = search needs
@@ -88,17 +97,22 @@ add-at c =
 
 loop-less : tie.Need-loop-less Inv-loop μ-loop
 loop-less c =
-    let h = step-here (c .before .before .before .before .before .before .before .before .before .before) in omega (arith, h .within, h .ahead)
+    let h = step-here (c .before .before .before .before .before .before .before .before .before .before) in
+    omega (arith, h .within, h .ahead)
 
 loop-again : tie.Need-loop-again Inv-loop μ-loop
 loop-again c =
     let seen = c .before .before .before .before .before .before .before .before .before .before in
     let e = c .before .before .before .before .before .edge-of in
     let read = e .ok .1 .1 in
-    tracing-edge (seen .before .before .loop .inv) (seen .before .before .before .before .before .pre) (seen .before .loop-test .taken) (judged-rest seen)
+    tracing-edge (seen .before .before .loop .inv) (seen .before .before .before .before .before .pre) (seen .before .loop-test .taken)
+    (judged-rest seen)
     (not-false _ (c .before .before .before .before .before .before .before .before .if1 .left))
     (e .ensures)
-    (simp (toZ-ofZ w16 (e .result .dx) (record { sfits = read .0 .1 }), toZ-ofZ w16 (e .result .dy) (record { sfits = read .1 .0 .1 })) at (c .before .put .ensures))
+    (simp (
+      toZ-ofZ w16 (e .result .dx) (record { sfits = read .0 .1 }),
+      toZ-ofZ w16 (e .result .dy) (record { sfits = read .1 .0 .1 }),
+    ) at (c .before .put .ensures))
     (c .before .put .kept .0)
 
 same-length-2 : tie.Need-same-length-2 Inv-loop μ-loop

@@ -59,7 +59,8 @@ InBuffer buffer from (WordDent i l) = (from + 1 + i + l ≤ length buffer) × (0
 -- The word of piece k, which lies in a buffer between two places
 pub record PieceRead (buffer : List ℕ) (from to k count : ℕ) (before after : List ℤ) (r : InWord) : Type 0 where
   pub within : InBuffer buffer from r
-  pub word : from ≤ to → to ≤ length buffer → to - from ≤ longest → WordRead k (drop 1 (take (to - from) (drop from buffer))) count before after r
+  pub word : from ≤ to → to ≤ length buffer → to - from ≤ longest
+      → WordRead k (drop 1 (take (to - from) (drop from buffer))) count before after r
 
 -- The first dent of a border is in piece k, at letter i of the border, and has l letters
 pub record DentIs (o : Outline) (k i l : ℕ) : Type 0 where

@@ -14,7 +14,8 @@ use Rattle.edge_walk.specs.parts.Walk.{stepped}
 use Rattle.edge_walk.proofs.Loop.{edgeAt}
 use Rattle.edge_walk.proofs.Sizes.{after-fits}
 use Rattle.drawing.specs.Drawing.{strokeAt}
-use Rattle.drawing.proofs.Walks.{strokeFrom, stroke-first, stroke-later, past, Walked, walked-start, walked-line, walked-next, walked-end}
+use Rattle.drawing.proofs.Walks.{strokeFrom, stroke-first, stroke-later, past, Walked, walked-start, walked-line, walked-next}
+use Rattle.drawing.proofs.Walks.{walked-end}
 use Rattle.drawing.proofs.stroke_at.Statement.{statement}
 use Rattle.drawing.proofs.stroke_at.Tie as tie
 

@@ -19,7 +19,8 @@ unfolding onChart
 returns c =
     let at = c .before .before .before .before .args .at in
     ap₂ _&&_
-    (simp (toZ-ofZ w32 (at .col) (record { sfits = c .before .before .before .struct-told .given .0 .1 })) at (c .before .before .chart-number .ensures))
+    (simp (toZ-ofZ w32 (at .col) (record { sfits = c .before .before .before .struct-told .given .0 .1 })) at
+    (c .before .before .chart-number .ensures))
     (simp (toZ-ofZ w32 (at .row) (record { sfits = c .before .struct-told2 .given .1 .0 .1 })) at (c .chart-number2 .ensures))
 
 pub on-chart-spec : {M : Type 1} → statement M

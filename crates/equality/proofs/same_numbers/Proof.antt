@@ -65,7 +65,8 @@ returns-2 : tie.Need-returns-2 Inv-loop μ-loop
 returns-2 c =
     let n = c .before in
     sym (at n .loop .inv .1 ∙
-    same-differ _ _ (at n .loop .i) (c .before .before .before .before .loop-test .taken) (at n .before .if1 .left) (sym (compared n) ∙ not-true _ (c .if2 .taken)))
+    same-differ _ _ (at n .loop .i) (c .before .before .before .before .loop-test .taken) (at n .before .if1 .left) (sym (compared n)
+    ∙ not-true _ (c .if2 .taken)))
 
 add-i : tie.Need-add-i Inv-loop μ-loop
 add-i c = search needs
@@ -78,7 +79,8 @@ loop-again c =
     let n = c .before in (
       omega arith,
       at n .loop .inv .1 ∙
-          same-next _ _ (at n .loop .i) (c .before .before .before .before .loop-test .taken) (at n .before .if1 .left) (sym (compared n) ∙ not-false _ (c .if2 .left)),
+          same-next _ _ (at n .loop .i) (c .before .before .before .before .loop-test .taken) (at n .before .if1 .left) (sym (compared n)
+          ∙ not-false _ (c .if2 .left)),
     )
 
 returns-3 : tie.Need-returns-3 Inv-loop μ-loop

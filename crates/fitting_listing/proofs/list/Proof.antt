@@ -27,7 +27,9 @@ same-length-2 : tie.Need-same-length-2
 same-length-2 c = search needs
 
 returns-2 : tie.Need-returns-2
-returns-2 c = rw (lines-read (c .before .before .before .before .before .before .before .args .file .now) (omega arith)) (c .before .before .list-records .ensures)
+returns-2 c =
+    rw (lines-read (c .before .before .before .before .before .before .before .args .file .now) (omega arith))
+    (c .before .before .list-records .ensures)
 
 pub list-spec : {M : Type 1} → statement M
 list-spec =

@@ -7,7 +7,8 @@ use lib.ListN.{length}
 use Rattle.fitting_records.specs.declared.Step.{Step}
 use Rattle.fitting_records.proofs.RecordLaws.{Passed, passed}
 use borrow.Author.Needs.{needs}
-use Rattle.fitting_listing.proofs.ListingLaws.{Going, going-begins, going-end, going-wrong-mark, going-cut, going-record, letters-between}
+use Rattle.fitting_listing.proofs.ListingLaws.{Going, going-begins, going-end, going-wrong-mark, going-cut, going-record}
+use Rattle.fitting_listing.proofs.ListingLaws.{letters-between}
 use Rattle.fitting_listing.proofs.list_records.Statement.{statement}
 use Rattle.fitting_listing.proofs.list_records.Tie as tie
 

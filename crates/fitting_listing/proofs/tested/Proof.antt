@@ -25,8 +25,10 @@ cast-t14 c = search needs
 returns : tie.Need-returns
 unfolding testedLine
 returns c =
-    let said = c .before .before .of-verdict .ensures ∙ c .before .before .before .before .test .ensures .1 .0 in
-    (ap (λ (f : Fields). line (c .before .before .before .before .before .before .before .args .number) (f .number) (f .place)) said, record { answer = omega arith; place = omega arith })
+    let said = c .before .before .of-verdict .ensures ∙ c .before .before .before .before .test .ensures .1 .0 in (
+      ap (λ (f : Fields). line (c .before .before .before .before .before .before .before .args .number) (f .number) (f .place)) said,
+      record { answer = omega arith; place = omega arith },
+    )
 
 pub tested-spec : {M : Type 1} → statement M
 tested-spec =

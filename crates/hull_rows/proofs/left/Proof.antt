@@ -4,7 +4,8 @@ use mathlib.Core.Path.{_≡_, refl, _∙_}
 use denote.Ref.{now}
 use Rattle.rows.specs.parts.Rows.{rows}
 use Rattle.completion.specs.HullRows.{nextRow}
-use Rattle.hull_rows.proofs.Laws.{Spanning, climbing-edge, spanning-two, spanning-low, spanning-end, Leftward, leftward-start, leftward-corner, leftward-next}
+use Rattle.hull_rows.proofs.Laws.{Spanning, climbing-edge, spanning-two, spanning-low, spanning-end, Leftward, leftward-start}
+use Rattle.hull_rows.proofs.Laws.{leftward-corner, leftward-next}
 use native.Mathlib.Omega.{arith}
 use Rattle.hull_rows.proofs.left.Statement.{statement}
 use Rattle.hull_rows.proofs.left.Tie as tie
@@ -24,18 +25,25 @@ add-r c = omega arith
 loop-holds : tie.Need-loop-holds Inv-loop μ-loop
 loop-holds c =
     let args = c .before .before .args in
-    let fits : args .t ≤ 256 = omega (arith, c .before .before .pre) in
-    (fits, leftward-start (rows (now (args .lo))) (args .b) (args .t) fits (now (args .lo)) (c .before .before .pre .0) (c .before .before .pre .1) (λ s. refl))
+    let fits : args .t ≤ 256 = omega (arith, c .before .before .pre) in (
+      fits,
+      leftward-start (rows (now (args .lo))) (args .b) (args .t) fits (now (args .lo)) (c .before .before .pre .0)
+          (c .before .before .pre .1) (λ s. refl),
+    )
 
 edge-start-requires : tie.Need-edge-start-requires Inv-loop μ-loop
-edge-start-requires c κs = let iteration = c .before .before .loop .inv in omega (arith, iteration .1 .climbing .above, iteration .1 .high, iteration .0)
+edge-start-requires c κs = let iteration = c .before .before .loop .inv in
+    omega (arith, iteration .1 .climbing .above, iteration .1 .high, iteration .0)
 
 -- The edge that is found goes across the current row
 record Found (c : tie.After-edge-start Inv-loop μ-loop) : Type 0 where
   low : c .before .before .before .before .before .before .args .b ≤ c .edge-start .result
   high : suc (c .edge-start .result) < c .before .before .before .before .before .before .args .t
-  spans : Spanning (rows (now (c .before .before .before .before .before .before .args .lo))) (c .before .before .before .before .before .before .args .b) (c .before .before .before .before .before .before .args .t) (c .edge-start .result) (c .before .before .before .loop .r)
-  corner : rows (c .before .before .before .loop .lo) (c .edge-start .result) ≡ rows (now (c .before .before .before .before .before .before .args .lo)) (c .edge-start .result)
+  spans : Spanning (rows (now (c .before .before .before .before .before .before .args .lo)))
+      (c .before .before .before .before .before .before .args .b) (c .before .before .before .before .before .before .args .t)
+      (c .edge-start .result) (c .before .before .before .loop .r)
+  corner : rows (c .before .before .before .loop .lo) (c .edge-start .result)
+      ≡ rows (now (c .before .before .before .before .before .before .args .lo)) (c .edge-start .result)
 
 found : (c : tie.After-edge-start Inv-loop μ-loop) → Found c
 found c =
@@ -43,28 +51,40 @@ found c =
     let start = rows (now (args .lo)) in
     let iteration = c .before .before .before .loop in
     let climbing = iteration .inv .1 .climbing in
-    let next = c .before .before .before .before .tangents .ensures .furthest-left (iteration .i) (climbing .climbed .low) (omega (arith, climbing .above)) in
+    let next =
+    c .before .before .before .before .tangents .ensures .furthest-left (iteration .i) (climbing .climbed .low)
+    (omega (arith, climbing .above)) in
     let l : iteration .r < args .t = c .before .before .loop-test .taken in
-    let s = climbing-edge start (args .b) (args .t) (iteration .i) (iteration .r) _ (c .edge-start .result) climbing l next (c .edge-start .ensures) in
+    let s =
+    climbing-edge start (args .b) (args .t) (iteration .i) (iteration .r) _ (c .edge-start .result) climbing l next
+    (c .edge-start .ensures) in
     record {
       low = spanning-low start (args .b) (args .t) (c .edge-start .result) (iteration .r) s l;
       high = spanning-two start (args .b) (args .t) (c .edge-start .result) (iteration .r) s l;
       spans = s;
-      corner = leftward-corner start (args .b) (args .t) (iteration .inv .0) (iteration .lo) (iteration .i) (iteration .r) (iteration .inv .1) l (c .edge-start .result) _ next (c .edge-start .ensures);
+      corner =
+          leftward-corner start (args .b) (args .t) (iteration .inv .0) (iteration .lo) (iteration .i) (iteration .r) (iteration .inv .1) l
+          (c .edge-start .result) _ next (c .edge-start .ensures);
     }
 
 -- The row that is read is the one where it ends
 record Read (c : tie.After-wide Inv-loop μ-loop) : Type 0 where
-  ends : (c .before .edge-start .result < c .before .before .before .before .loop .r) × (c .before .before .before .before .loop .r ≤ c .wide .result) × (c .wide .result < c .before .before .before .before .before .before .before .args .t)
-  at : c .wide .result ≡ nextRow (rows (now (c .before .before .before .before .before .before .before .args .lo))) (c .before .before .before .before .before .before .before .args .t) (c .before .edge-start .result)
+  ends : (c .before .edge-start .result < c .before .before .before .before .loop .r)
+      × (c .before .before .before .before .loop .r ≤ c .wide .result)
+      × (c .wide .result < c .before .before .before .before .before .before .before .args .t)
+  at : c .wide .result ≡ nextRow (rows (now (c .before .before .before .before .before .before .before .args .lo)))
+      (c .before .before .before .before .before .before .before .args .t) (c .before .edge-start .result)
 
 read : (c : tie.After-wide Inv-loop μ-loop) → Read c
 read c =
     let f = found (c .before) in
     let args = c .before .before .before .before .before .before .before .args in
-    let e = c .wide .ensures .0 ∙ c .before .before .before .before .before .tangents .ensures .furthest-left (c .before .edge-start .result) (f .low) (f .high) in
+    let e = c .wide .ensures .0
+    ∙ c .before .before .before .before .before .tangents .ensures .furthest-left (c .before .edge-start .result) (f .low) (f .high) in
     record {
-      ends = spanning-end (rows (now (args .lo))) (args .b) (args .t) (c .before .edge-start .result) (c .before .before .before .before .loop .r) (f .spans) (c .before .before .before .loop-test .taken) (c .wide .result) e;
+      ends =
+          spanning-end (rows (now (args .lo))) (args .b) (args .t) (c .before .edge-start .result)
+          (c .before .before .before .before .loop .r) (f .spans) (c .before .before .before .loop-test .taken) (c .wide .result) e;
       at = e;
     }
 
@@ -101,8 +121,10 @@ loop-again c =
     let args = c .before .before .before .before .before .before .before .before .before .args in
     let iteration = c .before .before .before .before .before .before .loop in (
       iteration .inv .0,
-      leftward-next (rows (now (args .lo))) (args .b) (args .t) (iteration .inv .0) (iteration .lo) (iteration .i) (iteration .r) (iteration .inv .1) (c .before .before .before .before .before .loop-test .taken) (c .before .before .before .edge-start .result)
-          (f .spans) (c .before .before .wide .result) (c .crossing .result) (f .corner) (read (c .before .before) .at) (c .crossing .ensures .0),
+      leftward-next (rows (now (args .lo))) (args .b) (args .t) (iteration .inv .0) (iteration .lo) (iteration .i) (iteration .r)
+          (iteration .inv .1) (c .before .before .before .before .before .loop-test .taken) (c .before .before .before .edge-start .result)
+          (f .spans) (c .before .before .wide .result) (c .crossing .result) (f .corner) (read (c .before .before) .at)
+          (c .crossing .ensures .0),
     )
 
 returns : tie.Need-returns Inv-loop μ-loop

@@ -36,7 +36,8 @@ mul-number-2 c = search needs
 kept : (c : tie.At-loop Inv-loop μ-loop) → length (c .loop .buffer) ≡ length (c .before .args .buffer .now)
 kept c =
     let a = c .before .args in
-    ap length (c .loop .inv .1) ∙ length-paste (a .buffer .now) 0 (a .list .now) (c .loop .i) (omega (arith, c .loop .inv .0)) (omega (arith, c .loop .inv .0))
+    ap length (c .loop .inv .1)
+    ∙ length-paste (a .buffer .now) 0 (a .list .now) (c .loop .i) (omega (arith, c .loop .inv .0)) (omega (arith, c .loop .inv .0))
 
 slice-set-from-number : tie.Need-slice-set-from-number Inv-loop μ-loop
 slice-set-from-number c = omega (arith, kept (c .before .before))

@@ -17,7 +17,8 @@ read-requires c κs = search needs
 
 -- What the four pieces are read as
 module _ {f : Factored} (c : tie.After-read) (e : c .read .result ≡ f) where
-  factored : FactorsRead (c .before .before .before .args .letters .now) (c .before .before .before .args .round .cuts .at) zeros (c .read .last .1 .1 .0) f
+  factored : FactorsRead (c .before .before .before .args .letters .now) (c .before .before .before .args .round .cuts .at) zeros
+      (c .read .last .1 .1 .0) f
   factored = subst (FactorsRead _ _ _ _) e (c .read .ensures)
 
 enum-known-factored : tie.Need-enum-known-factored
@@ -47,7 +48,11 @@ write-edges-requires : tie.Need-write-edges-requires
 write-edges-requires c κs =
     let read = c .before .before .before .before .before .before .before in
     let start = read .before .before .before in
-    omega (arith, count-le (start .pre .0) (start .pre .1) (factored read (c .before .before .before .factored2 .given .1)), read .read .kept .1 .1 .0)
+    omega (
+      arith,
+      count-le (start .pre .0) (start .pre .1) (factored read (c .before .before .before .factored2 .given .1)),
+      read .read .kept .1 .1 .0,
+    )
 
 cast-t21 : tie.Need-cast-t21
 cast-t21 c =
@@ -68,7 +73,8 @@ returns-2 : tie.Need-returns-2
 returns-2 c =
     let read = c .before .before .before .before .before .before .before .before .before in
     let start = read .before .before .before in
-    edges-outcome (start .pre .0) (start .pre .1) (factored read (c .before .before .before .before .before .factored2 .given .1)) _ (c .before .write-edges .ensures)
+    edges-outcome (start .pre .0) (start .pre .1) (factored read (c .before .before .before .before .before .factored2 .given .1)) _
+    (c .before .write-edges .ensures)
 
 pub edges-spec : {M : Type 1} → statement M
 edges-spec =

@@ -25,7 +25,8 @@ fill-round-requires c κs = search needs
 copied : (c : tie.After-fill-round)
     → let cuts = c .before .before .before .before in
     let start = cuts .before .before in
-    Copied (outline (start .args .start) (start .args .letters .now)) (start .args .found) (cuts .cut-places .result) (c .before .before .read-place .result) (c .fill-round .last .1 .1 .1 .0)
+    Copied (outline (start .args .start) (start .args .letters .now)) (start .args .found) (cuts .cut-places .result)
+    (c .before .before .read-place .result) (c .fill-round .last .1 .1 .1 .0)
 copied c =
     let place = c .before .before in
     let cuts = place .before .before in

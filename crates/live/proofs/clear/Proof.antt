@@ -14,7 +14,9 @@ same-length : tie.Need-same-length
 same-length c = search needs
 
 returns-2 : tie.Need-returns-2
-returns-2 c = λ l r n. clear-done l r n _ _ (c .before .before .before .before .before .before .pre .0) _ (c .before .before .before .before .if1 .left) _ (c .before .before .remove .ensures r n)
+returns-2 c =
+    λ l r n. clear-done l r n _ _ (c .before .before .before .before .before .before .pre .0) _
+    (c .before .before .before .before .if1 .left) _ (c .before .before .remove .ensures r n)
 
 pub clear-spec : {M : Type 1} → statement M
 clear-spec = tie.close (tie.spec returns remove-requires same-length returns-2)

@@ -63,7 +63,8 @@ slice-read-count-2 : tie.Need-slice-read-count-2
 slice-read-count-2 c = search needs
 
 cast-count : tie.Need-cast-count
-cast-count c = omega (arith, c .slice-known6 .given (4 * c .before .before .before .before .before .before .before .before .args .party + 3))
+cast-count c =
+    omega (arith, c .slice-known6 .given (4 * c .before .before .before .before .before .before .before .before .args .party + 3))
 
 sent-requires : tie.Need-sent-requires
 sent-requires c κs = search needs
@@ -140,7 +141,8 @@ returns-3 c =
     let s = start judge in
     let sent = outline-sent (s .args .letters .now) (s .args .heads .now) (s .args .party) _ (read .sent .ensures) in
     close-taken (s .args .letters .now) (s .args .rows .now) (s .args .numbers .now) (s .args .heads .now) (s .args .party) (s .pre .0)
-    (s .args .place) (s .pre .1) (begun read .if1 .left) _ (judged-of _ (judge .judge .ensures .0) (judge .judge .ensures .1) ∙ ap judgedOf sent) _ _
+    (s .args .place) (s .pre .1) (begun read .if1 .left) _ (judged-of _ (judge .judge .ensures .0) (judge .judge .ensures .1)
+    ∙ ap judgedOf sent) _ _
     (decided .verdict2 .given .1) _ (has .has .ensures (s .args .rows .now)) _ (c .taken-reply .ensures) _ (ap spansOf sent) _ _ _
     (replaced .replace .ensures) _ (ended .end2 .ensures (s .args .letters .now))
 

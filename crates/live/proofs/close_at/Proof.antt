@@ -11,7 +11,9 @@ same-length : tie.Need-same-length
 same-length c = search needs
 
 returns : tie.Need-returns
-returns c = let s = c .before .before .before .before .before .before .before .before in close-no-place (s .args .letters .now) _ _ _ _ (s .pre .0) _ (c .before .before .before .before .if1 .taken) _ (c .before .before .end .ensures (s .args .letters .now))
+returns c = let s = c .before .before .before .before .before .before .before .before in
+    close-no-place (s .args .letters .now) _ _ _ _ (s .pre .0) _ (c .before .before .before .before .if1 .taken) _
+    (c .before .before .end .ensures (s .args .letters .now))
 
 close-requires : tie.Need-close-requires
 close-requires c κs = search needs

@@ -21,7 +21,9 @@ same-length-3 : tie.Need-same-length-3
 same-length-3 c = search needs
 
 returns-2 : tie.Need-returns-2
-returns-2 c = acts-answers _ _ _ _ _ refl (c .before .before .before .before .before .before .before .before .before .if1 .left) (c .before .before .before .before .before .close-at .ensures)
+returns-2 c =
+    acts-answers _ _ _ _ _ refl (c .before .before .before .before .before .before .before .before .before .if1 .left)
+    (c .before .before .before .before .before .close-at .ensures)
 
 pub close-of-spec : {M : Type 1} → statement M
 close-of-spec =

@@ -47,7 +47,8 @@ returns-5 c =
     let rows = numbers .before .before .before .before in
     let letters = rows .before .before .before .before in
     let fourth = letters .before .before in
-    fresh-lists _ (fits-by _ (fourth .before .before .before .if1 .left) (fourth .before .before .if2 .left) (fourth .before .if3 .left) (fourth .if4 .left)) _ _ _ _
+    fresh-lists _ (fits-by _ (fourth .before .before .before .if1 .left) (fourth .before .before .if2 .left) (fourth .before .if3 .left)
+    (fourth .if4 .left)) _ _ _ _
     (letters .zero-u8 .ensures) (rows .zero-u82 .ensures) (numbers .zero-i16 .ensures) (heads .zero-u16 .ensures)
 
 pub fresh-spec : {M : Type 1} → statement M

@@ -23,7 +23,9 @@ piece-requires c κs = search needs
 
 returns-3 : tie.Need-returns-3
 unfolding answered
-returns-3 c = λ l r. acts-answers _ _ _ _ _ refl (c .before .before .if1 .left) (ask-done l r _ _ _ (c .before .before .if1 .left) _ _ (c .before .if2 .left) _ (c .piece .ensures r))
+returns-3 c =
+    λ l r. acts-answers _ _ _ _ _ refl (c .before .before .if1 .left)
+    (ask-done l r _ _ _ (c .before .before .if1 .left) _ _ (c .before .if2 .left) _ (c .piece .ensures r))
 
 pub piece-of-spec : {M : Type 1} → statement M
 piece-of-spec = tie.close (tie.spec returns returns-2 mul-piece add-piece piece-requires returns-3)

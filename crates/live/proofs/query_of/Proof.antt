@@ -23,7 +23,9 @@ query-requires c κs = search needs
 
 returns-3 : tie.Need-returns-3
 unfolding answered
-returns-3 c = λ l n. acts-answers _ _ _ _ _ refl (c .before .before .if1 .left) (ask-done l _ n _ _ (c .before .before .if1 .left) _ _ (c .before .if2 .left) _ (c .query .ensures n))
+returns-3 c =
+    λ l n. acts-answers _ _ _ _ _ refl (c .before .before .if1 .left)
+    (ask-done l _ n _ _ (c .before .before .if1 .left) _ _ (c .before .if2 .left) _ (c .query .ensures n))
 
 pub query-of-spec : {M : Type 1} → statement M
 query-of-spec = tie.close (tie.spec returns returns-2 mul-query add-query query-requires returns-3)

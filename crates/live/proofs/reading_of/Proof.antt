@@ -23,7 +23,9 @@ reading-requires c κs = search needs
 
 returns-3 : tie.Need-returns-3
 unfolding answered
-returns-3 c = λ l r. acts-answers _ _ _ _ _ refl (c .before .before .if1 .left) (ask-done l r _ _ _ (c .before .before .if1 .left) _ _ (c .before .if2 .left) _ (c .reading .ensures r))
+returns-3 c =
+    λ l r. acts-answers _ _ _ _ _ refl (c .before .before .if1 .left)
+    (ask-done l r _ _ _ (c .before .before .if1 .left) _ _ (c .before .if2 .left) _ (c .reading .ensures r))
 
 pub reading-of-spec : {M : Type 1} → statement M
 reading-of-spec =

@@ -147,7 +147,12 @@ returns-2 c =
     let s = matched .before .before .before .before .before in
     written-called _ _ _ _ (s .pre .0) (s .pre .1) _ (is-add _ _ _ _ _ _ (matched .match .keys2) (read .letter .ensures)) _ _
     (answered .add-of .ensures (s .args .rows .now) (s .args .numbers .now))
-    (λ f. record { letters = letters .letters .given ∙ f .letters; rows = f .rows; numbers = f .numbers; heads = heads .heads2 .given ∙ f .heads })
+    (λ f. record {
+      letters = letters .letters .given ∙ f .letters;
+      rows = f .rows;
+      numbers = f .numbers;
+      heads = heads .heads2 .given ∙ f .heads;
+    })
     _ (fields .of-reply2 .ensures) _ (wrote .write2 .ensures .0) _ (wrote .write2 .ensures .1)
 
 same-length-6 : tie.Need-same-length-6
@@ -241,7 +246,8 @@ returns-6 c =
     let matched = read .before .before .before in
     let s = matched .before .before .before .before .before in
     written-called _ _ _ _ (s .pre .0) (s .pre .1) _ (is-query _ _ _ _ _ _ (matched .match .keys6) (read .point2 .ensures)) _ _
-    (answered .query-of .ensures (s .args .letters .now) (s .args .numbers .now)) (λ f. f) _ (fields .of-reply6 .ensures) _ (wrote .write6 .ensures .0) _ (wrote .write6 .ensures .1)
+    (answered .query-of .ensures (s .args .letters .now) (s .args .numbers .now)) (λ f. f) _ (fields .of-reply6 .ensures) _
+    (wrote .write6 .ensures .0) _ (wrote .write6 .ensures .1)
 
 same-length-18 : tie.Need-same-length-18
 same-length-18 c = search needs
@@ -261,7 +267,8 @@ returns-7 c =
     let matched = read .before .before .before in
     let s = matched .before .before .before .before .before in
     written-called _ _ _ _ (s .pre .0) (s .pre .1) _ (is-row _ _ _ _ _ _ (matched .match .keys7) (read .short .ensures)) _ _
-    (answered .row-of .ensures (s .args .letters .now) (s .args .numbers .now)) (λ f. f) _ (fields .of-reply7 .ensures) _ (wrote .write7 .ensures .0) _ (wrote .write7 .ensures .1)
+    (answered .row-of .ensures (s .args .letters .now) (s .args .numbers .now)) (λ f. f) _ (fields .of-reply7 .ensures) _
+    (wrote .write7 .ensures .0) _ (wrote .write7 .ensures .1)
 
 same-length-21 : tie.Need-same-length-21
 same-length-21 c = search needs
@@ -281,7 +288,8 @@ returns-8 c =
     let matched = read .before .before .before in
     let s = matched .before .before .before .before .before in
     written-called _ _ _ _ (s .pre .0) (s .pre .1) _ (is-reading _ _ _ _ _ _ (matched .match .keys8) (read .from-bits .ensures)) _ _
-    (answered .reading-of .ensures (s .args .letters .now) (s .args .rows .now)) (λ f. f) _ (fields .of-reply8 .ensures) _ (wrote .write8 .ensures .0) _ (wrote .write8 .ensures .1)
+    (answered .reading-of .ensures (s .args .letters .now) (s .args .rows .now)) (λ f. f) _ (fields .of-reply8 .ensures) _
+    (wrote .write8 .ensures .0) _ (wrote .write8 .ensures .1)
 
 same-length-24 : tie.Need-same-length-24
 same-length-24 c = search needs
@@ -301,12 +309,15 @@ returns-9 c =
     let matched = read .before .before .before in
     let s = matched .before .before .before .before .before in
     written-called _ _ _ _ (s .pre .0) (s .pre .1) _ (is-piece _ _ _ _ _ _ (matched .match .keys9) (read .short2 .ensures)) _ _
-    (answered .piece-of .ensures (s .args .letters .now) (s .args .rows .now)) (λ f. f) _ (fields .of-reply9 .ensures) _ (wrote .write9 .ensures .0) _ (wrote .write9 .ensures .1)
+    (answered .piece-of .ensures (s .args .letters .now) (s .args .rows .now)) (λ f. f) _ (fields .of-reply9 .ensures) _
+    (wrote .write9 .ensures .0) _ (wrote .write9 .ensures .1)
 
 returns-10 : tie.Need-returns-10
 returns-10 c =
     let r = c .match .rest in
-    nothing-called _ _ _ _ (sym (callOf-none _ _ _ _ _ (r .0 .0 .0 .0 .0 .0 .0 .0 .1) (r .0 .0 .0 .0 .0 .0 .0 .1) (r .0 .0 .0 .0 .0 .0 .1) (r .0 .0 .0 .0 .0 .1) (r .0 .0 .0 .0 .1) (r .0 .0 .0 .1) (r .0 .0 .1) (r .0 .1) (r .1)))
+    nothing-called _ _ _ _
+    (sym (callOf-none _ _ _ _ _ (r .0 .0 .0 .0 .0 .0 .0 .0 .1) (r .0 .0 .0 .0 .0 .0 .0 .1) (r .0 .0 .0 .0 .0 .0 .1)
+    (r .0 .0 .0 .0 .0 .1) (r .0 .0 .0 .0 .1) (r .0 .0 .0 .1) (r .0 .0 .1) (r .0 .1) (r .1)))
 
 pub act-spec : {M : Type 1} → statement M
 act-spec =

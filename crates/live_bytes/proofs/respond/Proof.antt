@@ -86,7 +86,8 @@ returns-7 c =
     let second = acted .before .before .before .before .before .before .before .before .before in
     let first = second .before .before .before .before .before in
     let room = first .before .before .before .before .before in
-    rw (received-call _ _ (room .before .if5 .left) (room .if6 .left) _ _ (first .long .ensures) (second .long2 .ensures)) (acted .act .ensures)
+    rw (received-call _ _ (room .before .if5 .left) (room .if6 .left) _ _ (first .long .ensures) (second .long2 .ensures))
+    (acted .act .ensures)
 
 pub respond-spec : {M : Type 1} → statement M
 respond-spec =

@@ -40,9 +40,15 @@ returns-4 c =
     let letters = heads .before .before in
     let answered = letters .before in
     let third = answered .before .before .before in
-    λ r n. written-made _ _ _ _ (record { letters = third .before .before .if1 .left; heads = third .before .if2 .left }) (third .if3 .left) _ _
+    λ r n. written-made _ _ _ _ (record { letters = third .before .before .if1 .left; heads = third .before .if2 .left }) (third .if3 .left)
+    _ _
     (answered .add-of .ensures r n)
-    (λ f. record { letters = letters .letters .given ∙ f .letters; rows = f .rows; numbers = f .numbers; heads = heads .heads .given ∙ f .heads })
+    (λ f. record {
+      letters = letters .letters .given ∙ f .letters;
+      rows = f .rows;
+      numbers = f .numbers;
+      heads = heads .heads .given ∙ f .heads;
+    })
     _ (fields .of-reply .ensures) _ (wrote .write .ensures .0) _ (wrote .write .ensures .1)
 
 pub add-spec : {M : Type 1} → statement M

@@ -54,7 +54,12 @@ returns-6 c =
     let third = fourth .before in
     let second = third .before in
     let first = second .before in
-    written-made _ _ _ _ (record { letters = first .if1 .left; rows = second .if2 .left; numbers = third .if3 .left; heads = fourth .if4 .left })
+    written-made _ _ _ _ (record {
+      letters = first .if1 .left;
+      rows = second .if2 .left;
+      numbers = third .if3 .left;
+      heads = fourth .if4 .left;
+    })
     (fifth .if5 .left) _ _ (answered .close-of .ensures)
     (λ f. record {
       letters = f .letters;

@@ -44,7 +44,11 @@ returns-4 c =
     let answered = read .before in
     let third = answered .before in
     let room = third .if3 .left in (
-      λ l r. written-made _ _ _ _ (third .before .before .if1 .left, third .before .if2 .left) room _ _ (answered .piece-of .ensures l r) (λ f. f) _ (fields .of-reply .ensures) _ (wrote .write .ensures .0) _ (wrote .write .ensures .1),
+      λ l r. written-made _ _ _ _ (
+        third .before .before .if1 .left,
+        third .before .if2 .left,
+      ) room _ _ (answered .piece-of .ensures l r) (λ f. f) _ (fields .of-reply .ensures) _
+          (wrote .write .ensures .0) _ (wrote .write .ensures .1),
       λ l r. drawn-point _ _ _ room _ _ _ _ (answered .piece-of .ensures l r) _ (read .piece-in .ensures) (pointed .write-point .ensures) _
           (wrote .write .ensures .0),
     )

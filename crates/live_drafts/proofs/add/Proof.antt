@@ -31,10 +31,12 @@ cast-n : tie.Need-cast-n
 cast-n c = omega (arith, c .slice-known2 .given (4 * c .before .before .before .args .party + 3))
 
 returns-2 : tie.Need-returns-2
-returns-2 c = let s = c .before .before .before .before in add-full _ _ _ _ (s .pre .0) (s .pre .1) (c .before .before .if1 .left) (c .if2 .taken)
+returns-2 c = let s = c .before .before .before .before in
+    add-full _ _ _ _ (s .pre .0) (s .pre .1) (c .before .before .if1 .left) (c .if2 .taken)
 
 returns-3 : tie.Need-returns-3
-returns-3 c = let s = c .before .before .before .before .before in add-letter _ _ _ _ (s .pre .0) (s .pre .1) (c .before .before .before .if1 .left) (c .before .if2 .left) (c .if3 .taken)
+returns-3 c = let s = c .before .before .before .before .before in
+    add-letter _ _ _ _ (s .pre .0) (s .pre .1) (c .before .before .before .if1 .left) (c .before .if2 .left) (c .if3 .taken)
 
 mul-i : tie.Need-mul-i
 mul-i c = search needs
@@ -64,7 +66,8 @@ same-length-2 : tie.Need-same-length-2
 same-length-2 c = search needs
 
 returns-4 : tie.Need-returns-4
-returns-4 c = let s = c .before .before .before .before .before in add-done _ _ _ _ (s .pre .0) (s .pre .1) (c .before .before .before .if1 .left) (c .before .if2 .left) (c .if3 .left)
+returns-4 c = let s = c .before .before .before .before .before in
+    add-done _ _ _ _ (s .pre .0) (s .pre .1) (c .before .before .before .if1 .left) (c .before .if2 .left) (c .if3 .left)
 
 pub add-spec : {M : Type 1} → statement M
 add-spec =

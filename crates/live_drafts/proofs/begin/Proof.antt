@@ -21,7 +21,9 @@ bad-start-requires : tie.Need-bad-start-requires
 bad-start-requires c κs = search needs
 
 returns-2 : tie.Need-returns-2
-returns-2 c = λ letters. begin-start _ _ (c .before .before .before .before .before .pre .0) (c .before .before .before .before .before .pre .1) letters _ (c .before .before .if1 .left) (sym (c .before .bad-start .ensures) ∙ c .if2 .taken)
+returns-2 c =
+    λ letters. begin-start _ _ (c .before .before .before .before .before .pre .0) (c .before .before .before .before .before .pre .1)
+    letters _ (c .before .before .if1 .left) (sym (c .before .bad-start .ensures) ∙ c .if2 .taken)
 
 write-head-requires : tie.Need-write-head-requires
 write-head-requires c κs = search needs
@@ -30,7 +32,11 @@ same-length : tie.Need-same-length
 same-length c = search needs
 
 returns-3 : tie.Need-returns-3
-returns-3 c = λ letters. begin-done _ _ (c .before .before .before .before .before .before .before .before .before .pre .0) (c .before .before .before .before .before .before .before .before .before .pre .1) letters _ (c .before .before .before .before .before .before .if1 .left) (sym (c .before .before .before .before .before .bad-start .ensures) ∙ c .before .before .before .before .if2 .left) _ (c .before .before .write-head .ensures)
+returns-3 c =
+    λ letters. begin-done _ _ (c .before .before .before .before .before .before .before .before .before .pre .0)
+    (c .before .before .before .before .before .before .before .before .before .pre .1) letters _
+    (c .before .before .before .before .before .before .if1 .left) (sym (c .before .before .before .before .before .bad-start .ensures)
+    ∙ c .before .before .before .before .if2 .left) _ (c .before .before .write-head .ensures)
 
 pub begin-spec : {M : Type 1} → statement M
 begin-spec =

@@ -23,7 +23,10 @@ same-length : tie.Need-same-length
 same-length c = search needs
 
 returns-2 : tie.Need-returns-2
-returns-2 c = λ letters. drop-done _ _ (c .before .before .before .before .before .before .before .pre .0) (c .before .before .before .before .before .before .before .pre .1) letters (c .before .before .before .before .if1 .left) _ (c .before .before .end .ensures letters)
+returns-2 c =
+    λ letters. drop-done _ _ (c .before .before .before .before .before .before .before .pre .0)
+    (c .before .before .before .before .before .before .before .pre .1) letters (c .before .before .before .before .if1 .left) _
+    (c .before .before .end .ensures letters)
 
 pub drop-spec : {M : Type 1} → statement M
 drop-spec =

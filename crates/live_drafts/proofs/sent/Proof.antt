@@ -24,7 +24,9 @@ part-result-end : tie.Need-part-result-end
 part-result-end c = search needs
 
 returns : tie.Need-returns
-returns c = rw add-sub-cancel-left (letters-window (c .before .before .before .args .letters .now) (c .before .before .before .args .party) _ _ (c .before .held .ensures))
+returns c =
+    rw add-sub-cancel-left
+    (letters-window (c .before .before .before .args .letters .now) (c .before .before .before .args .party) _ _ (c .before .held .ensures))
 
 pub sent-spec : {M : Type 1} → statement M
 sent-spec =

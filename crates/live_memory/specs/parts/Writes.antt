@@ -31,11 +31,13 @@ OtherHeads h h′ a = (i : ℕ) → (i < a) ⊎ (a + 4 ≤ i) → getD h′ i 0 
 
 -- Letters and heads now have d as the draft of party p. The rest of the holder is unchanged, whatever the other arrays hold
 pub record DraftPut (letters heads letters′ heads′ : List ℕ) (p : ℕ) (d : Draft) : Type 0 where
-  pub holder : (rows : List ℕ) (numbers : List ℤ) → holderOf letters′ rows numbers heads′ ≡ withDraft (holderOf letters rows numbers heads) p d
+  pub holder : (rows : List ℕ) (numbers : List ℤ)
+      → holderOf letters′ rows numbers heads′ ≡ withDraft (holderOf letters rows numbers heads) p d
   pub others : OtherHeads heads heads′ (draftHead p)
 
 -- Rows, numbers and heads now have w as the work of party p at place k
-pub record WorkPut (rows : List ℕ) (numbers : List ℤ) (heads rows′ : List ℕ) (numbers′ : List ℤ) (heads′ : List ℕ) (p k : ℕ) (w : Work) : Type 0 where
+pub record WorkPut (rows : List ℕ) (numbers : List ℤ) (heads rows′ : List ℕ) (numbers′ : List ℤ) (heads′ : List ℕ) (p k : ℕ) (w : Work)
+    : Type 0 where
   pub holder : (letters : List ℕ) → holderOf letters rows′ numbers′ heads′ ≡ withWork (holderOf letters rows numbers heads) p k w
   pub others : OtherHeads heads heads′ (workHead (slot p k))
 

@@ -45,7 +45,8 @@ returns-4 c =
     let s = third .before .if2 .left in
     let room = third .if3 .left in
     let fields = named .of-reply .ensures in (
-      written-called _ _ _ (fits-by _ r s) room _ _ (done .set-layer .ensures) (fits-by _ (rows .rows .given ∙ r) (state .state .given ∙ s)) _
+      written-called _ _ _ (fits-by _ r s) room _ _ (done .set-layer .ensures) (fits-by _ (rows .rows .given ∙ r) (state .state .given ∙ s))
+          _
           fields
           _
           (wrote .write .ensures .0)

@@ -46,7 +46,8 @@ returns-3 c =
     let low = judged .before .if1 .left in
     let start = judged .before .before .before .before .before in
     set-acts _ _ _ _
-    (pile-put (start .args .rows .now) (start .args .state .now) (start .pre .state) _ (omega (arith, low)) _ _ (written .put-outline .ensures)) _ _
+    (pile-put (start .args .rows .now) (start .args .state .now) (start .pre .state) _ (omega (arith, low)) _ _
+    (written .put-outline .ensures)) _ _
     (set-taken _ _ _ low (judged .verdict-of .ensures) _ _ (told .verdict2 .given .1) _ refl _ refl)
 
 pub set-layer-spec : {M : Type 1} → statement M

@@ -28,7 +28,9 @@ part-result-end : tie.Need-part-result-end
 part-result-end c = search needs
 
 returns : tie.Need-returns
-returns c = rw add-sub-cancel-left (edges-window (c .before .before .args .numbers .now) (c .before .before .args .slot) _ _ (c .before .number-count .ensures))
+returns c =
+    rw add-sub-cancel-left
+    (edges-window (c .before .before .args .numbers .now) (c .before .before .args .slot) _ _ (c .before .number-count .ensures))
 
 pub edges-at-spec : {M : Type 1} → statement M
 edges-at-spec =

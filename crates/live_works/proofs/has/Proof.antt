@@ -47,7 +47,9 @@ same-point-requires : tie.Need-same-point-requires
 same-point-requires c κs = search needs
 
 returns-2 : tie.Need-returns-2
-returns-2 c = λ r. has-apart r _ _ _ _ _ (c .before .before .before .before .if1 .left) (sym (c .before .same-point .ensures) ∙ not-true _ (c .if2 .taken))
+returns-2 c =
+    λ r. has-apart r _ _ _ _ _ (c .before .before .before .before .if1 .left) (sym (c .before .same-point .ensures)
+    ∙ not-true _ (c .if2 .taken))
 
 add-count-2 : tie.Need-add-count-2
 add-count-2 c = search needs
@@ -59,7 +61,8 @@ shared-slice-read-count-2 : tie.Need-shared-slice-read-count-2
 shared-slice-read-count-2 c = search needs
 
 cast-count : tie.Need-cast-count
-cast-count c = omega (arith, c .shared-slice-known5 .given (8 + 4 * c .before .before .before .before .before .before .before .before .args .slot + 3))
+cast-count c =
+    omega (arith, c .shared-slice-known5 .given (8 + 4 * c .before .before .before .before .before .before .before .before .args .slot + 3))
 
 edges-at-requires : tie.Need-edges-at-requires
 edges-at-requires c κs = search needs
@@ -75,7 +78,11 @@ same-numbers-requires c κs = search needs
 
 returns-3 : tie.Need-returns-3
 unfolding listed
-returns-3 c = λ r. has-here r _ _ _ _ _ (c .before .before .before .before .before .before .before .before .before .before .if1 .left) (sym (c .before .before .before .before .before .before .before .same-point .ensures) ∙ not-false _ (c .before .before .before .before .before .before .if2 .left)) _ _ (c .same-numbers .ensures ∙ rw (c .before .before .before .number-count .ensures)) (c .before .before .before .before .edges-at .ensures)
+returns-3 c =
+    λ r. has-here r _ _ _ _ _ (c .before .before .before .before .before .before .before .before .before .before .if1 .left)
+    (sym (c .before .before .before .before .before .before .before .same-point .ensures)
+    ∙ not-false _ (c .before .before .before .before .before .before .if2 .left)) _ _ (c .same-numbers .ensures
+    ∙ rw (c .before .before .before .number-count .ensures)) (c .before .before .before .before .edges-at .ensures)
 
 pub has-spec : {M : Type 1} → statement M
 has-spec =

@@ -58,7 +58,11 @@ drawn-at-requires : tie.Need-drawn-at-requires
 drawn-at-requires c κs = search needs
 
 returns-2 : tie.Need-returns-2
-returns-2 c = λ r. rw (c .drawn-at .ensures, c .before .edges-at .ensures) (piece-here r _ _ _ _ (c .before .before .before .before .before .if1 .left))
+returns-2 c =
+    λ r. rw (
+      c .drawn-at .ensures,
+      c .before .edges-at .ensures,
+    ) (piece-here r _ _ _ _ (c .before .before .before .before .before .if1 .left))
 
 pub piece-spec : {M : Type 1} → statement M
 piece-spec =

@@ -38,7 +38,8 @@ mul-number-2 c = search needs
 kept : (c : tie.At-loop Inv-loop μ-loop) → length (c .loop .buffer) ≡ length (c .before .before .args .buffer .now)
 kept c =
     let a = c .before .before .args in
-    pasted-length (a .buffer .now) (a .at) (a .list .now) mostNumbers (c .before .before .pre) (c .before .all .given .0) _ (c .loop .i) (c .loop .inv)
+    pasted-length (a .buffer .now) (a .at) (a .list .now) mostNumbers (c .before .before .pre) (c .before .all .given .0) _ (c .loop .i)
+    (c .loop .inv)
 
 slice-set-from-number : tie.Need-slice-set-from-number Inv-loop μ-loop
 slice-set-from-number c = omega (arith, kept (c .before .before))
@@ -54,7 +55,8 @@ loop-again c =
     let iteration = c .before in
     let a = iteration .before .before .before .args in
     let i = iteration .before .loop .i in
-    pasted-next (a .buffer .now) (a .at) (a .list .now) mostNumbers (iteration .before .before .before .pre) (iteration .before .before .all .given .0)
+    pasted-next (a .buffer .now) (a .at) (a .list .now) mostNumbers (iteration .before .before .before .pre)
+    (iteration .before .before .all .given .0)
     _ i (pos 0) _ (toZ-ofZ w16 (getD (a .list .now) i (pos 0)) (record { sfits = c .number .given }))
     (iteration .before .loop .inv) (omega (arith, iteration .loop-test .taken))
 

@@ -30,10 +30,14 @@ within-requires : tie.Need-within-requires
 within-requires c κs = search needs
 
 returns-4 : tie.Need-returns-4
-returns-4 c = λ n. query-in _ n _ _ _ (c .before .before .before .before .if1 .left) (c .before .before .before .if2 .left) (c .before .before .if3 .left) (sym (c .before .within .ensures) ∙ c .if4 .taken)
+returns-4 c =
+    λ n. query-in _ n _ _ _ (c .before .before .before .before .if1 .left) (c .before .before .before .if2 .left)
+    (c .before .before .if3 .left) (sym (c .before .within .ensures) ∙ c .if4 .taken)
 
 returns-5 : tie.Need-returns-5
-returns-5 c = λ n. query-out _ n _ _ _ (c .before .before .before .before .if1 .left) (c .before .before .before .if2 .left) (c .before .before .if3 .left) (sym (c .before .within .ensures) ∙ c .if4 .left)
+returns-5 c =
+    λ n. query-out _ n _ _ _ (c .before .before .before .before .if1 .left) (c .before .before .before .if2 .left)
+    (c .before .before .if3 .left) (sym (c .before .within .ensures) ∙ c .if4 .left)
 
 pub query-spec : {M : Type 1} → statement M
 query-spec =

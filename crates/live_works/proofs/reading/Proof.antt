@@ -61,7 +61,12 @@ reply-requires : tie.Need-reply-requires
 reply-requires c κs = search needs
 
 returns-2 : tie.Need-returns-2
-returns-2 c = λ r. rw (c .reply .ensures, c .before .locate .ensures, c .before .before .edges-at .ensures) (reading-here r _ _ _ _ (c .before .before .before .before .before .before .if1 .left))
+returns-2 c =
+    λ r. rw (
+      c .reply .ensures,
+      c .before .locate .ensures,
+      c .before .before .edges-at .ensures,
+    ) (reading-here r _ _ _ _ (c .before .before .before .before .before .before .if1 .left))
 
 pub reading-spec : {M : Type 1} → statement M
 reading-spec =

@@ -45,8 +45,10 @@ returns c =
     let copied = headed .before .before .before in
     let put = copied .before .before .before .before in
     let s = put .before .before .before .before .before in
-    replaced-put (s .args .rows .now) (s .args .numbers .now) (s .args .heads .now) (s .pre .2) (s .args .party) (s .args .place) (s .pre .0) (s .pre .1)
-    (s .args .anchor) (s .args .list .now) (s .args .edges) (spansOf (outline (s .args .start) (s .args .letters .now))) (copied .put-numbers .ensures .1) _ (put .put-outline .ensures) _
+    replaced-put (s .args .rows .now) (s .args .numbers .now) (s .args .heads .now) (s .pre .2) (s .args .party) (s .args .place)
+    (s .pre .0) (s .pre .1)
+    (s .args .anchor) (s .args .list .now) (s .args .edges) (spansOf (outline (s .args .start) (s .args .letters .now)))
+    (copied .put-numbers .ensures .1) _ (put .put-outline .ensures) _
     (copied .put-numbers .ensures .0) _ (headed .write-head .ensures)
 
 pub replace-spec : {M : Type 1} → statement M

@@ -31,7 +31,8 @@ reply-requires : tie.Need-reply-requires
 reply-requires c κs = search needs
 
 returns-3 : tie.Need-returns-3
-returns-3 c = λ n. c .reply .ensures ∙ ap spanReply (c .before .span-at .ensures) ∙ row-span _ n _ _ _ (c .before .before .before .if1 .left) (c .before .before .if2 .left)
+returns-3 c = λ n. c .reply .ensures ∙ ap spanReply (c .before .span-at .ensures)
+    ∙ row-span _ n _ _ _ (c .before .before .before .if1 .left) (c .before .before .if2 .left)
 
 pub row-spec : {M : Type 1} → statement M
 row-spec =

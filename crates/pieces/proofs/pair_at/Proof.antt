@@ -28,7 +28,8 @@ row-of f = record { earlier = refl; later = refl; earlier-cols = refl; earlier-r
 
 -- A table of four rows
 table-at :
-    {a b c d : Pair} (none : Pair) → PairOf (frameOf 0) a → PairOf (frameOf 1) b → PairOf (frameOf 2) c → PairOf (frameOf 3) d → (k : ℕ) → k < 4
+    {a b c d : Pair} (none : Pair) → PairOf (frameOf 0) a → PairOf (frameOf 1) b → PairOf (frameOf 2) c → PairOf (frameOf 3) d → (k : ℕ)
+    → k < 4
     → PairOf (frameOf k) (getD (a ∷ b ∷ c ∷ d ∷ []) k none)
 table-at none p q r s zero h = p
 table-at none p q r s (suc zero) h = q
@@ -54,7 +55,9 @@ array-copy-out-result-2 c = search needs
 
 returns : tie.Need-returns
 unfolding frameOf
-returns c = table-at _ (row-of (frameOf 0)) (row-of (frameOf 1)) (row-of (frameOf 2)) (row-of (frameOf 3)) (c .before .before .args .k) (search needs)
+returns c =
+    table-at _ (row-of (frameOf 0)) (row-of (frameOf 1)) (row-of (frameOf 2)) (row-of (frameOf 3)) (c .before .before .args .k)
+    (search needs)
 
 returns-2 : tie.Need-returns-2
 unfolding frameOf

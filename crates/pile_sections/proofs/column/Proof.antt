@@ -19,7 +19,8 @@ abbrev μ-loop : tie.MeasureT-loop
 μ-loop col ls lo₀ past₀ l₀ lo past l = layers - l
 
 loop-holds : tie.Need-loop-holds Inv-loop μ-loop
-loop-holds c = (omega arith, filled-start _ layers _ (length-replicate {A = ℕ} layers 0), filled-start _ layers _ (length-replicate {A = ℕ} layers 0))
+loop-holds c =
+    (omega arith, filled-start _ layers _ (length-replicate {A = ℕ} layers 0), filled-start _ layers _ (length-replicate {A = ℕ} layers 0))
 
 mul-spans : tie.Need-mul-spans Inv-loop μ-loop
 mul-spans c = search needs
@@ -48,8 +49,11 @@ loop-less c = omega arith
 loop-again : tie.Need-loop-again Inv-loop μ-loop
 unfolding lowestRow afterHighest
 loop-again c =
-    let at = c .before .before .before .before .before .before .before .before .before .before .loop in
-    (omega arith, filled-next (at .inv .1) (omega arith) _ (c .before .before .before .lowest .ensures), filled-next (at .inv .2) (omega arith) _ (c .after-highest .ensures))
+    let at = c .before .before .before .before .before .before .before .before .before .before .loop in (
+      omega arith,
+      filled-next (at .inv .1) (omega arith) _ (c .before .before .before .lowest .ensures),
+      filled-next (at .inv .2) (omega arith) _ (c .after-highest .ensures),
+    )
 
 returns : tie.Need-returns Inv-loop μ-loop
 unfolding columnSection

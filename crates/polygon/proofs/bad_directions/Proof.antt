@@ -55,9 +55,11 @@ further-is c = simp (toZ-ofZ w16 _ (fits-x (c .before .before)), toZ-ofZ w16 _ (
 col-read : (c : tie.After-long Inv-loop μ-loop) → toZ w64 (ofZ w64 (c .long .result)) ≡ c .before .before .before .loop .at .col
 col-read c =
     let told = c .before in
-    read-back _ (c .long .ok) ∙ c .long .ensures ∙ toZ-ofZ w32 (told .before .before .loop .at .col) (record { sfits = told .struct-told .given .0 .1 })
+    read-back _ (c .long .ok) ∙ c .long .ensures
+    ∙ toZ-ofZ w32 (told .before .before .loop .at .col) (record { sfits = told .struct-told .given .0 .1 })
 
-row-read : (c : tie.After-long2 Inv-loop μ-loop) → toZ w64 (ofZ w64 (c .long2 .result)) ≡ c .before .before .before .before .before .before .before .loop .at .row
+row-read : (c : tie.After-long2 Inv-loop μ-loop)
+    → toZ w64 (ofZ w64 (c .long2 .result)) ≡ c .before .before .before .before .before .before .before .loop .at .row
 row-read c =
     let told = c .before in
     let l = told .before .before .before .before .before .before in
@@ -73,7 +75,8 @@ decided c = let l = c .before .before .before .before in turning-short _ (omega 
 zero-col : (c : tie.After-is-zero Inv-loop μ-loop) → c .is-zero .result ≡ isNil (c .before .before .before .before .loop .at .col)
 zero-col c = simp (col-read (c .before)) at (c .is-zero .ensures)
 
-zero-row : (c : tie.After-is-zero2 Inv-loop μ-loop) → c .is-zero2 .result ≡ isNil (c .before .before .before .before .before .before .before .before .loop .at .row)
+zero-row : (c : tie.After-is-zero2 Inv-loop μ-loop)
+    → c .is-zero2 .result ≡ isNil (c .before .before .before .before .before .before .before .before .loop .at .row)
 zero-row c = simp (row-read (c .before)) at (c .is-zero2 .ensures)
 
 returns : tie.Need-returns Inv-loop μ-loop
@@ -94,7 +97,8 @@ turns-on-requires c κs = omega arith
 returns-2 : tie.Need-returns-2 Inv-loop μ-loop
 returns-2 c =
     let t = c .before .before in
-    sym (turning-short (list t) (omega arith) ∙ turned-off (t .before .loop .inv) (omega arith) (sym (c .before .turns-on .ensures) ∙ not-true _ (c .if2 .taken)))
+    sym (turning-short (list t) (omega arith)
+    ∙ turned-off (t .before .loop .inv) (omega arith) (sym (c .before .turns-on .ensures) ∙ not-true _ (c .if2 .taken)))
 
 mul-further : tie.Need-mul-further Inv-loop μ-loop
 mul-further c = omega arith

@@ -22,14 +22,20 @@ across-read : (c : tie.After-moment) → toZ w64 (ofZ w64 (c .moment .result)) �
 across-read c =
     let s = c .before .before in
     read-back (c .moment .result) (c .moment .ok)
-    ∙ simp (toZ-ofZ w16 (s .args .dy) (s .fits .dy), toZ-ofZ w32 (s .args .at .col) (record { sfits = c .before .struct-told .given .0 .1 }))
+    ∙ simp (
+      toZ-ofZ w16 (s .args .dy) (s .fits .dy),
+      toZ-ofZ w32 (s .args .at .col) (record { sfits = c .before .struct-told .given .0 .1 }),
+    )
     at (c .moment .ensures)
 
 up-read : (c : tie.After-moment2) → toZ w64 (ofZ w64 (c .moment2 .result)) ≡ up (c .before .before .before .before)
 up-read c =
     let s = c .before .before .before .before in
     read-back (c .moment2 .result) (c .moment2 .ok)
-    ∙ simp (toZ-ofZ w16 (s .args .dx) (s .fits .dx), toZ-ofZ w32 (s .args .at .row) (record { sfits = c .before .struct-told2 .given .1 .0 .1 }))
+    ∙ simp (
+      toZ-ofZ w16 (s .args .dx) (s .fits .dx),
+      toZ-ofZ w32 (s .args .at .row) (record { sfits = c .before .struct-told2 .given .1 .0 .1 }),
+    )
     at (c .moment2 .ensures)
 
 moment-requires : tie.Need-moment-requires

@@ -68,11 +68,15 @@ further-is c =
 
 cols-are : (c : tie.After-meet Inv-loop μ-loop) → let f = c .before .before in
     c .meet .result ≡ met (f .before .before .before .before .before .before .loop .cols) (f .further .result .col)
-cols-are c = simp (toZ-ofZ w32 (c .before .before .further .result .col) (record { sfits = c .before .struct-told3 .given .0 .1 })) at (c .meet .ensures)
+cols-are c =
+    simp (toZ-ofZ w32 (c .before .before .further .result .col) (record { sfits = c .before .struct-told3 .given .0 .1 })) at
+    (c .meet .ensures)
 
 rows-are : (c : tie.After-meet2 Inv-loop μ-loop) → let f = c .before .before .before .before in
     c .meet2 .result ≡ met (f .before .before .before .before .before .before .loop .rows) (f .further .result .row)
-rows-are c = simp (toZ-ofZ w32 (c .before .before .before .before .further .result .row) (record { sfits = c .before .struct-told4 .given .1 .0 .1 })) at (c .meet2 .ensures)
+rows-are c =
+    simp (toZ-ofZ w32 (c .before .before .before .before .further .result .row)
+    (record { sfits = c .before .struct-told4 .given .1 .0 .1 })) at (c .meet2 .ensures)
 
 -- The walk starts at the anchor, and there the extremes are the anchor's own numbers
 started-is : (c : tie.After-begin2 Inv-loop μ-loop) →
@@ -84,8 +88,10 @@ started-is c =
     let one = c .before .before in
     let at = s .start .ensures in (
       at,
-      simp (toZ-ofZ w32 (s .start .result .col) (record { sfits = one .before .struct-told .given .0 .1 })) at (one .begin .ensures) ∙ ap (λ (k : Corner). begun (k .col)) at,
-      simp (toZ-ofZ w32 (s .start .result .row) (record { sfits = c .before .struct-told2 .given .1 .0 .1 })) at (c .begin2 .ensures) ∙ ap (λ (k : Corner). begun (k .row)) at,
+      simp (toZ-ofZ w32 (s .start .result .col) (record { sfits = one .before .struct-told .given .0 .1 })) at (one .begin .ensures)
+          ∙ ap (λ (k : Corner). begun (k .col)) at,
+      simp (toZ-ofZ w32 (s .start .result .row) (record { sfits = c .before .struct-told2 .given .1 .0 .1 })) at (c .begin2 .ensures)
+          ∙ ap (λ (k : Corner). begun (k .row)) at,
     )
 
 -- The rule of the edges is the loop's answer for all of them
@@ -93,7 +99,8 @@ rule : (c : tie.After-begin2 Inv-loop μ-loop) →
     let s = c .before .before .before .before in
     let a = s .before .before .args in
     insideList (a .anchor) (a .edges .now) (a .cell)
-    ≡ insideFrom (pairs (a .edges .now)) (s .start .result) (c .before .before .begin .result) (c .begin2 .result) (pos (a .cell .col)) (pos (a .cell .row))
+    ≡ insideFrom (pairs (a .edges .now)) (s .start .result) (c .before .before .begin .result) (c .begin2 .result) (pos (a .cell .col))
+    (pos (a .cell .row))
 rule c =
     let e = started-is c in
     let a = c .before .before .before .before .before .before .args in
@@ -145,13 +152,17 @@ beside-requires c κs = search needs
 returns-2 : tie.Need-returns-2 Inv-loop μ-loop
 returns-2 c =
     let t = c .before .before .before .before in
-    sym (rule (t .before .before) ∙ walked-outside (t .before .loop .inv) (omega arith) (sym (beside-is (c .before)) ∙ not-true _ (c .if2 .taken)))
+    sym (rule (t .before .before)
+    ∙ walked-outside (t .before .loop .inv) (omega arith) (sym (beside-is (c .before)) ∙ not-true _ (c .if2 .taken)))
 
 further-requires : tie.Need-further-requires Inv-loop μ-loop
 further-requires c κs =
     let dy = c .before .before in
     let t = dy .before .before in
-    simp (toZ-ofZ w16 _ (fits-x (dy .before)), toZ-ofZ w16 _ (fits-y dy)) (after-fits (t .before .loop .inv .near) (fits-x (dy .before)) (fits-y dy) (omega arith))
+    simp (
+      toZ-ofZ w16 _ (fits-x (dy .before)),
+      toZ-ofZ w16 _ (fits-y dy),
+    ) (after-fits (t .before .loop .inv .near) (fits-x (dy .before)) (fits-y dy) (omega arith))
 
 meet-requires : tie.Need-meet-requires Inv-loop μ-loop
 meet-requires c κs = search needs
@@ -171,7 +182,11 @@ loop-again c =
     let dy = f .before .before .before in
     let t = dy .before .before in
     let inward = sym (beside-is (f .before .before)) ∙ not-false _ (f .before .if2 .left) in
-    rw (cols-are (c .before .before), rows-are c, further-is f) (walked-edge (t .before .loop .inv) (omega arith) (fits-x (dy .before)) (fits-y dy) inward)
+    rw (
+      cols-are (c .before .before),
+      rows-are c,
+      further-is f,
+    ) (walked-edge (t .before .loop .inv) (omega arith) (fits-x (dy .before)) (fits-y dy) inward)
 
 spanned-requires : tie.Need-spanned-requires Inv-loop μ-loop
 spanned-requires c κs = search needs

@@ -7,7 +7,8 @@ use Rattle.chart.specs.declared.Position.the-variants.{Inside, Outside, Refused
 use Rattle.chart.specs.declared.Refusal.the-variants.{Cell}
 use Rattle.directions.specs.Increasing.{badDirections}
 use Rattle.polygon.specs.Loose.{badList, badCell, looseOf}
-use Rattle.polygon.proofs.LooseCases.{inside-short, short-list, turning-short, loose-list, loose-anchor, loose-cell, loose-turning, loose-edges}
+use Rattle.polygon.proofs.LooseCases.{inside-short, short-list, turning-short, loose-list, loose-anchor, loose-cell, loose-turning}
+use Rattle.polygon.proofs.LooseCases.{loose-edges}
 use Rattle.polygon.proofs.LooseHull.{answer-named}
 use Rattle.polygon.proofs.loose_query.Statement.{statement}
 use Rattle.polygon.proofs.loose_query.Tie as tie
@@ -48,7 +49,8 @@ module _ (c : tie.Else3) where
   placed : badCell (c .before .before .before .before .before .before .args .cell) ≡ false
   placed = sym (c .before .bad-cell2 .ensures) ∙ c .if3 .left
 
-turned : (c : tie.After-bad-directions) → c .bad-directions .result ≡ badDirections (c .before .before .before .before .before .before .before .args .edges .now)
+turned : (c : tie.After-bad-directions)
+    → c .bad-directions .result ≡ badDirections (c .before .before .before .before .before .before .before .args .edges .now)
 turned c = c .bad-directions .ensures ∙ turning-short _ (short-list _ (listed (c .before)))
 
 returns-3 : tie.Need-returns-3

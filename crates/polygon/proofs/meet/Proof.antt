@@ -16,7 +16,10 @@ at-read c = read-back (c .long .result) (c .long .ok) ∙ c .long .ensures ∙ t
 
 low-is : (c : tie.After-lower) → let s = c .before .before .before .args in c .lower .result ≡ minℤ (s .s .low) (s .n)
 low-is c =
-    simp (read-back (c .before .before .before .args .s .low) (c .before .struct-told .given .0 .1), at-read (c .before .before)) at (c .lower .ensures)
+    simp (
+      read-back (c .before .before .before .args .s .low) (c .before .struct-told .given .0 .1),
+      at-read (c .before .before),
+    ) at (c .lower .ensures)
 
 high-is : (c : tie.After-higher) → let s = c .before .before .before .before .before .args in c .higher .result ≡ maxℤ (s .s .high) (s .n)
 high-is c =

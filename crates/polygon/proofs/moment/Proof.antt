@@ -25,11 +25,14 @@ at-read c =
     read-back (c .long .result) (c .long .ok) ∙ c .long .ensures ∙ toZ-ofZ w32 (s .args .n) (s .fits .n)
 
 distance-size : (s : tie.Start) → natAbs (pos (s .args .c) -ℤ s .args .n) ≤ 2 ^ 32
-distance-size s = omega (arith, size-difference (pos (s .args .c)) (s .args .n), natAbs-le (s .args .n) (s .fits .n .sfits), s .fits .c .fits)
+distance-size s =
+    omega (arith, size-difference (pos (s .args .c)) (s .args .n), natAbs-le (s .args .n) (s .fits .n .sfits), s .fits .c .fits)
 
-distance-is : (c : tie.After-difference) → let s = c .before .before .before .before .args in toZ w64 (ofZ w64 (c .difference .result)) ≡ pos (s .c) -ℤ s .n
+distance-is : (c : tie.After-difference) → let s = c .before .before .before .before .args in
+    toZ w64 (ofZ w64 (c .difference .result)) ≡ pos (s .c) -ℤ s .n
 distance-is c =
-    read-back (c .difference .result) (c .difference .ok) ∙ simp (cell-read (c .before .before), at-read (c .before)) at (c .difference .ensures)
+    read-back (c .difference .result) (c .difference .ok)
+    ∙ simp (cell-read (c .before .before), at-read (c .before)) at (c .difference .ensures)
 
 product-size : (s : tie.Start) → natAbs (s .args .d *ℤ (pos (s .args .c) -ℤ s .args .n)) ≤ 32768 * 2 ^ 32
 product-size s = size-product-le (s .args .d) (pos (s .args .c) -ℤ s .args .n) (size-16 (s .args .d) (s .fits .d)) (distance-size s)
@@ -44,7 +47,8 @@ long-requires : tie.Need-long-requires
 long-requires c κs = search needs
 
 difference-requires : tie.Need-difference-requires
-difference-requires c κs = simp (cell-read (c .before), at-read c) (fits-size w64 _ (omega (arith, distance-size (c .before .before .before))))
+difference-requires c κs =
+    simp (cell-read (c .before), at-read c) (fits-size w64 _ (omega (arith, distance-size (c .before .before .before))))
 
 product-requires : tie.Need-product-requires
 product-requires c κs =

@@ -14,14 +14,19 @@ use Rattle.polygon.proofs.spanned.Tie as tie
 cell-read : (c : tie.After-whole) → toZ w64 (ofZ w64 (c .whole .result)) ≡ pos (c .before .args .c)
 cell-read c = read-back (c .whole .result) (c .whole .ok) ∙ c .whole .ensures
 
-low-is : (c : tie.After-at-most) → c .at-most .result ≡ leZ (c .before .before .before .args .s .low) (pos (c .before .before .before .args .c))
+low-is : (c : tie.After-at-most)
+    → c .at-most .result ≡ leZ (c .before .before .before .args .s .low) (pos (c .before .before .before .args .c))
 low-is c =
-    simp (read-back (c .before .before .before .args .s .low) (c .before .struct-told .given .0 .1), cell-read (c .before .before)) at (c .at-most .ensures)
+    simp (
+      read-back (c .before .before .before .args .s .low) (c .before .struct-told .given .0 .1),
+      cell-read (c .before .before),
+    ) at (c .at-most .ensures)
 
 high-is :
     (c : tie.After-at-most2)
     → c .at-most2 .result
-    ≡ leZ (pos (c .before .before .before .before .before .before .args .c)) (c .before .before .before .before .before .before .args .s .high)
+    ≡ leZ (pos (c .before .before .before .before .before .before .args .c))
+    (c .before .before .before .before .before .before .args .s .high)
 high-is c =
     simp (
       read-back (c .before .before .before .before .before .before .args .s .high) (c .before .struct-told2 .given .1 .0 .1),

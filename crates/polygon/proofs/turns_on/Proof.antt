@@ -51,7 +51,12 @@ precedes-is c =
     let one = e .before .before .before .before .before in
     let fits-ex : SFits w16 (nextX (one .before .before)) = record { sfits = e .before .ex .given } in
     let fits-ey : SFits w16 (nextY (one .before .before)) = record { sfits = e .ey .given } in
-    simp (toZ-ofZ w16 _ (fits-x (one .before)), toZ-ofZ w16 _ (fits-y one), toZ-ofZ w16 _ fits-ex, toZ-ofZ w16 _ fits-ey) at (c .precedes .ensures)
+    simp (
+      toZ-ofZ w16 _ (fits-x (one .before)),
+      toZ-ofZ w16 _ (fits-y one),
+      toZ-ofZ w16 _ fits-ex,
+      toZ-ofZ w16 _ fits-ey,
+    ) at (c .precedes .ensures)
 
 mul-dx : tie.Need-mul-dx
 mul-dx c = search needs

@@ -13,7 +13,8 @@ use Rattle.directions.specs.CornerHull.{onChart}
 use Rattle.edge_walk.proofs.Loop.{edgeAt}
 use Rattle.readings.specs.Located.{badReading, locatedOf}
 use Rattle.readings.specs.parts.Walk.{passed}
-use Rattle.readings.proofs.Walks.{from, walk-locates, located-bad, anchor-on, located-off, Walked, walked-start, walked-edge, walked-out, walked-end}
+use Rattle.readings.proofs.Walks.{from, walk-locates, located-bad, anchor-on, located-off, Walked, walked-start, walked-edge}
+use Rattle.readings.proofs.Walks.{walked-out, walked-end}
 use Rattle.readings.proofs.locate.Statement.{statement}
 use Rattle.readings.proofs.locate.Tie as tie
 
@@ -24,7 +25,8 @@ abbrev μ-loop : tie.MeasureT-loop
 μ-loop edges reading at₀ i₀ at i = length edges - i
 
 -- The reading is refused
-bad-is : (c : tie.After-bad-number2 Inv-loop μ-loop) → (c .before .bad-number .result || c .bad-number2 .result) ≡ badReading (c .before .before .args .reading)
+bad-is : (c : tie.After-bad-number2 Inv-loop μ-loop)
+    → (c .before .bad-number .result || c .bad-number2 .result) ≡ badReading (c .before .before .args .reading)
 unfolding badReading
 bad-is c = ap₂ _||_ (c .before .bad-number .ensures) (c .bad-number2 .ensures)
 
@@ -117,7 +119,8 @@ returns-3 : tie.Need-returns-3 Inv-loop μ-loop
 returns-3 c =
     let p = c .before .before in
     let t = p .before .before .before in
-    sym (sym (rule (t .before .before)) ∙ walked-out (t .before .loop .inv) (t .loop-test .taken) (sym (pass-is p) ∙ c .enum-told .given .1))
+    sym (sym (rule (t .before .before))
+    ∙ walked-out (t .before .loop .inv) (t .loop-test .taken) (sym (pass-is p) ∙ c .enum-told .given .1))
 
 add-i : tie.Need-add-i Inv-loop μ-loop
 add-i c =

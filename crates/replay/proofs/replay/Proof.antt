@@ -6,7 +6,8 @@ use lib.ListN.{length}
 use native.Mathlib.Omega.{arith}
 use Rattle.wire.specs.Wire.{callWidth}
 use Rattle.live_memory.specs.Layout.{memory, holderIn, Fits}
-use Rattle.replay.proofs.ReplayLaws.{Underway, underway-zeros, underway-responded, stops-at-none, stops-at-end, underway-count, underway-list}
+use Rattle.replay.proofs.ReplayLaws.{Underway, underway-zeros, underway-responded, stops-at-none, stops-at-end, underway-count}
+use Rattle.replay.proofs.ReplayLaws.{underway-list}
 use Rattle.replay.proofs.replay.Statement.{statement}
 use Rattle.replay.proofs.replay.Tie as tie
 
@@ -84,7 +85,8 @@ same-length c =
     let made = responded (c .before) in
     let i = turning made in
     let loop = i .before .loop in
-    ap length (stops-at-none _ _ _ _ _ _ (loop .inv .1) (i .loop-test .taken) _ _ _ _ _ (sent (loop .done)) refl (loop .inv .0) (made .respond .ensures) (c .if1 .taken) .1)
+    ap length (stops-at-none _ _ _ _ _ _ (loop .inv .1) (i .loop-test .taken) _ _ _ _ _ (sent (loop .done)) refl (loop .inv .0)
+    (made .respond .ensures) (c .if1 .taken) .1)
     ∙ loop .inv .1 .same-length
 
 returns : tie.Need-returns Inv-loop μ-loop
@@ -92,7 +94,9 @@ returns c =
     let made = responded (c .before) in
     let i = turning made in
     let loop = i .before .loop in
-    let (none, kept) = stops-at-none _ _ _ _ _ _ (loop .inv .1) (i .loop-test .taken) _ _ _ _ _ (sent (loop .done)) refl (loop .inv .0) (made .respond .ensures) (c .if1 .taken) in
+    let (none, kept) =
+    stops-at-none _ _ _ _ _ _ (loop .inv .1) (i .loop-test .taken) _ _ _ _ _ (sent (loop .done)) refl (loop .inv .0)
+    (made .respond .ensures) (c .if1 .taken) in
     (underway-count _ _ _ _ _ _ (loop .inv .1) none, kept ∙ underway-list _ _ _ _ _ _ (loop .inv .1) none)
 
 add-done : tie.Need-add-done Inv-loop μ-loop
@@ -106,7 +110,9 @@ loop-again c =
     let made = responded (c .before) in
     let i = turning made in
     let loop = i .before .loop in
-    let (on, fits) = underway-responded _ _ _ _ _ _ (loop .inv .1) (i .loop-test .taken) _ _ _ _ _ (sent (loop .done)) refl (loop .inv .0) (made .respond .ensures) (c .if1 .left) in
+    let (on, fits) =
+    underway-responded _ _ _ _ _ _ (loop .inv .1) (i .loop-test .taken) _ _ _ _ _ (sent (loop .done)) refl (loop .inv .0)
+    (made .respond .ensures) (c .if1 .left) in
     (fits, on)
 
 same-length-2 : tie.Need-same-length-2 Inv-loop μ-loop

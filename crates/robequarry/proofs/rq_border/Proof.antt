@@ -23,8 +23,13 @@ returns : tie.Need-returns
 returns c =
     let named = c .before .before in
     let traced = named .before .before .before in
-    let said = named .of-traced .ensures ∙ ap tracedFields (traced .border .ensures .0) in
-    (c .put .ensures ∙ ap numbersOf said, (traced .border .ensures .1 .0, rw (c .put .ensures, read-back (named .of-traced .result), named .of-traced .ensures) (traced .border .ensures .1 .1)))
+    let said = named .of-traced .ensures ∙ ap tracedFields (traced .border .ensures .0) in (
+      c .put .ensures ∙ ap numbersOf said,
+      (
+        traced .border .ensures .1 .0,
+        rw (c .put .ensures, read-back (named .of-traced .result), named .of-traced .ensures) (traced .border .ensures .1 .1),
+      ),
+    )
 
 pub rq-border-spec : {M : Type 1} → statement M
 rq-border-spec =

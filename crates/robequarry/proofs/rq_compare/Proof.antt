@@ -19,8 +19,10 @@ returns : tie.Need-returns
 returns c =
     let named = c .before .before in
     let asked = named .before in
-    let said = named .of-comparison .ensures ∙ ap comparisonFields (asked .relate .ensures .0) in
-    (c .put .ensures ∙ ap numbersOf said, rw (c .put .ensures, read-back (named .of-comparison .result), named .of-comparison .ensures) (asked .relate .ensures .1))
+    let said = named .of-comparison .ensures ∙ ap comparisonFields (asked .relate .ensures .0) in (
+      c .put .ensures ∙ ap numbersOf said,
+      rw (c .put .ensures, read-back (named .of-comparison .result), named .of-comparison .ensures) (asked .relate .ensures .1),
+    )
 
 pub rq-compare-spec : {M : Type 1} → statement M
 rq-compare-spec = tie.close (tie.spec relate-requires of-comparison-requires put-requires returns)

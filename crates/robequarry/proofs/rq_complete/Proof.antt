@@ -23,8 +23,13 @@ returns : tie.Need-returns
 returns c =
     let named = c .before .before in
     let completed = named .before .before .before in
-    let said = named .of-completed .ensures ∙ ap completedFields (completed .complete .ensures .0) in
-    (c .put .ensures ∙ ap numbersOf said, (completed .complete .ensures .1 .0, rw (c .put .ensures, read-back (named .of-completed .result), named .of-completed .ensures) (completed .complete .ensures .1 .1)))
+    let said = named .of-completed .ensures ∙ ap completedFields (completed .complete .ensures .0) in (
+      c .put .ensures ∙ ap numbersOf said,
+      (
+        completed .complete .ensures .1 .0,
+        rw (c .put .ensures, read-back (named .of-completed .result), named .of-completed .ensures) (completed .complete .ensures .1 .1),
+      ),
+    )
 
 pub rq-complete-spec : {M : Type 1} → statement M
 rq-complete-spec =

@@ -19,8 +19,10 @@ returns : tie.Need-returns
 returns c =
     let named = c .before .before in
     let asked = named .before in
-    let said = named .of-position .ensures ∙ ap positionFields (asked .loose-query .ensures .0) in
-    (c .put .ensures ∙ ap numbersOf said, rw (c .put .ensures, read-back (named .of-position .result), named .of-position .ensures) (asked .loose-query .ensures .1))
+    let said = named .of-position .ensures ∙ ap positionFields (asked .loose-query .ensures .0) in (
+      c .put .ensures ∙ ap numbersOf said,
+      rw (c .put .ensures, read-back (named .of-position .result), named .of-position .ensures) (asked .loose-query .ensures .1),
+    )
 
 pub rq-loose-query-spec : {M : Type 1} → statement M
 rq-loose-query-spec =

@@ -22,8 +22,13 @@ returns : tie.Need-returns
 returns c =
     let named = c .before .before in
     let tested = named .before .before in
-    let said = named .of-verdict .ensures ∙ tested .test .ensures .1 .0 in
-    (c .put .ensures ∙ ap numbersOf said, (tested .test .ensures .1 .1 .0, rw (c .put .ensures, read-back (named .of-verdict .result), named .of-verdict .ensures) (tested .test .ensures .1 .1 .1)))
+    let said = named .of-verdict .ensures ∙ tested .test .ensures .1 .0 in (
+      c .put .ensures ∙ ap numbersOf said,
+      (
+        tested .test .ensures .1 .1 .0,
+        rw (c .put .ensures, read-back (named .of-verdict .result), named .of-verdict .ensures) (tested .test .ensures .1 .1 .1),
+      ),
+    )
 
 pub rq-test-spec : {M : Type 1} → statement M
 rq-test-spec =

@@ -23,8 +23,13 @@ returns : tie.Need-returns
 returns c =
     let named = c .before .before in
     let asked = named .before .before .before in
-    let said = named .of-witnessed .ensures ∙ ap witnessedFields (asked .witness .ensures .0) in
-    (c .put .ensures ∙ ap numbersOf said, (asked .witness .ensures .1 .0, rw (c .put .ensures, read-back (named .of-witnessed .result), named .of-witnessed .ensures) (asked .witness .ensures .1 .1)))
+    let said = named .of-witnessed .ensures ∙ ap witnessedFields (asked .witness .ensures .0) in (
+      c .put .ensures ∙ ap numbersOf said,
+      (
+        asked .witness .ensures .1 .0,
+        rw (c .put .ensures, read-back (named .of-witnessed .result), named .of-witnessed .ensures) (asked .witness .ensures .1 .1),
+      ),
+    )
 
 pub rq-witness-spec : {M : Type 1} → statement M
 rq-witness-spec =

@@ -24,7 +24,8 @@ returns-2 c =
 returns-3 : tie.Need-returns-3
 returns-3 c =
     let args = c .before .before .args in
-    tells-none (args .row) (args .letter) (λ e. c .before .if1 .left e) (λ e l. ⊎-elim (λ w. omega (arith, ltb-false)) (λ w. w .left e) (c .if2 .came))
+    tells-none (args .row) (args .letter) (λ e. c .before .if1 .left e)
+    (λ e l. ⊎-elim (λ w. omega (arith, ltb-false)) (λ w. w .left e) (c .if2 .came))
 
 pub along-spec : {M : Type 1} → statement M
 along-spec = tie.close (tie.spec returns sub-result cast-result returns-2 returns-3)

@@ -25,7 +25,8 @@ along-requires : tie.Need-along-requires Inv-loop μ-loop
 along-requires c κs =
     let at = c .before .before .before .before in
     let iteration = c .before .before .loop in
-    passing-on (outline (at .args .s) (now (at .args .w))) (iteration .i) (iteration .p) (iteration .lo) (iteration .en) (iteration .hi) (iteration .low) (iteration .high) (at .pre) (omega arith) (iteration .inv) .1
+    passing-on (outline (at .args .s) (now (at .args .w))) (iteration .i) (iteration .p) (iteration .lo) (iteration .en) (iteration .hi)
+    (iteration .low) (iteration .high) (at .pre) (omega arith) (iteration .inv) .1
 
 mul-keep : tie.Need-mul-keep Inv-loop μ-loop
 mul-keep c = omega arith
@@ -80,7 +81,8 @@ moved-requires c κs =
     let loop = c .before .before .before .before .before .before .before in
     let at = loop .before .before in
     let iteration = loop .loop in
-    passing-on (outline (at .args .s) (now (at .args .w))) (iteration .i) (iteration .p) (iteration .lo) (iteration .en) (iteration .hi) (iteration .low) (iteration .high) (at .pre) (omega arith) (iteration .inv)
+    passing-on (outline (at .args .s) (now (at .args .w))) (iteration .i) (iteration .p) (iteration .lo) (iteration .en) (iteration .hi)
+    (iteration .low) (iteration .high) (at .pre) (omega arith) (iteration .inv)
 
 add-i : tie.Need-add-i Inv-loop μ-loop
 add-i c = omega arith
@@ -95,15 +97,19 @@ loop-again c =
     let iteration = loop .loop in
     let along = c .before .before .before .before .before .along in
     let keep = c .before .before .before .before .keep in
-    passing-next (outline (at .args .s) (now (at .args .w))) (iteration .i) (iteration .p) (iteration .lo) (iteration .en) (iteration .hi) (iteration .low) (iteration .high) (omega arith) (iteration .inv) (along .result) (along .ensures)
-    (keep .result .one) (keep .result .two) (c .before .before .before .greater .result) (c .before .before .lesser .result) (c .before .greater2 .result) (c .moved .result)
-    (keep .ensures .0) (keep .ensures .1) (c .before .before .before .greater .ensures) (c .before .before .lesser .ensures) (c .before .greater2 .ensures) (c .moved .ensures)
+    passing-next (outline (at .args .s) (now (at .args .w))) (iteration .i) (iteration .p) (iteration .lo) (iteration .en) (iteration .hi)
+    (iteration .low) (iteration .high) (omega arith) (iteration .inv) (along .result) (along .ensures)
+    (keep .result .one) (keep .result .two) (c .before .before .before .greater .result) (c .before .before .lesser .result)
+    (c .before .greater2 .result) (c .moved .result)
+    (keep .ensures .0) (keep .ensures .1) (c .before .before .before .greater .ensures) (c .before .before .lesser .ensures)
+    (c .before .greater2 .ensures) (c .moved .ensures)
 
 returns : tie.Need-returns Inv-loop μ-loop
 returns c =
     let at = c .before .before .before .args in
     let iteration = c .before .loop in
-    passing-end (outline (at .s) (now (at .w))) (iteration .i) (iteration .p) (iteration .lo) (iteration .en) (iteration .hi) (iteration .low) (iteration .high) (omega arith) (iteration .inv)
+    passing-end (outline (at .s) (now (at .w))) (iteration .i) (iteration .p) (iteration .lo) (iteration .en) (iteration .hi)
+    (iteration .low) (iteration .high) (omega arith) (iteration .inv)
 
 pub pass-spec : {M : Type 1} → statement M
 pass-spec =

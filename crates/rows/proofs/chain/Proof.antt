@@ -35,7 +35,9 @@ wide-requires c κs = tt
 
 -- The row read from the table is the upper end of the edge
 record End (c : tie.After-wide Inv-loop μ-loop) : Type 0 where
-  end : c .wide .result ≡ edgeEnd (rows (now (c .before .before .before .before .args .lo))) (c .before .before .before .before .args .t) (c .before .before .loop .i)
+  end : c .wide .result
+      ≡ edgeEnd (rows (now (c .before .before .before .before .args .lo))) (c .before .before .before .before .args .t)
+      (c .before .before .loop .i)
   above : c .before .before .loop .i < c .wide .result
   below : c .wide .result < c .before .before .before .before .args .t
 
@@ -81,7 +83,8 @@ loop-again c =
     let end = read-end (c .before .before) in
     let row = c .before .gap-row in
     let next =
-    chain-goes-on (rows (now (args .lo))) (args .t) (iteration .i) j (row .result) (omega arith) (end .end) (row .ensures .0) (omega arith) in
+    chain-goes-on (rows (now (args .lo))) (args .t) (iteration .i) j (row .result) (omega arith) (end .end) (row .ensures .0) (omega arith)
+    in
     (omega arith, omega arith, iteration .inv .2 ∙ next)
 
 cast-t17 : tie.Need-cast-t17 Inv-loop μ-loop
@@ -90,8 +93,10 @@ cast-t17 c = omega arith
 returns-2 : tie.Need-returns-2 Inv-loop μ-loop
 returns-2 c =
     let args = c .before .before .before .args in
-    let iteration = c .before .loop in
-    (sym (iteration .inv .2 ∙ chain-done (rows (now (args .lo))) (args .t) (iteration .i) (args .t - iteration .i) (omega arith)), omega arith)
+    let iteration = c .before .loop in (
+      sym (iteration .inv .2 ∙ chain-done (rows (now (args .lo))) (args .t) (iteration .i) (args .t - iteration .i) (omega arith)),
+      omega arith,
+    )
 
 pub chain-spec : {M : Type 1} → statement M
 chain-spec =

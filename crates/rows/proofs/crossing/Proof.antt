@@ -59,7 +59,8 @@ returns c =
     let args = c .before .before .args in
     rw (a .0, b .0) (
       refl,
-      crossing-small (rows (now (args .lo))) (args .i) (args .j) (args .r) 65536 (omega arith) (omega arith) (omega arith) (omega arith) (omega arith),
+      crossing-small (rows (now (args .lo))) (args .i) (args .j) (args .r) 65536 (omega arith) (omega arith) (omega arith) (omega arith)
+          (omega arith),
     )
 
 pub crossing-spec : {M : Type 1} → statement M

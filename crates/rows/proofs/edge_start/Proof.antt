@@ -19,11 +19,13 @@ wide-requires c κs = search needs
 
 returns : tie.Need-returns
 returns c =
-    let args = c .before .before .before .args in rw (le-leb (args .r) (rows (now (args .next)) (args .i)) (omega (arith, c .before .wide .ensures))) refl
+    let args = c .before .before .before .args in
+    rw (le-leb (args .r) (rows (now (args .next)) (args .i)) (omega (arith, c .before .wide .ensures))) refl
 
 returns-2 : tie.Need-returns-2
 returns-2 c =
-    let args = c .before .before .before .args in rw (lt-leb (args .r) (rows (now (args .next)) (args .i)) (omega (arith, c .before .wide .ensures))) (c .before .wide .ensures .0)
+    let args = c .before .before .before .args in
+    rw (lt-leb (args .r) (rows (now (args .next)) (args .i)) (omega (arith, c .before .wide .ensures))) (c .before .wide .ensures .0)
 
 pub edge-start-spec : {M : Type 1} → statement M
 edge-start-spec = tie.close (tie.spec mul-wide element-copy-out-wide wide-requires returns returns-2)

@@ -28,7 +28,8 @@ returns : tie.Need-returns Inv-loop μ-loop
 returns c =
     let iteration = c .before .before .before .loop in
     let args = c .before .before .before .before .args in (
-      sym (gapRow-found (rows (now (args .lo))) (args .i) (args .j) (iteration .r) (omega arith) (omega arith) (iteration .inv .2) (ltb-true _ _ (sym (c .before .is-gap .ensures) ∙ c .if1 .taken))),
+      sym (gapRow-found (rows (now (args .lo))) (args .i) (args .j) (iteration .r) (omega arith) (omega arith) (iteration .inv .2)
+          (ltb-true _ _ (sym (c .before .is-gap .ensures) ∙ c .if1 .taken))),
       omega arith,
       omega arith,
     )
@@ -42,8 +43,12 @@ loop-less c = omega arith
 loop-again : tie.Need-loop-again Inv-loop μ-loop
 loop-again c =
     let iteration = c .before .before .before .loop in
-    let args = c .before .before .before .before .args in
-    (omega arith, omega arith, no-gap-next (rows (now (args .lo))) (args .i) (args .j) (iteration .r) (iteration .inv .2) (ltb-false _ _ (sym (c .before .is-gap .ensures) ∙ c .if1 .left)))
+    let args = c .before .before .before .before .args in (
+      omega arith,
+      omega arith,
+      no-gap-next (rows (now (args .lo))) (args .i) (args .j) (iteration .r) (iteration .inv .2)
+          (ltb-false _ _ (sym (c .before .is-gap .ensures) ∙ c .if1 .left)),
+    )
 
 returns-2 : tie.Need-returns-2 Inv-loop μ-loop
 returns-2 c =

@@ -33,14 +33,16 @@ returns c =
     (omega arith)
     (c .before .before .wide .result - 1)
     (omega arith)
-    (along-down (cornerNumbered (args .number)) (args .letter) (c .before .before .wide .result - 1) (omega arith) (omega (arith, ltb-true)))
+    (along-down (cornerNumbered (args .number)) (args .letter) (c .before .before .wide .result - 1) (omega arith)
+    (omega (arith, ltb-true)))
     (λ r e. omega (arith, down-along (cornerNumbered (args .number)) (args .letter) r e))
 
 returns-2 : tie.Need-returns-2
 returns-2 c =
     let args = c .before .before .args in
     marked-none (downAlong (cornerNumbered (args .number)) (args .letter)) (args .number % 256) (now (args .hi)) (omega arith) λ r e.
-    let (letter, row) = down-along (cornerNumbered (args .number)) (args .letter) r e in ⊎-elim (λ w. omega (arith, ltb-false)) (λ w. w .left letter) (c .if1 .came)
+    let (letter, row) = down-along (cornerNumbered (args .number)) (args .letter) r e in
+    ⊎-elim (λ w. omega (arith, ltb-false)) (λ w. w .left letter) (c .if1 .came)
 
 pub mark-down-spec : {M : Type 1} → statement M
 mark-down-spec =

@@ -35,7 +35,12 @@ returns-3 c =
     let ends = c .before .before .before .row-ends in
     let b = c .before .before .wide in
     let t = c .before .wide2 in
-    c .lowest-gap .ensures ∙ rw (b .ensures .0, t .ensures .0, found-gap (outline (args .s) (now (args .w))) (args .bottom) (args .top) (omega arith) (omega arith))
+    c .lowest-gap .ensures
+    ∙ rw (
+      b .ensures .0,
+      t .ensures .0,
+      found-gap (outline (args .s) (now (args .w))) (args .bottom) (args .top) (omega arith) (omega arith),
+    )
     (lowestGap-same
     (rows (ends .result .lo))
     (rows (ends .result .hi))

@@ -66,14 +66,16 @@ loop-again c =
     (omega arith)
     (up .ensures)
     (down .ensures)
-    (wrapped-sum (iteration .number) _ (added .before .stride .result) (added .wrapping-add-u16 .result) (added .before .stride .ensures) (added .wrapping-add-u16 .ensures))
+    (wrapped-sum (iteration .number) _ (added .before .stride .result) (added .wrapping-add-u16 .result) (added .before .stride .ensures)
+    (added .wrapping-add-u16 .ensures))
     (iteration .inv)
 
 returns : tie.Need-returns Inv-loop μ-loop
 returns c =
     let args = c .before .before .before .before .before .args in
     let iteration = c .before .loop in
-    marks-end (outline (args .s) (now (args .w))) (iteration .i) (iteration .number) (iteration .lo) (iteration .hi) (omega arith) (iteration .inv)
+    marks-end (outline (args .s) (now (args .w))) (iteration .i) (iteration .number) (iteration .lo) (iteration .hi) (omega arith)
+    (iteration .inv)
 
 pub row-ends-spec : {M : Type 1} → statement M
 row-ends-spec =

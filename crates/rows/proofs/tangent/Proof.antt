@@ -12,7 +12,8 @@ use Rattle.rows.proofs.tangent.Statement.{statement}
 use Rattle.rows.proofs.tangent.Tie as tie
 
 abbrev Inv-loop : tie.InvT-loop
-Inv-loop lo next i t above a j₀ b₀ k₀ j b k = (i < j) × (j < t) × (b ≡ rows lo j) × (b < 65536) × (k ≡ rows next j) × Furthest (rows lo) i j (suc j)
+Inv-loop lo next i t above a j₀ b₀ k₀ j b k =
+    (i < j) × (j < t) × (b ≡ rows lo j) × (b < 65536) × (k ≡ rows next j) × Furthest (rows lo) i j (suc j)
 
 abbrev μ-loop : tie.MeasureT-loop
 μ-loop lo next i t above a j₀ b₀ k₀ j b k = t - j
@@ -72,7 +73,11 @@ test-as-far-left c =
     let d = c .before .begins3 .ensures in
     let next = next-furthest (c .before .before) in
     c .as-far-left .ensures
-    ∙ rw (a .0, iteration .inv .2, d .0) (as-far-left-columns (rows (now (start .lo))) (start .i) (iteration .j) (iteration .k) (omega arith) (omega arith))
+    ∙ rw (
+      a .0,
+      iteration .inv .2,
+      d .0,
+    ) (as-far-left-columns (rows (now (start .lo))) (start .i) (iteration .j) (iteration .k) (omega arith) (omega arith))
 
 returns : tie.Need-returns Inv-loop μ-loop
 returns c =
@@ -80,7 +85,9 @@ returns c =
     let iteration = c .before .before .before .before .loop in
     let lo = rows (now (args .lo)) in
     let next = next-furthest (c .before .before .before) in
-    let off = furthest-off lo (args .t) (args .i) (iteration .j) (iteration .k) (iteration .inv .5) next (sym (test-as-far-left (c .before)) ∙ not-true _ (c .if1 .taken)) in
+    let off =
+    furthest-off lo (args .t) (args .i) (iteration .j) (iteration .k) (iteration .inv .5) next (sym (test-as-far-left (c .before))
+    ∙ not-true _ (c .if1 .taken)) in
     (furthest-is lo (args .t) (args .i) (iteration .j) (iteration .inv .5) (omega arith) off, omega arith, omega arith)
 
 mul-wide : tie.Need-mul-wide Inv-loop μ-loop
@@ -113,8 +120,12 @@ loop-again c =
 returns-2 : tie.Need-returns-2 Inv-loop μ-loop
 returns-2 c =
     let args = c .before .before .before .before .args in
-    let iteration = c .before .loop in
-    (furthest-is (rows (now (args .lo))) (args .t) (args .i) (iteration .j) (iteration .inv .5) (omega arith) (λ r l m. absurd (omega arith)), omega arith, omega arith)
+    let iteration = c .before .loop in (
+      furthest-is (rows (now (args .lo))) (args .t) (args .i) (iteration .j) (iteration .inv .5) (omega arith)
+          (λ r l m. absurd (omega arith)),
+      omega arith,
+      omega arith,
+    )
 
 pub tangent-spec : {M : Type 1} → statement M
 tangent-spec =

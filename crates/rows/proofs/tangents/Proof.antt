@@ -10,7 +10,8 @@ use Rattle.rows.proofs.tangents.Statement.{statement}
 use Rattle.rows.proofs.tangents.Tie as tie
 
 abbrev Inv-loop : tie.InvT-loop
-Inv-loop lo b t next₀ i₀ above₀ next i above = (i ≤ t) × (length next ≡ 256) × (above ≡ rows next (i - 1)) × Tangents (rows lo) (rows next) (i - 1) t
+Inv-loop lo b t next₀ i₀ above₀ next i above =
+    (i ≤ t) × (length next ≡ 256) × (above ≡ rows next (i - 1)) × Tangents (rows lo) (rows next) (i - 1) t
 
 abbrev μ-loop : tie.MeasureT-loop
 μ-loop lo b t next₀ i₀ above₀ next i above = i - b - 1

@@ -17,8 +17,14 @@ number-requires-2 c κs = search needs
 
 returns : tie.Need-returns
 unfolding alone
-returns c =
-    (rw (sym (c .before .before .before .full .ensures) ∙ c .before .before .if1 .taken, c .number2 .ensures .0, c .before .number .ensures .0), (c .before .number .ensures .1, c .number2 .ensures .1))
+returns c = (
+  rw (
+    sym (c .before .before .before .full .ensures) ∙ c .before .before .if1 .taken,
+    c .number2 .ensures .0,
+    c .before .number .ensures .0,
+  ),
+  (c .before .number .ensures .1, c .number2 .ensures .1),
+)
 
 returns-2 : tie.Need-returns-2
 unfolding alone

@@ -25,7 +25,9 @@ whole-requires c κs = omega arith
 
 returns : tie.Need-returns Inv-loop μ-loop
 unfolding clear
-returns c = every-not _ layers (c .before .before .before .before .before .loop .j) (omega arith) (sym (c .before .whole .ensures) ∙ not-true _ (c .if1 .taken))
+returns c =
+    every-not _ layers (c .before .before .before .before .before .loop .j) (omega arith) (sym (c .before .whole .ensures)
+    ∙ not-true _ (c .if1 .taken))
 
 add-j : tie.Need-add-j Inv-loop μ-loop
 add-j c = omega arith
@@ -34,7 +36,11 @@ loop-less : tie.Need-loop-less Inv-loop μ-loop
 loop-less c = omega arith
 
 loop-again : tie.Need-loop-again Inv-loop μ-loop
-loop-again c = (omega arith, every-next _ _ (c .before .before .before .before .before .loop .inv .1) (sym (c .before .whole .ensures) ∙ not-false _ (c .if1 .left)))
+loop-again c = (
+  omega arith,
+  every-next _ _ (c .before .before .before .before .before .loop .inv .1) (sym (c .before .whole .ensures)
+      ∙ not-false _ (c .if1 .left)),
+)
 
 returns-2 : tie.Need-returns-2 Inv-loop μ-loop
 unfolding clear

@@ -77,7 +77,8 @@ returns-2 c =
     let over = c .before .before .weighed2 in
     let below = c .before .before .before .before .before .before .before .weighed in (
       rw (
-        sym (c .before .before .before .before .before .before .before .before .before .before .before .full .ensures) ∙ not-false _ (c .before .before .before .before .before .before .before .before .before .before .if1 .left),
+        sym (c .before .before .before .before .before .before .before .before .before .before .before .full .ensures)
+            ∙ not-false _ (c .before .before .before .before .before .before .before .before .before .before .if1 .left),
         lower .ensures .0,
         c .raised .ensures .0,
         over .ensures .0,

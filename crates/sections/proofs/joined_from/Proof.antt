@@ -51,7 +51,8 @@ loop-again c =
     let at = c .before .before .loop in (
       omega (arith, from),
       omega arith,
-      fold-from (args .reach) (joined (numbers (now (args .lo))) (numbers (now (args .past))) (args .i) (args .j)) (suc (args .j)) (at .k) from same (c .joined .ensures .0),
+      fold-from (args .reach) (joined (numbers (now (args .lo))) (numbers (now (args .past))) (args .i) (args .j)) (suc (args .j)) (at .k)
+          from same (c .joined .ensures .0),
       c .joined .ensures .1,
     )
 

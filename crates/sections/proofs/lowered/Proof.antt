@@ -38,8 +38,10 @@ returns c =
 
 returns-2 : tie.Need-returns-2
 returns-2 c =
-    let args = c .before .args in
-    (not-larger (args .low) (ceiling (args .a) (args .d)) (ceiling-left (args .low) (args .a) (args .d) (omega arith) (omega arith)), omega arith)
+    let args = c .before .args in (
+      not-larger (args .low) (ceiling (args .a) (args .d)) (ceiling-left (args .low) (args .a) (args .d) (omega arith) (omega arith)),
+      omega arith,
+    )
 
 pub lowered-spec : {M : Type 1} → statement M
 lowered-spec = tie.close (tie.spec add-if1 mul-if1 sub-result add-result div-result returns returns-2)

@@ -38,8 +38,10 @@ returns c =
 
 returns-2 : tie.Need-returns-2
 returns-2 c =
-    let args = c .before .args in
-    (not-smaller (args .high) (above (args .a) (args .d)) (above-left (args .high) (args .a) (args .d) (omega arith) (omega arith)), omega arith)
+    let args = c .before .args in (
+      not-smaller (args .high) (above (args .a) (args .d)) (above-left (args .high) (args .a) (args .d) (omega arith) (omega arith)),
+      omega arith,
+    )
 
 pub raised-spec : {M : Type 1} → statement M
 raised-spec = tie.close (tie.spec mul-if1 div-result add-result returns returns-2)

@@ -34,7 +34,9 @@ loop-again c =
     let args = c .before .before .before .before .args in
     let at = c .before .before .loop in (
       omega arith,
-      fold-next (c .before .before .before .alone .result) (λ n. joinedFrom (numbers (now (args .lo))) (numbers (now (args .past))) n (args .j)) (at .i) (at .i + 1) (omega arith) (at .inv .1) (c .joined-from .ensures .0),
+      fold-next (c .before .before .before .alone .result)
+          (λ n. joinedFrom (numbers (now (args .lo))) (numbers (now (args .past))) n (args .j)) (at .i) (at .i + 1) (omega arith)
+          (at .inv .1) (c .joined-from .ensures .0),
       c .joined-from .ensures .1,
     )
 

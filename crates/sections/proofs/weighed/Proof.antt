@@ -12,7 +12,10 @@ record Products (c : tie.Start) : Type 0 where
 
 products : (c : tie.Start) → Products c
 products c =
-    record { left = product-small (c .args .a) (c .args .x) (omega arith) (omega arith); right = product-small (c .args .b) (c .args .y) (omega arith) (omega arith) }
+    record {
+      left = product-small (c .args .a) (c .args .x) (omega arith) (omega arith);
+      right = product-small (c .args .b) (c .args .y) (omega arith) (omega arith);
+    }
 
 mul-result : tie.Need-mul-result
 mul-result c = omega (arith, products c)

@@ -18,7 +18,11 @@ returns c = rw (sym (c .before .before .bad-place .ensures) ∙ c .before .if1 .
 
 returns-2 : tie.Need-returns-2
 unfolding closeOf
-returns-2 c = rw (sym (c .before .before .before .bad-place .ensures) ∙ c .before .before .if1 .left, not-true (c .before .before .before .before .args .draft .begun) (c .if2 .taken))
+returns-2 c =
+    rw (
+      sym (c .before .before .before .bad-place .ensures) ∙ c .before .before .if1 .left,
+      not-true (c .before .before .before .before .args .draft .begun) (c .if2 .taken),
+    )
 
 judge-requires : tie.Need-judge-requires
 judge-requires c κs = search needs
@@ -29,7 +33,11 @@ close-by-requires c κs = search needs
 returns-3 : tie.Need-returns-3
 unfolding closeOf
 returns-3 c =
-    rw (sym (c .before .before .before .before .before .bad-place .ensures) ∙ c .before .before .before .before .if1 .left, c .close-by .ensures, c .before .judge .ensures)
+    rw (
+      sym (c .before .before .before .before .before .bad-place .ensures) ∙ c .before .before .before .before .if1 .left,
+      c .close-by .ensures,
+      c .before .judge .ensures,
+    )
     (rw (not-false (c .before .before .before .before .before .before .args .draft .begun) (c .before .before .if2 .left)))
 
 pub close-spec : {M : Type 1} → statement M

@@ -31,7 +31,15 @@ returns c = rw (c .before .verdict .given .1, c .before .before .before .end .en
 
 returns-2 : tie.Need-returns-2
 unfolding closedBy closedReply closedWork
-returns-2 c = rw (c .before .before .before .before .before .before .verdict2 .given .1, c .taken-reply .ensures, c .before .replace .ensures, c .before .before .spans .ensures, c .before .before .before .has .ensures, c .before .before .before .before .before .before .before .before .end .ensures)
+returns-2 c =
+    rw (
+      c .before .before .before .before .before .before .verdict2 .given .1,
+      c .taken-reply .ensures,
+      c .before .replace .ensures,
+      c .before .before .spans .ensures,
+      c .before .before .before .has .ensures,
+      c .before .before .before .before .before .before .before .before .end .ensures,
+    )
 
 pub close-by-spec : {M : Type 1} → statement M
 close-by-spec =

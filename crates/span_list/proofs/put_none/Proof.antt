@@ -20,7 +20,9 @@ same-length : tie.Need-same-length
 same-length c = search needs
 
 returns : tie.Need-returns
-returns c = let s = c .before .before .before .before .before .before .before .before .before in zeros-put (s .args .rows .now) (s .args .slot) (s .pre) _ (c .before .before .before .before .before .before .put-zeros .ensures) _ (c .before .before .put-zeros2 .ensures)
+returns c = let s = c .before .before .before .before .before .before .before .before .before in
+    zeros-put (s .args .rows .now) (s .args .slot) (s .pre) _ (c .before .before .before .before .before .before .put-zeros .ensures) _
+    (c .before .before .put-zeros2 .ensures)
 
 pub put-none-spec : {M : Type 1} → statement M
 put-none-spec =

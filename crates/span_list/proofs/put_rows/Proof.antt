@@ -29,7 +29,8 @@ add-rows c = search needs
 kept : (c : tie.At-loop Inv-loop μ-loop) → length (c .loop .rows) ≡ length (c .before .before .args .rows .now)
 kept c =
     let a = c .before .before .args in
-    pasted-length (a .rows .now) (a .at) (a .from .now) side (c .before .before .pre) (c .before .all .given .0) _ (c .loop .i) (c .loop .inv)
+    pasted-length (a .rows .now) (a .at) (a .from .now) side (c .before .before .pre) (c .before .all .given .0) _ (c .loop .i)
+    (c .loop .inv)
 
 slice-write-rows : tie.Need-slice-write-rows Inv-loop μ-loop
 slice-write-rows c = omega (arith, kept (c .before .before))
@@ -44,7 +45,8 @@ loop-again : tie.Need-loop-again Inv-loop μ-loop
 loop-again c =
     let iteration = c .before in
     let a = iteration .before .before .before .args in
-    pasted-next (a .rows .now) (a .at) (a .from .now) side (iteration .before .before .before .pre) (iteration .before .before .all .given .0)
+    pasted-next (a .rows .now) (a .at) (a .from .now) side (iteration .before .before .before .pre)
+    (iteration .before .before .all .given .0)
     _ (iteration .before .loop .i) 0 _ refl (iteration .before .loop .inv) (omega (arith, iteration .loop-test .taken))
 
 same-length : tie.Need-same-length Inv-loop μ-loop

@@ -46,7 +46,8 @@ loop-again c =
     let l = c .before .loop in
     let a = c .before .before .args in
     pasted-next (a .rows .now) (a .at) zeros side (c .before .before .pre) (length-replicate {A = ℕ} side 0)
-    _ (l .i) 0 0 (sym (getD-replicate {A = ℕ} side (l .i) 0 0 (omega (arith, c .loop-test .taken)))) (l .inv) (omega (arith, c .loop-test .taken))
+    _ (l .i) 0 0 (sym (getD-replicate {A = ℕ} side (l .i) 0 0 (omega (arith, c .loop-test .taken)))) (l .inv)
+    (omega (arith, c .loop-test .taken))
 
 same-length : tie.Need-same-length Inv-loop μ-loop
 same-length c = kept (c .before)

@@ -15,11 +15,13 @@ sub-t7 c = search needs
 
 returns : tie.Need-returns
 unfolding spanFrom
-returns c = let s = c .before .before .before .before .before in sym (span-ends _ _ _ (s .pre .1) _ (c .before .before .before .ends-at .ensures) ∙ rw (lt-ltb _ _ (c .before .if1 .taken)))
+returns c = let s = c .before .before .before .before .before in
+    sym (span-ends _ _ _ (s .pre .1) _ (c .before .before .before .ends-at .ensures) ∙ rw (lt-ltb _ _ (c .before .if1 .taken)))
 
 returns-2 : tie.Need-returns-2
 unfolding spanFrom
-returns-2 c = let s = c .before .before .before .before in sym (span-ends _ _ _ (s .pre .1) _ (c .before .before .ends-at .ensures) ∙ rw (le-ltb _ _ (c .if1 .left)))
+returns-2 c = let s = c .before .before .before .before in
+    sym (span-ends _ _ _ (s .pre .1) _ (c .before .before .ends-at .ensures) ∙ rw (le-ltb _ _ (c .if1 .left)))
 
 pub span-at-spec : {M : Type 1} → statement M
 span-at-spec = tie.close (tie.spec ends-at-requires sub-t7 returns returns-2)

@@ -35,7 +35,8 @@ row-ends-requires : tie.Need-row-ends-requires Inv-loop μ-loop
 row-ends-requires c κs = search needs
 
 loop-holds : tie.Need-loop-holds Inv-loop μ-loop
-loop-holds c = (omega arith, filled-start _ side _ (length-replicate {A = ℕ} side 0), filled-start _ side _ (length-replicate {A = ℕ} side 0))
+loop-holds c =
+    (omega arith, filled-start _ side _ (length-replicate {A = ℕ} side 0), filled-start _ side _ (length-replicate {A = ℕ} side 0))
 
 mul-a : tie.Need-mul-a Inv-loop μ-loop
 mul-a c = search needs
@@ -69,8 +70,11 @@ loop-less c = omega arith
 
 loop-again : tie.Need-loop-again Inv-loop μ-loop
 loop-again c =
-    let iteration = c .before .before .before .loop in
-    (omega arith, filled-next (iteration .inv .1) (omega arith) _ (c .before .lesser .ensures), filled-next (iteration .inv .2) (omega arith) _ (c .greater .ensures))
+    let iteration = c .before .before .before .loop in (
+      omega arith,
+      filled-next (iteration .inv .1) (omega arith) _ (c .before .lesser .ensures),
+      filled-next (iteration .inv .2) (omega arith) _ (c .greater .ensures),
+    )
 
 returns : tie.Need-returns Inv-loop μ-loop
 unfolding spansOf leftSide rightSide
@@ -79,8 +83,10 @@ returns c =
     let ends = c .before .before .before .before .row-ends .ensures in
     let k : iteration .k ≡ side = omega arith in
     spans-eq
-    (filled-end _ side (iteration .first) (filled-same (λ m h. same lesser (ends .lo-up m (omega arith)) (ends .hi-down m (omega arith))) (rw k at (iteration .inv .1))))
-    (filled-end _ side (iteration .past) (filled-same (λ m h. same greater (ends .lo-up m (omega arith)) (ends .hi-down m (omega arith))) (rw k at (iteration .inv .2))))
+    (filled-end _ side (iteration .first)
+    (filled-same (λ m h. same lesser (ends .lo-up m (omega arith)) (ends .hi-down m (omega arith))) (rw k at (iteration .inv .1))))
+    (filled-end _ side (iteration .past)
+    (filled-same (λ m h. same greater (ends .lo-up m (omega arith)) (ends .hi-down m (omega arith))) (rw k at (iteration .inv .2))))
 
 pub spans-of-spec : {M : Type 1} → statement M
 spans-of-spec =

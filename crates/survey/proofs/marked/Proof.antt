@@ -62,7 +62,8 @@ returns-4 c =
     let told = c .before .before .before in
     let start = told .before .before .before .before in
     let round = rw (told .walk3 .given .1) at (told .before .before .along .ensures) in
-    walk-passed _ (start .pre) (round .stays) (round .number) (sym (c .before .ends-away .ensures) ∙ c .if1 .left) (round .meets) (round .corners)
+    walk-passed _ (start .pre) (round .stays) (round .number) (sym (c .before .ends-away .ensures)
+    ∙ c .if1 .left) (round .meets) (round .corners)
 
 pub marked-spec : {M : Type 1} → statement M
 marked-spec =

@@ -36,7 +36,8 @@ cast-t10 c = omega (arith, counted-short _ (counted (c .before .before .before .
 
 returns-3 : tie.Need-returns-3
 returns-3 c =
-    survey-letter-at _ (counted (c .before .before .before .before)) (started (c .before .before)) (c .before .letter-place .ensures) (c .if3 .taken)
+    survey-letter-at _ (counted (c .before .before .before .before)) (started (c .before .before)) (c .before .letter-place .ensures)
+    (c .if3 .taken)
 
 walked-requires : tie.Need-walked-requires
 walked-requires c κs =

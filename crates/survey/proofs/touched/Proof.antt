@@ -17,7 +17,8 @@ walk-on-requires : tie.Need-walk-on-requires
 walk-on-requires c κs = search needs
 
 -- What the rest of the walk finds, and that no letter leaves the chart if it finds none
-rest : (c : tie.After-walk-on) → RestOf (outline (c .before .before .args .start) (c .before .before .args .letters .now)) (c .walk-on .result)
+rest : (c : tie.After-walk-on)
+    → RestOf (outline (c .before .before .args .start) (c .before .before .args .letters .now)) (c .walk-on .result)
 rest c = let start = c .before .before in c .walk-on .ensures (start .args .start) (start .pre .0) (start .pre .1 .out)
 
 stays : (c : tie.Else1) → Stays (outline (c .before .before .before .args .start) (c .before .before .before .args .letters .now))
@@ -38,7 +39,8 @@ ends-away-requires c κs = search needs
 returns-2 : tie.Need-returns-2
 returns-2 c =
     let past = c .before .before in
-    walk-unclosed _ (past .before .before .before .pre .0) (stays past) (rest (past .before) .number (stays past)) (sym (c .before .ends-away .ensures) ∙ c .if2 .taken)
+    walk-unclosed _ (past .before .before .before .pre .0) (stays past) (rest (past .before) .number (stays past))
+    (sym (c .before .ends-away .ensures) ∙ c .if2 .taken)
 
 sub-t7 : tie.Need-sub-t7
 sub-t7 c = search needs
@@ -51,7 +53,8 @@ returns-3 c =
     let past = c .before .before in
     let start = past .before .before .before in
     let met = start .pre .1 in
-    walk-touches _ (start .pre .0) (stays past) (rest (past .before) .number (stays past)) (sym (c .before .ends-away .ensures) ∙ c .if2 .left) (met .place) (omega (arith, met .some, met .below))
+    walk-touches _ (start .pre .0) (stays past) (rest (past .before) .number (stays past)) (sym (c .before .ends-away .ensures)
+    ∙ c .if2 .left) (met .place) (omega (arith, met .some, met .below))
 
 pub touched-spec : {M : Type 1} → statement M
 touched-spec =

@@ -44,7 +44,8 @@ ends-away-requires c κs = search needs
 returns-2 : tie.Need-returns-2
 returns-2 c =
     let past = c .before .before in
-    walk-unclosed _ (start (past .before) .pre) (stays past) (rest (past .before) .number (stays past)) (sym (c .before .ends-away .ensures) ∙ c .if3 .taken)
+    walk-unclosed _ (start (past .before) .pre) (stays past) (rest (past .before) .number (stays past)) (sym (c .before .ends-away .ensures)
+    ∙ c .if3 .taken)
 
 marked-requires : tie.Need-marked-requires
 marked-requires c κs = search needs

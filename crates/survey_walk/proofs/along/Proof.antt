@@ -17,7 +17,9 @@ use Rattle.survey_walk.proofs.along.Tie as tie
 
 abbrev Inv-loop : tie.InvT-loop
 Inv-loop w met₀ by-col₀ by-row₀ west₀ north₀ east₀ south₀ i₀ met by-col by-row west north east south i =
-    (by-row < 4294967296) × ((s : Point) → by-col₀ ≡ colNumber s 0 → by-row₀ ≡ rowNumber s 0 → Begun (outline s w) → Along (outline s w) i by-col by-row met west north east south)
+    (by-row < 4294967296)
+    × ((s : Point) → by-col₀ ≡ colNumber s 0 → by-row₀ ≡ rowNumber s 0 → Begun (outline s w)
+    → Along (outline s w) i by-col by-row met west north east south)
 
 abbrev μ-loop : tie.MeasureT-loop
 μ-loop w met₀ by-col₀ by-row₀ west₀ north₀ east₀ south₀ i₀ met by-col by-row west north east south i = length w - i
@@ -52,7 +54,8 @@ returns c =
     let rows = at .before in
     let cols = rows .before in
     let start = cols .before .before .before in
-    along-meets _ (start .pre) (at .loop .inv .1 (start .args .s) (cols .col-number .ensures) (rows .row-number .ensures) (start .pre)) (iteration .loop-test .taken) (sym (c .before .mark .ensures .0) ∙ c .if1 .taken)
+    along-meets _ (start .pre) (at .loop .inv .1 (start .args .s) (cols .col-number .ensures) (rows .row-number .ensures) (start .pre))
+    (iteration .loop-test .taken) (sym (c .before .mark .ensures .0) ∙ c .if1 .taken)
 
 lower-requires : tie.Need-lower-requires Inv-loop μ-loop
 lower-requires c κs = search needs
@@ -93,7 +96,8 @@ returns-2 c =
     let rows = at .before in
     let cols = rows .before in
     let start = cols .before .before .before in
-    along-leaves _ (start .pre) (at .loop .inv .1 (start .args .s) (cols .col-number .ensures) (rows .row-number .ensures) (start .pre)) (iteration .loop-test .taken) (sum .before .col-stride .ensures)
+    along-leaves _ (start .pre) (at .loop .inv .1 (start .args .s) (cols .col-number .ensures) (rows .row-number .ensures) (start .pre))
+    (iteration .loop-test .taken) (sum .before .col-stride .ensures)
     (sym (ap offChart (sum .wrapping-add-u32 .ensures)) ∙ sym (c .before .is-off-chart .ensures) ∙ c .if2 .taken)
 
 add-i : tie.Need-add-i Inv-loop μ-loop
@@ -114,8 +118,17 @@ loop-again c =
     let iteration = mark .before .before in (
       omega (arith, row .wrapping-add-u322 .ensures),
       λ s e f b.
-          rw (row .wrapping-add-u322 .ensures, col .wrapping-add-u32 .ensures, west .lower .ensures, north .lower2 .ensures, east .higher .ensures, south .higher2 .ensures, mark .mark .ensures .1)
-          (along-next _ b (iteration .before .loop .inv .1 s e f b) (iteration .loop-test .taken) (col .before .col-stride .ensures) (sym (mark .mark .ensures .0) ∙ west .before .if1 .left) (row .before .row-stride .ensures)
+          rw (
+            row .wrapping-add-u322 .ensures,
+            col .wrapping-add-u32 .ensures,
+            west .lower .ensures,
+            north .lower2 .ensures,
+            east .higher .ensures,
+            south .higher2 .ensures,
+            mark .mark .ensures .1,
+          )
+          (along-next _ b (iteration .before .loop .inv .1 s e f b) (iteration .loop-test .taken) (col .before .col-stride .ensures)
+          (sym (mark .mark .ensures .0) ∙ west .before .if1 .left) (row .before .row-stride .ensures)
           (sym (ap offChart (col .wrapping-add-u32 .ensures)) ∙ sym (c .before .is-off-chart .ensures) ∙ c .if2 .left)),
     )
 
@@ -129,7 +142,8 @@ returns-3 c =
     let rows = at .before in
     let cols = rows .before in
     let start = cols .before .before .before in
-    along-round _ (start .pre) (at .loop .inv .1 (start .args .s) (cols .col-number .ensures) (rows .row-number .ensures) (start .pre)) (c .before .loop-test .left) (c .corners-from .ensures)
+    along-round _ (start .pre) (at .loop .inv .1 (start .args .s) (cols .col-number .ensures) (rows .row-number .ensures) (start .pre))
+    (c .before .loop-test .left) (c .corners-from .ensures)
 
 pub along-spec : {M : Type 1} → statement M
 along-spec =

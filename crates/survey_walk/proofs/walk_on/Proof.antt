@@ -33,7 +33,8 @@ returns : tie.Need-returns Inv-loop μ-loop
 returns c =
     let added = c .before .before in
     let iteration = added .before .before .before in
-    further-leaves (iteration .before .loop .inv) (iteration .loop-test .taken) (added .before .col-stride .ensures) (sym (ap offChart (added .wrapping-add-u32 .ensures)) ∙ sym (c .before .is-off-chart .ensures) ∙ c .if1 .taken)
+    further-leaves (iteration .before .loop .inv) (iteration .loop-test .taken) (added .before .col-stride .ensures)
+    (sym (ap offChart (added .wrapping-add-u32 .ensures)) ∙ sym (c .before .is-off-chart .ensures) ∙ c .if1 .taken)
 
 add-i : tie.Need-add-i Inv-loop μ-loop
 add-i c = search needs
@@ -46,7 +47,8 @@ loop-again c =
     let added = c .before .before in
     let iteration = added .before .before .before in
     rw (added .wrapping-add-u32 .ensures)
-    (further-next (iteration .before .loop .inv) (iteration .loop-test .taken) (added .before .col-stride .ensures) (sym (ap offChart (added .wrapping-add-u32 .ensures)) ∙ sym (c .before .is-off-chart .ensures) ∙ c .if1 .left))
+    (further-next (iteration .before .loop .inv) (iteration .loop-test .taken) (added .before .col-stride .ensures)
+    (sym (ap offChart (added .wrapping-add-u32 .ensures)) ∙ sym (c .before .is-off-chart .ensures) ∙ c .if1 .left))
 
 returns-2 : tie.Need-returns-2 Inv-loop μ-loop
 returns-2 c = further-end (c .before .loop .inv) (c .loop-test .left)

@@ -41,7 +41,11 @@ sub-result c =
 cast-result-2 : tie.Need-cast-result-2
 cast-result-2 c =
     let n = negated _ (c .before .fits .x) (taken c) in
-    simp (toZ-ofZ w16 (c .before .args .x) (c .before .fits .x), toZ-ofZ w64 (c .before .args .x) (sfits-widen tt (c .before .fits .x)), toZ-ofZ w64 _ (n .0))
+    simp (
+      toZ-ofZ w16 (c .before .args .x) (c .before .fits .x),
+      toZ-ofZ w64 (c .before .args .x) (sfits-widen tt (c .before .fits .x)),
+      toZ-ofZ w64 _ (n .0),
+    )
     (n .1, n .2)
 
 cast-result-3 : tie.Need-cast-result-3

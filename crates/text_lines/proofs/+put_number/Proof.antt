@@ -105,7 +105,8 @@ put-number-returns-2 : (t : ℕ) → put-number-lts.Need-returns-2 (
 put-number-returns-2 t c =
     let a = c .before .before .before .before .before .before .before .before .before .before .args in
     let large : 10 ≤ a .n = omega (arith, c .before .before .before .before .before .before .before .before .if1 .left) in
-    rw (decimal-large (a .n) large) (wrote-behind (c .before .before .before .before .before .before .put-number .ensures) (c .before .before .put2 .ensures))
+    rw (decimal-large (a .n) large)
+    (wrote-behind (c .before .before .before .before .before .before .put-number .ensures) (c .before .before .put2 .ensures))
 
 pub +put-number-spec : {M : Type 1} → statement M
 +put-number-spec = close μ-put-number λ t. put-number-lts.spec (

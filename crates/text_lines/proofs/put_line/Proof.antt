@@ -20,7 +20,8 @@ same-length c = search needs
 returns : tie.Need-returns
 unfolding lineText
 returns c =
-    wrote-behind (c .before .before .before .before .before .before .before .before .before .before .put-field .ensures) (wrote-behind (c .before .before .before .before .before .before .put-field2 .ensures) (c .before .before .put-field3 .ensures))
+    wrote-behind (c .before .before .before .before .before .before .before .before .before .before .put-field .ensures)
+    (wrote-behind (c .before .before .before .before .before .before .put-field2 .ensures) (c .before .before .put-field3 .ensures))
 
 pub put-line-spec : {M : Type 1} → statement M
 put-line-spec =

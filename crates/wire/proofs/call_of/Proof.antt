@@ -89,7 +89,8 @@ returns-9 c = rw (c .ask4 .ensures, c .before .short2 .ensures, c .before .befor
 returns-10 : tie.Need-returns-10
 returns-10 c =
     let r = c .match .rest in
-    callOf-none _ _ _ _ _ (r .0 .0 .0 .0 .0 .0 .0 .0 .1) (r .0 .0 .0 .0 .0 .0 .0 .1) (r .0 .0 .0 .0 .0 .0 .1) (r .0 .0 .0 .0 .0 .1) (r .0 .0 .0 .0 .1) (r .0 .0 .0 .1) (r .0 .0 .1) (r .0 .1) (r .1)
+    callOf-none _ _ _ _ _ (r .0 .0 .0 .0 .0 .0 .0 .0 .1) (r .0 .0 .0 .0 .0 .0 .0 .1) (r .0 .0 .0 .0 .0 .0 .1) (r .0 .0 .0 .0 .0 .1)
+    (r .0 .0 .0 .0 .1) (r .0 .0 .0 .1) (r .0 .0 .1) (r .0 .1) (r .1)
 
 pub call-of-spec : {M : Type 1} → statement M
 call-of-spec =

@@ -54,7 +54,11 @@ call-of-requires c κs = search needs
 
 returns-2 : tie.Need-returns-2
 unfolding decoded
-returns-2 c = rw (eq-eqb _ _ (c .before .before .before .before .before .before .before .before .before .before .before .before .before .before .if1 .left)) (c .call-of .ensures ∙ rw (c .before .before .before .before .before .before .before .before .before .long .ensures, c .before .before .before .before .long2 .ensures))
+returns-2 c =
+    let two = c .before .before .before .before in
+    let one = two .before .before .before .before .before in
+    rw (eq-eqb _ _ (one .before .before .before .before .before .if1 .left)) (c .call-of .ensures
+        ∙ rw (one .long .ensures, two .long2 .ensures))
 
 pub decode-spec : {M : Type 1} → statement M
 decode-spec =

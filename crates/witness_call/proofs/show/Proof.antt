@@ -21,7 +21,8 @@ returns-2 c =
     let asked = c .before .before .before .before .before .before .before .before in
     let found = asked .before in
     let start = found .before .before .before .before in
-    found-shown _ (start .args .cells .now) (found .before .if1 .left) (found .find .ensures) (asked .if2 .taken) (c .before .before .put .ensures)
+    found-shown _ (start .args .cells .now) (found .before .if1 .left) (found .find .ensures) (asked .if2 .taken)
+    (c .before .before .put .ensures)
 
 returns-3 : tie.Need-returns-3
 returns-3 c = none-shown _ _ (c .before .before .if1 .left) (c .before .find .ensures) (c .if2 .left)

@@ -81,7 +81,8 @@ first c = c .before .before .before .before .before
 returns-2 : tie.Need-returns-2
 returns-2 c =
     let last = c .before .before .before .before in
-    shows-row (omega arith) (omega arith) (last .before .prior .ensures) (first last .cell .ensures) (c .cell6 .ensures) (last .cell5 .ensures) (last .cell5 .ensures)
+    shows-row (omega arith) (omega arith) (last .before .prior .ensures) (first last .cell .ensures) (c .cell6 .ensures)
+    (last .cell5 .ensures) (last .cell5 .ensures)
 
 mul-prior-2 : tie.Need-mul-prior-2
 mul-prior-2 c = search needs
@@ -111,7 +112,9 @@ returns-3 : tie.Need-returns-3
 returns-3 c =
     let low = c .before .before .before in
     let last = low .before .before .before .before .before in
-    shows-right (omega (arith, last .before .before .before .if1 .left)) (omega arith) (low .before .prior2 .ensures) (c .before .prior3 .ensures) (last .before .prior .ensures) (first last .cell .ensures) (low .cell7 .ensures) (c .cell8 .ensures) (last .cell5 .ensures)
+    shows-right (omega (arith, last .before .before .before .if1 .left)) (omega arith) (low .before .prior2 .ensures)
+    (c .before .prior3 .ensures) (last .before .prior .ensures) (first last .cell .ensures) (low .cell7 .ensures) (c .cell8 .ensures)
+    (last .cell5 .ensures)
 
 pub display-spec : {M : Type 1} → statement M
 display-spec =

@@ -67,7 +67,8 @@ module _ (d : tie.After-wide2) where
   runs : (r : ℕ) → b ≤ r → r < t → FirstRun (block o) (rows lo) (rows en) r
   runs = array-runs o simple lo en hi b t known
 
-  found : (s : Shown) → Answers (rows lo) (rows en) (rows hi) b t (s .found) (s .cell) (s .a) (s .b) (s .d) → Finds o (s .found) (s .cell) (s .a) (s .b) (s .d)
+  found : (s : Shown) → Answers (rows lo) (rows en) (rows hi) b t (s .found) (s .cell) (s .a) (s .b) (s .d)
+      → Finds o (s .found) (s .cell) (s .a) (s .b) (s .d)
   found s = found-of o simple lo en hi b t known (s .found) (s .cell) (s .a) (s .b) (s .d)
 
   -- A single row
@@ -91,7 +92,8 @@ returns-2 c =
     let d = c .before .before .before .before .before .before in
     let s = c .single .result in
     found d s
-    (subst (λ (t : ℕ). Answers (rows (lo d)) (rows (en d)) (rows (hi d)) (b d) t (s .found) (s .cell) (s .a) (s .b) (s .d)) (alone d (omega arith)) (c .single .ensures))
+    (subst (λ (t : ℕ). Answers (rows (lo d)) (rows (en d)) (rows (hi d)) (b d) t (s .found) (s .cell) (s .a) (s .b) (s .d))
+    (alone d (omega arith)) (c .single .ensures))
 
 pub find-spec : {M : Type 1} → statement M
 find-spec =

@@ -6,13 +6,15 @@ use denote.Ref.{now}
 use borrow.Author.Needs.{needs}
 use Rattle.chart.specs.Limits.{side}
 use Rattle.rows.specs.parts.Rows.{rows}
-use Rattle.witness_search.proofs.Laws.{edge-within, Edge, edge-of, Searching, searching-start, Across, searching-next, answers-found, answers-none}
+use Rattle.witness_search.proofs.Laws.{edge-within, Edge, edge-of, Searching, searching-start, Across, searching-next, answers-found}
+use Rattle.witness_search.proofs.Laws.{answers-none}
 use Rattle.witness_search.proofs.search.Statement.{statement}
 use Rattle.witness_search.proofs.search.Tie as tie
 
 abbrev Inv-loop : tie.InvT-loop
 Inv-loop lo en hi b t m left right i₀ k₀ r₀ i k r =
-    (two : suc b < t) × (mirrors : ((s : ℕ) → s < t → rows m s ≡ side - rows hi s)) × Searching (rows lo) (rows en) (rows hi) (rows m) b t two mirrors i k r
+    (two : suc b < t) × (mirrors : ((s : ℕ) → s < t → rows m s ≡ side - rows hi s))
+    × Searching (rows lo) (rows en) (rows hi) (rows m) b t two mirrors i k r
 
 abbrev μ-loop : tie.MeasureT-loop
 μ-loop lo en hi b t m left right i₀ k₀ r₀ i k r = t - r
@@ -31,8 +33,13 @@ loop-holds c =
     let mirrored = c .before .before .before in
     let args = mirrored .before .args in
     let two : suc (args .b) < args .t = omega arith in
-    let mirrors : (s : ℕ) → s < args .t → rows (mirrored .mirrored .result) s ≡ side - rows (now (args .hi)) s = λ s l. mirrored .mirrored .ensures s (omega arith) in
-    (two, mirrors, searching-start (rows (now (args .lo))) (rows (now (args .en))) (rows (now (args .hi))) (rows (mirrored .mirrored .result)) (args .b) (args .t) two mirrors)
+    let mirrors : (s : ℕ) → s < args .t
+    → rows (mirrored .mirrored .result) s ≡ side - rows (now (args .hi)) s = λ s l. mirrored .mirrored .ensures s (omega arith) in (
+      two,
+      mirrors,
+      searching-start (rows (now (args .lo))) (rows (now (args .en))) (rows (now (args .hi)))
+          (rows (mirrored .mirrored .result)) (args .b) (args .t) two mirrors,
+    )
 
 edge-start-requires : tie.Need-edge-start-requires Inv-loop μ-loop
 edge-start-requires c κs = omega (arith, c .before .before .loop .inv .2 .left)
@@ -91,11 +98,13 @@ module _ (c : tie.After-edge-start2 Inv-loop μ-loop) where
 
   left-within : (b head ≤ i) × (suc i < t head)
   left-within =
-      edge-within (lo head) (b head) (t head) (two head) (head .before .before .before .tangents .ensures) (searching head .left) (searching head .low) high (c .before .before .edge-start .ensures)
+      edge-within (lo head) (b head) (t head) (two head) (head .before .before .before .tangents .ensures) (searching head .left)
+      (searching head .low) high (c .before .before .edge-start .ensures)
 
   right-within : (b head ≤ k) × (suc k < t head)
   right-within =
-      edge-within (m head) (b head) (t head) (two head) (head .before .tangents2 .ensures) (searching head .right) (searching head .low) high (c .edge-start2 .ensures)
+      edge-within (m head) (b head) (t head) (two head) (head .before .tangents2 .ensures) (searching head .right) (searching head .low)
+      high (c .edge-start2 .ensures)
 
 -- Once the rows are known where they end
 module _ (c : tie.After-wide2 Inv-loop μ-loop) where
@@ -105,12 +114,14 @@ module _ (c : tie.After-wide2 Inv-loop μ-loop) where
   left : let h = head starts in Edge (lo h) (b h) (t h) (two h) (r starts) (i starts) (c .before .wide .result)
   left =
       let h = head starts in
-      edge-of (lo h) (b h) (t h) (two h) (h .before .before .before .tangents .ensures) (searching h .left) (searching h .low) (high starts) (starts .before .before .edge-start .ensures) (c .before .wide .result) (c .before .wide .ensures .0)
+      edge-of (lo h) (b h) (t h) (two h) (h .before .before .before .tangents .ensures) (searching h .left) (searching h .low) (high starts)
+      (starts .before .before .edge-start .ensures) (c .before .wide .result) (c .before .wide .ensures .0)
 
   right : let h = head starts in Edge (m h) (b h) (t h) (two h) (r starts) (k starts) (c .wide2 .result)
   right =
       let h = head starts in
-      edge-of (m h) (b h) (t h) (two h) (h .before .tangents2 .ensures) (searching h .right) (searching h .low) (high starts) (starts .edge-start2 .ensures) (c .wide2 .result) (c .wide2 .ensures .0)
+      edge-of (m h) (b h) (t h) (two h) (h .before .tangents2 .ensures) (searching h .right) (searching h .low) (high starts)
+      (starts .edge-start2 .ensures) (c .wide2 .result) (c .wide2 .ensures .0)
 
 -- Once the column to test is known
 module _ (c : tie.After-column Inv-loop μ-loop) where
@@ -123,7 +134,9 @@ module _ (c : tie.After-column Inv-loop μ-loop) where
   abbrev h : tie.At-loop Inv-loop μ-loop
   h = head (starts ends)
 
-  across : Across (lo h) (en h) (hi h) (m h) (b h) (t h) (two h) (mirrors h) (r (starts ends)) (i (starts ends)) (ends .before .wide .result) (k (starts ends)) (ends .wide2 .result) (crossed .crossing .result) (c .before .before .before .crossing2 .result) (c .column .result)
+  across : Across (lo h) (en h) (hi h) (m h) (b h) (t h) (two h) (mirrors h) (r (starts ends)) (i (starts ends))
+      (ends .before .wide .result) (k (starts ends)) (ends .wide2 .result) (crossed .crossing .result)
+      (c .before .before .before .crossing2 .result) (c .column .result)
   across =
       record {
         low = searching h .low;
@@ -185,7 +198,8 @@ returns c =
     let tested = c .before .before .before in
     let s = c .display .result in
     let g = h tested in
-    answers-found (lo g) (en g) (hi g) (m g) (b g) (t g) (two g) (mirrors g) (across tested) (s .found) (s .cell) (s .a) (s .b) (s .d) (searching g .clear) (sym (c .before .before .gap .ensures) ∙ c .before .if1 .taken) (c .display .ensures)
+    answers-found (lo g) (en g) (hi g) (m g) (b g) (t g) (two g) (mirrors g) (across tested) (s .found) (s .cell) (s .a) (s .b) (s .d)
+    (searching g .clear) (sym (c .before .before .gap .ensures) ∙ c .before .if1 .taken) (c .display .ensures)
 
 add-r : tie.Need-add-r Inv-loop μ-loop
 add-r c = omega arith
@@ -196,13 +210,18 @@ loop-less c = omega arith
 loop-again : tie.Need-loop-again Inv-loop μ-loop
 loop-again c =
     let tested = c .before .before in
-    let g = h tested in
-    (two g, mirrors g, searching-next (lo g) (en g) (hi g) (m g) (b g) (t g) (two g) (mirrors g) (across tested) (searching g .clear) (sym (c .before .gap .ensures) ∙ c .if1 .left))
+    let g = h tested in (
+      two g,
+      mirrors g,
+      searching-next (lo g) (en g) (hi g) (m g) (b g) (t g) (two g) (mirrors g) (across tested) (searching g .clear)
+          (sym (c .before .gap .ensures) ∙ c .if1 .left),
+    )
 
 returns-2 : tie.Need-returns-2 Inv-loop μ-loop
 returns-2 c =
     let g = c .before in
-    answers-none (lo g) (en g) (hi g) (m g) (b g) (t g) (two g) (mirrors g) (g .loop .i) (g .loop .k) (g .loop .r) (omega arith) (searching g) _ _ _ _
+    answers-none (lo g) (en g) (hi g) (m g) (b g) (t g) (two g) (mirrors g) (g .loop .i) (g .loop .k) (g .loop .r) (omega arith)
+    (searching g) _ _ _ _
 
 pub search-spec : {M : Type 1} → statement M
 search-spec =

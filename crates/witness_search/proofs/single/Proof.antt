@@ -25,7 +25,9 @@ display-requires c κs = search needs
 returns : tie.Need-returns
 returns c =
     let at = c .before .before .before .before in
-    single-found (rows (now (at .args .lo))) (rows (now (at .args .en))) (rows (now (at .args .hi))) (at .args .b) (at .pre .1) (at .pre .2) (omega arith) (c .display .result .found) (c .display .result .cell) (c .display .result .a) (c .display .result .b) (c .display .result .d) (c .display .ensures)
+    single-found (rows (now (at .args .lo))) (rows (now (at .args .en))) (rows (now (at .args .hi))) (at .args .b) (at .pre .1) (at .pre .2)
+    (omega arith) (c .display .result .found) (c .display .result .cell) (c .display .result .a) (c .display .result .b)
+    (c .display .result .d) (c .display .ensures)
 
 nothing-requires : tie.Need-nothing-requires
 nothing-requires c κs = search needs
@@ -33,7 +35,9 @@ nothing-requires c κs = search needs
 returns-2 : tie.Need-returns-2
 returns-2 c =
     let at = c .before .before .before .before in
-    single-none (rows (now (at .args .lo))) (rows (now (at .args .en))) (rows (now (at .args .hi))) (at .args .b) (at .pre .1) (at .pre .2) (omega arith) (c .nothing .result .found) (c .nothing .result .cell) (c .nothing .result .a) (c .nothing .result .b) (c .nothing .result .d) (c .nothing .ensures)
+    single-none (rows (now (at .args .lo))) (rows (now (at .args .en))) (rows (now (at .args .hi))) (at .args .b) (at .pre .1) (at .pre .2)
+    (omega arith) (c .nothing .result .found) (c .nothing .result .cell) (c .nothing .result .a) (c .nothing .result .b)
+    (c .nothing .result .d) (c .nothing .ensures)
 
 pub single-spec : {M : Type 1} → statement M
 single-spec =

@@ -12,7 +12,8 @@ use Rattle.witness.specs.Gap.{lowestRow, lowestOpen, isMissing, lowestMissing, 
 unfoldable pub threeBy : (ℕ → ℕ) → (ℕ → ℕ) → ℕ → ℕ → ℕ → ℕ → ℕ → ℕ → Three
 threeBy lo hi i j k n c r =
     cond (ltb c (lo r)) (record { a = firstIn lo hi 0 0 i; b = firstIn lo hi 0 0 j; d = firstIn lo hi 0 0 r })
-    (cond (ltb c (hi r)) (record { a = firstIn lo hi 0 0 r; b = lastIn lo hi 0 0 r; d = lastIn lo hi 0 0 r }) (record { a = lastIn lo hi 0 0 k; b = lastIn lo hi 0 0 n; d = lastIn lo hi 0 0 r }))
+    (cond (ltb c (hi r)) (record { a = firstIn lo hi 0 0 r; b = lastIn lo hi 0 0 r; d = lastIn lo hi 0 0 r })
+    (record { a = lastIn lo hi 0 0 k; b = lastIn lo hi 0 0 n; d = lastIn lo hi 0 0 r }))
 
 pub record Shows (lo hi : ℕ → ℕ) (i j k n c r : ℕ) (found : Bool) (cell a b d : Point) : Type 0 where
   pub is-found : found ≡ true

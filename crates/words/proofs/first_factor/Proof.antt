@@ -4,7 +4,8 @@ use native.Mathlib.Omega.{arith}
 use borrow.Author.Needs.{needs}
 use mathlib.Core.Logic.{⊎-elim}
 use lib.ListN.{length}
-use Rattle.words.proofs.FirstFactor.{Search, search-none, search-start, search-fits, search-end, pair-same, pair-larger, pair-others, pair-smaller}
+use Rattle.words.proofs.FirstFactor.{Search, search-none, search-start, search-fits, search-end, pair-same, pair-larger, pair-others}
+use Rattle.words.proofs.FirstFactor.{pair-smaller}
 use Rattle.words.proofs.first_factor.Statement.{statement}
 use Rattle.words.proofs.first_factor.Tie as tie
 

@@ -32,7 +32,8 @@ shared-slice-read-if3 c = search needs
 returns-2 : tie.Need-returns-2 Inv-loop μ-loop
 returns-2 c =
     let iteration = c .before .before .before .before in
-    walked-misfit (iteration .before .loop .inv .1) _ (iteration .loop-test .taken) (c .before .before .next-remainder .ensures) (c .if3 .taken)
+    walked-misfit (iteration .before .loop .inv .1) _ (iteration .loop-test .taken) (c .before .before .next-remainder .ensures)
+    (c .if3 .taken)
 
 add-i : tie.Need-add-i Inv-loop μ-loop
 add-i c = search needs
@@ -46,7 +47,8 @@ loop-again c =
     let gave = c .before .before .next-remainder .ensures in (
       search needs,
       walked-next (iteration .before .loop .inv .1) (search needs) gave
-          (λ p z. ⊎-elim (λ w. omega (arith, ltb-false 0 (iteration .before .loop .i) (w .1 .left))) (λ w. w .left z) (c .before .before .before .if1 .came))
+          (λ p z. ⊎-elim (λ w. omega (arith, ltb-false 0 (iteration .before .loop .i) (w .1 .left))) (λ w. w .left z)
+          (c .before .before .before .if1 .came))
           (c .if3 .left),
     )
 

@@ -74,7 +74,8 @@ returns-5 c =
     sym (quadrant-tests (a .args .dx) (a .args .dy) ∙ rw (not-right (two .before .before), not-left two, upward))
 
 not-up : (c : tie.Else5) → positive (c .before .before .before .before .before .before .args .dy) ≡ false
-not-up c = sym (simp (toZ-ofZ w16 _ (c .before .before .before .before .before .before .fits .dy)) at (c .before .above3 .ensures)) ∙ c .if5 .left
+not-up c = sym (simp (toZ-ofZ w16 _ (c .before .before .before .before .before .before .fits .dy)) at (c .before .above3 .ensures))
+    ∙ c .if5 .left
 
 below-requires-3 : tie.Need-below-requires-3
 below-requires-3 c κs = search needs

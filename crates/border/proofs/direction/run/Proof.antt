@@ -21,10 +21,12 @@ dy-size : (c : tie.After-size2) → c .size2 .result ≡ natAbs (c .before .befo
 dy-size c = simp (toZ-ofZ w16 _ (c .before .before .fits .dy)) at (c .size2 .ensures .0)
 
 returns : tie.Need-returns
-returns c = let a = c .before .before .args in (dx-size c ∙ sym (run-even (a .k) (a .dx) (a .dy) (c .before .if1 .taken)), c .size .ensures .1)
+returns c = let a = c .before .before .args in
+    (dx-size c ∙ sym (run-even (a .k) (a .dx) (a .dy) (c .before .if1 .taken)), c .size .ensures .1)
 
 returns-2 : tie.Need-returns-2
-returns-2 c = let a = c .before .before .args in (dy-size c ∙ sym (run-odd (a .k) (a .dx) (a .dy) (c .before .if1 .left)), c .size2 .ensures .1)
+returns-2 c = let a = c .before .before .args in
+    (dy-size c ∙ sym (run-odd (a .k) (a .dx) (a .dy) (c .before .if1 .left)), c .size2 .ensures .1)
 
 pub run-spec : {M : Type 1} → statement M
 run-spec = tie.close (tie.spec size-requires size-requires-2 returns returns-2)

@@ -29,7 +29,11 @@ sub-result c =
 cast-result-2 : tie.Need-cast-result-2
 cast-result-2 c =
     let n = negated _ (c .before .fits .d) (taken c) in
-    simp (toZ-ofZ w16 (c .before .args .d) (c .before .fits .d), toZ-ofZ w64 (c .before .args .d) (sfits-widen tt (c .before .fits .d)), toZ-ofZ w64 _ (n .sfits))
+    simp (
+      toZ-ofZ w16 (c .before .args .d) (c .before .fits .d),
+      toZ-ofZ w64 (c .before .args .d) (sfits-widen tt (c .before .fits .d)),
+      toZ-ofZ w64 _ (n .sfits),
+    )
     (n .nonneg, n .fits)
 
 cast-result-3 : tie.Need-cast-result-3
@@ -38,7 +42,11 @@ cast-result-3 c = simp (toZ-ofZ w16 (c .before .args .d) (c .before .fits .d)) (
 returns : tie.Need-returns
 returns c =
     let n = negated _ (c .before .fits .d) (taken c) in
-    simp (toZ-ofZ w16 (c .before .args .d) (c .before .fits .d), toZ-ofZ w64 (c .before .args .d) (sfits-widen tt (c .before .fits .d)), toZ-ofZ w64 _ (n .sfits))
+    simp (
+      toZ-ofZ w16 (c .before .args .d) (c .before .fits .d),
+      toZ-ofZ w64 (c .before .args .d) (sfits-widen tt (c .before .fits .d)),
+      toZ-ofZ w64 _ (n .sfits),
+    )
     (n .size, omega (arith, n .size, size-16 _ (c .before .fits .d)))
 
 returns-2 : tie.Need-returns-2

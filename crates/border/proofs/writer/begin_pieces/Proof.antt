@@ -10,7 +10,8 @@ use Rattle.border.proofs.writer.begin_pieces.Statement.{statement}
 use Rattle.border.proofs.writer.begin_pieces.Tie as tie
 
 abbrev Inv-loop : tie.InvT-loop
-Inv-loop letters₀ at from to i₀ k₀ letters i k = (from ≤ k) × (k ≤ to) × (i ≡ at + (k - from)) × Wrote letters₀ at (firsts from (k - from)) letters
+Inv-loop letters₀ at from to i₀ k₀ letters i k =
+    (from ≤ k) × (k ≤ to) × (i ≡ at + (k - from)) × Wrote letters₀ at (firsts from (k - from)) letters
 
 abbrev μ-loop : tie.MeasureT-loop
 μ-loop letters₀ at from to i₀ k₀ letters i k = to - k

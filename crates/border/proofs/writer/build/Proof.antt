@@ -26,7 +26,8 @@ slice-write-letters : tie.Need-slice-write-letters Inv-loop μ-loop
 slice-write-letters c = omega (arith, c .before .before .pre)
 
 loop-holds : tie.Need-loop-holds Inv-loop μ-loop
-loop-holds c = let s = c .before .before in rw (c .later .ensures) (building-start (s .args .edges .now) (s .args .letters .now) (s .pre .0) (s .pre .1))
+loop-holds c = let s = c .before .before in
+    rw (c .later .ensures) (building-start (s .args .edges .now) (s .args .letters .now) (s .pre .0) (s .pre .1))
 
 add-loop : tie.Need-add-loop Inv-loop μ-loop
 add-loop c = omega (arith, c .loop .inv .passed)
@@ -87,10 +88,12 @@ begin-pieces-requires c κs = let l = c .before .before in (l .loop .inv .piece,
 same-length : tie.Need-same-length Inv-loop μ-loop
 same-length c =
     let l = c .before .before .before .before .before in
-    c .before .before .begin-pieces .ensures .1 .sized ∙ l .loop .inv .sized ∙ length-set (l .before .before .before .args .letters .now) 0 _
+    c .before .before .begin-pieces .ensures .1 .sized ∙ l .loop .inv .sized
+    ∙ length-set (l .before .before .before .args .letters .now) 0 _
 
 returns : tie.Need-returns Inv-loop μ-loop
-returns c = let l = c .before .before .before .before .before in building-end (l .loop .inv) (c .before .before .before .before .loop-test .left) (c .before .before .begin-pieces .ensures .1)
+returns c = let l = c .before .before .before .before .before in
+    building-end (l .loop .inv) (c .before .before .before .before .loop-test .left) (c .before .before .begin-pieces .ensures .1)
 
 pub build-spec : {M : Type 1} → statement M
 build-spec =

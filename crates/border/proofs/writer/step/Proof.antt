@@ -22,7 +22,8 @@ quadrant-is c =
     let s = c .before .before in simp (toZ-ofZ w16 _ (s .fits .dx), toZ-ofZ w16 _ (s .fits .dy)) at (c .quadrant .ensures)
 
 begin-pieces-requires : tie.Need-begin-pieces-requires
-begin-pieces-requires c κs = let k = quadrant-is (c .before) in let s = c .before .before .before in (omega (arith, k, s .pre), omega (arith, k, s .pre))
+begin-pieces-requires c κs = let k = quadrant-is (c .before) in let s = c .before .before .before in
+    (omega (arith, k, s .pre), omega (arith, k, s .pre))
 
 run-requires : tie.Need-run-requires
 run-requires c κs = search needs
@@ -36,11 +37,13 @@ run-requires-2 c κs = search needs
 -- The edge's two counts, and where it starts
 run-is :
     (c : tie.After-run) →
-    let a = c .before .before .before .before .before .before .before .args in c .run .result ≡ runIn (quadrantOf (a .dx) (a .dy)) (a .dx) (a .dy)
+    let a = c .before .before .before .before .before .before .before .args in
+    c .run .result ≡ runIn (quadrantOf (a .dx) (a .dy)) (a .dx) (a .dy)
 run-is c =
     let q = c .before .before .before .before .before in
     let s = q .before .before in
-    simp (toZ-ofZ w16 _ (s .fits .dx), toZ-ofZ w16 _ (s .fits .dy)) at (c .run .ensures .0) ∙ ap (λ (k : ℕ). runIn k (s .args .dx) (s .args .dy)) (quadrant-is q)
+    simp (toZ-ofZ w16 _ (s .fits .dx), toZ-ofZ w16 _ (s .fits .dy)) at (c .run .ensures .0)
+    ∙ ap (λ (k : ℕ). runIn k (s .args .dx) (s .args .dy)) (quadrant-is q)
 
 rise-is :
     (c : tie.After-run2) →
@@ -80,7 +83,11 @@ returns c =
     let begun = two .before .before .before .before .begin-pieces .ensures in
     let k = quadrant-is q in (
       omega (arith, k, begun .0, edge .write-edge .ensures .0, run-is (two .before), rise-is two, run-and-rise (quadrantOf x y) x y),
-      (k, step-wrote (s .args .writer .piece) x y k (run-is (two .before)) (rise-is two) (begun .1) (begun .0) (edge .write-edge .ensures .1)),
+      (
+        k,
+        step-wrote (s .args .writer .piece) x y k (run-is (two .before)) (rise-is two) (begun .1) (begun .0)
+            (edge .write-edge .ensures .1),
+      ),
     )
 
 pub step-spec : {M : Type 1} → statement M

@@ -18,7 +18,9 @@ use Rattle.border.proofs.writer.write_edge.Statement.{statement}
 use Rattle.border.proofs.writer.write_edge.Tie as tie
 
 abbrev Inv-loop : tie.InvT-loop
-Inv-loop letters₀ at k run rise earlier later end rem₀ i₀ letters rem i = (i ≤ run + rise) × (rem ≡ i * rise % (run + rise)) × Wrote letters₀ at (spell (frameOf k) (listed (countedLetter rise (run + rise)) i)) letters
+Inv-loop letters₀ at k run rise earlier later end rem₀ i₀ letters rem i =
+    (i ≤ run + rise) × (rem ≡ i * rise % (run + rise))
+    × Wrote letters₀ at (spell (frameOf k) (listed (countedLetter rise (run + rise)) i)) letters
 
 abbrev μ-loop : tie.MeasureT-loop
 μ-loop letters₀ at k run rise earlier later end rem₀ i₀ letters rem i = run + rise - i
@@ -35,8 +37,11 @@ add-end c = omega arith
 loop-holds : tie.Need-loop-holds Inv-loop μ-loop
 unfolding listed spell
 loop-holds c =
-    let s = c .before .before .before in
-    (omega arith, sym (ap (λ (n : ℕ). n % (s .args .run + s .args .rise)) (zero-mul (s .args .rise)) ∙ zero-mod _), wrote-none (s .args .letters .now) (s .args .at))
+    let s = c .before .before .before in (
+      omega arith,
+      sym (ap (λ (n : ℕ). n % (s .args .run + s .args .rise)) (zero-mul (s .args .rise)) ∙ zero-mod _),
+      wrote-none (s .args .letters .now) (s .args .at),
+    )
 
 add-letters : tie.Need-add-letters Inv-loop μ-loop
 add-letters c = omega arith
@@ -46,8 +51,10 @@ slice-write-letters c = omega (arith, c .before .before .loop .inv .2 .sized)
 
 next-requires : tie.Need-next-requires Inv-loop μ-loop
 next-requires c κs =
-    let s = c .before .before .before .before .before .before in
-    (omega (arith, mod-lt (c .before .before .loop .i * s .args .rise) (let p : 0 < s .args .run + s .args .rise = omega arith in p)), omega arith)
+    let s = c .before .before .before .before .before .before in (
+      omega (arith, mod-lt (c .before .before .loop .i * s .args .rise) (let p : 0 < s .args .run + s .args .rise = omega arith in p)),
+      omega arith,
+    )
 
 add-i : tie.Need-add-i Inv-loop μ-loop
 add-i c = omega arith

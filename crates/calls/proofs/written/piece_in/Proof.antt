@@ -6,7 +6,8 @@ use types.Run.{OneOf, miss}
 use denote.Enum.Declared.{tagOf}
 use Rattle.calls.specs.declared.Piece.the-variants.{None as NoPiece}
 use Rattle.calls.specs.declared.Reply.{Reply}
-use Rattle.calls.specs.declared.Reply.the-variants.{Done, Inside, Outside, Undecided, Columns, None, Drawn, Taken, Same, Refused, NothingAtWork, NoDraft, DraftOpen, DraftFull, NoParty, NoPlace}
+use Rattle.calls.specs.declared.Reply.the-variants.{Done, Inside, Outside, Undecided, Columns, None, Drawn, Taken, Same, Refused}
+use Rattle.calls.specs.declared.Reply.the-variants.{NothingAtWork, NoDraft, DraftOpen, DraftFull, NoParty, NoPlace}
 use Rattle.calls.specs.Replies.{pieceIn}
 use Rattle.calls.proofs.Reply as R
 use borrow.Author.Needs.{needs}

@@ -26,7 +26,8 @@ returns c = search needs
 
 returns-2 : tie.Need-returns-2
 returns-2 c =
-    c .placed .ensures ∙ ap (λ (f : Fields). placed (f .number) (c .before .before .before .c2 .given .0 .0)) (c .before .of-refusal .ensures) ∙ sym (ap comparisonFields (c .before .before .before .c2 .given .1))
+    c .placed .ensures ∙ ap (λ (f : Fields). placed (f .number) (c .before .before .before .c2 .given .0 .0))
+    (c .before .of-refusal .ensures) ∙ sym (ap comparisonFields (c .before .before .before .c2 .given .1))
 
 pub of-comparison-spec : {M : Type 1} → statement M
 of-comparison-spec =

@@ -41,8 +41,10 @@ returns-2 : tie.Need-returns-2
 unfolding numbersOf
 returns-2 c =
     let a = c .before .args in
-    let room = c .if1 .left in
-    (sym (le-leb replyWidth _ room), sets-eq (numbersOf (a .f)) (a .list .now) 0 (omega arith) ∙ sym (replyAfter-room (a .f) (a .list .now) room))
+    let room = c .if1 .left in (
+      sym (le-leb replyWidth _ room),
+      sets-eq (numbersOf (a .f)) (a .list .now) 0 (omega arith) ∙ sym (replyAfter-room (a .f) (a .list .now) room),
+    )
 
 pub write-spec : {M : Type 1} → statement M
 write-spec =

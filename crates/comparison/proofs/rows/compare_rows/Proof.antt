@@ -12,7 +12,8 @@ use Rattle.comparison.proofs.rows.compare_rows.Statement.{statement}
 use Rattle.comparison.proofs.rows.compare_rows.Tie as tie
 
 abbrev Inv-loop : tie.InvT-loop
-Inv-loop first end other-first other-end inward₀ outward₀ apart₀ row₀ inward outward apart row = (row ≤ side) × (record { inward = inward; outward = outward; apart = apart } ≡ comparedTo first end other-first other-end row)
+Inv-loop first end other-first other-end inward₀ outward₀ apart₀ row₀ inward outward apart row =
+    (row ≤ side) × (record { inward = inward; outward = outward; apart = apart } ≡ comparedTo first end other-first other-end row)
 
 abbrev μ-loop : tie.MeasureT-loop
 μ-loop first end other-first other-end inward₀ outward₀ apart₀ row₀ inward outward apart row = side - row

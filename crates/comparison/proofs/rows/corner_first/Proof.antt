@@ -27,7 +27,8 @@ returns c =
     let s = c .before .before .before .before in
     let at = s .args .at in
     rw (c .lower .ensures)
-    (low-one (metFrom at) (s .args .first .now) (at .row) (at .col) (omega (arith, s .pre .1, s .pre .2 .long)) (s .pre .2) (met-here at) (met-else at))
+    (low-one (metFrom at) (s .args .first .now) (at .row) (at .col) (omega (arith, s .pre .1, s .pre .2 .long)) (s .pre .2) (met-here at)
+    (met-else at))
 
 pub corner-first-spec : {M : Type 1} → statement M
 corner-first-spec =

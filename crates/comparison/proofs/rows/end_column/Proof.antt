@@ -17,7 +17,8 @@ returns-2 c = let s = c .before .before .before .before .args .e in end-outer (s
 
 returns-3 : tie.Need-returns-3
 unfolding endOf
-returns-3 c = let s = c .before .before .before .before .before .before .args .e in end-level (s .y) (s .v) (s .plus) (s .minus) (omega arith) (omega arith)
+returns-3 c = let s = c .before .before .before .before .before .before .args .e in
+    end-level (s .y) (s .v) (s .plus) (s .minus) (omega arith) (omega arith)
 
 div-result : tie.Need-div-result
 div-result c = search needs
@@ -30,7 +31,8 @@ add-result c =
 
 returns-4 : tie.Need-returns-4
 unfolding endOf
-returns-4 c = let s = c .before .before .before .before .before .before .before .before .args .e in end-inner (s .y) (s .v) (s .plus) (s .minus) (omega arith) (omega arith)
+returns-4 c = let s = c .before .before .before .before .before .before .before .before .args .e in
+    end-inner (s .y) (s .v) (s .plus) (s .minus) (omega arith) (omega arith)
 
 pub end-column-spec : {M : Type 1} → statement M
 end-column-spec = tie.close (tie.spec returns returns-2 returns-3 div-result add-result returns-4)

@@ -11,7 +11,9 @@ use Rattle.comparison.proofs.rows.fall.Statement.{statement}
 use Rattle.comparison.proofs.rows.fall.Tie as tie
 
 abbrev Inv-loop : tie.InvT-loop
-Inv-loop p q end₀ row₀ end row = (q .row < row) × (row ≤ max (q .row + 1) (p .row)) × (length end₀ ≡ 256) × Raised (inRows (q .row) row (λ n. min (endAt p q n) side) 0) end₀ end
+Inv-loop p q end₀ row₀ end row =
+    (q .row < row) × (row ≤ max (q .row + 1) (p .row)) × (length end₀ ≡ 256)
+    × Raised (inRows (q .row) row (λ n. min (endAt p q n) side) 0) end₀ end
 
 abbrev μ-loop : tie.MeasureT-loop
 μ-loop p q end₀ row₀ end row = p .row - row
@@ -59,7 +61,9 @@ loop-again c =
     let v = t .loop .inv in
     let s = t .before .before in
     let bound = ap (λ (k : ℕ). min k side) (sym (found .end-column .ensures ∙ ap endOf (found .before .edge-at-row .ensures .0))) in
-    let raised = high-next (s .args .q .row) _ (s .args .end .now) (min (found .end-column .result) side) (v .3) (v .0) (omega (arith, v .2, v .3 .long)) bound in
+    let raised =
+    high-next (s .args .q .row) _ (s .args .end .now) (min (found .end-column .result) side) (v .3) (v .0)
+    (omega (arith, v .2, v .3 .long)) bound in
     (omega (arith, v .0), omega (arith, v .1), v .2, rw (c .higher .ensures) raised)
 
 returns : tie.Need-returns Inv-loop μ-loop

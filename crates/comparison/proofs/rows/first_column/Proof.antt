@@ -35,7 +35,8 @@ add-result c =
 
 returns-3 : tie.Need-returns-3
 unfolding firstOf
-returns-3 c = let s = c .before .before .before .before .before .before .args .e in first-outer (s .y) (s .v) (s .plus) (s .minus) (omega arith) (omega arith)
+returns-3 c = let s = c .before .before .before .before .before .before .args .e in
+    first-outer (s .y) (s .v) (s .plus) (s .minus) (omega arith) (omega arith)
 
 pub first-column-spec : {M : Type 1} → statement M
 first-column-spec =

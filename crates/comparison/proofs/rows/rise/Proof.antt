@@ -10,7 +10,9 @@ use Rattle.comparison.proofs.rows.rise.Statement.{statement}
 use Rattle.comparison.proofs.rows.rise.Tie as tie
 
 abbrev Inv-loop : tie.InvT-loop
-Inv-loop p q first₀ row₀ first row = (p .row < row) × (row ≤ max (p .row + 1) (q .row)) × AllBelow first₀ × Lowered (inRows (p .row) row (λ n. min (firstAt p q n) side) side) first₀ first
+Inv-loop p q first₀ row₀ first row =
+    (p .row < row) × (row ≤ max (p .row + 1) (q .row)) × AllBelow first₀
+    × Lowered (inRows (p .row) row (λ n. min (firstAt p q n) side) side) first₀ first
 
 abbrev μ-loop : tie.MeasureT-loop
 μ-loop p q first₀ row₀ first row = q .row - row
@@ -58,7 +60,9 @@ loop-again c =
     let v = t .loop .inv in
     let s = t .before .before in
     let bound = ap (λ (k : ℕ). min k side) (sym (found .first-column .ensures ∙ ap firstOf (found .before .edge-at-row .ensures .0))) in
-    let lowered = low-next (s .args .p .row) _ (s .args .first .now) (found .first-column .result) (v .2) (v .3) (v .0) (omega (arith, v .2 .long, v .3 .long)) bound in
+    let lowered =
+    low-next (s .args .p .row) _ (s .args .first .now) (found .first-column .result) (v .2) (v .3) (v .0)
+    (omega (arith, v .2 .long, v .3 .long)) bound in
     (omega (arith, v .0), omega (arith, v .1), v .2, rw (c .lower .ensures) lowered)
 
 returns : tie.Need-returns Inv-loop μ-loop

@@ -49,12 +49,14 @@ fits-x c = record { sfits = c .further-arg .given }
 fits-y : (c : tie.After-further-arg2 Inv-loop μ-loop) → SFits w16 (edge (c .before .before .before .before .before .before .before) .1)
 fits-y c = record { sfits = c .further-arg2 .given }
 
-further-is : (c : tie.After-further Inv-loop μ-loop) → c .further .result ≡ next (c .before .before .before .before .before .before .before .before)
+further-is : (c : tie.After-further Inv-loop μ-loop)
+    → c .further .result ≡ next (c .before .before .before .before .before .before .before .before)
 further-is c =
     let s = c .before .before .before in
     simp (toZ-ofZ w16 _ (fits-x (c .before .before)), toZ-ofZ w16 _ (fits-y (c .before)), s .start .ensures) at (c .further .ensures)
 
-cell-is : (c : tie.After-cell Inv-loop μ-loop) → c .cell .result ≡ cellAt (next (c .before .before .before .before .before .before .before .before .before))
+cell-is : (c : tie.After-cell Inv-loop μ-loop)
+    → c .cell .result ≡ cellAt (next (c .before .before .before .before .before .before .before .before .before))
 cell-is c = c .cell .ensures ∙ ap cellAt (further-is (c .before))
 
 -- Both ends of the edge are on the chart
@@ -78,7 +80,8 @@ corner-first-requires : tie.Need-corner-first-requires Inv-loop μ-loop
 corner-first-requires c κs = let w = c .before .before .loop .inv in let a = standing-here (w .stands) in (a .0, a .1, w .below)
 
 corner-end-requires : tie.Need-corner-end-requires Inv-loop μ-loop
-corner-end-requires c κs = let w = c .before .before .before .before .loop .inv in let a = standing-here (w .stands) in (a .0, a .1, w .wide)
+corner-end-requires c κs = let w = c .before .before .before .before .loop .inv in let a = standing-here (w .stands) in
+    (a .0, a .1, w .wide)
 
 start-requires : tie.Need-start-requires Inv-loop μ-loop
 start-requires c κs = search needs
@@ -144,7 +147,8 @@ corner-first-requires-2 : tie.Need-corner-first-requires-2 Inv-loop μ-loop
 corner-first-requires-2 c κs = let w = c .before .before .loop .inv in let a = standing-here (w .stands) in (a .0, a .1, w .below)
 
 corner-end-requires-2 : tie.Need-corner-end-requires-2 Inv-loop μ-loop
-corner-end-requires-2 c κs = let w = c .before .before .before .before .loop .inv in let a = standing-here (w .stands) in (a .0, a .1, w .wide)
+corner-end-requires-2 c κs = let w = c .before .before .before .before .loop .inv in let a = standing-here (w .stands) in
+    (a .0, a .1, w .wide)
 
 returns : tie.Need-returns Inv-loop μ-loop
 returns c =

@@ -36,7 +36,8 @@ returns c =
     let s = c .before .before .before in
     record {
       dx = toZ-ofZ w16 (s .steps .result) (record { sfits = s .steps .ok }) ∙ simp (r .earlier-cols, r .later-cols) at (s .steps .ensures);
-      dy = toZ-ofZ w16 (c .steps2 .result) (record { sfits = c .steps2 .ok }) ∙ simp (r .earlier-rows, r .later-rows) at (c .steps2 .ensures);
+      dy = toZ-ofZ w16 (c .steps2 .result) (record { sfits = c .steps2 .ok })
+          ∙ simp (r .earlier-rows, r .later-rows) at (c .steps2 .ensures);
     }
 
 pub edge-of-spec : {M : Type 1} → statement M

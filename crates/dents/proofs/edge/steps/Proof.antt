@@ -61,7 +61,14 @@ mul-result-2 c = rw (rise-read c, later-read c) (rise-fits c)
 
 add-result : tie.Need-add-result
 add-result c =
-    rw (run-read c, earlier-read c, rise-read c, later-read c, toZ-ofZ w16 (run c) (run-fits c), toZ-ofZ w16 (rise c) (rise-fits c)) (sum-fits c)
+    rw (
+      run-read c,
+      earlier-read c,
+      rise-read c,
+      later-read c,
+      toZ-ofZ w16 (run c) (run-fits c),
+      toZ-ofZ w16 (rise c) (rise-fits c),
+    ) (sum-fits c)
 
 returns : tie.Need-returns
 returns c =

@@ -18,7 +18,12 @@ cast-t8 c = search needs
 
 returns-3 : tie.Need-returns-3
 unfolding addOf
-returns-3 c = rw (not-false (c .before .before .before .before .args .self .begun) (c .before .before .if1 .left), lt-leb _ _ (c .before .if2 .left), lt-ltb _ _ (c .if3 .taken))
+returns-3 c =
+    rw (
+      not-false (c .before .before .before .before .args .self .begun) (c .before .before .if1 .left),
+      lt-leb _ _ (c .before .if2 .left),
+      lt-ltb _ _ (c .if3 .taken),
+    )
 
 element-write-draft : tie.Need-element-write-draft
 element-write-draft c = search needs
@@ -28,7 +33,12 @@ add-draft c = search needs
 
 returns-4 : tie.Need-returns-4
 unfolding addOf lengthened
-returns-4 c = rw (not-false (c .before .before .before .before .args .self .begun) (c .before .before .if1 .left), lt-leb _ _ (c .before .if2 .left), le-ltb _ _ (c .if3 .left))
+returns-4 c =
+    rw (
+      not-false (c .before .before .before .before .args .self .begun) (c .before .before .if1 .left),
+      lt-leb _ _ (c .before .if2 .left),
+      le-ltb _ _ (c .if3 .left),
+    )
 
 pub add-spec : {M : Type 1} → statement M
 add-spec =

@@ -17,8 +17,10 @@ reached c = c .before .before .before .before .before
 -- Once the place is known, both are in range
 there : (s : tie.After-reached) → (s .before .before .before .args .call .party < parties) × (s .reached .result < places)
 there s =
-    let call = s .before .before .before .args .call in
-    (there-party (call .party) (s .before .before .bad-party .ensures) (s .before .if1 .left), there-place (call .action) _ (s .reached .ensures))
+    let call = s .before .before .before .args .call in (
+      there-party (call .party) (s .before .before .bad-party .ensures) (s .before .if1 .left),
+      there-place (call .action) _ (s .reached .ensures),
+    )
 
 bad-party-requires : tie.Need-bad-party-requires
 bad-party-requires c κs = search needs

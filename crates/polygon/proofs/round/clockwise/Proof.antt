@@ -14,12 +14,14 @@ use Rattle.polygon.proofs.round.clockwise.Tie as tie
 -- The machine keeps the values of the two products
 there-read : (c : tie.After-times) → toZ w64 (ofZ w64 (c .times .result)) ≡ c .before .args .dy *ℤ c .before .args .ex
 there-read c =
-    read-back (c .times .result) (c .times .ok) ∙ simp (toZ-ofZ w16 _ (c .before .fits .dy), toZ-ofZ w16 _ (c .before .fits .ex)) at (c .times .ensures .0)
+    read-back (c .times .result) (c .times .ok)
+    ∙ simp (toZ-ofZ w16 _ (c .before .fits .dy), toZ-ofZ w16 _ (c .before .fits .ex)) at (c .times .ensures .0)
 
 back-read : (c : tie.After-times2) → toZ w64 (ofZ w64 (c .times2 .result)) ≡ c .before .before .args .dx *ℤ c .before .before .args .ey
 back-read c =
     let s = c .before .before in
-    read-back (c .times2 .result) (c .times2 .ok) ∙ simp (toZ-ofZ w16 _ (s .fits .dx), toZ-ofZ w16 _ (s .fits .ey)) at (c .times2 .ensures .0)
+    read-back (c .times2 .result) (c .times2 .ok)
+    ∙ simp (toZ-ofZ w16 _ (s .fits .dx), toZ-ofZ w16 _ (s .fits .ey)) at (c .times2 .ensures .0)
 
 times-requires : tie.Need-times-requires
 times-requires c κs = search needs

@@ -17,7 +17,8 @@ cols-positive c = c .positive .ensures ∙ ap positive (cols-read (c .before))
 cols-nil : (c : tie.After-is-zero) → c .is-zero .result ≡ isNil (c .before .before .before .before .args .dx)
 cols-nil c = c .is-zero .ensures ∙ ap isNil (cols-read (c .before .before .before))
 
-rows-positive : (c : tie.After-positive2) → c .positive2 .result ≡ positive (c .before .before .before .before .before .before .before .args .dy)
+rows-positive : (c : tie.After-positive2)
+    → c .positive2 .result ≡ positive (c .before .before .before .before .before .before .before .args .dy)
 rows-positive c =
     let w = c .before in
     let s = w .before .before .before .before .before .before in

@@ -12,12 +12,14 @@ use Rattle.polygon.proofs.round.precedes.Tie as tie
 first-is : (c : tie.After-first-half) → c .first-half .result ≡ firstHalf (c .before .args .dx) (c .before .args .dy)
 first-is c = simp (toZ-ofZ w16 _ (c .before .fits .dx), toZ-ofZ w16 _ (c .before .fits .dy)) at (c .first-half .ensures)
 
-second-is : (c : tie.After-first-half2) → c .first-half2 .result ≡ firstHalf (c .before .before .before .args .ex) (c .before .before .before .args .ey)
+second-is : (c : tie.After-first-half2)
+    → c .first-half2 .result ≡ firstHalf (c .before .before .before .args .ex) (c .before .before .before .args .ey)
 second-is c =
     let s = c .before .before .before in
     simp (toZ-ofZ w16 _ (s .fits .ex), toZ-ofZ w16 _ (s .fits .ey)) at (c .first-half2 .ensures)
 
-second-is-2 : (c : tie.After-first-half3) → c .first-half3 .result ≡ firstHalf (c .before .before .before .args .ex) (c .before .before .before .args .ey)
+second-is-2 : (c : tie.After-first-half3)
+    → c .first-half3 .result ≡ firstHalf (c .before .before .before .args .ex) (c .before .before .before .args .ey)
 second-is-2 c =
     let s = c .before .before .before in
     simp (toZ-ofZ w16 _ (s .fits .ex), toZ-ofZ w16 _ (s .fits .ey)) at (c .first-half3 .ensures)
@@ -49,7 +51,12 @@ returns-2 c =
     let two = c .before in
     let one = two .before .before in
     let s = one .before .before in
-    simp (toZ-ofZ w16 _ (s .fits .dx), toZ-ofZ w16 _ (s .fits .dy), toZ-ofZ w16 _ (s .fits .ex), toZ-ofZ w16 _ (s .fits .ey)) at (c .clockwise .ensures)
+    simp (
+      toZ-ofZ w16 _ (s .fits .dx),
+      toZ-ofZ w16 _ (s .fits .dy),
+      toZ-ofZ w16 _ (s .fits .ex),
+      toZ-ofZ w16 _ (s .fits .ey),
+    ) at (c .clockwise .ensures)
     ∙ simp (sym (first-is (one .before)) ∙ one .if1 .taken, sym (second-is (two .before)) ∙ not-false _ (two .if2 .left))
 
 returns-3 : tie.Need-returns-3
@@ -58,7 +65,12 @@ returns-3 c =
     let two = c .before in
     let one = two .before .before in
     let s = one .before .before in
-    simp (toZ-ofZ w16 _ (s .fits .dx), toZ-ofZ w16 _ (s .fits .dy), toZ-ofZ w16 _ (s .fits .ex), toZ-ofZ w16 _ (s .fits .ey)) at (c .clockwise2 .ensures)
+    simp (
+      toZ-ofZ w16 _ (s .fits .dx),
+      toZ-ofZ w16 _ (s .fits .dy),
+      toZ-ofZ w16 _ (s .fits .ex),
+      toZ-ofZ w16 _ (s .fits .ey),
+    ) at (c .clockwise2 .ensures)
     ∙ simp (sym (first-is (one .before)) ∙ one .if1 .left, sym (second-is-2 (two .before)) ∙ not-true _ (two .if3 .taken))
 
 returns-4 : tie.Need-returns-4

@@ -12,14 +12,16 @@ use Rattle.polygon.proofs.signed.times.Statement.{statement}
 use Rattle.polygon.proofs.signed.times.Tie as tie
 
 module _ (c : tie.After-widen2) where
-  reads : (toZ w64 (ofZ w64 (c .before .widen .result)) ≡ c .before .before .args .a) × (toZ w64 (ofZ w64 (c .widen2 .result)) ≡ c .before .before .args .b)
+  reads : (toZ w64 (ofZ w64 (c .before .widen .result)) ≡ c .before .before .args .a)
+      × (toZ w64 (ofZ w64 (c .widen2 .result)) ≡ c .before .before .args .b)
   reads = (
     widened (c .before .before .fits .a) (c .before .widen .ok) (c .before .widen .ensures),
     widened (c .before .before .fits .b) (c .widen2 .ok) (c .widen2 .ensures),
   )
 
   size : natAbs (c .before .before .args .a *ℤ c .before .before .args .b) ≤ 32768 * 32768
-  size = let s = c .before .before in size-product-le (s .args .a) (s .args .b) (size-16 (s .args .a) (s .fits .a)) (size-16 (s .args .b) (s .fits .b))
+  size = let s = c .before .before in
+      size-product-le (s .args .a) (s .args .b) (size-16 (s .args .a) (s .fits .a)) (size-16 (s .args .b) (s .fits .b))
 
 widen-requires : tie.Need-widen-requires
 widen-requires c κs = search needs

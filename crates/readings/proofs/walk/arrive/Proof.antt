@@ -13,14 +13,16 @@ use Rattle.readings.proofs.walk.arrive.Tie as tie
 col-read : (c : tie.After-struct-told) → toZ w32 (ofZ w32 (c .before .args .at .col)) ≡ c .before .args .at .col
 col-read c = toZ-ofZ w32 _ (record { sfits = c .struct-told .given .0 .1 })
 
-row-read : (c : tie.After-struct-told2) → toZ w32 (ofZ w32 (c .before .before .before .args .at .row)) ≡ c .before .before .before .args .at .row
+row-read : (c : tie.After-struct-told2)
+    → toZ w32 (ofZ w32 (c .before .before .before .args .at .row)) ≡ c .before .before .before .args .at .row
 row-read c = toZ-ofZ w32 _ (record { sfits = c .struct-told2 .given .1 .0 .1 })
 
 meet-requires : tie.Need-meet-requires
 meet-requires c κs = let s = c .before in (simp (col-read c) (on-parts _ _ (s .pre .0) .0), good-both (s .args .r) (s .pre .1) .0)
 
 meet-requires-2 : tie.Need-meet-requires-2
-meet-requires-2 c κs = let s = c .before .before .before in (simp (row-read c) (on-parts _ _ (s .pre .0) .1), good-both (s .args .r) (s .pre .1) .1)
+meet-requires-2 c κs = let s = c .before .before .before in
+    (simp (row-read c) (on-parts _ _ (s .pre .0) .1), good-both (s .args .r) (s .pre .1) .1)
 
 returns : tie.Need-returns
 unfolding arrived

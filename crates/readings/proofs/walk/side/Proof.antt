@@ -11,7 +11,8 @@ use Rattle.readings.proofs.walk.side.Statement.{statement}
 use Rattle.readings.proofs.walk.side.Tie as tie
 
 -- The machine keeps the values of the corner cell's numbers
-col-read : (c : tie.After-struct-told) → toZ w32 (ofZ w32 (c .before .before .before .args .at .col)) ≡ c .before .before .before .args .at .col
+col-read : (c : tie.After-struct-told)
+    → toZ w32 (ofZ w32 (c .before .before .before .args .at .col)) ≡ c .before .before .before .args .at .col
 col-read c = toZ-ofZ w32 _ (record { sfits = c .struct-told .given .0 .1 })
 
 row-read : (c : tie.After-struct-told2) →

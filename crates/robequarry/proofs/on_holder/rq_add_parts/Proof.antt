@@ -8,7 +8,10 @@ add-requires : tie.Need-add-requires
 add-requires c κs = search needs
 
 returns : tie.Need-returns
-returns c = λ r n. called-done _ _ _ _ _ _ (c .before .add-arg3 .given .0 .1) _ (record { letters = c .before .before .before .add-arg .given .0 .1; heads = c .before .before .add-arg2 .given .0 .1 }) (c .add .ensures r n)
+returns c =
+    λ r n. called-done _ _ _ _ _ _ (c .before .add-arg3 .given .0 .1) _
+    (record { letters = c .before .before .before .add-arg .given .0 .1; heads = c .before .before .add-arg2 .given .0 .1 })
+    (c .add .ensures r n)
 
 pub rq-add-parts-spec : {M : Type 1} → statement M
 rq-add-parts-spec = tie.close (tie.spec add-requires returns)

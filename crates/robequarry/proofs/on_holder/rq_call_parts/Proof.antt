@@ -12,7 +12,8 @@ returns : tie.Need-returns
 returns c =
     let r = c .before .before .before .before .before in (
       rw (sym (c .before .respond-arg5 .given .0 .1)) (c .respond .ensures),
-      fits-by _ (r .respond-arg .given .0 .1) (c .before .before .before .before .respond-arg2 .given .0 .1) (c .before .before .before .respond-arg3 .given .0 .1) (c .before .before .respond-arg4 .given .0 .1),
+      fits-by _ (r .respond-arg .given .0 .1) (c .before .before .before .before .respond-arg2 .given .0 .1)
+          (c .before .before .before .respond-arg3 .given .0 .1) (c .before .before .respond-arg4 .given .0 .1),
     )
 
 pub rq-call-parts-spec : {M : Type 1} → statement M

@@ -8,7 +8,10 @@ close-requires : tie.Need-close-requires
 close-requires c κs = search needs
 
 returns : tie.Need-returns
-returns c = called-done _ _ _ _ _ _ (c .before .close-arg5 .given .0 .1) _ (fits-by _ (c .before .before .before .before .before .close-arg .given .0) (c .before .before .before .before .close-arg2 .given .0 .1) (c .before .before .before .close-arg3 .given .0 .1) (c .before .before .close-arg4 .given .0 .1)) (c .close .ensures)
+returns c =
+    called-done _ _ _ _ _ _ (c .before .close-arg5 .given .0 .1) _
+    (fits-by _ (c .before .before .before .before .before .close-arg .given .0) (c .before .before .before .before .close-arg2 .given .0 .1)
+    (c .before .before .before .close-arg3 .given .0 .1) (c .before .before .close-arg4 .given .0 .1)) (c .close .ensures)
 
 pub rq-close-parts-spec : {M : Type 1} → statement M
 rq-close-parts-spec = tie.close (tie.spec close-requires returns)

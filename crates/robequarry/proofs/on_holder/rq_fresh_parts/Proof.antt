@@ -9,7 +9,9 @@ fresh-requires c κs = search needs
 
 returns : tie.Need-returns
 returns c =
-    let fits = fits-by _ (c .before .before .before .before .fresh-arg .given .0 .1) (c .before .before .before .fresh-arg2 .given .0 .1) (c .before .before .fresh-arg3 .given .0 .1) (c .before .fresh-arg4 .given .0 .1) in
+    let fits =
+    fits-by _ (c .before .before .before .before .fresh-arg .given .0 .1) (c .before .before .before .fresh-arg2 .given .0 .1)
+    (c .before .before .fresh-arg3 .given .0 .1) (c .before .fresh-arg4 .given .0 .1) in
     (c .fresh .ensures .holder fits, c .fresh .ensures .fits fits)
 
 pub rq-fresh-parts-spec : {M : Type 1} → statement M

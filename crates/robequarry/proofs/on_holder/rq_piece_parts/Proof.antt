@@ -13,7 +13,8 @@ returns c =
     let heads = c .before .before .before .piece-arg2 .given .0 in
     let reply = c .before .piece-arg4 .given .0 .1 in (
       λ l r. called-done _ _ _ _ _ _ reply _ (numbers, heads) (c .piece .ensures .0 l r),
-      λ l r. point-drawn _ _ _ reply _ _ _ (ifRoom-done _ _ _ _ _ _ _ (numbers, heads) reply (c .piece .ensures .0 l r)) (c .piece .ensures .1 l r),
+      λ l r. point-drawn _ _ _ reply _ _ _ (ifRoom-done _ _ _ _ _ _ _ (numbers, heads) reply (c .piece .ensures .0 l r))
+          (c .piece .ensures .1 l r),
     )
 
 pub rq-piece-parts-spec : {M : Type 1} → statement M

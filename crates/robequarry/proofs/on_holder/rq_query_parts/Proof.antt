@@ -8,7 +8,11 @@ query-requires : tie.Need-query-requires
 query-requires c κs = search needs
 
 returns : tie.Need-returns
-returns c = λ l n. called-done _ _ _ _ _ _ (c .before .query-arg3 .given .0 .1) _ (c .before .before .before .query-arg .given .0, c .before .before .query-arg2 .given .0) (c .query .ensures l n)
+returns c =
+    λ l n. called-done _ _ _ _ _ _ (c .before .query-arg3 .given .0 .1) _ (
+      c .before .before .before .query-arg .given .0,
+      c .before .before .query-arg2 .given .0,
+    ) (c .query .ensures l n)
 
 pub rq-query-parts-spec : {M : Type 1} → statement M
 rq-query-parts-spec = tie.close (tie.spec query-requires returns)

@@ -8,7 +8,11 @@ reading-requires : tie.Need-reading-requires
 reading-requires c κs = search needs
 
 returns : tie.Need-returns
-returns c = λ l r. called-done _ _ _ _ _ _ (c .before .reading-arg3 .given .0 .1) _ (c .before .before .before .reading-arg .given .0, c .before .before .reading-arg2 .given .0) (c .reading .ensures l r)
+returns c =
+    λ l r. called-done _ _ _ _ _ _ (c .before .reading-arg3 .given .0 .1) _ (
+      c .before .before .before .reading-arg .given .0,
+      c .before .before .reading-arg2 .given .0,
+    ) (c .reading .ensures l r)
 
 pub rq-reading-parts-spec : {M : Type 1} → statement M
 rq-reading-parts-spec = tie.close (tie.spec reading-requires returns)

@@ -8,7 +8,11 @@ row-requires : tie.Need-row-requires
 row-requires c κs = search needs
 
 returns : tie.Need-returns
-returns c = λ l n. called-done _ _ _ _ _ _ (c .before .row-arg3 .given .0 .1) _ (c .before .before .before .row-arg .given .0, c .before .before .row-arg2 .given .0) (c .row .ensures l n)
+returns c =
+    λ l n. called-done _ _ _ _ _ _ (c .before .row-arg3 .given .0 .1) _ (
+      c .before .before .before .row-arg .given .0,
+      c .before .before .row-arg2 .given .0,
+    ) (c .row .ensures l n)
 
 pub rq-row-parts-spec : {M : Type 1} → statement M
 rq-row-parts-spec = tie.close (tie.spec row-requires returns)

@@ -10,8 +10,10 @@ check-requires c κs = search needs
 returns : tie.Need-returns
 returns c =
     let fits = fits-by _ (c .before .before .before .check-arg .given .0) (c .before .before .check-arg2 .given .0 .1) in
-    let size = c .before .check-arg3 .given .0 .1 in
-    (called-done _ _ _ _ _ _ fits size (c .check .ensures .0), c .check .ensures .1 (sized-done _ _ _ _ _ _ fits size (c .check .ensures .0)))
+    let size = c .before .check-arg3 .given .0 .1 in (
+      called-done _ _ _ _ _ _ fits size (c .check .ensures .0),
+      c .check .ensures .1 (sized-done _ _ _ _ _ _ fits size (c .check .ensures .0)),
+    )
 
 pub rq-pile-check-parts-spec : {M : Type 1} → statement M
 rq-pile-check-parts-spec = tie.close (tie.spec check-requires returns)

@@ -32,7 +32,9 @@ shared-slice-read-if1 c = search needs
 
 returns : tie.Need-returns Inv-loop μ-loop
 unfolding letterPlace
-returns c = sym (first-stop (above (c .before .before .before .before .args .w .now)) _ _ (c .before .before .before .loop .inv .1) (lt-ltb _ _ (c .if1 .taken)) (c .before .before .loop-test .taken))
+returns c =
+    sym (first-stop (above (c .before .before .before .before .args .w .now)) _ _ (c .before .before .before .loop .inv .1)
+    (lt-ltb _ _ (c .if1 .taken)) (c .before .before .loop-test .taken))
 
 add-i : tie.Need-add-i Inv-loop μ-loop
 add-i c = search needs
@@ -41,7 +43,11 @@ loop-less : tie.Need-loop-less Inv-loop μ-loop
 loop-less c = search needs
 
 loop-again : tie.Need-loop-again Inv-loop μ-loop
-loop-again c = (omega arith, first-step (above (c .before .before .before .before .args .w .now)) _ (c .before .before .before .loop .inv .1) (le-ltb _ _ (c .if1 .left)))
+loop-again c = (
+  omega arith,
+  first-step (above (c .before .before .before .before .args .w .now)) _ (c .before .before .before .loop .inv .1)
+      (le-ltb _ _ (c .if1 .left)),
+)
 
 returns-2 : tie.Need-returns-2 Inv-loop μ-loop
 unfolding letterPlace

@@ -39,8 +39,11 @@ loop-less c = search needs
 loop-again : tie.Need-loop-again Inv-loop μ-loop
 loop-again c =
     let iteration = c .before .before .loop in
-    let w = c .before .before .before .args .w .now in
-    (omega arith, λ e. first-step (above w) (iteration .i) (iteration .inv .1 (or-left (iteration .found) (above w (iteration .i)) e)) (or-right (iteration .found) (above w (iteration .i)) e))
+    let w = c .before .before .before .args .w .now in (
+      omega arith,
+      λ e. first-step (above w) (iteration .i) (iteration .inv .1 (or-left (iteration .found) (above w (iteration .i)) e))
+          (or-right (iteration .found) (above w (iteration .i)) e),
+    )
 
 returns : tie.Need-returns Inv-loop μ-loop
 unfolding letterPlace

@@ -18,7 +18,12 @@ drawn-at-requires c κs = search needs
 returns-2 : tie.Need-returns-2
 unfolding drawnAt workEdges
 returns-2 c =
-    rw (not-false (c .before .before .before .before .before .before .args .t1 .taken) (c .before .before .before .before .before .if1 .left), c .drawn-at .ensures, c .before .first .ensures)
+    rw (
+      not-false (c .before .before .before .before .before .before .args .t1 .taken)
+          (c .before .before .before .before .before .if1 .left),
+      c .drawn-at .ensures,
+      c .before .first .ensures,
+    )
 
 pub draw-spec : {M : Type 1} → statement M
 draw-spec = tie.close (tie.spec returns first-requires drawn-at-requires returns-2)

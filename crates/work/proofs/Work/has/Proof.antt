@@ -15,7 +15,11 @@ same-point-requires c κs = search needs
 
 returns-2 : tie.Need-returns-2
 unfolding hasEdges
-returns-2 c = rw (not-false (c .before .before .before .before .args .t1 .taken) (c .before .before .before .if1 .left), sym (c .before .same-point .ensures) ∙ not-true _ (c .if2 .taken))
+returns-2 c =
+    rw (
+      not-false (c .before .before .before .before .args .t1 .taken) (c .before .before .before .if1 .left),
+      sym (c .before .same-point .ensures) ∙ not-true _ (c .if2 .taken),
+    )
 
 first-requires : tie.Need-first-requires
 first-requires c κs = search needs
@@ -33,7 +37,8 @@ returns-3 c =
     let one = second .before .before in
     let apart = one .before .before .before in
     rw (
-      not-false (c .before .before .before .before .before .before .before .before .before .before .args .t1 .taken) (apart .before .before .before .if1 .left),
+      not-false (c .before .before .before .before .before .before .before .before .before .before .args .t1 .taken)
+          (apart .before .before .before .if1 .left),
       sym (apart .before .same-point .ensures) ∙ not-false _ (apart .if2 .left),
     )
     (rw (one .first .ensures, second .first2 .ensures) at (c .same-numbers .ensures))

@@ -15,7 +15,11 @@ bad-cell-requires c κs = search needs
 
 returns-2 : tie.Need-returns-2
 unfolding located
-returns-2 c = rw (not-false (c .before .before .before .before .args .self .taken) (c .before .before .if1 .left), sym (c .before .bad-cell .ensures) ∙ c .if2 .taken)
+returns-2 c =
+    rw (
+      not-false (c .before .before .before .before .args .self .taken) (c .before .before .if1 .left),
+      sym (c .before .bad-cell .ensures) ∙ c .if2 .taken,
+    )
 
 has-inside-requires : tie.Need-has-inside-requires
 has-inside-requires c κs = search needs

@@ -22,7 +22,8 @@ returns-2 : tie.Need-returns-2
 unfolding readAt workEdges
 returns-2 c =
     rw (
-      not-false (c .before .before .before .before .before .before .before .args .t1 .taken) (c .before .before .before .before .before .before .if1 .left),
+      not-false (c .before .before .before .before .before .before .before .args .t1 .taken)
+          (c .before .before .before .before .before .before .if1 .left),
       c .reply .ensures,
       c .before .locate .ensures,
       c .before .before .first .ensures,

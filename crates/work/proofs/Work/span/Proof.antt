@@ -23,7 +23,10 @@ reply-requires c κs = search needs
 returns-3 : tie.Need-returns-3
 unfolding spanned
 returns-3 c =
-    rw (not-false (c .before .before .before .before .before .before .args .self .taken) (c .before .before .before .before .if1 .left), lt-leb _ _ (c .before .before .before .if2 .left)) (c .reply .ensures ∙ rw (c .before .span-at .ensures))
+    rw (
+      not-false (c .before .before .before .before .before .before .args .self .taken) (c .before .before .before .before .if1 .left),
+      lt-leb _ _ (c .before .before .before .if2 .left),
+    ) (c .reply .ensures ∙ rw (c .before .span-at .ensures))
 
 pub span-spec : {M : Type 1} → statement M
 span-spec = tie.close (tie.spec returns returns-2 span-at-requires reply-requires returns-3)
