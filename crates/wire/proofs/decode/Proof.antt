@@ -58,7 +58,7 @@ returns-2 c =
     let two = c .before .before .before .before in
     let one = two .before .before .before .before .before in
     rw (eq-eqb _ _ (one .before .before .before .before .before .if1 .left)) (c .call-of .ensures
-        ∙ rw (one .long .ensures, two .long2 .ensures))
+    ∙ rw (one .long .ensures, two .long2 .ensures))
 
 pub decode-spec : {M : Type 1} → statement M
 decode-spec =
