@@ -30,7 +30,7 @@ use Rattle.convexity.specs.parts.InFrame.{startOf, startE, startL, cellA
 use Rattle.convexity.proofs.Ring.{next-lt, next-suc, next-round, all-round}
 use Rattle.base.proofs.IntegerOrder.{up, down, at-most-iff, not-at-most}
 use Rattle.base.proofs.Differences.{Is, is-self, is-add, is-unique, le-iff}
-use Rattle.convexity.proofs.Signed.{Counted, Lies, Placed, placed-cell, lies-next, stepCols, stepRows, step-lies, lies-step, reached}
+use Rattle.convexity.proofs.Signed.{Counted, Lies, Placed, placed-cell, lies-next, step-lies, lies-step, reached}
 use Rattle.convexity.proofs.Signed.{lies-end, lies-sides, pairs-append, none-outside-append, cols-append, rows-append}
 use Rattle.convexity.proofs.Signed.{reached-append}
 

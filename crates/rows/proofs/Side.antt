@@ -15,7 +15,7 @@ use Rattle.chart.specs.declared.Point.{Point}
 use Rattle.lattice.specs.Hull.{InHull}
 use Rattle.rows.specs.parts.Rows.{inRows}
 use Rattle.rows.specs.Search.{asFarLeft, furthest, crossing, gapRow, chain}
-use Rattle.rows.proofs.Line.{Right, SlopeLe, right-from, right-between, right-trans, right-turn, right-start, right-end, right-cycle}
+use Rattle.rows.proofs.Line.{Right, right-from, right-between, right-trans, right-turn, right-start, right-end, right-cycle}
 use Rattle.rows.proofs.Line.{right-of-start, right-of-end, right-in-triangle}
 use Rattle.rows.proofs.Rows.{Rows, begin, begin-marked, hull-right}
 

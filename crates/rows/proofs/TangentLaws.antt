@@ -9,7 +9,7 @@ use lib.Dec.{leb}
 use borrow.Author.Tests.{le-leb, lt-leb}
 use Rattle.base.proofs.BelowLaws.{not-held}
 use Rattle.rows.specs.Search.{asFarLeft, furthest}
-use Rattle.rows.proofs.Line.{Right, SlopeLe, right-from, right-trans, right-below, right-over}
+use Rattle.rows.proofs.Line.{Right, right-from, right-trans, right-below, right-over}
 use Rattle.rows.proofs.Rows.{begin}
 use Rattle.rows.proofs.SearchLaws.{edgeEnd, furthest-end, furthest-next}
 use Rattle.rows.proofs.Side.{Furthest, as-far-left-true}

@@ -1,6 +1,5 @@
 // A script in the making: calls of eleven bytes each.
 use libc::STDOUT_FILENO;
-use wire::BYTES;
 
 pub(crate) const SIZE: usize = 45056;
 
@@ -43,26 +42,35 @@ impl Script {
         self
     }
 
-    // Appends a call by its number and two 32-bit numbers. If there is no space for it, a line says so.
-    pub(crate) fn put(mut self, number: u64, x: u64, y: u64) -> Self {
+    // Appends a byte. If there is no space for it, a line says so.
+    fn put_byte(mut self, byte: u8) -> Self {
         let at = self.end;
-        if at <= SIZE - BYTES {
-            self.bytes[at] = low(number);
-            self.bytes[at + 1] = self.party;
-            self.bytes[at + 2] = self.place;
-            self.bytes[at + 3] = low(x);
-            self.bytes[at + 4] = low(x / 256);
-            self.bytes[at + 5] = low(x / 65536);
-            self.bytes[at + 6] = low(x / 16777216);
-            self.bytes[at + 7] = low(y);
-            self.bytes[at + 8] = low(y / 256);
-            self.bytes[at + 9] = low(y / 65536);
-            self.bytes[at + 10] = low(y / 16777216);
-            self.end = at + BYTES;
+        if at < SIZE {
+            self.bytes[at] = byte;
+            self.end = at + 1;
         } else {
             io::write_all(STDOUT_FILENO, b"no space for a call\n");
         }
         self
+    }
+
+    // Appends a 32-bit number, low byte first.
+    fn put_long(self, n: u64) -> Self {
+        self.put_byte(low(n))
+            .put_byte(low(n / 256))
+            .put_byte(low(n / 65536))
+            .put_byte(low(n / 16777216))
+    }
+
+    // Appends a call by its number and two 32-bit numbers.
+    pub(crate) fn put(self, number: u64, x: u64, y: u64) -> Self {
+        let party = self.party;
+        let place = self.place;
+        self.put_byte(low(number))
+            .put_byte(party)
+            .put_byte(place)
+            .put_long(x)
+            .put_long(y)
     }
 
     // Appends a call by its number and two 16-bit numbers.

@@ -75,3 +75,10 @@ pub(crate) fn write_replies(replies: &[u16], count: usize)
         i = end;
     }
 }
+
+// A line with a count behind its name.
+pub(crate) fn write_count(name: &[u8], count: usize) {
+    io::write_all(STDOUT_FILENO, name);
+    io::print_decimal(STDOUT_FILENO, count as u64);
+    io::write_all(STDOUT_FILENO, b"\n");
+}

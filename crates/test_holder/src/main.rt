@@ -18,14 +18,9 @@ const TEXT: usize = 16384;
 fn run(script: &[u8], replies: &mut [u16]) {
     let count = replay(script, replies);
     lines::write_replies(replies, count);
-    io::write_all(STDOUT_FILENO, b"calls: ");
-    io::print_decimal(STDOUT_FILENO, count as u64);
-    io::write_all(STDOUT_FILENO, b"\nreplies that differ by value: ");
-    io::print_decimal(
-        STDOUT_FILENO,
-        by_value::differing(script, replies, count) as u64,
-    );
-    io::write_all(STDOUT_FILENO, b"\n");
+    lines::write_count(b"calls: ", count);
+    let others = by_value::differing(script, replies, count);
+    lines::write_count(b"replies that differ by value: ", others);
 }
 
 // Reads the script from standard input and runs it.

@@ -16,38 +16,26 @@ write-replies-requires c κs =
     let r = replayed .replay in
     omega (arith, r .ensures .0, r .kept .1 .0, callsRead-room (a .script .now) (length (a .replies .now)))
 
-slice-aggregate-write-all : tie.Need-slice-aggregate-write-all
-slice-aggregate-write-all c = search needs
+slice-aggregate-write-count : tie.Need-slice-aggregate-write-count
+slice-aggregate-write-count c = search needs
 
-write-all-requires : tie.Need-write-all-requires
-write-all-requires c κs = search needs
-
-print-decimal-requires : tie.Need-print-decimal-requires
-print-decimal-requires c κs = search needs
-
-slice-aggregate-write-all-2 : tie.Need-slice-aggregate-write-all-2
-slice-aggregate-write-all-2 c = search needs
-
-write-all-requires-2 : tie.Need-write-all-requires-2
-write-all-requires-2 c κs = search needs
+write-count-requires : tie.Need-write-count-requires
+write-count-requires c κs = search needs
 
 differing-requires : tie.Need-differing-requires
 differing-requires c κs =
-    let replayed = c .before .before .before .before .before .before .before .before .before .before in
+    let replayed = c .before .before .before .before .before .before .before in
     let a = replayed .before .before .before .before .args in
     let r = replayed .replay in
     let room = callsRead-room (a .script .now) (length (a .replies .now)) in
     let bytes = callsRead-bytes (a .script .now) (length (a .replies .now)) in
     (omega (arith, r .ensures .0, bytes), omega (arith, r .ensures .0, r .kept .1 .0, room))
 
-print-decimal-requires-2 : tie.Need-print-decimal-requires-2
-print-decimal-requires-2 c κs = search needs
+slice-aggregate-write-count-2 : tie.Need-slice-aggregate-write-count-2
+slice-aggregate-write-count-2 c = search needs
 
-slice-aggregate-write-all-3 : tie.Need-slice-aggregate-write-all-3
-slice-aggregate-write-all-3 c = search needs
-
-write-all-requires-3 : tie.Need-write-all-requires-3
-write-all-requires-3 c κs = search needs
+write-count-requires-2 : tie.Need-write-count-requires-2
+write-count-requires-2 c κs = search needs
 
 same-length : tie.Need-same-length
 same-length c = search needs
@@ -61,14 +49,10 @@ run-spec =
     (tie.spec
     replay-requires
     write-replies-requires
-    slice-aggregate-write-all
-    write-all-requires
-    print-decimal-requires
-    slice-aggregate-write-all-2
-    write-all-requires-2
+    slice-aggregate-write-count
+    write-count-requires
     differing-requires
-    print-decimal-requires-2
-    slice-aggregate-write-all-3
-    write-all-requires-3
+    slice-aggregate-write-count-2
+    write-count-requires-2
     same-length
     returns)
