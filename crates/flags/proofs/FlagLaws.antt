@@ -38,10 +38,10 @@ power-other b j d =
 
 -- The word of n with its bit set, and the list with that word
 abbrev stored : List ℕ → ℕ → ℕ
-stored flags n = bitOr (wordOf flags n) (2 ^ (n / 1024))
+stored flags n = bitOr (wordOf flags n) (2 ^ (n / 2048))
 
 abbrev after : List ℕ → ℕ → List ℕ
-after flags n = set flags (n % 1024) (stored flags n)
+after flags n = set flags (n % 2048) (stored flags n)
 
 -- A number above 65,535 is not in the set, and is not put in
 module _ (flags : List ℕ) (n : ℕ) (h : flagCount ≤ n) where
@@ -58,37 +58,37 @@ module _ (flags : List ℕ) (n : ℕ) (l : n < flagCount) where
   unfolding withNumber
   with-below = rw (lt-ltb n flagCount l)
 
-  pub is-set-below : eqb (bitAt (wordOf flags n) (n / 1024)) 1 ≡ isSet flags n
+  pub is-set-below : eqb (bitAt (wordOf flags n) (n / 2048)) 1 ≡ isSet flags n
   unfolding isSet
   is-set-below = rw (lt-ltb n flagCount l)
 
-  -- The code's one, shifted, keeps within its word of 64 bits
-  pub with-shift : set flags (n % 1024) (bitOr (wordOf flags n) (1 * 2 ^ (n / 1024) % 2 ^ 64)) ≡ withNumber flags n
-  with-shift = rw (with-below, shl-exact 1 (n / 1024) 64 (lit< tt) (omega arith), one-mul)
+  -- The code's one, shifted, keeps within its word of 32 bits
+  pub with-shift : set flags (n % 2048) (bitOr (wordOf flags n) (1 * 2 ^ (n / 2048) % 2 ^ 32)) ≡ withNumber flags n
+  with-shift = rw (with-below, shl-exact 1 (n / 2048) 32 (lit< tt) (omega arith), one-mul)
 
 pub with-length : (flags : List ℕ) (n : ℕ) → length (withNumber flags n) ≡ length flags
 unfolding withNumber
 with-length flags n = go (ltb n flagCount)
   where
     go : (b : Bool) → length (cond b (after flags n) flags) ≡ length flags
-    go true = length-set flags (n % 1024) (stored flags n)
+    go true = length-set flags (n % 2048) (stored flags n)
     go false = refl
 
-module _ (flags : List ℕ) (n : ℕ) (e : length flags ≡ 1024) where
-  after-bit : (j : ℕ) → bitAt (getD (after flags n) (n % 1024) 0) j ≡ max (bitAt (wordOf flags n) j) (bitAt (2 ^ (n / 1024)) j)
-  after-bit j = rw (getD-set-same flags (n % 1024) (stored flags n) 0 (omega arith)) (or-bit (wordOf flags n) (2 ^ (n / 1024)) j)
+module _ (flags : List ℕ) (n : ℕ) (e : length flags ≡ 2048) where
+  after-bit : (j : ℕ) → bitAt (getD (after flags n) (n % 2048) 0) j ≡ max (bitAt (wordOf flags n) j) (bitAt (2 ^ (n / 2048)) j)
+  after-bit j = rw (getD-set-same flags (n % 2048) (stored flags n) 0 (omega arith)) (or-bit (wordOf flags n) (2 ^ (n / 2048)) j)
 
   pub with-here : n < flagCount → isSet (withNumber flags n) n ≡ true
   unfolding isSet
   with-here l =
       rw (with-below flags n l, lt-ltb n flagCount l)
-      (eq-eqb (bitAt (getD (after flags n) (n % 1024) 0) (n / 1024)) 1 (omega (arith, after-bit (n / 1024), power-here (n / 1024))))
+      (eq-eqb (bitAt (getD (after flags n) (n % 2048) 0) (n / 2048)) 1 (omega (arith, after-bit (n / 2048), power-here (n / 2048))))
 
-  bits-other : (j : ℕ) → (j ≡ n → ⊥) → bitAt (wordOf (after flags n) j) (j / 1024) ≡ bitAt (wordOf flags j) (j / 1024)
+  bits-other : (j : ℕ) → (j ≡ n → ⊥) → bitAt (wordOf (after flags n) j) (j / 2048) ≡ bitAt (wordOf flags j) (j / 2048)
   bits-other j d =
-      elim (ℕ-discrete (j % 1024) (n % 1024)) [
-        | yes q ↦ rw q (omega (arith, after-bit (j / 1024), power-other (n / 1024) (j / 1024) (omega arith)))
-        | no q ↦ rw (getD-set-other flags (n % 1024) (j % 1024) (stored flags n) 0 q)
+      elim (ℕ-discrete (j % 2048) (n % 2048)) [
+        | yes q ↦ rw q (omega (arith, after-bit (j / 2048), power-other (n / 2048) (j / 2048) (omega arith)))
+        | no q ↦ rw (getD-set-other flags (n % 2048) (j % 2048) (stored flags n) 0 q)
       ]
 
   pub with-other : (j : ℕ) → n < flagCount → (j ≡ n → ⊥) → isSet (withNumber flags n) j ≡ isSet flags j
@@ -102,12 +102,12 @@ zeros-zero n i =
       | no h ↦ List·getD-eq-default (replicate {A = ℕ} n 0) 0 (omega (arith, length-replicate {A = ℕ} n 0))
     ]
 
-pub none-length : length noNumbers ≡ 1024
-none-length = length-replicate {A = ℕ} 1024 0
+pub none-length : length noNumbers ≡ 2048
+none-length = length-replicate {A = ℕ} 2048 0
 
 pub none-set : (n : ℕ) → isSet noNumbers n ≡ false
 unfolding isSet
-none-set n = rw (zeros-zero 1024 (n % 1024), zero-div (2 ^ (n / 1024))) (go (ltb n flagCount))
+none-set n = rw (zeros-zero 2048 (n % 2048), zero-div (2 ^ (n / 2048))) (go (ltb n flagCount))
   where
     go : (b : Bool) → b && false ≡ false
     go true = refl

@@ -19,6 +19,9 @@ ghost use Rattle.live_sections.specs.parts.Reach.{hasCell, reachOf, None
 // One past the last row, and past the last column.
 const END: u8 = SIDE as u8;
 
+// The count of rows, as rows are counted in the two longest loops.
+const COUNT: u32 = SIDE as u32;
+
 // The 255 numbers from an index on.
 fn part(rows: &[u8], from: usize) -> &[u8]
     requires { ⌜ (from ≤ 16384) × (from + side ≤ length (now rows)) ⌝ }
@@ -99,10 +102,10 @@ fn lowest(first: &[u8], past: &[u8], col: u8, from: u8, to: u8) -> u8
         × NoneFrom (now first) (now past) col to ⌝ }
     ensures { λ b. ⌜ b ≡ firstOf (λ r. inRow (now (first .entry)) (now (past .entry)) col r) side ⌝ }
 {
-    let mut r = from as usize;
-    let end = to as usize;
+    let mut r = from as u32;
+    let end = to as u32;
     while r < end {
-        if holds(first, past, col, r) {
+        if holds(first, past, col, r as usize) {
             return r as u8;
         }
         r += 1;
@@ -116,11 +119,11 @@ fn after_highest(first: &[u8], past: &[u8], col: u8, from: u8, to: u8) -> u8
         × NoneFrom (now first) (now past) col to ⌝ }
     ensures { λ b. ⌜ b ≡ side - firstOf (λ k. inRow (now (first .entry)) (now (past .entry)) col (side - 1 - k)) side ⌝ }
 {
-    let mut k = ROWS - to as usize;
-    let end = ROWS - from as usize;
+    let mut k = COUNT - to as u32;
+    let end = COUNT - from as u32;
     while k < end {
-        if holds(first, past, col, ROWS - 1 - k) {
-            return (ROWS - k) as u8;
+        if holds(first, past, col, (COUNT - 1 - k) as usize) {
+            return (COUNT - k) as u8;
         }
         k += 1;
     }

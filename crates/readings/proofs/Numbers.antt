@@ -1,14 +1,17 @@
 -- A number that is not refused is finite, so it has a value in units of 2 ^ -149.
 -- Floats compare as their values do, and a cell's number is exactly a float.
-use Prim.Native.Nat.{ℕ, _*_, _^_, _≤_, _<_}
+use Prim.Native.Nat.{ℕ, _+_, _*_, _^_, _≤_, _<_}
 use native.Mathlib.Nat.{le-of-suc-le-suc, le-trans, lt-of-le-of-lt}
-use mathlib.Core.Path.{_≡_, refl}
-use mathlib.Core.Bool.{Bool, true, false, not, _&&_, _||_, and-eq-true-iff, true≢false}
+use native.Mathlib.Decide.{ℕ-discrete}
+use native.Mathlib.Omega.{arith}
+use mathlib.Core.Path.{_≡_, refl, sym, _∙_}
+use mathlib.Core.Bool.{Bool, true, false, not, _&&_, _||_, and-eq-true-iff, and-false, true≢false}
 use lib.IntN.{ℤ, pos, negsuc, natAbs}
 use lib.Signed.{leZ}
-use lib.Dec.{T, lit≤, le→leb}
-use lib.Ieee.{Float, nan, inf, fin, binary32, prec, fits, inFloat, le, lt, eq, ofInt}
-use borrow.Author.Tests.{leb-true, not-false}
+use lib.Dec.{T, eqb, lit≤, le→leb, lt→ltb}
+use lib.Ieee.{Float, nan, inf, fin, binary32, prec, fits, inFloat, up, down, le, lt, eq, ofInt}
+use lib.Ieee.Fits.{down-pos}
+use borrow.Author.Tests.{leb-true, not-false, lt-ltb, ne-eqb}
 use Rattle.rounding.specs.Units.{negative, units, value, inUnits}
 use Rattle.rounding.proofs.Values.{Exact, fits-exact}
 use Rattle.rounding.proofs.Near.{whole-exact, whole-is}
@@ -116,8 +119,48 @@ module _ (z : ℤ) (small : natAbs z ≤ 254) where
   pub small-is : value binary32 (ofInt binary32 z) ≡ inUnits binary32 z
   small-is = whole-is binary32 z (few-digits z small)
 
-  pub small-le : (x : Float) → Exact binary32 x → le (ofInt binary32 z) x ≡ leZ (inUnits binary32 z) (value binary32 x)
-  small-le x h = rw small-is at (le-value binary32 (ofInt binary32 z) x small-exact h)
+-- ---- numbers that 100 edges can lead to
 
-  pub le-small : (x : Float) → Exact binary32 x → le x (ofInt binary32 z) ≡ leZ (value binary32 x) (inUnits binary32 z)
-  le-small x h = rw small-is at (le-value binary32 x (ofInt binary32 z) h small-exact)
+module _ (z : ℤ) (reached : natAbs z ≤ 2 ^ 23) where
+  digits : natAbs z < 2 ^ prec binary32
+  digits = lt-of-le-of-lt reached (lit≤ tt)
+
+  -- The machine makes such a number a float
+  pub reached-float : T (inFloat binary32 z)
+  unfolding inFloat
+  reached-float = go z digits
+    where
+      go : (z : ℤ) → natAbs z < 2 ^ prec binary32 → T (inFloat binary32 z)
+      go (pos n) h = le→leb n (2 ^ prec binary32) (omega arith)
+      go (negsuc n) h = lt→ltb n (2 ^ prec binary32) (omega arith)
+
+  whole : value binary32 (ofInt binary32 z) ≡ inUnits binary32 z
+  whole = whole-is binary32 z digits
+
+  -- It compares as its value does
+  pub reached-le : (x : Float) → Exact binary32 x → le (ofInt binary32 z) x ≡ leZ (inUnits binary32 z) (value binary32 x)
+  reached-le x h = rw whole at (le-value binary32 (ofInt binary32 z) x (whole-exact binary32 z digits) h)
+
+  pub le-reached : (x : Float) → Exact binary32 x → le x (ofInt binary32 z) ≡ leZ (value binary32 x) (inUnits binary32 z)
+  le-reached x h = rw whole at (le-value binary32 x (ofInt binary32 z) h (whole-exact binary32 z digits))
+
+-- ---- 1/64
+
+unit : (e : ℤ) → 0 < 1 * up (negsuc 5) * down e
+unit e = omega (arith, down-pos e)
+
+-- A number that is not below 1/64 is not at most -1/64
+pub not-near : (v : Float) → lt v (fin false 1 (negsuc 5)) ≡ false → le v (fin true 1 (negsuc 5)) ≡ false
+unfolding lt eq le
+not-near nan h = refl
+not-near (inf true) h = absurd (true≢false h)
+not-near (inf false) h = refl
+not-near (fin true m e) h = absurd (true≢false (sym (lt-ltb 0 (m * up e * down (negsuc 5) + 1 * up (negsuc 5) * down e) (omega (arith, unit e))) ∙ h))
+not-near (fin false m e) h = go (m * up e * down (negsuc 5)) (1 * up (negsuc 5) * down e) (unit e)
+  where
+    go : (a b : ℕ) → 0 < b → (eqb a b && eqb a 0) ≡ false
+    go a b l =
+        elim (ℕ-discrete a 0) [
+          | yes q ↦ rw (ne-eqb a b (λ e. omega arith)) refl
+          | no q ↦ rw (ne-eqb a 0 q) (and-false (eqb a b))
+        ]

@@ -6,7 +6,10 @@ use chart::Refusal;
 use chart::SIDE;
 use walk::Passed;
 ghost use mathlib.Core.Path.{_≡_};
+ghost use Prim.Native.Nat.{_≤_};
+ghost use lib.ListN.{length};
 ghost use lib.Ieee.{binary32, ofBits};
+ghost use Rattle.chart.specs.Limits.{mostNumbers};
 ghost use Rattle.readings.specs.Located.{badNumber, locatedOf, readingOf};
 ghost use Rattle.readings.specs.Replies.{locatedReply};
 
@@ -30,26 +33,26 @@ fn bad_number(x: f32) -> bool
     !((0.0 <= x) & (x <= LAST as f32))
 }
 
-// Where a reading lies in the polygon of an anchor and a list of edges.
+// Where a reading lies in the polygon of an anchor and a list of at most 100 edges.
 pub fn locate(anchor: Point, edges: &[i16], reading: Reading) -> Located
+    requires { ⌜ length (now edges) ≤ mostNumbers ⌝ }
     ensures { λ l. ⌜ l ≡ locatedOf anchor (now (edges .entry)) reading ⌝ }
 {
     if bad_number(reading.angle) | bad_number(reading.load) {
         return Located::Refused;
     }
-    if polygon::bad_cell(anchor) {
-        return Located::Outside;
-    }
-    let mut at = walk::begin(anchor, reading);
-    let mut i = 0;
-    while i + 1 < edges.len() {
-        let Passed::On(next) = walk::pass(at, edges[i], edges[i + 1], reading) else {
+    let mut at = walk::begin(anchor);
+    let count = (edges.len() / 2) as u32;
+    let mut i: u32 = 0;
+    while i < count {
+        let k = 2 * (i as usize);
+        let Passed::On(next) = walk::pass(at, edges[k], edges[k + 1], reading) else {
             return Located::Outside;
         };
         at = next;
-        i += 2;
+        i += 1;
     }
-    walk::settle(at)
+    walk::settle(at, reading)
 }
 
 // The call's reply.

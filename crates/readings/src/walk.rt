@@ -1,23 +1,23 @@
 // The walk along a polygon's edges that locates a reading.
+use crate::LAST;
 use crate::Located;
 use calls::Reading;
 use chart::Point;
 use edge_walk::Corner;
 ghost use mathlib.Core.Path.{_≡_};
-ghost use mathlib.Core.Bool.{true, false};
-ghost use lib.IntN.{pos};
-ghost use Rattle.directions.specs.CornerHull.{chartNumber, onChart};
+ghost use mathlib.Core.Bool.{false};
+ghost use Rattle.convexity.specs.Inside.{minℤ, maxℤ};
 ghost use Rattle.readings.specs.Sides.{computedSide};
 ghost use Rattle.readings.specs.Located.{badNumber, badReading};
-ghost use Rattle.readings.specs.parts.Walk.{met, arrived, begun, passed, settled};
+ghost use Rattle.readings.specs.parts.Walk.{Reached, met, arrived, begun, passed, spanned, settled};
 
 // A computed side value between the negative of this and this leaves open on which side of the edge the reading lies.
 const SIXTY_FOURTH: f32 = 0.015625;
 
-// One coordinate of the corner cells met so far: whether some is at most the reading's number, and whether some is at least that.
+// One coordinate of the corner cells met so far: the least and the greatest number.
 struct Met {
-    under: bool,
-    over: bool,
+    least: i32,
+    most: i32,
 }
 
 // The current corner cell, what the walk has met, and whether the reading was near an edge.
@@ -28,27 +28,38 @@ pub(crate) struct Walk {
     near: bool,
 }
 
-// The walk after one more edge, or out: it left the chart, or the reading is far outside that edge.
+// The walk after one more edge, or out: the reading is far outside that edge.
 pub(crate) enum Passed {
     Out,
     On(Walk),
 }
 
-// Adds one more number.
-fn meet(m: Met, n: i32, x: f32) -> Met
-    requires { ⌜ (chartNumber n ≡ true) × (badNumber x ≡ false) ⌝ }
-    ensures { λ r. ⌜ r ≡ met m n x ⌝ }
+// The lower and the higher of two numbers.
+fn lower(a: i32, b: i32) -> i32
+    ensures { λ r. ⌜ r ≡ minℤ a b ⌝ }
 {
-    let c = n as f32;
+    if a <= b { a } else { b }
+}
+
+fn higher(a: i32, b: i32) -> i32
+    ensures { λ r. ⌜ r ≡ maxℤ a b ⌝ }
+{
+    if a <= b { b } else { a }
+}
+
+// Adds one more number.
+fn meet(m: Met, n: i32) -> Met
+    ensures { λ r. ⌜ r ≡ met m n ⌝ }
+{
     Met {
-        under: m.under | (c <= x),
-        over: m.over | (x <= c),
+        least: lower(m.least, n),
+        most: higher(m.most, n),
     }
 }
 
-// The computed side value of the edge (dx, dy) that starts at a corner cell on the chart: subtract, multiply, subtract, each rounded.
+// The computed side value of the edge (dx, dy) that starts at a corner cell: subtract, multiply, subtract, each rounded.
 fn side(dx: i16, dy: i16, at: Corner, r: Reading) -> f32
-    requires { ⌜ onChart (at .col) (at .row) ≡ true ⌝ }
+    requires { ⌜ Reached (at .col) × Reached (at .row) ⌝ }
     ensures { λ v. ⌜ v ≡ computedSide r (record { cols = dx; rows = dy; col = at .col; row = at .row }) ⌝ }
 {
     let across = (dy as f32) * (r.angle - (at.col as f32));
@@ -57,65 +68,86 @@ fn side(dx: i16, dy: i16, at: Corner, r: Reading) -> f32
 }
 
 // The walk one corner cell further.
-fn arrive(w: Walk, at: Corner, near: bool, r: Reading) -> Walk
-    requires { ⌜ (onChart (at .col) (at .row) ≡ true) × (badReading r ≡ false) ⌝ }
-    ensures { λ v. ⌜ v ≡ arrived w at near r ⌝ }
+fn arrive(w: Walk, at: Corner, near: bool) -> Walk
+    ensures { λ v. ⌜ v ≡ arrived w at near ⌝ }
 {
     Walk {
         at: at,
-        cols: meet(w.cols, at.col, r.angle),
-        rows: meet(w.rows, at.row, r.load),
+        cols: meet(w.cols, at.col),
+        rows: meet(w.rows, at.row),
         near: w.near | near,
     }
 }
 
 // The walk at its start.
-pub(crate) fn begin(anchor: Point, r: Reading) -> Walk
-    requires { ⌜ (onChart (pos (anchor .col)) (pos (anchor .row)) ≡ true) × (badReading r ≡ false) ⌝ }
-    ensures { λ w. ⌜ w ≡ begun anchor r ⌝ }
+pub(crate) fn begin(anchor: Point) -> Walk
+    ensures { λ w. ⌜ w ≡ begun anchor ⌝ }
 {
     let at = edge_walk::start(anchor);
-    let none = Met {
-        under: false,
-        over: false,
-    };
-    let blank = Walk {
+    Walk {
         at: at,
-        cols: none,
-        rows: none,
+        cols: Met {
+            least: at.col,
+            most: at.col,
+        },
+        rows: Met {
+            least: at.row,
+            most: at.row,
+        },
         near: false,
-    };
-    arrive(blank, at, false, r)
+    }
 }
 
-// The walk one edge further, from a cell of the chart.
+// The walk one edge further. Most readings are near no edge, so one comparison comes first.
 pub(crate) fn pass(w: Walk, dx: i16, dy: i16, r: Reading) -> Passed
-    requires { ⌜ (onChart (w .at .col) (w .at .row) ≡ true) × (badReading r ≡ false) ⌝ }
+    requires { ⌜ Reached (w .at .col) × Reached (w .at .row) ⌝ }
     ensures { λ p. ⌜ p ≡ passed w dx dy r ⌝ }
 {
-    let next = edge_walk::further(w.at, dx, dy);
-    if !edge_walk::on_chart(next) {
-        return Passed::Out;
-    }
     let v = side(dx, dy, w.at, r);
-    if v <= -SIXTY_FOURTH {
-        return Passed::Out;
+    let next = edge_walk::further(w.at, dx, dy);
+    if v < SIXTY_FOURTH {
+        if v <= -SIXTY_FOURTH {
+            return Passed::Out;
+        }
+        return Passed::On(arrive(w, next, true));
     }
-    Passed::On(arrive(w, next, v < SIXTY_FOURTH, r))
+    Passed::On(arrive(w, next, false))
+}
+
+// Whether the numbers met are on the chart, and x lies between them.
+fn within(m: Met, x: f32) -> bool
+    requires { ⌜ Reached (m .least) × Reached (m .most) × (badNumber x ≡ false) ⌝ }
+    ensures { λ b. ⌜ b ≡ spanned m x ⌝ }
+{
+    let least = m.least;
+    let most = m.most;
+    if !(0 <= least) {
+        return false;
+    }
+    if !(most <= LAST as i32) {
+        return false;
+    }
+    if !((least as f32) <= x) {
+        return false;
+    }
+    x <= (most as f32)
 }
 
 // The answer at the end of the walk.
-pub(crate) fn settle(w: Walk) -> Located
-    ensures { λ l. ⌜ l ≡ settled w ⌝ }
+pub(crate) fn settle(w: Walk, r: Reading) -> Located
+    requires { ⌜ Reached (w .cols .least) × Reached (w .cols .most) × (Reached (w .rows .least) × Reached (w .rows .most))
+        × (badReading r ≡ false) ⌝ }
+    ensures { λ l. ⌜ l ≡ settled w r ⌝ }
 {
-    let cols = w.cols;
-    let rows = w.rows;
-    if (cols.under & cols.over) & (rows.under & rows.over) {
-        return if w.near {
-            Located::Undecided
-        } else {
-            Located::Inside
-        };
+    if !within(w.cols, r.angle) {
+        return Located::Outside;
     }
-    Located::Outside
+    if !within(w.rows, r.load) {
+        return Located::Outside;
+    }
+    if w.near {
+        Located::Undecided
+    } else {
+        Located::Inside
+    }
 }

@@ -31,6 +31,13 @@ fn wide(x: u16) -> usize
     x as usize
 }
 
+// The same as a number of 32 bits: a row or a column, as the search computes with them.
+fn long(x: u16) -> u32
+    ensures { λ r. ⌜ (r ≡ x) × (r < 65536) ⌝ }
+{
+    x as u32
+}
+
 // The ends of the rows. Row `r` of an outline goes from column `lo[r]` up to but not including column `hi[r]`.
 pub struct Ends {
     pub lo: [u16; ROWS],
@@ -91,16 +98,16 @@ pub fn row_ends(s: Point, w: &[u8]) -> Ends
 }
 
 // The column at which row `r` begins.
-fn begins(lo: &[u16; ROWS], r: usize) -> usize
+fn begins(lo: &[u16; ROWS], r: u32) -> u32
     requires { ⌜ r < 256 ⌝ }
     ensures { λ x. ⌜ (x ≡ rows (now (lo .entry)) r) × (x < 65536) ⌝ }
 {
-    wide(lo[r])
+    long(lo[r as usize])
 }
 
 // A row begins at column `a`, the row `near` rows above it at `b`, and the row `far` rows above it at `c`. Whether the third, seen from the
 // first, is at least as far left as the second.
-fn as_far_left(a: usize, b: usize, c: usize, near: usize, far: usize) -> bool
+fn as_far_left(a: u32, b: u32, c: u32, near: u32, far: u32) -> bool
     requires { ⌜ (a < 65536) × (b < 65536) × (c < 65536) × (near ≤ far) × (far < 256) ⌝ }
     ensures { λ r. ⌜ r ≡ leb (c * near + a * (far - near)) (b * far) ⌝ }
 {
@@ -109,7 +116,7 @@ fn as_far_left(a: usize, b: usize, c: usize, near: usize, far: usize) -> bool
 
 // Of rows `i + 1` to `t - 1`, the one that is furthest left, seen from row `i`. Among equals it is the highest. `next` has the same for the
 // rows above row `i`, and `above` is its entry for row `i + 1`.
-fn tangent(lo: &[u16; ROWS], next: &[u16; ROWS], i: usize, t: usize, above: usize) -> usize
+fn tangent(lo: &[u16; ROWS], next: &[u16; ROWS], i: u32, t: u32, above: u32) -> u32
     requires { ⌜ (i + 1 < t) × (t ≤ side) × (above ≡ rows (now next) (suc i)) × Tangents (rows (now lo)) (rows (now next)) (suc i) t ⌝ }
     ensures { λ r. ⌜ (r ≡ furthestOf (rows (now (lo .entry))) i (suc i) (suc (suc i)) (t - suc (suc i))) × (i < r) × (r < t) ⌝ }
 {
@@ -124,7 +131,7 @@ fn tangent(lo: &[u16; ROWS], next: &[u16; ROWS], i: usize, t: usize, above: usiz
         }
         j = k;
         b = c;
-        k = wide(next[j]);
+        k = long(next[j as usize]);
     }
     j
 }
@@ -136,12 +143,14 @@ pub fn tangents(lo: &[u16; ROWS], b: usize, t: usize) -> [u16; ROWS]
     ensures { λ r. ⌜ Tangents (rows (now (lo .entry))) (rows r) b t ⌝ }
 {
     let mut next = [0u16; ROWS];
-    let mut i = t;
-    let mut above = 0;
-    while b + 1 < i {
+    let bottom = b as u32;
+    let top = t as u32;
+    let mut i = top;
+    let mut above: u32 = 0;
+    while bottom + 1 < i {
         i -= 1;
-        above = tangent(lo, &next, i - 1, t, above);
-        next[i - 1] = above as u16;
+        above = tangent(lo, &next, i - 1, top, above);
+        next[(i - 1) as usize] = above as u16;
     }
     next
 }
@@ -161,14 +170,18 @@ pub fn crossing(lo: &[u16; ROWS], i: usize, j: usize, r: usize) -> usize
     requires { ⌜ (i < j) × (i ≤ r) × (r ≤ j) × (j < 256) ⌝ }
     ensures { λ c. ⌜ (c ≡ crossingOf (rows (now (lo .entry))) i j r) × (c < 65536) ⌝ }
 {
-    let a = begins(lo, i);
-    let b = begins(lo, j);
-    let height = j - i;
-    ((j - r) * a + (r - i) * b + (height - 1)) / height
+    let at = i as u32;
+    let end = j as u32;
+    let row = r as u32;
+    let a = begins(lo, at);
+    let b = begins(lo, end);
+    let height = end - at;
+    let col = ((end - row) * a + (row - at) * b + (height - 1)) / height;
+    col as usize
 }
 
 // Whether row `r` begins right of that column. It needs no division.
-fn is_gap(lo: &[u16; ROWS], i: usize, j: usize, r: usize) -> bool
+fn is_gap(lo: &[u16; ROWS], i: u32, j: u32, r: u32) -> bool
     requires { ⌜ (i < r) × (r < j) × (j < 256) ⌝ }
     ensures { λ g. ⌜ g ≡ ltb (crossingOf (rows (now (lo .entry))) i j r) (rows (now (lo .entry)) r) ⌝ }
 {
@@ -180,7 +193,7 @@ fn is_gap(lo: &[u16; ROWS], i: usize, j: usize, r: usize) -> bool
 }
 
 // The first row after `i` and before `j` that begins right of that column, or `j` if there is none.
-fn gap_row(lo: &[u16; ROWS], i: usize, j: usize) -> usize
+fn gap_row(lo: &[u16; ROWS], i: u32, j: u32) -> u32
     requires { ⌜ (i < j) × (j < 256) ⌝ }
     ensures { λ r. ⌜ (r ≡ gapRow (rows (now (lo .entry))) i j) × (i < r) × (r ≤ j) ⌝ }
 {
@@ -201,13 +214,14 @@ fn chain(lo: &[u16; ROWS], t: usize, b: usize) -> Point
     ensures { λ r. ⌜ (r ≡ chainOf (rows (now (lo .entry))) t b (t - b)) × (r .row ≤ t) ⌝ }
 {
     let next = tangents(lo, b, t);
-    let mut i = b;
-    while i + 1 < t {
-        let j = wide(next[i]);
+    let top = t as u32;
+    let mut i = b as u32;
+    while i + 1 < top {
+        let j = long(next[i as usize]);
         let r = gap_row(lo, i, j);
         if r < j {
             return Point {
-                col: crossing(lo, i, j, r) as u16,
+                col: crossing(lo, i as usize, j as usize, r as usize) as u16,
                 row: r as u16,
             };
         }

@@ -9,11 +9,14 @@ ghost use Rattle.sections.specs.Sections.{joined as joinedOf, joinedFrom
 // How many layers a pile has.
 pub const LAYERS: usize = 16;
 
+// The same as a number of 32 bits, as layers and cells are computed with.
+const COUNT: u32 = LAYERS as u32;
+
 // The last of them.
 pub const LAST_LAYER: u8 = 15;
 
 // One past the last cell of a layer.
-const END: usize = SIDE as usize;
+const END: u32 = SIDE as u32;
 
 // The marked cells of layer `l` are those from `lo[l]` up to but not including `past[l]`.
 pub struct Section {
@@ -23,32 +26,32 @@ pub struct Section {
 
 // The cells of a hull in one layer: from `low` up to but not including `high`.
 struct Reach {
-    low: usize,
-    high: usize,
+    low: u32,
+    high: u32,
 }
 
-// A byte as an index.
-fn wide(x: u8) -> usize
+// A byte as a wide number.
+fn wide(x: u8) -> u32
     ensures { λ r. ⌜ (r ≡ x) × (r ≤ side) ⌝ }
 {
-    x as usize
+    x as u32
 }
 
-fn number(list: &[u8; LAYERS], l: usize) -> usize
+fn number(list: &[u8; LAYERS], l: u32) -> u32
     requires { ⌜ l < layers ⌝ }
     ensures { λ r. ⌜ (r ≡ numbers (now (list .entry)) l) × (r ≤ side) ⌝ }
 {
-    wide(list[l])
+    wide(list[l as usize])
 }
 
 // `x - 1`, or 0 if `x` is 0.
-fn before(x: usize) -> usize
+fn before(x: u32) -> u32
     ensures { λ r. ⌜ r ≡ x - 1 ⌝ }
 {
     if 0 < x { x - 1 } else { 0 }
 }
 
-fn full(lo: &[u8; LAYERS], past: &[u8; LAYERS], l: usize) -> bool
+fn full(lo: &[u8; LAYERS], past: &[u8; LAYERS], l: u32) -> bool
     requires { ⌜ l < layers ⌝ }
     ensures { λ r. ⌜ r ≡ fullOf (numbers (now (lo .entry))) (numbers (now (past .entry))) l ⌝ }
 {
@@ -56,7 +59,7 @@ fn full(lo: &[u8; LAYERS], past: &[u8; LAYERS], l: usize) -> bool
 }
 
 // a·x + b·y.
-fn weighed(a: usize, x: usize, b: usize, y: usize) -> usize
+fn weighed(a: u32, x: u32, b: u32, y: u32) -> u32
     requires { ⌜ (a < layers) × (x ≤ side) × (b < layers) × (y ≤ side) ⌝ }
     ensures { λ r. ⌜ (r ≡ a * x + b * y) × (r ≤ 65536) ⌝ }
 {
@@ -64,7 +67,7 @@ fn weighed(a: usize, x: usize, b: usize, y: usize) -> usize
 }
 
 // The minimum of `low` and `a / d` rounded up. The division is made only if the quotient is smaller.
-fn lowered(low: usize, a: usize, d: usize) -> usize
+fn lowered(low: u32, a: u32, d: u32) -> u32
     requires { ⌜ (low ≤ side) × (a ≤ 65536) × (0 < d) × (d < layers) ⌝ }
     ensures { λ r. ⌜ (r ≡ min low (ceiling a d)) × (r ≤ side) ⌝ }
 {
@@ -76,7 +79,7 @@ fn lowered(low: usize, a: usize, d: usize) -> usize
 }
 
 // The maximum of `high` and one more than `a / d` rounded down.
-fn raised(high: usize, a: usize, d: usize) -> usize
+fn raised(high: u32, a: u32, d: u32) -> u32
     requires { ⌜ (high ≤ side) × (a < d * side) × (0 < d) × (d < layers) ⌝ }
     ensures { λ r. ⌜ (r ≡ max high (above a d)) × (r ≤ side) ⌝ }
 {
@@ -84,14 +87,7 @@ fn raised(high: usize, a: usize, d: usize) -> usize
 }
 
 // The bounds of layer `j` with the lines between layers `i` and `k`.
-fn joined(
-    lo: &[u8; LAYERS],
-    past: &[u8; LAYERS],
-    i: usize,
-    j: usize,
-    k: usize,
-    reach: Reach,
-) -> Reach
+fn joined(lo: &[u8; LAYERS], past: &[u8; LAYERS], i: u32, j: u32, k: u32, reach: Reach) -> Reach
     requires { ⌜ (i < j) × (j < k) × (k < layers) × Bounded reach ⌝ }
     ensures { λ r. ⌜ (r ≡ joinedOf (numbers (now (lo .entry))) (numbers (now (past .entry))) i j k reach) × Bounded r ⌝ }
 {
@@ -109,7 +105,7 @@ fn joined(
 }
 
 // The bounds with the lines between layer `i` and every layer after `j`.
-fn joined_from(lo: &[u8; LAYERS], past: &[u8; LAYERS], i: usize, j: usize, reach: Reach) -> Reach
+fn joined_from(lo: &[u8; LAYERS], past: &[u8; LAYERS], i: u32, j: u32, reach: Reach) -> Reach
     requires { ⌜ (i < j) × (j < layers) × Bounded reach ⌝ }
     ensures { λ r. ⌜ (r ≡ joinedFrom (numbers (now (lo .entry))) (numbers (now (past .entry))) i j reach) × Bounded r ⌝ }
 {
@@ -118,7 +114,7 @@ fn joined_from(lo: &[u8; LAYERS], past: &[u8; LAYERS], i: usize, j: usize, reach
     }
     let mut next = reach;
     let mut k = j + 1;
-    while k < LAYERS {
+    while k < COUNT {
         next = joined(lo, past, i, j, k, next);
         k += 1;
     }
@@ -126,7 +122,7 @@ fn joined_from(lo: &[u8; LAYERS], past: &[u8; LAYERS], i: usize, j: usize, reach
 }
 
 // The bounds of layer `j` without any line: its own interval.
-fn alone(lo: &[u8; LAYERS], past: &[u8; LAYERS], j: usize) -> Reach
+fn alone(lo: &[u8; LAYERS], past: &[u8; LAYERS], j: u32) -> Reach
     requires { ⌜ j < layers ⌝ }
     ensures { λ r. ⌜ (r ≡ aloneOf (numbers (now (lo .entry))) (numbers (now (past .entry))) j) × Bounded r ⌝ }
 {
@@ -141,7 +137,7 @@ fn alone(lo: &[u8; LAYERS], past: &[u8; LAYERS], j: usize) -> Reach
 }
 
 // The hull's cells in layer `j`.
-fn reached(lo: &[u8; LAYERS], past: &[u8; LAYERS], j: usize) -> Reach
+fn reached(lo: &[u8; LAYERS], past: &[u8; LAYERS], j: u32) -> Reach
     requires { ⌜ j < layers ⌝ }
     ensures { λ r. ⌜ r ≡ reachedOf (numbers (now (lo .entry))) (numbers (now (past .entry))) j ⌝ }
 {
@@ -155,7 +151,7 @@ fn reached(lo: &[u8; LAYERS], past: &[u8; LAYERS], j: usize) -> Reach
 }
 
 // The hull has no cells in layer `j`, or all of them are in the layer's interval.
-fn whole(lo: &[u8; LAYERS], past: &[u8; LAYERS], j: usize) -> bool
+fn whole(lo: &[u8; LAYERS], past: &[u8; LAYERS], j: u32) -> bool
     requires { ⌜ j < layers ⌝ }
     ensures { λ r. ⌜ r ≡ wholeOf (numbers (now (lo .entry))) (numbers (now (past .entry))) j ⌝ }
 {
@@ -173,7 +169,7 @@ pub fn is_clear(section: Section) -> bool
     let lo = section.lo;
     let past = section.past;
     let mut j = 0;
-    while j < LAYERS {
+    while j < COUNT {
         if !whole(&lo, &past, j) {
             return false;
         }

@@ -26,7 +26,7 @@ module _ (o : Outline) where
 
   -- The numbers in the set are those of the corners before place i, and no letter up to the last of them met a corner
   pub record Passed (i : ℕ) (met : List ℕ) : Type 0 where
-    pub words : length met ≡ 1024
+    pub words : length met ≡ 2048
     pub here : (j : ℕ) → j < i → isSet met (numberAt j) ≡ true
     pub only : (k : ℕ) → isSet met k ≡ true → (j : ℕ) × (j < i) × (numberAt j ≡ k)
     pub none : first (meets o) (i - 1) ≡ i - 1

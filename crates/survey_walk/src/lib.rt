@@ -156,11 +156,12 @@ pub fn along(s: Point, w: &[u8]) -> Walk
     let mut north = by_row;
     let mut east = by_col;
     let mut south = by_row;
-    let mut i = 0;
-    while i < w.len() {
+    let count = w.len() as u32;
+    let mut i: u32 = 0;
+    while i < count {
         if flags::mark(&mut met, (by_row / CORNER_UNIT) as usize) {
             return Walk::Meets {
-                place: i,
+                place: i as usize,
                 number: by_col,
             };
         }
@@ -168,11 +169,11 @@ pub fn along(s: Point, w: &[u8]) -> Walk
         north = lower(north, by_row);
         east = higher(east, by_col);
         south = higher(south, by_row);
-        let letter = w[i];
+        let letter = w[i as usize];
         by_col = std::num::wrapping_add_u32(by_col, col_stride(letter));
         by_row = std::num::wrapping_add_u32(by_row, row_stride(letter));
         if is_off_chart(by_col) {
-            return Walk::Leaves { place: i };
+            return Walk::Leaves { place: i as usize };
         }
         i += 1;
     }
@@ -218,37 +219,18 @@ pub fn ends_away(s: Point, end: u32) -> bool
     end / ROW_UNIT != (s.col as u32) * ROWS + (s.row as u32)
 }
 
-// What a letter adds to the columns and to the rows, modulo 256.
-fn col_step(letter: u8) -> u8 {
-    if letter == 0 {
-        1
-    } else if letter == 2 {
-        255
-    } else {
-        0
-    }
-}
-
-fn row_step(letter: u8) -> u8 {
-    if letter == 1 {
-        1
-    } else if letter == 3 {
-        255
-    } else {
-        0
-    }
-}
-
-// Whether the steps of the letters do not add up to zero, modulo 256. This is a hint: it only decides which walk comes first, so nothing is
-// promised. The loop is vectorised.
+// Whether the steps of the letters do not add up to zero, modulo 128. Rights and ups are then half of the letters, and so are ups and lefts.
+// This is a hint: it only decides which walk comes first, so nothing is promised. The loop is vectorised.
 pub fn seems_open(w: &[u8]) -> bool {
-    let mut cols = 0u8;
-    let mut rows = 0u8;
+    let mut back = 0u8;
+    let mut middle = 0u8;
     let mut i = 0;
     while i < w.len() {
-        cols = std::num::wrapping_add_u8(cols, col_step(w[i]));
-        rows = std::num::wrapping_add_u8(rows, row_step(w[i]));
+        let letter = w[i];
+        back = std::num::wrapping_add_u8(back, letter & 2);
+        middle = std::num::wrapping_add_u8(middle, std::num::wrapping_add_u8(letter, 1) & 2);
         i += 1;
     }
-    (cols != 0) | (rows != 0)
+    let count = (w.len() % 256) as u8;
+    (back != count) | (middle != count)
 }

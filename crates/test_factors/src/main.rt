@@ -23,7 +23,7 @@ fn write_factor(copy: &[u8], times: usize, christoffel: bool) {
 
 // Writes the factor that begins at `at` and returns where the next one begins.
 fn write_next(word: &[u8], at: usize) -> usize
-    requires { ⌜ at < length (now word) ⌝ }
+    requires { ⌜ (at < length (now word)) × (length (now word) < 4294967296) ⌝ }
     ensures { λ r. ⌜ (at < r) × (r ≤ length (now (word .entry))) ⌝ }
 {
     let factor = words::factor_at(word, at, b'1');
@@ -33,7 +33,9 @@ fn write_next(word: &[u8], at: usize) -> usize
 }
 
 // All factors of a word, in order.
-fn write_factors(word: &[u8]) {
+fn write_factors(word: &[u8])
+    requires { ⌜ length (now word) < 4294967296 ⌝ }
+{
     let mut at = 0;
     while at < word.len() {
         at = write_next(word, at);
@@ -41,7 +43,9 @@ fn write_factors(word: &[u8]) {
 }
 
 // A word and its factors, on a line of its own.
-fn write_word(word: &[u8]) {
+fn write_word(word: &[u8])
+    requires { ⌜ length (now word) < 4294967296 ⌝ }
+{
     io::write_all(STDOUT_FILENO, word);
     io::write_all(STDOUT_FILENO, b":");
     write_factors(word);

@@ -14,6 +14,9 @@ mul-word c = search needs
 element-copy-out-word : tie.Need-element-copy-out-word
 element-copy-out-word c = search needs
 
+cast-flags : tie.Need-cast-flags
+cast-flags c = omega arith
+
 shl-flags : tie.Need-shl-flags
 shl-flags c = search needs
 
@@ -22,6 +25,9 @@ mul-flags c = search needs
 
 element-write-flags : tie.Need-element-write-flags
 element-write-flags c = search needs
+
+cast-result : tie.Need-cast-result
+cast-result c = omega arith
 
 shr-result : tie.Need-shr-result
 shr-result c = search needs
@@ -36,8 +42,10 @@ mark-spec =
     returns
     mul-word
     element-copy-out-word
+    cast-flags
     shl-flags
     mul-flags
     element-write-flags
+    cast-result
     shr-result
     returns-2)

@@ -33,6 +33,9 @@ sub-holds c = omega arith
 sub-holds-2 : tie.Need-sub-holds-2 Inv-loop μ-loop
 sub-holds-2 c = omega arith
 
+cast-holds : tie.Need-cast-holds Inv-loop μ-loop
+cast-holds c = omega arith
+
 holds-requires : tie.Need-holds-requires Inv-loop μ-loop
 holds-requires c κs = (omega arith, c .before .before .before .before .pre .0, c .before .before .before .before .pre .1)
 
@@ -77,6 +80,7 @@ after-highest-spec =
     loop-holds
     sub-holds
     sub-holds-2
+    cast-holds
     holds-requires
     sub-result
     cast-result

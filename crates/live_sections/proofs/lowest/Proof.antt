@@ -21,6 +21,9 @@ loop-holds c =
     let a = c .before .before .args in
     (omega arith, search-start (a .first .now) (a .past .now) (a .col) (a .from) (c .before .before .pre .2))
 
+cast-holds : tie.Need-cast-holds Inv-loop μ-loop
+cast-holds c = omega arith
+
 holds-requires : tie.Need-holds-requires Inv-loop μ-loop
 holds-requires c κs = (omega arith, c .before .before .before .before .pre .0, c .before .before .before .before .pre .1)
 
@@ -57,6 +60,7 @@ lowest-spec =
     Inv-loop
     μ-loop
     loop-holds
+    cast-holds
     holds-requires
     cast-result
     returns

@@ -3,6 +3,7 @@ use Prim.Native.Nat.{_+_, _*_}
 use native.Mathlib.Omega.{arith}
 use Rattle.live_works.proofs.WorkCases.{reading-none, reading-here}
 use borrow.Author.Needs.{needs}
+use Rattle.work.proofs.Listed.{listed-short}
 use Rattle.live_works.proofs.reading.Statement.{statement}
 use Rattle.live_works.proofs.reading.Tie as tie
 
@@ -55,7 +56,7 @@ edges-at-requires : tie.Need-edges-at-requires
 edges-at-requires c κs = search needs
 
 locate-requires : tie.Need-locate-requires
-locate-requires c κs = search needs
+locate-requires c κs = rw (c .edges-at .ensures) (listed-short _ _)
 
 reply-requires : tie.Need-reply-requires
 reply-requires c κs = search needs

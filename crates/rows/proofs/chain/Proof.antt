@@ -10,13 +10,19 @@ use Rattle.rows.proofs.chain.Statement.{statement}
 use Rattle.rows.proofs.chain.Tie as tie
 
 abbrev Inv-loop : tie.InvT-loop
-Inv-loop lo t b next i₀ i = (b ≤ i) × (i ≤ t) × (chain (rows lo) t b (t - b) ≡ chain (rows lo) t i (t - i))
+Inv-loop lo t b next top i₀ i = (b ≤ i) × (i ≤ t) × (chain (rows lo) t b (t - b) ≡ chain (rows lo) t i (t - i))
 
 abbrev μ-loop : tie.MeasureT-loop
-μ-loop lo t b next i₀ i = t - i
+μ-loop lo t b next top i₀ i = t - i
 
 tangents-requires : tie.Need-tangents-requires Inv-loop μ-loop
 tangents-requires c κs = omega arith
+
+cast-top : tie.Need-cast-top Inv-loop μ-loop
+cast-top c = omega arith
+
+cast-i : tie.Need-cast-i Inv-loop μ-loop
+cast-i c = omega arith
 
 loop-holds : tie.Need-loop-holds Inv-loop μ-loop
 loop-holds c = (omega arith, omega arith, refl)
@@ -24,48 +30,60 @@ loop-holds c = (omega arith, omega arith, refl)
 add-loop : tie.Need-add-loop Inv-loop μ-loop
 add-loop c = omega arith
 
-mul-wide : tie.Need-mul-wide Inv-loop μ-loop
-mul-wide c = omega arith
+cast-long : tie.Need-cast-long Inv-loop μ-loop
+cast-long c = omega arith
 
-array-read-wide : tie.Need-array-read-wide Inv-loop μ-loop
-array-read-wide c = omega arith
+mul-long : tie.Need-mul-long Inv-loop μ-loop
+mul-long c = omega arith
 
-wide-requires : tie.Need-wide-requires Inv-loop μ-loop
-wide-requires c κs = tt
+array-read-long : tie.Need-array-read-long Inv-loop μ-loop
+array-read-long c = omega arith
+
+long-requires : tie.Need-long-requires Inv-loop μ-loop
+long-requires c κs = tt
 
 -- The row read from the table is the upper end of the edge
-record End (c : tie.After-wide Inv-loop μ-loop) : Type 0 where
-  end : c .wide .result
+record End (c : tie.After-long Inv-loop μ-loop) : Type 0 where
+  end : c .long .result
       ≡ edgeEnd (rows (now (c .before .before .before .before .args .lo))) (c .before .before .before .before .args .t)
       (c .before .before .loop .i)
-  above : c .before .before .loop .i < c .wide .result
-  below : c .wide .result < c .before .before .before .before .args .t
+  above : c .before .before .loop .i < c .long .result
+  below : c .long .result < c .before .before .before .before .args .t
 
-read-end : (c : tie.After-wide Inv-loop μ-loop) → End c
+read-end : (c : tie.After-long Inv-loop μ-loop) → End c
 read-end c =
     let args = c .before .before .before .before .args in
     let i = c .before .before .loop .i in
     let lo = rows (now (args .lo)) in
-    let e = c .wide .ensures .0 ∙ c .before .before .before .tangents .ensures .furthest-left i (omega arith) (omega arith) in
+    let e = c .long .ensures .0 ∙ c .before .before .before .tangents .ensures .furthest-left i (omega arith) (omega arith) in
     record { end = e; above = rw e (edge-above lo (args .t) i); below = rw e (edge-below lo (args .t) i (omega arith)) }
 
 gap-row-requires : tie.Need-gap-row-requires Inv-loop μ-loop
 gap-row-requires c κs = omega (arith, read-end c)
 
+cast-crossing : tie.Need-cast-crossing Inv-loop μ-loop
+cast-crossing c = omega arith
+
+cast-crossing-2 : tie.Need-cast-crossing-2 Inv-loop μ-loop
+cast-crossing-2 c = omega (arith, read-end (c .before .before))
+
+cast-crossing-3 : tie.Need-cast-crossing-3 Inv-loop μ-loop
+cast-crossing-3 c = omega (arith, read-end (c .before .before))
+
 crossing-requires : tie.Need-crossing-requires Inv-loop μ-loop
 crossing-requires c κs = omega (arith, read-end (c .before .before))
 
-cast-t15 : tie.Need-cast-t15 Inv-loop μ-loop
-cast-t15 c = omega arith
+cast-t21 : tie.Need-cast-t21 Inv-loop μ-loop
+cast-t21 c = omega arith
 
-cast-t16 : tie.Need-cast-t16 Inv-loop μ-loop
-cast-t16 c = omega (arith, read-end (c .before .before .before))
+cast-t22 : tie.Need-cast-t22 Inv-loop μ-loop
+cast-t22 c = omega (arith, read-end (c .before .before .before))
 
 returns : tie.Need-returns Inv-loop μ-loop
 returns c =
     let args = c .before .before .before .before .before .before .before .args in
     let iteration = c .before .before .before .before .before .loop in
-    let j = c .before .before .before .wide .result in
+    let j = c .before .before .before .long .result in
     let end = read-end (c .before .before .before) in
     let row = c .before .before .gap-row in
     let stop =
@@ -79,7 +97,7 @@ loop-again : tie.Need-loop-again Inv-loop μ-loop
 loop-again c =
     let args = c .before .before .before .before .before .before .args in
     let iteration = c .before .before .before .before .loop in
-    let j = c .before .before .wide .result in
+    let j = c .before .before .long .result in
     let end = read-end (c .before .before) in
     let row = c .before .gap-row in
     let next =
@@ -87,8 +105,8 @@ loop-again c =
     in
     (omega arith, omega arith, iteration .inv .2 ∙ next)
 
-cast-t17 : tie.Need-cast-t17 Inv-loop μ-loop
-cast-t17 c = omega arith
+cast-t23 : tie.Need-cast-t23 Inv-loop μ-loop
+cast-t23 c = omega arith
 
 returns-2 : tie.Need-returns-2 Inv-loop μ-loop
 returns-2 c =
@@ -105,17 +123,23 @@ chain-spec =
     Inv-loop
     μ-loop
     tangents-requires
+    cast-top
+    cast-i
     loop-holds
     add-loop
-    mul-wide
-    array-read-wide
-    wide-requires
+    cast-long
+    mul-long
+    array-read-long
+    long-requires
     gap-row-requires
+    cast-crossing
+    cast-crossing-2
+    cast-crossing-3
     crossing-requires
-    cast-t15
-    cast-t16
+    cast-t21
+    cast-t22
     returns
     loop-less
     loop-again
-    cast-t17
+    cast-t23
     returns-2)

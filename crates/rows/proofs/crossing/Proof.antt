@@ -1,6 +1,6 @@
 -- No operation overflows, because each product is a 16-bit number times a count of rows. The mean of two 16-bit numbers has 16 bits too.
-use Prim.Native.Nat.{_-_, _*_, _≤_}
-use mathlib.Core.Path.{refl}
+use Prim.Native.Nat.{_+_, _-_, _*_, _/_, _≤_, _<_}
+use mathlib.Core.Path.{_≡_, refl}
 use denote.Ref.{now}
 use borrow.Author.Needs.{needs}
 use native.Mathlib.Omega.{arith}
@@ -9,6 +9,15 @@ use Rattle.rows.specs.parts.Rows.{rows}
 use Rattle.rows.proofs.SearchLaws.{product-small, crossing-small}
 use Rattle.rows.proofs.crossing.Statement.{statement}
 use Rattle.rows.proofs.crossing.Tie as tie
+
+cast-at : tie.Need-cast-at
+cast-at c = search needs
+
+cast-end : tie.Need-cast-end
+cast-end c = search needs
+
+cast-row : tie.Need-cast-row
+cast-row c = search needs
 
 begins-requires : tie.Need-begins-requires
 begins-requires c κs = search needs
@@ -19,8 +28,8 @@ begins-requires-2 c κs = search needs
 sub-height : tie.Need-sub-height
 sub-height c = search needs
 
-sub-result : tie.Need-sub-result
-sub-result c = search needs
+sub-col : tie.Need-sub-col
+sub-col c = search needs
 
 -- Bounds of the two products
 record Products (c : tie.After-begins2) : Type 0 where
@@ -30,30 +39,34 @@ record Products (c : tie.After-begins2) : Type 0 where
 products : (c : tie.After-begins2) → Products c
 products c = record { lower = product-small _ _ (omega arith) (omega arith); upper = product-small _ _ (omega arith) (omega arith) }
 
-mul-result : tie.Need-mul-result
-mul-result c = omega (arith, products c)
+mul-col : tie.Need-mul-col
+mul-col c = omega (arith, products c)
 
-sub-result-2 : tie.Need-sub-result-2
-sub-result-2 c = search needs
+sub-col-2 : tie.Need-sub-col-2
+sub-col-2 c = search needs
 
-mul-result-2 : tie.Need-mul-result-2
-mul-result-2 c = omega (arith, products c)
+mul-col-2 : tie.Need-mul-col-2
+mul-col-2 c = omega (arith, products c)
 
-add-result : tie.Need-add-result
-add-result c = omega (arith, products c)
+add-col : tie.Need-add-col
+add-col c = omega (arith, products c)
 
-sub-result-3 : tie.Need-sub-result-3
-sub-result-3 c = search needs
+sub-col-3 : tie.Need-sub-col-3
+sub-col-3 c = search needs
 
-add-result-2 : tie.Need-add-result-2
-add-result-2 c = omega (arith, products c)
+add-col-2 : tie.Need-add-col-2
+add-col-2 c = omega (arith, products c)
 
-div-result : tie.Need-div-result
-div-result c = search needs
+div-col : tie.Need-div-col
+div-col c = search needs
 
-returns : tie.Need-returns
+-- The column is that of the definition, and has 16 bits
+found : (c : tie.After-begins2) →
+    let args = c .before .before .args in
+    let col = ((args .j - args .r) * c .before .begins .result + (args .r - args .i) * c .begins2 .result + (args .j - args .i - 1)) / (args .j - args .i) in
+    (col ≡ crossing (rows (now (args .lo))) (args .i) (args .j) (args .r)) × (col < 65536)
 unfolding crossing
-returns c =
+found c =
     let a = c .before .begins .ensures in
     let b = c .begins2 .ensures in
     let args = c .before .before .args in
@@ -63,19 +76,29 @@ returns c =
           (omega arith),
     )
 
+cast-result : tie.Need-cast-result
+cast-result c = omega (arith, found c .1)
+
+returns : tie.Need-returns
+returns c = found c
+
 pub crossing-spec : {M : Type 1} → statement M
 crossing-spec =
     tie.close
     (tie.spec
+    cast-at
+    cast-end
+    cast-row
     begins-requires
     begins-requires-2
     sub-height
-    sub-result
-    mul-result
-    sub-result-2
-    mul-result-2
-    add-result
-    sub-result-3
-    add-result-2
-    div-result
+    sub-col
+    mul-col
+    sub-col-2
+    mul-col-2
+    add-col
+    sub-col-3
+    add-col-2
+    div-col
+    cast-result
     returns)

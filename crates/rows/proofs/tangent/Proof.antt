@@ -90,14 +90,17 @@ returns c =
     ∙ not-true _ (c .if1 .taken)) in
     (furthest-is lo (args .t) (args .i) (iteration .j) (iteration .inv .5) (omega arith) off, omega arith, omega arith)
 
-mul-wide : tie.Need-mul-wide Inv-loop μ-loop
-mul-wide c = omega (arith, next-furthest (c .before .before .before))
+cast-long : tie.Need-cast-long Inv-loop μ-loop
+cast-long c = omega (arith, next-furthest (c .before .before .before))
 
-element-copy-out-wide : tie.Need-element-copy-out-wide Inv-loop μ-loop
-element-copy-out-wide c = omega (arith, next-furthest (c .before .before .before))
+mul-long : tie.Need-mul-long Inv-loop μ-loop
+mul-long c = omega (arith, next-furthest (c .before .before .before))
 
-wide-requires : tie.Need-wide-requires Inv-loop μ-loop
-wide-requires c κs = tt
+element-copy-out-long : tie.Need-element-copy-out-long Inv-loop μ-loop
+element-copy-out-long c = omega (arith, next-furthest (c .before .before .before))
+
+long-requires : tie.Need-long-requires Inv-loop μ-loop
+long-requires c κs = tt
 
 loop-less : tie.Need-loop-less Inv-loop μ-loop
 loop-less c = omega (arith, next-furthest (c .before .before .before .before .before))
@@ -113,7 +116,7 @@ loop-again c =
       omega arith,
       column .0,
       column .1,
-      c .wide .ensures .0,
+      c .long .ensures .0,
       furthest-on (rows (now (args .lo))) (args .t) (args .i) (iteration .j) (iteration .k) (iteration .inv .5) next test,
     )
 
@@ -143,9 +146,10 @@ tangent-spec =
     sub-as-far-left-2
     as-far-left-requires
     returns
-    mul-wide
-    element-copy-out-wide
-    wide-requires
+    cast-long
+    mul-long
+    element-copy-out-long
+    long-requires
     loop-less
     loop-again
     returns-2)

@@ -10,11 +10,17 @@ use Rattle.rows.proofs.tangents.Statement.{statement}
 use Rattle.rows.proofs.tangents.Tie as tie
 
 abbrev Inv-loop : tie.InvT-loop
-Inv-loop lo b t next₀ i₀ above₀ next i above =
+Inv-loop lo b t next₀ bottom top i₀ above₀ next i above =
     (i ≤ t) × (length next ≡ 256) × (above ≡ rows next (i - 1)) × Tangents (rows lo) (rows next) (i - 1) t
 
 abbrev μ-loop : tie.MeasureT-loop
-μ-loop lo b t next₀ i₀ above₀ next i above = i - b - 1
+μ-loop lo b t next₀ bottom top i₀ above₀ next i above = i - b - 1
+
+cast-bottom : tie.Need-cast-bottom Inv-loop μ-loop
+cast-bottom c = omega arith
+
+cast-top : tie.Need-cast-top Inv-loop μ-loop
+cast-top c = omega arith
 
 loop-holds : tie.Need-loop-holds Inv-loop μ-loop
 loop-holds c = (
@@ -44,6 +50,9 @@ cast-next c = omega arith
 
 sub-next : tie.Need-sub-next Inv-loop μ-loop
 sub-next c = omega arith
+
+cast-next-2 : tie.Need-cast-next-2 Inv-loop μ-loop
+cast-next-2 c = omega arith
 
 mul-next : tie.Need-mul-next Inv-loop μ-loop
 mul-next c = omega arith
@@ -85,6 +94,8 @@ tangents-spec =
     (tie.spec
     Inv-loop
     μ-loop
+    cast-bottom
+    cast-top
     loop-holds
     add-loop
     sub-i
@@ -92,6 +103,7 @@ tangents-spec =
     tangent-requires
     cast-next
     sub-next
+    cast-next-2
     mul-next
     array-write-next
     loop-less

@@ -11,18 +11,19 @@ use Rattle.chart.specs.Outline.{outline}
 use Rattle.lattice.proofs.Staying.{start-on-chart}
 use Rattle.survey_walk.specs.parts.Numbers.{colNumber, rowNumber, offChart}
 use Rattle.survey_walk.specs.parts.Walks.{Begun, WalkedAs}
+use Rattle.survey_walk.proofs.CheckLaws.{counted-short}
 use Rattle.survey_walk.proofs.AlongLaws.{Along, along-start, along-meets, along-leaves, along-next, along-round}
 use Rattle.survey_walk.proofs.along.Statement.{statement}
 use Rattle.survey_walk.proofs.along.Tie as tie
 
 abbrev Inv-loop : tie.InvT-loop
-Inv-loop w met₀ by-col₀ by-row₀ west₀ north₀ east₀ south₀ i₀ met by-col by-row west north east south i =
+Inv-loop w met₀ by-col₀ by-row₀ west₀ north₀ east₀ south₀ count i₀ met by-col by-row west north east south i =
     (by-row < 4294967296)
     × ((s : Point) → by-col₀ ≡ colNumber s 0 → by-row₀ ≡ rowNumber s 0 → Begun (outline s w)
     → Along (outline s w) i by-col by-row met west north east south)
 
 abbrev μ-loop : tie.MeasureT-loop
-μ-loop w met₀ by-col₀ by-row₀ west₀ north₀ east₀ south₀ i₀ met by-col by-row west north east south i = length w - i
+μ-loop w met₀ by-col₀ by-row₀ west₀ north₀ east₀ south₀ count i₀ met by-col by-row west north east south i = length w - i
 
 none-requires : tie.Need-none-requires Inv-loop μ-loop
 none-requires c κs = search needs
@@ -32,6 +33,9 @@ col-number-requires c κs = let h = start-on-chart _ (c .before .before .pre .st
 
 row-number-requires : tie.Need-row-number-requires Inv-loop μ-loop
 row-number-requires c κs = let h = start-on-chart _ (c .before .before .before .pre .started) in (h .col, h .row)
+
+cast-count : tie.Need-cast-count Inv-loop μ-loop
+cast-count c = omega (arith, counted-short _ (c .before .before .before .before .pre .counted))
 
 loop-holds : tie.Need-loop-holds Inv-loop μ-loop
 loop-holds c =
@@ -45,6 +49,9 @@ cast-mark c = omega (arith, c .before .before .loop .inv .0)
 
 mark-requires : tie.Need-mark-requires Inv-loop μ-loop
 mark-requires c κs = search needs
+
+cast-t20 : tie.Need-cast-t20 Inv-loop μ-loop
+cast-t20 c = search needs
 
 returns : tie.Need-returns Inv-loop μ-loop
 unfolding WalkedAs
@@ -69,6 +76,9 @@ higher-requires c κs = search needs
 higher-requires-2 : tie.Need-higher-requires-2 Inv-loop μ-loop
 higher-requires-2 c κs = search needs
 
+cast-letter : tie.Need-cast-letter Inv-loop μ-loop
+cast-letter c = search needs
+
 shared-slice-read-letter : tie.Need-shared-slice-read-letter Inv-loop μ-loop
 shared-slice-read-letter c = search needs
 
@@ -87,6 +97,9 @@ wrapping-add-u32-requires-2 c κs = search needs
 is-off-chart-requires : tie.Need-is-off-chart-requires Inv-loop μ-loop
 is-off-chart-requires c κs = search needs
 
+cast-t24 : tie.Need-cast-t24 Inv-loop μ-loop
+cast-t24 c = search needs
+
 returns-2 : tie.Need-returns-2 Inv-loop μ-loop
 unfolding WalkedAs
 returns-2 c =
@@ -101,7 +114,12 @@ returns-2 c =
     (sym (ap offChart (sum .wrapping-add-u32 .ensures)) ∙ sym (c .before .is-off-chart .ensures) ∙ c .if2 .taken)
 
 add-i : tie.Need-add-i Inv-loop μ-loop
-add-i c = search needs
+add-i c =
+    let col = c .before .before .before .before in
+    let mark = col .before .before .before .before .before .before .before .before in
+    let iteration = mark .before .before in
+    let start = iteration .before .before .before .before .before .before in
+    omega (arith, iteration .loop-test .taken, counted-short _ (start .pre .counted))
 
 loop-less : tie.Need-loop-less Inv-loop μ-loop
 loop-less c = search needs
@@ -154,20 +172,24 @@ along-spec =
     none-requires
     col-number-requires
     row-number-requires
+    cast-count
     loop-holds
     cast-mark
     mark-requires
+    cast-t20
     returns
     lower-requires
     lower-requires-2
     higher-requires
     higher-requires-2
+    cast-letter
     shared-slice-read-letter
     col-stride-requires
     wrapping-add-u32-requires
     row-stride-requires
     wrapping-add-u32-requires-2
     is-off-chart-requires
+    cast-t24
     returns-2
     add-i
     loop-less

@@ -1,36 +1,31 @@
 -- Nothing is promised but that every place read is one of the list.
 use Prim.Native.Nat.{_≤_, _-_}
+use native.Mathlib.Omega.{arith}
 use lib.ListN.{length}
 use borrow.Author.Needs.{needs}
 use Rattle.survey_walk.proofs.seems_open.Statement.{statement}
 use Rattle.survey_walk.proofs.seems_open.Tie as tie
 
 abbrev Inv-loop : tie.InvT-loop
-Inv-loop w cols₀ rows₀ i₀ cols rows i = i ≤ length w
+Inv-loop w back₀ middle₀ i₀ back middle i = i ≤ length w
 
 abbrev μ-loop : tie.MeasureT-loop
-μ-loop w cols₀ rows₀ i₀ cols rows i = length w - i
+μ-loop w back₀ middle₀ i₀ back middle i = length w - i
 
 loop-holds : tie.Need-loop-holds Inv-loop μ-loop
 loop-holds c = search needs
 
-shared-slice-read-col-step : tie.Need-shared-slice-read-col-step Inv-loop μ-loop
-shared-slice-read-col-step c = search needs
-
-col-step-requires : tie.Need-col-step-requires Inv-loop μ-loop
-col-step-requires c κs = search needs
+shared-slice-read-letter : tie.Need-shared-slice-read-letter Inv-loop μ-loop
+shared-slice-read-letter c = search needs
 
 wrapping-add-u8-requires : tie.Need-wrapping-add-u8-requires Inv-loop μ-loop
 wrapping-add-u8-requires c κs = search needs
 
-shared-slice-read-row-step : tie.Need-shared-slice-read-row-step Inv-loop μ-loop
-shared-slice-read-row-step c = search needs
-
-row-step-requires : tie.Need-row-step-requires Inv-loop μ-loop
-row-step-requires c κs = search needs
-
 wrapping-add-u8-requires-2 : tie.Need-wrapping-add-u8-requires-2 Inv-loop μ-loop
 wrapping-add-u8-requires-2 c κs = search needs
+
+wrapping-add-u8-requires-3 : tie.Need-wrapping-add-u8-requires-3 Inv-loop μ-loop
+wrapping-add-u8-requires-3 c κs = search needs
 
 add-i : tie.Need-add-i Inv-loop μ-loop
 add-i c = search needs
@@ -40,6 +35,9 @@ loop-less c = search needs
 
 loop-again : tie.Need-loop-again Inv-loop μ-loop
 loop-again c = search needs
+
+cast-count : tie.Need-cast-count Inv-loop μ-loop
+cast-count c = omega arith
 
 returns : tie.Need-returns Inv-loop μ-loop
 returns c = search needs
@@ -51,13 +49,12 @@ seems-open-spec =
     Inv-loop
     μ-loop
     loop-holds
-    shared-slice-read-col-step
-    col-step-requires
+    shared-slice-read-letter
     wrapping-add-u8-requires
-    shared-slice-read-row-step
-    row-step-requires
     wrapping-add-u8-requires-2
+    wrapping-add-u8-requires-3
     add-i
     loop-less
     loop-again
+    cast-count
     returns)

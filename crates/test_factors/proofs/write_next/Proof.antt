@@ -7,7 +7,7 @@ use Rattle.test_factors.proofs.write_next.Statement.{statement}
 use Rattle.test_factors.proofs.write_next.Tie as tie
 
 step : (c : tie.After-factor-at) → Step (now (c .before .before .args .word)) (c .before .before .args .at) 49 (c .factor-at .result)
-step c = step-at _ _ _ (c .before .before .pre) (c .factor-at .ensures)
+step c = step-at _ _ _ (c .before .before .pre .0) (c .factor-at .ensures)
 
 factor-at-requires : tie.Need-factor-at-requires
 factor-at-requires c κs = search needs

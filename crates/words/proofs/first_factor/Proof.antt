@@ -10,13 +10,19 @@ use Rattle.words.proofs.first_factor.Statement.{statement}
 use Rattle.words.proofs.first_factor.Tie as tie
 
 abbrev Inv-loop : tie.InvT-loop
-Inv-loop w from later i₀ j₀ read₀ laters₀ i j read laters = Search w from later i j read laters
+Inv-loop w from later count start i₀ j₀ read₀ laters₀ i j read laters = Search w from later i j read laters
 
 abbrev μ-loop : tie.MeasureT-loop
-μ-loop w from later i₀ j₀ read₀ laters₀ i j read laters = length w - j
+μ-loop w from later count start i₀ j₀ read₀ laters₀ i j read laters = length w - j
 
 returns : tie.Need-returns Inv-loop μ-loop
 returns c = search-none _ _ _ (c .if1 .taken)
+
+cast-count : tie.Need-cast-count Inv-loop μ-loop
+cast-count c = search needs
+
+cast-start : tie.Need-cast-start Inv-loop μ-loop
+cast-start c = search needs
 
 add-j : tie.Need-add-j Inv-loop μ-loop
 add-j c = search needs
@@ -30,8 +36,14 @@ rank-requires c κs = search needs
 loop-holds : tie.Need-loop-holds Inv-loop μ-loop
 loop-holds c = rw (c .rank .ensures) (search-start _ _ _ (c .before .before .if1 .left))
 
+cast-a : tie.Need-cast-a Inv-loop μ-loop
+cast-a c = search needs
+
 shared-slice-read-a : tie.Need-shared-slice-read-a Inv-loop μ-loop
 shared-slice-read-a c = search needs
+
+cast-letter : tie.Need-cast-letter Inv-loop μ-loop
+cast-letter c = search needs
 
 shared-slice-read-letter : tie.Need-shared-slice-read-letter Inv-loop μ-loop
 shared-slice-read-letter c = search needs
@@ -101,11 +113,15 @@ first-factor-spec =
     Inv-loop
     μ-loop
     returns
+    cast-count
+    cast-start
     add-j
     shared-slice-read-rank
     rank-requires
     loop-holds
+    cast-a
     shared-slice-read-a
+    cast-letter
     shared-slice-read-letter
     rank-requires-2
     add-i

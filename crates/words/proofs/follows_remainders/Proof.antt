@@ -10,10 +10,13 @@ use Rattle.words.proofs.follows_remainders.Statement.{statement}
 use Rattle.words.proofs.follows_remainders.Tie as tie
 
 abbrev Inv-loop : tie.InvT-loop
-Inv-loop w k later rem₀ i₀ rem i = (i ≤ length w) × Walked w later k i rem
+Inv-loop w k later count rem₀ i₀ rem i = (i ≤ length w) × Walked w later k i rem
 
 abbrev μ-loop : tie.MeasureT-loop
-μ-loop w k later rem₀ i₀ rem i = length w - i
+μ-loop w k later count rem₀ i₀ rem i = length w - i
+
+cast-count : tie.Need-cast-count Inv-loop μ-loop
+cast-count c = search needs
 
 loop-holds : tie.Need-loop-holds Inv-loop μ-loop
 loop-holds c = (search needs, walked-start _ _ _ (search needs))
@@ -25,6 +28,9 @@ returns c =
 
 next-remainder-requires : tie.Need-next-remainder-requires Inv-loop μ-loop
 next-remainder-requires c κs = search needs
+
+cast-if3 : tie.Need-cast-if3 Inv-loop μ-loop
+cast-if3 c = search needs
 
 shared-slice-read-if3 : tie.Need-shared-slice-read-if3 Inv-loop μ-loop
 shared-slice-read-if3 c = search needs
@@ -61,9 +67,11 @@ follows-remainders-spec =
     (tie.spec
     Inv-loop
     μ-loop
+    cast-count
     loop-holds
     returns
     next-remainder-requires
+    cast-if3
     shared-slice-read-if3
     returns-2
     add-i

@@ -10,10 +10,10 @@ returns : tie.Need-returns
 returns c = christoffel-short _ _ (c .if1 .taken)
 
 follows-remainders-requires : tie.Need-follows-remainders-requires
-follows-remainders-requires c κs = (search needs, rw (c .before .before .pre) (laters-wordOf-le _ _))
+follows-remainders-requires c κs = (search needs, rw (c .before .before .pre .0) (laters-wordOf-le _ _), c .before .before .pre .1)
 
 returns-2 : tie.Need-returns-2
-returns-2 c = c .follows-remainders .ensures ∙ rw (c .before .before .before .pre) (christoffel-long _ _ (search needs))
+returns-2 c = c .follows-remainders .ensures ∙ rw (c .before .before .before .pre .0) (christoffel-long _ _ (search needs))
 
 pub is-christoffel-spec : {M : Type 1} → statement M
 is-christoffel-spec = tie.close (tie.spec returns follows-remainders-requires returns-2)

@@ -1,11 +1,10 @@
 -- Columns and rows are treated alike.
+use borrow.Author.Needs.{needs}
 use mathlib.Core.Path.{_≡_}
 use mir.Syntax.{w32}
 use mir.Val.{toZ, ofZ}
 use mir.ValLaws.{toZ-ofZ}
-use Rattle.directions.proofs.OnChart.{on-parts}
 use Rattle.readings.specs.parts.Walk.{arrived}
-use Rattle.readings.proofs.Numbers.{good-both}
 use Rattle.readings.proofs.walk.arrive.Statement.{statement}
 use Rattle.readings.proofs.walk.arrive.Tie as tie
 
@@ -18,11 +17,10 @@ row-read : (c : tie.After-struct-told2)
 row-read c = toZ-ofZ w32 _ (record { sfits = c .struct-told2 .given .1 .0 .1 })
 
 meet-requires : tie.Need-meet-requires
-meet-requires c κs = let s = c .before in (simp (col-read c) (on-parts _ _ (s .pre .0) .0), good-both (s .args .r) (s .pre .1) .0)
+meet-requires c κs = search needs
 
 meet-requires-2 : tie.Need-meet-requires-2
-meet-requires-2 c κs = let s = c .before .before .before in
-    (simp (row-read c) (on-parts _ _ (s .pre .0) .1), good-both (s .args .r) (s .pre .1) .1)
+meet-requires-2 c κs = search needs
 
 returns : tie.Need-returns
 unfolding arrived

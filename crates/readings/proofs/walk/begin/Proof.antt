@@ -1,5 +1,8 @@
--- The first corner cell is the anchor, reached with no number met.
+-- The first corner cell is the anchor, and the only one met.
 use borrow.Author.Needs.{needs}
+use mathlib.Core.Path.{refl}
+use mir.Syntax.{w32}
+use mir.ValLaws.{toZ-ofZ}
 use Rattle.readings.specs.parts.Walk.{begun}
 use Rattle.readings.proofs.walk.begin.Statement.{statement}
 use Rattle.readings.proofs.walk.begin.Tie as tie
@@ -7,12 +10,15 @@ use Rattle.readings.proofs.walk.begin.Tie as tie
 start-requires : tie.Need-start-requires
 start-requires c κs = search needs
 
-arrive-requires : tie.Need-arrive-requires
-arrive-requires c κs = rw (c .start .ensures) (c .before .pre)
-
 returns : tie.Need-returns
 unfolding begun
-returns c = simp (c .arrive .ensures, c .before .start .ensures)
+returns c =
+    let one = c .before in
+    let k = one .before .start .result in
+    simp (
+      toZ-ofZ w32 (k .col) (record { sfits = one .struct-told .given .0 .1 }),
+      toZ-ofZ w32 (k .row) (record { sfits = c .struct-told2 .given .1 .0 .1 }),
+    ) (rw (one .before .start .ensures) refl)
 
 pub begin-spec : {M : Type 1} → statement M
-begin-spec = tie.close (tie.spec start-requires arrive-requires returns)
+begin-spec = tie.close (tie.spec start-requires returns)

@@ -1,25 +1,37 @@
--- The two float comparisons compare values, because a cell's number is exactly a float.
-use mathlib.Core.Path.{sym, subst}
-use lib.Dec.{T}
+-- The two extremes are found apart.
+use borrow.Author.Needs.{needs}
+use mathlib.Core.Path.{_≡_}
 use mir.Syntax.{w32}
 use mir.ValLaws.{toZ-ofZ}
+use Rattle.convexity.specs.Inside.{minℤ, maxℤ}
 use Rattle.readings.specs.parts.Walk.{met}
-use Rattle.readings.proofs.Numbers.{good-exact, cell-of, cell-size, cell-float, small-le, le-small}
 use Rattle.readings.proofs.walk.meet.Statement.{statement}
 use Rattle.readings.proofs.walk.meet.Tie as tie
 
-int-to-float-c : tie.Need-int-to-float-c
-int-to-float-c c = let s = c .before in simp (toZ-ofZ w32 (s .args .n) (s .fits .n)) (cell-float (s .args .n) (s .pre .0))
+low-is : (c : tie.After-lower) → let s = c .before .before .args in c .lower .result ≡ minℤ (s .m .least) (s .n)
+low-is c =
+    let s = c .before .before in
+    simp (toZ-ofZ w32 (s .args .m .least) (record { sfits = c .before .struct-told .given .0 .1 }), toZ-ofZ w32 (s .args .n) (s .fits .n)) at
+    (c .lower .ensures)
+
+high-is : (c : tie.After-higher) → let s = c .before .before .before .before .args in c .higher .result ≡ maxℤ (s .m .most) (s .n)
+high-is c =
+    let s = c .before .before .before .before in
+    simp (toZ-ofZ w32 (s .args .m .most) (record { sfits = c .before .struct-told2 .given .1 .0 .1 }), toZ-ofZ w32 (s .args .n) (s .fits .n)) at
+    (c .higher .ensures)
+
+lower-requires : tie.Need-lower-requires
+lower-requires c κs = search needs
+
+higher-requires : tie.Need-higher-requires
+higher-requires c κs = search needs
 
 returns : tie.Need-returns
 unfolding met
 returns c =
-    let s = c .before .before .before in
-    let n = s .args .n in
-    let x = s .args .x in
-    let small = cell-size (cell-of n (s .pre .0)) in
-    let exact = good-exact x (subst T (sym (s .good .1 .1 .0 .1)) tt) (s .pre .1) in
-    simp (toZ-ofZ w32 n (s .fits .n), small-le n small x exact, le-small n small x exact)
+    let low = c .before .before in
+    simp (toZ-ofZ w32 (low .lower .result) (record { sfits = low .lower .ok }), toZ-ofZ w32 (c .higher .result) (record { sfits = c .higher .ok }))
+    (simp (low-is low, high-is c))
 
 pub meet-spec : {M : Type 1} → statement M
-meet-spec = tie.close (tie.spec int-to-float-c returns)
+meet-spec = tie.close (tie.spec lower-requires higher-requires returns)

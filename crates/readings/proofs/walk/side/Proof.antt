@@ -4,9 +4,8 @@ use mathlib.Core.Path.{_≡_}
 use mir.Syntax.{w16, w32}
 use mir.Val.{toZ, ofZ}
 use mir.ValLaws.{toZ-ofZ}
-use Rattle.directions.proofs.OnChart.{on-parts}
 use Rattle.readings.specs.Sides.{computedSide}
-use Rattle.readings.proofs.Numbers.{cell-float}
+use Rattle.readings.proofs.Numbers.{reached-float}
 use Rattle.readings.proofs.walk.side.Statement.{statement}
 use Rattle.readings.proofs.walk.side.Tie as tie
 
@@ -24,7 +23,7 @@ int-to-float-across : tie.Need-int-to-float-across
 int-to-float-across c = search needs
 
 int-to-float-across-2 : tie.Need-int-to-float-across-2
-int-to-float-across-2 c = let s = c .before .before .before in simp (col-read c) (cell-float (s .args .at .col) (on-parts _ _ (s .pre) .0))
+int-to-float-across-2 c = let s = c .before .before .before in simp (col-read c) (reached-float (s .args .at .col) (s .pre .0))
 
 int-to-float-up : tie.Need-int-to-float-up
 int-to-float-up c = search needs
@@ -32,7 +31,7 @@ int-to-float-up c = search needs
 int-to-float-up-2 : tie.Need-int-to-float-up-2
 int-to-float-up-2 c =
     let s = c .before .before .before .before .before .before .before in
-    simp (row-read c) (cell-float (s .args .at .row) (on-parts _ _ (s .pre) .1))
+    simp (row-read c) (reached-float (s .args .at .row) (s .pre .1))
 
 returns : tie.Need-returns
 unfolding computedSide

@@ -1,6 +1,7 @@
 -- The flag is tested first. Then the list passed on is that of the edges at work.
 use borrow.Author.Tests.{not-true, not-false}
 use Rattle.work.specs.Work.{workEdges, readAt}
+use Rattle.work.proofs.Listed.{listed-short}
 use borrow.Author.Needs.{needs}
 use Rattle.work.proofs.Work.read.Statement.{statement}
 use Rattle.work.proofs.Work.read.Tie as tie
@@ -13,7 +14,7 @@ first-requires : tie.Need-first-requires
 first-requires c κs = search needs
 
 locate-requires : tie.Need-locate-requires
-locate-requires c κs = search needs
+locate-requires c κs = rw (c .first .ensures) (listed-short _ _)
 
 reply-requires : tie.Need-reply-requires
 reply-requires c κs = search needs

@@ -1,0 +1,2 @@
+-- The count of numbers at work.
+pub mod Listed
