@@ -24,24 +24,6 @@ abbrev μ-loop : tie.MeasureT-loop
 loop-holds : tie.Need-loop-holds Inv-loop μ-loop
 loop-holds c = searched-start _ _
 
-mul-from : tie.Need-mul-from Inv-loop μ-loop
-mul-from c = search needs
-
-array-read-from : tie.Need-array-read-from Inv-loop μ-loop
-array-read-from c = search needs
-
-add-to : tie.Need-add-to Inv-loop μ-loop
-add-to c = search needs
-
-mul-to : tie.Need-mul-to Inv-loop μ-loop
-mul-to c = search needs
-
-array-read-to : tie.Need-array-read-to Inv-loop μ-loop
-array-read-to c = search needs
-
-mul-if2 : tie.Need-mul-if2 Inv-loop μ-loop
-mul-if2 c = search needs
-
 returns : tie.Need-returns Inv-loop μ-loop
 returns c =
     let iteration = c .before in
@@ -99,12 +81,6 @@ add-t20 c =
 returns-2 : tie.Need-returns-2 Inv-loop μ-loop
 returns-2 c = searched-found (here (c .before)) (rw (part-length (lies (c .before .before))) (c .if3 .taken))
 
-add-k : tie.Need-add-k Inv-loop μ-loop
-add-k c = search needs
-
-loop-less : tie.Need-loop-less Inv-loop μ-loop
-loop-less c = search needs
-
 loop-again : tie.Need-loop-again Inv-loop μ-loop
 loop-again c = searched-next (here (c .before)) (rw (part-length (lies (c .before .before))) (c .if3 .left))
 
@@ -114,21 +90,6 @@ returns-3 c = searched-end (c .before .loop .inv) (c .loop-test .left)
 pub first-spec : {M : Type 1} → statement M
 first-spec =
     tie.close
-    (tie.spec
-    Inv-loop
-    μ-loop
-    loop-holds
-    mul-from
-    array-read-from
-    add-to
-    mul-to
-    array-read-to
-    mul-if2
-    returns
-    straight-for-requires
-    add-t20
-    returns-2
-    add-k
-    loop-less
-    loop-again
-    returns-3)
+    (tie.spec Inv-loop μ-loop loop-holds (λ c. search needs) (λ c. search needs) (λ c. search needs) (λ c. search needs)
+    (λ c. search needs) (λ c. search needs) returns straight-for-requires add-t20 returns-2 (λ c. search needs) (λ c. search needs)
+    loop-again returns-3)

@@ -21,9 +21,6 @@ Inv-loop letters from to k f i₀ i = Passed (part from to (rounds letters)) k i
 abbrev μ-loop : tie.MeasureT-loop
 μ-loop letters from to k f i₀ i = to - from - i
 
-pair-at-requires : tie.Need-pair-at-requires Inv-loop μ-loop
-pair-at-requires c κs = search needs
-
 loop-holds : tie.Need-loop-holds Inv-loop μ-loop
 loop-holds c = passed-start _ _
 
@@ -64,12 +61,6 @@ returns c =
     passed-stop (read .before .before .loop .inv) (within read)
     (of-piece read (back-step-other f _ (c .before .before .if1 .taken) (eqb-false _ _ (not-true _ (c .if2 .taken)))))
 
-add-i : tie.Need-add-i Inv-loop μ-loop
-add-i c = search needs
-
-loop-less : tie.Need-loop-less Inv-loop μ-loop
-loop-less c = search needs
-
 loop-again : tie.Need-loop-again Inv-loop μ-loop
 loop-again c =
     let read = c .before .before in
@@ -85,16 +76,5 @@ returns-2 c = passed-end (c .before .loop .inv) (rw (part-length (c .before .bef
 pub first-back-step-spec : {M : Type 1} → statement M
 first-back-step-spec =
     tie.close
-    (tie.spec
-    Inv-loop
-    μ-loop
-    pair-at-requires
-    loop-holds
-    sub-loop
-    add-letter-round
-    letter-round-requires
-    returns
-    add-i
-    loop-less
-    loop-again
-    returns-2)
+    (tie.spec Inv-loop μ-loop (λ c κs. search needs) loop-holds sub-loop add-letter-round letter-round-requires returns
+    (λ c. search needs) (λ c. search needs) loop-again returns-2)

@@ -7,27 +7,6 @@ use Rattle.back_steps.proofs.BackStepLaws.{part-length, part-once}
 use Rattle.back_steps.proofs.straight_for.Statement.{statement}
 use Rattle.back_steps.proofs.straight_for.Tie as tie
 
-sub-some-back-step : tie.Need-sub-some-back-step
-sub-some-back-step c = search needs
-
-part-some-back-step-start : tie.Need-part-some-back-step-start
-part-some-back-step-start c = search needs
-
-part-some-back-step-end : tie.Need-part-some-back-step-end
-part-some-back-step-end c = search needs
-
-some-back-step-requires : tie.Need-some-back-step-requires
-some-back-step-requires c κs = search needs
-
-first-back-step-requires : tie.Need-first-back-step-requires
-first-back-step-requires c κs = search needs
-
-returns : tie.Need-returns
-returns c = search needs
-
-sub-result : tie.Need-sub-result
-sub-result c = search needs
-
 returns-2 : tie.Need-returns-2
 returns-2 c =
     let inside = c .before .before .before in
@@ -39,12 +18,5 @@ returns-2 c =
 pub straight-for-spec : {M : Type 1} → statement M
 straight-for-spec =
     tie.close
-    (tie.spec
-    sub-some-back-step
-    part-some-back-step-start
-    part-some-back-step-end
-    some-back-step-requires
-    first-back-step-requires
-    returns
-    sub-result
-    returns-2)
+    (tie.spec (λ c. search needs) (λ c. search needs) (λ c. search needs) (λ c κs. search needs) (λ c κs. search needs)
+    (λ c. search needs) (λ c. search needs) returns-2)

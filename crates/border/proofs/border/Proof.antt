@@ -9,9 +9,6 @@ use borrow.Author.Needs.{needs}
 use Rattle.border.proofs.border.Statement.{statement}
 use Rattle.border.proofs.border.Tie as tie
 
-bad-list-requires : tie.Need-bad-list-requires
-bad-list-requires c κs = search needs
-
 -- What the tests say
 listed : (c : tie.Else1) → badList (c .before .before .before .args .edges .now) ≡ false
 listed c = sym (c .before .bad-list .ensures) ∙ c .if1 .left
@@ -26,15 +23,9 @@ turned c = c .bad-directions .ensures ∙ turning-short _ (short-list _ (listed 
 returns : tie.Need-returns
 returns c = let a = traced-list _ _ _ (sym (c .before .bad-list .ensures) ∙ c .if1 .taken) in (a .answer, (a .letters, a .named))
 
-bad-cell-requires : tie.Need-bad-cell-requires
-bad-cell-requires c κs = search needs
-
 returns-2 : tie.Need-returns-2
 returns-2 c = let a = traced-anchor _ _ _ (listed (c .before .before)) (sym (c .before .bad-cell .ensures) ∙ c .if2 .taken) in
     (a .answer, (a .letters, a .named))
-
-bad-directions-requires : tie.Need-bad-directions-requires
-bad-directions-requires c κs = search needs
 
 returns-3 : tie.Need-returns-3
 returns-3 c =
@@ -48,22 +39,8 @@ trace-requires c κs =
     let e = t .before .before in
     (listed (e .before .before), anchored e, sym (turned (t .before)) ∙ t .if3 .left)
 
-same-length : tie.Need-same-length
-same-length c = search needs
-
-returns-4 : tie.Need-returns-4
-returns-4 c = search needs
-
 pub border-spec : {M : Type 1} → statement M
 border-spec =
     tie.close
-    (tie.spec
-    bad-list-requires
-    returns
-    bad-cell-requires
-    returns-2
-    bad-directions-requires
-    returns-3
-    trace-requires
-    same-length
-    returns-4)
+    (tie.spec (λ c κs. search needs) returns (λ c κs. search needs) returns-2 (λ c κs. search needs) returns-3 trace-requires
+    (λ c. search needs) (λ c. search needs))

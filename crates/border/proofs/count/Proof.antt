@@ -32,23 +32,11 @@ add-loop c = omega (arith, c .loop .inv)
 mul-dx : tie.Need-mul-dx Inv-loop μ-loop
 mul-dx c = omega (arith, c .before .loop .inv)
 
-shared-slice-copy-out-dx : tie.Need-shared-slice-copy-out-dx Inv-loop μ-loop
-shared-slice-copy-out-dx c = omega arith
-
 add-dy : tie.Need-add-dy Inv-loop μ-loop
 add-dy c = omega (arith, c .before .before .loop .inv)
 
 mul-dy : tie.Need-mul-dy Inv-loop μ-loop
 mul-dy c = omega (arith, c .before .before .loop .inv)
-
-shared-slice-copy-out-dy : tie.Need-shared-slice-copy-out-dy Inv-loop μ-loop
-shared-slice-copy-out-dy c = omega arith
-
-size-requires : tie.Need-size-requires Inv-loop μ-loop
-size-requires c κs = search needs
-
-size-requires-2 : tie.Need-size-requires-2 Inv-loop μ-loop
-size-requires-2 c κs = search needs
 
 add-letters : tie.Need-add-letters Inv-loop μ-loop
 add-letters c = omega (arith, c .before .size .ensures, c .size2 .ensures)
@@ -58,9 +46,6 @@ add-letters-2 c = omega (arith, c .before .size .ensures, c .size2 .ensures, c .
 
 add-i : tie.Need-add-i Inv-loop μ-loop
 add-i c = omega (arith, c .before .before .before .before .before .loop .inv)
-
-loop-less : tie.Need-loop-less Inv-loop μ-loop
-loop-less c = omega arith
 
 -- The absolute values of the two numbers of this iteration
 cols-are :
@@ -98,21 +83,5 @@ returns c = let l = c .before in omega (arith, l .loop .inv, steps-end (l .befor
 pub count-spec : {M : Type 1} → statement M
 count-spec =
     tie.close
-    (tie.spec
-    Inv-loop
-    μ-loop
-    loop-holds
-    add-loop
-    mul-dx
-    shared-slice-copy-out-dx
-    add-dy
-    mul-dy
-    shared-slice-copy-out-dy
-    size-requires
-    size-requires-2
-    add-letters
-    add-letters-2
-    add-i
-    loop-less
-    loop-again
-    returns)
+    (tie.spec Inv-loop μ-loop loop-holds add-loop mul-dx (λ c. omega arith) add-dy mul-dy (λ c. omega arith) (λ c κs. search needs)
+    (λ c κs. search needs) add-letters add-letters-2 add-i (λ c. omega arith) loop-again returns)

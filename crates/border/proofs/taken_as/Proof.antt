@@ -20,27 +20,6 @@ use borrow.Author.Needs.{needs}
 use Rattle.border.proofs.taken_as.Statement.{statement}
 use Rattle.border.proofs.taken_as.Tie as tie
 
-slice-aggregate-test : tie.Need-slice-aggregate-test
-slice-aggregate-test c = search needs
-
-test-requires : tie.Need-test-requires
-test-requires c κs = search needs
-
-enum-told : tie.Need-enum-told
-enum-told c = search needs
-
-enum-known-verdict : tie.Need-enum-known-verdict
-enum-known-verdict c = search needs
-
-cast-n : tie.Need-cast-n
-cast-n c = search needs
-
-mul-n : tie.Need-mul-n
-mul-n c = search needs
-
-same-point-requires : tie.Need-same-point-requires
-same-point-requires c κs = search needs
-
 -- The test's verdict, with a buffer of zeros
 module _ (c : tie.After-test) where
   abbrev sent : Outline
@@ -78,9 +57,6 @@ slice-aggregate-same-numbers c =
     sym (length-take-le _ _ (let v = c .before .before .before .before in
     omega (arith, room-for v, v .before .before .before .test .kept .1 .1 .0)))
 
-same-numbers-requires : tie.Need-same-numbers-requires
-same-numbers-requires c κs = search needs
-
 returns : tie.Need-returns
 returns c =
     let t = c .before .before .before in
@@ -103,17 +79,5 @@ returns-3 c =
 pub taken-as-spec : {M : Type 1} → statement M
 taken-as-spec =
     tie.close
-    (tie.spec
-    slice-aggregate-test
-    test-requires
-    enum-told
-    enum-known-verdict
-    cast-n
-    mul-n
-    same-point-requires
-    array-share-prefix-numbers
-    slice-aggregate-same-numbers
-    same-numbers-requires
-    returns
-    returns-2
-    returns-3)
+    (tie.spec (λ c. search needs) (λ c κs. search needs) (λ c. search needs) (λ c. search needs) (λ c. search needs) (λ c. search needs)
+    (λ c κs. search needs) array-share-prefix-numbers slice-aggregate-same-numbers (λ c κs. search needs) returns returns-2 returns-3)

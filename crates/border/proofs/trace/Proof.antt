@@ -17,25 +17,16 @@ returns : tie.Need-returns
 returns c = let n = c .before in let s = n .before .before in
     long-none _ _ _ (s .pre .0) (s .pre .1) (s .pre .2) (n .count .ensures) (c .if1 .taken)
 
-slice-aggregate-build : tie.Need-slice-aggregate-build
-slice-aggregate-build c = search needs
-
 build-requires : tie.Need-build-requires
 build-requires c κs =
     let n = c .before .before in
     let s = n .before .before in
     (passed-ordered _ (s .pre .2), omega (arith, n .count .ensures, c .before .if1 .left))
 
-array-share-prefix-list : tie.Need-array-share-prefix-list
-array-share-prefix-list c = search needs
-
 slice-aggregate-taken-as : tie.Need-slice-aggregate-taken-as
 slice-aggregate-taken-as c =
     let n = c .before .before .before .before .before in
     sym (length-take-le _ _ (omega (arith, c .before .before .before .before .if1 .left)))
-
-taken-as-requires : tie.Need-taken-as-requires
-taken-as-requires c κs = search needs
 
 returns-2 : tie.Need-returns-2
 returns-2 c =
@@ -55,18 +46,6 @@ returns-3 c =
     short-none _ _ _ (s .pre .0) (s .pre .1) (s .pre .2) (n .count .ensures) _ (b .build .ensures) (sym (t .taken-as .ensures)
     ∙ not-false _ (c .before .if2 .left)) (c .if3 .taken)
 
-slice-aggregate-copy : tie.Need-slice-aggregate-copy
-slice-aggregate-copy c = search needs
-
-copy-requires : tie.Need-copy-requires
-copy-requires c κs = search needs
-
-cast-t18 : tie.Need-cast-t18
-cast-t18 c = search needs
-
-same-length : tie.Need-same-length
-same-length c = search needs
-
 returns-4 : tie.Need-returns-4
 returns-4 c =
     let d = c .before .before in
@@ -82,18 +61,6 @@ returns-4 c =
 pub trace-spec : {M : Type 1} → statement M
 trace-spec =
     tie.close
-    (tie.spec
-    count-requires
-    returns
-    slice-aggregate-build
-    build-requires
-    array-share-prefix-list
-    slice-aggregate-taken-as
-    taken-as-requires
-    returns-2
-    returns-3
-    slice-aggregate-copy
-    copy-requires
-    cast-t18
-    same-length
+    (tie.spec count-requires returns (λ c. search needs) build-requires (λ c. search needs) slice-aggregate-taken-as
+    (λ c κs. search needs) returns-2 returns-3 (λ c. search needs) (λ c κs. search needs) (λ c. search needs) (λ c. search needs)
     returns-4)

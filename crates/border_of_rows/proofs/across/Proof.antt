@@ -41,14 +41,8 @@ room c =
 slice-write-out : tie.Need-slice-write-out Inv-loop μ-loop
 slice-write-out c = room (c .before)
 
-add-x : tie.Need-add-x Inv-loop μ-loop
-add-x c = omega arith
-
 slice-write-out-2 : tie.Need-slice-write-out-2 Inv-loop μ-loop
 slice-write-out-2 c = room (c .before)
-
-sub-x : tie.Need-sub-x Inv-loop μ-loop
-sub-x c = omega arith
 
 add-k : tie.Need-add-k Inv-loop μ-loop
 add-k c = omega (arith, room (c .before))
@@ -98,16 +92,5 @@ returns c =
 pub across-spec : {M : Type 1} → statement M
 across-spec =
     tie.close
-    (tie.spec
-    Inv-loop
-    μ-loop
-    loop-holds
-    slice-write-out
-    add-x
-    slice-write-out-2
-    sub-x
-    add-k
-    loop-less
-    loop-again
-    same-length
-    returns)
+    (tie.spec Inv-loop μ-loop loop-holds slice-write-out (λ c. omega arith) slice-write-out-2 (λ c. omega arith) add-k loop-less
+    loop-again same-length returns)

@@ -26,29 +26,11 @@ slice-write-out : tie.Need-slice-write-out Inv-loop μ-loop
 slice-write-out c = let s = c .before in
     omega (arith, s .pre .2, fall-some (rows (now (s .args .hi))) (s .args .y) (s .args .e - s .args .y))
 
-add-k : tie.Need-add-k Inv-loop μ-loop
-add-k c = omega arith
-
 loop-holds : tie.Need-loop-holds Inv-loop μ-loop
 loop-holds c =
     let args = c .before .args in
     let w = fall-first (rows (now (args .hi))) (args .e) in
     (c .before .pre .0, omega arith, rw w (omega arith), refl, λ before h. wrote-same (sym w) h)
-
-mul-across : tie.Need-mul-across Inv-loop μ-loop
-mul-across c = omega arith
-
-element-copy-out-across : tie.Need-element-copy-out-across Inv-loop μ-loop
-element-copy-out-across c = omega arith
-
-sub-across : tie.Need-sub-across Inv-loop μ-loop
-sub-across c = omega arith
-
-mul-across-2 : tie.Need-mul-across-2 Inv-loop μ-loop
-mul-across-2 c = omega arith
-
-element-copy-out-across-2 : tie.Need-element-copy-out-across-2 Inv-loop μ-loop
-element-copy-out-across-2 c = omega arith
 
 -- An iteration has room for one row
 room :
@@ -82,12 +64,6 @@ add-k-2 c =
     let t = c .before .before .before .before .before .before in
     let s = t .before .before .before in
     omega (arith, room t, c .before .before .across .ensures .0, t .before .loop .inv .3, length-set (s .args .out .now) (s .args .at) 3)
-
-sub-i : tie.Need-sub-i Inv-loop μ-loop
-sub-i c = omega arith
-
-loop-less : tie.Need-loop-less Inv-loop μ-loop
-loop-less c = omega arith
 
 loop-again : tie.Need-loop-again Inv-loop μ-loop
 loop-again c =
@@ -133,22 +109,6 @@ returns c =
 pub fall-spec : {M : Type 1} → statement M
 fall-spec =
     tie.close
-    (tie.spec
-    Inv-loop
-    μ-loop
-    slice-write-out
-    add-k
-    loop-holds
-    mul-across
-    element-copy-out-across
-    sub-across
-    mul-across-2
-    element-copy-out-across-2
-    across-requires
-    slice-write-out-2
-    add-k-2
-    sub-i
-    loop-less
-    loop-again
-    same-length
-    returns)
+    (tie.spec Inv-loop μ-loop slice-write-out (λ c. omega arith) loop-holds (λ c. omega arith) (λ c. omega arith) (λ c. omega arith)
+    (λ c. omega arith) (λ c. omega arith) across-requires slice-write-out-2 add-k-2 (λ c. omega arith) (λ c. omega arith) loop-again
+    same-length returns)

@@ -52,29 +52,8 @@ slice-write-out c = omega (arith, room c)
 add-across : tie.Need-add-across Inv-loop μ-loop
 add-across c = omega (arith, room (c .before))
 
-mul-across : tie.Need-mul-across Inv-loop μ-loop
-mul-across c = omega arith
-
-element-copy-out-across : tie.Need-element-copy-out-across Inv-loop μ-loop
-element-copy-out-across c = omega arith
-
-add-across-2 : tie.Need-add-across-2 Inv-loop μ-loop
-add-across-2 c = omega arith
-
-mul-across-2 : tie.Need-mul-across-2 Inv-loop μ-loop
-mul-across-2 c = omega arith
-
-element-copy-out-across-2 : tie.Need-element-copy-out-across-2 Inv-loop μ-loop
-element-copy-out-across-2 c = omega arith
-
 across-requires : tie.Need-across-requires Inv-loop μ-loop
 across-requires c κs = simp length-set (omega (arith, room (c .before .before .before)))
-
-add-i : tie.Need-add-i Inv-loop μ-loop
-add-i c = omega arith
-
-loop-less : tie.Need-loop-less Inv-loop μ-loop
-loop-less c = omega arith
 
 loop-again : tie.Need-loop-again Inv-loop μ-loop
 loop-again c =
@@ -110,20 +89,5 @@ returns c =
 pub rise-spec : {M : Type 1} → statement M
 rise-spec =
     tie.close
-    (tie.spec
-    Inv-loop
-    μ-loop
-    loop-holds
-    slice-write-out
-    add-across
-    mul-across
-    element-copy-out-across
-    add-across-2
-    mul-across-2
-    element-copy-out-across-2
-    across-requires
-    add-i
-    loop-less
-    loop-again
-    same-length
-    returns)
+    (tie.spec Inv-loop μ-loop loop-holds slice-write-out add-across (λ c. omega arith) (λ c. omega arith) (λ c. omega arith)
+    (λ c. omega arith) (λ c. omega arith) across-requires (λ c. omega arith) (λ c. omega arith) loop-again same-length returns)

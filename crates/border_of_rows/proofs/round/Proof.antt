@@ -110,9 +110,6 @@ done : (c : tie.After-rise2)
     → Front (now (start-5 c .args .out)) (asBottom (start-5 c) ++ last (start-5 c)) (c .rise2 .last .1 .1 .1 .0) (c .rise2 .result)
 done c = let said = c .rise2 .ensures in front-more (back (returned c) .front) (said .0) (said .1)
 
-sub-top : tie.Need-sub-top
-sub-top c = search needs
-
 rise-requires : tie.Need-rise-requires
 rise-requires c κs =
     let s = c .before .before in (omega (arith, s .pre), omega (arith, s .pre), omega (arith, room s))
@@ -125,18 +122,6 @@ add-across : tie.Need-add-across
 add-across c =
     let r = c .before .before .before in omega (arith, room (begun r), up r .at)
 
-mul-across : tie.Need-mul-across
-mul-across c = search needs
-
-element-copy-out-across : tie.Need-element-copy-out-across
-element-copy-out-across c = search needs
-
-mul-across-2 : tie.Need-mul-across-2
-mul-across-2 c = search needs
-
-element-copy-out-across-2 : tie.Need-element-copy-out-across-2
-element-copy-out-across-2 c = search needs
-
 across-requires : tie.Need-across-requires
 across-requires c κs =
     let r = c .before .before .before .before .before in
@@ -147,18 +132,6 @@ fall-requires c κs =
     let o = c .before .before .before in
     let s = start-2 o in
     (omega (arith, s .pre), omega (arith, s .pre), omega (arith, room s, over o .at, over o .front .wrote .sized, up (risen o) .at))
-
-mul-across-3 : tie.Need-mul-across-3
-mul-across-3 c = search needs
-
-element-copy-out-across-3 : tie.Need-element-copy-out-across-3
-element-copy-out-across-3 c = search needs
-
-mul-across-4 : tie.Need-mul-across-4
-mul-across-4 c = search needs
-
-element-copy-out-across-4 : tie.Need-element-copy-out-across-4
-element-copy-out-across-4 c = search needs
 
 across-requires-2 : tie.Need-across-requires-2
 across-requires-2 c κs =
@@ -189,22 +162,6 @@ returns c =
 pub round-spec : {M : Type 1} → statement M
 round-spec =
     tie.close
-    (tie.spec
-    sub-top
-    rise-requires
-    slice-write-out
-    add-across
-    mul-across
-    element-copy-out-across
-    mul-across-2
-    element-copy-out-across-2
-    across-requires
-    fall-requires
-    mul-across-3
-    element-copy-out-across-3
-    mul-across-4
-    element-copy-out-across-4
-    across-requires-2
-    rise-requires-2
-    same-length
-    returns)
+    (tie.spec (λ c. search needs) rise-requires slice-write-out add-across (λ c. search needs) (λ c. search needs) (λ c. search needs)
+    (λ c. search needs) across-requires fall-requires (λ c. search needs) (λ c. search needs) (λ c. search needs) (λ c. search needs)
+    across-requires-2 rise-requires-2 same-length returns)

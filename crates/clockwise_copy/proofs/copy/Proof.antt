@@ -17,22 +17,10 @@ abbrev μ-loop : tie.MeasureT-loop
 loop-holds : tie.Need-loop-holds Inv-loop μ-loop
 loop-holds c = pasting-start _ _ _
 
-shared-slice-read-round : tie.Need-shared-slice-read-round Inv-loop μ-loop
-shared-slice-read-round c = search needs
-
-add-round : tie.Need-add-round Inv-loop μ-loop
-add-round c = search needs
-
 slice-write-round : tie.Need-slice-write-round Inv-loop μ-loop
 slice-write-round c =
     let at = c .before .before in
     omega (arith, pasting-length (at .loop .inv) (at .before .pre), at .before .pre)
-
-add-i : tie.Need-add-i Inv-loop μ-loop
-add-i c = search needs
-
-loop-less : tie.Need-loop-less Inv-loop μ-loop
-loop-less c = search needs
 
 loop-again : tie.Need-loop-again Inv-loop μ-loop
 loop-again c =
@@ -48,15 +36,5 @@ returns c = pasting-end (c .before .loop .inv) (c .before .before .pre) (c .loop
 pub copy-spec : {M : Type 1} → statement M
 copy-spec =
     tie.close
-    (tie.spec
-    Inv-loop
-    μ-loop
-    loop-holds
-    shared-slice-read-round
-    add-round
-    slice-write-round
-    add-i
-    loop-less
-    loop-again
-    same-length
-    returns)
+    (tie.spec Inv-loop μ-loop loop-holds (λ c. search needs) (λ c. search needs) slice-write-round (λ c. search needs) (λ c. search needs)
+    loop-again same-length returns)

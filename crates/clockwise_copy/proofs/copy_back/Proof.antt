@@ -20,21 +20,6 @@ abbrev μ-loop : tie.MeasureT-loop
 loop-holds : tie.Need-loop-holds Inv-loop μ-loop
 loop-holds c = pasting-start _ _ _
 
-sub-opposite : tie.Need-sub-opposite Inv-loop μ-loop
-sub-opposite c = search needs
-
-sub-opposite-2 : tie.Need-sub-opposite-2 Inv-loop μ-loop
-sub-opposite-2 c = search needs
-
-shared-slice-read-opposite : tie.Need-shared-slice-read-opposite Inv-loop μ-loop
-shared-slice-read-opposite c = search needs
-
-opposite-requires : tie.Need-opposite-requires Inv-loop μ-loop
-opposite-requires c κs = search needs
-
-add-round : tie.Need-add-round Inv-loop μ-loop
-add-round c = search needs
-
 -- As many letters are read backward, so there is room
 room : (c : tie.At-loop Inv-loop μ-loop)
     → let a = c .before .before .before .args in
@@ -46,12 +31,6 @@ slice-write-round c =
     let at = c .before .before .before in
     let start = at .before .before .before in
     omega (arith, pasting-length (at .loop .inv) (room at), start .pre, c .before .before .loop-test .taken)
-
-add-i : tie.Need-add-i Inv-loop μ-loop
-add-i c = search needs
-
-loop-less : tie.Need-loop-less Inv-loop μ-loop
-loop-less c = search needs
 
 loop-again : tie.Need-loop-again Inv-loop μ-loop
 loop-again c =
@@ -77,18 +56,5 @@ returns c =
 pub copy-back-spec : {M : Type 1} → statement M
 copy-back-spec =
     tie.close
-    (tie.spec
-    Inv-loop
-    μ-loop
-    loop-holds
-    sub-opposite
-    sub-opposite-2
-    shared-slice-read-opposite
-    opposite-requires
-    add-round
-    slice-write-round
-    add-i
-    loop-less
-    loop-again
-    same-length
-    returns)
+    (tie.spec Inv-loop μ-loop loop-holds (λ c. search needs) (λ c. search needs) (λ c. search needs) (λ c κs. search needs)
+    (λ c. search needs) slice-write-round (λ c. search needs) (λ c. search needs) loop-again same-length returns)

@@ -20,23 +20,8 @@ returns c =
 from-le : (c : tie.Else2) → c .before .before .before .before .args .from ≤ length (c .before .before .before .before .args .w .now)
 from-le c = let a = c .before .before .before .before .args in ltb-false (length (a .w .now)) (a .from) (c .if2 .left)
 
-sub-copy : tie.Need-sub-copy
-sub-copy c = search needs
-
-part-copy-start : tie.Need-part-copy-start
-part-copy-start c = search needs
-
-part-copy-end : tie.Need-part-copy-end
-part-copy-end c = search needs
-
-copy-requires : tie.Need-copy-requires
-copy-requires c κs = search needs
-
 slice-aggregate-copy : tie.Need-slice-aggregate-copy
 slice-aggregate-copy c = let past = c .before .before .before .before .before .before .before in sym (length-up-to _ _ (from-le past))
-
-sub-copy-2 : tie.Need-sub-copy-2
-sub-copy-2 c = search needs
 
 copy-requires-2 : tie.Need-copy-requires-2
 copy-requires-2 c κs =
@@ -45,9 +30,6 @@ copy-requires-2 c κs =
     let a = past .before .before .before .before .args in
     room-forward (a .w .now) (a .from) (from-le past) (a .round .now) (copied .copy .last .1 .0) (past .before .if1 .left)
     (copied .copy .ensures)
-
-same-length : tie.Need-same-length
-same-length c = search needs
 
 returns-2 : tie.Need-returns-2
 returns-2 c k room =
@@ -68,15 +50,6 @@ copy-back-requires c κs =
     let a = past .before .before .before .before .args in
     omega (arith, length-up-to (a .w .now) (a .from) (from-le past), past .before .if1 .left, from-le past)
 
-sub-copy-back : tie.Need-sub-copy-back
-sub-copy-back c = search needs
-
-part-copy-back-start : tie.Need-part-copy-back-start
-part-copy-back-start c = search needs
-
-part-copy-back-end : tie.Need-part-copy-back-end
-part-copy-back-end c = search needs
-
 copy-back-requires-2 : tie.Need-copy-back-requires-2
 copy-back-requires-2 c κs =
     let copied = c .before .before .before .before in
@@ -84,9 +57,6 @@ copy-back-requires-2 c κs =
     let a = past .before .before .before .before .args in
     room-backward (a .w .now) (a .from) (from-le past) (a .round .now) (copied .copy-back .last .1 .0) (past .before .if1 .left)
     (copied .copy-back .ensures)
-
-same-length-2 : tie.Need-same-length-2
-same-length-2 c = search needs
 
 returns-3 : tie.Need-returns-3
 returns-3 c k room =
@@ -100,22 +70,6 @@ returns-3 c k room =
 pub fill-round-spec : {M : Type 1} → statement M
 fill-round-spec =
     tie.close
-    (tie.spec
-    returns
-    sub-copy
-    part-copy-start
-    part-copy-end
-    copy-requires
-    slice-aggregate-copy
-    sub-copy-2
-    copy-requires-2
-    same-length
-    returns-2
-    slice-aggregate-copy-back
-    copy-back-requires
-    sub-copy-back
-    part-copy-back-start
-    part-copy-back-end
-    copy-back-requires-2
-    same-length-2
-    returns-3)
+    (tie.spec returns (λ c. search needs) (λ c. search needs) (λ c. search needs) (λ c κs. search needs) slice-aggregate-copy
+    (λ c. search needs) copy-requires-2 (λ c. search needs) returns-2 slice-aggregate-copy-back copy-back-requires (λ c. search needs)
+    (λ c. search needs) (λ c. search needs) copy-back-requires-2 (λ c. search needs) returns-3)

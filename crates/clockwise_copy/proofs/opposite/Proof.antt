@@ -16,9 +16,6 @@ two-on (suc (suc zero)) l = refl
 two-on (suc (suc (suc zero))) l = refl
 two-on (suc (suc (suc (suc a)))) l = absurd (omega arith)
 
-add-result : tie.Need-add-result
-add-result c = search needs
-
 returns : tie.Need-returns
 returns c = two-on _ (c .if1 .taken)
 
@@ -26,4 +23,4 @@ returns-2 : tie.Need-returns-2
 returns-2 c = sym (opposite-high _ (omega (arith, c .if1 .left)))
 
 pub opposite-spec : {M : Type 1} → statement M
-opposite-spec = tie.close (tie.spec add-result returns returns-2)
+opposite-spec = tie.close (tie.spec (λ c. search needs) returns returns-2)

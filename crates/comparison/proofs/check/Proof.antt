@@ -23,28 +23,16 @@ turning-is c = c .bad-directions .ensures ∙ turning-short _ (short-list _ (lis
 turning-good : (c : tie.Else3) → badDirections (c .before .before .before .before .before .before .args .edges .now) ≡ false
 turning-good c = sym (turning-is (c .before)) ∙ c .if3 .left
 
-bad-list-requires : tie.Need-bad-list-requires
-bad-list-requires c κs = search needs
-
 returns : tie.Need-returns
 returns c = checked-list _ _ (sym (c .before .bad-list .ensures) ∙ c .if1 .taken)
 
-bad-cell-requires : tie.Need-bad-cell-requires
-bad-cell-requires c κs = search needs
-
 returns-2 : tie.Need-returns-2
 returns-2 c = checked-anchor _ _ (list-good (c .before .before)) (sym (c .before .bad-cell .ensures) ∙ c .if2 .taken)
-
-bad-directions-requires : tie.Need-bad-directions-requires
-bad-directions-requires c κs = search needs
 
 returns-3 : tie.Need-returns-3
 returns-3 c =
     let two = c .before .before in
     checked-turning _ _ (list-good (two .before .before)) (anchor-good two) (sym (turning-is (c .before)) ∙ c .if3 .taken)
-
-leaves-chart-requires : tie.Need-leaves-chart-requires
-leaves-chart-requires c κs = search needs
 
 returns-4 : tie.Need-returns-4
 returns-4 c =
@@ -63,13 +51,5 @@ returns-5 c =
 pub check-spec : {M : Type 1} → statement M
 check-spec =
     tie.close
-    (tie.spec
-    bad-list-requires
-    returns
-    bad-cell-requires
-    returns-2
-    bad-directions-requires
-    returns-3
-    leaves-chart-requires
-    returns-4
-    returns-5)
+    (tie.spec (λ c κs. search needs) returns (λ c κs. search needs) returns-2 (λ c κs. search needs) returns-3 (λ c κs. search needs)
+    returns-4 returns-5)

@@ -38,30 +38,6 @@ piece-is : (c : tie.After-inner) (h : Returned) → c .inner .result ≡ h → f
 piece-is c h e =
     ap (λ (f : Fields). f .piece) (fields (c .before)) ∙ returned-piece (found (c .before)) ∙ ap pieceBy (sym (c .inner .ensures) ∙ e)
 
-relate-requires : tie.Need-relate-requires
-relate-requires c κs = search needs
-
-of-comparison-requires : tie.Need-of-comparison-requires
-of-comparison-requires c κs = search needs
-
-write-requires : tie.Need-write-requires
-write-requires c κs = search needs
-
-inner-requires : tie.Need-inner-requires
-inner-requires c κs = search needs
-
-enum-told : tie.Need-enum-told
-enum-told c = search needs
-
-enum-told-2 : tie.Need-enum-told-2
-enum-told-2 c = search needs
-
-enum-told-3 : tie.Need-enum-told-3
-enum-told-3 c = search needs
-
-slice-aggregate-result : tie.Need-slice-aggregate-result
-slice-aggregate-result c = search needs
-
 returns : tie.Need-returns
 returns c =
     let n = c .before .before in
@@ -83,15 +59,5 @@ returns-3 c =
 pub compare-spec : {M : Type 1} → statement M
 compare-spec =
     tie.close
-    (tie.spec
-    relate-requires
-    of-comparison-requires
-    write-requires
-    inner-requires
-    enum-told
-    enum-told-2
-    enum-told-3
-    slice-aggregate-result
-    returns
-    returns-2
-    returns-3)
+    (tie.spec (λ c κs. search needs) (λ c κs. search needs) (λ c κs. search needs) (λ c κs. search needs) (λ c. search needs)
+    (λ c. search needs) (λ c. search needs) (λ c. search needs) returns returns-2 returns-3)

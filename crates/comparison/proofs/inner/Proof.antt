@@ -7,27 +7,6 @@ use Rattle.comparison.specs.Compared.{returnedBy, returnedWith}
 use Rattle.comparison.proofs.inner.Statement.{statement}
 use Rattle.comparison.proofs.inner.Tie as tie
 
-enum-told : tie.Need-enum-told
-enum-told c = search needs
-
-enum-known-comparison : tie.Need-enum-known-comparison
-enum-known-comparison c = search needs
-
-enum-told-2 : tie.Need-enum-told-2
-enum-told-2 c = search needs
-
-enum-told-3 : tie.Need-enum-told-3
-enum-told-3 c = search needs
-
-enum-told-4 : tie.Need-enum-told-4
-enum-told-4 c = search needs
-
-enum-told-5 : tie.Need-enum-told-5
-enum-told-5 c = search needs
-
-enum-told-6 : tie.Need-enum-told-6
-enum-told-6 c = search needs
-
 -- In the arm that has a nesting, the list is the nesting's
 found-is : (c : tie.After-known-told) (n : Nesting) → c .before .comparison .given .0 .0 ≡ n
     → returnedWith n ≡ returnedBy (c .before .before .before .args .comparison)
@@ -61,17 +40,5 @@ returns-6 c = found-is (c .before .before) _ (c .enum-told6 .given .1)
 pub inner-spec : {M : Type 1} → statement M
 inner-spec =
     tie.close
-    (tie.spec
-    enum-told
-    enum-known-comparison
-    enum-told-2
-    enum-told-3
-    enum-told-4
-    enum-told-5
-    enum-told-6
-    returns
-    returns-2
-    returns-3
-    returns-4
-    returns-5
-    returns-6)
+    (tie.spec (λ c. search needs) (λ c. search needs) (λ c. search needs) (λ c. search needs) (λ c. search needs) (λ c. search needs)
+    (λ c. search needs) returns returns-2 returns-3 returns-4 returns-5 returns-6)

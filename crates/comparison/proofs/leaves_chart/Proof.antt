@@ -58,17 +58,8 @@ whole :
     stays (pairs (s .edges .now)) (started (s .anchor)) ≡ stays (pairs (s .edges .now)) (c .start .result)
 whole c = ap (stays (pairs (c .before .args .edges .now))) (sym (c .start .ensures))
 
-start-requires : tie.Need-start-requires Inv-loop μ-loop
-start-requires c κs = search needs
-
 loop-holds : tie.Need-loop-holds Inv-loop μ-loop
 loop-holds c = record { passed = omega arith; left = refl }
-
-add-loop : tie.Need-add-loop Inv-loop μ-loop
-add-loop c = omega arith
-
-on-chart-requires : tie.Need-on-chart-requires Inv-loop μ-loop
-on-chart-requires c κs = search needs
 
 returns : tie.Need-returns Inv-loop μ-loop
 returns c =
@@ -76,40 +67,16 @@ returns c =
     sym (ap not (whole (l .before)
     ∙ leaving-off (l .loop .inv) (omega arith) (sym (c .before .on-chart .ensures) ∙ not-true _ (c .if1 .taken))))
 
-mul-further : tie.Need-mul-further Inv-loop μ-loop
-mul-further c = omega arith
-
-shared-slice-copy-out-further : tie.Need-shared-slice-copy-out-further Inv-loop μ-loop
-shared-slice-copy-out-further c = omega arith
-
-add-further : tie.Need-add-further Inv-loop μ-loop
-add-further c = omega arith
-
-mul-further-2 : tie.Need-mul-further-2 Inv-loop μ-loop
-mul-further-2 c = omega arith
-
-shared-slice-copy-out-further-2 : tie.Need-shared-slice-copy-out-further-2 Inv-loop μ-loop
-shared-slice-copy-out-further-2 c = omega arith
-
 further-requires : tie.Need-further-requires Inv-loop μ-loop
 further-requires c κs =
     let x = fits-x (c .before) in
     let y = fits-y c in
     simp (toZ-ofZ w16 _ x, toZ-ofZ w16 _ y) (on-chart-fits _ (on (c .before .before)) x y)
 
-add-i : tie.Need-add-i Inv-loop μ-loop
-add-i c = omega arith
-
-loop-less : tie.Need-loop-less Inv-loop μ-loop
-loop-less c = omega arith
-
 loop-again : tie.Need-loop-again Inv-loop μ-loop
 loop-again c =
     let here = c .before .before .before in
     rw (further-is c) (leaving-next (here .before .before .before .loop .inv) (omega arith) (on here))
-
-on-chart-requires-2 : tie.Need-on-chart-requires-2 Inv-loop μ-loop
-on-chart-requires-2 c κs = search needs
 
 returns-2 : tie.Need-returns-2 Inv-loop μ-loop
 returns-2 c =
@@ -119,22 +86,6 @@ returns-2 c =
 pub leaves-chart-spec : {M : Type 1} → statement M
 leaves-chart-spec =
     tie.close
-    (tie.spec
-    Inv-loop
-    μ-loop
-    start-requires
-    loop-holds
-    add-loop
-    on-chart-requires
-    returns
-    mul-further
-    shared-slice-copy-out-further
-    add-further
-    mul-further-2
-    shared-slice-copy-out-further-2
-    further-requires
-    add-i
-    loop-less
-    loop-again
-    on-chart-requires-2
-    returns-2)
+    (tie.spec Inv-loop μ-loop (λ c κs. search needs) loop-holds (λ c. omega arith) (λ c κs. search needs) returns (λ c. omega arith)
+    (λ c. omega arith) (λ c. omega arith) (λ c. omega arith) (λ c. omega arith) further-requires (λ c. omega arith) (λ c. omega arith)
+    loop-again (λ c κs. search needs) returns-2)

@@ -5,17 +5,8 @@ use Rattle.comparison.proofs.RowTests.{nests-same, nests-by-rows}
 use Rattle.comparison.proofs.nest.Statement.{statement}
 use Rattle.comparison.proofs.nest.Tie as tie
 
-same-lists-requires : tie.Need-same-lists-requires
-same-lists-requires c κs = search needs
-
 returns : tie.Need-returns
 returns c = nests-same _ _ _ _ (c .before .before .pre .0) (sym (c .before .same-lists .ensures) ∙ c .if1 .taken)
-
-test-rows-requires : tie.Need-test-rows-requires
-test-rows-requires c κs = search needs
-
-by-rows-requires : tie.Need-by-rows-requires
-by-rows-requires c κs = search needs
 
 returns-2 : tie.Need-returns-2
 returns-2 c =
@@ -25,4 +16,4 @@ returns-2 c =
 
 pub nest-spec : {M : Type 1} → statement M
 nest-spec =
-    tie.close (tie.spec same-lists-requires returns test-rows-requires by-rows-requires returns-2)
+    tie.close (tie.spec (λ c κs. search needs) returns (λ c κs. search needs) (λ c κs. search needs) returns-2)

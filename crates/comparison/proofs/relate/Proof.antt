@@ -18,24 +18,6 @@ second-fit :
     Fit ≡ checkedOf (s .other) (s .others .now)
 second-fit c = sym (c .enum-told2 .given .1) ∙ c .before .before .check2 .ensures
 
-check-requires : tie.Need-check-requires
-check-requires c κs = search needs
-
-enum-known-refusal : tie.Need-enum-known-refusal
-enum-known-refusal c = search needs
-
-enum-told : tie.Need-enum-told
-enum-told c = search needs
-
-check-requires-2 : tie.Need-check-requires-2
-check-requires-2 c κs = search needs
-
-enum-known-refusal-2 : tie.Need-enum-known-refusal-2
-enum-known-refusal-2 c = search needs
-
-enum-told-2 : tie.Need-enum-told-2
-enum-told-2 c = search needs
-
 nest-requires : tie.Need-nest-requires
 nest-requires c κs = (fit-passes _ _ (first-fit (c .before .before .before)), fit-passes _ _ (second-fit c))
 
@@ -58,14 +40,5 @@ returns-3 c =
 pub relate-spec : {M : Type 1} → statement M
 relate-spec =
     tie.close
-    (tie.spec
-    check-requires
-    enum-known-refusal
-    enum-told
-    check-requires-2
-    enum-known-refusal-2
-    enum-told-2
-    nest-requires
-    returns
-    returns-2
-    returns-3)
+    (tie.spec (λ c κs. search needs) (λ c. search needs) (λ c. search needs) (λ c κs. search needs) (λ c. search needs)
+    (λ c. search needs) nest-requires returns returns-2 returns-3)

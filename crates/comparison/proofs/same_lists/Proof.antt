@@ -4,12 +4,6 @@ use mathlib.Core.Path.{sym, _∙_}
 use Rattle.comparison.proofs.same_lists.Statement.{statement}
 use Rattle.comparison.proofs.same_lists.Tie as tie
 
-same-point-requires : tie.Need-same-point-requires
-same-point-requires c κs = search needs
-
-same-numbers-requires : tie.Need-same-numbers-requires
-same-numbers-requires c κs = search needs
-
 returns : tie.Need-returns
 returns c = rw (sym (c .before .before .same-point .ensures) ∙ c .before .if1 .taken) (c .same-numbers .ensures)
 
@@ -17,4 +11,4 @@ returns-2 : tie.Need-returns-2
 returns-2 c = c .if1 .left ∙ rw (sym (c .before .same-point .ensures) ∙ c .if1 .left)
 
 pub same-lists-spec : {M : Type 1} → statement M
-same-lists-spec = tie.close (tie.spec same-point-requires same-numbers-requires returns returns-2)
+same-lists-spec = tie.close (tie.spec (λ c κs. search needs) (λ c κs. search needs) returns returns-2)

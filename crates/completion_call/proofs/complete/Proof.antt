@@ -7,15 +7,6 @@ use borrow.Author.Needs.{needs}
 use Rattle.completion_call.proofs.complete.Statement.{statement}
 use Rattle.completion_call.proofs.complete.Tie as tie
 
-survey-requires : tie.Need-survey-requires
-survey-requires c κs = search needs
-
-enum-known-surveyed : tie.Need-enum-known-surveyed
-enum-known-surveyed c = search needs
-
-enum-told : tie.Need-enum-told
-enum-told c = search needs
-
 write-letters-requires : tie.Need-write-letters-requires
 write-letters-requires c κs = survey-simple _ (sym (c .before .before .before .survey .ensures) ∙ c .before .enum-told .given .1)
 
@@ -26,9 +17,6 @@ returns c =
     (sym (c .before .before .before .survey .ensures) ∙ c .before .surveyed .given .1) in
     (said .answer, (said .letters, said .named))
 
-same-length : tie.Need-same-length
-same-length c = search needs
-
 returns-2 : tie.Need-returns-2
 returns-2 c =
     let said = c .before .before .write-letters .ensures in (said .answer, (said .letters, said .named))
@@ -36,11 +24,4 @@ returns-2 c =
 pub complete-spec : {M : Type 1} → statement M
 complete-spec =
     tie.close
-    (tie.spec
-    survey-requires
-    enum-known-surveyed
-    enum-told
-    write-letters-requires
-    returns
-    same-length
-    returns-2)
+    (tie.spec (λ c κs. search needs) (λ c. search needs) (λ c. search needs) write-letters-requires returns (λ c. search needs) returns-2)

@@ -13,15 +13,6 @@ use borrow.Author.Needs.{needs}
 use Rattle.completion_call.proofs.write_letters.Statement.{statement}
 use Rattle.completion_call.proofs.write_letters.Tie as tie
 
-pass-requires : tie.Need-pass-requires
-pass-requires c κs = search needs
-
-wide-requires : tie.Need-wide-requires
-wide-requires c κs = search needs
-
-wide-requires-2 : tie.Need-wide-requires-2
-wide-requires-2 c κs = search needs
-
 -- The outline
 abbrev drawn : tie.Start → Outline
 drawn s = outline (s .args .start) (now (s .args .letters))
@@ -90,14 +81,8 @@ hull c =
 left-requires : tie.Need-left-requires
 left-requires c κs = let m = below (c .before .before) in (search needs, m .0, m .1)
 
-mirrored-requires : tie.Need-mirrored-requires
-mirrored-requires c κs = search needs
-
 left-requires-2 : tie.Need-left-requires-2
 left-requires-2 c κs = let m = below (c .before .before .before .before .before .before .before) in (search needs, m .0, m .1)
-
-mirrored-requires-2 : tie.Need-mirrored-requires-2
-mirrored-requires-2 c κs = search needs
 
 lowest-requires : tie.Need-lowest-requires
 lowest-requires c κs = below (c .before .before .before .before .before .before .before .before .before .before .before)
@@ -122,9 +107,6 @@ sub-wide c =
     let d = rowed c in
     sided-gap (drawn (begun d)) (begun d .pre) (rows (begins c)) (rows (over c)) (rows (ends c)) (bottom d) (top d) (sided c)
     (c .before .before .lowest .result) (c .before .before .lowest .ensures) (c .lowest2 .result) (c .lowest2 .ensures)
-
-wide-requires-3 : tie.Need-wide-requires-3
-wide-requires-3 c κs = search needs
 
 sub-count : tie.Need-sub-count
 sub-count c = omega (arith, below (reached c))
@@ -163,9 +145,6 @@ cast-t27 c = let f = hull (c .before .before .before .before .before .before .be
 cast-t31 : tie.Need-cast-t31
 cast-t31 c = let f = hull (c .before .before .before .before .before .before .before) in omega (arith, f .high, f .fits, f .short)
 
-same-length : tie.Need-same-length
-same-length c = search needs
-
 returns-2 : tie.Need-returns-2
 returns-2 c =
     let w = c .before .before .before .before .before .before .before in
@@ -176,31 +155,7 @@ returns-2 c =
 pub write-letters-spec : {M : Type 1} → statement M
 write-letters-spec =
     tie.close
-    (tie.spec
-    pass-requires
-    wide-requires
-    wide-requires-2
-    left-requires
-    mirrored-requires
-    left-requires-2
-    mirrored-requires-2
-    lowest-requires
-    lowest-requires-2
-    mul-wide
-    array-read-wide
-    mul-wide-2
-    array-read-wide-2
-    sub-wide
-    wide-requires-3
-    sub-count
-    mul-count
-    mul-count-2
-    add-count
-    returns
-    round-requires
-    mul-t33
-    array-read-t32
-    cast-t27
-    cast-t31
-    same-length
-    returns-2)
+    (tie.spec (λ c κs. search needs) (λ c κs. search needs) (λ c κs. search needs) left-requires (λ c κs. search needs) left-requires-2
+    (λ c κs. search needs) lowest-requires lowest-requires-2 mul-wide array-read-wide mul-wide-2 array-read-wide-2 sub-wide
+    (λ c κs. search needs) sub-count mul-count mul-count-2 add-count returns round-requires mul-t33 array-read-t32 cast-t27 cast-t31
+    (λ c. search needs) returns-2)

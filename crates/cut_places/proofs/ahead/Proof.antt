@@ -6,12 +6,6 @@ use Rattle.cut_places.proofs.CutLaws.{ahead-round}
 use Rattle.cut_places.proofs.ahead.Statement.{statement}
 use Rattle.cut_places.proofs.ahead.Tie as tie
 
-sub-result : tie.Need-sub-result
-sub-result c = search needs
-
-add-result : tie.Need-add-result
-add-result c = search needs
-
 returns : tie.Need-returns
 returns c = sym (ahead-on _ _ _ (search needs))
 
@@ -19,4 +13,4 @@ returns-2 : tie.Need-returns-2
 returns-2 c = sym (ahead-round _ _ _ (search needs) (search needs))
 
 pub ahead-spec : {M : Type 1} → statement M
-ahead-spec = tie.close (tie.spec sub-result add-result returns returns-2)
+ahead-spec = tie.close (tie.spec (λ c. search needs) (λ c. search needs) returns returns-2)

@@ -13,9 +13,6 @@ use Rattle.cut_places.proofs.ReadLaws.{read-le, Places, below-places, c
 use Rattle.cut_places.proofs.cut_places.Statement.{statement}
 use Rattle.cut_places.proofs.cut_places.Tie as tie
 
-are-below-requires : tie.Need-are-below-requires
-are-below-requires c κs = search needs
-
 -- Too many letters, or a place past the end of the list
 returns : tie.Need-returns
 returns c =
@@ -52,9 +49,6 @@ within c =
       read-le _ (c .place-read3 .ensures) (p .west) (p .south),
       omega (arith, past .before .before .if1 .left),
     )
-
-ahead-requires : tie.Need-ahead-requires
-ahead-requires c κs = search needs
 
 ahead-requires-2 : tie.Need-ahead-requires-2
 ahead-requires-2 c κs = within (c .before) .0
@@ -107,18 +101,5 @@ returns-2 c =
 pub cut-places-spec : {M : Type 1} → statement M
 cut-places-spec =
     tie.close
-    (tie.spec
-    are-below-requires
-    returns
-    shared-slice-read-forward
-    place-read-requires
-    place-read-requires-2
-    place-read-requires-3
-    ahead-requires
-    ahead-requires-2
-    add-second
-    ahead-requires-3
-    add-third
-    ahead-requires-4
-    add-fourth
-    returns-2)
+    (tie.spec (λ c κs. search needs) returns shared-slice-read-forward place-read-requires place-read-requires-2 place-read-requires-3
+    (λ c κs. search needs) ahead-requires-2 add-second ahead-requires-3 add-third ahead-requires-4 add-fourth returns-2)

@@ -4,19 +4,13 @@ use Rattle.cut_places.specs.parts.Cuts.{placeRead}
 use Rattle.cut_places.proofs.place_read.Statement.{statement}
 use Rattle.cut_places.proofs.place_read.Tie as tie
 
-ahead-requires : tie.Need-ahead-requires
-ahead-requires c κs = search needs
-
 returns : tie.Need-returns
 unfolding placeRead
 returns c = rw (c .before .if1 .taken) (c .ahead .ensures)
-
-ahead-requires-2 : tie.Need-ahead-requires-2
-ahead-requires-2 c κs = search needs
 
 returns-2 : tie.Need-returns-2
 unfolding placeRead
 returns-2 c = rw (c .before .if1 .left) (c .ahead2 .ensures)
 
 pub place-read-spec : {M : Type 1} → statement M
-place-read-spec = tie.close (tie.spec ahead-requires returns ahead-requires-2 returns-2)
+place-read-spec = tie.close (tie.spec (λ c κs. search needs) returns (λ c κs. search needs) returns-2)

@@ -8,29 +8,8 @@ use borrow.Author.Needs.{needs}
 use Rattle.dents.proofs.put.Statement.{statement}
 use Rattle.dents.proofs.put.Tie as tie
 
-mul-at : tie.Need-mul-at
-mul-at c = search needs
-
-mul-dx : tie.Need-mul-dx
-mul-dx c = search needs
-
-slice-set-from-dx : tie.Need-slice-set-from-dx
-slice-set-from-dx c = search needs
-
-add-dy : tie.Need-add-dy
-add-dy c = search needs
-
-mul-dy : tie.Need-mul-dy
-mul-dy c = search needs
-
 slice-set-from-dy : tie.Need-slice-set-from-dy
 slice-set-from-dy c = simp length-set (omega arith)
-
-add-result : tie.Need-add-result
-add-result c = search needs
-
-same-length : tie.Need-same-length
-same-length c = search needs
 
 returns : tie.Need-returns
 returns c =
@@ -44,14 +23,5 @@ returns-2 c = put-nowhere _ _ _ _ (c .if1 .left)
 pub put-spec : {M : Type 1} → statement M
 put-spec =
     tie.close
-    (tie.spec
-    mul-at
-    mul-dx
-    slice-set-from-dx
-    add-dy
-    mul-dy
-    slice-set-from-dy
-    add-result
-    same-length
-    returns
-    returns-2)
+    (tie.spec (λ c. search needs) (λ c. search needs) (λ c. search needs) (λ c. search needs) (λ c. search needs) slice-set-from-dy
+    (λ c. search needs) (λ c. search needs) returns returns-2)

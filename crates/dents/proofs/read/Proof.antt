@@ -19,24 +19,6 @@ abbrev μ-loop : tie.MeasureT-loop
 loop-holds : tie.Need-loop-holds Inv-loop μ-loop
 loop-holds c = passed-start _ _ _
 
-mul-from : tie.Need-mul-from Inv-loop μ-loop
-mul-from c = search needs
-
-array-read-from : tie.Need-array-read-from Inv-loop μ-loop
-array-read-from c = search needs
-
-add-to : tie.Need-add-to Inv-loop μ-loop
-add-to c = search needs
-
-mul-to : tie.Need-mul-to Inv-loop μ-loop
-mul-to c = search needs
-
-array-read-to : tie.Need-array-read-to Inv-loop μ-loop
-array-read-to c = search needs
-
-read-piece-requires : tie.Need-read-piece-requires Inv-loop μ-loop
-read-piece-requires c κs = search needs
-
 -- Piece k is read
 module _ (c : tie.After-read-piece Inv-loop μ-loop) where
   abbrev k : ℕ
@@ -69,9 +51,6 @@ module _ {r : InWord} (c : tie.After-read-piece Inv-loop μ-loop) (e : c .read-p
       (c .read-piece .last .1 .1 .1 .1 .0) r
   read-as = rw (sym e) (here c)
 
-enum-known-word : tie.Need-enum-known-word Inv-loop μ-loop
-enum-known-word c = search needs
-
 add-t23 : tie.Need-add-t23 Inv-loop μ-loop
 add-t23 c =
     let p = read-as (c .before .before .before .before) (c .before .word .given .1) in
@@ -88,12 +67,6 @@ same-length c = let p = read-as (c .before .before .before .before) (c .before .
 returns : tie.Need-returns Inv-loop μ-loop
 returns c = passed-dent (read-as (c .before .before .before .before) (c .before .word .given .1))
 
-enum-known-word-2 : tie.Need-enum-known-word-2 Inv-loop μ-loop
-enum-known-word-2 c = search needs
-
-add-k : tie.Need-add-k Inv-loop μ-loop
-add-k c = search needs
-
 loop-less : tie.Need-loop-less Inv-loop μ-loop
 loop-less c = omega (arith, here (c .before .before .before .before) .piece-lt)
 
@@ -109,24 +82,6 @@ returns-2 c = passed-end (c .before .loop .inv) (c .loop-test .left)
 pub read-spec : {M : Type 1} → statement M
 read-spec =
     tie.close
-    (tie.spec
-    Inv-loop
-    μ-loop
-    loop-holds
-    mul-from
-    array-read-from
-    add-to
-    mul-to
-    array-read-to
-    read-piece-requires
-    enum-known-word
-    add-t23
-    add-t24
-    same-length
-    returns
-    enum-known-word-2
-    add-k
-    loop-less
-    loop-again
-    same-length-2
-    returns-2)
+    (tie.spec Inv-loop μ-loop loop-holds (λ c. search needs) (λ c. search needs) (λ c. search needs) (λ c. search needs)
+    (λ c. search needs) (λ c κs. search needs) (λ c. search needs) add-t23 add-t24 same-length returns (λ c. search needs)
+    (λ c. search needs) loop-less loop-again same-length-2 returns-2)

@@ -8,27 +8,6 @@ use Rattle.dents.proofs.DentLaws.{piece-part, piece-none}
 use Rattle.dents.proofs.read_piece.Statement.{statement}
 use Rattle.dents.proofs.read_piece.Tie as tie
 
-add-first : tie.Need-add-first
-add-first c = search needs
-
-sub-if3 : tie.Need-sub-if3
-sub-if3 c = search needs
-
-sub-read-word : tie.Need-sub-read-word
-sub-read-word c = search needs
-
-part-read-word-start : tie.Need-part-read-word-start
-part-read-word-start c = search needs
-
-part-read-word-end : tie.Need-part-read-word-end
-part-read-word-end c = search needs
-
-read-word-requires : tie.Need-read-word-requires
-read-word-requires c κs = search needs
-
-same-length : tie.Need-same-length
-same-length c = search needs
-
 returns : tie.Need-returns
 returns c =
     let tested = c .before .before .before .before .before in
@@ -47,14 +26,5 @@ returns-3 c =
 pub read-piece-spec : {M : Type 1} → statement M
 read-piece-spec =
     tie.close
-    (tie.spec
-    add-first
-    sub-if3
-    sub-read-word
-    part-read-word-start
-    part-read-word-end
-    read-word-requires
-    same-length
-    returns
-    returns-2
-    returns-3)
+    (tie.spec (λ c. search needs) (λ c. search needs) (λ c. search needs) (λ c. search needs) (λ c. search needs) (λ c κs. search needs)
+    (λ c. search needs) returns returns-2 returns-3)

@@ -21,14 +21,8 @@ Inv-loop letters k list₀ from pair count₀ at₀ list count at = Tracing k le
 abbrev μ-loop : tie.MeasureT-loop
 μ-loop letters k list₀ from pair count₀ at₀ list count at = length letters - at
 
-pair-at-requires : tie.Need-pair-at-requires Inv-loop μ-loop
-pair-at-requires c κs = search needs
-
 loop-holds : tie.Need-loop-holds Inv-loop μ-loop
 loop-holds c = tracing-start _ _ _ _
-
-factor-at-requires : tie.Need-factor-at-requires Inv-loop μ-loop
-factor-at-requires c κs = search needs
 
 -- What is judged is the first factor of the rest in the frame of piece k
 judged-rest : (c : tie.After-factor-at Inv-loop μ-loop)
@@ -47,9 +41,6 @@ rise-here : (c : tie.After-factor-at Inv-loop μ-loop)
     → c .factor-at .result .times * c .factor-at .result .laters ≤ c .factor-at .result .times * c .factor-at .result .length
 rise-here c =
     rise-le (c .before .before .loop .inv) (c .before .before .before .before .before .pre) (c .before .loop-test .taken) (judged-rest c)
-
-same-length : tie.Need-same-length Inv-loop μ-loop
-same-length c = search needs
 
 returns : tie.Need-returns Inv-loop μ-loop
 returns c =
@@ -86,9 +77,6 @@ edge-of-requires c κs =
       omega (arith, h .within, rise-here seen, seen .before .before .before .before .before .pre),
     )
 
-put-requires : tie.Need-put-requires Inv-loop μ-loop
-put-requires c κs = search needs
-
 add-at : tie.Need-add-at Inv-loop μ-loop
 add-at c =
     let seen = c .before .before .before .before .before .before .before .before .before .before in
@@ -115,32 +103,12 @@ loop-again c =
     ) at (c .before .put .ensures))
     (c .before .put .kept .0)
 
-same-length-2 : tie.Need-same-length-2 Inv-loop μ-loop
-same-length-2 c = search needs
-
 returns-2 : tie.Need-returns-2 Inv-loop μ-loop
 returns-2 c = tracing-end (c .before .loop .inv) (c .loop-test .left)
 
 pub read-word-spec : {M : Type 1} → statement M
 read-word-spec =
     tie.close
-    (tie.spec
-    Inv-loop
-    μ-loop
-    pair-at-requires
-    loop-holds
-    factor-at-requires
-    same-length
-    returns
-    mul-size
-    mul-rise
-    sub-edge-of
-    cast-edge-of
-    cast-edge-of-2
-    edge-of-requires
-    put-requires
-    add-at
-    loop-less
-    loop-again
-    same-length-2
+    (tie.spec Inv-loop μ-loop (λ c κs. search needs) loop-holds (λ c κs. search needs) (λ c. search needs) returns mul-size mul-rise
+    sub-edge-of cast-edge-of cast-edge-of-2 edge-of-requires (λ c κs. search needs) add-at loop-less loop-again (λ c. search needs)
     returns-2)

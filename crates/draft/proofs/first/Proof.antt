@@ -4,9 +4,6 @@ use Rattle.base.proofs.Prefix.{first-length}
 use Rattle.draft.proofs.first.Statement.{statement}
 use Rattle.draft.proofs.first.Tie as tie
 
-held-requires : tie.Need-held-requires
-held-requires c κs = search needs
-
 slice-aggregate-result : tie.Need-slice-aggregate-result
 slice-aggregate-result c = first-length _ _ _ _ (c .before .all .given .0) (c .before .before .held .ensures)
 
@@ -14,4 +11,4 @@ returns : tie.Need-returns
 returns c = rw (c .before .before .held .ensures)
 
 pub first-spec : {M : Type 1} → statement M
-first-spec = tie.close (tie.spec held-requires slice-aggregate-result returns)
+first-spec = tie.close (tie.spec (λ c κs. search needs) slice-aggregate-result returns)

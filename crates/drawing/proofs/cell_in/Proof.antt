@@ -4,18 +4,6 @@ use borrow.Author.Needs.{needs}
 use Rattle.drawing.proofs.cell_in.Statement.{statement}
 use Rattle.drawing.proofs.cell_in.Tie as tie
 
-enum-known-stroke : tie.Need-enum-known-stroke
-enum-known-stroke c = search needs
-
-enum-known-stroke-2 : tie.Need-enum-known-stroke-2
-enum-known-stroke-2 c = search needs
-
-enum-told : tie.Need-enum-told
-enum-told c = search needs
-
-enum-told-2 : tie.Need-enum-told-2
-enum-told-2 c = search needs
-
 returns : tie.Need-returns
 unfolding cellIn
 returns c = rw (c .before .stroke .given .1)
@@ -35,12 +23,4 @@ returns-4 c = rw (c .enum-told2 .given .1)
 pub cell-in-spec : {M : Type 1} → statement M
 cell-in-spec =
     tie.close
-    (tie.spec
-    enum-known-stroke
-    enum-known-stroke-2
-    enum-told
-    enum-told-2
-    returns
-    returns-2
-    returns-3
-    returns-4)
+    (tie.spec (λ c. search needs) (λ c. search needs) (λ c. search needs) (λ c. search needs) returns returns-2 returns-3 returns-4)

@@ -11,9 +11,6 @@ use Rattle.drawing.proofs.line_to.Tie as tie
 on : (c : tie.Then1) → let at = c .before .before .args .at in onChart (at .col) (at .row) ≡ true
 on c = sym (c .before .on-chart .ensures) ∙ c .if1 .taken
 
-on-chart-requires : tie.Need-on-chart-requires
-on-chart-requires c κs = search needs
-
 cell-requires : tie.Need-cell-requires
 cell-requires c κs = on c
 
@@ -26,4 +23,4 @@ unfolding lineTo
 returns-2 c = rw (sym (c .before .on-chart .ensures) ∙ c .if1 .left)
 
 pub line-to-spec : {M : Type 1} → statement M
-line-to-spec = tie.close (tie.spec on-chart-requires cell-requires returns returns-2)
+line-to-spec = tie.close (tie.spec (λ c κs. search needs) cell-requires returns returns-2)

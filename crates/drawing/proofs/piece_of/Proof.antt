@@ -11,30 +11,6 @@ use Rattle.drawing.proofs.piece_of.Tie as tie
 shown : {r s : Stroke} {p : Piece} → r ≡ s → p ≡ pieceOf s → p ≡ pieceOf r
 shown e p = p ∙ ap pieceOf (sym e)
 
-enum-known-stroke : tie.Need-enum-known-stroke
-enum-known-stroke c = search needs
-
-half-requires : tie.Need-half-requires
-half-requires c κs = search needs
-
-half-requires-2 : tie.Need-half-requires-2
-half-requires-2 c κs = search needs
-
-enum-known-stroke-2 : tie.Need-enum-known-stroke-2
-enum-known-stroke-2 c = search needs
-
-half-requires-3 : tie.Need-half-requires-3
-half-requires-3 c κs = search needs
-
-half-requires-4 : tie.Need-half-requires-4
-half-requires-4 c κs = search needs
-
-enum-told : tie.Need-enum-told
-enum-told c = search needs
-
-enum-told-2 : tie.Need-enum-told-2
-enum-told-2 c = search needs
-
 returns : tie.Need-returns
 unfolding pieceOf
 returns c = shown (c .before .before .before .stroke .given .1) (ap₂ MoveTo (c .before .half .ensures) (c .half2 .ensures))
@@ -54,16 +30,5 @@ returns-4 c = shown (c .enum-told2 .given .1) refl
 pub piece-of-spec : {M : Type 1} → statement M
 piece-of-spec =
     tie.close
-    (tie.spec
-    enum-known-stroke
-    half-requires
-    half-requires-2
-    enum-known-stroke-2
-    half-requires-3
-    half-requires-4
-    enum-told
-    enum-told-2
-    returns
-    returns-2
-    returns-3
-    returns-4)
+    (tie.spec (λ c. search needs) (λ c κs. search needs) (λ c κs. search needs) (λ c. search needs) (λ c κs. search needs)
+    (λ c κs. search needs) (λ c. search needs) (λ c. search needs) returns returns-2 returns-3 returns-4)

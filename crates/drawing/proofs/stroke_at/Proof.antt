@@ -61,32 +61,8 @@ rule c =
 returns : tie.Need-returns Inv-loop μ-loop
 returns c = sym (ap (strokeAt _ _) (c .if1 .taken) ∙ stroke-first _ _)
 
-start-requires : tie.Need-start-requires Inv-loop μ-loop
-start-requires c κs = search needs
-
-sub-left : tie.Need-sub-left Inv-loop μ-loop
-sub-left c = omega arith
-
 loop-holds : tie.Need-loop-holds Inv-loop μ-loop
 loop-holds c = rw (c .start .ensures) (walked-start (c .before .before .args .anchor) _ _ (omega arith) (omega arith) (omega arith))
-
-add-loop : tie.Need-add-loop Inv-loop μ-loop
-add-loop c = omega arith
-
-mul-further : tie.Need-mul-further Inv-loop μ-loop
-mul-further c = omega arith
-
-shared-slice-copy-out-further : tie.Need-shared-slice-copy-out-further Inv-loop μ-loop
-shared-slice-copy-out-further c = omega arith
-
-add-further : tie.Need-add-further Inv-loop μ-loop
-add-further c = omega arith
-
-mul-further-2 : tie.Need-mul-further-2 Inv-loop μ-loop
-mul-further-2 c = omega arith
-
-shared-slice-copy-out-further-2 : tie.Need-shared-slice-copy-out-further-2 Inv-loop μ-loop
-shared-slice-copy-out-further-2 c = omega arith
 
 further-requires : tie.Need-further-requires Inv-loop μ-loop
 further-requires c κs =
@@ -94,24 +70,12 @@ further-requires c κs =
     let y = fits-y c in
     simp (toZ-ofZ w16 _ x, toZ-ofZ w16 _ y) (after-fits (c .before .before .before .loop .inv .near) x y (omega arith))
 
-line-to-requires : tie.Need-line-to-requires Inv-loop μ-loop
-line-to-requires c κs = search needs
-
 returns-2 : tie.Need-returns-2 Inv-loop μ-loop
 returns-2 c =
     let f = c .before .before in
     let t = f .before .before .before in
     rw (further-is f) at (c .line-to .ensures)
     ∙ sym (rule (t .before .before) ∙ walked-line (t .before .loop .inv) (omega arith) (c .before .if2 .taken))
-
-sub-left-2 : tie.Need-sub-left-2 Inv-loop μ-loop
-sub-left-2 c = omega arith
-
-add-i : tie.Need-add-i Inv-loop μ-loop
-add-i c = omega arith
-
-loop-less : tie.Need-loop-less Inv-loop μ-loop
-loop-less c = omega arith
 
 loop-again : tie.Need-loop-again Inv-loop μ-loop
 loop-again c =
@@ -132,25 +96,6 @@ returns-4 c =
 pub stroke-at-spec : {M : Type 1} → statement M
 stroke-at-spec =
     tie.close
-    (tie.spec
-    Inv-loop
-    μ-loop
-    returns
-    start-requires
-    sub-left
-    loop-holds
-    add-loop
-    mul-further
-    shared-slice-copy-out-further
-    add-further
-    mul-further-2
-    shared-slice-copy-out-further-2
-    further-requires
-    line-to-requires
-    returns-2
-    sub-left-2
-    add-i
-    loop-less
-    loop-again
-    returns-3
-    returns-4)
+    (tie.spec Inv-loop μ-loop returns (λ c κs. search needs) (λ c. omega arith) loop-holds (λ c. omega arith) (λ c. omega arith)
+    (λ c. omega arith) (λ c. omega arith) (λ c. omega arith) (λ c. omega arith) further-requires (λ c κs. search needs) returns-2
+    (λ c. omega arith) (λ c. omega arith) (λ c. omega arith) loop-again returns-3 returns-4)

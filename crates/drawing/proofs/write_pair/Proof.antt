@@ -9,18 +9,9 @@ use Rattle.drawing.proofs.write_pair.Tie as tie
 returns : tie.Need-returns
 returns c = sym (pair-short _ _ _ (omega arith))
 
-slice-write-point : tie.Need-slice-write-point
-slice-write-point c = search needs
-
-slice-write-point-2 : tie.Need-slice-write-point-2
-slice-write-point-2 c = search needs
-
-same-length : tie.Need-same-length
-same-length c = search needs
-
 returns-2 : tie.Need-returns-2
 returns-2 c = pair-sets _ _ _ (omega arith)
 
 pub write-pair-spec : {M : Type 1} → statement M
 write-pair-spec =
-    tie.close (tie.spec returns slice-write-point slice-write-point-2 same-length returns-2)
+    tie.close (tie.spec returns (λ c. search needs) (λ c. search needs) (λ c. search needs) returns-2)

@@ -11,33 +11,9 @@ use Rattle.drawing.proofs.write_point.Tie as tie
 shown : {p q : Piece} (l : List Float) {m : List Float} → p ≡ q → m ≡ pointAfter q l → m ≡ pointAfter p l
 shown l e h = h ∙ ap (λ (p : Piece). pointAfter p l) (sym e)
 
-enum-known-piece : tie.Need-enum-known-piece
-enum-known-piece c = search needs
-
-write-pair-requires : tie.Need-write-pair-requires
-write-pair-requires c κs = search needs
-
-enum-known-piece-2 : tie.Need-enum-known-piece-2
-enum-known-piece-2 c = search needs
-
-write-pair-requires-2 : tie.Need-write-pair-requires-2
-write-pair-requires-2 c κs = search needs
-
-enum-told : tie.Need-enum-told
-enum-told c = search needs
-
-enum-told-2 : tie.Need-enum-told-2
-enum-told-2 c = search needs
-
-same-length : tie.Need-same-length
-same-length c = search needs
-
 returns : tie.Need-returns
 unfolding pointAfter
 returns c = shown _ (c .before .before .before .before .before .piece .given .1) (c .before .before .write-pair .ensures)
-
-same-length-2 : tie.Need-same-length-2
-same-length-2 c = search needs
 
 returns-2 : tie.Need-returns-2
 unfolding pointAfter
@@ -54,16 +30,5 @@ returns-4 c = shown _ (c .enum-told2 .given .1) refl
 pub write-point-spec : {M : Type 1} → statement M
 write-point-spec =
     tie.close
-    (tie.spec
-    enum-known-piece
-    write-pair-requires
-    enum-known-piece-2
-    write-pair-requires-2
-    enum-told
-    enum-told-2
-    same-length
-    returns
-    same-length-2
-    returns-2
-    returns-3
-    returns-4)
+    (tie.spec (λ c. search needs) (λ c κs. search needs) (λ c. search needs) (λ c κs. search needs) (λ c. search needs)
+    (λ c. search needs) (λ c. search needs) returns (λ c. search needs) returns-2 returns-3 returns-4)

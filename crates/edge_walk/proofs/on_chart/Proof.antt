@@ -8,12 +8,6 @@ use Rattle.directions.specs.CornerHull.{onChart}
 use Rattle.edge_walk.proofs.on_chart.Statement.{statement}
 use Rattle.edge_walk.proofs.on_chart.Tie as tie
 
-chart-number-requires : tie.Need-chart-number-requires
-chart-number-requires c κs = search needs
-
-chart-number-requires-2 : tie.Need-chart-number-requires-2
-chart-number-requires-2 c κs = search needs
-
 returns : tie.Need-returns
 unfolding onChart
 returns c =
@@ -24,4 +18,4 @@ returns c =
     (simp (toZ-ofZ w32 (at .row) (record { sfits = c .before .struct-told2 .given .1 .0 .1 })) at (c .chart-number2 .ensures))
 
 pub on-chart-spec : {M : Type 1} → statement M
-on-chart-spec = tie.close (tie.spec chart-number-requires chart-number-requires-2 returns)
+on-chart-spec = tie.close (tie.spec (λ c κs. search needs) (λ c κs. search needs) returns)

@@ -26,21 +26,6 @@ returns c = sym (same-longer _ _ (c .if1 .taken))
 loop-holds : tie.Need-loop-holds Inv-loop μ-loop
 loop-holds c = (search needs, refl)
 
-mul-same-number : tie.Need-mul-same-number Inv-loop μ-loop
-mul-same-number c = search needs
-
-shared-slice-copy-out-same-number : tie.Need-shared-slice-copy-out-same-number Inv-loop μ-loop
-shared-slice-copy-out-same-number c = search needs
-
-mul-same-number-2 : tie.Need-mul-same-number-2 Inv-loop μ-loop
-mul-same-number-2 c = search needs
-
-shared-slice-copy-out-same-number-2 : tie.Need-shared-slice-copy-out-same-number-2 Inv-loop μ-loop
-shared-slice-copy-out-same-number-2 c = search needs
-
-same-number-requires : tie.Need-same-number-requires Inv-loop μ-loop
-same-number-requires c κs = search needs
-
 -- What the comparison of the numbers at `i` decides
 module _ (c : tie.After-same-number Inv-loop μ-loop) where
   abbrev at : tie.At-loop Inv-loop μ-loop
@@ -68,12 +53,6 @@ returns-2 c =
     same-differ _ _ (at n .loop .i) (c .before .before .before .before .loop-test .taken) (at n .before .if1 .left) (sym (compared n)
     ∙ not-true _ (c .if2 .taken)))
 
-add-i : tie.Need-add-i Inv-loop μ-loop
-add-i c = search needs
-
-loop-less : tie.Need-loop-less Inv-loop μ-loop
-loop-less c = search needs
-
 loop-again : tie.Need-loop-again Inv-loop μ-loop
 loop-again c =
     let n = c .before in (
@@ -91,18 +70,5 @@ returns-3 c =
 pub same-numbers-spec : {M : Type 1} → statement M
 same-numbers-spec =
     tie.close
-    (tie.spec
-    Inv-loop
-    μ-loop
-    returns
-    loop-holds
-    mul-same-number
-    shared-slice-copy-out-same-number
-    mul-same-number-2
-    shared-slice-copy-out-same-number-2
-    same-number-requires
-    returns-2
-    add-i
-    loop-less
-    loop-again
-    returns-3)
+    (tie.spec Inv-loop μ-loop returns loop-holds (λ c. search needs) (λ c. search needs) (λ c. search needs) (λ c. search needs)
+    (λ c κs. search needs) returns-2 (λ c. search needs) (λ c. search needs) loop-again returns-3)

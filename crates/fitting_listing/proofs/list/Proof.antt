@@ -6,25 +6,10 @@ use borrow.Author.Needs.{needs}
 use Rattle.fitting_listing.proofs.list.Statement.{statement}
 use Rattle.fitting_listing.proofs.list.Tie as tie
 
-fault-requires : tie.Need-fault-requires
-fault-requires c κs = search needs
-
-put-line-requires : tie.Need-put-line-requires
-put-line-requires c κs = search needs
-
-same-length : tie.Need-same-length
-same-length c = search needs
-
 returns : tie.Need-returns
 returns c =
     let wrote = rw (c .before .before .before .before .fault .ensures) at (c .before .before .put-line .ensures) in
     rw (lines-long (c .before .before .before .before .before .before .before .before .args .file .now) (omega arith)) (long-listed wrote)
-
-list-records-requires : tie.Need-list-records-requires
-list-records-requires c κs = search needs
-
-same-length-2 : tie.Need-same-length-2
-same-length-2 c = search needs
 
 returns-2 : tie.Need-returns-2
 returns-2 c =
@@ -34,4 +19,4 @@ returns-2 c =
 pub list-spec : {M : Type 1} → statement M
 list-spec =
     tie.close
-    (tie.spec fault-requires put-line-requires same-length returns list-records-requires same-length-2 returns-2)
+    (tie.spec (λ c κs. search needs) (λ c κs. search needs) (λ c. search needs) returns (λ c κs. search needs) (λ c. search needs) returns-2)

@@ -27,12 +27,6 @@ loop-holds c = going-begins _ _
 add-letters : tie.Need-add-letters Inv-loop μ-loop
 add-letters c = omega (arith, c .before .before .before .pre, c .loop .inv .within)
 
-next-at-requires : tie.Need-next-at-requires Inv-loop μ-loop
-next-at-requires c κs = search needs
-
-enum-told : tie.Need-enum-told Inv-loop μ-loop
-enum-told c = search needs
-
 same-length : tie.Need-same-length Inv-loop μ-loop
 same-length c = c .before .before .before .loop .inv .same
 
@@ -41,15 +35,6 @@ returns c =
     let call = c .before .before in
     let loop = call .before in
     going-end (loop .loop .inv) (loop .before .before .before .pre) (found-of (call .next-at .ensures) ∙ c .enum-told .given .1)
-
-enum-told-2 : tie.Need-enum-told-2 Inv-loop μ-loop
-enum-told-2 c = search needs
-
-fault-requires : tie.Need-fault-requires Inv-loop μ-loop
-fault-requires c κs = search needs
-
-put-line-requires : tie.Need-put-line-requires Inv-loop μ-loop
-put-line-requires c κs = search needs
 
 same-length-2 : tie.Need-same-length-2 Inv-loop μ-loop
 same-length-2 c =
@@ -65,15 +50,6 @@ returns-2 c =
     let wrote = rw (c .before .before .before .before .fault .ensures) at (c .before .before .put-line .ensures) in
     going-wrong-mark (loop .loop .inv) (loop .before .before .before .pre) found wrote
 
-enum-told-3 : tie.Need-enum-told-3 Inv-loop μ-loop
-enum-told-3 c = search needs
-
-fault-requires-2 : tie.Need-fault-requires-2 Inv-loop μ-loop
-fault-requires-2 c κs = search needs
-
-put-line-requires-2 : tie.Need-put-line-requires-2 Inv-loop μ-loop
-put-line-requires-2 c κs = search needs
-
 same-length-3 : tie.Need-same-length-3 Inv-loop μ-loop
 same-length-3 c =
     let loop = c .before .before .before .before .before .before .before .before in
@@ -87,9 +63,6 @@ returns-3 c =
     let found = found-of (call .next-at .ensures) ∙ told .enum-told3 .given .1 in
     let wrote = rw (c .before .before .before .before .fault2 .ensures) at (c .before .before .put-line2 .ensures) in
     going-cut (loop .loop .inv) (loop .before .before .before .pre) found wrote
-
-enum-known-found : tie.Need-enum-known-found Inv-loop μ-loop
-enum-known-found c = search needs
 
 -- The step over a whole record
 module _ (c : tie.After-known-told Inv-loop μ-loop) where
@@ -120,12 +93,6 @@ part-tested-start c = omega (arith, over c .behind, over c .within)
 part-tested-end : tie.Need-part-tested-end Inv-loop μ-loop
 part-tested-end c = omega (arith, over c .within)
 
-tested-requires : tie.Need-tested-requires Inv-loop μ-loop
-tested-requires c κs = search needs
-
-put-line-requires-3 : tie.Need-put-line-requires-3 Inv-loop μ-loop
-put-line-requires-3 c κs = search needs
-
 add-number : tie.Need-add-number Inv-loop μ-loop
 add-number c =
     let loop = c .before .before .before .before .before .before .before .before .before .before in
@@ -149,31 +116,7 @@ loop-again c =
 pub list-records-spec : {M : Type 1} → statement M
 list-records-spec =
     tie.close
-    (tie.spec
-    Inv-loop
-    μ-loop
-    loop-holds
-    add-letters
-    next-at-requires
-    enum-told
-    same-length
-    returns
-    enum-told-2
-    fault-requires
-    put-line-requires
-    same-length-2
-    returns-2
-    enum-told-3
-    fault-requires-2
-    put-line-requires-2
-    same-length-3
-    returns-3
-    enum-known-found
-    sub-tested
-    part-tested-start
-    part-tested-end
-    tested-requires
-    put-line-requires-3
-    add-number
-    loop-less
-    loop-again)
+    (tie.spec Inv-loop μ-loop loop-holds add-letters (λ c κs. search needs) (λ c. search needs) same-length returns (λ c. search needs)
+    (λ c κs. search needs) (λ c κs. search needs) same-length-2 returns-2 (λ c. search needs) (λ c κs. search needs)
+    (λ c κs. search needs) same-length-3 returns-3 (λ c. search needs) sub-tested part-tested-start part-tested-end (λ c κs. search needs)
+    (λ c κs. search needs) add-number loop-less loop-again)

@@ -7,21 +7,6 @@ use borrow.Author.Needs.{needs}
 use Rattle.fitting_listing.proofs.tested.Statement.{statement}
 use Rattle.fitting_listing.proofs.tested.Tie as tie
 
-slice-aggregate-test : tie.Need-slice-aggregate-test
-slice-aggregate-test c = search needs
-
-test-requires : tie.Need-test-requires
-test-requires c κs = search needs
-
-of-verdict-requires : tie.Need-of-verdict-requires
-of-verdict-requires c κs = search needs
-
-cast-t13 : tie.Need-cast-t13
-cast-t13 c = search needs
-
-cast-t14 : tie.Need-cast-t14
-cast-t14 c = search needs
-
 returns : tie.Need-returns
 unfolding testedLine
 returns c =
@@ -33,4 +18,4 @@ returns c =
 pub tested-spec : {M : Type 1} → statement M
 tested-spec =
     tie.close
-    (tie.spec slice-aggregate-test test-requires of-verdict-requires cast-t13 cast-t14 returns)
+    (tie.spec (λ c. search needs) (λ c κs. search needs) (λ c κs. search needs) (λ c. search needs) (λ c. search needs) returns)

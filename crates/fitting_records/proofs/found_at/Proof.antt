@@ -13,17 +13,11 @@ use Rattle.fitting_records.proofs.found_at.Tie as tie
 returns : tie.Need-returns
 returns c = sym (found-end _ _ (c .if1 .taken))
 
-is-marked-requires : tie.Need-is-marked-requires
-is-marked-requires c κs = search needs
-
 returns-2 : tie.Need-returns-2
 returns-2 c =
     let a = c .before .before .before .before .args in
     let some : 0 < length (drop (a .at) (a .file .now)) = simp length-drop (omega (arith, c .before .before .if1 .left)) in
     sym (found-unmarked _ some (sym (c .before .is-marked .ensures) ∙ not-true _ (c .if2 .taken)))
-
-add-after-mark : tie.Need-add-after-mark
-add-after-mark c = search needs
 
 after-mark-requires : tie.Need-after-mark-requires
 after-mark-requires c κs =
@@ -41,4 +35,4 @@ returns-3 c =
 pub found-at-spec : {M : Type 1} → statement M
 found-at-spec =
     tie.close
-    (tie.spec returns is-marked-requires returns-2 add-after-mark after-mark-requires returns-3)
+    (tie.spec returns (λ c κs. search needs) returns-2 (λ c. search needs) after-mark-requires returns-3)

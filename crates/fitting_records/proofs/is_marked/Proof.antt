@@ -9,20 +9,8 @@ use borrow.Author.Needs.{needs}
 use Rattle.fitting_records.proofs.is_marked.Statement.{statement}
 use Rattle.fitting_records.proofs.is_marked.Tie as tie
 
-sub-if1 : tie.Need-sub-if1
-sub-if1 c = search needs
-
 returns : tie.Need-returns
 returns c = sym (marked-short _ (simp length-drop (omega arith)))
-
-shared-slice-read-first : tie.Need-shared-slice-read-first
-shared-slice-read-first c = search needs
-
-add-second : tie.Need-add-second
-add-second c = search needs
-
-shared-slice-read-second : tie.Need-shared-slice-read-second
-shared-slice-read-second c = search needs
 
 returns-2 : tie.Need-returns-2
 returns-2 c =
@@ -39,11 +27,4 @@ returns-3 c =
 pub is-marked-spec : {M : Type 1} → statement M
 is-marked-spec =
     tie.close
-    (tie.spec
-    sub-if1
-    returns
-    shared-slice-read-first
-    add-second
-    shared-slice-read-second
-    returns-2
-    returns-3)
+    (tie.spec (λ c. search needs) returns (λ c. search needs) (λ c. search needs) (λ c. search needs) returns-2 returns-3)

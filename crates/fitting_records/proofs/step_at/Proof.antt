@@ -20,12 +20,6 @@ no-width WrongMark h = refl
 no-width Truncated h = refl
 no-width (Record c r m) h = absurd (miss (0 ∷ 1 ∷ 2 ∷ []) 3 tt h)
 
-found-at-requires : tie.Need-found-at-requires
-found-at-requires c κs = search needs
-
-enum-known-found : tie.Need-enum-known-found
-enum-known-found c = search needs
-
 add-letters : tie.Need-add-letters
 add-letters c =
     let call = c .before .before .before in
@@ -48,4 +42,4 @@ returns-2 c = step-stays _ _ _ (c .before .found-at .ensures) (no-width _ (c .ma
 
 pub step-at-spec : {M : Type 1} → statement M
 step-at-spec =
-    tie.close (tie.spec found-at-requires enum-known-found add-letters add-t6 returns returns-2)
+    tie.close (tie.spec (λ c κs. search needs) (λ c. search needs) add-letters add-t6 returns returns-2)

@@ -5,9 +5,6 @@ use borrow.Author.Needs.{needs}
 use Rattle.holder.proofs.kept.Statement.{statement}
 use Rattle.holder.proofs.kept.Tie as tie
 
-bad-place-requires : tie.Need-bad-place-requires
-bad-place-requires c κs = search needs
-
 returns : tie.Need-returns
 unfolding keptPlace
 returns c = rw (sym (c .before .bad-place .ensures) ∙ c .if1 .taken)
@@ -17,4 +14,4 @@ unfolding keptPlace
 returns-2 c = rw (sym (c .before .bad-place .ensures) ∙ c .if1 .left)
 
 pub kept-spec : {M : Type 1} → statement M
-kept-spec = tie.close (tie.spec bad-place-requires returns returns-2)
+kept-spec = tie.close (tie.spec (λ c κs. search needs) returns returns-2)

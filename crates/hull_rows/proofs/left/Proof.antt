@@ -19,9 +19,6 @@ abbrev μ-loop : tie.MeasureT-loop
 tangents-requires : tie.Need-tangents-requires Inv-loop μ-loop
 tangents-requires c κs = omega (arith, c .before .pre)
 
-add-r : tie.Need-add-r Inv-loop μ-loop
-add-r c = omega arith
-
 loop-holds : tie.Need-loop-holds Inv-loop μ-loop
 loop-holds c =
     let args = c .before .before .args in
@@ -94,26 +91,8 @@ mul-wide c = omega (arith, found c .high, c .before .before .before .loop .inv .
 array-read-wide : tie.Need-array-read-wide Inv-loop μ-loop
 array-read-wide c = omega (arith, found c .high, c .before .before .before .loop .inv .0)
 
-wide-requires : tie.Need-wide-requires Inv-loop μ-loop
-wide-requires c κs = omega arith
-
 crossing-requires : tie.Need-crossing-requires Inv-loop μ-loop
 crossing-requires c κs = omega (arith, read (c .before) .ends, c .before .before .before .before .before .loop .inv .0)
-
-cast-lo : tie.Need-cast-lo Inv-loop μ-loop
-cast-lo c = omega arith
-
-mul-lo : tie.Need-mul-lo Inv-loop μ-loop
-mul-lo c = omega arith
-
-element-write-lo : tie.Need-element-write-lo Inv-loop μ-loop
-element-write-lo c = omega arith
-
-add-r-2 : tie.Need-add-r-2 Inv-loop μ-loop
-add-r-2 c = omega arith
-
-loop-less : tie.Need-loop-less Inv-loop μ-loop
-loop-less c = omega arith
 
 loop-again : tie.Need-loop-again Inv-loop μ-loop
 loop-again c =
@@ -133,21 +112,6 @@ returns c = record { ends = λ r h l. c .before .loop .inv .1 .passed r h (omega
 pub left-spec : {M : Type 1} → statement M
 left-spec =
     tie.close
-    (tie.spec
-    Inv-loop
-    μ-loop
-    tangents-requires
-    add-r
-    loop-holds
-    edge-start-requires
-    mul-wide
-    array-read-wide
-    wide-requires
-    crossing-requires
-    cast-lo
-    mul-lo
-    element-write-lo
-    add-r-2
-    loop-less
-    loop-again
-    returns)
+    (tie.spec Inv-loop μ-loop tangents-requires (λ c. omega arith) loop-holds edge-start-requires mul-wide array-read-wide
+    (λ c κs. omega arith) crossing-requires (λ c. omega arith) (λ c. omega arith) (λ c. omega arith) (λ c. omega arith) (λ c. omega arith)
+    loop-again returns)

@@ -4,24 +4,6 @@ use Rattle.judge.proofs.PieceLaws.{dent-named}
 use Rattle.judge.proofs.dent.Statement.{statement}
 use Rattle.judge.proofs.dent.Tie as tie
 
-sent-requires : tie.Need-sent-requires
-sent-requires c κs = search needs
-
-add-t7 : tie.Need-add-t7
-add-t7 c = search needs
-
-cast-t8 : tie.Need-cast-t8
-cast-t8 c = search needs
-
-cast-t9 : tie.Need-cast-t9
-cast-t9 c = search needs
-
-cast-t10 : tie.Need-cast-t10
-cast-t10 c = search needs
-
-missing-cell-requires : tie.Need-missing-cell-requires
-missing-cell-requires c κs = search needs
-
 returns : tie.Need-returns
 returns c =
     let start = c .before .before .before in
@@ -29,4 +11,4 @@ returns c =
 
 pub dent-spec : {M : Type 1} → statement M
 dent-spec =
-    tie.close (tie.spec sent-requires add-t7 cast-t8 cast-t9 cast-t10 missing-cell-requires returns)
+    tie.close (tie.spec (λ c κs. search needs) (λ c. search needs) (λ c. search needs) (λ c. search needs) (λ c. search needs) (λ c κs. search needs) returns)

@@ -9,20 +9,11 @@ use Rattle.judge.proofs.PieceLaws.{short, dent-outcome, count-le, edges
 use Rattle.judge.proofs.edges.Statement.{statement}
 use Rattle.judge.proofs.edges.Tie as tie
 
-slice-aggregate-read : tie.Need-slice-aggregate-read
-slice-aggregate-read c = search needs
-
-read-requires : tie.Need-read-requires
-read-requires c κs = search needs
-
 -- What the four pieces are read as
 module _ {f : Factored} (c : tie.After-read) (e : c .read .result ≡ f) where
   factored : FactorsRead (c .before .before .before .args .letters .now) (c .before .before .before .args .round .cuts .at) zeros
       (c .read .last .1 .1 .0) f
   factored = subst (FactorsRead _ _ _ _) e (c .read .ensures)
-
-enum-known-factored : tie.Need-enum-known-factored
-enum-known-factored c = search needs
 
 dent-requires : tie.Need-dent-requires
 dent-requires c κs =
@@ -31,12 +22,6 @@ dent-requires c κs =
     let d = factored read (c .before .factored .given .1) in
     let small = short (start .pre .0) in
     (start .pre .0, (d .piece-lt, omega (arith, d .at-le), omega (arith, d .size-le)))
-
-enum-known-factored-2 : tie.Need-enum-known-factored-2
-enum-known-factored-2 c = search needs
-
-slice-aggregate-write-edges : tie.Need-slice-aggregate-write-edges
-slice-aggregate-write-edges c = search needs
 
 mul-write-edges : tie.Need-mul-write-edges
 mul-write-edges c =
@@ -66,9 +51,6 @@ returns c =
     let start = read .before .before .before in
     dent-outcome (start .pre .0) (start .pre .1) _ (factored read (c .before .before .factored .given .1)) (c .dent .ensures) _
 
-same-length : tie.Need-same-length
-same-length c = search needs
-
 returns-2 : tie.Need-returns-2
 returns-2 c =
     let read = c .before .before .before .before .before .before .before .before .before in
@@ -79,16 +61,5 @@ returns-2 c =
 pub edges-spec : {M : Type 1} → statement M
 edges-spec =
     tie.close
-    (tie.spec
-    slice-aggregate-read
-    read-requires
-    enum-known-factored
-    dent-requires
-    enum-known-factored-2
-    slice-aggregate-write-edges
-    mul-write-edges
-    write-edges-requires
-    cast-t21
-    returns
-    same-length
-    returns-2)
+    (tie.spec (λ c. search needs) (λ c κs. search needs) (λ c. search needs) dent-requires (λ c. search needs) (λ c. search needs)
+    mul-write-edges write-edges-requires cast-t21 returns (λ c. search needs) returns-2)

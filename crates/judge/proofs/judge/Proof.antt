@@ -6,15 +6,6 @@ use Rattle.judge.proofs.JudgedLaws.{stopped-outcome, passed-outcome, ou
 use Rattle.judge.proofs.judge.Statement.{statement}
 use Rattle.judge.proofs.judge.Tie as tie
 
-survey-requires : tie.Need-survey-requires
-survey-requires c κs = search needs
-
-enum-known-surveyed : tie.Need-enum-known-surveyed
-enum-known-surveyed c = search needs
-
-enum-known-surveyed-2 : tie.Need-enum-known-surveyed-2
-enum-known-surveyed-2 c = search needs
-
 read-requires : tie.Need-read-requires
 read-requires c κs =
     let told = c .before .before in
@@ -26,9 +17,6 @@ returns c =
     let s = stopped-outcome _ (sym (c .before .before .before .survey .ensures) ∙ c .before .surveyed .given .1) _ in
     (s .verdict, outcome-edges _ s)
 
-same-length : tie.Need-same-length
-same-length c = search needs
-
 returns-2 : tie.Need-returns-2
 returns-2 c =
     let told = c .before .before .before .before in
@@ -38,11 +26,4 @@ returns-2 c =
 pub judge-spec : {M : Type 1} → statement M
 judge-spec =
     tie.close
-    (tie.spec
-    survey-requires
-    enum-known-surveyed
-    enum-known-surveyed-2
-    read-requires
-    returns
-    same-length
-    returns-2)
+    (tie.spec (λ c κs. search needs) (λ c. search needs) (λ c. search needs) read-requires returns (λ c. search needs) returns-2)

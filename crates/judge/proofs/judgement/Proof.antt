@@ -4,14 +4,8 @@ use Rattle.judge.proofs.JudgedLaws.{judged-of}
 use Rattle.judge.proofs.judgement.Statement.{statement}
 use Rattle.judge.proofs.judgement.Tie as tie
 
-slice-aggregate-judge : tie.Need-slice-aggregate-judge
-slice-aggregate-judge c = search needs
-
-judge-requires : tie.Need-judge-requires
-judge-requires c κs = search needs
-
 returns : tie.Need-returns
 returns c = judged-of _ (c .before .judge .ensures .0) (c .before .judge .ensures .1)
 
 pub judgement-spec : {M : Type 1} → statement M
-judgement-spec = tie.close (tie.spec slice-aggregate-judge judge-requires returns)
+judgement-spec = tie.close (tie.spec (λ c. search needs) (λ c κs. search needs) returns)

@@ -17,23 +17,11 @@ module _ {b : BackStep} (c : tie.After-first) (e : c .first .result ≡ b) where
   found : Found (rounds (c .before .before .args .letters .now)) (c .before .before .args .round .cuts .at) b
   found = subst (Found _ _) e (c .first .ensures)
 
-enum-known-found : tie.Need-enum-known-found
-enum-known-found c = search needs
-
-sent-requires : tie.Need-sent-requires
-sent-requires c κs = search needs
-
 add-t9 : tie.Need-add-t9
 add-t9 c = omega (arith, found (c .before .before .before .before) (c .before .before .found .given .1) .piece-lt)
 
 cast-t10 : tie.Need-cast-t10
 cast-t10 c = omega (arith, found (c .before .before .before .before) (c .before .before .found .given .1) .piece-lt)
-
-cast-t11 : tie.Need-cast-t11
-cast-t11 c = search needs
-
-enum-told : tie.Need-enum-told
-enum-told c = search needs
 
 edges-requires : tie.Need-edges-requires
 edges-requires c κs =
@@ -45,24 +33,8 @@ returns c =
     let first = c .before .before .before .before in
     step-outcome (first .before .before .pre) (found first (c .before .before .found .given .1)) (c .sent .ensures) _
 
-same-length : tie.Need-same-length
-same-length c = search needs
-
-returns-2 : tie.Need-returns-2
-returns-2 c = search needs
-
 pub pieces-spec : {M : Type 1} → statement M
 pieces-spec =
     tie.close
-    (tie.spec
-    first-requires
-    enum-known-found
-    sent-requires
-    add-t9
-    cast-t10
-    cast-t11
-    enum-told
-    edges-requires
-    returns
-    same-length
-    returns-2)
+    (tie.spec first-requires (λ c. search needs) (λ c κs. search needs) add-t9 cast-t10 (λ c. search needs) (λ c. search needs)
+    edges-requires returns (λ c. search needs) (λ c. search needs))

@@ -9,18 +9,6 @@ use Rattle.judge.proofs.JudgedLaws.{Copied, letters-fit, copied-ready, 
 use Rattle.judge.proofs.read.Statement.{statement}
 use Rattle.judge.proofs.read.Tie as tie
 
-cut-places-requires : tie.Need-cut-places-requires
-cut-places-requires c κs = search needs
-
-read-place-requires : tie.Need-read-place-requires
-read-place-requires c κs = search needs
-
-slice-aggregate-fill-round : tie.Need-slice-aggregate-fill-round
-slice-aggregate-fill-round c = search needs
-
-fill-round-requires : tie.Need-fill-round-requires
-fill-round-requires c κs = search needs
-
 -- The letters from W on, clockwise, are in the buffer
 copied : (c : tie.After-fill-round)
     → let cuts = c .before .before .before .before in
@@ -50,22 +38,11 @@ slice-aggregate-pieces c = sym (length-take-le _ _ (letters-fit (copied (c .befo
 pieces-requires : tie.Need-pieces-requires
 pieces-requires c κs = copied-ready (copied (c .before .before .before))
 
-same-length : tie.Need-same-length
-same-length c = search needs
-
 returns : tie.Need-returns
 returns c = copied-outcome (copied (c .before .before .before .before .before)) (c .before .pieces .ensures)
 
 pub read-spec : {M : Type 1} → statement M
 read-spec =
     tie.close
-    (tie.spec
-    cut-places-requires
-    read-place-requires
-    slice-aggregate-fill-round
-    fill-round-requires
-    array-share-prefix-ring
-    slice-aggregate-pieces
-    pieces-requires
-    same-length
-    returns)
+    (tie.spec (λ c κs. search needs) (λ c κs. search needs) (λ c. search needs) (λ c κs. search needs) array-share-prefix-ring
+    slice-aggregate-pieces pieces-requires (λ c. search needs) returns)

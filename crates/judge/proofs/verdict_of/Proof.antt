@@ -7,18 +7,6 @@ use Rattle.judge.proofs.JudgedLaws.{stopped-outcome, passed-outcome}
 use Rattle.judge.proofs.verdict_of.Statement.{statement}
 use Rattle.judge.proofs.verdict_of.Tie as tie
 
-survey-requires : tie.Need-survey-requires
-survey-requires c κs = search needs
-
-enum-known-surveyed : tie.Need-enum-known-surveyed
-enum-known-surveyed c = search needs
-
-enum-known-surveyed-2 : tie.Need-enum-known-surveyed-2
-enum-known-surveyed-2 c = search needs
-
-slice-aggregate-read : tie.Need-slice-aggregate-read
-slice-aggregate-read c = search needs
-
 read-requires : tie.Need-read-requires
 read-requires c κs =
     let told = c .before .before in
@@ -36,11 +24,4 @@ returns-2 c =
 pub verdict-of-spec : {M : Type 1} → statement M
 verdict-of-spec =
     tie.close
-    (tie.spec
-    survey-requires
-    enum-known-surveyed
-    enum-known-surveyed-2
-    slice-aggregate-read
-    read-requires
-    returns
-    returns-2)
+    (tie.spec (λ c κs. search needs) (λ c. search needs) (λ c. search needs) (λ c. search needs) read-requires returns returns-2)

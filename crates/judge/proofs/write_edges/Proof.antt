@@ -5,12 +5,6 @@ use borrow.Author.Needs.{needs}
 use Rattle.judge.proofs.write_edges.Statement.{statement}
 use Rattle.judge.proofs.write_edges.Tie as tie
 
-copy-edges-requires : tie.Need-copy-edges-requires
-copy-edges-requires c κs = search needs
-
-same-length : tie.Need-same-length
-same-length c = search needs
-
 returns : tie.Need-returns
 returns c =
     record { room = λ h. c .before .copy-edges .ensures; none = λ h. absurd (omega (arith, c .before .before .before .if1 .taken)) }
@@ -19,4 +13,4 @@ returns-2 : tie.Need-returns-2
 returns-2 c = record { room = λ h. absurd (omega (arith, c .if1 .left)); none = λ h. refl }
 
 pub write-edges-spec : {M : Type 1} → statement M
-write-edges-spec = tie.close (tie.spec copy-edges-requires same-length returns returns-2)
+write-edges-spec = tie.close (tie.spec (λ c κs. search needs) (λ c. search needs) returns returns-2)

@@ -9,15 +9,6 @@ use Rattle.live.proofs.add_of.Tie as tie
 returns : tie.Need-returns
 returns c = λ r n. no-party _ _ (c .if1 .taken)
 
-add-requires : tie.Need-add-requires
-add-requires c κs = search needs
-
-same-length : tie.Need-same-length
-same-length c = search needs
-
-same-length-2 : tie.Need-same-length-2
-same-length-2 c = search needs
-
 returns-2 : tie.Need-returns-2
 returns-2 c =
     let added = c .before .before .before .before in
@@ -25,4 +16,4 @@ returns-2 c =
     λ r n. acts-answers _ _ _ _ _ refl (known .if1 .left) (add-acts _ _ _ _ r n _ (known .if1 .left) _ _ (added .add .ensures))
 
 pub add-of-spec : {M : Type 1} → statement M
-add-of-spec = tie.close (tie.spec returns add-requires same-length same-length-2 returns-2)
+add-of-spec = tie.close (tie.spec returns (λ c κs. search needs) (λ c. search needs) (λ c. search needs) returns-2)

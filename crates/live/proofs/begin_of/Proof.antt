@@ -9,16 +9,10 @@ use Rattle.live.proofs.begin_of.Tie as tie
 returns : tie.Need-returns
 returns c = λ l r n. no-party _ _ (c .if1 .taken)
 
-begin-requires : tie.Need-begin-requires
-begin-requires c κs = search needs
-
-same-length : tie.Need-same-length
-same-length c = search needs
-
 returns-2 : tie.Need-returns-2
 returns-2 c =
     λ l r n. acts-answers _ _ _ _ _ refl (c .before .before .before .before .if1 .left)
     (begin-acts l _ l _ r n _ (c .before .before .before .before .if1 .left) _ _ (c .before .before .begin .ensures l))
 
 pub begin-of-spec : {M : Type 1} → statement M
-begin-of-spec = tie.close (tie.spec returns begin-requires same-length returns-2)
+begin-of-spec = tie.close (tie.spec returns (λ c κs. search needs) (λ c. search needs) returns-2)

@@ -7,16 +7,10 @@ use Rattle.live.proofs.clear.Tie as tie
 returns : tie.Need-returns
 returns c = λ l r n. clear-no-place l r n _ _ (c .before .before .pre .0) _ (c .if1 .taken)
 
-remove-requires : tie.Need-remove-requires
-remove-requires c κs = search needs
-
-same-length : tie.Need-same-length
-same-length c = search needs
-
 returns-2 : tie.Need-returns-2
 returns-2 c =
     λ l r n. clear-done l r n _ _ (c .before .before .before .before .before .before .pre .0) _
     (c .before .before .before .before .if1 .left) _ (c .before .before .remove .ensures r n)
 
 pub clear-spec : {M : Type 1} → statement M
-clear-spec = tie.close (tie.spec returns remove-requires same-length returns-2)
+clear-spec = tie.close (tie.spec returns (λ c κs. search needs) (λ c. search needs) returns-2)

@@ -8,14 +8,8 @@ use Rattle.live.proofs.clear_of.Tie as tie
 returns : tie.Need-returns
 returns c = λ l r n. no-party _ _ (c .if1 .taken)
 
-clear-requires : tie.Need-clear-requires
-clear-requires c κs = search needs
-
-same-length : tie.Need-same-length
-same-length c = search needs
-
 returns-2 : tie.Need-returns-2
 returns-2 c = λ l r n. acts-answers _ _ _ _ _ refl (c .before .before .before .before .if1 .left) (c .before .before .clear .ensures l r n)
 
 pub clear-of-spec : {M : Type 1} → statement M
-clear-of-spec = tie.close (tie.spec returns clear-requires same-length returns-2)
+clear-of-spec = tie.close (tie.spec returns (λ c κs. search needs) (λ c. search needs) returns-2)

@@ -8,18 +8,6 @@ use Rattle.live.proofs.close_of.Tie as tie
 returns : tie.Need-returns
 returns c = no-party _ _ (c .if1 .taken)
 
-close-at-requires : tie.Need-close-at-requires
-close-at-requires c κs = search needs
-
-same-length : tie.Need-same-length
-same-length c = search needs
-
-same-length-2 : tie.Need-same-length-2
-same-length-2 c = search needs
-
-same-length-3 : tie.Need-same-length-3
-same-length-3 c = search needs
-
 returns-2 : tie.Need-returns-2
 returns-2 c =
     acts-answers _ _ _ _ _ refl (c .before .before .before .before .before .before .before .before .before .if1 .left)
@@ -28,4 +16,4 @@ returns-2 c =
 pub close-of-spec : {M : Type 1} → statement M
 close-of-spec =
     tie.close
-    (tie.spec returns close-at-requires same-length same-length-2 same-length-3 returns-2)
+    (tie.spec returns (λ c κs. search needs) (λ c. search needs) (λ c. search needs) (λ c. search needs) returns-2)

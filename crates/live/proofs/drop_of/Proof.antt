@@ -9,16 +9,10 @@ use Rattle.live.proofs.drop_of.Tie as tie
 returns : tie.Need-returns
 returns c = λ l r n. no-party _ _ (c .if1 .taken)
 
-drop-requires : tie.Need-drop-requires
-drop-requires c κs = search needs
-
-same-length : tie.Need-same-length
-same-length c = search needs
-
 returns-2 : tie.Need-returns-2
 returns-2 c =
     λ l r n. acts-answers _ _ _ _ _ refl (c .before .before .before .before .if1 .left)
     (drop-acts l _ l _ r n _ (c .before .before .before .before .if1 .left) _ (c .before .before .drop .ensures l))
 
 pub drop-of-spec : {M : Type 1} → statement M
-drop-of-spec = tie.close (tie.spec returns drop-requires same-length returns-2)
+drop-of-spec = tie.close (tie.spec returns (λ c κs. search needs) (λ c. search needs) returns-2)

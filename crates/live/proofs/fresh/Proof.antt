@@ -16,30 +16,6 @@ returns-3 c = unfit-fresh _ (λ f. c .if3 .taken (f .numbers))
 returns-4 : tie.Need-returns-4
 returns-4 c = unfit-fresh _ (λ f. c .if4 .taken (f .heads))
 
-zero-u8-requires : tie.Need-zero-u8-requires
-zero-u8-requires c κs = search needs
-
-zero-u8-requires-2 : tie.Need-zero-u8-requires-2
-zero-u8-requires-2 c κs = search needs
-
-zero-i16-requires : tie.Need-zero-i16-requires
-zero-i16-requires c κs = search needs
-
-zero-u16-requires : tie.Need-zero-u16-requires
-zero-u16-requires c κs = search needs
-
-same-length : tie.Need-same-length
-same-length c = search needs
-
-same-length-2 : tie.Need-same-length-2
-same-length-2 c = search needs
-
-same-length-3 : tie.Need-same-length-3
-same-length-3 c = search needs
-
-same-length-4 : tie.Need-same-length-4
-same-length-4 c = search needs
-
 returns-5 : tie.Need-returns-5
 returns-5 c =
     let heads = c .before .before in
@@ -54,17 +30,5 @@ returns-5 c =
 pub fresh-spec : {M : Type 1} → statement M
 fresh-spec =
     tie.close
-    (tie.spec
-    returns
-    returns-2
-    returns-3
-    returns-4
-    zero-u8-requires
-    zero-u8-requires-2
-    zero-i16-requires
-    zero-u16-requires
-    same-length
-    same-length-2
-    same-length-3
-    same-length-4
-    returns-5)
+    (tie.spec returns returns-2 returns-3 returns-4 (λ c κs. search needs) (λ c κs. search needs) (λ c κs. search needs)
+    (λ c κs. search needs) (λ c. search needs) (λ c. search needs) (λ c. search needs) (λ c. search needs) returns-5)

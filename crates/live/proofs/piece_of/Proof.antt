@@ -12,15 +12,6 @@ returns c = λ l r. no-party _ _ (c .if1 .taken)
 returns-2 : tie.Need-returns-2
 returns-2 c = λ l r. acts-answers _ _ _ _ _ refl (c .before .if1 .left) (ask-no-place l r _ _ _ (c .before .if1 .left) _ _ (c .if2 .taken))
 
-mul-piece : tie.Need-mul-piece
-mul-piece c = search needs
-
-add-piece : tie.Need-add-piece
-add-piece c = search needs
-
-piece-requires : tie.Need-piece-requires
-piece-requires c κs = search needs
-
 returns-3 : tie.Need-returns-3
 unfolding answered
 returns-3 c =
@@ -28,4 +19,4 @@ returns-3 c =
     (ask-done l r _ _ _ (c .before .before .if1 .left) _ _ (c .before .if2 .left) _ (c .piece .ensures r))
 
 pub piece-of-spec : {M : Type 1} → statement M
-piece-of-spec = tie.close (tie.spec returns returns-2 mul-piece add-piece piece-requires returns-3)
+piece-of-spec = tie.close (tie.spec returns returns-2 (λ c. search needs) (λ c. search needs) (λ c κs. search needs) returns-3)

@@ -12,15 +12,6 @@ returns c = λ l r. no-party _ _ (c .if1 .taken)
 returns-2 : tie.Need-returns-2
 returns-2 c = λ l r. acts-answers _ _ _ _ _ refl (c .before .if1 .left) (ask-no-place l r _ _ _ (c .before .if1 .left) _ _ (c .if2 .taken))
 
-mul-reading : tie.Need-mul-reading
-mul-reading c = search needs
-
-add-reading : tie.Need-add-reading
-add-reading c = search needs
-
-reading-requires : tie.Need-reading-requires
-reading-requires c κs = search needs
-
 returns-3 : tie.Need-returns-3
 unfolding answered
 returns-3 c =
@@ -29,4 +20,4 @@ returns-3 c =
 
 pub reading-of-spec : {M : Type 1} → statement M
 reading-of-spec =
-    tie.close (tie.spec returns returns-2 mul-reading add-reading reading-requires returns-3)
+    tie.close (tie.spec returns returns-2 (λ c. search needs) (λ c. search needs) (λ c κs. search needs) returns-3)

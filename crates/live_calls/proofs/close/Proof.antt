@@ -20,27 +20,6 @@ returns-4 c = unfit-made _ _ _ _ (λ f. c .if4 .taken (f .heads))
 returns-5 : tie.Need-returns-5
 returns-5 c = short-made _ _ _ _ (c .if5 .taken)
 
-close-of-requires : tie.Need-close-of-requires
-close-of-requires c κs = search needs
-
-of-reply-requires : tie.Need-of-reply-requires
-of-reply-requires c κs = search needs
-
-write-requires : tie.Need-write-requires
-write-requires c κs = search needs
-
-same-length : tie.Need-same-length
-same-length c = search needs
-
-same-length-2 : tie.Need-same-length-2
-same-length-2 c = search needs
-
-same-length-3 : tie.Need-same-length-3
-same-length-3 c = search needs
-
-same-length-4 : tie.Need-same-length-4
-same-length-4 c = search needs
-
 returns-6 : tie.Need-returns-6
 returns-6 c =
     let wrote = c .before .before in
@@ -72,17 +51,5 @@ returns-6 c =
 pub close-spec : {M : Type 1} → statement M
 close-spec =
     tie.close
-    (tie.spec
-    returns
-    returns-2
-    returns-3
-    returns-4
-    returns-5
-    close-of-requires
-    of-reply-requires
-    write-requires
-    same-length
-    same-length-2
-    same-length-3
-    same-length-4
-    returns-6)
+    (tie.spec returns returns-2 returns-3 returns-4 returns-5 (λ c κs. search needs) (λ c κs. search needs) (λ c κs. search needs)
+    (λ c. search needs) (λ c. search needs) (λ c. search needs) (λ c. search needs) returns-6)

@@ -14,27 +14,6 @@ returns-2 c = (λ l r. unfit-made _ _ _ _ (λ f. c .if2 .taken (f .1)), λ l r. 
 returns-3 : tie.Need-returns-3
 returns-3 c = (λ l r. short-made _ _ _ _ (c .if3 .taken), λ l r. undrawn-point _ _ _)
 
-piece-of-requires : tie.Need-piece-of-requires
-piece-of-requires c κs = search needs
-
-piece-in-requires : tie.Need-piece-in-requires
-piece-in-requires c κs = search needs
-
-write-point-requires : tie.Need-write-point-requires
-write-point-requires c κs = search needs
-
-of-reply-requires : tie.Need-of-reply-requires
-of-reply-requires c κs = search needs
-
-write-requires : tie.Need-write-requires
-write-requires c κs = search needs
-
-same-length : tie.Need-same-length
-same-length c = search needs
-
-same-length-2 : tie.Need-same-length-2
-same-length-2 c = search needs
-
 returns-4 : tie.Need-returns-4
 returns-4 c =
     let wrote = c .before .before in
@@ -56,15 +35,5 @@ returns-4 c =
 pub piece-spec : {M : Type 1} → statement M
 piece-spec =
     tie.close
-    (tie.spec
-    returns
-    returns-2
-    returns-3
-    piece-of-requires
-    piece-in-requires
-    write-point-requires
-    of-reply-requires
-    write-requires
-    same-length
-    same-length-2
-    returns-4)
+    (tie.spec returns returns-2 returns-3 (λ c κs. search needs) (λ c κs. search needs) (λ c κs. search needs) (λ c κs. search needs)
+    (λ c κs. search needs) (λ c. search needs) (λ c. search needs) returns-4)

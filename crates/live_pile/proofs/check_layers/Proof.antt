@@ -5,30 +5,12 @@ use Rattle.live_pile.proofs.CallLaws.{column-checks, row-checks, passin
 use Rattle.live_pile.proofs.check_layers.Statement.{statement}
 use Rattle.live_pile.proofs.check_layers.Tie as tie
 
-dented-column-requires : tie.Need-dented-column-requires
-dented-column-requires c κs = search needs
-
-slice-write-state : tie.Need-slice-write-state
-slice-write-state c = search needs
-
-same-length : tie.Need-same-length
-same-length c = search needs
-
 returns : tie.Need-returns
 returns c =
     let columns = c .before in
     let start = columns .before .before .before in
     let one = start .pre .state in
     column-checks (start .args .rows .now) (start .args .state .now) one _ (columns .dented-column .ensures) (c .if1 .taken)
-
-dented-row-requires : tie.Need-dented-row-requires
-dented-row-requires c κs = search needs
-
-slice-write-state-2 : tie.Need-slice-write-state-2
-slice-write-state-2 c = search needs
-
-same-length-2 : tie.Need-same-length-2
-same-length-2 c = search needs
 
 returns-2 : tie.Need-returns-2
 returns-2 c =
@@ -41,12 +23,6 @@ returns-2 c =
     _
     (c .before .dented-row .ensures)
     (c .if2 .taken)
-
-slice-write-state-3 : tie.Need-slice-write-state-3
-slice-write-state-3 c = search needs
-
-same-length-3 : tie.Need-same-length-3
-same-length-3 c = search needs
 
 returns-3 : tie.Need-returns-3
 returns-3 c =
@@ -63,15 +39,5 @@ returns-3 c =
 pub check-layers-spec : {M : Type 1} → statement M
 check-layers-spec =
     tie.close
-    (tie.spec
-    dented-column-requires
-    slice-write-state
-    same-length
-    returns
-    dented-row-requires
-    slice-write-state-2
-    same-length-2
-    returns-2
-    slice-write-state-3
-    same-length-3
-    returns-3)
+    (tie.spec (λ c κs. search needs) (λ c. search needs) (λ c. search needs) returns (λ c κs. search needs) (λ c. search needs)
+    (λ c. search needs) returns-2 (λ c. search needs) (λ c. search needs) returns-3)

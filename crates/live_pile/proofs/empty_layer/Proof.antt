@@ -11,18 +11,6 @@ use Rattle.live_pile.proofs.empty_layer.Tie as tie
 returns : tie.Need-returns
 returns c = empty-acts _ _ _ _ refl _ (empty-high _ _ (c .if1 .taken))
 
-put-none-requires : tie.Need-put-none-requires
-put-none-requires c κs = search needs
-
-slice-write-state : tie.Need-slice-write-state
-slice-write-state c = search needs
-
-same-length : tie.Need-same-length
-same-length c = search needs
-
-same-length-2 : tie.Need-same-length-2
-same-length-2 c = search needs
-
 returns-2 : tie.Need-returns-2
 returns-2 c =
     let start = c .before .before .before .before .before .before .before in
@@ -35,4 +23,4 @@ returns-2 c =
 pub empty-layer-spec : {M : Type 1} → statement M
 empty-layer-spec =
     tie.close
-    (tie.spec returns put-none-requires slice-write-state same-length same-length-2 returns-2)
+    (tie.spec returns (λ c κs. search needs) (λ c. search needs) (λ c. search needs) (λ c. search needs) returns-2)

@@ -10,18 +10,6 @@ returns c = unfit-fresh _ (λ f. c .if1 .taken (f .rows))
 returns-2 : tie.Need-returns-2
 returns-2 c = unfit-fresh _ (λ f. c .if2 .taken (f .state))
 
-zero-u8-requires : tie.Need-zero-u8-requires
-zero-u8-requires c κs = search needs
-
-zero-u8-requires-2 : tie.Need-zero-u8-requires-2
-zero-u8-requires-2 c κs = search needs
-
-same-length : tie.Need-same-length
-same-length c = search needs
-
-same-length-2 : tie.Need-same-length-2
-same-length-2 c = search needs
-
 returns-3 : tie.Need-returns-3
 returns-3 c =
     let state = c .before .before in
@@ -32,11 +20,4 @@ returns-3 c =
 pub fresh-spec : {M : Type 1} → statement M
 fresh-spec =
     tie.close
-    (tie.spec
-    returns
-    returns-2
-    zero-u8-requires
-    zero-u8-requires-2
-    same-length
-    same-length-2
-    returns-3)
+    (tie.spec returns returns-2 (λ c κs. search needs) (λ c κs. search needs) (λ c. search needs) (λ c. search needs) returns-3)

@@ -11,14 +11,8 @@ use Rattle.live_pile.proofs.query_layer.Tie as tie
 returns : tie.Need-returns
 returns c = query-acts _ _ _ _ (query-high _ _ _ (c .if1 .taken))
 
-shared-slice-read-if2 : tie.Need-shared-slice-read-if2
-shared-slice-read-if2 c = search needs
-
 returns-2 : tie.Need-returns-2
 returns-2 c = query-acts _ _ _ _ (query-unpassed _ _ _ (c .before .before .if1 .left) (state-none _ _ (c .if2 .taken)))
-
-bad-cell-requires : tie.Need-bad-cell-requires
-bad-cell-requires c κs = search needs
 
 returns-3 : tie.Need-returns-3
 returns-3 c =
@@ -56,12 +50,4 @@ returns-5 c =
 pub query-layer-spec : {M : Type 1} → statement M
 query-layer-spec =
     tie.close
-    (tie.spec
-    returns
-    shared-slice-read-if2
-    returns-2
-    bad-cell-requires
-    returns-3
-    within-requires
-    returns-4
-    returns-5)
+    (tie.spec returns (λ c. search needs) returns-2 (λ c κs. search needs) returns-3 within-requires returns-4 returns-5)

@@ -11,32 +11,11 @@ use Rattle.live_pile.proofs.set_layer.Tie as tie
 returns : tie.Need-returns
 returns c = set-acts _ _ _ _ refl _ _ (set-high _ _ _ (c .if1 .taken))
 
-verdict-of-requires : tie.Need-verdict-of-requires
-verdict-of-requires c κs = search needs
-
-enum-known-verdict : tie.Need-enum-known-verdict
-enum-known-verdict c = search needs
-
-enum-known-verdict-2 : tie.Need-enum-known-verdict-2
-enum-known-verdict-2 c = search needs
-
-put-outline-requires : tie.Need-put-outline-requires
-put-outline-requires c κs = search needs
-
-slice-write-state : tie.Need-slice-write-state
-slice-write-state c = search needs
-
 returns-2 : tie.Need-returns-2
 returns-2 c =
     let judged = c .before .before .before in
     let low = judged .before .if1 .left in
     set-acts _ _ _ _ refl _ _ (set-refused _ _ _ low (judged .verdict-of .ensures) _ (c .before .verdict .given .1))
-
-same-length : tie.Need-same-length
-same-length c = search needs
-
-same-length-2 : tie.Need-same-length-2
-same-length-2 c = search needs
 
 returns-3 : tie.Need-returns-3
 returns-3 c =
@@ -53,14 +32,5 @@ returns-3 c =
 pub set-layer-spec : {M : Type 1} → statement M
 set-layer-spec =
     tie.close
-    (tie.spec
-    returns
-    verdict-of-requires
-    enum-known-verdict
-    enum-known-verdict-2
-    put-outline-requires
-    slice-write-state
-    returns-2
-    same-length
-    same-length-2
-    returns-3)
+    (tie.spec returns (λ c κs. search needs) (λ c. search needs) (λ c. search needs) (λ c κs. search needs) (λ c. search needs) returns-2
+    (λ c. search needs) (λ c. search needs) returns-3)

@@ -16,45 +16,18 @@ Inv-loop begins ends col from to k₀ end k = (k ≤ side) × (first (λ i. inRo
 abbrev μ-loop : tie.MeasureT-loop
 μ-loop begins ends col from to k₀ end k = end - k
 
-sub-k : tie.Need-sub-k Inv-loop μ-loop
-sub-k c = omega arith
-
-sub-end : tie.Need-sub-end Inv-loop μ-loop
-sub-end c = omega arith
-
 loop-holds : tie.Need-loop-holds Inv-loop μ-loop
 loop-holds c =
     let a = c .before .before .args in
     (omega arith, back-start (a .first .now) (a .past .now) (a .col) (a .to) (omega arith) (c .before .before .pre .3))
 
-sub-holds : tie.Need-sub-holds Inv-loop μ-loop
-sub-holds c = omega arith
-
-sub-holds-2 : tie.Need-sub-holds-2 Inv-loop μ-loop
-sub-holds-2 c = omega arith
-
-cast-holds : tie.Need-cast-holds Inv-loop μ-loop
-cast-holds c = omega arith
-
 holds-requires : tie.Need-holds-requires Inv-loop μ-loop
 holds-requires c κs = (omega arith, c .before .before .before .before .pre .0, c .before .before .before .before .pre .1)
-
-sub-result : tie.Need-sub-result Inv-loop μ-loop
-sub-result c = omega arith
-
-cast-result : tie.Need-cast-result Inv-loop μ-loop
-cast-result c = omega arith
 
 returns : tie.Need-returns Inv-loop μ-loop
 returns c =
     let at = c .before .before .before .loop in
     ap (λ k. side - k) (sym (first-stop _ side (at .k) (at .inv .1) (sym (c .before .holds .ensures) ∙ c .if1 .taken) (omega arith)))
-
-add-k : tie.Need-add-k Inv-loop μ-loop
-add-k c = omega arith
-
-loop-less : tie.Need-loop-less Inv-loop μ-loop
-loop-less c = omega arith
 
 loop-again : tie.Need-loop-again Inv-loop μ-loop
 loop-again c =
@@ -72,20 +45,5 @@ returns-2 c =
 pub after-highest-spec : {M : Type 1} → statement M
 after-highest-spec =
     tie.close
-    (tie.spec
-    Inv-loop
-    μ-loop
-    sub-k
-    sub-end
-    loop-holds
-    sub-holds
-    sub-holds-2
-    cast-holds
-    holds-requires
-    sub-result
-    cast-result
-    returns
-    add-k
-    loop-less
-    loop-again
-    returns-2)
+    (tie.spec Inv-loop μ-loop (λ c. omega arith) (λ c. omega arith) loop-holds (λ c. omega arith) (λ c. omega arith) (λ c. omega arith)
+    holds-requires (λ c. omega arith) (λ c. omega arith) returns (λ c. omega arith) (λ c. omega arith) loop-again returns-2)

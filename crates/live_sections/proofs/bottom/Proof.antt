@@ -22,19 +22,10 @@ loop-holds c = (omega arith, refl)
 has-cell-requires : tie.Need-has-cell-requires Inv-loop μ-loop
 has-cell-requires c κs = (omega arith, c .before .before .before .before .pre .0, c .before .before .before .before .pre .1)
 
-cast-result : tie.Need-cast-result Inv-loop μ-loop
-cast-result c = omega arith
-
 returns : tie.Need-returns Inv-loop μ-loop
 returns c =
     let at = c .before .before .before .loop in
     sym (first-stop _ side (at .r) (at .inv .1) (sym (c .before .has-cell .ensures) ∙ c .if1 .taken) (omega arith))
-
-add-r : tie.Need-add-r Inv-loop μ-loop
-add-r c = omega arith
-
-loop-less : tie.Need-loop-less Inv-loop μ-loop
-loop-less c = omega arith
 
 loop-again : tie.Need-loop-again Inv-loop μ-loop
 loop-again c =
@@ -50,14 +41,5 @@ returns-2 c =
 pub bottom-spec : {M : Type 1} → statement M
 bottom-spec =
     tie.close
-    (tie.spec
-    Inv-loop
-    μ-loop
-    loop-holds
-    has-cell-requires
-    cast-result
-    returns
-    add-r
-    loop-less
-    loop-again
+    (tie.spec Inv-loop μ-loop loop-holds has-cell-requires (λ c. omega arith) returns (λ c. omega arith) (λ c. omega arith) loop-again
     returns-2)

@@ -12,11 +12,8 @@ same-requires c κs = (c .pre .1, c .pre .2)
 returns : tie.Need-returns
 returns c = sym (ap clearOf (c .before .same .ensures (c .if1 .taken)) ∙ c .before .before .pre .0)
 
-is-clear-requires : tie.Need-is-clear-requires
-is-clear-requires c κs = search needs
-
 returns-2 : tie.Need-returns-2
 returns-2 c = clear-is _ _ (c .is-clear .ensures)
 
 pub clear-after-spec : {M : Type 1} → statement M
-clear-after-spec = tie.close (tie.spec same-requires returns is-clear-requires returns-2)
+clear-after-spec = tie.close (tie.spec same-requires returns (λ c κs. search needs) returns-2)

@@ -22,23 +22,11 @@ abbrev μ-loop : tie.MeasureT-loop
 loop-holds : tie.Need-loop-holds Inv-loop μ-loop
 loop-holds c = filling-start _ _
 
-mul-at : tie.Need-mul-at Inv-loop μ-loop
-mul-at c = search needs
-
 part-requires : tie.Need-part-requires Inv-loop μ-loop
 part-requires c κs = (search needs, search needs)
 
-add-part : tie.Need-add-part Inv-loop μ-loop
-add-part c = search needs
-
 part-requires-2 : tie.Need-part-requires-2 Inv-loop μ-loop
 part-requires-2 c κs = (search needs, search needs)
-
-array-read-to : tie.Need-array-read-to Inv-loop μ-loop
-array-read-to c = search needs
-
-array-read-lowest : tie.Need-array-read-lowest Inv-loop μ-loop
-array-read-lowest c = search needs
 
 lowest-requires : tie.Need-lowest-requires Inv-loop μ-loop
 lowest-requires c κs =
@@ -55,9 +43,6 @@ lowest-requires c κs =
       to-none rows (at .l) in-range _ _ begins ends (start .args .reach) (start .pre .1) (start .args .col),
     )
 
-array-write-lo : tie.Need-array-write-lo Inv-loop μ-loop
-array-write-lo c = omega arith
-
 after-highest-requires : tie.Need-after-highest-requires Inv-loop μ-loop
 after-highest-requires c κs =
     let parts = c .before in
@@ -73,15 +58,6 @@ after-highest-requires c κs =
       low-none _ _ (start .args .col) _ (c .lowest .ensures),
       to-none rows (at .l) in-range _ _ begins ends (start .args .reach) (start .pre .1) (start .args .col),
     )
-
-array-write-past : tie.Need-array-write-past Inv-loop μ-loop
-array-write-past c = omega arith
-
-add-l : tie.Need-add-l Inv-loop μ-loop
-add-l c = omega arith
-
-loop-less : tie.Need-loop-less Inv-loop μ-loop
-loop-less c = omega arith
 
 loop-again : tie.Need-loop-again Inv-loop μ-loop
 loop-again c =
@@ -104,21 +80,6 @@ returns c = filling-end _ _ (c .before .loop .inv) (c .loop-test .left)
 pub column-spec : {M : Type 1} → statement M
 column-spec =
     tie.close
-    (tie.spec
-    Inv-loop
-    μ-loop
-    loop-holds
-    mul-at
-    part-requires
-    add-part
-    part-requires-2
-    array-read-to
-    array-read-lowest
-    lowest-requires
-    array-write-lo
-    after-highest-requires
-    array-write-past
-    add-l
-    loop-less
-    loop-again
-    returns)
+    (tie.spec Inv-loop μ-loop loop-holds (λ c. search needs) part-requires (λ c. search needs) part-requires-2 (λ c. search needs)
+    (λ c. search needs) lowest-requires (λ c. omega arith) after-highest-requires (λ c. omega arith) (λ c. omega arith) (λ c. omega arith)
+    loop-again returns)

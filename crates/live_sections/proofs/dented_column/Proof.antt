@@ -21,9 +21,6 @@ reach-requires c κs = c .before .pre
 column-requires : tie.Need-column-requires Inv-loop μ-loop
 column-requires c κs = (c .before .before .pre, c .reach .ensures)
 
-is-clear-requires : tie.Need-is-clear-requires Inv-loop μ-loop
-is-clear-requires c κs = tt
-
 returns : tie.Need-returns Inv-loop μ-loop
 unfolding dentedColumn
 returns c =
@@ -49,9 +46,6 @@ clear-after-requires c κs =
     let at = c .before .before .loop in
     (at .inv .clear-last, at .inv .sized, column-at _ (at .col) _ (c .column2 .ensures) .sized)
 
-cast-result : tie.Need-cast-result Inv-loop μ-loop
-cast-result c = omega arith
-
 returns-2 : tie.Need-returns-2 Inv-loop μ-loop
 unfolding dentedColumn
 returns-2 c =
@@ -60,12 +54,6 @@ returns-2 c =
     let at = section .before .before .loop in
     found-dented (column-at _ (at .col) _ (section .column2 .ensures)) (at .inv .none) (omega arith) _ (tested .clear-after .ensures)
     (c .if2 .taken)
-
-add-col : tie.Need-add-col Inv-loop μ-loop
-add-col c = omega arith
-
-loop-less : tie.Need-loop-less Inv-loop μ-loop
-loop-less c = omega arith
 
 loop-again : tie.Need-loop-again Inv-loop μ-loop
 loop-again c =
@@ -82,19 +70,5 @@ returns-3 c = all-clear (c .before .loop .inv) (c .loop-test .left)
 pub dented-column-spec : {M : Type 1} → statement M
 dented-column-spec =
     tie.close
-    (tie.spec
-    Inv-loop
-    μ-loop
-    reach-requires
-    column-requires
-    is-clear-requires
-    returns
-    loop-holds
-    column-requires-2
-    clear-after-requires
-    cast-result
-    returns-2
-    add-col
-    loop-less
-    loop-again
-    returns-3)
+    (tie.spec Inv-loop μ-loop reach-requires column-requires (λ c κs. tt) returns loop-holds column-requires-2 clear-after-requires
+    (λ c. omega arith) returns-2 (λ c. omega arith) (λ c. omega arith) loop-again returns-3)

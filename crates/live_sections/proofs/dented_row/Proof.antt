@@ -18,9 +18,6 @@ abbrev μ-loop : tie.MeasureT-loop
 row-requires : tie.Need-row-requires Inv-loop μ-loop
 row-requires c κs = (omega arith, c .before .pre)
 
-is-clear-requires : tie.Need-is-clear-requires Inv-loop μ-loop
-is-clear-requires c κs = tt
-
 returns : tie.Need-returns Inv-loop μ-loop
 unfolding dentedRow
 returns c =
@@ -42,9 +39,6 @@ clear-after-requires c κs =
     let at = c .before .before .loop in
     (at .inv .clear-last, at .inv .sized, row-at _ (at .r) _ (c .row2 .ensures) .sized)
 
-cast-result : tie.Need-cast-result Inv-loop μ-loop
-cast-result c = omega arith
-
 returns-2 : tie.Need-returns-2 Inv-loop μ-loop
 unfolding dentedRow
 returns-2 c =
@@ -53,12 +47,6 @@ returns-2 c =
     let at = section .before .before .loop in
     found-dented (row-at _ (at .r) _ (section .row2 .ensures)) (at .inv .none) (omega arith) _ (tested .clear-after .ensures)
     (c .if2 .taken)
-
-add-r : tie.Need-add-r Inv-loop μ-loop
-add-r c = omega arith
-
-loop-less : tie.Need-loop-less Inv-loop μ-loop
-loop-less c = omega arith
 
 loop-again : tie.Need-loop-again Inv-loop μ-loop
 loop-again c =
@@ -75,18 +63,5 @@ returns-3 c = all-clear (c .before .loop .inv) (c .loop-test .left)
 pub dented-row-spec : {M : Type 1} → statement M
 dented-row-spec =
     tie.close
-    (tie.spec
-    Inv-loop
-    μ-loop
-    row-requires
-    is-clear-requires
-    returns
-    loop-holds
-    row-requires-2
-    clear-after-requires
-    cast-result
-    returns-2
-    add-r
-    loop-less
-    loop-again
-    returns-3)
+    (tie.spec Inv-loop μ-loop row-requires (λ c κs. tt) returns loop-holds row-requires-2 clear-after-requires (λ c. omega arith)
+    returns-2 (λ c. omega arith) (λ c. omega arith) loop-again returns-3)

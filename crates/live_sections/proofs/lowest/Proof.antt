@@ -21,25 +21,13 @@ loop-holds c =
     let a = c .before .before .args in
     (omega arith, search-start (a .first .now) (a .past .now) (a .col) (a .from) (c .before .before .pre .2))
 
-cast-holds : tie.Need-cast-holds Inv-loop μ-loop
-cast-holds c = omega arith
-
 holds-requires : tie.Need-holds-requires Inv-loop μ-loop
 holds-requires c κs = (omega arith, c .before .before .before .before .pre .0, c .before .before .before .before .pre .1)
-
-cast-result : tie.Need-cast-result Inv-loop μ-loop
-cast-result c = omega arith
 
 returns : tie.Need-returns Inv-loop μ-loop
 returns c =
     let at = c .before .before .before .loop in
     sym (first-stop _ side (at .r) (at .inv .1) (sym (c .before .holds .ensures) ∙ c .if1 .taken) (omega arith))
-
-add-r : tie.Need-add-r Inv-loop μ-loop
-add-r c = omega arith
-
-loop-less : tie.Need-loop-less Inv-loop μ-loop
-loop-less c = omega arith
 
 loop-again : tie.Need-loop-again Inv-loop μ-loop
 loop-again c =
@@ -56,15 +44,5 @@ returns-2 c =
 pub lowest-spec : {M : Type 1} → statement M
 lowest-spec =
     tie.close
-    (tie.spec
-    Inv-loop
-    μ-loop
-    loop-holds
-    cast-holds
-    holds-requires
-    cast-result
-    returns
-    add-r
-    loop-less
-    loop-again
-    returns-2)
+    (tie.spec Inv-loop μ-loop loop-holds (λ c. omega arith) holds-requires (λ c. omega arith) returns (λ c. omega arith)
+    (λ c. omega arith) loop-again returns-2)

@@ -9,18 +9,6 @@ use Rattle.chart.specs.Limits.{side}
 use Rattle.live_sections.proofs.part.Statement.{statement}
 use Rattle.live_sections.proofs.part.Tie as tie
 
-add-to : tie.Need-add-to
-add-to c = search needs
-
-sub-result : tie.Need-sub-result
-sub-result c = search needs
-
-part-result-start : tie.Need-part-result-start
-part-result-start c = search needs
-
-part-result-end : tie.Need-part-result-end
-part-result-end c = search needs
-
 returns : tie.Need-returns
 returns c =
     let a = c .before .args in
@@ -28,4 +16,4 @@ returns c =
     rw add-sub-cancel-left (refl, length-take-le side (drop (a .from) (a .rows .now)) (omega (arith, enough, c .before .pre .1)))
 
 pub part-spec : {M : Type 1} → statement M
-part-spec = tie.close (tie.spec add-to sub-result part-result-start part-result-end returns)
+part-spec = tie.close (tie.spec (λ c. search needs) (λ c. search needs) (λ c. search needs) (λ c. search needs) returns)

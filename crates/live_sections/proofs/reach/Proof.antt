@@ -22,14 +22,8 @@ abbrev μ-loop : tie.MeasureT-loop
 loop-holds : tie.Need-loop-holds Inv-loop μ-loop
 loop-holds c = filling-start _ _
 
-mul-at : tie.Need-mul-at Inv-loop μ-loop
-mul-at c = search needs
-
 part-requires : tie.Need-part-requires Inv-loop μ-loop
 part-requires c κs = (search needs, search needs)
-
-add-part : tie.Need-add-part Inv-loop μ-loop
-add-part c = search needs
 
 part-requires-2 : tie.Need-part-requires-2 Inv-loop μ-loop
 part-requires-2 c κs = (search needs, search needs)
@@ -37,20 +31,8 @@ part-requires-2 c κs = (search needs, search needs)
 bottom-requires : tie.Need-bottom-requires Inv-loop μ-loop
 bottom-requires c κs = (c .before .part .ensures .1, c .part2 .ensures .1)
 
-array-write-lo : tie.Need-array-write-lo Inv-loop μ-loop
-array-write-lo c = omega arith
-
 top-requires : tie.Need-top-requires Inv-loop μ-loop
 top-requires c κs = (c .before .before .part .ensures .1, c .before .part2 .ensures .1)
-
-array-write-past : tie.Need-array-write-past Inv-loop μ-loop
-array-write-past c = omega arith
-
-add-l : tie.Need-add-l Inv-loop μ-loop
-add-l c = omega arith
-
-loop-less : tie.Need-loop-less Inv-loop μ-loop
-loop-less c = omega arith
 
 loop-again : tie.Need-loop-again Inv-loop μ-loop
 loop-again c =
@@ -71,19 +53,5 @@ returns c = filling-end _ _ (c .before .loop .inv) (c .loop-test .left)
 pub reach-spec : {M : Type 1} → statement M
 reach-spec =
     tie.close
-    (tie.spec
-    Inv-loop
-    μ-loop
-    loop-holds
-    mul-at
-    part-requires
-    add-part
-    part-requires-2
-    bottom-requires
-    array-write-lo
-    top-requires
-    array-write-past
-    add-l
-    loop-less
-    loop-again
-    returns)
+    (tie.spec Inv-loop μ-loop loop-holds (λ c. search needs) part-requires (λ c. search needs) part-requires-2 bottom-requires
+    (λ c. omega arith) top-requires (λ c. omega arith) (λ c. omega arith) (λ c. omega arith) loop-again returns)

@@ -19,31 +19,13 @@ loop-holds : tie.Need-loop-holds Inv-loop μ-loop
 unfolding first
 loop-holds c = (omega arith, refl)
 
-sub-has-cell : tie.Need-sub-has-cell Inv-loop μ-loop
-sub-has-cell c = omega arith
-
-sub-has-cell-2 : tie.Need-sub-has-cell-2 Inv-loop μ-loop
-sub-has-cell-2 c = omega arith
-
 has-cell-requires : tie.Need-has-cell-requires Inv-loop μ-loop
 has-cell-requires c κs = (omega arith, c .before .before .before .before .pre .0, c .before .before .before .before .pre .1)
-
-sub-result : tie.Need-sub-result Inv-loop μ-loop
-sub-result c = omega arith
-
-cast-result : tie.Need-cast-result Inv-loop μ-loop
-cast-result c = omega arith
 
 returns : tie.Need-returns Inv-loop μ-loop
 returns c =
     let at = c .before .before .before .loop in
     ap (λ k. side - k) (sym (first-stop _ side (at .k) (at .inv .1) (sym (c .before .has-cell .ensures) ∙ c .if1 .taken) (omega arith)))
-
-add-k : tie.Need-add-k Inv-loop μ-loop
-add-k c = omega arith
-
-loop-less : tie.Need-loop-less Inv-loop μ-loop
-loop-less c = omega arith
 
 loop-again : tie.Need-loop-again Inv-loop μ-loop
 loop-again c =
@@ -59,17 +41,5 @@ returns-2 c =
 pub top-spec : {M : Type 1} → statement M
 top-spec =
     tie.close
-    (tie.spec
-    Inv-loop
-    μ-loop
-    loop-holds
-    sub-has-cell
-    sub-has-cell-2
-    has-cell-requires
-    sub-result
-    cast-result
-    returns
-    add-k
-    loop-less
-    loop-again
-    returns-2)
+    (tie.spec Inv-loop μ-loop loop-holds (λ c. omega arith) (λ c. omega arith) has-cell-requires (λ c. omega arith) (λ c. omega arith)
+    returns (λ c. omega arith) (λ c. omega arith) loop-again returns-2)

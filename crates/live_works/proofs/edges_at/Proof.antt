@@ -6,27 +6,6 @@ use borrow.Author.Needs.{needs}
 use Rattle.live_works.proofs.edges_at.Statement.{statement}
 use Rattle.live_works.proofs.edges_at.Tie as tie
 
-number-count-requires : tie.Need-number-count-requires
-number-count-requires c κs = search needs
-
-mul-from : tie.Need-mul-from
-mul-from c = search needs
-
-add-to : tie.Need-add-to
-add-to c = search needs
-
-mul-result : tie.Need-mul-result
-mul-result c = search needs
-
-sub-result : tie.Need-sub-result
-sub-result c = search needs
-
-part-result-start : tie.Need-part-result-start
-part-result-start c = search needs
-
-part-result-end : tie.Need-part-result-end
-part-result-end c = search needs
-
 returns : tie.Need-returns
 returns c =
     rw add-sub-cancel-left
@@ -35,12 +14,5 @@ returns c =
 pub edges-at-spec : {M : Type 1} → statement M
 edges-at-spec =
     tie.close
-    (tie.spec
-    number-count-requires
-    mul-from
-    add-to
-    mul-result
-    sub-result
-    part-result-start
-    part-result-end
-    returns)
+    (tie.spec (λ c κs. search needs) (λ c. search needs) (λ c. search needs) (λ c. search needs) (λ c. search needs) (λ c. search needs)
+    (λ c. search needs) returns)

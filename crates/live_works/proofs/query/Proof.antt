@@ -5,18 +5,6 @@ use borrow.Author.Needs.{needs}
 use Rattle.live_works.proofs.query.Statement.{statement}
 use Rattle.live_works.proofs.query.Tie as tie
 
-mul-at : tie.Need-mul-at
-mul-at c = search needs
-
-add-at : tie.Need-add-at
-add-at c = search needs
-
-mul-if1 : tie.Need-mul-if1
-mul-if1 c = search needs
-
-shared-slice-read-if1 : tie.Need-shared-slice-read-if1
-shared-slice-read-if1 c = search needs
-
 returns : tie.Need-returns
 returns c = λ n. query-none _ n _ _ _ (c .if1 .taken)
 
@@ -25,9 +13,6 @@ returns-2 c = λ n. query-col _ n _ _ _ (c .before .if1 .left) (c .if2 .taken)
 
 returns-3 : tie.Need-returns-3
 returns-3 c = λ n. query-row _ n _ _ _ (c .before .before .if1 .left) (c .before .if2 .left) (c .if3 .taken)
-
-within-requires : tie.Need-within-requires
-within-requires c κs = search needs
 
 returns-4 : tie.Need-returns-4
 returns-4 c =
@@ -42,14 +27,5 @@ returns-5 c =
 pub query-spec : {M : Type 1} → statement M
 query-spec =
     tie.close
-    (tie.spec
-    mul-at
-    add-at
-    mul-if1
-    shared-slice-read-if1
-    returns
-    returns-2
-    returns-3
-    within-requires
-    returns-4
-    returns-5)
+    (tie.spec (λ c. search needs) (λ c. search needs) (λ c. search needs) (λ c. search needs) returns returns-2 returns-3
+    (λ c κs. search needs) returns-4 returns-5)

@@ -6,39 +6,6 @@ use borrow.Author.Needs.{needs}
 use Rattle.live_works.proofs.replace.Statement.{statement}
 use Rattle.live_works.proofs.replace.Tie as tie
 
-mul-slot : tie.Need-mul-slot
-mul-slot c = search needs
-
-add-slot : tie.Need-add-slot
-add-slot c = search needs
-
-put-outline-requires : tie.Need-put-outline-requires
-put-outline-requires c κs = search needs
-
-mul-put-numbers : tie.Need-mul-put-numbers
-mul-put-numbers c = search needs
-
-put-numbers-requires : tie.Need-put-numbers-requires
-put-numbers-requires c κs = search needs
-
-mul-write-head : tie.Need-mul-write-head
-mul-write-head c = search needs
-
-add-write-head : tie.Need-add-write-head
-add-write-head c = search needs
-
-write-head-requires : tie.Need-write-head-requires
-write-head-requires c κs = search needs
-
-same-length : tie.Need-same-length
-same-length c = search needs
-
-same-length-2 : tie.Need-same-length-2
-same-length-2 c = search needs
-
-same-length-3 : tie.Need-same-length-3
-same-length-3 c = search needs
-
 returns : tie.Need-returns
 returns c =
     let headed = c .before .before in
@@ -54,16 +21,5 @@ returns c =
 pub replace-spec : {M : Type 1} → statement M
 replace-spec =
     tie.close
-    (tie.spec
-    mul-slot
-    add-slot
-    put-outline-requires
-    mul-put-numbers
-    put-numbers-requires
-    mul-write-head
-    add-write-head
-    write-head-requires
-    same-length
-    same-length-2
-    same-length-3
-    returns)
+    (tie.spec (λ c. search needs) (λ c. search needs) (λ c κs. search needs) (λ c. search needs) (λ c κs. search needs)
+    (λ c. search needs) (λ c. search needs) (λ c κs. search needs) (λ c. search needs) (λ c. search needs) (λ c. search needs) returns)

@@ -4,15 +4,6 @@ use Rattle.outline.proofs.TestLaws.{tested, tested-fields, tested-cell}
 use Rattle.outline.proofs.test.Statement.{statement}
 use Rattle.outline.proofs.test.Tie as tie
 
-judge-requires : tie.Need-judge-requires
-judge-requires c κs = search needs
-
-with-room-requires : tie.Need-with-room-requires
-with-room-requires c κs = search needs
-
-same-length : tie.Need-same-length
-same-length c = search needs
-
 returns : tie.Need-returns
 returns c =
     let said = c .before .before .judge .ensures .0 in
@@ -20,4 +11,4 @@ returns c =
     (tested _ _ said asked, (tested-fields _ _ said asked, (c .before .before .judge .ensures .1, tested-cell _ _ said asked)))
 
 pub test-spec : {M : Type 1} → statement M
-test-spec = tie.close (tie.spec judge-requires with-room-requires same-length returns)
+test-spec = tie.close (tie.spec (λ c κs. search needs) (λ c κs. search needs) (λ c. search needs) returns)

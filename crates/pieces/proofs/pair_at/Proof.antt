@@ -44,15 +44,6 @@ last-frame (suc zero) h = absurd (omega arith)
 last-frame (suc (suc zero)) h = absurd (omega arith)
 last-frame (suc (suc (suc k))) h = refl
 
-mul-result : tie.Need-mul-result
-mul-result c = search needs
-
-array-copy-out-result : tie.Need-array-copy-out-result
-array-copy-out-result c = search needs
-
-array-copy-out-result-2 : tie.Need-array-copy-out-result-2
-array-copy-out-result-2 c = search needs
-
 returns : tie.Need-returns
 unfolding frameOf
 returns c =
@@ -64,4 +55,4 @@ unfolding frameOf
 returns-2 c = rw (last-frame (c .before .before .args .k) (omega arith)) (row-of (frameOf 3))
 
 pub pair-at-spec : {M : Type 1} → statement M
-pair-at-spec = tie.close (tie.spec mul-result array-copy-out-result array-copy-out-result-2 returns returns-2)
+pair-at-spec = tie.close (tie.spec (λ c. search needs) (λ c. search needs) (λ c. search needs) returns returns-2)

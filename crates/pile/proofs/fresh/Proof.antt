@@ -4,12 +4,9 @@ use borrow.Author.Needs.{needs}
 use Rattle.pile.proofs.fresh.Statement.{statement}
 use Rattle.pile.proofs.fresh.Tie as tie
 
-no-spans-requires : tie.Need-no-spans-requires
-no-spans-requires c κs = search needs
-
 returns : tie.Need-returns
 unfolding freshPile
 returns c = rw (c .no-spans .ensures)
 
 pub fresh-spec : {M : Type 1} → statement M
-fresh-spec = tie.close (tie.spec no-spans-requires returns)
+fresh-spec = tie.close (tie.spec (λ c κs. search needs) returns)

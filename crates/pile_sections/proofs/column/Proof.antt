@@ -22,30 +22,6 @@ loop-holds : tie.Need-loop-holds Inv-loop μ-loop
 loop-holds c =
     (omega arith, filled-start _ layers _ (length-replicate {A = ℕ} layers 0), filled-start _ layers _ (length-replicate {A = ℕ} layers 0))
 
-mul-spans : tie.Need-mul-spans Inv-loop μ-loop
-mul-spans c = search needs
-
-array-copy-out-spans : tie.Need-array-copy-out-spans Inv-loop μ-loop
-array-copy-out-spans c = omega arith
-
-lowest-requires : tie.Need-lowest-requires Inv-loop μ-loop
-lowest-requires c κs = tt
-
-array-write-lo : tie.Need-array-write-lo Inv-loop μ-loop
-array-write-lo c = omega arith
-
-after-highest-requires : tie.Need-after-highest-requires Inv-loop μ-loop
-after-highest-requires c κs = tt
-
-array-write-past : tie.Need-array-write-past Inv-loop μ-loop
-array-write-past c = omega arith
-
-add-l : tie.Need-add-l Inv-loop μ-loop
-add-l c = omega arith
-
-loop-less : tie.Need-loop-less Inv-loop μ-loop
-loop-less c = omega arith
-
 loop-again : tie.Need-loop-again Inv-loop μ-loop
 unfolding lowestRow afterHighest
 loop-again c =
@@ -65,17 +41,5 @@ returns c =
 pub column-spec : {M : Type 1} → statement M
 column-spec =
     tie.close
-    (tie.spec
-    Inv-loop
-    μ-loop
-    loop-holds
-    mul-spans
-    array-copy-out-spans
-    lowest-requires
-    array-write-lo
-    after-highest-requires
-    array-write-past
-    add-l
-    loop-less
-    loop-again
-    returns)
+    (tie.spec Inv-loop μ-loop loop-holds (λ c. search needs) (λ c. omega arith) (λ c κs. tt) (λ c. omega arith) (λ c κs. tt)
+    (λ c. omega arith) (λ c. omega arith) (λ c. omega arith) loop-again returns)

@@ -21,32 +21,17 @@ loop-holds : tie.Need-loop-holds Inv-loop μ-loop
 unfolding first
 loop-holds c = (omega arith, refl)
 
-column-requires : tie.Need-column-requires Inv-loop μ-loop
-column-requires c κs = tt
-
-is-clear-requires : tie.Need-is-clear-requires Inv-loop μ-loop
-is-clear-requires c κs = tt
-
 -- The result of this section's test
 clear-is : (c : tie.After-is-clear Inv-loop μ-loop)
     → c .is-clear .result ≡ columnClear (c .before .before .before .before .args .layers) (c .before .before .before .loop .col)
 unfolding columnClear
 clear-is c = c .is-clear .ensures ∙ ap (λ s. clear (numbers (s .lo)) (numbers (s .past))) (c .before .column .ensures)
 
-cast-result : tie.Need-cast-result Inv-loop μ-loop
-cast-result c = omega arith
-
 returns : tie.Need-returns Inv-loop μ-loop
 unfolding dentedColumn
 returns c =
     let at = c .before .before .before .before .loop in
     sym (first-stop _ side (at .col) (at .inv .1) (ap not (sym (clear-is (c .before))) ∙ c .if1 .taken) (omega arith))
-
-add-col : tie.Need-add-col Inv-loop μ-loop
-add-col c = omega arith
-
-loop-less : tie.Need-loop-less Inv-loop μ-loop
-loop-less c = omega arith
 
 loop-again : tie.Need-loop-again Inv-loop μ-loop
 loop-again c =
@@ -63,15 +48,5 @@ returns-2 c =
 pub dented-column-spec : {M : Type 1} → statement M
 dented-column-spec =
     tie.close
-    (tie.spec
-    Inv-loop
-    μ-loop
-    loop-holds
-    column-requires
-    is-clear-requires
-    cast-result
-    returns
-    add-col
-    loop-less
-    loop-again
-    returns-2)
+    (tie.spec Inv-loop μ-loop loop-holds (λ c κs. tt) (λ c κs. tt) (λ c. omega arith) returns (λ c. omega arith) (λ c. omega arith)
+    loop-again returns-2)

@@ -23,12 +23,6 @@ loop-holds : tie.Need-loop-holds Inv-loop μ-loop
 unfolding first
 loop-holds c = (omega arith, refl, λ k h. absurd (omega arith))
 
-row-requires : tie.Need-row-requires Inv-loop μ-loop
-row-requires c κs = omega arith
-
-is-clear-requires : tie.Need-is-clear-requires Inv-loop μ-loop
-is-clear-requires c κs = tt
-
 -- The result of this section's test
 clear-is : (c : tie.After-is-clear Inv-loop μ-loop)
     → c .is-clear .result ≡ rowClear (c .before .before .before .before .args .layers) (c .before .before .before .loop .r)
@@ -42,9 +36,6 @@ fits c k h =
     let at = c .before .before .before .loop in
     elim (below-suc k (at .r) (omega arith)) [ inl d ↦ rw d (c .before .row .ensures .1) | inr g ↦ at .inv .2 k g ]
 
-cast-result : tie.Need-cast-result Inv-loop μ-loop
-cast-result c = omega arith
-
 returns : tie.Need-returns Inv-loop μ-loop
 unfolding dentedRow
 returns c =
@@ -52,12 +43,6 @@ returns c =
       sym (first-stop _ side (at .r) (at .inv .1) (ap not (sym (clear-is (c .before))) ∙ c .if1 .taken) (omega arith)),
       λ k h l. fits (c .before) k (omega arith),
     )
-
-add-r : tie.Need-add-r Inv-loop μ-loop
-add-r c = omega arith
-
-loop-less : tie.Need-loop-less Inv-loop μ-loop
-loop-less c = omega arith
 
 loop-again : tie.Need-loop-again Inv-loop μ-loop
 loop-again c =
@@ -74,15 +59,5 @@ returns-2 c =
 pub dented-row-spec : {M : Type 1} → statement M
 dented-row-spec =
     tie.close
-    (tie.spec
-    Inv-loop
-    μ-loop
-    loop-holds
-    row-requires
-    is-clear-requires
-    cast-result
-    returns
-    add-r
-    loop-less
-    loop-again
-    returns-2)
+    (tie.spec Inv-loop μ-loop loop-holds (λ c κs. omega arith) (λ c κs. tt) (λ c. omega arith) returns (λ c. omega arith)
+    (λ c. omega arith) loop-again returns-2)

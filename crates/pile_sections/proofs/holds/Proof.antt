@@ -5,12 +5,6 @@ use borrow.Author.Needs.{needs}
 use Rattle.pile_sections.proofs.holds.Statement.{statement}
 use Rattle.pile_sections.proofs.holds.Tie as tie
 
-element-copy-out-if1 : tie.Need-element-copy-out-if1
-element-copy-out-if1 c = search needs
-
-element-copy-out-result : tie.Need-element-copy-out-result
-element-copy-out-result c = search needs
-
 returns : tie.Need-returns
 unfolding inRow
 returns c = rw (le-leb _ _ (c .before .if1 .taken))
@@ -20,4 +14,4 @@ unfolding inRow
 returns-2 c = rw (lt-leb _ _ (c .if1 .left))
 
 pub holds-spec : {M : Type 1} → statement M
-holds-spec = tie.close (tie.spec element-copy-out-if1 element-copy-out-result returns returns-2)
+holds-spec = tie.close (tie.spec (λ c. search needs) (λ c. search needs) returns returns-2)

@@ -31,29 +31,11 @@ loop-holds c = (
   λ k h. absurd (omega arith),
 )
 
-mul-spans : tie.Need-mul-spans Inv-loop μ-loop
-mul-spans c = search needs
-
-array-copy-out-spans : tie.Need-array-copy-out-spans Inv-loop μ-loop
-array-copy-out-spans c = omega arith
-
 element-copy-out-lo : tie.Need-element-copy-out-lo Inv-loop μ-loop
 element-copy-out-lo c = omega (arith, c .before .before .before .pre)
 
-array-write-lo : tie.Need-array-write-lo Inv-loop μ-loop
-array-write-lo c = omega arith
-
 number-requires : tie.Need-number-requires Inv-loop μ-loop
 number-requires c κs = omega (arith, c .before .before .before .before .before .before .pre)
-
-array-write-past : tie.Need-array-write-past Inv-loop μ-loop
-array-write-past c = omega arith
-
-add-l : tie.Need-add-l Inv-loop μ-loop
-add-l c = omega arith
-
-loop-less : tie.Need-loop-less Inv-loop μ-loop
-loop-less c = omega arith
 
 loop-again : tie.Need-loop-again Inv-loop μ-loop
 loop-again c =
@@ -80,17 +62,5 @@ returns c =
 pub row-spec : {M : Type 1} → statement M
 row-spec =
     tie.close
-    (tie.spec
-    Inv-loop
-    μ-loop
-    loop-holds
-    mul-spans
-    array-copy-out-spans
-    element-copy-out-lo
-    array-write-lo
-    number-requires
-    array-write-past
-    add-l
-    loop-less
-    loop-again
-    returns)
+    (tie.spec Inv-loop μ-loop loop-holds (λ c. search needs) (λ c. omega arith) element-copy-out-lo (λ c. omega arith) number-requires
+    (λ c. omega arith) (λ c. omega arith) (λ c. omega arith) loop-again returns)

@@ -82,17 +82,8 @@ zero-row c = simp (row-read (c .before)) at (c .is-zero2 .ensures)
 returns : tie.Need-returns Inv-loop μ-loop
 returns c = turning-long _ (omega arith)
 
-start-requires : tie.Need-start-requires Inv-loop μ-loop
-start-requires c κs = search needs
-
 loop-holds : tie.Need-loop-holds Inv-loop μ-loop
 loop-holds c = rw (c .start .ensures) (turned-start _ (omega arith))
-
-add-loop : tie.Need-add-loop Inv-loop μ-loop
-add-loop c = omega arith
-
-turns-on-requires : tie.Need-turns-on-requires Inv-loop μ-loop
-turns-on-requires c κs = omega arith
 
 returns-2 : tie.Need-returns-2 Inv-loop μ-loop
 returns-2 c =
@@ -100,32 +91,11 @@ returns-2 c =
     sym (turning-short (list t) (omega arith)
     ∙ turned-off (t .before .loop .inv) (omega arith) (sym (c .before .turns-on .ensures) ∙ not-true _ (c .if2 .taken)))
 
-mul-further : tie.Need-mul-further Inv-loop μ-loop
-mul-further c = omega arith
-
-shared-slice-copy-out-further : tie.Need-shared-slice-copy-out-further Inv-loop μ-loop
-shared-slice-copy-out-further c = omega arith
-
-add-further : tie.Need-add-further Inv-loop μ-loop
-add-further c = omega arith
-
-mul-further-2 : tie.Need-mul-further-2 Inv-loop μ-loop
-mul-further-2 c = omega arith
-
-shared-slice-copy-out-further-2 : tie.Need-shared-slice-copy-out-further-2 Inv-loop μ-loop
-shared-slice-copy-out-further-2 c = omega arith
-
 further-requires : tie.Need-further-requires Inv-loop μ-loop
 further-requires c κs =
     let x = fits-x (c .before) in
     let y = fits-y c in
     simp (toZ-ofZ w16 _ x, toZ-ofZ w16 _ y) (after-fits (c .before .before .before .before .before .loop .inv .near) x y (omega arith))
-
-add-i : tie.Need-add-i Inv-loop μ-loop
-add-i c = omega arith
-
-loop-less : tie.Need-loop-less Inv-loop μ-loop
-loop-less c = omega arith
 
 loop-again : tie.Need-loop-again Inv-loop μ-loop
 loop-again c =
@@ -133,18 +103,6 @@ loop-again c =
     let t = on .before .before in
     let turned = sym (on .before .turns-on .ensures) ∙ not-false _ (on .if2 .left) in
     rw (further-is c) (turned-edge (t .before .loop .inv) (omega arith) (fits-x (c .before .before)) (fits-y (c .before)) turned)
-
-long-requires : tie.Need-long-requires Inv-loop μ-loop
-long-requires c κs = search needs
-
-is-zero-requires : tie.Need-is-zero-requires Inv-loop μ-loop
-is-zero-requires c κs = search needs
-
-long-requires-2 : tie.Need-long-requires-2 Inv-loop μ-loop
-long-requires-2 c κs = search needs
-
-is-zero-requires-2 : tie.Need-is-zero-requires-2 Inv-loop μ-loop
-is-zero-requires-2 c κs = search needs
 
 returns-3 : tie.Need-returns-3 Inv-loop μ-loop
 returns-3 c =
@@ -158,27 +116,7 @@ returns-4 c =
 pub bad-directions-spec : {M : Type 1} → statement M
 bad-directions-spec =
     tie.close
-    (tie.spec
-    Inv-loop
-    μ-loop
-    returns
-    start-requires
-    loop-holds
-    add-loop
-    turns-on-requires
-    returns-2
-    mul-further
-    shared-slice-copy-out-further
-    add-further
-    mul-further-2
-    shared-slice-copy-out-further-2
-    further-requires
-    add-i
-    loop-less
-    loop-again
-    long-requires
-    is-zero-requires
-    long-requires-2
-    is-zero-requires-2
-    returns-3
+    (tie.spec Inv-loop μ-loop returns (λ c κs. search needs) loop-holds (λ c. omega arith) (λ c κs. omega arith) returns-2
+    (λ c. omega arith) (λ c. omega arith) (λ c. omega arith) (λ c. omega arith) (λ c. omega arith) further-requires (λ c. omega arith)
+    (λ c. omega arith) loop-again (λ c κs. search needs) (λ c κs. search needs) (λ c κs. search needs) (λ c κs. search needs) returns-3
     returns-4)

@@ -7,13 +7,10 @@ use Rattle.base.proofs.Sizes.{read-back}
 use Rattle.polygon.proofs.begin.Statement.{statement}
 use Rattle.polygon.proofs.begin.Tie as tie
 
-long-requires : tie.Need-long-requires
-long-requires c κs = search needs
-
 returns : tie.Need-returns
 unfolding begun
 returns c =
     simp (read-back (c .long .result) (c .long .ok)) (simp (c .long .ensures, toZ-ofZ w32 (c .before .args .n) (c .before .fits .n)))
 
 pub begin-spec : {M : Type 1} → statement M
-begin-spec = tie.close (tie.spec long-requires returns)
+begin-spec = tie.close (tie.spec (λ c κs. search needs) returns)

@@ -38,15 +38,6 @@ up-read c =
     )
     at (c .moment2 .ensures)
 
-moment-requires : tie.Need-moment-requires
-moment-requires c κs = search needs
-
-moment-requires-2 : tie.Need-moment-requires-2
-moment-requires-2 c κs = search needs
-
-at-most-requires : tie.Need-at-most-requires
-at-most-requires c κs = search needs
-
 returns : tie.Need-returns
 unfolding sideValue
 returns c =
@@ -55,4 +46,4 @@ returns c =
     simp (across-read (m .before .before), up-read m) at (c .at-most .ensures) ∙ at-most-difference (across s) (up s)
 
 pub beside-spec : {M : Type 1} → statement M
-beside-spec = tie.close (tie.spec moment-requires moment-requires-2 at-most-requires returns)
+beside-spec = tie.close (tie.spec (λ c κs. search needs) (λ c κs. search needs) (λ c κs. search needs) returns)

@@ -109,15 +109,6 @@ rule c =
 returns : tie.Need-returns Inv-loop μ-loop
 returns c = inside-long _ _ _ (omega arith)
 
-start-requires : tie.Need-start-requires Inv-loop μ-loop
-start-requires c κs = search needs
-
-begin-requires : tie.Need-begin-requires Inv-loop μ-loop
-begin-requires c κs = search needs
-
-begin-requires-2 : tie.Need-begin-requires-2 Inv-loop μ-loop
-begin-requires-2 c κs = search needs
-
 loop-holds : tie.Need-loop-holds Inv-loop μ-loop
 loop-holds c =
     let s = c .before .before .before .before .before .before in
@@ -127,27 +118,6 @@ loop-holds c =
       near = rw (started-is c .0) (after-start (s .args .anchor) (omega (arith, s .good .0)) (omega (arith, s .good .0)) 0);
       left = refl;
     }
-
-add-loop : tie.Need-add-loop Inv-loop μ-loop
-add-loop c = omega arith
-
-mul-dx : tie.Need-mul-dx Inv-loop μ-loop
-mul-dx c = omega arith
-
-shared-slice-copy-out-dx : tie.Need-shared-slice-copy-out-dx Inv-loop μ-loop
-shared-slice-copy-out-dx c = omega arith
-
-add-dy : tie.Need-add-dy Inv-loop μ-loop
-add-dy c = omega arith
-
-mul-dy : tie.Need-mul-dy Inv-loop μ-loop
-mul-dy c = omega arith
-
-shared-slice-copy-out-dy : tie.Need-shared-slice-copy-out-dy Inv-loop μ-loop
-shared-slice-copy-out-dy c = omega arith
-
-beside-requires : tie.Need-beside-requires Inv-loop μ-loop
-beside-requires c κs = search needs
 
 returns-2 : tie.Need-returns-2 Inv-loop μ-loop
 returns-2 c =
@@ -164,18 +134,6 @@ further-requires c κs =
       toZ-ofZ w16 _ (fits-y dy),
     ) (after-fits (t .before .loop .inv .near) (fits-x (dy .before)) (fits-y dy) (omega arith))
 
-meet-requires : tie.Need-meet-requires Inv-loop μ-loop
-meet-requires c κs = search needs
-
-meet-requires-2 : tie.Need-meet-requires-2 Inv-loop μ-loop
-meet-requires-2 c κs = search needs
-
-add-i : tie.Need-add-i Inv-loop μ-loop
-add-i c = omega arith
-
-loop-less : tie.Need-loop-less Inv-loop μ-loop
-loop-less c = omega arith
-
 loop-again : tie.Need-loop-again Inv-loop μ-loop
 loop-again c =
     let f = c .before .before .before .before in
@@ -187,12 +145,6 @@ loop-again c =
       rows-are c,
       further-is f,
     ) (walked-edge (t .before .loop .inv) (omega arith) (fits-x (dy .before)) (fits-y dy) inward)
-
-spanned-requires : tie.Need-spanned-requires Inv-loop μ-loop
-spanned-requires c κs = search needs
-
-spanned-requires-2 : tie.Need-spanned-requires-2 Inv-loop μ-loop
-spanned-requires-2 c κs = search needs
 
 returns-3 : tie.Need-returns-3 Inv-loop μ-loop
 returns-3 c =
@@ -211,29 +163,7 @@ returns-4 c =
 pub inside-spec : {M : Type 1} → statement M
 inside-spec =
     tie.close
-    (tie.spec
-    Inv-loop
-    μ-loop
-    returns
-    start-requires
-    begin-requires
-    begin-requires-2
-    loop-holds
-    add-loop
-    mul-dx
-    shared-slice-copy-out-dx
-    add-dy
-    mul-dy
-    shared-slice-copy-out-dy
-    beside-requires
-    returns-2
-    further-requires
-    meet-requires
-    meet-requires-2
-    add-i
-    loop-less
-    loop-again
-    spanned-requires
-    spanned-requires-2
-    returns-3
-    returns-4)
+    (tie.spec Inv-loop μ-loop returns (λ c κs. search needs) (λ c κs. search needs) (λ c κs. search needs) loop-holds (λ c. omega arith)
+    (λ c. omega arith) (λ c. omega arith) (λ c. omega arith) (λ c. omega arith) (λ c. omega arith) (λ c κs. search needs) returns-2
+    further-requires (λ c κs. search needs) (λ c κs. search needs) (λ c. omega arith) (λ c. omega arith) loop-again (λ c κs. search needs)
+    (λ c κs. search needs) returns-3 returns-4)

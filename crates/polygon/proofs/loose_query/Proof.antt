@@ -13,17 +13,8 @@ use Rattle.polygon.proofs.LooseHull.{answer-named}
 use Rattle.polygon.proofs.loose_query.Statement.{statement}
 use Rattle.polygon.proofs.loose_query.Tie as tie
 
-bad-list-requires : tie.Need-bad-list-requires
-bad-list-requires c κs = search needs
-
 returns : tie.Need-returns
 returns c = answer-named _ _ _ _ (loose-list _ _ _ (sym (c .before .bad-list .ensures) ∙ c .if1 .taken))
-
-bad-cell-requires : tie.Need-bad-cell-requires
-bad-cell-requires c κs = search needs
-
-bad-cell-requires-2 : tie.Need-bad-cell-requires-2
-bad-cell-requires-2 c κs = search needs
 
 returns-2 : tie.Need-returns-2
 returns-2 c =
@@ -34,9 +25,6 @@ returns-2 c =
     (λ w. loose-anchor _ _ _ listed (sym (c .before .bad-cell .ensures) ∙ w .taken))
     (λ w. loose-cell _ _ _ listed (sym (c .before .bad-cell .ensures) ∙ w .0 .left) (sym (w .1 .ensures) ∙ w .2 .taken))
     (c .if2 .came))
-
-bad-directions-requires : tie.Need-bad-directions-requires
-bad-directions-requires c κs = search needs
 
 -- The list and the two cells pass 10 and 11
 module _ (c : tie.Else3) where
@@ -58,9 +46,6 @@ returns-3 c =
     let cells = c .before .before in
     answer-named _ _ _ _ (loose-turning _ _ _ (listed cells) (anchored cells) (placed cells) (sym (turned (c .before)) ∙ c .if4 .taken))
 
-inside-requires : tie.Need-inside-requires
-inside-requires c κs = search needs
-
 -- After the refusals the edges decide
 decided :
     (c : tie.After-inside) →
@@ -81,14 +66,5 @@ returns-5 c = answer-named _ _ _ _ (sym (decided (c .before) ∙ ap (λ (b : Boo
 pub loose-query-spec : {M : Type 1} → statement M
 loose-query-spec =
     tie.close
-    (tie.spec
-    bad-list-requires
-    returns
-    bad-cell-requires
-    bad-cell-requires-2
-    returns-2
-    bad-directions-requires
-    returns-3
-    inside-requires
-    returns-4
-    returns-5)
+    (tie.spec (λ c κs. search needs) returns (λ c κs. search needs) (λ c κs. search needs) returns-2 (λ c κs. search needs) returns-3
+    (λ c κs. search needs) returns-4 returns-5)

@@ -26,15 +26,6 @@ high-is c =
     let long = c .before .before .before .before in
     simp (read-back (long .before .args .s .high) (c .before .struct-told2 .given .1 .0 .1), at-read long) at (c .higher .ensures)
 
-long-requires : tie.Need-long-requires
-long-requires c κs = search needs
-
-lower-requires : tie.Need-lower-requires
-lower-requires c κs = search needs
-
-higher-requires : tie.Need-higher-requires
-higher-requires c κs = search needs
-
 returns : tie.Need-returns
 unfolding met
 returns c =
@@ -42,4 +33,4 @@ returns c =
     (simp (low-is (c .before .before), high-is c))
 
 pub meet-spec : {M : Type 1} → statement M
-meet-spec = tie.close (tie.spec long-requires lower-requires higher-requires returns)
+meet-spec = tie.close (tie.spec (λ c κs. search needs) (λ c κs. search needs) (λ c κs. search needs) returns)

@@ -37,15 +37,6 @@ distance-is c =
 product-size : (s : tie.Start) → natAbs (s .args .d *ℤ (pos (s .args .c) -ℤ s .args .n)) ≤ 32768 * 2 ^ 32
 product-size s = size-product-le (s .args .d) (pos (s .args .c) -ℤ s .args .n) (size-16 (s .args .d) (s .fits .d)) (distance-size s)
 
-widen-requires : tie.Need-widen-requires
-widen-requires c κs = search needs
-
-whole-requires : tie.Need-whole-requires
-whole-requires c κs = search needs
-
-long-requires : tie.Need-long-requires
-long-requires c κs = search needs
-
 difference-requires : tie.Need-difference-requires
 difference-requires c κs =
     simp (cell-read (c .before), at-read c) (fits-size w64 _ (omega (arith, distance-size (c .before .before .before))))
@@ -63,4 +54,4 @@ returns c =
 pub moment-spec : {M : Type 1} → statement M
 moment-spec =
     tie.close
-    (tie.spec widen-requires whole-requires long-requires difference-requires product-requires returns)
+    (tie.spec (λ c κs. search needs) (λ c κs. search needs) (λ c κs. search needs) difference-requires product-requires returns)

@@ -33,15 +33,6 @@ high-is c =
       cell-read (c .before .before .before .before .before),
     ) at (c .at-most2 .ensures)
 
-whole-requires : tie.Need-whole-requires
-whole-requires c κs = search needs
-
-at-most-requires : tie.Need-at-most-requires
-at-most-requires c κs = search needs
-
-at-most-requires-2 : tie.Need-at-most-requires-2
-at-most-requires-2 c κs = search needs
-
 returns : tie.Need-returns
 unfolding spans
 returns c = high-is c ∙ simp (sym (low-is (c .before .before .before)) ∙ c .before .before .if1 .taken)
@@ -51,4 +42,4 @@ unfolding spans
 returns-2 c = c .if1 .left ∙ simp (sym (low-is (c .before)) ∙ c .if1 .left)
 
 pub spanned-spec : {M : Type 1} → statement M
-spanned-spec = tie.close (tie.spec whole-requires at-most-requires at-most-requires-2 returns returns-2)
+spanned-spec = tie.close (tie.spec (λ c κs. search needs) (λ c κs. search needs) (λ c κs. search needs) returns returns-2)

@@ -58,57 +58,15 @@ precedes-is c =
       toZ-ofZ w16 _ fits-ey,
     ) at (c .precedes .ensures)
 
-mul-dx : tie.Need-mul-dx
-mul-dx c = search needs
-
-shared-slice-copy-out-dx : tie.Need-shared-slice-copy-out-dx
-shared-slice-copy-out-dx c = search needs
-
-add-dy : tie.Need-add-dy
-add-dy c = search needs
-
-mul-dy : tie.Need-mul-dy
-mul-dy c = search needs
-
-shared-slice-copy-out-dy : tie.Need-shared-slice-copy-out-dy
-shared-slice-copy-out-dy c = search needs
-
-zero-step-requires : tie.Need-zero-step-requires
-zero-step-requires c κs = search needs
-
 returns : tie.Need-returns
 returns c =
     let s = c .before .before .before .before in
     sym (turns-on-nil (list s) (s .args .i) (s .pre) (sym (nil-is (c .before)) ∙ c .if1 .taken))
 
-add-next : tie.Need-add-next
-add-next c = search needs
-
-add-if2 : tie.Need-add-if2
-add-if2 c = search needs
-
 returns-2 : tie.Need-returns-2
 returns-2 c =
     let s = c .before .before .before .before .before in
     sym (turns-on-last (list s) (s .args .i) (s .pre) (not-nil (c .before)) (c .if2 .taken))
-
-mul-ex : tie.Need-mul-ex
-mul-ex c = search needs
-
-shared-slice-copy-out-ex : tie.Need-shared-slice-copy-out-ex
-shared-slice-copy-out-ex c = search needs
-
-add-ey : tie.Need-add-ey
-add-ey c = search needs
-
-mul-ey : tie.Need-mul-ey
-mul-ey c = search needs
-
-shared-slice-copy-out-ey : tie.Need-shared-slice-copy-out-ey
-shared-slice-copy-out-ey c = search needs
-
-precedes-requires : tie.Need-precedes-requires
-precedes-requires c κs = search needs
 
 returns-3 : tie.Need-returns-3
 returns-3 c =
@@ -119,21 +77,6 @@ returns-3 c =
 pub turns-on-spec : {M : Type 1} → statement M
 turns-on-spec =
     tie.close
-    (tie.spec
-    mul-dx
-    shared-slice-copy-out-dx
-    add-dy
-    mul-dy
-    shared-slice-copy-out-dy
-    zero-step-requires
-    returns
-    add-next
-    add-if2
-    returns-2
-    mul-ex
-    shared-slice-copy-out-ex
-    add-ey
-    mul-ey
-    shared-slice-copy-out-ey
-    precedes-requires
-    returns-3)
+    (tie.spec (λ c. search needs) (λ c. search needs) (λ c. search needs) (λ c. search needs) (λ c. search needs) (λ c κs. search needs)
+    returns (λ c. search needs) (λ c. search needs) returns-2 (λ c. search needs) (λ c. search needs) (λ c. search needs)
+    (λ c. search needs) (λ c. search needs) (λ c κs. search needs) returns-3)

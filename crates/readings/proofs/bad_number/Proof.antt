@@ -7,12 +7,9 @@ use Rattle.readings.proofs.Numbers.{bad-is}
 use Rattle.readings.proofs.bad_number.Statement.{statement}
 use Rattle.readings.proofs.bad_number.Tie as tie
 
-int-to-float-result : tie.Need-int-to-float-result
-int-to-float-result c = search needs
-
 returns : tie.Need-returns
 unfolding ofBits ofInt
 returns c = bad-is (c .args .x) (subst T (sym (c .good .0 .1)) tt)
 
 pub bad-number-spec : {M : Type 1} → statement M
-bad-number-spec = tie.close (tie.spec int-to-float-result returns)
+bad-number-spec = tie.close (tie.spec (λ c. search needs) returns)

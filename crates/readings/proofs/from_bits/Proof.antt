@@ -4,15 +4,9 @@ use Rattle.readings.specs.Located.{readingOf}
 use Rattle.readings.proofs.from_bits.Statement.{statement}
 use Rattle.readings.proofs.from_bits.Tie as tie
 
-number-requires : tie.Need-number-requires
-number-requires c κs = search needs
-
-number-requires-2 : tie.Need-number-requires-2
-number-requires-2 c κs = search needs
-
 returns : tie.Need-returns
 unfolding readingOf
 returns c = simp (c .before .number .ensures, c .number2 .ensures)
 
 pub from-bits-spec : {M : Type 1} → statement M
-from-bits-spec = tie.close (tie.spec number-requires number-requires-2 returns)
+from-bits-spec = tie.close (tie.spec (λ c κs. search needs) (λ c κs. search needs) returns)

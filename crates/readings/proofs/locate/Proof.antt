@@ -63,17 +63,8 @@ pass-is c =
     let t = c .before .before .before in
     simp (toZ-ofZ w16 (edge t .0) (fits-x (c .before .before)), toZ-ofZ w16 (edge t .1) (fits-y (c .before))) at (c .pass .ensures)
 
-bad-number-requires : tie.Need-bad-number-requires Inv-loop μ-loop
-bad-number-requires c κs = search needs
-
-bad-number-requires-2 : tie.Need-bad-number-requires-2 Inv-loop μ-loop
-bad-number-requires-2 c κs = search needs
-
 returns : tie.Need-returns Inv-loop μ-loop
 returns c = located-bad _ _ _ (sym (bad-is (c .before)) ∙ c .if1 .taken)
-
-begin-requires : tie.Need-begin-requires Inv-loop μ-loop
-begin-requires c κs = search needs
 
 cast-count : tie.Need-cast-count Inv-loop μ-loop
 cast-count c = omega (arith, c .before .before .before .before .pre)
@@ -110,12 +101,6 @@ pass-requires c κs =
     let h = t .before .loop .inv in
     let few : t .before .loop .i ≤ 100 = omega (arith, h .passed, h .short) in
     (reach _ _ few (h .sized .at .col), reach _ _ few (h .sized .at .row))
-
-enum-known-next : tie.Need-enum-known-next Inv-loop μ-loop
-enum-known-next c = search needs
-
-enum-told : tie.Need-enum-told Inv-loop μ-loop
-enum-told c = search needs
 
 returns-2 : tie.Need-returns-2 Inv-loop μ-loop
 returns-2 c =
@@ -160,28 +145,6 @@ returns-3 c =
 pub locate-spec : {M : Type 1} → statement M
 locate-spec =
     tie.close
-    (tie.spec
-    Inv-loop
-    μ-loop
-    bad-number-requires
-    bad-number-requires-2
-    returns
-    begin-requires
-    cast-count
-    loop-holds
-    cast-k
-    mul-k
-    mul-pass
-    shared-slice-copy-out-pass
-    add-pass
-    mul-pass-2
-    shared-slice-copy-out-pass-2
-    pass-requires
-    enum-known-next
-    enum-told
-    returns-2
-    add-i
-    loop-less
-    loop-again
-    settle-requires
-    returns-3)
+    (tie.spec Inv-loop μ-loop (λ c κs. search needs) (λ c κs. search needs) returns (λ c κs. search needs) cast-count loop-holds cast-k
+    mul-k mul-pass shared-slice-copy-out-pass add-pass mul-pass-2 shared-slice-copy-out-pass-2 pass-requires (λ c. search needs)
+    (λ c. search needs) returns-2 add-i loop-less loop-again settle-requires returns-3)

@@ -28,8 +28,5 @@ float-from-bits-result : tie.Need-float-from-bits-result
 float-from-bits-result c =
     subst (λ (b : Bool). T (not b)) (sym (nanBits-above binary32 (c .before .args .bits) ∙ le-ltb _ _ (c .if1 .left))) tt
 
-returns-2 : tie.Need-returns-2
-returns-2 c = search needs
-
 pub number-spec : {M : Type 1} → statement M
-number-spec = tie.close (tie.spec returns float-from-bits-result returns-2)
+number-spec = tie.close (tie.spec returns float-from-bits-result (λ c. search needs))

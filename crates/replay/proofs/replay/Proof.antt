@@ -29,56 +29,8 @@ turning c = c .before .before .before .before .before .before .before
 sent : (done : ℕ) → callWidth * done + callWidth - callWidth * done ≡ callWidth
 sent done = omega arith
 
-most-requires : tie.Need-most-requires Inv-loop μ-loop
-most-requires c κs = search needs
-
 loop-holds : tie.Need-loop-holds Inv-loop μ-loop
 loop-holds c = underway-zeros _ _ _ (c .most .ensures)
-
-mul-at : tie.Need-mul-at Inv-loop μ-loop
-mul-at c = omega arith
-
-mul-to : tie.Need-mul-to Inv-loop μ-loop
-mul-to c = omega arith
-
-add-call : tie.Need-add-call Inv-loop μ-loop
-add-call c = omega arith
-
-sub-call : tie.Need-sub-call Inv-loop μ-loop
-sub-call c = omega arith
-
-part-call-start : tie.Need-part-call-start Inv-loop μ-loop
-part-call-start c = omega arith
-
-part-call-end : tie.Need-part-call-end Inv-loop μ-loop
-part-call-end c = omega arith
-
-slice-aggregate-respond : tie.Need-slice-aggregate-respond Inv-loop μ-loop
-slice-aggregate-respond c = search needs
-
-slice-aggregate-respond-2 : tie.Need-slice-aggregate-respond-2 Inv-loop μ-loop
-slice-aggregate-respond-2 c = search needs
-
-slice-aggregate-respond-3 : tie.Need-slice-aggregate-respond-3 Inv-loop μ-loop
-slice-aggregate-respond-3 c = search needs
-
-slice-aggregate-respond-4 : tie.Need-slice-aggregate-respond-4 Inv-loop μ-loop
-slice-aggregate-respond-4 c = search needs
-
-mul-respond : tie.Need-mul-respond Inv-loop μ-loop
-mul-respond c = omega arith
-
-sub-respond : tie.Need-sub-respond Inv-loop μ-loop
-sub-respond c = omega arith
-
-part-respond-start : tie.Need-part-respond-start Inv-loop μ-loop
-part-respond-start c = omega arith
-
-part-respond-end : tie.Need-part-respond-end Inv-loop μ-loop
-part-respond-end c = omega arith
-
-respond-requires : tie.Need-respond-requires Inv-loop μ-loop
-respond-requires c κs = search needs
 
 same-length : tie.Need-same-length Inv-loop μ-loop
 same-length c =
@@ -98,12 +50,6 @@ returns c =
     stops-at-none _ _ _ _ _ _ (loop .inv .1) (i .loop-test .taken) _ _ _ _ _ (sent (loop .done)) refl (loop .inv .0)
     (made .respond .ensures) (c .if1 .taken) in
     (underway-count _ _ _ _ _ _ (loop .inv .1) none, kept ∙ underway-list _ _ _ _ _ _ (loop .inv .1) none)
-
-add-done : tie.Need-add-done Inv-loop μ-loop
-add-done c = omega arith
-
-loop-less : tie.Need-loop-less Inv-loop μ-loop
-loop-less c = omega arith
 
 loop-again : tie.Need-loop-again Inv-loop μ-loop
 loop-again c =
@@ -126,30 +72,7 @@ returns-2 c =
 pub replay-spec : {M : Type 1} → statement M
 replay-spec =
     tie.close
-    (tie.spec
-    Inv-loop
-    μ-loop
-    most-requires
-    loop-holds
-    mul-at
-    mul-to
-    add-call
-    sub-call
-    part-call-start
-    part-call-end
-    slice-aggregate-respond
-    slice-aggregate-respond-2
-    slice-aggregate-respond-3
-    slice-aggregate-respond-4
-    mul-respond
-    sub-respond
-    part-respond-start
-    part-respond-end
-    respond-requires
-    same-length
-    returns
-    add-done
-    loop-less
-    loop-again
-    same-length-2
-    returns-2)
+    (tie.spec Inv-loop μ-loop (λ c κs. search needs) loop-holds (λ c. omega arith) (λ c. omega arith) (λ c. omega arith)
+    (λ c. omega arith) (λ c. omega arith) (λ c. omega arith) (λ c. search needs) (λ c. search needs) (λ c. search needs)
+    (λ c. search needs) (λ c. omega arith) (λ c. omega arith) (λ c. omega arith) (λ c. omega arith) (λ c κs. search needs) same-length
+    returns (λ c. omega arith) (λ c. omega arith) loop-again same-length-2 returns-2)

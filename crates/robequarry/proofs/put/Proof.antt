@@ -5,11 +5,8 @@ use borrow.Author.Needs.{needs}
 use Rattle.robequarry.proofs.put.Statement.{statement}
 use Rattle.robequarry.proofs.put.Tie as tie
 
-write-requires : tie.Need-write-requires
-write-requires c κs = search needs
-
 returns : tie.Need-returns
 returns c = c .write .ensures .1 ∙ seven-written _ _ (c .before .write-arg .given .0 .1)
 
 pub put-spec : {M : Type 1} → statement M
-put-spec = tie.close (tie.spec write-requires returns)
+put-spec = tie.close (tie.spec (λ c κs. search needs) returns)

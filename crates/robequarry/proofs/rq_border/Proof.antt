@@ -7,18 +7,6 @@ use borrow.Author.Needs.{needs}
 use Rattle.robequarry.proofs.rq_border.Statement.{statement}
 use Rattle.robequarry.proofs.rq_border.Tie as tie
 
-border-requires : tie.Need-border-requires
-border-requires c κs = search needs
-
-of-traced-requires : tie.Need-of-traced-requires
-of-traced-requires c κs = search needs
-
-put-requires : tie.Need-put-requires
-put-requires c κs = search needs
-
-same-length : tie.Need-same-length
-same-length c = search needs
-
 returns : tie.Need-returns
 returns c =
     let named = c .before .before in
@@ -33,4 +21,4 @@ returns c =
 
 pub rq-border-spec : {M : Type 1} → statement M
 rq-border-spec =
-    tie.close (tie.spec border-requires of-traced-requires put-requires same-length returns)
+    tie.close (tie.spec (λ c κs. search needs) (λ c κs. search needs) (λ c κs. search needs) (λ c. search needs) returns)

@@ -6,15 +6,6 @@ use borrow.Author.Needs.{needs}
 use Rattle.robequarry.proofs.rq_compare.Statement.{statement}
 use Rattle.robequarry.proofs.rq_compare.Tie as tie
 
-relate-requires : tie.Need-relate-requires
-relate-requires c κs = search needs
-
-of-comparison-requires : tie.Need-of-comparison-requires
-of-comparison-requires c κs = search needs
-
-put-requires : tie.Need-put-requires
-put-requires c κs = search needs
-
 returns : tie.Need-returns
 returns c =
     let named = c .before .before in
@@ -25,4 +16,4 @@ returns c =
     )
 
 pub rq-compare-spec : {M : Type 1} → statement M
-rq-compare-spec = tie.close (tie.spec relate-requires of-comparison-requires put-requires returns)
+rq-compare-spec = tie.close (tie.spec (λ c κs. search needs) (λ c κs. search needs) (λ c κs. search needs) returns)

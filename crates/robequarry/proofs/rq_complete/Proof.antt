@@ -7,18 +7,6 @@ use borrow.Author.Needs.{needs}
 use Rattle.robequarry.proofs.rq_complete.Statement.{statement}
 use Rattle.robequarry.proofs.rq_complete.Tie as tie
 
-complete-requires : tie.Need-complete-requires
-complete-requires c κs = search needs
-
-of-completed-requires : tie.Need-of-completed-requires
-of-completed-requires c κs = search needs
-
-put-requires : tie.Need-put-requires
-put-requires c κs = search needs
-
-same-length : tie.Need-same-length
-same-length c = search needs
-
 returns : tie.Need-returns
 returns c =
     let named = c .before .before in
@@ -33,4 +21,4 @@ returns c =
 
 pub rq-complete-spec : {M : Type 1} → statement M
 rq-complete-spec =
-    tie.close (tie.spec complete-requires of-completed-requires put-requires same-length returns)
+    tie.close (tie.spec (λ c κs. search needs) (λ c κs. search needs) (λ c κs. search needs) (λ c. search needs) returns)

@@ -6,15 +6,6 @@ use borrow.Author.Needs.{needs}
 use Rattle.robequarry.proofs.rq_loose_query.Statement.{statement}
 use Rattle.robequarry.proofs.rq_loose_query.Tie as tie
 
-loose-query-requires : tie.Need-loose-query-requires
-loose-query-requires c κs = search needs
-
-of-position-requires : tie.Need-of-position-requires
-of-position-requires c κs = search needs
-
-put-requires : tie.Need-put-requires
-put-requires c κs = search needs
-
 returns : tie.Need-returns
 returns c =
     let named = c .before .before in
@@ -26,4 +17,4 @@ returns c =
 
 pub rq-loose-query-spec : {M : Type 1} → statement M
 rq-loose-query-spec =
-    tie.close (tie.spec loose-query-requires of-position-requires put-requires returns)
+    tie.close (tie.spec (λ c κs. search needs) (λ c κs. search needs) (λ c κs. search needs) returns)

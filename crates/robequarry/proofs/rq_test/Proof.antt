@@ -6,18 +6,6 @@ use borrow.Author.Needs.{needs}
 use Rattle.robequarry.proofs.rq_test.Statement.{statement}
 use Rattle.robequarry.proofs.rq_test.Tie as tie
 
-test-requires : tie.Need-test-requires
-test-requires c κs = search needs
-
-of-verdict-requires : tie.Need-of-verdict-requires
-of-verdict-requires c κs = search needs
-
-put-requires : tie.Need-put-requires
-put-requires c κs = search needs
-
-same-length : tie.Need-same-length
-same-length c = search needs
-
 returns : tie.Need-returns
 returns c =
     let named = c .before .before in
@@ -32,4 +20,4 @@ returns c =
 
 pub rq-test-spec : {M : Type 1} → statement M
 rq-test-spec =
-    tie.close (tie.spec test-requires of-verdict-requires put-requires same-length returns)
+    tie.close (tie.spec (λ c κs. search needs) (λ c κs. search needs) (λ c κs. search needs) (λ c. search needs) returns)

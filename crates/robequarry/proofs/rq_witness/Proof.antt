@@ -7,18 +7,6 @@ use borrow.Author.Needs.{needs}
 use Rattle.robequarry.proofs.rq_witness.Statement.{statement}
 use Rattle.robequarry.proofs.rq_witness.Tie as tie
 
-witness-requires : tie.Need-witness-requires
-witness-requires c κs = search needs
-
-of-witnessed-requires : tie.Need-of-witnessed-requires
-of-witnessed-requires c κs = search needs
-
-put-requires : tie.Need-put-requires
-put-requires c κs = search needs
-
-same-length : tie.Need-same-length
-same-length c = search needs
-
 returns : tie.Need-returns
 returns c =
     let named = c .before .before in
@@ -33,4 +21,4 @@ returns c =
 
 pub rq-witness-spec : {M : Type 1} → statement M
 rq-witness-spec =
-    tie.close (tie.spec witness-requires of-witnessed-requires put-requires same-length returns)
+    tie.close (tie.spec (λ c κs. search needs) (λ c κs. search needs) (λ c κs. search needs) (λ c. search needs) returns)

@@ -10,12 +10,6 @@ use Rattle.row_sides.proofs.along.Tie as tie
 returns : tie.Need-returns
 returns c = let args = c .before .args in tells-up (args .row) (args .letter) (omega arith) (omega arith)
 
-sub-result : tie.Need-sub-result
-sub-result c = search needs
-
-cast-result : tie.Need-cast-result
-cast-result c = search needs
-
 returns-2 : tie.Need-returns-2
 returns-2 c =
     let args = c .before .before .before .args in
@@ -28,4 +22,4 @@ returns-3 c =
     (λ e l. ⊎-elim (λ w. omega (arith, ltb-false)) (λ w. w .left e) (c .if2 .came))
 
 pub along-spec : {M : Type 1} → statement M
-along-spec = tie.close (tie.spec returns sub-result cast-result returns-2 returns-3)
+along-spec = tie.close (tie.spec returns (λ c. search needs) (λ c. search needs) returns-2 returns-3)

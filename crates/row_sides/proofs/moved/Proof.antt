@@ -7,26 +7,14 @@ use Rattle.row_sides.proofs.Laws.{to-right, to-up, to-left, to-down, to
 use Rattle.row_sides.proofs.moved.Statement.{statement}
 use Rattle.row_sides.proofs.moved.Tie as tie
 
-add-t6 : tie.Need-add-t6
-add-t6 c = search needs
-
 returns : tie.Need-returns
 returns c = let args = c .before .args in to-right (args .p) (args .letter) (omega arith)
-
-add-t7 : tie.Need-add-t7
-add-t7 c = search needs
 
 returns-2 : tie.Need-returns-2
 returns-2 c = let args = c .before .before .args in to-up (args .p) (args .letter) (omega arith)
 
-sub-t10 : tie.Need-sub-t10
-sub-t10 c = search needs
-
 returns-3 : tie.Need-returns-3
 returns-3 c = let args = c .before .before .before .before .args in to-left (args .p) (args .letter) (omega arith)
-
-sub-t13 : tie.Need-sub-t13
-sub-t13 c = search needs
 
 returns-4 : tie.Need-returns-4
 returns-4 c = let args = c .before .before .before .before .before .args in to-down (args .p) (args .letter) (omega arith)
@@ -41,4 +29,4 @@ returns-5 c =
 pub moved-spec : {M : Type 1} → statement M
 moved-spec =
     tie.close
-    (tie.spec add-t6 returns add-t7 returns-2 sub-t10 returns-3 sub-t13 returns-4 returns-5)
+    (tie.spec (λ c. search needs) returns (λ c. search needs) returns-2 (λ c. search needs) returns-3 (λ c. search needs) returns-4 returns-5)

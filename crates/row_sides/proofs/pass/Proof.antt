@@ -18,63 +18,12 @@ abbrev μ-loop : tie.MeasureT-loop
 loop-holds : tie.Need-loop-holds Inv-loop μ-loop
 loop-holds c = let args = c .before .args in passing-start (outline (args .s) (now (args .w)))
 
-shared-slice-read-letter : tie.Need-shared-slice-read-letter Inv-loop μ-loop
-shared-slice-read-letter c = omega arith
-
 along-requires : tie.Need-along-requires Inv-loop μ-loop
 along-requires c κs =
     let at = c .before .before .before .before in
     let iteration = c .before .before .loop in
     passing-on (outline (at .args .s) (now (at .args .w))) (iteration .i) (iteration .p) (iteration .lo) (iteration .en) (iteration .hi)
     (iteration .low) (iteration .high) (at .pre) (omega arith) (iteration .inv) .1
-
-mul-keep : tie.Need-mul-keep Inv-loop μ-loop
-mul-keep c = omega arith
-
-array-read-keep : tie.Need-array-read-keep Inv-loop μ-loop
-array-read-keep c = omega arith
-
-mul-keep-2 : tie.Need-mul-keep-2 Inv-loop μ-loop
-mul-keep-2 c = omega arith
-
-array-read-keep-2 : tie.Need-array-read-keep-2 Inv-loop μ-loop
-array-read-keep-2 c = omega arith
-
-keep-requires : tie.Need-keep-requires Inv-loop μ-loop
-keep-requires c κs = search needs
-
-mul-greater : tie.Need-mul-greater Inv-loop μ-loop
-mul-greater c = omega arith
-
-array-read-greater : tie.Need-array-read-greater Inv-loop μ-loop
-array-read-greater c = omega arith
-
-greater-requires : tie.Need-greater-requires Inv-loop μ-loop
-greater-requires c κs = search needs
-
-mul-lo : tie.Need-mul-lo Inv-loop μ-loop
-mul-lo c = omega arith
-
-array-write-lo : tie.Need-array-write-lo Inv-loop μ-loop
-array-write-lo c = omega arith
-
-mul-en : tie.Need-mul-en Inv-loop μ-loop
-mul-en c = omega arith
-
-array-write-en : tie.Need-array-write-en Inv-loop μ-loop
-array-write-en c = omega arith
-
-mul-hi : tie.Need-mul-hi Inv-loop μ-loop
-mul-hi c = omega arith
-
-array-write-hi : tie.Need-array-write-hi Inv-loop μ-loop
-array-write-hi c = omega arith
-
-lesser-requires : tie.Need-lesser-requires Inv-loop μ-loop
-lesser-requires c κs = search needs
-
-greater-requires-2 : tie.Need-greater-requires-2 Inv-loop μ-loop
-greater-requires-2 c κs = search needs
 
 moved-requires : tie.Need-moved-requires Inv-loop μ-loop
 moved-requires c κs =
@@ -83,12 +32,6 @@ moved-requires c κs =
     let iteration = loop .loop in
     passing-on (outline (at .args .s) (now (at .args .w))) (iteration .i) (iteration .p) (iteration .lo) (iteration .en) (iteration .hi)
     (iteration .low) (iteration .high) (at .pre) (omega arith) (iteration .inv)
-
-add-i : tie.Need-add-i Inv-loop μ-loop
-add-i c = omega arith
-
-loop-less : tie.Need-loop-less Inv-loop μ-loop
-loop-less c = omega arith
 
 loop-again : tie.Need-loop-again Inv-loop μ-loop
 loop-again c =
@@ -114,30 +57,7 @@ returns c =
 pub pass-spec : {M : Type 1} → statement M
 pass-spec =
     tie.close
-    (tie.spec
-    Inv-loop
-    μ-loop
-    loop-holds
-    shared-slice-read-letter
-    along-requires
-    mul-keep
-    array-read-keep
-    mul-keep-2
-    array-read-keep-2
-    keep-requires
-    mul-greater
-    array-read-greater
-    greater-requires
-    mul-lo
-    array-write-lo
-    mul-en
-    array-write-en
-    mul-hi
-    array-write-hi
-    lesser-requires
-    greater-requires-2
-    moved-requires
-    add-i
-    loop-less
-    loop-again
-    returns)
+    (tie.spec Inv-loop μ-loop loop-holds (λ c. omega arith) along-requires (λ c. omega arith) (λ c. omega arith) (λ c. omega arith)
+    (λ c. omega arith) (λ c κs. search needs) (λ c. omega arith) (λ c. omega arith) (λ c κs. search needs) (λ c. omega arith)
+    (λ c. omega arith) (λ c. omega arith) (λ c. omega arith) (λ c. omega arith) (λ c. omega arith) (λ c κs. search needs)
+    (λ c κs. search needs) moved-requires (λ c. omega arith) (λ c. omega arith) loop-again returns)

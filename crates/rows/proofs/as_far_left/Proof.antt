@@ -24,9 +24,6 @@ products c =
 mul-result : tie.Need-mul-result
 mul-result c = omega (arith, products c)
 
-sub-result : tie.Need-sub-result
-sub-result c = search needs
-
 mul-result-2 : tie.Need-mul-result-2
 mul-result-2 c = omega (arith, products c)
 
@@ -36,16 +33,7 @@ add-result c = omega (arith, products c)
 mul-result-3 : tie.Need-mul-result-3
 mul-result-3 c = omega (arith, products c)
 
-returns : tie.Need-returns
-returns c = refl
-
 pub as-far-left-spec : {M : Type 1} → statement M
 as-far-left-spec =
     tie.close
-    (tie.spec
-    mul-result
-    sub-result
-    mul-result-2
-    add-result
-    mul-result-3
-    returns)
+    (tie.spec mul-result (λ c. search needs) mul-result-2 add-result mul-result-3 (λ c. refl))

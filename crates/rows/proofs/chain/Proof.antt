@@ -15,32 +15,8 @@ Inv-loop lo t b next top i₀ i = (b ≤ i) × (i ≤ t) × (chain (rows lo) t b
 abbrev μ-loop : tie.MeasureT-loop
 μ-loop lo t b next top i₀ i = t - i
 
-tangents-requires : tie.Need-tangents-requires Inv-loop μ-loop
-tangents-requires c κs = omega arith
-
-cast-top : tie.Need-cast-top Inv-loop μ-loop
-cast-top c = omega arith
-
-cast-i : tie.Need-cast-i Inv-loop μ-loop
-cast-i c = omega arith
-
 loop-holds : tie.Need-loop-holds Inv-loop μ-loop
 loop-holds c = (omega arith, omega arith, refl)
-
-add-loop : tie.Need-add-loop Inv-loop μ-loop
-add-loop c = omega arith
-
-cast-long : tie.Need-cast-long Inv-loop μ-loop
-cast-long c = omega arith
-
-mul-long : tie.Need-mul-long Inv-loop μ-loop
-mul-long c = omega arith
-
-array-read-long : tie.Need-array-read-long Inv-loop μ-loop
-array-read-long c = omega arith
-
-long-requires : tie.Need-long-requires Inv-loop μ-loop
-long-requires c κs = tt
 
 -- The row read from the table is the upper end of the edge
 record End (c : tie.After-long Inv-loop μ-loop) : Type 0 where
@@ -61,9 +37,6 @@ read-end c =
 gap-row-requires : tie.Need-gap-row-requires Inv-loop μ-loop
 gap-row-requires c κs = omega (arith, read-end c)
 
-cast-crossing : tie.Need-cast-crossing Inv-loop μ-loop
-cast-crossing c = omega arith
-
 cast-crossing-2 : tie.Need-cast-crossing-2 Inv-loop μ-loop
 cast-crossing-2 c = omega (arith, read-end (c .before .before))
 
@@ -72,9 +45,6 @@ cast-crossing-3 c = omega (arith, read-end (c .before .before))
 
 crossing-requires : tie.Need-crossing-requires Inv-loop μ-loop
 crossing-requires c κs = omega (arith, read-end (c .before .before))
-
-cast-t21 : tie.Need-cast-t21 Inv-loop μ-loop
-cast-t21 c = omega arith
 
 cast-t22 : tie.Need-cast-t22 Inv-loop μ-loop
 cast-t22 c = omega (arith, read-end (c .before .before .before))
@@ -105,9 +75,6 @@ loop-again c =
     in
     (omega arith, omega arith, iteration .inv .2 ∙ next)
 
-cast-t23 : tie.Need-cast-t23 Inv-loop μ-loop
-cast-t23 c = omega arith
-
 returns-2 : tie.Need-returns-2 Inv-loop μ-loop
 returns-2 c =
     let args = c .before .before .before .args in
@@ -119,27 +86,6 @@ returns-2 c =
 pub chain-spec : {M : Type 1} → statement M
 chain-spec =
     tie.close
-    (tie.spec
-    Inv-loop
-    μ-loop
-    tangents-requires
-    cast-top
-    cast-i
-    loop-holds
-    add-loop
-    cast-long
-    mul-long
-    array-read-long
-    long-requires
-    gap-row-requires
-    cast-crossing
-    cast-crossing-2
-    cast-crossing-3
-    crossing-requires
-    cast-t21
-    cast-t22
-    returns
-    loop-less
-    loop-again
-    cast-t23
-    returns-2)
+    (tie.spec Inv-loop μ-loop (λ c κs. omega arith) (λ c. omega arith) (λ c. omega arith) loop-holds (λ c. omega arith) (λ c. omega arith)
+    (λ c. omega arith) (λ c. omega arith) (λ c κs. tt) gap-row-requires (λ c. omega arith) cast-crossing-2 cast-crossing-3
+    crossing-requires (λ c. omega arith) cast-t22 returns loop-less loop-again (λ c. omega arith) returns-2)

@@ -10,27 +10,6 @@ use Rattle.rows.proofs.SearchLaws.{product-small, crossing-small}
 use Rattle.rows.proofs.crossing.Statement.{statement}
 use Rattle.rows.proofs.crossing.Tie as tie
 
-cast-at : tie.Need-cast-at
-cast-at c = search needs
-
-cast-end : tie.Need-cast-end
-cast-end c = search needs
-
-cast-row : tie.Need-cast-row
-cast-row c = search needs
-
-begins-requires : tie.Need-begins-requires
-begins-requires c κs = search needs
-
-begins-requires-2 : tie.Need-begins-requires-2
-begins-requires-2 c κs = search needs
-
-sub-height : tie.Need-sub-height
-sub-height c = search needs
-
-sub-col : tie.Need-sub-col
-sub-col c = search needs
-
 -- Bounds of the two products
 record Products (c : tie.After-begins2) : Type 0 where
   lower : c .before .begins .result * (c .before .before .args .j - c .before .before .args .r) ≤ 16711425
@@ -42,23 +21,14 @@ products c = record { lower = product-small _ _ (omega arith) (omega arith); upp
 mul-col : tie.Need-mul-col
 mul-col c = omega (arith, products c)
 
-sub-col-2 : tie.Need-sub-col-2
-sub-col-2 c = search needs
-
 mul-col-2 : tie.Need-mul-col-2
 mul-col-2 c = omega (arith, products c)
 
 add-col : tie.Need-add-col
 add-col c = omega (arith, products c)
 
-sub-col-3 : tie.Need-sub-col-3
-sub-col-3 c = search needs
-
 add-col-2 : tie.Need-add-col-2
 add-col-2 c = omega (arith, products c)
-
-div-col : tie.Need-div-col
-div-col c = search needs
 
 -- The column is that of the definition, and has 16 bits
 found : (c : tie.After-begins2) →
@@ -85,20 +55,6 @@ returns c = found c
 pub crossing-spec : {M : Type 1} → statement M
 crossing-spec =
     tie.close
-    (tie.spec
-    cast-at
-    cast-end
-    cast-row
-    begins-requires
-    begins-requires-2
-    sub-height
-    sub-col
-    mul-col
-    sub-col-2
-    mul-col-2
-    add-col
-    sub-col-3
-    add-col-2
-    div-col
-    cast-result
-    returns)
+    (tie.spec (λ c. search needs) (λ c. search needs) (λ c. search needs) (λ c κs. search needs) (λ c κs. search needs)
+    (λ c. search needs) (λ c. search needs) mul-col (λ c. search needs) mul-col-2 add-col (λ c. search needs) add-col-2
+    (λ c. search needs) cast-result returns)

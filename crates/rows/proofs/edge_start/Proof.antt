@@ -8,15 +8,6 @@ use borrow.Author.Needs.{needs}
 use Rattle.rows.proofs.edge_start.Statement.{statement}
 use Rattle.rows.proofs.edge_start.Tie as tie
 
-mul-wide : tie.Need-mul-wide
-mul-wide c = search needs
-
-element-copy-out-wide : tie.Need-element-copy-out-wide
-element-copy-out-wide c = search needs
-
-wide-requires : tie.Need-wide-requires
-wide-requires c κs = search needs
-
 returns : tie.Need-returns
 returns c =
     let args = c .before .before .before .args in
@@ -28,4 +19,4 @@ returns-2 c =
     rw (lt-leb (args .r) (rows (now (args .next)) (args .i)) (omega (arith, c .before .wide .ensures))) (c .before .wide .ensures .0)
 
 pub edge-start-spec : {M : Type 1} → statement M
-edge-start-spec = tie.close (tie.spec mul-wide element-copy-out-wide wide-requires returns returns-2)
+edge-start-spec = tie.close (tie.spec (λ c. search needs) (λ c. search needs) (λ c κs. search needs) returns returns-2)

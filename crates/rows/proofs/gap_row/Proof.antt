@@ -15,14 +15,8 @@ Inv-loop lo i j r₀ r = (i < r) × (r ≤ j) × NoGap (rows lo) i j r
 abbrev μ-loop : tie.MeasureT-loop
 μ-loop lo i j r₀ r = j - r
 
-add-r : tie.Need-add-r Inv-loop μ-loop
-add-r c = omega arith
-
 loop-holds : tie.Need-loop-holds Inv-loop μ-loop
 loop-holds c = (omega arith, omega arith, no-gap-start _ _ _)
-
-is-gap-requires : tie.Need-is-gap-requires Inv-loop μ-loop
-is-gap-requires c κs = omega arith
 
 returns : tie.Need-returns Inv-loop μ-loop
 returns c =
@@ -33,12 +27,6 @@ returns c =
       omega arith,
       omega arith,
     )
-
-add-r-2 : tie.Need-add-r-2 Inv-loop μ-loop
-add-r-2 c = omega arith
-
-loop-less : tie.Need-loop-less Inv-loop μ-loop
-loop-less c = omega arith
 
 loop-again : tie.Need-loop-again Inv-loop μ-loop
 loop-again c =
@@ -60,14 +48,5 @@ returns-2 c =
 pub gap-row-spec : {M : Type 1} → statement M
 gap-row-spec =
     tie.close
-    (tie.spec
-    Inv-loop
-    μ-loop
-    add-r
-    loop-holds
-    is-gap-requires
-    returns
-    add-r-2
-    loop-less
-    loop-again
+    (tie.spec Inv-loop μ-loop (λ c. omega arith) loop-holds (λ c κs. omega arith) returns (λ c. omega arith) (λ c. omega arith) loop-again
     returns-2)

@@ -25,21 +25,6 @@ below-quotient x y h pos =
     not-below : (x < y * h → ⊥) → y * h ≤ x
     not-below n = elim (decLt x (y * h)) [ yes m ↦ absurd (n m) | no m ↦ omega arith ]
 
-begins-requires : tie.Need-begins-requires
-begins-requires c κs = search needs
-
-begins-requires-2 : tie.Need-begins-requires-2
-begins-requires-2 c κs = search needs
-
-begins-requires-3 : tie.Need-begins-requires-3
-begins-requires-3 c κs = search needs
-
-sub-height : tie.Need-sub-height
-sub-height c = search needs
-
-sub-result : tie.Need-sub-result
-sub-result c = search needs
-
 -- Bounds of the three products
 record Products (c : tie.After-begins3) : Type 0 where
   lower : c .before .before .begins .result * (c .before .before .before .args .j - c .before .before .before .args .r) ≤ 16711425
@@ -57,17 +42,11 @@ products c =
 mul-result : tie.Need-mul-result
 mul-result c = omega (arith, products c)
 
-sub-result-2 : tie.Need-sub-result-2
-sub-result-2 c = search needs
-
 mul-result-2 : tie.Need-mul-result-2
 mul-result-2 c = omega (arith, products c)
 
 add-result : tie.Need-add-result
 add-result c = omega (arith, products c)
-
-sub-result-3 : tie.Need-sub-result-3
-sub-result-3 c = search needs
 
 add-result-2 : tie.Need-add-result-2
 add-result-2 c = omega (arith, products c)
@@ -92,17 +71,5 @@ returns c =
 pub is-gap-spec : {M : Type 1} → statement M
 is-gap-spec =
     tie.close
-    (tie.spec
-    begins-requires
-    begins-requires-2
-    begins-requires-3
-    sub-height
-    sub-result
-    mul-result
-    sub-result-2
-    mul-result-2
-    add-result
-    sub-result-3
-    add-result-2
-    mul-result-3
-    returns)
+    (tie.spec (λ c κs. search needs) (λ c κs. search needs) (λ c κs. search needs) (λ c. search needs) (λ c. search needs) mul-result
+    (λ c. search needs) mul-result-2 add-result (λ c. search needs) add-result-2 mul-result-3 returns)

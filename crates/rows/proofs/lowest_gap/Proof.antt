@@ -6,15 +6,6 @@ use borrow.Author.Needs.{needs}
 use Rattle.rows.proofs.lowest_gap.Statement.{statement}
 use Rattle.rows.proofs.lowest_gap.Tie as tie
 
-chain-requires : tie.Need-chain-requires
-chain-requires c κs = search needs
-
-mirrored-requires : tie.Need-mirrored-requires
-mirrored-requires c κs = search needs
-
-chain-requires-2 : tie.Need-chain-requires-2
-chain-requires-2 c κs = search needs
-
 returns : tie.Need-returns
 returns c =
     let args = c .before .before .before .before .before .before .before .before .before .before .before .args in
@@ -33,15 +24,6 @@ returns c =
     (left .ensures .0)
     (right .ensures .0)
     (omega arith)
-
-wide-requires : tie.Need-wide-requires
-wide-requires c κs = search needs
-
-mul-t15 : tie.Need-mul-t15
-mul-t15 c = search needs
-
-array-read-t18 : tie.Need-array-read-t18
-array-read-t18 c = search needs
 
 returns-2 : tie.Need-returns-2
 returns-2 c = rw (c .wide .ensures .0) (
@@ -65,12 +47,5 @@ returns-2 c = rw (c .wide .ensures .0) (
 pub lowest-gap-spec : {M : Type 1} → statement M
 lowest-gap-spec =
     tie.close
-    (tie.spec
-    chain-requires
-    mirrored-requires
-    chain-requires-2
-    returns
-    wide-requires
-    mul-t15
-    array-read-t18
-    returns-2)
+    (tie.spec (λ c κs. search needs) (λ c κs. search needs) (λ c κs. search needs) returns (λ c κs. search needs) (λ c. search needs)
+    (λ c. search needs) returns-2)

@@ -11,18 +11,6 @@ use borrow.Author.Needs.{needs}
 use Rattle.rows.proofs.mark_down.Statement.{statement}
 use Rattle.rows.proofs.mark_down.Tie as tie
 
-wide-requires : tie.Need-wide-requires
-wide-requires c κs = search needs
-
-sub-hi : tie.Need-sub-hi
-sub-hi c = search needs
-
-mul-hi : tie.Need-mul-hi
-mul-hi c = search needs
-
-element-write-hi : tie.Need-element-write-hi
-element-write-hi c = search needs
-
 returns : tie.Need-returns
 returns c =
     let args = c .before .before .before .args in
@@ -46,4 +34,4 @@ returns-2 c =
 
 pub mark-down-spec : {M : Type 1} → statement M
 mark-down-spec =
-    tie.close (tie.spec wide-requires sub-hi mul-hi element-write-hi returns returns-2)
+    tie.close (tie.spec (λ c κs. search needs) (λ c. search needs) (λ c. search needs) (λ c. search needs) returns returns-2)

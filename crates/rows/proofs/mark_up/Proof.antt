@@ -9,15 +9,6 @@ use borrow.Author.Needs.{needs}
 use Rattle.rows.proofs.mark_up.Statement.{statement}
 use Rattle.rows.proofs.mark_up.Tie as tie
 
-wide-requires : tie.Need-wide-requires
-wide-requires c κs = search needs
-
-mul-lo : tie.Need-mul-lo
-mul-lo c = search needs
-
-element-write-lo : tie.Need-element-write-lo
-element-write-lo c = search needs
-
 returns : tie.Need-returns
 returns c =
     let args = c .before .before .args in
@@ -38,4 +29,4 @@ returns-2 c =
     let (letter, row) = up-along (cornerNumbered (args .number)) (args .letter) r e in c .if1 .left letter
 
 pub mark-up-spec : {M : Type 1} → statement M
-mark-up-spec = tie.close (tie.spec wide-requires mul-lo element-write-lo returns returns-2)
+mark-up-spec = tie.close (tie.spec (λ c κs. search needs) (λ c. search needs) (λ c. search needs) returns returns-2)

@@ -21,27 +21,6 @@ abbrev μ-loop : tie.MeasureT-loop
 loop-holds : tie.Need-loop-holds Inv-loop μ-loop
 loop-holds c = (omega arith, refl, λ m h. absurd (omega arith))
 
-mul-remaining : tie.Need-mul-remaining Inv-loop μ-loop
-mul-remaining c = omega arith
-
-element-copy-out-remaining : tie.Need-element-copy-out-remaining Inv-loop μ-loop
-element-copy-out-remaining c = omega arith
-
-remaining-requires : tie.Need-remaining-requires Inv-loop μ-loop
-remaining-requires c κs = tt
-
-mul-left : tie.Need-mul-left Inv-loop μ-loop
-mul-left c = omega arith
-
-array-write-left : tie.Need-array-write-left Inv-loop μ-loop
-array-write-left c = omega arith
-
-add-k : tie.Need-add-k Inv-loop μ-loop
-add-k c = omega arith
-
-loop-less : tie.Need-loop-less Inv-loop μ-loop
-loop-less c = omega arith
-
 loop-again : tie.Need-loop-again Inv-loop μ-loop
 loop-again c =
     let iteration = c .before .before .before .loop in
@@ -62,16 +41,5 @@ returns c = λ k h. c .before .loop .inv .2 k (omega arith)
 pub mirrored-spec : {M : Type 1} → statement M
 mirrored-spec =
     tie.close
-    (tie.spec
-    Inv-loop
-    μ-loop
-    loop-holds
-    mul-remaining
-    element-copy-out-remaining
-    remaining-requires
-    mul-left
-    array-write-left
-    add-k
-    loop-less
-    loop-again
-    returns)
+    (tie.spec Inv-loop μ-loop loop-holds (λ c. omega arith) (λ c. omega arith) (λ c κs. tt) (λ c. omega arith) (λ c. omega arith)
+    (λ c. omega arith) (λ c. omega arith) loop-again returns)

@@ -17,18 +17,6 @@ returns c = found-high _ _ _ (omega arith)
 returns-2 : tie.Need-returns-2
 returns-2 c = found-below _ _ _ (omega arith)
 
-row-ends-requires : tie.Need-row-ends-requires
-row-ends-requires c κs = search needs
-
-wide-requires : tie.Need-wide-requires
-wide-requires c κs = search needs
-
-wide-requires-2 : tie.Need-wide-requires-2
-wide-requires-2 c κs = search needs
-
-lowest-gap-requires : tie.Need-lowest-gap-requires
-lowest-gap-requires c κs = search needs
-
 returns-3 : tie.Need-returns-3
 returns-3 c =
     let args = c .before .before .before .before .before .before .before .args in
@@ -54,11 +42,4 @@ returns-3 c =
 pub missing-cell-spec : {M : Type 1} → statement M
 missing-cell-spec =
     tie.close
-    (tie.spec
-    returns
-    returns-2
-    row-ends-requires
-    wide-requires
-    wide-requires-2
-    lowest-gap-requires
-    returns-3)
+    (tie.spec returns returns-2 (λ c κs. search needs) (λ c κs. search needs) (λ c κs. search needs) (λ c κs. search needs) returns-3)

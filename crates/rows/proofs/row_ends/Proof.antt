@@ -16,35 +16,14 @@ Inv-loop w lo₀ hi₀ number₀ i₀ lo hi number i = Marks number₀ w i numbe
 abbrev μ-loop : tie.MeasureT-loop
 μ-loop w lo₀ hi₀ number₀ i₀ lo hi number i = length w - i
 
-mul-number : tie.Need-mul-number Inv-loop μ-loop
-mul-number c = omega arith
-
-add-number : tie.Need-add-number Inv-loop μ-loop
-add-number c = omega arith
-
 loop-holds : tie.Need-loop-holds Inv-loop μ-loop
 loop-holds c = marks-start (numbered (c .before .before .before .args .s)) (now (c .before .before .before .args .w))
-
-shared-slice-read-letter : tie.Need-shared-slice-read-letter Inv-loop μ-loop
-shared-slice-read-letter c = omega arith
-
-stride-requires : tie.Need-stride-requires Inv-loop μ-loop
-stride-requires c κs = search needs
-
-wrapping-add-u16-requires : tie.Need-wrapping-add-u16-requires Inv-loop μ-loop
-wrapping-add-u16-requires c κs = search needs
 
 mark-up-requires : tie.Need-mark-up-requires Inv-loop μ-loop
 mark-up-requires c κs = c .before .before .before .before .before .loop .inv .ups .size
 
 mark-down-requires : tie.Need-mark-down-requires Inv-loop μ-loop
 mark-down-requires c κs = c .before .before .before .before .before .before .before .loop .inv .downs .size
-
-add-i : tie.Need-add-i Inv-loop μ-loop
-add-i c = omega arith
-
-loop-less : tie.Need-loop-less Inv-loop μ-loop
-loop-less c = omega arith
 
 loop-again : tie.Need-loop-again Inv-loop μ-loop
 loop-again c =
@@ -80,18 +59,5 @@ returns c =
 pub row-ends-spec : {M : Type 1} → statement M
 row-ends-spec =
     tie.close
-    (tie.spec
-    Inv-loop
-    μ-loop
-    mul-number
-    add-number
-    loop-holds
-    shared-slice-read-letter
-    stride-requires
-    wrapping-add-u16-requires
-    mark-up-requires
-    mark-down-requires
-    add-i
-    loop-less
-    loop-again
-    returns)
+    (tie.spec Inv-loop μ-loop (λ c. omega arith) (λ c. omega arith) loop-holds (λ c. omega arith) (λ c κs. search needs)
+    (λ c κs. search needs) mark-up-requires mark-down-requires (λ c. omega arith) (λ c. omega arith) loop-again returns)

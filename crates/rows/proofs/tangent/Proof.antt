@@ -18,23 +18,11 @@ Inv-loop lo next i t above a j₀ b₀ k₀ j b k =
 abbrev μ-loop : tie.MeasureT-loop
 μ-loop lo next i t above a j₀ b₀ k₀ j b k = t - j
 
-begins-requires : tie.Need-begins-requires Inv-loop μ-loop
-begins-requires c κs = omega arith
-
-add-j : tie.Need-add-j Inv-loop μ-loop
-add-j c = omega arith
-
-begins-requires-2 : tie.Need-begins-requires-2 Inv-loop μ-loop
-begins-requires-2 c κs = omega arith
-
 loop-holds : tie.Need-loop-holds Inv-loop μ-loop
 loop-holds c =
     let start = c .before .before in
     let e : start .args .i + 1 ≡ suc (start .args .i) = omega arith in
     (omega arith, omega arith, c .begins2 .ensures .0, c .begins2 .ensures .1, rw e (start .pre .2), rw e (furthest-start _ _))
-
-add-loop : tie.Need-add-loop Inv-loop μ-loop
-add-loop c = omega arith
 
 -- Row `k` is the furthest left, seen from row `j`
 next-furthest :
@@ -50,9 +38,6 @@ next-furthest c =
 
 begins-requires-3 : tie.Need-begins-requires-3 Inv-loop μ-loop
 begins-requires-3 c κs = omega (arith, next-furthest c)
-
-sub-as-far-left : tie.Need-sub-as-far-left Inv-loop μ-loop
-sub-as-far-left c = omega arith
 
 sub-as-far-left-2 : tie.Need-sub-as-far-left-2 Inv-loop μ-loop
 sub-as-far-left-2 c = omega (arith, next-furthest (c .before))
@@ -99,9 +84,6 @@ mul-long c = omega (arith, next-furthest (c .before .before .before))
 element-copy-out-long : tie.Need-element-copy-out-long Inv-loop μ-loop
 element-copy-out-long c = omega (arith, next-furthest (c .before .before .before))
 
-long-requires : tie.Need-long-requires Inv-loop μ-loop
-long-requires c κs = tt
-
 loop-less : tie.Need-loop-less Inv-loop μ-loop
 loop-less c = omega (arith, next-furthest (c .before .before .before .before .before))
 
@@ -133,23 +115,6 @@ returns-2 c =
 pub tangent-spec : {M : Type 1} → statement M
 tangent-spec =
     tie.close
-    (tie.spec
-    Inv-loop
-    μ-loop
-    begins-requires
-    add-j
-    begins-requires-2
-    loop-holds
-    add-loop
-    begins-requires-3
-    sub-as-far-left
-    sub-as-far-left-2
-    as-far-left-requires
-    returns
-    cast-long
-    mul-long
-    element-copy-out-long
-    long-requires
-    loop-less
-    loop-again
-    returns-2)
+    (tie.spec Inv-loop μ-loop (λ c κs. omega arith) (λ c. omega arith) (λ c κs. omega arith) loop-holds (λ c. omega arith)
+    begins-requires-3 (λ c. omega arith) sub-as-far-left-2 as-far-left-requires returns cast-long mul-long element-copy-out-long
+    (λ c κs. tt) loop-less loop-again returns-2)

@@ -16,12 +16,6 @@ Inv-loop lo b t next₀ bottom top i₀ above₀ next i above =
 abbrev μ-loop : tie.MeasureT-loop
 μ-loop lo b t next₀ bottom top i₀ above₀ next i above = i - b - 1
 
-cast-bottom : tie.Need-cast-bottom Inv-loop μ-loop
-cast-bottom c = omega arith
-
-cast-top : tie.Need-cast-top Inv-loop μ-loop
-cast-top c = omega arith
-
 loop-holds : tie.Need-loop-holds Inv-loop μ-loop
 loop-holds c = (
   omega arith,
@@ -30,38 +24,11 @@ loop-holds c = (
   record { furthest-left = λ i h l. absurd (omega arith) },
 )
 
-add-loop : tie.Need-add-loop Inv-loop μ-loop
-add-loop c = omega arith
-
-sub-i : tie.Need-sub-i Inv-loop μ-loop
-sub-i c = omega arith
-
-sub-tangent : tie.Need-sub-tangent Inv-loop μ-loop
-sub-tangent c = omega arith
-
 tangent-requires : tie.Need-tangent-requires Inv-loop μ-loop
 tangent-requires c κs =
     let iteration = c .before .before .loop in
     let e : suc (iteration .i - 1 - 1) ≡ iteration .i - 1 = omega arith in
     (omega arith, omega arith, rw e (iteration .inv .2), rw e (iteration .inv .3))
-
-cast-next : tie.Need-cast-next Inv-loop μ-loop
-cast-next c = omega arith
-
-sub-next : tie.Need-sub-next Inv-loop μ-loop
-sub-next c = omega arith
-
-cast-next-2 : tie.Need-cast-next-2 Inv-loop μ-loop
-cast-next-2 c = omega arith
-
-mul-next : tie.Need-mul-next Inv-loop μ-loop
-mul-next c = omega arith
-
-array-write-next : tie.Need-array-write-next Inv-loop μ-loop
-array-write-next c = omega arith
-
-loop-less : tie.Need-loop-less Inv-loop μ-loop
-loop-less c = omega arith
 
 loop-again : tie.Need-loop-again Inv-loop μ-loop
 loop-again c =
@@ -91,21 +58,6 @@ returns c =
 pub tangents-spec : {M : Type 1} → statement M
 tangents-spec =
     tie.close
-    (tie.spec
-    Inv-loop
-    μ-loop
-    cast-bottom
-    cast-top
-    loop-holds
-    add-loop
-    sub-i
-    sub-tangent
-    tangent-requires
-    cast-next
-    sub-next
-    cast-next-2
-    mul-next
-    array-write-next
-    loop-less
-    loop-again
-    returns)
+    (tie.spec Inv-loop μ-loop (λ c. omega arith) (λ c. omega arith) loop-holds (λ c. omega arith) (λ c. omega arith) (λ c. omega arith)
+    tangent-requires (λ c. omega arith) (λ c. omega arith) (λ c. omega arith) (λ c. omega arith) (λ c. omega arith) (λ c. omega arith)
+    loop-again returns)

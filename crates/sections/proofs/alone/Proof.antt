@@ -6,15 +6,6 @@ use Rattle.sections.specs.Sections.{full, alone}
 use Rattle.sections.proofs.alone.Statement.{statement}
 use Rattle.sections.proofs.alone.Tie as tie
 
-full-requires : tie.Need-full-requires
-full-requires c κs = search needs
-
-number-requires : tie.Need-number-requires
-number-requires c κs = search needs
-
-number-requires-2 : tie.Need-number-requires-2
-number-requires-2 c κs = search needs
-
 returns : tie.Need-returns
 unfolding alone
 returns c = (
@@ -31,4 +22,4 @@ unfolding alone
 returns-2 c = (rw (sym (c .before .full .ensures) ∙ c .if1 .left), (omega arith, omega arith))
 
 pub alone-spec : {M : Type 1} → statement M
-alone-spec = tie.close (tie.spec full-requires number-requires number-requires-2 returns returns-2)
+alone-spec = tie.close (tie.spec (λ c κs. search needs) (λ c κs. search needs) (λ c κs. search needs) returns returns-2)

@@ -20,20 +20,11 @@ loop-holds : tie.Need-loop-holds Inv-loop μ-loop
 unfolding every
 loop-holds c = (omega arith, refl)
 
-whole-requires : tie.Need-whole-requires Inv-loop μ-loop
-whole-requires c κs = omega arith
-
 returns : tie.Need-returns Inv-loop μ-loop
 unfolding clear
 returns c =
     every-not _ layers (c .before .before .before .before .before .loop .j) (omega arith) (sym (c .before .whole .ensures)
     ∙ not-true _ (c .if1 .taken))
-
-add-j : tie.Need-add-j Inv-loop μ-loop
-add-j c = omega arith
-
-loop-less : tie.Need-loop-less Inv-loop μ-loop
-loop-less c = omega arith
 
 loop-again : tie.Need-loop-again Inv-loop μ-loop
 loop-again c = (
@@ -49,13 +40,4 @@ returns-2 c = let end : c .before .loop .j ≡ layers = omega arith in sym (rw e
 pub is-clear-spec : {M : Type 1} → statement M
 is-clear-spec =
     tie.close
-    (tie.spec
-    Inv-loop
-    μ-loop
-    loop-holds
-    whole-requires
-    returns
-    add-j
-    loop-less
-    loop-again
-    returns-2)
+    (tie.spec Inv-loop μ-loop loop-holds (λ c κs. omega arith) returns (λ c. omega arith) (λ c. omega arith) loop-again returns-2)

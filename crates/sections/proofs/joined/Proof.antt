@@ -8,51 +8,9 @@ use Rattle.sections.proofs.Quotients.{line-small}
 use Rattle.sections.proofs.joined.Statement.{statement}
 use Rattle.sections.proofs.joined.Tie as tie
 
-full-requires : tie.Need-full-requires
-full-requires c κs = search needs
-
 returns : tie.Need-returns
 unfolding joined
 returns c = (rw (sym (c .before .full .ensures) ∙ not-true _ (c .if1 .taken)), c .before .before .pre .3)
-
-sub-near : tie.Need-sub-near
-sub-near c = search needs
-
-sub-far : tie.Need-sub-far
-sub-far c = search needs
-
-number-requires : tie.Need-number-requires
-number-requires c κs = search needs
-
-number-requires-2 : tie.Need-number-requires-2
-number-requires-2 c κs = search needs
-
-weighed-requires : tie.Need-weighed-requires
-weighed-requires c κs = search needs
-
-number-requires-3 : tie.Need-number-requires-3
-number-requires-3 c κs = search needs
-
-before-requires : tie.Need-before-requires
-before-requires c κs = search needs
-
-number-requires-4 : tie.Need-number-requires-4
-number-requires-4 c κs = search needs
-
-before-requires-2 : tie.Need-before-requires-2
-before-requires-2 c κs = search needs
-
-weighed-requires-2 : tie.Need-weighed-requires-2
-weighed-requires-2 c κs = search needs
-
-sub-lowered : tie.Need-sub-lowered
-sub-lowered c = search needs
-
-lowered-requires : tie.Need-lowered-requires
-lowered-requires c κs = search needs
-
-sub-raised : tie.Need-sub-raised
-sub-raised c = search needs
 
 raised-requires : tie.Need-raised-requires
 raised-requires c κs =
@@ -96,21 +54,6 @@ returns-2 c =
 pub joined-spec : {M : Type 1} → statement M
 joined-spec =
     tie.close
-    (tie.spec
-    full-requires
-    returns
-    sub-near
-    sub-far
-    number-requires
-    number-requires-2
-    weighed-requires
-    number-requires-3
-    before-requires
-    number-requires-4
-    before-requires-2
-    weighed-requires-2
-    sub-lowered
-    lowered-requires
-    sub-raised
-    raised-requires
-    returns-2)
+    (tie.spec (λ c κs. search needs) returns (λ c. search needs) (λ c. search needs) (λ c κs. search needs) (λ c κs. search needs)
+    (λ c κs. search needs) (λ c κs. search needs) (λ c κs. search needs) (λ c κs. search needs) (λ c κs. search needs)
+    (λ c κs. search needs) (λ c. search needs) (λ c κs. search needs) (λ c. search needs) raised-requires returns-2)

@@ -24,9 +24,6 @@ returns : tie.Need-returns Inv-loop μ-loop
 unfolding joinedFrom
 returns c = (rw (sym (c .before .full .ensures) ∙ not-true _ (c .if1 .taken)), c .before .before .pre .2)
 
-add-k : tie.Need-add-k Inv-loop μ-loop
-add-k c = search needs
-
 loop-holds : tie.Need-loop-holds Inv-loop μ-loop
 loop-holds c =
     let (h, l, bounded) = c .before .before .pre in
@@ -37,12 +34,6 @@ joined-requires c κs =
     let (h, l, bounded) = c .before .before .before .before .pre in
     let (from, most, same, still) = c .before .loop .inv in
     (h, omega (arith, from), omega arith, still)
-
-add-k-2 : tie.Need-add-k-2 Inv-loop μ-loop
-add-k-2 c = omega arith
-
-loop-less : tie.Need-loop-less Inv-loop μ-loop
-loop-less c = omega arith
 
 loop-again : tie.Need-loop-again Inv-loop μ-loop
 loop-again c =
@@ -66,15 +57,5 @@ returns-2 c =
 pub joined-from-spec : {M : Type 1} → statement M
 joined-from-spec =
     tie.close
-    (tie.spec
-    Inv-loop
-    μ-loop
-    full-requires
-    returns
-    add-k
-    loop-holds
-    joined-requires
-    add-k-2
-    loop-less
-    loop-again
-    returns-2)
+    (tie.spec Inv-loop μ-loop full-requires returns (λ c. search needs) loop-holds joined-requires (λ c. omega arith) (λ c. omega arith)
+    loop-again returns-2)

@@ -8,20 +8,8 @@ use Rattle.sections.proofs.Quotients.{product-small, ceiling-taken, cei
 use Rattle.sections.proofs.lowered.Statement.{statement}
 use Rattle.sections.proofs.lowered.Tie as tie
 
-add-if1 : tie.Need-add-if1
-add-if1 c = search needs
-
 mul-if1 : tie.Need-mul-if1
 mul-if1 c = omega (arith, product-small (c .args .d) (c .args .low) (omega arith) (omega arith))
-
-sub-result : tie.Need-sub-result
-sub-result c = search needs
-
-add-result : tie.Need-add-result
-add-result c = search needs
-
-div-result : tie.Need-div-result
-div-result c = search needs
 
 smaller : (a b : ℕ) → b < a → b ≡ min a b
 smaller a b h = omega arith
@@ -44,4 +32,4 @@ returns-2 c =
     )
 
 pub lowered-spec : {M : Type 1} → statement M
-lowered-spec = tie.close (tie.spec add-if1 mul-if1 sub-result add-result div-result returns returns-2)
+lowered-spec = tie.close (tie.spec (λ c. search needs) mul-if1 (λ c. search needs) (λ c. search needs) (λ c. search needs) returns returns-2)

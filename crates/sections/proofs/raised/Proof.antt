@@ -12,9 +12,6 @@ use Rattle.sections.proofs.raised.Tie as tie
 mul-if1 : tie.Need-mul-if1
 mul-if1 c = omega (arith, product-small (c .args .d) (c .args .high) (omega arith) (omega arith))
 
-div-result : tie.Need-div-result
-div-result c = search needs
-
 small : (c : tie.Start) → above (c .args .a) (c .args .d) ≤ side
 small c = above-small (c .args .a) (c .args .d) (omega arith) (omega arith)
 
@@ -44,4 +41,4 @@ returns-2 c =
     )
 
 pub raised-spec : {M : Type 1} → statement M
-raised-spec = tie.close (tie.spec mul-if1 div-result add-result returns returns-2)
+raised-spec = tie.close (tie.spec mul-if1 (λ c. search needs) add-result returns returns-2)

@@ -23,12 +23,6 @@ loop-holds c = (omega arith, fold-none _ _ 0 (omega arith), c .alone .ensures .1
 joined-from-requires : tie.Need-joined-from-requires Inv-loop μ-loop
 joined-from-requires c κs = (omega arith, c .before .before .before .pre, c .before .loop .inv .2)
 
-add-i : tie.Need-add-i Inv-loop μ-loop
-add-i c = omega arith
-
-loop-less : tie.Need-loop-less Inv-loop μ-loop
-loop-less c = omega arith
-
 loop-again : tie.Need-loop-again Inv-loop μ-loop
 loop-again c =
     let args = c .before .before .before .before .args in
@@ -50,13 +44,4 @@ returns c =
 pub reached-spec : {M : Type 1} → statement M
 reached-spec =
     tie.close
-    (tie.spec
-    Inv-loop
-    μ-loop
-    alone-requires
-    loop-holds
-    joined-from-requires
-    add-i
-    loop-less
-    loop-again
-    returns)
+    (tie.spec Inv-loop μ-loop alone-requires loop-holds joined-from-requires (λ c. omega arith) (λ c. omega arith) loop-again returns)

@@ -15,18 +15,9 @@ beyond : (lo past : ℕ → ℕ) (j : ℕ) (r : Reach) (x y : ℕ) → r ≡ rea
 unfolding whole wholeIn
 beyond lo past j r x y e f g h k = rw (sym e, sym f, sym g, lt-leb (r .high) (r .low) h, le-leb x (r .low) k)
 
-reached-requires : tie.Need-reached-requires
-reached-requires c κs = search needs
-
 returns : tie.Need-returns
 unfolding whole wholeIn
 returns c = rw (sym (c .before .before .reached .ensures), le-leb _ _ (c .if1 .taken))
-
-number-requires : tie.Need-number-requires
-number-requires c κs = search needs
-
-number-requires-2 : tie.Need-number-requires-2
-number-requires-2 c κs = search needs
 
 returns-2 : tie.Need-returns-2
 returns-2 c =
@@ -47,4 +38,4 @@ returns-3 c =
 pub whole-spec : {M : Type 1} → statement M
 whole-spec =
     tie.close
-    (tie.spec reached-requires returns number-requires number-requires-2 returns-2 returns-3)
+    (tie.spec (λ c κs. search needs) returns (λ c κs. search needs) (λ c κs. search needs) returns-2 returns-3)

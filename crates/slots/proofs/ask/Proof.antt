@@ -5,19 +5,13 @@ use borrow.Author.Needs.{needs}
 use Rattle.slots.proofs.ask.Statement.{statement}
 use Rattle.slots.proofs.ask.Tie as tie
 
-bad-place-requires : tie.Need-bad-place-requires
-bad-place-requires c κs = search needs
-
 returns : tie.Need-returns
 unfolding askOf
 returns c = rw (sym (c .before .bad-place .ensures) ∙ c .if1 .taken)
-
-answer-requires : tie.Need-answer-requires
-answer-requires c κs = search needs
 
 returns-2 : tie.Need-returns-2
 unfolding askOf
 returns-2 c = rw (sym (c .before .before .bad-place .ensures) ∙ c .before .if1 .left, c .answer .ensures)
 
 pub ask-spec : {M : Type 1} → statement M
-ask-spec = tie.close (tie.spec bad-place-requires returns answer-requires returns-2)
+ask-spec = tie.close (tie.spec (λ c κs. search needs) returns (λ c κs. search needs) returns-2)

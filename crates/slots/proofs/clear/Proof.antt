@@ -5,19 +5,13 @@ use borrow.Author.Needs.{needs}
 use Rattle.slots.proofs.clear.Statement.{statement}
 use Rattle.slots.proofs.clear.Tie as tie
 
-bad-place-requires : tie.Need-bad-place-requires
-bad-place-requires c κs = search needs
-
 returns : tie.Need-returns
 unfolding clearOf
 returns c = rw (sym (c .before .bad-place .ensures) ∙ c .if1 .taken)
-
-remove-requires : tie.Need-remove-requires
-remove-requires c κs = search needs
 
 returns-2 : tie.Need-returns-2
 unfolding clearOf
 returns-2 c = rw (sym (c .before .before .bad-place .ensures) ∙ c .before .if1 .left, c .remove .ensures)
 
 pub clear-spec : {M : Type 1} → statement M
-clear-spec = tie.close (tie.spec bad-place-requires returns remove-requires returns-2)
+clear-spec = tie.close (tie.spec (λ c κs. search needs) returns (λ c κs. search needs) returns-2)

@@ -6,12 +6,6 @@ use borrow.Author.Needs.{needs}
 use Rattle.slots.proofs.close.Statement.{statement}
 use Rattle.slots.proofs.close.Tie as tie
 
-bad-place-requires : tie.Need-bad-place-requires
-bad-place-requires c κs = search needs
-
-end-requires : tie.Need-end-requires
-end-requires c κs = search needs
-
 returns : tie.Need-returns
 unfolding closeOf
 returns c = rw (sym (c .before .before .bad-place .ensures) ∙ c .before .if1 .taken, c .end .ensures)
@@ -23,12 +17,6 @@ returns-2 c =
       sym (c .before .before .before .bad-place .ensures) ∙ c .before .before .if1 .left,
       not-true (c .before .before .before .before .args .draft .begun) (c .if2 .taken),
     )
-
-judge-requires : tie.Need-judge-requires
-judge-requires c κs = search needs
-
-close-by-requires : tie.Need-close-by-requires
-close-by-requires c κs = search needs
 
 returns-3 : tie.Need-returns-3
 unfolding closeOf
@@ -43,11 +31,4 @@ returns-3 c =
 pub close-spec : {M : Type 1} → statement M
 close-spec =
     tie.close
-    (tie.spec
-    bad-place-requires
-    end-requires
-    returns
-    returns-2
-    judge-requires
-    close-by-requires
-    returns-3)
+    (tie.spec (λ c κs. search needs) (λ c κs. search needs) returns returns-2 (λ c κs. search needs) (λ c κs. search needs) returns-3)

@@ -5,21 +5,6 @@ use Rattle.span_list.proofs.SlotLaws.{copies-put}
 use Rattle.span_list.proofs.put.Statement.{statement}
 use Rattle.span_list.proofs.put.Tie as tie
 
-mul-at : tie.Need-mul-at
-mul-at c = search needs
-
-put-rows-requires : tie.Need-put-rows-requires
-put-rows-requires c κs = search needs
-
-add-put-rows : tie.Need-add-put-rows
-add-put-rows c = search needs
-
-put-rows-requires-2 : tie.Need-put-rows-requires-2
-put-rows-requires-2 c κs = search needs
-
-same-length : tie.Need-same-length
-same-length c = search needs
-
 returns : tie.Need-returns
 returns c =
     let s = c .before .before .before .before .before .before .before .before .before in
@@ -31,4 +16,4 @@ returns c =
 pub put-spec : {M : Type 1} → statement M
 put-spec =
     tie.close
-    (tie.spec mul-at put-rows-requires add-put-rows put-rows-requires-2 same-length returns)
+    (tie.spec (λ c. search needs) (λ c κs. search needs) (λ c. search needs) (λ c κs. search needs) (λ c. search needs) returns)

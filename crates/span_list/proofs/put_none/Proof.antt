@@ -4,21 +4,6 @@ use borrow.Author.Needs.{needs}
 use Rattle.span_list.proofs.put_none.Statement.{statement}
 use Rattle.span_list.proofs.put_none.Tie as tie
 
-mul-at : tie.Need-mul-at
-mul-at c = search needs
-
-put-zeros-requires : tie.Need-put-zeros-requires
-put-zeros-requires c κs = search needs
-
-add-put-zeros : tie.Need-add-put-zeros
-add-put-zeros c = search needs
-
-put-zeros-requires-2 : tie.Need-put-zeros-requires-2
-put-zeros-requires-2 c κs = search needs
-
-same-length : tie.Need-same-length
-same-length c = search needs
-
 returns : tie.Need-returns
 returns c = let s = c .before .before .before .before .before .before .before .before .before in
     zeros-put (s .args .rows .now) (s .args .slot) (s .pre) _ (c .before .before .before .before .before .before .put-zeros .ensures) _
@@ -27,4 +12,4 @@ returns c = let s = c .before .before .before .before .before .before .before .b
 pub put-none-spec : {M : Type 1} → statement M
 put-none-spec =
     tie.close
-    (tie.spec mul-at put-zeros-requires add-put-zeros put-zeros-requires-2 same-length returns)
+    (tie.spec (λ c. search needs) (λ c κs. search needs) (λ c. search needs) (λ c κs. search needs) (λ c. search needs) returns)

@@ -7,12 +7,6 @@ use borrow.Author.Needs.{needs}
 use Rattle.span_list.proofs.span_at.Statement.{statement}
 use Rattle.span_list.proofs.span_at.Tie as tie
 
-ends-at-requires : tie.Need-ends-at-requires
-ends-at-requires c κs = search needs
-
-sub-t7 : tie.Need-sub-t7
-sub-t7 c = search needs
-
 returns : tie.Need-returns
 unfolding spanFrom
 returns c = let s = c .before .before .before .before .before in
@@ -24,4 +18,4 @@ returns-2 c = let s = c .before .before .before .before in
     sym (span-ends _ _ _ (s .pre .1) _ (c .before .before .ends-at .ensures) ∙ rw (le-ltb _ _ (c .if1 .left)))
 
 pub span-at-spec : {M : Type 1} → statement M
-span-at-spec = tie.close (tie.spec ends-at-requires sub-t7 returns returns-2)
+span-at-spec = tie.close (tie.spec (λ c κs. search needs) (λ c. search needs) returns returns-2)

@@ -4,9 +4,6 @@ use borrow.Author.Needs.{needs}
 use Rattle.span_list.proofs.within.Statement.{statement}
 use Rattle.span_list.proofs.within.Tie as tie
 
-ends-at-requires : tie.Need-ends-at-requires
-ends-at-requires c κs = search needs
-
 returns : tie.Need-returns
 returns c = let s = c .before .before .before .before .before .before .before in
     within-right _ _ _ (s .pre .1) _ (c .before .before .before .before .before .ends-at .ensures) _ (c .before .before .if1 .taken)
@@ -16,4 +13,4 @@ returns-2 c = let s = c .before .before .before .before .before in
     within-left _ _ _ (s .pre .1) _ (c .before .before .before .ends-at .ensures) _ (c .if1 .left)
 
 pub within-spec : {M : Type 1} → statement M
-within-spec = tie.close (tie.spec ends-at-requires returns returns-2)
+within-spec = tie.close (tie.spec (λ c κs. search needs) returns returns-2)

@@ -5,12 +5,6 @@ use Rattle.spans.specs.Spans.{greater}
 use Rattle.spans.proofs.greater.Statement.{statement}
 use Rattle.spans.proofs.greater.Tie as tie
 
-cast-result : tie.Need-cast-result
-cast-result c = search needs
-
-cast-result-2 : tie.Need-cast-result-2
-cast-result-2 c = search needs
-
 returns : tie.Need-returns
 unfolding greater
 returns c = rw (le-leb _ _ (c .if1 .taken))
@@ -20,4 +14,4 @@ unfolding greater
 returns-2 c = rw (lt-leb _ _ (c .if1 .left))
 
 pub greater-spec : {M : Type 1} → statement M
-greater-spec = tie.close (tie.spec cast-result cast-result-2 returns returns-2)
+greater-spec = tie.close (tie.spec (λ c. search needs) (λ c. search needs) returns returns-2)

@@ -5,12 +5,6 @@ use Rattle.spans.specs.Spans.{lesser}
 use Rattle.spans.proofs.lesser.Statement.{statement}
 use Rattle.spans.proofs.lesser.Tie as tie
 
-cast-result : tie.Need-cast-result
-cast-result c = search needs
-
-cast-result-2 : tie.Need-cast-result-2
-cast-result-2 c = search needs
-
 returns : tie.Need-returns
 unfolding lesser
 returns c = rw (le-leb _ _ (c .if1 .taken))
@@ -20,4 +14,4 @@ unfolding lesser
 returns-2 c = rw (lt-leb _ _ (c .if1 .left))
 
 pub lesser-spec : {M : Type 1} → statement M
-lesser-spec = tie.close (tie.spec cast-result cast-result-2 returns returns-2)
+lesser-spec = tie.close (tie.spec (λ c. search needs) (λ c. search needs) returns returns-2)

@@ -4,12 +4,6 @@ use borrow.Author.Needs.{needs}
 use Rattle.spans.proofs.reply.Statement.{statement}
 use Rattle.spans.proofs.reply.Tie as tie
 
-enum-told : tie.Need-enum-told
-enum-told c = search needs
-
-enum-known-span : tie.Need-enum-known-span
-enum-known-span c = search needs
-
 returns : tie.Need-returns
 unfolding spanReply
 returns c = rw (c .enum-told .given .1)
@@ -19,4 +13,4 @@ unfolding spanReply
 returns-2 c = rw (c .before .span .given .1)
 
 pub reply-spec : {M : Type 1} → statement M
-reply-spec = tie.close (tie.spec enum-told enum-known-span returns returns-2)
+reply-spec = tie.close (tie.spec (λ c. search needs) (λ c. search needs) returns returns-2)

@@ -31,42 +31,15 @@ Inv-loop w up down first₀ past₀ k₀ first past k =
 abbrev μ-loop : tie.MeasureT-loop
 μ-loop w up down first₀ past₀ k₀ first past k = side - k
 
-row-ends-requires : tie.Need-row-ends-requires Inv-loop μ-loop
-row-ends-requires c κs = search needs
-
 loop-holds : tie.Need-loop-holds Inv-loop μ-loop
 loop-holds c =
     (omega arith, filled-start _ side _ (length-replicate {A = ℕ} side 0), filled-start _ side _ (length-replicate {A = ℕ} side 0))
 
-mul-a : tie.Need-mul-a Inv-loop μ-loop
-mul-a c = search needs
-
-array-read-a : tie.Need-array-read-a Inv-loop μ-loop
-array-read-a c = omega arith
-
-mul-b : tie.Need-mul-b Inv-loop μ-loop
-mul-b c = search needs
-
-array-read-b : tie.Need-array-read-b Inv-loop μ-loop
-array-read-b c = omega arith
-
 lesser-requires : tie.Need-lesser-requires Inv-loop μ-loop
 lesser-requires c κs = columns-le (c .before .before .before .before .row-ends .ensures) (c .before .loop .k) (omega arith)
 
-array-write-first : tie.Need-array-write-first Inv-loop μ-loop
-array-write-first c = omega arith
-
 greater-requires : tie.Need-greater-requires Inv-loop μ-loop
 greater-requires c κs = columns-le (c .before .before .before .before .before .row-ends .ensures) (c .before .before .loop .k) (omega arith)
-
-array-write-past : tie.Need-array-write-past Inv-loop μ-loop
-array-write-past c = omega arith
-
-add-k : tie.Need-add-k Inv-loop μ-loop
-add-k c = omega arith
-
-loop-less : tie.Need-loop-less Inv-loop μ-loop
-loop-less c = omega arith
 
 loop-again : tie.Need-loop-again Inv-loop μ-loop
 loop-again c =
@@ -91,20 +64,6 @@ returns c =
 pub spans-of-spec : {M : Type 1} → statement M
 spans-of-spec =
     tie.close
-    (tie.spec
-    Inv-loop
-    μ-loop
-    row-ends-requires
-    loop-holds
-    mul-a
-    array-read-a
-    mul-b
-    array-read-b
-    lesser-requires
-    array-write-first
-    greater-requires
-    array-write-past
-    add-k
-    loop-less
-    loop-again
-    returns)
+    (tie.spec Inv-loop μ-loop (λ c κs. search needs) loop-holds (λ c. search needs) (λ c. omega arith) (λ c. search needs)
+    (λ c. omega arith) lesser-requires (λ c. omega arith) greater-requires (λ c. omega arith) (λ c. omega arith) (λ c. omega arith)
+    loop-again returns)

@@ -9,21 +9,6 @@ returns : tie.Need-returns
 unfolding inSpans
 returns c = rw (le-ltb _ _ (c .if1 .taken))
 
-cast-at : tie.Need-cast-at
-cast-at c = search needs
-
-element-copy-out-first : tie.Need-element-copy-out-first
-element-copy-out-first c = search needs
-
-cast-first : tie.Need-cast-first
-cast-first c = search needs
-
-element-copy-out-past : tie.Need-element-copy-out-past
-element-copy-out-past c = search needs
-
-cast-past : tie.Need-cast-past
-cast-past c = search needs
-
 returns-2 : tie.Need-returns-2
 unfolding inSpans
 returns-2 c = simp (lt-ltb _ _ (c .before .before .before .before .before .before .if1 .left), le-leb _ _ (c .before .if2 .taken))
@@ -35,12 +20,5 @@ returns-3 c = simp (lt-ltb _ _ (c .before .before .before .before .before .if1 .
 pub within-spec : {M : Type 1} → statement M
 within-spec =
     tie.close
-    (tie.spec
-    returns
-    cast-at
-    element-copy-out-first
-    cast-first
-    element-copy-out-past
-    cast-past
-    returns-2
+    (tie.spec returns (λ c. search needs) (λ c. search needs) (λ c. search needs) (λ c. search needs) (λ c. search needs) returns-2
     returns-3)

@@ -8,12 +8,6 @@ use Rattle.survey.proofs.SurveyLaws.{walk-leaves, walk-unclosed, walk-p
 use Rattle.survey.proofs.marked.Statement.{statement}
 use Rattle.survey.proofs.marked.Tie as tie
 
-along-requires : tie.Need-along-requires
-along-requires c κs = search needs
-
-enum-known-walk : tie.Need-enum-known-walk
-enum-known-walk c = search needs
-
 cast-t10 : tie.Need-cast-t10
 unfolding WalkedAs
 cast-t10 c =
@@ -22,20 +16,11 @@ cast-t10 c =
     let left = rw (told .walk .given .1) at (told .before .before .along .ensures) in
     omega (arith, counted-short _ (start .pre .counted), left .0)
 
-enum-known-walk-2 : tie.Need-enum-known-walk-2
-enum-known-walk-2 c = search needs
-
 touched-requires : tie.Need-touched-requires
 unfolding WalkedAs
 touched-requires c κs =
     let told = c .before in
     (told .before .before .before .before .pre, rw (told .walk2 .given .1) at (told .before .before .along .ensures))
-
-enum-known-walk-3 : tie.Need-enum-known-walk-3
-enum-known-walk-3 c = search needs
-
-ends-away-requires : tie.Need-ends-away-requires
-ends-away-requires c κs = search needs
 
 returns : tie.Need-returns
 unfolding WalkedAs
@@ -53,9 +38,6 @@ returns-2 c =
     let left = rw (told .walk .given .1) at (told .before .before .along .ensures) in
     walk-leaves _ (start .pre) (left .1) (left .0)
 
-returns-3 : tie.Need-returns-3
-returns-3 c = search needs
-
 returns-4 : tie.Need-returns-4
 unfolding WalkedAs
 returns-4 c =
@@ -68,15 +50,5 @@ returns-4 c =
 pub marked-spec : {M : Type 1} → statement M
 marked-spec =
     tie.close
-    (tie.spec
-    along-requires
-    enum-known-walk
-    cast-t10
-    enum-known-walk-2
-    touched-requires
-    enum-known-walk-3
-    ends-away-requires
-    returns
-    returns-2
-    returns-3
-    returns-4)
+    (tie.spec (λ c κs. search needs) (λ c. search needs) cast-t10 (λ c. search needs) touched-requires (λ c. search needs)
+    (λ c κs. search needs) returns returns-2 (λ c. search needs) returns-4)

@@ -9,9 +9,6 @@ use Rattle.survey.proofs.SurveyLaws.{none-found, survey-count, survey-s
 use Rattle.survey.proofs.survey.Statement.{statement}
 use Rattle.survey.proofs.survey.Tie as tie
 
-bad-count-requires : tie.Need-bad-count-requires
-bad-count-requires c κs = search needs
-
 -- What each check that was passed says
 counted : (c : tie.Else1) → badCount (c .before .before .before .args .letters .now) ≡ false
 counted c = sym (c .before .bad-count .ensures) ∙ c .if1 .left
@@ -22,14 +19,8 @@ started c = sym (c .before .bad-start .ensures) ∙ c .if2 .left
 returns : tie.Need-returns
 returns c = survey-count _ (sym (c .before .bad-count .ensures) ∙ c .if1 .taken)
 
-bad-start-requires : tie.Need-bad-start-requires
-bad-start-requires c κs = search needs
-
 returns-2 : tie.Need-returns-2
 returns-2 c = survey-start _ (counted (c .before .before)) (sym (c .before .bad-start .ensures) ∙ c .if2 .taken)
-
-letter-place-requires : tie.Need-letter-place-requires
-letter-place-requires c κs = search needs
 
 cast-t10 : tie.Need-cast-t10
 cast-t10 c = omega (arith, counted-short _ (counted (c .before .before .before .before)), c .if3 .taken)
@@ -47,19 +38,8 @@ walked-requires c κs =
       lettered = none-found (c .before .letter-place .ensures) (c .if3 .left);
     }
 
-returns-4 : tie.Need-returns-4
-returns-4 c = search needs
-
 pub survey-spec : {M : Type 1} → statement M
 survey-spec =
     tie.close
-    (tie.spec
-    bad-count-requires
-    returns
-    bad-start-requires
-    returns-2
-    letter-place-requires
-    cast-t10
-    returns-3
-    walked-requires
-    returns-4)
+    (tie.spec (λ c κs. search needs) returns (λ c κs. search needs) returns-2 (λ c κs. search needs) cast-t10 returns-3 walked-requires
+    (λ c. search needs))

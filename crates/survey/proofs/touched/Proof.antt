@@ -13,9 +13,6 @@ use Rattle.survey.proofs.SurveyLaws.{none-found, walk-leaves, walk-uncl
 use Rattle.survey.proofs.touched.Statement.{statement}
 use Rattle.survey.proofs.touched.Tie as tie
 
-walk-on-requires : tie.Need-walk-on-requires
-walk-on-requires c κs = search needs
-
 -- What the rest of the walk finds, and that no letter leaves the chart if it finds none
 rest : (c : tie.After-walk-on)
     → RestOf (outline (c .before .before .args .start) (c .before .before .args .letters .now)) (c .walk-on .result)
@@ -33,17 +30,11 @@ cast-t9 c = omega (arith, short (c .before .before .before), c .if1 .taken)
 returns : tie.Need-returns
 returns c = walk-leaves _ (c .before .before .before .pre .0) (rest (c .before) .place) (c .if1 .taken)
 
-ends-away-requires : tie.Need-ends-away-requires
-ends-away-requires c κs = search needs
-
 returns-2 : tie.Need-returns-2
 returns-2 c =
     let past = c .before .before in
     walk-unclosed _ (past .before .before .before .pre .0) (stays past) (rest (past .before) .number (stays past))
     (sym (c .before .ends-away .ensures) ∙ c .if2 .taken)
-
-sub-t7 : tie.Need-sub-t7
-sub-t7 c = search needs
 
 cast-t13 : tie.Need-cast-t13
 cast-t13 c = let start = c .before .before .before .before .before in omega (arith, short start, start .pre .1 .below)
@@ -59,12 +50,4 @@ returns-3 c =
 pub touched-spec : {M : Type 1} → statement M
 touched-spec =
     tie.close
-    (tie.spec
-    walk-on-requires
-    cast-t9
-    returns
-    ends-away-requires
-    returns-2
-    sub-t7
-    cast-t13
-    returns-3)
+    (tie.spec (λ c κs. search needs) cast-t9 returns (λ c κs. search needs) returns-2 (λ c. search needs) cast-t13 returns-3)

@@ -12,14 +12,8 @@ use Rattle.survey.proofs.SurveyLaws.{none-found, walk-leaves, walk-uncl
 use Rattle.survey.proofs.walked.Statement.{statement}
 use Rattle.survey.proofs.walked.Tie as tie
 
-seems-open-requires : tie.Need-seems-open-requires
-seems-open-requires c κs = search needs
-
 col-number-requires : tie.Need-col-number-requires
 col-number-requires c κs = let h = start-on-chart _ (c .before .before .before .pre .started) in (h .col, h .row)
-
-walk-on-requires : tie.Need-walk-on-requires
-walk-on-requires c κs = search needs
 
 -- What the walk without marks finds, and that no letter leaves the chart if it finds none
 module _ (c : tie.After-walk-on) where
@@ -38,31 +32,14 @@ cast-t9 c = omega (arith, counted-short _ (start (c .before) .pre .counted), c .
 returns : tie.Need-returns
 returns c = walk-leaves _ (start (c .before) .pre) (rest (c .before) .place) (c .if2 .taken)
 
-ends-away-requires : tie.Need-ends-away-requires
-ends-away-requires c κs = search needs
-
 returns-2 : tie.Need-returns-2
 returns-2 c =
     let past = c .before .before in
     walk-unclosed _ (start (past .before) .pre) (stays past) (rest (past .before) .number (stays past)) (sym (c .before .ends-away .ensures)
     ∙ c .if3 .taken)
 
-marked-requires : tie.Need-marked-requires
-marked-requires c κs = search needs
-
-returns-3 : tie.Need-returns-3
-returns-3 c = search needs
-
 pub walked-spec : {M : Type 1} → statement M
 walked-spec =
     tie.close
-    (tie.spec
-    seems-open-requires
-    col-number-requires
-    walk-on-requires
-    cast-t9
-    returns
-    ends-away-requires
-    returns-2
-    marked-requires
-    returns-3)
+    (tie.spec (λ c κs. search needs) col-number-requires (λ c κs. search needs) cast-t9 returns (λ c κs. search needs) returns-2
+    (λ c κs. search needs) (λ c. search needs))

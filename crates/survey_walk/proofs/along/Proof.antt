@@ -25,9 +25,6 @@ Inv-loop w met₀ by-col₀ by-row₀ west₀ north₀ east₀ south₀ count i�
 abbrev μ-loop : tie.MeasureT-loop
 μ-loop w met₀ by-col₀ by-row₀ west₀ north₀ east₀ south₀ count i₀ met by-col by-row west north east south i = length w - i
 
-none-requires : tie.Need-none-requires Inv-loop μ-loop
-none-requires c κs = search needs
-
 col-number-requires : tie.Need-col-number-requires Inv-loop μ-loop
 col-number-requires c κs = let h = start-on-chart _ (c .before .before .pre .started) in (h .col, h .row)
 
@@ -47,12 +44,6 @@ loop-holds c =
 cast-mark : tie.Need-cast-mark Inv-loop μ-loop
 cast-mark c = omega (arith, c .before .before .loop .inv .0)
 
-mark-requires : tie.Need-mark-requires Inv-loop μ-loop
-mark-requires c κs = search needs
-
-cast-t20 : tie.Need-cast-t20 Inv-loop μ-loop
-cast-t20 c = search needs
-
 returns : tie.Need-returns Inv-loop μ-loop
 unfolding WalkedAs
 returns c =
@@ -63,42 +54,6 @@ returns c =
     let start = cols .before .before .before in
     along-meets _ (start .pre) (at .loop .inv .1 (start .args .s) (cols .col-number .ensures) (rows .row-number .ensures) (start .pre))
     (iteration .loop-test .taken) (sym (c .before .mark .ensures .0) ∙ c .if1 .taken)
-
-lower-requires : tie.Need-lower-requires Inv-loop μ-loop
-lower-requires c κs = search needs
-
-lower-requires-2 : tie.Need-lower-requires-2 Inv-loop μ-loop
-lower-requires-2 c κs = search needs
-
-higher-requires : tie.Need-higher-requires Inv-loop μ-loop
-higher-requires c κs = search needs
-
-higher-requires-2 : tie.Need-higher-requires-2 Inv-loop μ-loop
-higher-requires-2 c κs = search needs
-
-cast-letter : tie.Need-cast-letter Inv-loop μ-loop
-cast-letter c = search needs
-
-shared-slice-read-letter : tie.Need-shared-slice-read-letter Inv-loop μ-loop
-shared-slice-read-letter c = search needs
-
-col-stride-requires : tie.Need-col-stride-requires Inv-loop μ-loop
-col-stride-requires c κs = search needs
-
-wrapping-add-u32-requires : tie.Need-wrapping-add-u32-requires Inv-loop μ-loop
-wrapping-add-u32-requires c κs = search needs
-
-row-stride-requires : tie.Need-row-stride-requires Inv-loop μ-loop
-row-stride-requires c κs = search needs
-
-wrapping-add-u32-requires-2 : tie.Need-wrapping-add-u32-requires-2 Inv-loop μ-loop
-wrapping-add-u32-requires-2 c κs = search needs
-
-is-off-chart-requires : tie.Need-is-off-chart-requires Inv-loop μ-loop
-is-off-chart-requires c κs = search needs
-
-cast-t24 : tie.Need-cast-t24 Inv-loop μ-loop
-cast-t24 c = search needs
 
 returns-2 : tie.Need-returns-2 Inv-loop μ-loop
 unfolding WalkedAs
@@ -120,9 +75,6 @@ add-i c =
     let iteration = mark .before .before in
     let start = iteration .before .before .before .before .before .before in
     omega (arith, iteration .loop-test .taken, counted-short _ (start .pre .counted))
-
-loop-less : tie.Need-loop-less Inv-loop μ-loop
-loop-less c = search needs
 
 loop-again : tie.Need-loop-again Inv-loop μ-loop
 loop-again c =
@@ -150,9 +102,6 @@ loop-again c =
           (sym (ap offChart (col .wrapping-add-u32 .ensures)) ∙ sym (c .before .is-off-chart .ensures) ∙ c .if2 .left)),
     )
 
-corners-from-requires : tie.Need-corners-from-requires Inv-loop μ-loop
-corners-from-requires c κs = search needs
-
 returns-3 : tie.Need-returns-3 Inv-loop μ-loop
 unfolding WalkedAs
 returns-3 c =
@@ -166,33 +115,8 @@ returns-3 c =
 pub along-spec : {M : Type 1} → statement M
 along-spec =
     tie.close
-    (tie.spec
-    Inv-loop
-    μ-loop
-    none-requires
-    col-number-requires
-    row-number-requires
-    cast-count
-    loop-holds
-    cast-mark
-    mark-requires
-    cast-t20
-    returns
-    lower-requires
-    lower-requires-2
-    higher-requires
-    higher-requires-2
-    cast-letter
-    shared-slice-read-letter
-    col-stride-requires
-    wrapping-add-u32-requires
-    row-stride-requires
-    wrapping-add-u32-requires-2
-    is-off-chart-requires
-    cast-t24
-    returns-2
-    add-i
-    loop-less
-    loop-again
-    corners-from-requires
-    returns-3)
+    (tie.spec Inv-loop μ-loop (λ c κs. search needs) col-number-requires row-number-requires cast-count loop-holds cast-mark
+    (λ c κs. search needs) (λ c. search needs) returns (λ c κs. search needs) (λ c κs. search needs) (λ c κs. search needs)
+    (λ c κs. search needs) (λ c. search needs) (λ c. search needs) (λ c κs. search needs) (λ c κs. search needs) (λ c κs. search needs)
+    (λ c κs. search needs) (λ c κs. search needs) (λ c. search needs) returns-2 add-i (λ c. search needs) loop-again
+    (λ c κs. search needs) returns-3)

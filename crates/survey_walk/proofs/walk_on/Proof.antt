@@ -17,30 +17,12 @@ abbrev μ-loop : tie.MeasureT-loop
 loop-holds : tie.Need-loop-holds Inv-loop μ-loop
 loop-holds c = λ s b h. h
 
-shared-slice-read-col-stride : tie.Need-shared-slice-read-col-stride Inv-loop μ-loop
-shared-slice-read-col-stride c = search needs
-
-col-stride-requires : tie.Need-col-stride-requires Inv-loop μ-loop
-col-stride-requires c κs = search needs
-
-wrapping-add-u32-requires : tie.Need-wrapping-add-u32-requires Inv-loop μ-loop
-wrapping-add-u32-requires c κs = search needs
-
-is-off-chart-requires : tie.Need-is-off-chart-requires Inv-loop μ-loop
-is-off-chart-requires c κs = search needs
-
 returns : tie.Need-returns Inv-loop μ-loop
 returns c =
     let added = c .before .before in
     let iteration = added .before .before .before in
     further-leaves (iteration .before .loop .inv) (iteration .loop-test .taken) (added .before .col-stride .ensures)
     (sym (ap offChart (added .wrapping-add-u32 .ensures)) ∙ sym (c .before .is-off-chart .ensures) ∙ c .if1 .taken)
-
-add-i : tie.Need-add-i Inv-loop μ-loop
-add-i c = search needs
-
-loop-less : tie.Need-loop-less Inv-loop μ-loop
-loop-less c = search needs
 
 loop-again : tie.Need-loop-again Inv-loop μ-loop
 loop-again c =
@@ -56,16 +38,5 @@ returns-2 c = further-end (c .before .loop .inv) (c .loop-test .left)
 pub walk-on-spec : {M : Type 1} → statement M
 walk-on-spec =
     tie.close
-    (tie.spec
-    Inv-loop
-    μ-loop
-    loop-holds
-    shared-slice-read-col-stride
-    col-stride-requires
-    wrapping-add-u32-requires
-    is-off-chart-requires
-    returns
-    add-i
-    loop-less
-    loop-again
-    returns-2)
+    (tie.spec Inv-loop μ-loop loop-holds (λ c. search needs) (λ c κs. search needs) (λ c κs. search needs) (λ c κs. search needs) returns
+    (λ c. search needs) (λ c. search needs) loop-again returns-2)

@@ -15,34 +15,13 @@ Inv-loop digits letters₀ i₀ letters i = (i ≤ length letters) × (length le
 abbrev μ-loop : tie.MeasureT-loop
 μ-loop digits letters₀ i₀ letters i = length digits - i
 
-loop-holds : tie.Need-loop-holds Inv-loop μ-loop
-loop-holds c = search needs
-
-shared-slice-read-letters : tie.Need-shared-slice-read-letters Inv-loop μ-loop
-shared-slice-read-letters c = search needs
-
-slice-write-letters : tie.Need-slice-write-letters Inv-loop μ-loop
-slice-write-letters c = search needs
-
-add-i : tie.Need-add-i Inv-loop μ-loop
-add-i c = search needs
-
-loop-less : tie.Need-loop-less Inv-loop μ-loop
-loop-less c = search needs
-
 loop-again : tie.Need-loop-again Inv-loop μ-loop
 loop-again c =
     let s = c .before .before .before .loop in
     simp length-set (omega (arith, ltb-true (s .i) (length (s .letters)) (c .before .if1 .taken)))
 
-same-length : tie.Need-same-length Inv-loop μ-loop
-same-length c = search needs
-
 returns : tie.Need-returns Inv-loop μ-loop
 returns c = counts _ _ (search needs)
-
-same-length-2 : tie.Need-same-length-2 Inv-loop μ-loop
-same-length-2 c = search needs
 
 returns-2 : tie.Need-returns-2 Inv-loop μ-loop
 returns-2 c = counts _ _ (search needs)
@@ -50,16 +29,5 @@ returns-2 c = counts _ _ (search needs)
 pub read-letters-spec : {M : Type 1} → statement M
 read-letters-spec =
     tie.close
-    (tie.spec
-    Inv-loop
-    μ-loop
-    loop-holds
-    shared-slice-read-letters
-    slice-write-letters
-    add-i
-    loop-less
-    loop-again
-    same-length
-    returns
-    same-length-2
-    returns-2)
+    (tie.spec Inv-loop μ-loop (λ c. search needs) (λ c. search needs) (λ c. search needs) (λ c. search needs) (λ c. search needs)
+    loop-again (λ c. search needs) returns (λ c. search needs) returns-2)

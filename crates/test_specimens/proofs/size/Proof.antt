@@ -51,12 +51,6 @@ cast-result-2 c =
 cast-result-3 : tie.Need-cast-result-3
 cast-result-3 c = simp (toZ-ofZ w16 (c .before .args .x) (c .before .fits .x)) (kept _ (c .before .fits .x) (left c))
 
-returns : tie.Need-returns
-returns c = search needs
-
-returns-2 : tie.Need-returns-2
-returns-2 c = search needs
-
 pub size-spec : {M : Type 1} → statement M
 size-spec =
-    tie.close (tie.spec cast-result sub-result cast-result-2 cast-result-3 returns returns-2)
+    tie.close (tie.spec cast-result sub-result cast-result-2 cast-result-3 (λ c. search needs) (λ c. search needs))

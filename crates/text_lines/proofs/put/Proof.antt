@@ -8,17 +8,8 @@ use Rattle.text_lines.proofs.put.Tie as tie
 returns : tie.Need-returns
 returns c = wrote-none _ _ _ (c .if1 .taken)
 
-slice-write-text : tie.Need-slice-write-text
-slice-write-text c = search needs
-
-add-result : tie.Need-add-result
-add-result c = search needs
-
-same-length : tie.Need-same-length
-same-length c = search needs
-
 returns-2 : tie.Need-returns-2
 returns-2 c = wrote-one _ _ _ (omega (arith, c .if1 .left))
 
 pub put-spec : {M : Type 1} → statement M
-put-spec = tie.close (tie.spec returns slice-write-text add-result same-length returns-2)
+put-spec = tie.close (tie.spec returns (λ c. search needs) (λ c. search needs) (λ c. search needs) returns-2)

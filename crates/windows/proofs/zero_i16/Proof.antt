@@ -18,18 +18,6 @@ abbrev μ-loop : tie.MeasureT-loop
 loop-holds : tie.Need-loop-holds Inv-loop μ-loop
 loop-holds c = (search needs, refl, refl)
 
-mul-list : tie.Need-mul-list Inv-loop μ-loop
-mul-list c = search needs
-
-slice-set-of-list : tie.Need-slice-set-of-list Inv-loop μ-loop
-slice-set-of-list c = search needs
-
-add-i : tie.Need-add-i Inv-loop μ-loop
-add-i c = search needs
-
-loop-less : tie.Need-loop-less Inv-loop μ-loop
-loop-less c = search needs
-
 loop-again : tie.Need-loop-again Inv-loop μ-loop
 loop-again c = let l = c .before .loop in filled-next _ (pos 0) (l .list) (l .i) (l .inv) (omega (arith, c .loop-test .taken))
 
@@ -42,14 +30,5 @@ returns c = let l = c .before .loop in filled-all _ (pos 0) _ (l .i) (l .inv) (o
 pub zero-i16-spec : {M : Type 1} → statement M
 zero-i16-spec =
     tie.close
-    (tie.spec
-    Inv-loop
-    μ-loop
-    loop-holds
-    mul-list
-    slice-set-of-list
-    add-i
-    loop-less
-    loop-again
-    same-length
-    returns)
+    (tie.spec Inv-loop μ-loop loop-holds (λ c. search needs) (λ c. search needs) (λ c. search needs) (λ c. search needs) loop-again
+    same-length returns)

@@ -5,51 +5,6 @@ use borrow.Author.Needs.{needs}
 use Rattle.wire.proofs.call_of.Statement.{statement}
 use Rattle.wire.proofs.call_of.Tie as tie
 
-point-requires : tie.Need-point-requires
-point-requires c κs = search needs
-
-call-by-requires : tie.Need-call-by-requires
-call-by-requires c κs = search needs
-
-letter-requires : tie.Need-letter-requires
-letter-requires c κs = search needs
-
-call-by-requires-2 : tie.Need-call-by-requires-2
-call-by-requires-2 c κs = search needs
-
-call-by-requires-3 : tie.Need-call-by-requires-3
-call-by-requires-3 c κs = search needs
-
-call-by-requires-4 : tie.Need-call-by-requires-4
-call-by-requires-4 c κs = search needs
-
-call-by-requires-5 : tie.Need-call-by-requires-5
-call-by-requires-5 c κs = search needs
-
-point-requires-2 : tie.Need-point-requires-2
-point-requires-2 c κs = search needs
-
-ask-requires : tie.Need-ask-requires
-ask-requires c κs = search needs
-
-short-requires : tie.Need-short-requires
-short-requires c κs = search needs
-
-ask-requires-2 : tie.Need-ask-requires-2
-ask-requires-2 c κs = search needs
-
-from-bits-requires : tie.Need-from-bits-requires
-from-bits-requires c κs = search needs
-
-ask-requires-3 : tie.Need-ask-requires-3
-ask-requires-3 c κs = search needs
-
-short-requires-2 : tie.Need-short-requires-2
-short-requires-2 c κs = search needs
-
-ask-requires-4 : tie.Need-ask-requires-4
-ask-requires-4 c κs = search needs
-
 returns : tie.Need-returns
 unfolding callOf
 returns c = rw (c .call-by .ensures, c .before .point .ensures, c .before .before .match .keys1)
@@ -95,29 +50,7 @@ returns-10 c =
 pub call-of-spec : {M : Type 1} → statement M
 call-of-spec =
     tie.close
-    (tie.spec
-    point-requires
-    call-by-requires
-    letter-requires
-    call-by-requires-2
-    call-by-requires-3
-    call-by-requires-4
-    call-by-requires-5
-    point-requires-2
-    ask-requires
-    short-requires
-    ask-requires-2
-    from-bits-requires
-    ask-requires-3
-    short-requires-2
-    ask-requires-4
-    returns
-    returns-2
-    returns-3
-    returns-4
-    returns-5
-    returns-6
-    returns-7
-    returns-8
-    returns-9
-    returns-10)
+    (tie.spec (λ c κs. search needs) (λ c κs. search needs) (λ c κs. search needs) (λ c κs. search needs) (λ c κs. search needs)
+    (λ c κs. search needs) (λ c κs. search needs) (λ c κs. search needs) (λ c κs. search needs) (λ c κs. search needs)
+    (λ c κs. search needs) (λ c κs. search needs) (λ c κs. search needs) (λ c κs. search needs) (λ c κs. search needs) returns returns-2
+    returns-3 returns-4 returns-5 returns-6 returns-7 returns-8 returns-9 returns-10)

@@ -9,12 +9,9 @@ returns : tie.Need-returns
 unfolding received
 returns c = rw (lt-leb _ _ (c .if1 .taken))
 
-decode-requires : tie.Need-decode-requires
-decode-requires c κs = search needs
-
 returns-2 : tie.Need-returns-2
 unfolding received
 returns-2 c = rw (le-leb _ _ (c .before .if1 .left)) (c .decode .ensures)
 
 pub received-spec : {M : Type 1} → statement M
-received-spec = tie.close (tie.spec returns decode-requires returns-2)
+received-spec = tie.close (tie.spec returns (λ c κs. search needs) returns-2)

@@ -25,9 +25,6 @@ slice-write-cells-5 c = simp length-set (omega (arith, c .pre))
 slice-write-cells-6 : tie.Need-slice-write-cells-6
 slice-write-cells-6 c = simp length-set (omega (arith, c .pre))
 
-same-length : tie.Need-same-length
-same-length c = search needs
-
 returns : tie.Need-returns
 unfolding threeNumbers
 returns c = let a = c .args in sets-eq (threeNumbers (record { a = a .a; b = a .b; d = a .d })) (a .cells .now) 0 (c .pre)
@@ -35,12 +32,5 @@ returns c = let a = c .args in sets-eq (threeNumbers (record { a = a .a; b = a .
 pub put-spec : {M : Type 1} → statement M
 put-spec =
     tie.close
-    (tie.spec
-    slice-write-cells
-    slice-write-cells-2
-    slice-write-cells-3
-    slice-write-cells-4
-    slice-write-cells-5
-    slice-write-cells-6
-    same-length
-    returns)
+    (tie.spec slice-write-cells slice-write-cells-2 slice-write-cells-3 slice-write-cells-4 slice-write-cells-5 slice-write-cells-6
+    (λ c. search needs) returns)

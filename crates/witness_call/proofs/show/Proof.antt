@@ -7,15 +7,6 @@ use Rattle.witness_call.proofs.show.Tie as tie
 returns : tie.Need-returns
 returns c = short-shown _ _ (c .if1 .taken)
 
-find-requires : tie.Need-find-requires
-find-requires c κs = search needs
-
-put-requires : tie.Need-put-requires
-put-requires c κs = search needs
-
-same-length : tie.Need-same-length
-same-length c = search needs
-
 returns-2 : tie.Need-returns-2
 returns-2 c =
     let asked = c .before .before .before .before .before .before .before .before in
@@ -28,4 +19,4 @@ returns-3 : tie.Need-returns-3
 returns-3 c = none-shown _ _ (c .before .before .if1 .left) (c .before .find .ensures) (c .if2 .left)
 
 pub show-spec : {M : Type 1} → statement M
-show-spec = tie.close (tie.spec returns find-requires put-requires same-length returns-2 returns-3)
+show-spec = tie.close (tie.spec returns (λ c κs. search needs) (λ c κs. search needs) (λ c. search needs) returns-2 returns-3)

@@ -6,15 +6,6 @@ use Rattle.witness_call.proofs.Laws.{stopped-answers, passed-answers}
 use Rattle.witness_call.proofs.witness.Statement.{statement}
 use Rattle.witness_call.proofs.witness.Tie as tie
 
-survey-requires : tie.Need-survey-requires
-survey-requires c κs = search needs
-
-enum-known-surveyed : tie.Need-enum-known-surveyed
-enum-known-surveyed c = search needs
-
-enum-known-surveyed-2 : tie.Need-enum-known-surveyed-2
-enum-known-surveyed-2 c = search needs
-
 show-requires : tie.Need-show-requires
 show-requires c κs =
     let told = c .before .before in
@@ -22,9 +13,6 @@ show-requires c κs =
 
 returns : tie.Need-returns
 returns c = stopped-answers _ _ (sym (c .before .before .before .survey .ensures) ∙ c .before .surveyed .given .1)
-
-same-length : tie.Need-same-length
-same-length c = search needs
 
 returns-2 : tie.Need-returns-2
 returns-2 c =
@@ -34,11 +22,4 @@ returns-2 c =
 pub witness-spec : {M : Type 1} → statement M
 witness-spec =
     tie.close
-    (tie.spec
-    survey-requires
-    enum-known-surveyed
-    enum-known-surveyed-2
-    show-requires
-    returns
-    same-length
-    returns-2)
+    (tie.spec (λ c κs. search needs) (λ c. search needs) (λ c. search needs) show-requires returns (λ c. search needs) returns-2)

@@ -6,12 +6,6 @@ use borrow.Author.Needs.{needs}
 use Rattle.witness_search.proofs.column.Statement.{statement}
 use Rattle.witness_search.proofs.column.Tie as tie
 
-wide-requires : tie.Need-wide-requires
-wide-requires c κs = search needs
-
-cast-result : tie.Need-cast-result
-cast-result c = search needs
-
 returns : tie.Need-returns
 returns c =
     let args = c .before .before .args in rw (lt-ltb (args .l) (args .first) (omega (arith, c .before .wide .ensures))) refl
@@ -21,4 +15,4 @@ returns-2 c =
     let args = c .before .before .args in rw (le-ltb (args .l) (args .first) (omega (arith, c .before .wide .ensures))) refl
 
 pub column-spec : {M : Type 1} → statement M
-column-spec = tie.close (tie.spec wide-requires cast-result returns returns-2)
+column-spec = tie.close (tie.spec (λ c κs. search needs) (λ c. search needs) returns returns-2)

@@ -19,18 +19,6 @@ use borrow.Author.Needs.{needs}
 use Rattle.witness_search.proofs.find.Statement.{statement}
 use Rattle.witness_search.proofs.find.Tie as tie
 
-pass-requires : tie.Need-pass-requires
-pass-requires c κs = search needs
-
-wide-requires : tie.Need-wide-requires
-wide-requires c κs = search needs
-
-wide-requires-2 : tie.Need-wide-requires-2
-wide-requires-2 c κs = search needs
-
-add-if1 : tie.Need-add-if1
-add-if1 c = search needs
-
 -- The rows, and what the first pass finds in them
 module _ (d : tie.After-wide2) where
   abbrev o : Outline
@@ -98,12 +86,5 @@ returns-2 c =
 pub find-spec : {M : Type 1} → statement M
 find-spec =
     tie.close
-    (tie.spec
-    pass-requires
-    wide-requires
-    wide-requires-2
-    add-if1
-    search-requires
-    returns
-    single-requires
-    returns-2)
+    (tie.spec (λ c κs. search needs) (λ c κs. search needs) (λ c κs. search needs) (λ c. search needs) search-requires returns
+    single-requires returns-2)

@@ -19,15 +19,6 @@ Inv-loop lo en hi b t m left right i₀ k₀ r₀ i k r =
 abbrev μ-loop : tie.MeasureT-loop
 μ-loop lo en hi b t m left right i₀ k₀ r₀ i k r = t - r
 
-mirrored-requires : tie.Need-mirrored-requires Inv-loop μ-loop
-mirrored-requires c κs = search needs
-
-tangents-requires : tie.Need-tangents-requires Inv-loop μ-loop
-tangents-requires c κs = omega arith
-
-tangents-requires-2 : tie.Need-tangents-requires-2 Inv-loop μ-loop
-tangents-requires-2 c κs = omega arith
-
 loop-holds : tie.Need-loop-holds Inv-loop μ-loop
 loop-holds c =
     let mirrored = c .before .before .before in
@@ -154,41 +145,17 @@ mul-wide c = omega (arith, left-within c)
 array-read-wide : tie.Need-array-read-wide Inv-loop μ-loop
 array-read-wide c = omega (arith, left-within c)
 
-wide-requires : tie.Need-wide-requires Inv-loop μ-loop
-wide-requires c κs = search needs
-
 mul-wide-2 : tie.Need-mul-wide-2 Inv-loop μ-loop
 mul-wide-2 c = omega (arith, right-within (c .before))
 
 array-read-wide-2 : tie.Need-array-read-wide-2 Inv-loop μ-loop
 array-read-wide-2 c = omega (arith, right-within (c .before))
 
-wide-requires-2 : tie.Need-wide-requires-2 Inv-loop μ-loop
-wide-requires-2 c κs = search needs
-
 crossing-requires : tie.Need-crossing-requires Inv-loop μ-loop
 crossing-requires c κs = omega (arith, left c)
 
 crossing-requires-2 : tie.Need-crossing-requires-2 Inv-loop μ-loop
 crossing-requires-2 c κs = omega (arith, right (c .before .before))
-
-mul-column : tie.Need-mul-column Inv-loop μ-loop
-mul-column c = omega arith
-
-element-copy-out-column : tie.Need-element-copy-out-column Inv-loop μ-loop
-element-copy-out-column c = omega arith
-
-mul-column-2 : tie.Need-mul-column-2 Inv-loop μ-loop
-mul-column-2 c = omega arith
-
-element-copy-out-column-2 : tie.Need-element-copy-out-column-2 Inv-loop μ-loop
-element-copy-out-column-2 c = omega arith
-
-column-requires : tie.Need-column-requires Inv-loop μ-loop
-column-requires c κs = search needs
-
-gap-requires : tie.Need-gap-requires Inv-loop μ-loop
-gap-requires c κs = search needs
 
 display-requires : tie.Need-display-requires Inv-loop μ-loop
 display-requires c κs = let a = across (c .before .before) in omega (arith, a .left, a .right)
@@ -200,12 +167,6 @@ returns c =
     let g = h tested in
     answers-found (lo g) (en g) (hi g) (m g) (b g) (t g) (two g) (mirrors g) (across tested) (s .found) (s .cell) (s .a) (s .b) (s .d)
     (searching g .clear) (sym (c .before .before .gap .ensures) ∙ c .before .if1 .taken) (c .display .ensures)
-
-add-r : tie.Need-add-r Inv-loop μ-loop
-add-r c = omega arith
-
-loop-less : tie.Need-loop-less Inv-loop μ-loop
-loop-less c = omega arith
 
 loop-again : tie.Need-loop-again Inv-loop μ-loop
 loop-again c =
@@ -226,32 +187,7 @@ returns-2 c =
 pub search-spec : {M : Type 1} → statement M
 search-spec =
     tie.close
-    (tie.spec
-    Inv-loop
-    μ-loop
-    mirrored-requires
-    tangents-requires
-    tangents-requires-2
-    loop-holds
-    edge-start-requires
-    edge-start-requires-2
-    mul-wide
-    array-read-wide
-    wide-requires
-    mul-wide-2
-    array-read-wide-2
-    wide-requires-2
-    crossing-requires
-    crossing-requires-2
-    mul-column
-    element-copy-out-column
-    mul-column-2
-    element-copy-out-column-2
-    column-requires
-    gap-requires
-    display-requires
-    returns
-    add-r
-    loop-less
-    loop-again
-    returns-2)
+    (tie.spec Inv-loop μ-loop (λ c κs. search needs) (λ c κs. omega arith) (λ c κs. omega arith) loop-holds edge-start-requires
+    edge-start-requires-2 mul-wide array-read-wide (λ c κs. search needs) mul-wide-2 array-read-wide-2 (λ c κs. search needs)
+    crossing-requires crossing-requires-2 (λ c. omega arith) (λ c. omega arith) (λ c. omega arith) (λ c. omega arith)
+    (λ c κs. search needs) (λ c κs. search needs) display-requires returns (λ c. omega arith) (λ c. omega arith) loop-again returns-2)

@@ -7,30 +7,12 @@ use borrow.Author.Needs.{needs}
 use Rattle.witness_search.proofs.single.Statement.{statement}
 use Rattle.witness_search.proofs.single.Tie as tie
 
-mul-c : tie.Need-mul-c
-mul-c c = search needs
-
-element-copy-out-c : tie.Need-element-copy-out-c
-element-copy-out-c c = search needs
-
-mul-if1 : tie.Need-mul-if1
-mul-if1 c = search needs
-
-element-copy-out-if1 : tie.Need-element-copy-out-if1
-element-copy-out-if1 c = search needs
-
-display-requires : tie.Need-display-requires
-display-requires c κs = search needs
-
 returns : tie.Need-returns
 returns c =
     let at = c .before .before .before .before in
     single-found (rows (now (at .args .lo))) (rows (now (at .args .en))) (rows (now (at .args .hi))) (at .args .b) (at .pre .1) (at .pre .2)
     (omega arith) (c .display .result .found) (c .display .result .cell) (c .display .result .a) (c .display .result .b)
     (c .display .result .d) (c .display .ensures)
-
-nothing-requires : tie.Need-nothing-requires
-nothing-requires c κs = search needs
 
 returns-2 : tie.Need-returns-2
 returns-2 c =
@@ -42,12 +24,5 @@ returns-2 c =
 pub single-spec : {M : Type 1} → statement M
 single-spec =
     tie.close
-    (tie.spec
-    mul-c
-    element-copy-out-c
-    mul-if1
-    element-copy-out-if1
-    display-requires
-    returns
-    nothing-requires
-    returns-2)
+    (tie.spec (λ c. search needs) (λ c. search needs) (λ c. search needs) (λ c. search needs) (λ c κs. search needs) returns
+    (λ c κs. search needs) returns-2)

@@ -18,41 +18,8 @@ abbrev μ-loop : tie.MeasureT-loop
 returns : tie.Need-returns Inv-loop μ-loop
 returns c = search-none _ _ _ (c .if1 .taken)
 
-cast-count : tie.Need-cast-count Inv-loop μ-loop
-cast-count c = search needs
-
-cast-start : tie.Need-cast-start Inv-loop μ-loop
-cast-start c = search needs
-
-add-j : tie.Need-add-j Inv-loop μ-loop
-add-j c = search needs
-
-shared-slice-read-rank : tie.Need-shared-slice-read-rank Inv-loop μ-loop
-shared-slice-read-rank c = search needs
-
-rank-requires : tie.Need-rank-requires Inv-loop μ-loop
-rank-requires c κs = search needs
-
 loop-holds : tie.Need-loop-holds Inv-loop μ-loop
 loop-holds c = rw (c .rank .ensures) (search-start _ _ _ (c .before .before .if1 .left))
-
-cast-a : tie.Need-cast-a Inv-loop μ-loop
-cast-a c = search needs
-
-shared-slice-read-a : tie.Need-shared-slice-read-a Inv-loop μ-loop
-shared-slice-read-a c = search needs
-
-cast-letter : tie.Need-cast-letter Inv-loop μ-loop
-cast-letter c = search needs
-
-shared-slice-read-letter : tie.Need-shared-slice-read-letter Inv-loop μ-loop
-shared-slice-read-letter c = search needs
-
-rank-requires-2 : tie.Need-rank-requires-2 Inv-loop μ-loop
-rank-requires-2 c κs = search needs
-
-add-i : tie.Need-add-i Inv-loop μ-loop
-add-i c = search needs
 
 add-laters : tie.Need-add-laters Inv-loop μ-loop
 add-laters c =
@@ -60,20 +27,11 @@ add-laters c =
     let iteration = ranked .before .before .before in
     omega (arith, search-fits (iteration .before .loop .inv) (iteration .loop-test .taken) (ranked .rank2 .ensures))
 
-add-i-2 : tie.Need-add-i-2 Inv-loop μ-loop
-add-i-2 c = search needs
-
 add-read : tie.Need-add-read Inv-loop μ-loop
 add-read c =
     let ranked = c .before in
     let iteration = ranked .before .before .before in
     omega (arith, search-fits (iteration .before .loop .inv) (iteration .loop-test .taken) (ranked .rank2 .ensures))
-
-add-j-2 : tie.Need-add-j-2 Inv-loop μ-loop
-add-j-2 c = search needs
-
-loop-less : tie.Need-loop-less Inv-loop μ-loop
-loop-less c = search needs
 
 loop-again : tie.Need-loop-again Inv-loop μ-loop
 loop-again c =
@@ -89,15 +47,6 @@ loop-again c =
     (λ w. rw (w .3, w .4, b) (pair-others s h (w .1 .left) (w .2 .left))))
     (c .if2 .came)
 
-sub-length : tie.Need-sub-length Inv-loop μ-loop
-sub-length c = search needs
-
-sub-span : tie.Need-sub-span Inv-loop μ-loop
-sub-span c = search needs
-
-div-times : tie.Need-div-times Inv-loop μ-loop
-div-times c = search needs
-
 returns-2 : tie.Need-returns-2 Inv-loop μ-loop
 returns-2 c =
     let s = c .before .loop .inv in
@@ -109,29 +58,7 @@ returns-2 c =
 pub first-factor-spec : {M : Type 1} → statement M
 first-factor-spec =
     tie.close
-    (tie.spec
-    Inv-loop
-    μ-loop
-    returns
-    cast-count
-    cast-start
-    add-j
-    shared-slice-read-rank
-    rank-requires
-    loop-holds
-    cast-a
-    shared-slice-read-a
-    cast-letter
-    shared-slice-read-letter
-    rank-requires-2
-    add-i
-    add-laters
-    add-i-2
-    add-read
-    add-j-2
-    loop-less
-    loop-again
-    sub-length
-    sub-span
-    div-times
-    returns-2)
+    (tie.spec Inv-loop μ-loop returns (λ c. search needs) (λ c. search needs) (λ c. search needs) (λ c. search needs)
+    (λ c κs. search needs) loop-holds (λ c. search needs) (λ c. search needs) (λ c. search needs) (λ c. search needs)
+    (λ c κs. search needs) (λ c. search needs) add-laters (λ c. search needs) add-read (λ c. search needs) (λ c. search needs) loop-again
+    (λ c. search needs) (λ c. search needs) (λ c. search needs) returns-2)

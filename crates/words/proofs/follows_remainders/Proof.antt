@@ -15,9 +15,6 @@ Inv-loop w k later count rem₀ i₀ rem i = (i ≤ length w) × Walked w later 
 abbrev μ-loop : tie.MeasureT-loop
 μ-loop w k later count rem₀ i₀ rem i = length w - i
 
-cast-count : tie.Need-cast-count Inv-loop μ-loop
-cast-count c = search needs
-
 loop-holds : tie.Need-loop-holds Inv-loop μ-loop
 loop-holds c = (search needs, walked-start _ _ _ (search needs))
 
@@ -26,26 +23,11 @@ returns c =
     let iteration = c .before .before in
     walked-zero (iteration .before .loop .inv .1) (iteration .loop-test .taken) (ltb-true _ _ (c .if2 .taken)) (c .before .if1 .taken)
 
-next-remainder-requires : tie.Need-next-remainder-requires Inv-loop μ-loop
-next-remainder-requires c κs = search needs
-
-cast-if3 : tie.Need-cast-if3 Inv-loop μ-loop
-cast-if3 c = search needs
-
-shared-slice-read-if3 : tie.Need-shared-slice-read-if3 Inv-loop μ-loop
-shared-slice-read-if3 c = search needs
-
 returns-2 : tie.Need-returns-2 Inv-loop μ-loop
 returns-2 c =
     let iteration = c .before .before .before .before in
     walked-misfit (iteration .before .loop .inv .1) _ (iteration .loop-test .taken) (c .before .before .next-remainder .ensures)
     (c .if3 .taken)
-
-add-i : tie.Need-add-i Inv-loop μ-loop
-add-i c = search needs
-
-loop-less : tie.Need-loop-less Inv-loop μ-loop
-loop-less c = search needs
 
 loop-again : tie.Need-loop-again Inv-loop μ-loop
 loop-again c =
@@ -64,17 +46,5 @@ returns-3 c = walked-end (c .before .loop .inv .1) (search needs) (search needs)
 pub follows-remainders-spec : {M : Type 1} → statement M
 follows-remainders-spec =
     tie.close
-    (tie.spec
-    Inv-loop
-    μ-loop
-    cast-count
-    loop-holds
-    returns
-    next-remainder-requires
-    cast-if3
-    shared-slice-read-if3
-    returns-2
-    add-i
-    loop-less
-    loop-again
-    returns-3)
+    (tie.spec Inv-loop μ-loop (λ c. search needs) loop-holds returns (λ c κs. search needs) (λ c. search needs) (λ c. search needs)
+    returns-2 (λ c. search needs) (λ c. search needs) loop-again returns-3)

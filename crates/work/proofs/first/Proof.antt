@@ -5,9 +5,6 @@ use borrow.Author.Needs.{needs}
 use Rattle.work.proofs.first.Statement.{statement}
 use Rattle.work.proofs.first.Tie as tie
 
-number-count-requires : tie.Need-number-count-requires
-number-count-requires c κs = search needs
-
 slice-aggregate-result : tie.Need-slice-aggregate-result
 slice-aggregate-result c = first-length _ _ _ _ (c .before .all .given .0) (c .before .before .number-count .ensures)
 
@@ -16,4 +13,4 @@ unfolding listed
 returns c = rw (c .before .before .number-count .ensures)
 
 pub first-spec : {M : Type 1} → statement M
-first-spec = tie.close (tie.spec number-count-requires slice-aggregate-result returns)
+first-spec = tie.close (tie.spec (λ c κs. search needs) slice-aggregate-result returns)

@@ -23,12 +23,6 @@ leftward c = sym (simp (toZ-ofZ w16 _ (c .before .before .before .before .fits .
 not-left : (c : tie.Else3) → positive (negℤ (c .before .before .before .before .args .dx)) ≡ false
 not-left c = sym (simp (toZ-ofZ w16 _ (c .before .before .before .before .fits .dx)) at (c .before .below .ensures)) ∙ c .if3 .left
 
-above-requires : tie.Need-above-requires
-above-requires c κs = search needs
-
-above-requires-2 : tie.Need-above-requires-2
-above-requires-2 c κs = search needs
-
 returns : tie.Need-returns
 returns c =
     let one = c .before .before in
@@ -42,12 +36,6 @@ returns-2 c =
     let a = one .before .before in
     let upward = sym (simp (toZ-ofZ w16 _ (a .fits .dy)) at (c .before .above2 .ensures)) ∙ c .if2 .left in
     sym (quadrant-tests (a .args .dx) (a .args .dy) ∙ rw (right one, upward))
-
-below-requires : tie.Need-below-requires
-below-requires c κs = search needs
-
-below-requires-2 : tie.Need-below-requires-2
-below-requires-2 c κs = search needs
 
 returns-3 : tie.Need-returns-3
 returns-3 c =
@@ -63,9 +51,6 @@ returns-4 c =
     let down = sym (simp (toZ-ofZ w16 _ (a .fits .dy)) at (c .before .below2 .ensures)) ∙ c .if4 .left in
     sym (quadrant-tests (a .args .dx) (a .args .dy) ∙ rw (not-right (two .before .before), leftward two, down))
 
-above-requires-3 : tie.Need-above-requires-3
-above-requires-3 c κs = search needs
-
 returns-5 : tie.Need-returns-5
 returns-5 c =
     let two = c .before .before in
@@ -76,9 +61,6 @@ returns-5 c =
 not-up : (c : tie.Else5) → positive (c .before .before .before .before .before .before .args .dy) ≡ false
 not-up c = sym (simp (toZ-ofZ w16 _ (c .before .before .before .before .before .before .fits .dy)) at (c .before .above3 .ensures))
     ∙ c .if5 .left
-
-below-requires-3 : tie.Need-below-requires-3
-below-requires-3 c κs = search needs
 
 returns-6 : tie.Need-returns-6
 returns-6 c =
@@ -99,17 +81,5 @@ returns-7 c =
 pub quadrant-spec : {M : Type 1} → statement M
 quadrant-spec =
     tie.close
-    (tie.spec
-    above-requires
-    above-requires-2
-    returns
-    returns-2
-    below-requires
-    below-requires-2
-    returns-3
-    returns-4
-    above-requires-3
-    returns-5
-    below-requires-3
-    returns-6
-    returns-7)
+    (tie.spec (λ c κs. search needs) (λ c κs. search needs) returns returns-2 (λ c κs. search needs) (λ c κs. search needs) returns-3
+    returns-4 (λ c κs. search needs) returns-5 (λ c κs. search needs) returns-6 returns-7)

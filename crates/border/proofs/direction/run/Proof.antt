@@ -8,12 +8,6 @@ use borrow.Author.Needs.{needs}
 use Rattle.border.proofs.direction.run.Statement.{statement}
 use Rattle.border.proofs.direction.run.Tie as tie
 
-size-requires : tie.Need-size-requires
-size-requires c κs = search needs
-
-size-requires-2 : tie.Need-size-requires-2
-size-requires-2 c κs = search needs
-
 dx-size : (c : tie.After-size) → c .size .result ≡ natAbs (c .before .before .args .dx)
 dx-size c = simp (toZ-ofZ w16 _ (c .before .before .fits .dx)) at (c .size .ensures .0)
 
@@ -29,4 +23,4 @@ returns-2 c = let a = c .before .before .args in
     (dy-size c ∙ sym (run-odd (a .k) (a .dx) (a .dy) (c .before .if1 .left)), c .size2 .ensures .1)
 
 pub run-spec : {M : Type 1} → statement M
-run-spec = tie.close (tie.spec size-requires size-requires-2 returns returns-2)
+run-spec = tie.close (tie.spec (λ c κs. search needs) (λ c κs. search needs) returns returns-2)

@@ -23,20 +23,8 @@ loop-holds c =
     let e : a .from - a .from ≡ 0 = omega arith in
     (omega arith, omega arith, omega arith, rw e (wrote-none (a .letters .now) (a .at)))
 
-add-k : tie.Need-add-k Inv-loop μ-loop
-add-k c = omega arith
-
-later-requires : tie.Need-later-requires Inv-loop μ-loop
-later-requires c κs = search needs
-
 slice-write-letters : tie.Need-slice-write-letters Inv-loop μ-loop
 slice-write-letters c = omega (arith, c .before .before .loop .inv .3 .sized)
-
-add-i : tie.Need-add-i Inv-loop μ-loop
-add-i c = omega arith
-
-loop-less : tie.Need-loop-less Inv-loop μ-loop
-loop-less c = omega arith
 
 loop-again : tie.Need-loop-again Inv-loop μ-loop
 loop-again c =
@@ -67,15 +55,5 @@ returns c =
 pub begin-pieces-spec : {M : Type 1} → statement M
 begin-pieces-spec =
     tie.close
-    (tie.spec
-    Inv-loop
-    μ-loop
-    loop-holds
-    add-k
-    later-requires
-    slice-write-letters
-    add-i
-    loop-less
-    loop-again
-    same-length
-    returns)
+    (tie.spec Inv-loop μ-loop loop-holds (λ c. omega arith) (λ c κs. search needs) slice-write-letters (λ c. omega arith)
+    (λ c. omega arith) loop-again same-length returns)

@@ -19,9 +19,6 @@ Inv-loop edges letters₀ pen₀ i₀ letters writer i = Building edges letters�
 abbrev μ-loop : tie.MeasureT-loop
 μ-loop edges letters₀ pen₀ i₀ letters writer i = length edges - i
 
-later-requires : tie.Need-later-requires Inv-loop μ-loop
-later-requires c κs = search needs
-
 slice-write-letters : tie.Need-slice-write-letters Inv-loop μ-loop
 slice-write-letters c = omega (arith, c .before .before .pre)
 
@@ -35,17 +32,8 @@ add-loop c = omega (arith, c .loop .inv .passed)
 mul-dx : tie.Need-mul-dx Inv-loop μ-loop
 mul-dx c = omega (arith, c .before .loop .inv .passed)
 
-shared-slice-copy-out-dx : tie.Need-shared-slice-copy-out-dx Inv-loop μ-loop
-shared-slice-copy-out-dx c = omega arith
-
-add-dy : tie.Need-add-dy Inv-loop μ-loop
-add-dy c = omega arith
-
 mul-dy : tie.Need-mul-dy Inv-loop μ-loop
 mul-dy c = omega (arith, c .before .before .loop .inv .passed)
-
-shared-slice-copy-out-dy : tie.Need-shared-slice-copy-out-dy Inv-loop μ-loop
-shared-slice-copy-out-dy c = omega arith
 
 -- The edge of an iteration
 abbrev Iteration : Type 0
@@ -67,12 +55,6 @@ step-requires c κs =
     let f = first-here b (t .loop-test .taken) in
     simp (toZ-ofZ w16 _ (fits-x (c .before .before)), toZ-ofZ w16 _ (fits-y (c .before)))
     ((f .from, f .small), step-room b (t .loop-test .taken))
-
-add-i : tie.Need-add-i Inv-loop μ-loop
-add-i c = omega arith
-
-loop-less : tie.Need-loop-less Inv-loop μ-loop
-loop-less c = omega arith
 
 loop-again : tie.Need-loop-again Inv-loop μ-loop
 loop-again c =
@@ -98,22 +80,5 @@ returns c = let l = c .before .before .before .before .before in
 pub build-spec : {M : Type 1} → statement M
 build-spec =
     tie.close
-    (tie.spec
-    Inv-loop
-    μ-loop
-    later-requires
-    slice-write-letters
-    loop-holds
-    add-loop
-    mul-dx
-    shared-slice-copy-out-dx
-    add-dy
-    mul-dy
-    shared-slice-copy-out-dy
-    step-requires
-    add-i
-    loop-less
-    loop-again
-    begin-pieces-requires
-    same-length
-    returns)
+    (tie.spec Inv-loop μ-loop (λ c κs. search needs) slice-write-letters loop-holds add-loop mul-dx (λ c. omega arith) (λ c. omega arith)
+    mul-dy (λ c. omega arith) step-requires (λ c. omega arith) (λ c. omega arith) loop-again begin-pieces-requires same-length returns)

@@ -13,9 +13,6 @@ use borrow.Author.Needs.{needs}
 use Rattle.border.proofs.writer.step.Statement.{statement}
 use Rattle.border.proofs.writer.step.Tie as tie
 
-quadrant-requires : tie.Need-quadrant-requires
-quadrant-requires c κs = search needs
-
 -- The quadrant, as the code finds it
 quadrant-is : (c : tie.After-quadrant) → let a = c .before .before .args in c .quadrant .result ≡ quadrantOf (a .dx) (a .dy)
 quadrant-is c =
@@ -25,14 +22,8 @@ begin-pieces-requires : tie.Need-begin-pieces-requires
 begin-pieces-requires c κs = let k = quadrant-is (c .before) in let s = c .before .before .before in
     (omega (arith, k, s .pre), omega (arith, k, s .pre))
 
-run-requires : tie.Need-run-requires
-run-requires c κs = search needs
-
 add-run : tie.Need-add-run
 add-run c = let q = c .before .before .before .before .before in omega (arith, quadrant-is q, q .before .before .pre)
-
-run-requires-2 : tie.Need-run-requires-2
-run-requires-2 c κs = search needs
 
 -- The edge's two counts, and where it starts
 run-is :
@@ -69,9 +60,6 @@ write-edge-requires c κs =
       omega (arith, rise-is two, quadrant-step x y (s .pre .0 .1) .rises),
     )
 
-same-length : tie.Need-same-length
-same-length c = search needs
-
 returns : tie.Need-returns
 returns c =
     let edge = c .before .before in
@@ -93,12 +81,5 @@ returns c =
 pub step-spec : {M : Type 1} → statement M
 step-spec =
     tie.close
-    (tie.spec
-    quadrant-requires
-    begin-pieces-requires
-    run-requires
-    add-run
-    run-requires-2
-    write-edge-requires
-    same-length
-    returns)
+    (tie.spec (λ c κs. search needs) begin-pieces-requires (λ c κs. search needs) add-run (λ c κs. search needs) write-edge-requires
+    (λ c. search needs) returns)

@@ -25,15 +25,6 @@ Inv-loop letters₀ at k run rise earlier later end rem₀ i₀ letters rem i =
 abbrev μ-loop : tie.MeasureT-loop
 μ-loop letters₀ at k run rise earlier later end rem₀ i₀ letters rem i = run + rise - i
 
-earlier-requires : tie.Need-earlier-requires Inv-loop μ-loop
-earlier-requires c κs = search needs
-
-later-requires : tie.Need-later-requires Inv-loop μ-loop
-later-requires c κs = search needs
-
-add-end : tie.Need-add-end Inv-loop μ-loop
-add-end c = omega arith
-
 loop-holds : tie.Need-loop-holds Inv-loop μ-loop
 unfolding listed spell
 loop-holds c =
@@ -42,9 +33,6 @@ loop-holds c =
       sym (ap (λ (n : ℕ). n % (s .args .run + s .args .rise)) (zero-mul (s .args .rise)) ∙ zero-mod _),
       wrote-none (s .args .letters .now) (s .args .at),
     )
-
-add-letters : tie.Need-add-letters Inv-loop μ-loop
-add-letters c = omega arith
 
 slice-write-letters : tie.Need-slice-write-letters Inv-loop μ-loop
 slice-write-letters c = omega (arith, c .before .before .loop .inv .2 .sized)
@@ -55,12 +43,6 @@ next-requires c κs =
       omega (arith, mod-lt (c .before .before .loop .i * s .args .rise) (let p : 0 < s .args .run + s .args .rise = omega arith in p)),
       omega arith,
     )
-
-add-i : tie.Need-add-i Inv-loop μ-loop
-add-i c = omega arith
-
-loop-less : tie.Need-loop-less Inv-loop μ-loop
-loop-less c = omega arith
 
 -- One more letter, by the test of the remainder
 longer :
@@ -97,9 +79,6 @@ loop-again c =
       rw (add-one i) (longer j),
     )
 
-add-result : tie.Need-add-result Inv-loop μ-loop
-add-result c = omega arith
-
 same-length : tie.Need-same-length Inv-loop μ-loop
 same-length c = c .before .loop .inv .2 .sized
 
@@ -114,19 +93,5 @@ returns c =
 pub write-edge-spec : {M : Type 1} → statement M
 write-edge-spec =
     tie.close
-    (tie.spec
-    Inv-loop
-    μ-loop
-    earlier-requires
-    later-requires
-    add-end
-    loop-holds
-    add-letters
-    slice-write-letters
-    next-requires
-    add-i
-    loop-less
-    loop-again
-    add-result
-    same-length
-    returns)
+    (tie.spec Inv-loop μ-loop (λ c κs. search needs) (λ c κs. search needs) (λ c. omega arith) loop-holds (λ c. omega arith)
+    slice-write-letters next-requires (λ c. omega arith) (λ c. omega arith) loop-again (λ c. omega arith) same-length returns)

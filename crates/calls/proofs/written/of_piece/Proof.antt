@@ -11,30 +11,6 @@ use Rattle.calls.proofs.written.of_piece.Tie as tie
 shown : {p q : Piece} (x : Point) {f : Fields} → p ≡ q → f ≡ pieceFields q x → f ≡ pieceFields p x
 shown x e w = w ∙ ap (λ (r : Piece). pieceFields r x) (sym e)
 
-enum-told : tie.Need-enum-told
-enum-told c = search needs
-
-accepted-requires : tie.Need-accepted-requires
-accepted-requires c κs = search needs
-
-enum-told-2 : tie.Need-enum-told-2
-enum-told-2 c = search needs
-
-accepted-requires-2 : tie.Need-accepted-requires-2
-accepted-requires-2 c κs = search needs
-
-enum-told-3 : tie.Need-enum-told-3
-enum-told-3 c = search needs
-
-worded-requires : tie.Need-worded-requires
-worded-requires c κs = search needs
-
-enum-told-4 : tie.Need-enum-told-4
-enum-told-4 c = search needs
-
-worded-requires-2 : tie.Need-worded-requires-2
-worded-requires-2 c κs = search needs
-
 returns : tie.Need-returns
 unfolding pieceFields
 returns c = shown _ (c .before .enum-told .given .1) (c .accepted .ensures)
@@ -54,16 +30,5 @@ returns-4 c = shown _ (c .before .enum-told4 .given .1) (c .worded2 .ensures)
 pub of-piece-spec : {M : Type 1} → statement M
 of-piece-spec =
     tie.close
-    (tie.spec
-    enum-told
-    accepted-requires
-    enum-told-2
-    accepted-requires-2
-    enum-told-3
-    worded-requires
-    enum-told-4
-    worded-requires-2
-    returns
-    returns-2
-    returns-3
-    returns-4)
+    (tie.spec (λ c. search needs) (λ c κs. search needs) (λ c. search needs) (λ c κs. search needs) (λ c. search needs)
+    (λ c κs. search needs) (λ c. search needs) (λ c κs. search needs) returns returns-2 returns-3 returns-4)

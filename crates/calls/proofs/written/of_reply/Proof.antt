@@ -10,102 +10,6 @@ use Rattle.calls.proofs.written.of_reply.Tie as tie
 shown : {r s : Reply} {f : Fields} → r ≡ s → f ≡ replyFields s → f ≡ replyFields r
 shown e p = p ∙ ap replyFields (sym e)
 
-enum-told : tie.Need-enum-told
-enum-told c = search needs
-
-worded-requires : tie.Need-worded-requires
-worded-requires c κs = search needs
-
-enum-told-2 : tie.Need-enum-told-2
-enum-told-2 c = search needs
-
-worded-requires-2 : tie.Need-worded-requires-2
-worded-requires-2 c κs = search needs
-
-enum-told-3 : tie.Need-enum-told-3
-enum-told-3 c = search needs
-
-worded-requires-3 : tie.Need-worded-requires-3
-worded-requires-3 c κs = search needs
-
-enum-told-4 : tie.Need-enum-told-4
-enum-told-4 c = search needs
-
-worded-requires-4 : tie.Need-worded-requires-4
-worded-requires-4 c κs = search needs
-
-enum-known-r : tie.Need-enum-known-r
-enum-known-r c = search needs
-
-accepted-requires : tie.Need-accepted-requires
-accepted-requires c κs = search needs
-
-enum-told-5 : tie.Need-enum-told-5
-enum-told-5 c = search needs
-
-worded-requires-5 : tie.Need-worded-requires-5
-worded-requires-5 c κs = search needs
-
-enum-known-r-2 : tie.Need-enum-known-r-2
-enum-known-r-2 c = search needs
-
-of-piece-requires : tie.Need-of-piece-requires
-of-piece-requires c κs = search needs
-
-enum-known-r-3 : tie.Need-enum-known-r-3
-enum-known-r-3 c = search needs
-
-accepted-requires-2 : tie.Need-accepted-requires-2
-accepted-requires-2 c κs = search needs
-
-enum-known-r-4 : tie.Need-enum-known-r-4
-enum-known-r-4 c = search needs
-
-accepted-requires-3 : tie.Need-accepted-requires-3
-accepted-requires-3 c κs = search needs
-
-enum-known-r-5 : tie.Need-enum-known-r-5
-enum-known-r-5 c = search needs
-
-of-refusal-requires : tie.Need-of-refusal-requires
-of-refusal-requires c κs = search needs
-
-enum-told-6 : tie.Need-enum-told-6
-enum-told-6 c = search needs
-
-numbered-requires : tie.Need-numbered-requires
-numbered-requires c κs = search needs
-
-enum-told-7 : tie.Need-enum-told-7
-enum-told-7 c = search needs
-
-numbered-requires-2 : tie.Need-numbered-requires-2
-numbered-requires-2 c κs = search needs
-
-enum-told-8 : tie.Need-enum-told-8
-enum-told-8 c = search needs
-
-numbered-requires-3 : tie.Need-numbered-requires-3
-numbered-requires-3 c κs = search needs
-
-enum-told-9 : tie.Need-enum-told-9
-enum-told-9 c = search needs
-
-numbered-requires-4 : tie.Need-numbered-requires-4
-numbered-requires-4 c κs = search needs
-
-enum-told-10 : tie.Need-enum-told-10
-enum-told-10 c = search needs
-
-numbered-requires-5 : tie.Need-numbered-requires-5
-numbered-requires-5 c κs = search needs
-
-enum-told-11 : tie.Need-enum-told-11
-enum-told-11 c = search needs
-
-numbered-requires-6 : tie.Need-numbered-requires-6
-numbered-requires-6 c κs = search needs
-
 returns : tie.Need-returns
 unfolding replyFields
 returns c = shown (c .before .enum-told .given .1) (c .worded .ensures)
@@ -173,52 +77,10 @@ returns-16 c = shown (c .before .enum-told11 .given .1) (c .numbered6 .ensures)
 pub of-reply-spec : {M : Type 1} → statement M
 of-reply-spec =
     tie.close
-    (tie.spec
-    enum-told
-    worded-requires
-    enum-told-2
-    worded-requires-2
-    enum-told-3
-    worded-requires-3
-    enum-told-4
-    worded-requires-4
-    enum-known-r
-    accepted-requires
-    enum-told-5
-    worded-requires-5
-    enum-known-r-2
-    of-piece-requires
-    enum-known-r-3
-    accepted-requires-2
-    enum-known-r-4
-    accepted-requires-3
-    enum-known-r-5
-    of-refusal-requires
-    enum-told-6
-    numbered-requires
-    enum-told-7
-    numbered-requires-2
-    enum-told-8
-    numbered-requires-3
-    enum-told-9
-    numbered-requires-4
-    enum-told-10
-    numbered-requires-5
-    enum-told-11
-    numbered-requires-6
-    returns
-    returns-2
-    returns-3
-    returns-4
-    returns-5
-    returns-6
-    returns-7
-    returns-8
-    returns-9
-    returns-10
-    returns-11
-    returns-12
-    returns-13
-    returns-14
-    returns-15
-    returns-16)
+    (tie.spec (λ c. search needs) (λ c κs. search needs) (λ c. search needs) (λ c κs. search needs) (λ c. search needs)
+    (λ c κs. search needs) (λ c. search needs) (λ c κs. search needs) (λ c. search needs) (λ c κs. search needs) (λ c. search needs)
+    (λ c κs. search needs) (λ c. search needs) (λ c κs. search needs) (λ c. search needs) (λ c κs. search needs) (λ c. search needs)
+    (λ c κs. search needs) (λ c. search needs) (λ c κs. search needs) (λ c. search needs) (λ c κs. search needs) (λ c. search needs)
+    (λ c κs. search needs) (λ c. search needs) (λ c κs. search needs) (λ c. search needs) (λ c κs. search needs) (λ c. search needs)
+    (λ c κs. search needs) (λ c. search needs) (λ c κs. search needs) returns returns-2 returns-3 returns-4 returns-5 returns-6 returns-7
+    returns-8 returns-9 returns-10 returns-11 returns-12 returns-13 returns-14 returns-15 returns-16)

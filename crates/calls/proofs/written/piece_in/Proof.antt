@@ -37,9 +37,6 @@ no-piece DraftFull h = refl
 no-piece NoParty h = refl
 no-piece NoPlace h = refl
 
-enum-known-r : tie.Need-enum-known-r
-enum-known-r c = search needs
-
 returns : tie.Need-returns
 unfolding pieceIn
 returns c = rw (c .before .r .given .1)
@@ -48,4 +45,4 @@ returns-2 : tie.Need-returns-2
 returns-2 c = no-piece _ (c .match .keys2)
 
 pub piece-in-spec : {M : Type 1} → statement M
-piece-in-spec = tie.close (tie.spec enum-known-r returns returns-2)
+piece-in-spec = tie.close (tie.spec (λ c. search needs) returns returns-2)

@@ -6,21 +6,6 @@ use borrow.Author.Needs.{needs}
 use Rattle.chart.proofs.reply.of_comparison.Statement.{statement}
 use Rattle.chart.proofs.reply.of_comparison.Tie as tie
 
-enum-known-c : tie.Need-enum-known-c
-enum-known-c c = search needs
-
-of-nesting-requires : tie.Need-of-nesting-requires
-of-nesting-requires c κs = search needs
-
-enum-known-c-2 : tie.Need-enum-known-c-2
-enum-known-c-2 c = search needs
-
-of-refusal-requires : tie.Need-of-refusal-requires
-of-refusal-requires c κs = search needs
-
-placed-requires : tie.Need-placed-requires
-placed-requires c κs = search needs
-
 returns : tie.Need-returns
 returns c = search needs
 
@@ -32,11 +17,5 @@ returns-2 c =
 pub of-comparison-spec : {M : Type 1} → statement M
 of-comparison-spec =
     tie.close
-    (tie.spec
-    enum-known-c
-    of-nesting-requires
-    enum-known-c-2
-    of-refusal-requires
-    placed-requires
-    returns
+    (tie.spec (λ c. search needs) (λ c κs. search needs) (λ c. search needs) (λ c κs. search needs) (λ c κs. search needs) returns
     returns-2)

@@ -13,9 +13,6 @@ use Rattle.chart.proofs.reply.write.Tie as tie
 returns : tie.Need-returns
 returns c = (sym (lt-leb replyWidth _ (c .if1 .taken)), sym (replyAfter-short _ _ (c .if1 .taken)))
 
-slice-write-list : tie.Need-slice-write-list
-slice-write-list c = omega arith
-
 slice-write-list-2 : tie.Need-slice-write-list-2
 slice-write-list-2 c = simp length-set (omega arith)
 
@@ -34,9 +31,6 @@ slice-write-list-6 c = simp length-set (omega arith)
 slice-write-list-7 : tie.Need-slice-write-list-7
 slice-write-list-7 c = simp length-set (omega arith)
 
-same-length : tie.Need-same-length
-same-length c = search needs
-
 returns-2 : tie.Need-returns-2
 unfolding numbersOf
 returns-2 c =
@@ -49,14 +43,5 @@ returns-2 c =
 pub write-spec : {M : Type 1} → statement M
 write-spec =
     tie.close
-    (tie.spec
-    returns
-    slice-write-list
-    slice-write-list-2
-    slice-write-list-3
-    slice-write-list-4
-    slice-write-list-5
-    slice-write-list-6
-    slice-write-list-7
-    same-length
-    returns-2)
+    (tie.spec returns (λ c. omega arith) slice-write-list-2 slice-write-list-3 slice-write-list-4 slice-write-list-5 slice-write-list-6
+    slice-write-list-7 (λ c. search needs) returns-2)

@@ -7,24 +7,6 @@ use Rattle.comparison.proofs.Sweeps.{to-here, to-else}
 use Rattle.comparison.proofs.rows.corner_end.Statement.{statement}
 use Rattle.comparison.proofs.rows.corner_end.Tie as tie
 
-cast-row : tie.Need-cast-row
-cast-row c = search needs
-
-element-copy-out-higher : tie.Need-element-copy-out-higher
-element-copy-out-higher c = search needs
-
-cast-higher : tie.Need-cast-higher
-cast-higher c = search needs
-
-add-higher : tie.Need-add-higher
-add-higher c = search needs
-
-higher-requires : tie.Need-higher-requires
-higher-requires c κs = search needs
-
-element-write-end : tie.Need-element-write-end
-element-write-end c = search needs
-
 returns : tie.Need-returns
 returns c =
     let s = c .before .before .before .before in
@@ -35,11 +17,5 @@ returns c =
 pub corner-end-spec : {M : Type 1} → statement M
 corner-end-spec =
     tie.close
-    (tie.spec
-    cast-row
-    element-copy-out-higher
-    cast-higher
-    add-higher
-    higher-requires
-    element-write-end
+    (tie.spec (λ c. search needs) (λ c. search needs) (λ c. search needs) (λ c. search needs) (λ c κs. search needs) (λ c. search needs)
     returns)

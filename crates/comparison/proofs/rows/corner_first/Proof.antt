@@ -7,21 +7,6 @@ use Rattle.comparison.proofs.Sweeps.{met-here, met-else}
 use Rattle.comparison.proofs.rows.corner_first.Statement.{statement}
 use Rattle.comparison.proofs.rows.corner_first.Tie as tie
 
-cast-row : tie.Need-cast-row
-cast-row c = search needs
-
-element-copy-out-lower : tie.Need-element-copy-out-lower
-element-copy-out-lower c = search needs
-
-cast-lower : tie.Need-cast-lower
-cast-lower c = search needs
-
-lower-requires : tie.Need-lower-requires
-lower-requires c κs = search needs
-
-element-write-first : tie.Need-element-write-first
-element-write-first c = search needs
-
 returns : tie.Need-returns
 returns c =
     let s = c .before .before .before .before in
@@ -33,10 +18,4 @@ returns c =
 pub corner-first-spec : {M : Type 1} → statement M
 corner-first-spec =
     tie.close
-    (tie.spec
-    cast-row
-    element-copy-out-lower
-    cast-lower
-    lower-requires
-    element-write-first
-    returns)
+    (tie.spec (λ c. search needs) (λ c. search needs) (λ c. search needs) (λ c κs. search needs) (λ c. search needs) returns)

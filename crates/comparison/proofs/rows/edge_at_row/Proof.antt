@@ -20,18 +20,6 @@ minus-one s = product-small (s .args .q .row) (s .args .p .col) (omega (arith, s
 minus-two : (s : tie.Start) → s .args .q .col * s .args .row ≤ 64516
 minus-two s = product-small (s .args .q .col) (s .args .row) (omega (arith, s .pre)) (omega (arith, s .pre))
 
-cast-x : tie.Need-cast-x
-cast-x c = search needs
-
-cast-y : tie.Need-cast-y
-cast-y c = search needs
-
-cast-u : tie.Need-cast-u
-cast-u c = search needs
-
-cast-v : tie.Need-cast-v
-cast-v c = search needs
-
 mul-t8 : tie.Need-mul-t8
 mul-t8 c = record { fits = omega (arith, plus-one (c .before .before .before .before)) }
 
@@ -54,4 +42,4 @@ returns : tie.Need-returns
 returns c = let s = c .before .before .before .before in (refl, omega (arith, plus-one s, plus-two s))
 
 pub edge-at-row-spec : {M : Type 1} → statement M
-edge-at-row-spec = tie.close (tie.spec cast-x cast-y cast-u cast-v mul-t8 mul-t9 add-t10 mul-t11 mul-t12 add-t13 returns)
+edge-at-row-spec = tie.close (tie.spec (λ c. search needs) (λ c. search needs) (λ c. search needs) (λ c. search needs) mul-t8 mul-t9 add-t10 mul-t11 mul-t12 add-t13 returns)

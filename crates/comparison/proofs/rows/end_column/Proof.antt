@@ -20,9 +20,6 @@ unfolding endOf
 returns-3 c = let s = c .before .before .before .before .before .before .args .e in
     end-level (s .y) (s .v) (s .plus) (s .minus) (omega arith) (omega arith)
 
-div-result : tie.Need-div-result
-div-result c = search needs
-
 add-result : tie.Need-add-result
 add-result c =
     let s = c .before .before .before .before .before .before .before .before in
@@ -35,4 +32,4 @@ returns-4 c = let s = c .before .before .before .before .before .before .before 
     end-inner (s .y) (s .v) (s .plus) (s .minus) (omega arith) (omega arith)
 
 pub end-column-spec : {M : Type 1} → statement M
-end-column-spec = tie.close (tie.spec returns returns-2 returns-3 div-result add-result returns-4)
+end-column-spec = tie.close (tie.spec returns returns-2 returns-3 (λ c. search needs) add-result returns-4)

@@ -18,41 +18,11 @@ Inv-loop p q end₀ row₀ end row =
 abbrev μ-loop : tie.MeasureT-loop
 μ-loop p q end₀ row₀ end row = p .row - row
 
-cast-row : tie.Need-cast-row Inv-loop μ-loop
-cast-row c = search needs
-
-add-row : tie.Need-add-row Inv-loop μ-loop
-add-row c = search needs
-
 loop-holds : tie.Need-loop-holds Inv-loop μ-loop
 loop-holds c = let s = c .before in (omega arith, omega arith, s .pre .4, high-start (s .args .q .row) _ (s .args .end .now))
 
-cast-if1 : tie.Need-cast-if1 Inv-loop μ-loop
-cast-if1 c = search needs
-
-element-copy-out-higher : tie.Need-element-copy-out-higher Inv-loop μ-loop
-element-copy-out-higher c = search needs
-
-cast-edge-at-row : tie.Need-cast-edge-at-row Inv-loop μ-loop
-cast-edge-at-row c = search needs
-
-edge-at-row-requires : tie.Need-edge-at-row-requires Inv-loop μ-loop
-edge-at-row-requires c κs = search needs
-
 end-column-requires : tie.Need-end-column-requires Inv-loop μ-loop
 end-column-requires c κs = c .edge-at-row .ensures .1
-
-higher-requires : tie.Need-higher-requires Inv-loop μ-loop
-higher-requires c κs = search needs
-
-element-write-end : tie.Need-element-write-end Inv-loop μ-loop
-element-write-end c = search needs
-
-add-row-2 : tie.Need-add-row-2 Inv-loop μ-loop
-add-row-2 c = search needs
-
-loop-less : tie.Need-loop-less Inv-loop μ-loop
-loop-less c = omega arith
 
 loop-again : tie.Need-loop-again Inv-loop μ-loop
 loop-again c =
@@ -74,20 +44,6 @@ returns c =
 pub fall-spec : {M : Type 1} → statement M
 fall-spec =
     tie.close
-    (tie.spec
-    Inv-loop
-    μ-loop
-    cast-row
-    add-row
-    loop-holds
-    cast-if1
-    element-copy-out-higher
-    cast-edge-at-row
-    edge-at-row-requires
-    end-column-requires
-    higher-requires
-    element-write-end
-    add-row-2
-    loop-less
-    loop-again
-    returns)
+    (tie.spec Inv-loop μ-loop (λ c. search needs) (λ c. search needs) loop-holds (λ c. search needs) (λ c. search needs)
+    (λ c. search needs) (λ c κs. search needs) end-column-requires (λ c κs. search needs) (λ c. search needs) (λ c. search needs)
+    (λ c. omega arith) loop-again returns)

@@ -15,18 +15,6 @@ returns-2 : tie.Need-returns-2
 unfolding firstOf
 returns-2 c = let s = c .before .before .before .before .args .e in first-inner (s .y) (s .v) (s .plus) (s .minus) (omega arith)
 
-sub-result : tie.Need-sub-result
-sub-result c = search needs
-
-sub-result-2 : tie.Need-sub-result-2
-sub-result-2 c = search needs
-
-sub-result-3 : tie.Need-sub-result-3
-sub-result-3 c = search needs
-
-div-result : tie.Need-div-result
-div-result c = search needs
-
 add-result : tie.Need-add-result
 add-result c =
     let s = c .before .before .before .before .before .before in
@@ -41,12 +29,4 @@ returns-3 c = let s = c .before .before .before .before .before .before .args .e
 pub first-column-spec : {M : Type 1} → statement M
 first-column-spec =
     tie.close
-    (tie.spec
-    returns
-    returns-2
-    sub-result
-    sub-result-2
-    sub-result-3
-    div-result
-    add-result
-    returns-3)
+    (tie.spec returns returns-2 (λ c. search needs) (λ c. search needs) (λ c. search needs) (λ c. search needs) add-result returns-3)

@@ -17,41 +17,8 @@ Inv-loop p q first₀ row₀ first row =
 abbrev μ-loop : tie.MeasureT-loop
 μ-loop p q first₀ row₀ first row = q .row - row
 
-cast-row : tie.Need-cast-row Inv-loop μ-loop
-cast-row c = search needs
-
-add-row : tie.Need-add-row Inv-loop μ-loop
-add-row c = search needs
-
 loop-holds : tie.Need-loop-holds Inv-loop μ-loop
 loop-holds c = let s = c .before in (omega arith, omega arith, s .pre .4, low-start (s .args .p .row) _ (s .args .first .now) (s .pre .4))
-
-cast-if1 : tie.Need-cast-if1 Inv-loop μ-loop
-cast-if1 c = search needs
-
-element-copy-out-lower : tie.Need-element-copy-out-lower Inv-loop μ-loop
-element-copy-out-lower c = search needs
-
-cast-edge-at-row : tie.Need-cast-edge-at-row Inv-loop μ-loop
-cast-edge-at-row c = search needs
-
-edge-at-row-requires : tie.Need-edge-at-row-requires Inv-loop μ-loop
-edge-at-row-requires c κs = search needs
-
-first-column-requires : tie.Need-first-column-requires Inv-loop μ-loop
-first-column-requires c κs = search needs
-
-lower-requires : tie.Need-lower-requires Inv-loop μ-loop
-lower-requires c κs = search needs
-
-element-write-first : tie.Need-element-write-first Inv-loop μ-loop
-element-write-first c = search needs
-
-add-row-2 : tie.Need-add-row-2 Inv-loop μ-loop
-add-row-2 c = search needs
-
-loop-less : tie.Need-loop-less Inv-loop μ-loop
-loop-less c = omega arith
 
 loop-again : tie.Need-loop-again Inv-loop μ-loop
 loop-again c =
@@ -73,20 +40,6 @@ returns c =
 pub rise-spec : {M : Type 1} → statement M
 rise-spec =
     tie.close
-    (tie.spec
-    Inv-loop
-    μ-loop
-    cast-row
-    add-row
-    loop-holds
-    cast-if1
-    element-copy-out-lower
-    cast-edge-at-row
-    edge-at-row-requires
-    first-column-requires
-    lower-requires
-    element-write-first
-    add-row-2
-    loop-less
-    loop-again
-    returns)
+    (tie.spec Inv-loop μ-loop (λ c. search needs) (λ c. search needs) loop-holds (λ c. search needs) (λ c. search needs)
+    (λ c. search needs) (λ c κs. search needs) (λ c κs. search needs) (λ c κs. search needs) (λ c. search needs) (λ c. search needs)
+    (λ c. omega arith) loop-again returns)

@@ -73,33 +73,12 @@ ends c =
 loop-holds : tie.Need-loop-holds Inv-loop μ-loop
 loop-holds c = sweeping-start _ _ _ _ (c .pre .0) (c .pre .1) (c .pre .2)
 
-add-loop : tie.Need-add-loop Inv-loop μ-loop
-add-loop c = omega arith
-
 corner-first-requires : tie.Need-corner-first-requires Inv-loop μ-loop
 corner-first-requires c κs = let w = c .before .before .loop .inv in let a = standing-here (w .stands) in (a .0, a .1, w .below)
 
 corner-end-requires : tie.Need-corner-end-requires Inv-loop μ-loop
 corner-end-requires c κs = let w = c .before .before .before .before .loop .inv in let a = standing-here (w .stands) in
     (a .0, a .1, w .wide)
-
-start-requires : tie.Need-start-requires Inv-loop μ-loop
-start-requires c κs = search needs
-
-mul-further : tie.Need-mul-further Inv-loop μ-loop
-mul-further c = omega arith
-
-shared-slice-copy-out-further : tie.Need-shared-slice-copy-out-further Inv-loop μ-loop
-shared-slice-copy-out-further c = omega arith
-
-add-further : tie.Need-add-further Inv-loop μ-loop
-add-further c = omega arith
-
-mul-further-2 : tie.Need-mul-further-2 Inv-loop μ-loop
-mul-further-2 c = omega arith
-
-shared-slice-copy-out-further-2 : tie.Need-shared-slice-copy-out-further-2 Inv-loop μ-loop
-shared-slice-copy-out-further-2 c = omega arith
 
 further-requires : tie.Need-further-requires Inv-loop μ-loop
 further-requires c κs =
@@ -125,12 +104,6 @@ fall-requires c κs =
     let reached = f .before .before .before .before .before in
     let e = ends f in
     (e .0, e .1, e .2, e .3, reached .corner-end .ensures .long ∙ reached .before .before .before .before .before .loop .inv .wide)
-
-add-i : tie.Need-add-i Inv-loop μ-loop
-add-i c = omega arith
-
-loop-less : tie.Need-loop-less Inv-loop μ-loop
-loop-less c = omega arith
 
 loop-again : tie.Need-loop-again Inv-loop μ-loop
 loop-again c =
@@ -159,26 +132,6 @@ returns c =
 pub sweep-spec : {M : Type 1} → statement M
 sweep-spec =
     tie.close
-    (tie.spec
-    Inv-loop
-    μ-loop
-    loop-holds
-    add-loop
-    corner-first-requires
-    corner-end-requires
-    start-requires
-    mul-further
-    shared-slice-copy-out-further
-    add-further
-    mul-further-2
-    shared-slice-copy-out-further-2
-    further-requires
-    cell-requires
-    rise-requires
-    fall-requires
-    add-i
-    loop-less
-    loop-again
-    corner-first-requires-2
-    corner-end-requires-2
-    returns)
+    (tie.spec Inv-loop μ-loop loop-holds (λ c. omega arith) corner-first-requires corner-end-requires (λ c κs. search needs)
+    (λ c. omega arith) (λ c. omega arith) (λ c. omega arith) (λ c. omega arith) (λ c. omega arith) further-requires cell-requires
+    rise-requires fall-requires (λ c. omega arith) (λ c. omega arith) loop-again corner-first-requires-2 corner-end-requires-2 returns)

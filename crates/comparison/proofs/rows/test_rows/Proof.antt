@@ -5,15 +5,6 @@ use Rattle.comparison.proofs.RowTests.{compared-swept}
 use Rattle.comparison.proofs.rows.test_rows.Statement.{statement}
 use Rattle.comparison.proofs.rows.test_rows.Tie as tie
 
-sweep-requires : tie.Need-sweep-requires
-sweep-requires c κs = search needs
-
-sweep-requires-2 : tie.Need-sweep-requires-2
-sweep-requires-2 c κs = search needs
-
-compare-rows-requires : tie.Need-compare-rows-requires
-compare-rows-requires c κs = search needs
-
 returns : tie.Need-returns
 returns c =
     let two = c .before .before .before .before .before in
@@ -21,4 +12,4 @@ returns c =
     c .compare-rows .ensures ∙ compared-swept _ _ _ _ _ _ (one .sweep .ensures) (two .sweep2 .ensures)
 
 pub test-rows-spec : {M : Type 1} → statement M
-test-rows-spec = tie.close (tie.spec sweep-requires sweep-requires-2 compare-rows-requires returns)
+test-rows-spec = tie.close (tie.spec (λ c κs. search needs) (λ c κs. search needs) (λ c κs. search needs) returns)

@@ -5,24 +5,6 @@ use borrow.Author.Needs.{needs}
 use Rattle.completion_call.proofs.written.of_completed.Statement.{statement}
 use Rattle.completion_call.proofs.written.of_completed.Tie as tie
 
-enum-known-c : tie.Need-enum-known-c
-enum-known-c c = search needs
-
-accepted-requires : tie.Need-accepted-requires
-accepted-requires c κs = search needs
-
-enum-known-c-2 : tie.Need-enum-known-c-2
-enum-known-c-2 c = search needs
-
-of-refusal-requires : tie.Need-of-refusal-requires
-of-refusal-requires c κs = search needs
-
-enum-told : tie.Need-enum-told
-enum-told c = search needs
-
-numbered-requires : tie.Need-numbered-requires
-numbered-requires c κs = search needs
-
 returns : tie.Need-returns
 unfolding completedFields
 returns c = c .accepted .ensures ∙ sym (ap completedFields (c .before .before .c .given .1))
@@ -38,13 +20,5 @@ returns-3 c = cc
 pub of-completed-spec : {M : Type 1} → statement M
 of-completed-spec =
     tie.close
-    (tie.spec
-    enum-known-c
-    accepted-requires
-    enum-known-c-2
-    of-refusal-requires
-    enum-told
-    numbered-requires
-    returns
-    returns-2
-    returns-3)
+    (tie.spec (λ c. search needs) (λ c κs. search needs) (λ c. search needs) (λ c κs. search needs) (λ c. search needs)
+    (λ c κs. search needs) returns returns-2 returns-3)

@@ -11,9 +11,6 @@ use Rattle.dents.proofs.edge.edge_of.Tie as tie
 table-read : (c : tie.After-pair-at) → Read (frameOf (c .before .args .k)) (c .pair-at .result)
 table-read c = pair-read _ (c .pair-at .ensures)
 
-pair-at-requires : tie.Need-pair-at-requires
-pair-at-requires c κs = search needs
-
 steps-requires : tie.Need-steps-requires
 steps-requires c κs =
     let r = table-read (c .before .before) in
@@ -41,4 +38,4 @@ returns c =
     }
 
 pub edge-of-spec : {M : Type 1} → statement M
-edge-of-spec = tie.close (tie.spec pair-at-requires steps-requires steps-requires-2 returns)
+edge-of-spec = tie.close (tie.spec (λ c κs. search needs) steps-requires steps-requires-2 returns)

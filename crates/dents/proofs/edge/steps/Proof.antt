@@ -47,14 +47,8 @@ module _ (s : tie.Start) where
   later-read : toZ w16 (ofZ w16 (s .args .later)) ≡ s .args .later
   later-read = toZ-ofZ w16 (s .args .later) (s .fits .later)
 
-cast-result : tie.Need-cast-result
-cast-result c = search needs
-
 mul-result : tie.Need-mul-result
 mul-result c = rw (run-read c, earlier-read c) (run-fits c)
-
-cast-result-2 : tie.Need-cast-result-2
-cast-result-2 c = search needs
 
 mul-result-2 : tie.Need-mul-result-2
 mul-result-2 c = rw (rise-read c, later-read c) (rise-fits c)
@@ -76,4 +70,4 @@ returns c =
     (toZ-ofZ w16 (run c +ℤ rise c) (sum-fits c))
 
 pub steps-spec : {M : Type 1} → statement M
-steps-spec = tie.close (tie.spec cast-result mul-result cast-result-2 mul-result-2 add-result returns)
+steps-spec = tie.close (tie.spec (λ c. search needs) mul-result (λ c. search needs) mul-result-2 add-result returns)

@@ -13,9 +13,6 @@ returns-2 : tie.Need-returns-2
 unfolding addOf
 returns-2 c = rw (not-false (c .before .before .before .args .self .begun) (c .before .if1 .left), le-leb _ _ (c .if2 .taken))
 
-cast-t8 : tie.Need-cast-t8
-cast-t8 c = search needs
-
 returns-3 : tie.Need-returns-3
 unfolding addOf
 returns-3 c =
@@ -24,12 +21,6 @@ returns-3 c =
       lt-leb _ _ (c .before .if2 .left),
       lt-ltb _ _ (c .if3 .taken),
     )
-
-element-write-draft : tie.Need-element-write-draft
-element-write-draft c = search needs
-
-add-draft : tie.Need-add-draft
-add-draft c = search needs
 
 returns-4 : tie.Need-returns-4
 unfolding addOf lengthened
@@ -43,4 +34,4 @@ returns-4 c =
 pub add-spec : {M : Type 1} → statement M
 add-spec =
     tie.close
-    (tie.spec returns returns-2 cast-t8 returns-3 element-write-draft add-draft returns-4)
+    (tie.spec returns returns-2 (λ c. search needs) returns-3 (λ c. search needs) (λ c. search needs) returns-4)

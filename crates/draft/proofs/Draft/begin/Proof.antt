@@ -9,9 +9,6 @@ returns : tie.Need-returns
 unfolding beginOf
 returns c = rw (c .if1 .taken)
 
-bad-start-requires : tie.Need-bad-start-requires
-bad-start-requires c κs = search needs
-
 returns-2 : tie.Need-returns-2
 unfolding beginOf
 returns-2 c = rw (c .before .before .if1 .left, sym (c .before .bad-start .ensures) ∙ c .if2 .taken)
@@ -21,4 +18,4 @@ unfolding beginOf begunAt
 returns-3 c = rw (c .before .before .before .if1 .left, sym (c .before .before .bad-start .ensures) ∙ c .before .if2 .left)
 
 pub begin-spec : {M : Type 1} → statement M
-begin-spec = tie.close (tie.spec returns bad-start-requires returns-2 returns-3)
+begin-spec = tie.close (tie.spec returns (λ c κs. search needs) returns-2 returns-3)

@@ -9,12 +9,9 @@ returns : tie.Need-returns
 unfolding dropOf
 returns c = rw (not-true (c .before .before .args .self .begun) (c .if1 .taken))
 
-end-requires : tie.Need-end-requires
-end-requires c κs = search needs
-
 returns-2 : tie.Need-returns-2
 unfolding dropOf endOf
 returns-2 c = rw (not-false (c .before .before .before .args .self .begun) (c .before .if1 .left), c .end .ensures)
 
 pub drop-spec : {M : Type 1} → statement M
-drop-spec = tie.close (tie.spec returns end-requires returns-2)
+drop-spec = tie.close (tie.spec returns (λ c κs. search needs) returns-2)

@@ -5,15 +5,9 @@ use Rattle.draft.specs.Draft.{outlineOf}
 use Rattle.draft.proofs.Draft.judge.Statement.{statement}
 use Rattle.draft.proofs.Draft.judge.Tie as tie
 
-first-requires : tie.Need-first-requires
-first-requires c κs = search needs
-
-judgement-requires : tie.Need-judgement-requires
-judgement-requires c κs = search needs
-
 returns : tie.Need-returns
 unfolding outlineOf
 returns c = c .judgement .ensures ∙ rw (c .before .first .ensures)
 
 pub judge-spec : {M : Type 1} → statement M
-judge-spec = tie.close (tie.spec first-requires judgement-requires returns)
+judge-spec = tie.close (tie.spec (λ c κs. search needs) (λ c κs. search needs) returns)

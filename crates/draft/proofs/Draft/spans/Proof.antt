@@ -5,15 +5,9 @@ use Rattle.draft.specs.Draft.{outlineOf}
 use Rattle.draft.proofs.Draft.spans.Statement.{statement}
 use Rattle.draft.proofs.Draft.spans.Tie as tie
 
-first-requires : tie.Need-first-requires
-first-requires c κs = search needs
-
-spans-of-requires : tie.Need-spans-of-requires
-spans-of-requires c κs = search needs
-
 returns : tie.Need-returns
 unfolding outlineOf
 returns c = c .spans-of .ensures ∙ rw (c .before .first .ensures)
 
 pub spans-spec : {M : Type 1} → statement M
-spans-spec = tie.close (tie.spec first-requires spans-of-requires returns)
+spans-spec = tie.close (tie.spec (λ c κs. search needs) (λ c κs. search needs) returns)

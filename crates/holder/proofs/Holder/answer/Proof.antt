@@ -22,27 +22,12 @@ there s =
       there-place (call .action) _ (s .reached .ensures),
     )
 
-bad-party-requires : tie.Need-bad-party-requires
-bad-party-requires c κs = search needs
-
 returns : tie.Need-returns
 unfolding answerOf
 returns c = rw (sym (c .before .bad-party .ensures) ∙ c .if1 .taken)
 
-cast-at : tie.Need-cast-at
-cast-at c = search needs
-
-mul-slot : tie.Need-mul-slot
-mul-slot c = search needs
-
-reached-requires : tie.Need-reached-requires
-reached-requires c κs = search needs
-
 add-slot : tie.Need-add-slot
 add-slot c = omega (arith, there c)
-
-mul-act : tie.Need-mul-act
-mul-act c = search needs
 
 element-copy-out-act : tie.Need-element-copy-out-act
 element-copy-out-act c = omega (arith, there c)
@@ -52,12 +37,6 @@ mul-act-2 c = omega (arith, there (c .before))
 
 element-copy-out-act-2 : tie.Need-element-copy-out-act-2
 element-copy-out-act-2 c = omega (arith, there (c .before))
-
-act-requires : tie.Need-act-requires
-act-requires c κs = search needs
-
-mul-draft : tie.Need-mul-draft
-mul-draft c = search needs
 
 element-set-from-draft : tie.Need-element-set-from-draft
 element-set-from-draft c = omega (arith, there (reached c))
@@ -77,20 +56,6 @@ returns-2 c =
 pub answer-spec : {M : Type 1} → statement M
 answer-spec =
     tie.close
-    (tie.spec
-    bad-party-requires
-    returns
-    cast-at
-    mul-slot
-    reached-requires
-    add-slot
-    mul-act
-    element-copy-out-act
-    mul-act-2
-    element-copy-out-act-2
-    act-requires
-    mul-draft
-    element-set-from-draft
-    mul-work
-    element-set-from-work
-    returns-2)
+    (tie.spec (λ c κs. search needs) returns (λ c. search needs) (λ c. search needs) (λ c κs. search needs) add-slot (λ c. search needs)
+    element-copy-out-act mul-act-2 element-copy-out-act-2 (λ c κs. search needs) (λ c. search needs) element-set-from-draft mul-work
+    element-set-from-work returns-2)

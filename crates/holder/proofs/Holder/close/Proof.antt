@@ -4,11 +4,8 @@ use borrow.Author.Needs.{needs}
 use Rattle.holder.proofs.Holder.close.Statement.{statement}
 use Rattle.holder.proofs.Holder.close.Tie as tie
 
-answer-requires : tie.Need-answer-requires
-answer-requires c κs = search needs
-
 returns : tie.Need-returns
 returns c = (c .answer .ensures, answer-named _ _ _ _ (c .answer .ensures))
 
 pub close-spec : {M : Type 1} → statement M
-close-spec = tie.close (tie.spec answer-requires returns)
+close-spec = tie.close (tie.spec (λ c κs. search needs) returns)

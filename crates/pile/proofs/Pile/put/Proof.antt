@@ -5,15 +5,9 @@ use borrow.Author.Needs.{needs}
 use Rattle.pile.proofs.Pile.put.Statement.{statement}
 use Rattle.pile.proofs.Pile.put.Tie as tie
 
-mul-spans : tie.Need-mul-spans
-mul-spans c = search needs
-
-element-set-from-spans : tie.Need-element-set-from-spans
-element-set-from-spans c = search needs
-
 returns : tie.Need-returns
 unfolding put
 returns c = refl
 
 pub put-spec : {M : Type 1} → statement M
-put-spec = tie.close (tie.spec mul-spans element-set-from-spans returns)
+put-spec = tie.close (tie.spec (λ c. search needs) (λ c. search needs) returns)

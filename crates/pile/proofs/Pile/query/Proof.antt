@@ -12,23 +12,11 @@ returns c = query-high _ _ _ (c .if1 .taken)
 returns-2 : tie.Need-returns-2
 returns-2 c = query-unpassed _ _ _ (c .before .if1 .left) (not-true _ (c .if2 .taken))
 
-bad-cell-requires : tie.Need-bad-cell-requires
-bad-cell-requires c κs = search needs
-
 returns-3 : tie.Need-returns-3
 returns-3 c =
     let asked = c .before in
     let passed = asked .before in
     query-bad _ _ _ (passed .before .if1 .left) (not-false _ (passed .if2 .left)) (sym (asked .bad-cell .ensures) ∙ c .if3 .taken)
-
-mul-spans : tie.Need-mul-spans
-mul-spans c = search needs
-
-element-copy-out-spans : tie.Need-element-copy-out-spans
-element-copy-out-spans c = search needs
-
-within-requires : tie.Need-within-requires
-within-requires c κs = search needs
 
 returns-4 : tie.Need-returns-4
 returns-4 c =
@@ -49,13 +37,5 @@ returns-5 c =
 pub query-spec : {M : Type 1} → statement M
 query-spec =
     tie.close
-    (tie.spec
-    returns
-    returns-2
-    bad-cell-requires
-    returns-3
-    mul-spans
-    element-copy-out-spans
-    within-requires
-    returns-4
+    (tie.spec returns returns-2 (λ c κs. search needs) returns-3 (λ c. search needs) (λ c. search needs) (λ c κs. search needs) returns-4
     returns-5)

@@ -8,21 +8,6 @@ use Rattle.pile.proofs.Pile.set.Tie as tie
 returns : tie.Need-returns
 returns c = set-told _ _ _ _ (set-high _ _ _ (c .if1 .taken))
 
-verdict-of-requires : tie.Need-verdict-of-requires
-verdict-of-requires c κs = search needs
-
-enum-known-verdict : tie.Need-enum-known-verdict
-enum-known-verdict c = search needs
-
-enum-known-verdict-2 : tie.Need-enum-known-verdict-2
-enum-known-verdict-2 c = search needs
-
-spans-of-requires : tie.Need-spans-of-requires
-spans-of-requires c κs = search needs
-
-put-requires : tie.Need-put-requires
-put-requires c κs = search needs
-
 returns-2 : tie.Need-returns-2
 returns-2 c =
     let judged = c .before .before .before in
@@ -41,12 +26,5 @@ returns-3 c =
 pub set-spec : {M : Type 1} → statement M
 set-spec =
     tie.close
-    (tie.spec
-    returns
-    verdict-of-requires
-    enum-known-verdict
-    enum-known-verdict-2
-    spans-of-requires
-    put-requires
-    returns-2
-    returns-3)
+    (tie.spec returns (λ c κs. search needs) (λ c. search needs) (λ c. search needs) (λ c κs. search needs) (λ c κs. search needs)
+    returns-2 returns-3)

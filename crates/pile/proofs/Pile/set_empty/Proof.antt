@@ -7,14 +7,8 @@ use Rattle.pile.proofs.Pile.set_empty.Tie as tie
 returns : tie.Need-returns
 returns c = empty-high _ _ (c .if1 .taken)
 
-no-spans-requires : tie.Need-no-spans-requires
-no-spans-requires c κs = search needs
-
-put-requires : tie.Need-put-requires
-put-requires c κs = search needs
-
 returns-2 : tie.Need-returns-2
 returns-2 c = empty-put _ _ (c .before .before .if1 .left) _ (c .before .no-spans .ensures) _ (c .put .ensures)
 
 pub set-empty-spec : {M : Type 1} → statement M
-set-empty-spec = tie.close (tie.spec returns no-spans-requires put-requires returns-2)
+set-empty-spec = tie.close (tie.spec returns (λ c κs. search needs) (λ c κs. search needs) returns-2)

@@ -23,20 +23,11 @@ back-read c =
     read-back (c .times2 .result) (c .times2 .ok)
     ∙ simp (toZ-ofZ w16 _ (s .fits .dx), toZ-ofZ w16 _ (s .fits .ey)) at (c .times2 .ensures .0)
 
-times-requires : tie.Need-times-requires
-times-requires c κs = search needs
-
-times-requires-2 : tie.Need-times-requires-2
-times-requires-2 c κs = search needs
-
 difference-requires : tie.Need-difference-requires
 difference-requires c κs =
     let size = size-difference (c .before .times .result) (c .times2 .result) in
     simp (read-back (c .before .times .result) (c .before .times .ok), read-back (c .times2 .result) (c .times2 .ok))
     (fits-size w64 _ (omega (arith, size, c .before .times .ensures .1, c .times2 .ensures .1)))
-
-positive-requires : tie.Need-positive-requires
-positive-requires c κs = search needs
 
 returns : tie.Need-returns
 unfolding cross
@@ -46,4 +37,4 @@ returns c =
     ∙ simp (there-read (c .before .before .before), back-read (c .before .before)) at (c .before .difference .ensures))
 
 pub clockwise-spec : {M : Type 1} → statement M
-clockwise-spec = tie.close (tie.spec times-requires times-requires-2 difference-requires positive-requires returns)
+clockwise-spec = tie.close (tie.spec (λ c κs. search needs) (λ c κs. search needs) difference-requires (λ c κs. search needs) returns)

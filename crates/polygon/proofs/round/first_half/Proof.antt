@@ -24,21 +24,6 @@ rows-positive c =
     let s = w .before .before .before .before .before .before in
     c .positive2 .ensures ∙ ap positive (widened (s .fits .dy) (w .widen2 .ok) (w .widen2 .ensures))
 
-widen-requires : tie.Need-widen-requires
-widen-requires c κs = search needs
-
-positive-requires : tie.Need-positive-requires
-positive-requires c κs = search needs
-
-is-zero-requires : tie.Need-is-zero-requires
-is-zero-requires c κs = search needs
-
-widen-requires-2 : tie.Need-widen-requires-2
-widen-requires-2 c κs = search needs
-
-positive-requires-2 : tie.Need-positive-requires-2
-positive-requires-2 c κs = search needs
-
 returns : tie.Need-returns
 unfolding firstHalf
 returns c = c .if1 .taken ∙ simp (sym (cols-positive (c .before)) ∙ c .if1 .taken)
@@ -59,12 +44,5 @@ returns-3 c =
 pub first-half-spec : {M : Type 1} → statement M
 first-half-spec =
     tie.close
-    (tie.spec
-    widen-requires
-    positive-requires
-    is-zero-requires
-    widen-requires-2
-    positive-requires-2
-    returns
-    returns-2
-    returns-3)
+    (tie.spec (λ c κs. search needs) (λ c κs. search needs) (λ c κs. search needs) (λ c κs. search needs) (λ c κs. search needs) returns
+    returns-2 returns-3)

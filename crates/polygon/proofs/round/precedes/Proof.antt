@@ -24,21 +24,6 @@ second-is-2 c =
     let s = c .before .before .before in
     simp (toZ-ofZ w16 _ (s .fits .ex), toZ-ofZ w16 _ (s .fits .ey)) at (c .first-half3 .ensures)
 
-first-half-requires : tie.Need-first-half-requires
-first-half-requires c κs = search needs
-
-first-half-requires-2 : tie.Need-first-half-requires-2
-first-half-requires-2 c κs = search needs
-
-clockwise-requires : tie.Need-clockwise-requires
-clockwise-requires c κs = search needs
-
-first-half-requires-3 : tie.Need-first-half-requires-3
-first-half-requires-3 c κs = search needs
-
-clockwise-requires-2 : tie.Need-clockwise-requires-2
-clockwise-requires-2 c κs = search needs
-
 returns : tie.Need-returns
 unfolding precedes
 returns c =
@@ -82,13 +67,5 @@ returns-4 c =
 pub precedes-spec : {M : Type 1} → statement M
 precedes-spec =
     tie.close
-    (tie.spec
-    first-half-requires
-    first-half-requires-2
-    clockwise-requires
-    first-half-requires-3
-    clockwise-requires-2
-    returns
-    returns-2
-    returns-3
-    returns-4)
+    (tie.spec (λ c κs. search needs) (λ c κs. search needs) (λ c κs. search needs) (λ c κs. search needs) (λ c κs. search needs) returns
+    returns-2 returns-3 returns-4)

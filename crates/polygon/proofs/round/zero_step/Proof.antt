@@ -14,18 +14,6 @@ rows-nil c =
     let w = c .before in
     c .is-zero2 .ensures ∙ ap isNil (widened (w .before .before .before .before .fits .dy) (w .widen2 .ok) (w .widen2 .ensures))
 
-widen-requires : tie.Need-widen-requires
-widen-requires c κs = search needs
-
-is-zero-requires : tie.Need-is-zero-requires
-is-zero-requires c κs = search needs
-
-widen-requires-2 : tie.Need-widen-requires-2
-widen-requires-2 c κs = search needs
-
-is-zero-requires-2 : tie.Need-is-zero-requires-2
-is-zero-requires-2 c κs = search needs
-
 returns : tie.Need-returns
 returns c = rows-nil c ∙ simp (sym (cols-nil (c .before .before .before)) ∙ c .before .before .if1 .taken)
 
@@ -33,4 +21,4 @@ returns-2 : tie.Need-returns-2
 returns-2 c = c .if1 .left ∙ simp (sym (cols-nil (c .before)) ∙ c .if1 .left)
 
 pub zero-step-spec : {M : Type 1} → statement M
-zero-step-spec = tie.close (tie.spec widen-requires is-zero-requires widen-requires-2 is-zero-requires-2 returns returns-2)
+zero-step-spec = tie.close (tie.spec (λ c κs. search needs) (λ c κs. search needs) (λ c κs. search needs) (λ c κs. search needs) returns returns-2)

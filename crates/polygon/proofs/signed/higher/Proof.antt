@@ -8,9 +8,6 @@ use Rattle.polygon.proofs.Integers.{max-by}
 use Rattle.polygon.proofs.signed.higher.Statement.{statement}
 use Rattle.polygon.proofs.signed.higher.Tie as tie
 
-at-most-requires : tie.Need-at-most-requires
-at-most-requires c κs = search needs
-
 -- The test, at the numbers themselves
 tested : (c : tie.After-at-most) → leZ (c .before .args .a) (c .before .args .b) ≡ c .at-most .result
 tested c =
@@ -26,4 +23,4 @@ returns-2 : tie.Need-returns-2
 returns-2 c = toZ-ofZ w64 (c .before .before .args .a) (c .before .before .fits .a) ∙ sym (max-by _ _ (tested (c .before) ∙ c .if1 .left))
 
 pub higher-spec : {M : Type 1} → statement M
-higher-spec = tie.close (tie.spec at-most-requires returns returns-2)
+higher-spec = tie.close (tie.spec (λ c κs. search needs) returns returns-2)

@@ -23,12 +23,6 @@ module _ (c : tie.After-widen2) where
   size = let s = c .before .before in
       size-product-le (s .args .a) (s .args .b) (size-16 (s .args .a) (s .fits .a)) (size-16 (s .args .b) (s .fits .b))
 
-widen-requires : tie.Need-widen-requires
-widen-requires c κs = search needs
-
-widen-requires-2 : tie.Need-widen-requires-2
-widen-requires-2 c κs = search needs
-
 product-requires : tie.Need-product-requires
 product-requires c κs = let r = reads c in simp (r .0, r .1) (fits-size w64 _ (omega (arith, size c)))
 
@@ -39,4 +33,4 @@ returns c =
     (e, rw e (omega (arith, size (c .before))))
 
 pub times-spec : {M : Type 1} → statement M
-times-spec = tie.close (tie.spec widen-requires widen-requires-2 product-requires returns)
+times-spec = tie.close (tie.spec (λ c κs. search needs) (λ c κs. search needs) product-requires returns)

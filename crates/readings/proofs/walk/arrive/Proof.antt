@@ -16,12 +16,6 @@ row-read : (c : tie.After-struct-told2)
     → toZ w32 (ofZ w32 (c .before .before .before .args .at .row)) ≡ c .before .before .before .args .at .row
 row-read c = toZ-ofZ w32 _ (record { sfits = c .struct-told2 .given .1 .0 .1 })
 
-meet-requires : tie.Need-meet-requires
-meet-requires c κs = search needs
-
-meet-requires-2 : tie.Need-meet-requires-2
-meet-requires-2 c κs = search needs
-
 returns : tie.Need-returns
 unfolding arrived
 returns c =
@@ -30,4 +24,4 @@ returns c =
     simp (cols .meet .ensures, rows .meet2 .ensures, col-read (cols .before), row-read (rows .before))
 
 pub arrive-spec : {M : Type 1} → statement M
-arrive-spec = tie.close (tie.spec meet-requires meet-requires-2 returns)
+arrive-spec = tie.close (tie.spec (λ c κs. search needs) (λ c κs. search needs) returns)

@@ -7,9 +7,6 @@ use Rattle.readings.specs.parts.Walk.{begun}
 use Rattle.readings.proofs.walk.begin.Statement.{statement}
 use Rattle.readings.proofs.walk.begin.Tie as tie
 
-start-requires : tie.Need-start-requires
-start-requires c κs = search needs
-
 returns : tie.Need-returns
 unfolding begun
 returns c =
@@ -21,4 +18,4 @@ returns c =
     ) (rw (one .before .start .ensures) refl)
 
 pub begin-spec : {M : Type 1} → statement M
-begin-spec = tie.close (tie.spec start-requires returns)
+begin-spec = tie.close (tie.spec (λ c κs. search needs) returns)

@@ -20,12 +20,6 @@ high-is c =
     simp (toZ-ofZ w32 (s .args .m .most) (record { sfits = c .before .struct-told2 .given .1 .0 .1 }), toZ-ofZ w32 (s .args .n) (s .fits .n)) at
     (c .higher .ensures)
 
-lower-requires : tie.Need-lower-requires
-lower-requires c κs = search needs
-
-higher-requires : tie.Need-higher-requires
-higher-requires c κs = search needs
-
 returns : tie.Need-returns
 unfolding met
 returns c =
@@ -34,4 +28,4 @@ returns c =
     (simp (low-is low, high-is c))
 
 pub meet-spec : {M : Type 1} → statement M
-meet-spec = tie.close (tie.spec lower-requires higher-requires returns)
+meet-spec = tie.close (tie.spec (λ c κs. search needs) (λ c κs. search needs) returns)

@@ -48,9 +48,6 @@ next-is c =
     let s = c .before .before in
     simp (toZ-ofZ w16 (s .args .dx) (s .fits .dx), toZ-ofZ w16 (s .args .dy) (s .fits .dy)) at (c .further .ensures)
 
-side-requires : tie.Need-side-requires
-side-requires c κs = search needs
-
 further-requires : tie.Need-further-requires
 further-requires c κs =
     let s = c .before in
@@ -60,9 +57,6 @@ further-requires c κs =
 returns : tie.Need-returns
 unfolding passed
 returns c = rw (sym (far-is (c .before .before .before)) ∙ c .if2 .taken) refl
-
-arrive-requires : tie.Need-arrive-requires
-arrive-requires c κs = search needs
 
 returns-2 : tie.Need-returns-2
 unfolding passed moved
@@ -75,9 +69,6 @@ returns-2 c =
       sym (near-is v) ∙ n .if1 .taken,
       simp (next-is f) at (c .arrive .ensures),
     ) refl
-
-arrive-requires-2 : tie.Need-arrive-requires-2
-arrive-requires-2 c κs = search needs
 
 returns-3 : tie.Need-returns-3
 unfolding passed moved
@@ -93,11 +84,4 @@ returns-3 c =
 pub pass-spec : {M : Type 1} → statement M
 pass-spec =
     tie.close
-    (tie.spec
-    side-requires
-    further-requires
-    returns
-    arrive-requires
-    returns-2
-    arrive-requires-2
-    returns-3)
+    (tie.spec (λ c κs. search needs) further-requires returns (λ c κs. search needs) returns-2 (λ c κs. search needs) returns-3)

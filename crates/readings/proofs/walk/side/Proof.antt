@@ -19,14 +19,8 @@ row-read : (c : tie.After-struct-told2) →
     toZ w32 (ofZ w32 (k .row)) ≡ k .row
 row-read c = toZ-ofZ w32 _ (record { sfits = c .struct-told2 .given .1 .0 .1 })
 
-int-to-float-across : tie.Need-int-to-float-across
-int-to-float-across c = search needs
-
 int-to-float-across-2 : tie.Need-int-to-float-across-2
 int-to-float-across-2 c = let s = c .before .before .before in simp (col-read c) (reached-float (s .args .at .col) (s .pre .0))
-
-int-to-float-up : tie.Need-int-to-float-up
-int-to-float-up c = search needs
 
 int-to-float-up-2 : tie.Need-int-to-float-up-2
 int-to-float-up-2 c =
@@ -44,9 +38,4 @@ returns c =
 pub side-spec : {M : Type 1} → statement M
 side-spec =
     tie.close
-    (tie.spec
-    int-to-float-across
-    int-to-float-across-2
-    int-to-float-up
-    int-to-float-up-2
-    returns)
+    (tie.spec (λ c. search needs) int-to-float-across-2 (λ c. search needs) int-to-float-up-2 returns)

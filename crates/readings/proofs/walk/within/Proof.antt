@@ -63,9 +63,6 @@ returns : tie.Need-returns
 unfolding spanned
 returns c = rw (sym (low-is (c .before)) ∙ not-true _ (c .if1 .taken)) refl
 
-cast-if2 : tie.Need-cast-if2
-cast-if2 c = search needs
-
 returns-2 : tie.Need-returns-2
 unfolding spanned
 returns-2 c = rw (low-true (c .before), sym (high-is (c .before .before)) ∙ not-true _ (c .if2 .taken)) refl
@@ -96,4 +93,4 @@ returns-4 c =
     rw (low-true (e .before), high-true e, sym (under-is two) ∙ not-false _ (c .before .if3 .left)) (over-is two)
 
 pub within-spec : {M : Type 1} → statement M
-within-spec = tie.close (tie.spec returns cast-if2 returns-2 int-to-float-if3 returns-3 int-to-float-result returns-4)
+within-spec = tie.close (tie.spec returns (λ c. search needs) returns-2 int-to-float-if3 returns-3 int-to-float-result returns-4)

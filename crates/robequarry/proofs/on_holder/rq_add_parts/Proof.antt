@@ -4,9 +4,6 @@ use borrow.Author.Needs.{needs}
 use Rattle.robequarry.proofs.on_holder.rq_add_parts.Statement.{statement}
 use Rattle.robequarry.proofs.on_holder.rq_add_parts.Tie as tie
 
-add-requires : tie.Need-add-requires
-add-requires c κs = search needs
-
 returns : tie.Need-returns
 returns c =
     λ r n. called-done _ _ _ _ _ _ (c .before .add-arg3 .given .0 .1) _
@@ -14,4 +11,4 @@ returns c =
     (c .add .ensures r n)
 
 pub rq-add-parts-spec : {M : Type 1} → statement M
-rq-add-parts-spec = tie.close (tie.spec add-requires returns)
+rq-add-parts-spec = tie.close (tie.spec (λ c κs. search needs) returns)

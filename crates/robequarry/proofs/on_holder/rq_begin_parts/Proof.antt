@@ -4,13 +4,10 @@ use borrow.Author.Needs.{needs}
 use Rattle.robequarry.proofs.on_holder.rq_begin_parts.Statement.{statement}
 use Rattle.robequarry.proofs.on_holder.rq_begin_parts.Tie as tie
 
-begin-requires : tie.Need-begin-requires
-begin-requires c κs = search needs
-
 returns : tie.Need-returns
 returns c =
     λ l r n. called-done _ _ _ _ _ _ (c .before .begin-arg2 .given .0 .1) _ (c .before .before .begin-arg .given .0 .1)
     (c .begin .ensures l r n)
 
 pub rq-begin-parts-spec : {M : Type 1} → statement M
-rq-begin-parts-spec = tie.close (tie.spec begin-requires returns)
+rq-begin-parts-spec = tie.close (tie.spec (λ c κs. search needs) returns)

@@ -5,9 +5,6 @@ use borrow.Author.Needs.{needs}
 use Rattle.robequarry.proofs.on_holder.rq_call_parts.Statement.{statement}
 use Rattle.robequarry.proofs.on_holder.rq_call_parts.Tie as tie
 
-respond-requires : tie.Need-respond-requires
-respond-requires c κs = search needs
-
 returns : tie.Need-returns
 returns c =
     let r = c .before .before .before .before .before in (
@@ -17,4 +14,4 @@ returns c =
     )
 
 pub rq-call-parts-spec : {M : Type 1} → statement M
-rq-call-parts-spec = tie.close (tie.spec respond-requires returns)
+rq-call-parts-spec = tie.close (tie.spec (λ c κs. search needs) returns)

@@ -4,9 +4,6 @@ use borrow.Author.Needs.{needs}
 use Rattle.robequarry.proofs.on_holder.rq_close_parts.Statement.{statement}
 use Rattle.robequarry.proofs.on_holder.rq_close_parts.Tie as tie
 
-close-requires : tie.Need-close-requires
-close-requires c κs = search needs
-
 returns : tie.Need-returns
 returns c =
     called-done _ _ _ _ _ _ (c .before .close-arg5 .given .0 .1) _
@@ -14,4 +11,4 @@ returns c =
     (c .before .before .before .close-arg3 .given .0 .1) (c .before .before .close-arg4 .given .0 .1)) (c .close .ensures)
 
 pub rq-close-parts-spec : {M : Type 1} → statement M
-rq-close-parts-spec = tie.close (tie.spec close-requires returns)
+rq-close-parts-spec = tie.close (tie.spec (λ c κs. search needs) returns)

@@ -4,13 +4,10 @@ use borrow.Author.Needs.{needs}
 use Rattle.robequarry.proofs.on_holder.rq_drop_parts.Statement.{statement}
 use Rattle.robequarry.proofs.on_holder.rq_drop_parts.Tie as tie
 
-drop-requires : tie.Need-drop-requires
-drop-requires c κs = search needs
-
 returns : tie.Need-returns
 returns c =
     λ l r n. called-done _ _ _ _ _ _ (c .before .drop-arg2 .given .0 .1) _ (c .before .before .drop-arg .given .0 .1)
     (c .drop .ensures l r n)
 
 pub rq-drop-parts-spec : {M : Type 1} → statement M
-rq-drop-parts-spec = tie.close (tie.spec drop-requires returns)
+rq-drop-parts-spec = tie.close (tie.spec (λ c κs. search needs) returns)

@@ -4,9 +4,6 @@ use borrow.Author.Needs.{needs}
 use Rattle.robequarry.proofs.on_holder.rq_fresh_parts.Statement.{statement}
 use Rattle.robequarry.proofs.on_holder.rq_fresh_parts.Tie as tie
 
-fresh-requires : tie.Need-fresh-requires
-fresh-requires c κs = search needs
-
 returns : tie.Need-returns
 returns c =
     let fits =
@@ -15,4 +12,4 @@ returns c =
     (c .fresh .ensures .holder fits, c .fresh .ensures .fits fits)
 
 pub rq-fresh-parts-spec : {M : Type 1} → statement M
-rq-fresh-parts-spec = tie.close (tie.spec fresh-requires returns)
+rq-fresh-parts-spec = tie.close (tie.spec (λ c κs. search needs) returns)

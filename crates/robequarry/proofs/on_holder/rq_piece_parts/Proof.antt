@@ -4,9 +4,6 @@ use borrow.Author.Needs.{needs}
 use Rattle.robequarry.proofs.on_holder.rq_piece_parts.Statement.{statement}
 use Rattle.robequarry.proofs.on_holder.rq_piece_parts.Tie as tie
 
-piece-requires : tie.Need-piece-requires
-piece-requires c κs = search needs
-
 returns : tie.Need-returns
 returns c =
     let numbers = c .before .before .before .before .piece-arg .given .0 in
@@ -18,4 +15,4 @@ returns c =
     )
 
 pub rq-piece-parts-spec : {M : Type 1} → statement M
-rq-piece-parts-spec = tie.close (tie.spec piece-requires returns)
+rq-piece-parts-spec = tie.close (tie.spec (λ c κs. search needs) returns)

@@ -4,9 +4,6 @@ use borrow.Author.Needs.{needs}
 use Rattle.robequarry.proofs.on_holder.rq_query_parts.Statement.{statement}
 use Rattle.robequarry.proofs.on_holder.rq_query_parts.Tie as tie
 
-query-requires : tie.Need-query-requires
-query-requires c κs = search needs
-
 returns : tie.Need-returns
 returns c =
     λ l n. called-done _ _ _ _ _ _ (c .before .query-arg3 .given .0 .1) _ (
@@ -15,4 +12,4 @@ returns c =
     ) (c .query .ensures l n)
 
 pub rq-query-parts-spec : {M : Type 1} → statement M
-rq-query-parts-spec = tie.close (tie.spec query-requires returns)
+rq-query-parts-spec = tie.close (tie.spec (λ c κs. search needs) returns)

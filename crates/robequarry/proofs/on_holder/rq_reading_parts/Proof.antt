@@ -4,9 +4,6 @@ use borrow.Author.Needs.{needs}
 use Rattle.robequarry.proofs.on_holder.rq_reading_parts.Statement.{statement}
 use Rattle.robequarry.proofs.on_holder.rq_reading_parts.Tie as tie
 
-reading-requires : tie.Need-reading-requires
-reading-requires c κs = search needs
-
 returns : tie.Need-returns
 returns c =
     λ l r. called-done _ _ _ _ _ _ (c .before .reading-arg3 .given .0 .1) _ (
@@ -15,4 +12,4 @@ returns c =
     ) (c .reading .ensures l r)
 
 pub rq-reading-parts-spec : {M : Type 1} → statement M
-rq-reading-parts-spec = tie.close (tie.spec reading-requires returns)
+rq-reading-parts-spec = tie.close (tie.spec (λ c κs. search needs) returns)

@@ -4,9 +4,6 @@ use borrow.Author.Needs.{needs}
 use Rattle.robequarry.proofs.on_holder.rq_row_parts.Statement.{statement}
 use Rattle.robequarry.proofs.on_holder.rq_row_parts.Tie as tie
 
-row-requires : tie.Need-row-requires
-row-requires c κs = search needs
-
 returns : tie.Need-returns
 returns c =
     λ l n. called-done _ _ _ _ _ _ (c .before .row-arg3 .given .0 .1) _ (
@@ -15,4 +12,4 @@ returns c =
     ) (c .row .ensures l n)
 
 pub rq-row-parts-spec : {M : Type 1} → statement M
-rq-row-parts-spec = tie.close (tie.spec row-requires returns)
+rq-row-parts-spec = tie.close (tie.spec (λ c κs. search needs) returns)

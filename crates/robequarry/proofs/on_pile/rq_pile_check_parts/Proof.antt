@@ -4,9 +4,6 @@ use borrow.Author.Needs.{needs}
 use Rattle.robequarry.proofs.on_pile.rq_pile_check_parts.Statement.{statement}
 use Rattle.robequarry.proofs.on_pile.rq_pile_check_parts.Tie as tie
 
-check-requires : tie.Need-check-requires
-check-requires c κs = search needs
-
 returns : tie.Need-returns
 returns c =
     let fits = fits-by _ (c .before .before .before .check-arg .given .0) (c .before .before .check-arg2 .given .0 .1) in
@@ -16,4 +13,4 @@ returns c =
     )
 
 pub rq-pile-check-parts-spec : {M : Type 1} → statement M
-rq-pile-check-parts-spec = tie.close (tie.spec check-requires returns)
+rq-pile-check-parts-spec = tie.close (tie.spec (λ c κs. search needs) returns)

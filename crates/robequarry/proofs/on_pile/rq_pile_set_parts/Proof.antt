@@ -4,9 +4,6 @@ use borrow.Author.Needs.{needs}
 use Rattle.robequarry.proofs.on_pile.rq_pile_set_parts.Statement.{statement}
 use Rattle.robequarry.proofs.on_pile.rq_pile_set_parts.Tie as tie
 
-set-requires : tie.Need-set-requires
-set-requires c κs = search needs
-
 returns : tie.Need-returns
 returns c =
     let fits = fits-by _ (c .before .before .before .set-arg .given .0 .1) (c .before .before .set-arg2 .given .0 .1) in
@@ -14,4 +11,4 @@ returns c =
     (called-done _ _ _ _ _ _ fits size (c .set .ensures .0), c .set .ensures .1 (sized-done _ _ _ _ _ _ fits size (c .set .ensures .0)))
 
 pub rq-pile-set-parts-spec : {M : Type 1} → statement M
-rq-pile-set-parts-spec = tie.close (tie.spec set-requires returns)
+rq-pile-set-parts-spec = tie.close (tie.spec (λ c κs. search needs) returns)

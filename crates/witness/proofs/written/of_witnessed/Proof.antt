@@ -5,24 +5,6 @@ use Rattle.witness.specs.Witnessed.{witnessedFields}
 use Rattle.witness.proofs.written.of_witnessed.Statement.{statement}
 use Rattle.witness.proofs.written.of_witnessed.Tie as tie
 
-enum-known-w : tie.Need-enum-known-w
-enum-known-w c = search needs
-
-accepted-requires : tie.Need-accepted-requires
-accepted-requires c κs = search needs
-
-enum-told : tie.Need-enum-told
-enum-told c = search needs
-
-worded-requires : tie.Need-worded-requires
-worded-requires c κs = search needs
-
-enum-known-w-2 : tie.Need-enum-known-w-2
-enum-known-w-2 c = search needs
-
-of-refusal-requires : tie.Need-of-refusal-requires
-of-refusal-requires c κs = search needs
-
 returns : tie.Need-returns
 unfolding witnessedFields
 returns c = c .accepted .ensures ∙ sym (ap witnessedFields (c .before .before .w .given .1))
@@ -38,13 +20,5 @@ returns-3 c = c .of-refusal .ensures ∙ sym (ap witnessedFields (c .before .bef
 pub of-witnessed-spec : {M : Type 1} → statement M
 of-witnessed-spec =
     tie.close
-    (tie.spec
-    enum-known-w
-    accepted-requires
-    enum-told
-    worded-requires
-    enum-known-w-2
-    of-refusal-requires
-    returns
-    returns-2
-    returns-3)
+    (tie.spec (λ c. search needs) (λ c κs. search needs) (λ c. search needs) (λ c κs. search needs) (λ c. search needs)
+    (λ c κs. search needs) returns returns-2 returns-3)

@@ -9,12 +9,6 @@ returns : tie.Need-returns
 unfolding drawnAt
 returns c = rw (not-true (c .before .args .t1 .taken) (c .if1 .taken))
 
-first-requires : tie.Need-first-requires
-first-requires c κs = search needs
-
-drawn-at-requires : tie.Need-drawn-at-requires
-drawn-at-requires c κs = search needs
-
 returns-2 : tie.Need-returns-2
 unfolding drawnAt workEdges
 returns-2 c =
@@ -26,4 +20,4 @@ returns-2 c =
     )
 
 pub draw-spec : {M : Type 1} → statement M
-draw-spec = tie.close (tie.spec returns first-requires drawn-at-requires returns-2)
+draw-spec = tie.close (tie.spec returns (λ c κs. search needs) (λ c κs. search needs) returns-2)

@@ -10,9 +10,6 @@ returns : tie.Need-returns
 unfolding hasEdges
 returns c = rw (not-true (c .before .args .t1 .taken) (c .if1 .taken))
 
-same-point-requires : tie.Need-same-point-requires
-same-point-requires c κs = search needs
-
 returns-2 : tie.Need-returns-2
 unfolding hasEdges
 returns-2 c =
@@ -20,15 +17,6 @@ returns-2 c =
       not-false (c .before .before .before .before .args .t1 .taken) (c .before .before .before .if1 .left),
       sym (c .before .same-point .ensures) ∙ not-true _ (c .if2 .taken),
     )
-
-first-requires : tie.Need-first-requires
-first-requires c κs = search needs
-
-first-requires-2 : tie.Need-first-requires-2
-first-requires-2 c κs = search needs
-
-same-numbers-requires : tie.Need-same-numbers-requires
-same-numbers-requires c κs = search needs
 
 returns-3 : tie.Need-returns-3
 unfolding hasEdges workEdges
@@ -46,11 +34,4 @@ returns-3 c =
 pub has-spec : {M : Type 1} → statement M
 has-spec =
     tie.close
-    (tie.spec
-    returns
-    same-point-requires
-    returns-2
-    first-requires
-    first-requires-2
-    same-numbers-requires
-    returns-3)
+    (tie.spec returns (λ c κs. search needs) returns-2 (λ c κs. search needs) (λ c κs. search needs) (λ c κs. search needs) returns-3)

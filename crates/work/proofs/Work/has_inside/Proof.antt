@@ -3,11 +3,8 @@ use borrow.Author.Needs.{needs}
 use Rattle.work.proofs.Work.has_inside.Statement.{statement}
 use Rattle.work.proofs.Work.has_inside.Tie as tie
 
-within-requires : tie.Need-within-requires
-within-requires c κs = search needs
-
 returns : tie.Need-returns
 returns c = c .within .ensures
 
 pub has-inside-spec : {M : Type 1} → statement M
-has-inside-spec = tie.close (tie.spec within-requires returns)
+has-inside-spec = tie.close (tie.spec (λ c κs. search needs) returns)

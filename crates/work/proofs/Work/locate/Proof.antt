@@ -10,9 +10,6 @@ returns : tie.Need-returns
 unfolding located
 returns c = rw (not-true (c .before .before .args .self .taken) (c .if1 .taken))
 
-bad-cell-requires : tie.Need-bad-cell-requires
-bad-cell-requires c κs = search needs
-
 returns-2 : tie.Need-returns-2
 unfolding located
 returns-2 c =
@@ -20,9 +17,6 @@ returns-2 c =
       not-false (c .before .before .before .before .args .self .taken) (c .before .before .if1 .left),
       sym (c .before .bad-cell .ensures) ∙ c .if2 .taken,
     )
-
-has-inside-requires : tie.Need-has-inside-requires
-has-inside-requires c κs = search needs
 
 returns-3 : tie.Need-returns-3
 unfolding located
@@ -45,4 +39,4 @@ returns-4 c =
 pub locate-spec : {M : Type 1} → statement M
 locate-spec =
     tie.close
-    (tie.spec returns bad-cell-requires returns-2 has-inside-requires returns-3 returns-4)
+    (tie.spec returns (λ c κs. search needs) returns-2 (λ c κs. search needs) returns-3 returns-4)

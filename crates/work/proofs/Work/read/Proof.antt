@@ -10,14 +10,8 @@ returns : tie.Need-returns
 unfolding readAt
 returns c = rw (not-true (c .before .args .t1 .taken) (c .if1 .taken))
 
-first-requires : tie.Need-first-requires
-first-requires c κs = search needs
-
 locate-requires : tie.Need-locate-requires
 locate-requires c κs = rw (c .first .ensures) (listed-short _ _)
-
-reply-requires : tie.Need-reply-requires
-reply-requires c κs = search needs
 
 returns-2 : tie.Need-returns-2
 unfolding readAt workEdges
@@ -31,4 +25,4 @@ returns-2 c =
     )
 
 pub read-spec : {M : Type 1} → statement M
-read-spec = tie.close (tie.spec returns first-requires locate-requires reply-requires returns-2)
+read-spec = tie.close (tie.spec returns (λ c κs. search needs) locate-requires (λ c κs. search needs) returns-2)

@@ -14,12 +14,6 @@ returns-2 : tie.Need-returns-2
 unfolding spanned
 returns-2 c = rw (not-false (c .before .before .before .args .self .taken) (c .before .if1 .left), le-leb _ _ (c .if2 .taken))
 
-span-at-requires : tie.Need-span-at-requires
-span-at-requires c κs = search needs
-
-reply-requires : tie.Need-reply-requires
-reply-requires c κs = search needs
-
 returns-3 : tie.Need-returns-3
 unfolding spanned
 returns-3 c =
@@ -29,4 +23,4 @@ returns-3 c =
     ) (c .reply .ensures ∙ rw (c .before .span-at .ensures))
 
 pub span-spec : {M : Type 1} → statement M
-span-spec = tie.close (tie.spec returns returns-2 span-at-requires reply-requires returns-3)
+span-spec = tie.close (tie.spec returns returns-2 (λ c κs. search needs) (λ c κs. search needs) returns-3)
