@@ -53,7 +53,7 @@
  *
  * STACK
  *
- * At most so many bytes. The first column is for a Cortex-M4F and a Cortex-M0+, compiled for speed or for size, and `./test --targets`
+ * At most so many bytes. The first column is for a Cortex-M4F and a Cortex-M0+, by the fast and by the small recipe, and `./test --targets`
  * holds it. The second is for x86-64, and host/checks/tests/stack.rs holds it.
  *
  *                                                     Cortex-M    x86-64
