@@ -1,9 +1,9 @@
-//! Calls one engine over one set of lists, for a profiler: `profile library|plain KIND LETTERS CALLS`.
+//! Calls one engine over one set of lists, for a profiler: `profile library|plain KIND LETTERS CALLS [test|witness|completion]`.
 
 use std::env;
 use std::hint::black_box;
 
-use robequarry::limits::{LONGEST_LIST, REPLY, SIDE};
+use robequarry::limits::{LONGEST, LONGEST_LIST, REPLY, SIDE, WITNESS_NUMBERS};
 use robequarry_checks::draw::{reversed, round_outline, with_a_cell_flipped};
 use robequarry_checks::engine::{Engine, Library, Plain};
 use robequarry_checks::random::Random;
@@ -15,7 +15,11 @@ fn number(outline: &Outline) -> u16 {
 
 fn main() {
     let arguments: Vec<String> = env::args().skip(1).collect();
-    let [engine, kind, letters, calls] = &arguments[..] else { panic!("profile library|plain KIND LETTERS CALLS") };
+    let (engine, kind, letters, calls, call) = match &arguments[..] {
+        [engine, kind, letters, calls] => (engine, kind, letters, calls, "test"),
+        [engine, kind, letters, calls, call] => (engine, kind, letters, calls, call.as_str()),
+        _ => panic!("profile library|plain KIND LETTERS CALLS [test|witness|completion]"),
+    };
     let letters: usize = letters.parse().expect("a count");
     let calls: usize = calls.parse().expect("a count");
     let mut random = Random::new(1);
@@ -49,9 +53,17 @@ fn main() {
         .collect();
     let engine: &dyn Engine = if engine == "plain" { &Plain } else { &Library };
     let mut edges = [0; LONGEST_LIST];
+    let mut cells = [0; WITNESS_NUMBERS];
+    let mut out = [0; LONGEST];
     let mut reply = [0; REPLY];
     for outline in lists.iter().cycle().take(calls) {
-        engine.test(black_box(outline.start), black_box(&outline.letters), &mut edges, &mut reply);
-        black_box((&edges, &reply));
+        let (start, letters) = (black_box(outline.start), black_box(&outline.letters));
+        match call {
+            "test" => engine.test(start, letters, &mut edges, &mut reply),
+            "witness" => engine.witness(start, letters, &mut cells, &mut reply),
+            "completion" => engine.complete(start, letters, &mut out, &mut reply),
+            _ => panic!("no such call"),
+        }
+        black_box((&edges, &cells, &out, &reply));
     }
 }
