@@ -10,20 +10,23 @@ use native.Mathlib.Omega.{arith}
 use lib.Dec.{eqb}
 use lib.ListN.{length, drop, set, replicate, length-set, length-replicate, getD-replicate, drop-of-length-le}
 use lib.Seq.{drop-cons, getD-set-same, getD-set-other}
-use borrow.Author.Tests.{eqb-true, eqb-false, eq-eqb, lt-ltb, le-ltb}
+use borrow.Author.Tests.{eqb-true, eqb-false, eq-eqb, ne-eqb, lt-ltb, le-ltb}
 use Rattle.base.proofs.BelowLaws.{same-test}
 use Rattle.chart.specs.Limits.{corners, side}
 use Rattle.chart.specs.declared.Point.{Point}
 use Rattle.chart.specs.Outline.{Outline}
 use Rattle.lattice.specs.Chart.{step, cornerAt, size, letterAt}
 use Rattle.lattice.specs.Refusals.{Simple}
-use Rattle.lattice.proofs.WalkLaws.{point-eq, walked, corner-zero, corner-suc}
+use Rattle.lattice.specs.Walked.{Walked}
+use Rattle.lattice.proofs.WalkLaws.{walked, corner-zero, corner-suc}
+use Rattle.rows.specs.Search.{numbered, cornerNumbered, wrapped}
 use Rattle.rows.specs.parts.Rows.{rows}
+use Rattle.rows.proofs.RowLaws.{corner-numbered, wrapped-staying}
 use Rattle.completion.specs.parts.Sides.{alongRow, leastOver, greatestOver, lastSide, lowestCorner, highestCorner}
 use Rattle.completion.proofs.Sides.{along-cases, along-up, along-down}
 use Rattle.witness.specs.parts.Kept.{Two, keepTwo, keptTwo}
 use Rattle.witness.proofs.Kept.{keptSides, kept-first, kept-second-side}
-use Rattle.row_sides.specs.parts.Passed.{Tells, Passed}
+use Rattle.row_sides.specs.parts.Passed.{Tells, Marks, Passed}
 
 -- ---- the row of a letter
 
@@ -77,34 +80,75 @@ keeps-neither c u v l s =
       | no m ↦ rw (le-ltb c u l, le-ltb u c (omega arith)) (refl, refl)
     ]
 
--- ---- the corner that a letter reaches
+-- ---- one side more
 
-module _ (p : Point) where
-  pub to-right : (a : ℕ) → a ≡ 0 → _≡_ {A = Point} (record { col = p .col + 1; row = p .row }) (step p a)
-  unfolding step
-  to-right a e = ap (step p) (sym e)
+two-eq : (s t : Two) → s .one ≡ t .one → s .two ≡ t .two → s ≡ t
+two-eq s t e f = λ i. record { one = e i; two = f i }
 
-  pub to-up : (a : ℕ) → a ≡ 1 → _≡_ {A = Point} (record { col = p .col; row = p .row + 1 }) (step p a)
-  unfolding step
-  to-up a e = ap (step p) (sym e)
+-- The letter steps along row x, which may be no row of the chart
+module _ (p : Point) (a x : ℕ) (lo en hi : List ℕ) (t : Tells (p .row) a x)
+    (u : (length lo ≡ corners) × (length en ≡ corners) × (length hi ≡ corners)) where
+  differ : (r : ℕ) → eqb x r ≡ false → r ≡ x → ⊥
+  differ r e d = eqb-false x r e (sym d)
 
-  pub to-left : (a : ℕ) → a ≡ 2 → _≡_ {A = Point} (record { col = p .col - 1; row = p .row }) (step p a)
-  unfolding step
-  to-left a e = ap (step p) (sym e)
+  pick-two :
+      (one two : ℕ)
+      → one ≡ keepTwo (p .col) (record { one = rows lo x; two = rows en x }) .one
+      → two ≡ keepTwo (p .col) (record { one = rows lo x; two = rows en x }) .two
+      → (r : ℕ) → r < side
+      → _≡_ {A = Two} (record { one = rows (set lo x one) r; two = rows (set en x two) r })
+      (cond (alongRow r p a) (keepTwo (p .col) (record { one = rows lo r; two = rows en r }))
+      (record { one = rows lo r; two = rows en r }))
+  pick-two one two e f r h = rw (t .tells p refl r h) (go (eqb x r) refl)
+    where
+      go : (b : Bool) → eqb x r ≡ b
+          → _≡_ {A = Two} (record { one = rows (set lo x one) r; two = rows (set en x two) r })
+          (cond b (keepTwo (p .col) (record { one = rows lo r; two = rows en r })) (record { one = rows lo r; two = rows en r }))
+      go true d =
+          let z : x ≡ r = eqb-true x r d in
+          two-eq _ _
+          (subst (λ (y : ℕ). rows (set lo x one) y ≡ keepTwo (p .col) (record { one = rows lo y; two = rows en y }) .one) z
+          (getD-set-same lo x one 0 (omega (arith, u .0, t .below)) ∙ e))
+          (subst (λ (y : ℕ). rows (set en x two) y ≡ keepTwo (p .col) (record { one = rows lo y; two = rows en y }) .two) z
+          (getD-set-same en x two 0 (omega (arith, u .1, t .below)) ∙ f))
+      go false d = two-eq _ _ (getD-set-other lo x r one 0 (differ r d)) (getD-set-other en x r two 0 (differ r d))
 
-  pub to-down : (a : ℕ) → a ≡ 3 → _≡_ {A = Point} (record { col = p .col; row = p .row - 1 }) (step p a)
-  unfolding step
-  to-down a e = ap (step p) (sym e)
+  pick-last : (last : ℕ) → last ≡ max (p .col) (rows hi x) → (r : ℕ) → r < side
+      → rows (set hi x last) r ≡ cond (alongRow r p a) (max (p .col) (rows hi r)) (rows hi r)
+  pick-last last g r h = rw (t .tells p refl r h) (go (eqb x r) refl)
+    where
+      go : (b : Bool) → eqb x r ≡ b → rows (set hi x last) r ≡ cond b (max (p .col) (rows hi r)) (rows hi r)
+      go true d =
+          subst (λ (y : ℕ). rows (set hi x last) y ≡ max (p .col) (rows hi y)) (eqb-true x r d)
+          (getD-set-same hi x last 0 (omega (arith, u .2, t .below)) ∙ g)
+      go false d = getD-set-other hi x r last 0 (differ r d)
 
-  pub to-itself : (a : ℕ) → (a ≡ 0 → ⊥) → (a ≡ 1 → ⊥) → (a ≡ 2 → 0 < p .col → ⊥) → (a ≡ 3 → 0 < p .row → ⊥) → p ≡ step p a
-  unfolding step
-  to-itself zero f g h i = absurd (f refl)
-  to-itself (suc zero) f g h i = absurd (g refl)
-  to-itself (suc (suc zero)) f g h i =
-      point-eq p (step p 2) (elim (decLt 0 (p .col)) [ yes l ↦ absurd (h refl l) | no l ↦ omega arith ]) refl
-  to-itself (suc (suc (suc zero))) f g h i =
-      point-eq p (step p 3) refl (elim (decLt 0 (p .row)) [ yes l ↦ absurd (i refl l) | no l ↦ omega arith ])
-  to-itself (suc (suc (suc (suc a)))) f g h i = refl
+  pub marks-side :
+      (one two last : ℕ)
+      → one ≡ keepTwo (p .col) (record { one = rows lo x; two = rows en x }) .one
+      → two ≡ keepTwo (p .col) (record { one = rows lo x; two = rows en x }) .two
+      → last ≡ max (p .col) (rows hi x) → Marks p a lo en hi (set lo x one) (set en x two) (set hi x last)
+  marks-side one two last e f g =
+      record {
+        lo-size = length-set lo x one ∙ u .0;
+        en-size = length-set en x two ∙ u .1;
+        hi-size = length-set hi x last ∙ u .2;
+        two = pick-two one two e f;
+        last = pick-last last g;
+      }
+
+  none : side ≤ x → (r : ℕ) → r < side → alongRow r p a ≡ false
+  none l r h = t .tells p refl r h ∙ ne-eqb x r (λ d. omega arith)
+
+  pub marks-none : side ≤ x → Marks p a lo en hi lo en hi
+  marks-none l =
+      record {
+        lo-size = u .0;
+        en-size = u .1;
+        hi-size = u .2;
+        two = λ r h. rw (none l r h) refl;
+        last = λ r h. rw (none l r h) refl;
+      }
 
 -- ---- what is kept
 
@@ -156,69 +200,62 @@ passing-on o i p lo en hi low high s l k =
       omega (arith, ap (λ (q : Point). q .row) (k .at), w .row-le i (omega arith)),
     )
 
-two-eq : (s t : Two) → s .one ≡ t .one → s .two ≡ t .two → s ≡ t
-two-eq s t e f = λ i. record { one = e i; two = f i }
-
 -- One letter
-module _ (o : Outline) (i : ℕ) (p : Point) (lo en hi : List ℕ) (low high : ℕ) (l : i < size o) (k : Passing o i p lo en hi low high) (x : ℕ)
-    (t : Tells (p .row) (letterAt o i) x) where
+module _ (o : Outline) (i : ℕ) (p : Point) (lo en hi : List ℕ) (low high : ℕ) (l : i < size o)
+    (k : Passing o i p lo en hi low high) where
   abbrev rest : List ℕ
   rest = drop (suc i) (o .letters)
 
-  differ : (r : ℕ) → eqb x r ≡ false → r ≡ x → ⊥
-  differ r e d = eqb-false x r e (sym d)
-
-  pick-two :
-      (one two : ℕ)
-      → one ≡ keepTwo (p .col) (record { one = rows lo x; two = rows en x }) .one
-      → two ≡ keepTwo (p .col) (record { one = rows lo x; two = rows en x }) .two
-      → (r : ℕ) → r < side
-      → _≡_ {A = Two} (record { one = rows (set lo x one) r; two = rows (set en x two) r })
-      (cond (alongRow r p (letterAt o i)) (keepTwo (p .col) (record { one = rows lo r; two = rows en r }))
-      (record { one = rows lo r; two = rows en r }))
-  pick-two one two e f r h = rw (t .tells p refl r h) (go (eqb x r) refl)
-    where
-      go : (b : Bool) → eqb x r ≡ b
-          → _≡_ {A = Two} (record { one = rows (set lo x one) r; two = rows (set en x two) r })
-          (cond b (keepTwo (p .col) (record { one = rows lo r; two = rows en r })) (record { one = rows lo r; two = rows en r }))
-      go true d =
-          let z : x ≡ r = eqb-true x r d in
-          two-eq _ _
-          (subst (λ (y : ℕ). rows (set lo x one) y ≡ keepTwo (p .col) (record { one = rows lo y; two = rows en y }) .one) z
-          (getD-set-same lo x one 0 (omega (arith, k .lo-size, t .below)) ∙ e))
-          (subst (λ (y : ℕ). rows (set en x two) y ≡ keepTwo (p .col) (record { one = rows lo y; two = rows en y }) .two) z
-          (getD-set-same en x two 0 (omega (arith, k .en-size, t .below)) ∙ f))
-      go false d = two-eq _ _ (getD-set-other lo x r one 0 (differ r d)) (getD-set-other en x r two 0 (differ r d))
-
-  pick-last : (last : ℕ) → last ≡ max (p .col) (rows hi x) → (r : ℕ) → r < side
-      → rows (set hi x last) r ≡ cond (alongRow r p (letterAt o i)) (max (p .col) (rows hi r)) (rows hi r)
-  pick-last last g r h = rw (t .tells p refl r h) (go (eqb x r) refl)
-    where
-      go : (b : Bool) → eqb x r ≡ b → rows (set hi x last) r ≡ cond b (max (p .col) (rows hi r)) (rows hi r)
-      go true d =
-          subst (λ (y : ℕ). rows (set hi x last) y ≡ max (p .col) (rows hi y)) (eqb-true x r d)
-          (getD-set-same hi x last 0 (omega (arith, k .hi-size, t .below)) ∙ g)
-      go false d = getD-set-other hi x r last 0 (differ r d)
-
   pub passing-next :
-      (one two last low′ high′ : ℕ) (q : Point)
-      → one ≡ keepTwo (p .col) (record { one = rows lo x; two = rows en x }) .one
-      → two ≡ keepTwo (p .col) (record { one = rows lo x; two = rows en x }) .two
-      → last ≡ max (p .col) (rows hi x) → low′ ≡ min (p .row) low → high′ ≡ max (p .row) high → q ≡ step p (letterAt o i)
-      → Passing o (i + 1) q (set lo x one) (set en x two) (set hi x last) low′ high′
+      (lo′ en′ hi′ : List ℕ) (low′ high′ : ℕ) (q : Point) → Marks p (letterAt o i) lo en hi lo′ en′ hi′
+      → low′ ≡ min (p .row) low → high′ ≡ max (p .row) high → q ≡ step p (letterAt o i) → Passing o (i + 1) q lo′ en′ hi′ low′ high′
   unfolding keptTwo leastOver greatestOver
-  passing-next one two last low′ high′ q e f g m n s =
+  passing-next lo′ en′ hi′ low′ high′ q u m n s =
       let left : drop (i + 1) (o .letters) ≡ rest = ap (λ (z : ℕ). drop z (o .letters)) (add-one i) in
       record {
         at = s ∙ ap (λ (z : Point). step z (letterAt o i)) (k .at) ∙ sym (corner-suc o i l) ∙ ap (cornerAt o) (sym (add-one i));
-        lo-size = length-set lo x one ∙ k .lo-size;
-        en-size = length-set en x two ∙ k .en-size;
-        hi-size = length-set hi x last ∙ k .hi-size;
-        two = λ r h. (λ j. keptTwo r (s j) (left j) (pick-two one two e f r h j)) ∙ (rw (drop-cons (o .letters) i 0 l) at (k .two r h));
-        last = λ r h. (λ j. greatestOver (alongRow r) (λ (z : Point). z .col) (s j) (left j) (pick-last last g r h j))
+        lo-size = u .lo-size;
+        en-size = u .en-size;
+        hi-size = u .hi-size;
+        two = λ r h. (λ j. keptTwo r (s j) (left j) (u .two r h j)) ∙ (rw (drop-cons (o .letters) i 0 l) at (k .two r h));
+        last = λ r h. (λ j. greatestOver (alongRow r) (λ (z : Point). z .col) (s j) (left j) (u .last r h j))
             ∙ (rw (drop-cons (o .letters) i 0 l) at (k .last r h));
         lowest = (λ j. leastOver (λ z a. true) (λ (z : Point). z .row) (s j) (left j) (m j))
             ∙ (rw (drop-cons (o .letters) i 0 l) at (k .lowest));
         highest = (λ j. greatestOver (λ z a. true) (λ (z : Point). z .row) (s j) (left j) (n j))
             ∙ (rw (drop-cons (o .letters) i 0 l) at (k .highest));
       }
+
+-- ---- corners as numbers
+
+-- The number of a corner of the chart, and back
+numbered-corner : (n : ℕ) → n < 65536 → n ≡ numbered (cornerNumbered n)
+numbered-corner n h = omega arith
+
+module _ (o : Outline) (simple : Simple o) where
+  walk : Walked o
+  walk = walked o simple
+
+  pub start-numbered : cornerNumbered (numbered (o .start)) ≡ o .start
+  start-numbered =
+      let e = corner-zero o in
+      corner-numbered (o .start) (omega (arith, ap (λ (p : Point). p .col) e, walk .col-le 0 (omega arith)))
+      (omega (arith, ap (λ (p : Point). p .row) e, walk .row-le 0 (omega arith)))
+
+  -- No letter of an outline leaves the chart, so the next number is that of the next corner
+  pub next-numbered : (i n m : ℕ) → i < size o → cornerNumbered n ≡ cornerAt o i → m ≡ wrapped n (letterAt o i)
+      → cornerNumbered m ≡ step (cornerNumbered n) (letterAt o i)
+  next-numbered i n m l e f =
+      let p : Point = cornerAt o i in
+      let a : ℕ = letterAt o i in
+      let low : n < 65536 = omega (arith, ap (λ (q : Point). q .row) e, walk .row-le i (omega arith)) in
+      let here : n ≡ numbered p = numbered-corner n low ∙ ap (λ (q : Point). numbered q) e in
+      let next : m ≡ numbered (step p a) =
+      f ∙ ap (λ (z : ℕ). wrapped z a) here
+      ∙ wrapped-staying p a (walk .col-le i (omega arith)) (walk .row-le i (omega arith)) (walk .letter i l) (walk .stays i l) in
+      let reached : step p a ≡ cornerAt o (suc i) = sym (corner-suc o i l) in
+      ap (λ (z : ℕ). cornerNumbered z) next
+      ∙ corner-numbered (step p a)
+      (omega (arith, ap (λ (q : Point). q .col) reached, walk .col-le (suc i) l))
+      (omega (arith, ap (λ (q : Point). q .row) reached, walk .row-le (suc i) l))
+      ∙ ap (λ (q : Point). step q a) (sym e)

@@ -2,17 +2,22 @@
 use chart::CORNERS;
 use chart::Point;
 use chart::SIDE;
+use rows::stride;
 ghost use Prim.Native.Nat.{_<_, min, max};
 ghost use mathlib.Core.Path.{_≡_};
+ghost use lib.ListN.{length};
 ghost use Rattle.chart.specs.Limits.{corners};
 ghost use Rattle.chart.specs.Outline.{outline};
-ghost use Rattle.lattice.specs.Chart.{step};
 ghost use Rattle.lattice.specs.Refusals.{Simple};
+ghost use Rattle.rows.specs.Search.{cornerNumbered};
 ghost use Rattle.witness.specs.parts.Kept.{keepTwo};
-ghost use Rattle.row_sides.specs.parts.Passed.{Tells, Passed};
+ghost use Rattle.row_sides.specs.parts.Passed.{Tells, Marks, Passed};
 
 // The index of no row of the chart.
 const NO_ROW: usize = SIDE as usize;
+
+// Corners are numbered row by row, this many to a row.
+const WIDTH: u16 = 256;
 
 // The minimum and the maximum of two numbers.
 fn lesser(a: u16, b: u16) -> u16
@@ -60,26 +65,28 @@ fn keep(c: u16, one: u16, two: u16) -> Pair
     Pair { one, two }
 }
 
-// The corner that a letter reaches.
-fn moved(p: Point, letter: u8) -> Point
-    requires { ⌜ (p .col < corners) × (p .row < corners) ⌝ }
-    ensures { λ r. ⌜ r ≡ step p letter ⌝ }
+// Keeps a side more, if the letter steps along a row from the corner of this number.
+fn mark(
+    lo: &mut [u16; CORNERS],
+    en: &mut [u16; CORNERS],
+    hi: &mut [u16; CORNERS],
+    number: u16,
+    letter: u8,
+)
+    requires { ⌜ (length (now lo) ≡ corners) × (length (now en) ≡ corners) × (length (now hi) ≡ corners) ⌝ }
+    ensures { λ _. ⌜ Marks (cornerNumbered number) letter (now (lo .entry)) (now (en .entry)) (now (hi .entry)) (now (lo .exit))
+        (now (en .exit)) (now (hi .exit)) ⌝ }
 {
-    let col = p.col;
-    let row = p.row;
-    if letter == 0 {
-        return Point { col: col + 1, row };
+    let r = along(number / WIDTH, letter);
+    if NO_ROW <= r {
+        return;
     }
-    if letter == 1 {
-        return Point { col, row: row + 1 };
-    }
-    if letter == 2 && 0 < col {
-        return Point { col: col - 1, row };
-    }
-    if letter == 3 && 0 < row {
-        return Point { col, row: row - 1 };
-    }
-    p
+    let col = number % WIDTH;
+    let k = keep(col, lo[r], en[r]);
+    let last = greater(col, hi[r]);
+    lo[r] = k.one;
+    en[r] = k.two;
+    hi[r] = last;
 }
 
 // What the pass keeps: the first, the second and the last side of each row, and the rows of the lowest and the highest corner.
@@ -91,7 +98,7 @@ pub struct Sides {
     pub high: u16,
 }
 
-// Letters that step along no row store at index 255, which is not a row of the chart. So the loop needs no branch.
+// Corners are numbered row by row, so that a letter takes one sum to the next corner.
 pub fn pass(s: Point, w: &[u8]) -> Sides
     requires { ⌜ Simple (outline s (now w)) ⌝ }
     ensures { λ r. ⌜ Passed (outline s (now (w .entry))) (r .lo) (r .en) (r .hi) (r .low) (r .high) ⌝ }
@@ -101,21 +108,16 @@ pub fn pass(s: Point, w: &[u8]) -> Sides
     let mut hi = [0u16; CORNERS];
     let mut low = SIDE;
     let mut high = 0u16;
-    let mut p = s;
+    let mut number = s.row % WIDTH * WIDTH + s.col % WIDTH;
     let mut i = 0;
     while i < w.len() {
         let letter = w[i];
-        let col = p.col;
-        let row = p.row;
-        let r = along(row, letter);
-        let k = keep(col, lo[r], en[r]);
-        let last = greater(col, hi[r]);
-        lo[r] = k.one;
-        en[r] = k.two;
-        hi[r] = last;
+        let row = number / WIDTH;
+        let next = std::num::wrapping_add_u16(number, stride(letter));
+        mark(&mut lo, &mut en, &mut hi, number, letter);
         low = lesser(row, low);
         high = greater(row, high);
-        p = moved(p, letter);
+        number = next;
         i += 1;
     }
     Sides {

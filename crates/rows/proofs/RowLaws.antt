@@ -137,7 +137,7 @@ module _ (o : Outline) (b t : ℕ) where
 -- ---- outlines
 
 -- A corner of the chart is given by its number. A letter that does not leave the chart leads to the number of the next corner
-corner-numbered : (p : Point) → p .col ≤ side → p .row ≤ side → cornerNumbered (numbered p) ≡ p
+pub corner-numbered : (p : Point) → p .col ≤ side → p .row ≤ side → cornerNumbered (numbered p) ≡ p
 corner-numbered p h k = point-eq (cornerNumbered (numbered p)) p (omega arith) (omega arith)
 
 one-less : (n : ℕ) → 0 < n → n < 65536 → (n + 65535) % 65536 ≡ n - 1
@@ -146,7 +146,7 @@ one-less n h k = omega arith
 number-left : (c r : ℕ) → 0 < c → c ≤ side → r ≤ side → r % 256 * 256 + c % 256 - 1 ≡ r % 256 * 256 + (c - 1) % 256
 number-left c r l h k = omega arith
 
-wrapped-staying : (p : Point) (a : ℕ) → p .col ≤ side → p .row ≤ side → a < 4 → leaves p a ≡ false
+pub wrapped-staying : (p : Point) (a : ℕ) → p .col ≤ side → p .row ≤ side → a < 4 → leaves p a ≡ false
     → wrapped (numbered p) a ≡ numbered (step p a)
 unfolding wrapped step
 wrapped-staying p zero h k l e = omega (arith, stays-right p 0 e refl)

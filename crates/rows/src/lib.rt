@@ -45,7 +45,7 @@ pub struct Ends {
 }
 
 // What a letter adds to the number of a corner.
-fn stride(letter: u8) -> u16
+pub fn stride(letter: u8) -> u16
     ensures { λ r. ⌜ r ≡ strideOf (letter % 4) ⌝ }
 {
     match letter % 4 {
