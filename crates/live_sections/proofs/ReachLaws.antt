@@ -3,13 +3,13 @@ use Prim.Native.Nat.{ℕ, _+_, _-_, _*_, _≤_, _<_}
 use native.Mathlib.Decide.{decLt}
 use native.Mathlib.Omega.{arith}
 use mathlib.Core.Path.{_≡_, sym, ap, _∙_}
-use mathlib.Core.Bool.{Bool, true, false, true≢false}
+use mathlib.Core.Bool.{Bool, true, false, _&&_, true≢false}
 use mathlib.Core.Logic.{inl, inr}
 use mathlib.Core.List.{List}
 use lib.ListN.{length, getD}
 use lib.Seq.{ext-getD}
-use lib.Dec.{leb, ltb}
-use borrow.Author.Tests.{leb-true, ltb-true, lt-ltb}
+use lib.Dec.{leb, ltb, eqb}
+use borrow.Author.Tests.{eqb-true, leb-true, ltb-true, lt-ltb}
 use Rattle.base.specs.Below.{first}
 use Rattle.base.proofs.BelowLaws.{below-suc, and-left, and-right, not-held, first-before, first-none, first-none-at}
 use Rattle.chart.specs.Limits.{side}
@@ -121,6 +121,17 @@ agree-start a b = record { same = λ m h. absurd (omega arith) }
 
 pub agree-next : (a b : List ℕ) (k : ℕ) → Agree a b k → getD b k 0 ≡ getD a k 0 → Agree a b (k + 1)
 agree-next a b k t e = record { same = λ m h. elim (below-suc m k (omega arith)) [ inl d ↦ rw d e | inr g ↦ t .same m g ] }
+
+-- Both lists agree in one place more, where the test says so
+pub agree-both : (a b x y : List ℕ) (k : ℕ) (t : Bool) → (t ≡ true → Agree a b k × Agree x y k)
+    → ((t && eqb (getD a k 0) (getD b k 0)) && eqb (getD x k 0) (getD y k 0)) ≡ true → Agree a b (k + 1) × Agree x y (k + 1)
+agree-both a b x y k t f e =
+    let begun = and-left (t && eqb (getD a k 0) (getD b k 0)) (eqb (getD x k 0) (getD y k 0)) e in
+    let ended = and-right (t && eqb (getD a k 0) (getD b k 0)) (eqb (getD x k 0) (getD y k 0)) e in
+    let (u, v) = f (and-left t (eqb (getD a k 0) (getD b k 0)) begun) in (
+      agree-next a b k u (sym (eqb-true (getD a k 0) (getD b k 0) (and-right t (eqb (getD a k 0) (getD b k 0)) begun))),
+      agree-next x y k v (sym (eqb-true (getD x k 0) (getD y k 0) ended)),
+    )
 
 pub agree-end : (a b : List ℕ) → length a ≡ layers → length b ≡ layers → Agree a b layers → b ≡ a
 agree-end a b p q t = ext-getD 0 b a (q ∙ sym p) (λ i h. t .same i (omega (arith, q)))

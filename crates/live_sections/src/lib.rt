@@ -62,11 +62,15 @@ fn bottom(first: &[u8], past: &[u8]) -> u8
     END
 }
 
-// The row past the highest with a cell, or 0.
-fn top(first: &[u8], past: &[u8]) -> u8
-    requires { ⌜ (length (now first) ≡ side) × (length (now past) ≡ side) ⌝ }
+// The row past the highest with a cell, or 0. `low` is the lowest with a cell: a layer without cells is not searched again.
+fn top(first: &[u8], past: &[u8], low: u8) -> u8
+    requires { ⌜ (length (now first) ≡ side) × (length (now past) ≡ side)
+        × (low ≡ firstOf (λ r. hasCell (now first) (now past) r) side) ⌝ }
     ensures { λ b. ⌜ b ≡ side - firstOf (λ k. hasCell (now (first .entry)) (now (past .entry)) (side - 1 - k)) side ⌝ }
 {
+    if low == END {
+        return 0;
+    }
     let mut k = 0;
     while k < ROWS {
         if has_cell(first, past, ROWS - 1 - k) {
@@ -89,8 +93,9 @@ fn reach(rows: &[u8]) -> Section
         let at = WIDTH * l;
         let begins = part(rows, at);
         let ends = part(rows, at + ROWS);
-        lo[l] = bottom(begins, ends);
-        past[l] = top(begins, ends);
+        let low = bottom(begins, ends);
+        lo[l] = low;
+        past[l] = top(begins, ends, low);
         l += 1;
     }
     Section { lo, past }
@@ -179,17 +184,13 @@ fn same(a: Section, b: Section) -> bool
     let past = a.past;
     let other_lo = b.lo;
     let other_past = b.past;
+    let mut alike = true;
     let mut l = 0;
     while l < LAYERS {
-        if lo[l] != other_lo[l] {
-            return false;
-        }
-        if past[l] != other_past[l] {
-            return false;
-        }
+        alike = alike & (lo[l] == other_lo[l]) & (past[l] == other_past[l]);
         l += 1;
     }
-    true
+    alike
 }
 
 // Whether the section is convex, given that the one before it is. Equal sections are not tested again.

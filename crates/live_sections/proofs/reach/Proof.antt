@@ -32,7 +32,7 @@ bottom-requires : tie.Need-bottom-requires Inv-loop μ-loop
 bottom-requires c κs = (c .before .part .ensures .1, c .part2 .ensures .1)
 
 top-requires : tie.Need-top-requires Inv-loop μ-loop
-top-requires c κs = (c .before .before .part .ensures .1, c .before .part2 .ensures .1)
+top-requires c κs = (c .before .before .part .ensures .1, c .before .part2 .ensures .1, c .bottom .ensures)
 
 loop-again : tie.Need-loop-again Inv-loop μ-loop
 loop-again c =
