@@ -42,14 +42,14 @@ fn read_word(letters: &[u8], k: usize, list: &mut [i16], from: usize) -> InWord
         if !f.christoffel {
             return InWord::Dent {
                 at,
-                length: f.length,
+                length: f.length as usize,
             };
         }
         let size = f.times * f.length;
         let rise = f.times * f.laters;
         let e = edge::edge_of(k, (size - rise) as u16, rise as u16);
         count = put(list, count, e.dx, e.dy);
-        at += size;
+        at += size as usize;
     }
     InWord::Edges { edges: count }
 }

@@ -4,7 +4,7 @@ ghost use Prim.Native.Nat.{_<_, _≤_};
 ghost use lib.ListN.{length};
 
 // The letters of one copy, the repeats if there are several, and whether it is a Christoffel word.
-fn write_factor(copy: &[u8], times: usize, christoffel: bool) {
+fn write_factor(copy: &[u8], times: u32, christoffel: bool) {
     if times == 1 {
         io::write_all(STDOUT_FILENO, b" ");
         io::write_all(STDOUT_FILENO, copy);
@@ -27,9 +27,10 @@ fn write_next(word: &[u8], at: usize) -> usize
     ensures { λ r. ⌜ (at < r) × (r ≤ length (now (word .entry))) ⌝ }
 {
     let factor = words::factor_at(word, at, b'1');
-    let end = at + factor.length;
+    let end = at + factor.length as usize;
     write_factor(&word[at..end], factor.times, factor.christoffel);
-    at + factor.times * factor.length
+    let size = factor.times * factor.length;
+    at + size as usize
 }
 
 // All factors of a word, in order.

@@ -119,9 +119,9 @@ fn is_christoffel(w: &[u8], k: u32, later: u8) -> bool
 
 // A factor, the later letters of one copy, and whether it is a Christoffel word.
 pub struct JudgedFactor {
-    pub length: usize,
-    pub times: usize,
-    pub laters: usize,
+    pub length: u32,
+    pub times: u32,
+    pub laters: u32,
     pub christoffel: bool,
 }
 
@@ -139,13 +139,12 @@ pub fn factor_at(w: &[u8], at: usize, later: u8) -> JudgedFactor
         };
     }
     let found = first_factor(w, at, later);
-    let length = found.length as usize;
-    let end = at + length;
+    let end = at + found.length as usize;
     let copy = &w[at..end];
     JudgedFactor {
-        length,
-        times: found.times as usize,
-        laters: found.laters as usize,
+        length: found.length,
+        times: found.times,
+        laters: found.laters,
         christoffel: is_christoffel(copy, found.laters, later),
     }
 }

@@ -44,16 +44,21 @@ rise-here c =
 
 returns : tie.Need-returns Inv-loop μ-loop
 returns c =
-    let seen = c .before .before in
+    let seen = c .before .before .before in
     tracing-dent (seen .before .before .loop .inv) (seen .before .before .before .before .before .pre) (seen .before .loop-test .taken)
-    (judged-rest seen) (not-true _ (c .if1 .taken))
+    (judged-rest seen) (not-true _ (c .before .if1 .taken))
 
 mul-size : tie.Need-mul-size Inv-loop μ-loop
-mul-size c = let h = step-here (c .before .before .before) in omega (arith, h .within)
+mul-size c =
+    let seen = c .before .before .before in
+    let h = step-here seen in
+    omega (arith, h .within, seen .before .before .before .before .before .pre)
 
 mul-rise : tie.Need-mul-rise Inv-loop μ-loop
-mul-rise c = let h = step-here (c .before .before .before .before) in
-    omega (arith, rise-here (c .before .before .before .before), h .within)
+mul-rise c =
+    let seen = c .before .before .before .before in
+    let h = step-here seen in
+    omega (arith, rise-here seen, h .within, seen .before .before .before .before .before .pre)
 
 sub-edge-of : tie.Need-sub-edge-of Inv-loop μ-loop
 sub-edge-of c = rise-here (c .before .before .before .before)
@@ -76,6 +81,12 @@ edge-of-requires c κs =
       omega (arith, h .within, seen .before .before .before .before .before .pre),
       omega (arith, h .within, rise-here seen, seen .before .before .before .before .before .pre),
     )
+
+cast-at : tie.Need-cast-at Inv-loop μ-loop
+cast-at c =
+    let seen = c .before .before .before .before .before .before .before .before .before .before in
+    let h = step-here seen in
+    omega (arith, h .within, seen .before .before .before .before .before .pre)
 
 add-at : tie.Need-add-at Inv-loop μ-loop
 add-at c =
@@ -109,6 +120,6 @@ returns-2 c = tracing-end (c .before .loop .inv) (c .loop-test .left)
 pub read-word-spec : {M : Type 1} → statement M
 read-word-spec =
     tie.close
-    (tie.spec Inv-loop μ-loop (λ c κs. search needs) loop-holds (λ c κs. search needs) (λ c. search needs) returns mul-size mul-rise
-    sub-edge-of cast-edge-of cast-edge-of-2 edge-of-requires (λ c κs. search needs) add-at loop-less loop-again (λ c. search needs)
-    returns-2)
+    (tie.spec Inv-loop μ-loop (λ c κs. search needs) loop-holds (λ c κs. search needs) (λ c. search needs) (λ c. search needs) returns
+    mul-size mul-rise sub-edge-of cast-edge-of cast-edge-of-2 edge-of-requires (λ c κs. search needs) cast-at add-at loop-less
+    loop-again (λ c. search needs) returns-2)

@@ -15,7 +15,7 @@ part-copy-end c = found-fits _ _ _ (c .before .before .if1 .left) (c .before .fi
 
 is-christoffel-requires : tie.Need-is-christoffel-requires
 is-christoffel-requires c κs =
-    let searched = c .before .before .before .before in
+    let searched = c .before .before in
     let start = searched .before .before .before in (
       rw add-sub-cancel-left (found-counted _ _ _ (searched .before .if1 .left) (searched .first-factor .ensures)),
       simp (length-take, length-drop) (omega (arith, start .pre)),
@@ -23,7 +23,7 @@ is-christoffel-requires c κs =
 
 returns-2 : tie.Need-returns-2
 returns-2 c =
-    let searched = c .before .before .before .before .before in
+    let searched = c .before .before .before in
     rw (c .is-christoffel .ensures, add-sub-cancel-left)
     (found-judged _ _ _ (searched .before .if1 .left) (searched .first-factor .ensures))
 
@@ -31,4 +31,4 @@ pub factor-at-spec : {M : Type 1} → statement M
 factor-at-spec =
     tie.close
     (tie.spec returns (λ c κs. search needs) (λ c. search needs) (λ c. search needs) (λ c. search needs) (λ c. search needs) part-copy-end
-    (λ c. search needs) (λ c. search needs) is-christoffel-requires returns-2)
+    is-christoffel-requires returns-2)
