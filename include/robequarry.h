@@ -25,8 +25,11 @@
  *
  * All memory is the caller's. The library allocates nothing, keeps nothing between calls, and has no state of its own. rq_holder
  * and rq_pile are plain numbers, without pointers or padding: put them where you like, copy them with memcpy, compare them with
- * memcmp. Calls may run in any thread. One holder or pile is for one thread at a time, except that calls which take it as const may
- * run side by side.
+ * memcmp. Calls may run in any thread. Calls that take a holder or a pile as const are questions.
+ *
+ * One holder or pile has one writer at a time, and nothing that alters it may interrupt another call on it. A question may interrupt any
+ * call on the same holder or pile, on the same processor. Its answer is the one from before that call or the one from after it: a close
+ * fills a spare slot, and then one 16-bit store puts the slot to work. A reset in the middle of a call leaves what is at work so, too.
  *
  * A list is a pointer and a count of its elements. A list that is const is not altered. A buffer is a list that a call writes to,
  * from its front; the rest of it is unaltered. Every call writes all seven numbers of its reply.
@@ -45,7 +48,8 @@
  *  - D5. A Cortex-M4F has its FPU switched on and does not trap unaligned access: the bit UNALIGN_TRP of CCR is 0, as it is after a
  *    reset.
  *  - D6. The stack has the bytes that are stated below.
- *  - D7. One holder or pile is for one thread at a time, and an interrupt routine counts as one (see WHO OWNS WHAT).
+ *  - D7. One holder or pile has one writer at a time. An interrupt routine may ask during any call, and alters nothing during one (see
+ *    WHO OWNS WHAT).
  *
  * Nothing else is asked for the replies to be as described. Counts, letters, numbers of edges, parties, places and floats may be
  * anything. D8 to D17 are what a device owes besides: what to do with a reply, records, damaged memory, time, and how to build.
@@ -62,8 +66,8 @@
  *     a close by rq_call                                 9,600     9,300
  *     rq_border                                          9,900     9,700
  *     rq_witness, rq_complete                           12,700    13,000
- *     rq_replay                                         18,200    18,000
- *     rq_pile_check                                        600       600
+ *     rq_replay                                         20,200    20,000
+ *     rq_pile_check, rq_pile_check_step                    600       600
  *     rq_compare                                         1,500     1,700
  *     any other call by rq_call                            600       300
  *     every other function                                 400       200
@@ -98,6 +102,17 @@ enum {
     RQ_REPLY_NUMBERS = 7    /* numbers of a reply */
 };
 
+/* Lengths of the arrays of a holder and of a pile. */
+enum {
+    RQ_SLOTS = 10,             /* slots for outlines of a holder: for each party one more than it has places */
+    RQ_HOLDER_LETTERS = 1224,  /* RQ_LETTERS for each party */
+    RQ_HOLDER_ROWS = 5100,     /* 2 * RQ_SIDE for each slot */
+    RQ_HOLDER_NUMBERS = 2000,  /* RQ_EDGE_NUMBERS for each slot */
+    RQ_HOLDER_HEADS = 46,      /* 4 for each draft, 1 for each place, 3 for each slot */
+    RQ_PILE_ROWS = 8160,       /* 2 * RQ_SIDE for each layer */
+    RQ_PILE_STATE = 2
+};
+
 /* A reply. A number that a call does not name is 0. */
 typedef struct rq_reply {
     uint16_t number; /* 0, or the refusal: RQ_REFUSED_... */
@@ -108,6 +123,9 @@ typedef struct rq_reply {
     uint16_t col;    /* column and row of a cell; or of a corner, as the call says */
     uint16_t row;
 } rq_reply;
+
+/* A reply to begin with: rq_reply reply = RQ_REPLY_INIT; */
+#define RQ_REPLY_INIT { 0, 0, 0, 0, 0, 0, 0 }
 
 /* The last column of a row, where the word is RQ_WORD_COLUMNS; `col` is the first. */
 #define rq_last_column(reply) ((reply)->row)
@@ -164,7 +182,8 @@ enum {
     RQ_WORD_FIRST_WITHIN = 12,
     RQ_WORD_SECOND_WITHIN = 13,
     RQ_WORD_NO_COMMON = 14,
-    RQ_WORD_CROSSING = 15
+    RQ_WORD_CROSSING = 15,
+    RQ_WORD_MORE = 16           /* pile check in steps: it goes on */
 };
 
 /*
@@ -229,16 +248,21 @@ void rq_complete(uint16_t col, uint16_t row, const uint8_t *letters, uint64_t n,
 
 /*
  * A holder keeps outlines for two parties. Each party has a draft, or none, which is drawn letter by letter; and four places, each
- * with an outline at work or nothing. What a party is replied depends on its own calls alone. Memory of zeros is a fresh holder too.
+ * with an outline at work or nothing. Replies to a party depend only on that party's calls. Memory of zeros is a fresh holder too.
+ *
+ * An outline lies in a slot. A place has one number, which names a slot of its party, or nothing: 0x5555, 0x3333, 0x6666, 0x0F0F and
+ * 0x5A5A name the party's slots 0 to 4, and every other number means nothing. These five differ from each other, from 0 and from 0xFFFF in
+ * at least eight bits.
  */
 typedef struct rq_holder {
-    uint8_t letters[1224]; /* of the two drafts */
-    uint8_t rows[4080];    /* of the eight outlines at work: first columns, and columns after the last */
-    int16_t numbers[1600]; /* of their edges */
-    uint16_t heads[40];    /* whether there is one, a column, a row and a count: of the drafts, and of the outlines at work */
+    uint8_t letters[RQ_HOLDER_LETTERS];  /* of the two drafts */
+    uint8_t rows[RQ_HOLDER_ROWS];        /* of the outlines in the slots: first columns, and columns after the last */
+    int16_t numbers[RQ_HOLDER_NUMBERS];  /* of their edges */
+    uint16_t heads[RQ_HOLDER_HEADS];     /* of each draft whether there is one, its start and its count; what each place names; of each
+                                            slot the anchor and the count of edges */
 } rq_holder;
 
-/* Makes it a fresh holder, whatever the memory holds: no draft, and nothing at work. */
+/* Makes it a fresh holder, whatever the memory holds: no draft, and nothing at work. Every place is cleared before a slot is. */
 static inline void rq_fresh(rq_holder *holder);
 
 /* Opens a draft that starts at the corner (col, row). Refused by 19, 14 and 2. */
@@ -246,6 +270,9 @@ static inline void rq_begin(rq_holder *holder, uint8_t party, uint16_t col, uint
 
 /* Adds a letter at the draft's end. Refused by 19, 13, 15 and 3. */
 static inline void rq_add(rq_holder *holder, uint8_t party, uint8_t letter, rq_reply *reply);
+
+/* Tells a party's draft: col and row its start, place its count of letters. Refused by 19 and 13. */
+static inline void rq_draft(const rq_holder *holder, uint8_t party, rq_reply *reply);
 
 /* Discards the draft. Refused by 19 and 13. */
 static inline void rq_drop(rq_holder *holder, uint8_t party, rq_reply *reply);
@@ -257,6 +284,9 @@ static inline void rq_clear(rq_holder *holder, uint8_t party, uint8_t place, rq_
  * Tests the draft and ends it. A draft that is taken replaces what is at work at the place. The word is then RQ_WORD_SAME if it has
  * the same cells as what was at work there, else RQ_WORD_TAKEN, with the fields of a taken test. Refused by 19, 20, 13 and 1 to 9;
  * what is at work stays then.
+ *
+ * It is two calls, one after the other. The first replies, ends the draft, and writes a taken outline to the party's slot that no place
+ * names; every question still has its old answer. The second puts that slot to work, by one store.
  */
 static inline void rq_close(rq_holder *holder, uint8_t party, uint8_t place, rq_reply *reply);
 
@@ -317,8 +347,8 @@ static inline uint64_t rq_replay(const uint8_t *script, uint64_t n, rq_reply *re
  * them. A pile has passed from a check that finds no dent until a layer is set. Memory of zeros is a fresh pile too.
  */
 typedef struct rq_pile {
-    uint8_t rows[8160]; /* of the sixteen layers: first columns, and columns after the last */
-    uint8_t state[1];   /* not 0 where the pile has passed */
+    uint8_t rows[RQ_PILE_ROWS]; /* of the sixteen layers: first columns, and columns after the last */
+    uint16_t state[RQ_PILE_STATE];  /* 0x5AA5 where the pile has passed; how many sections a check in steps has behind it */
 } rq_pile;
 
 /* Makes it a fresh pile, whatever the memory holds: every layer is empty, and it has not passed. */
@@ -334,38 +364,55 @@ static inline void rq_pile_empty(rq_pile *pile, uint8_t layer, rq_reply *reply);
 /* Checks every section. Number 0, and the pile has passed; or refused by 21, and it has not. */
 static inline void rq_pile_check(rq_pile *pile, rq_reply *reply);
 
+/*
+ * Some sections of a check, so that a watchdog can be fed in between: there are 2 * RQ_SIDE. The word is RQ_WORD_MORE while the check goes on;
+ * else the reply and the pile are those of rq_pile_check, and the next step begins anew. A set or an empty begins it anew, too. With 0
+ * sections it replies RQ_WORD_MORE and does nothing.
+ */
+static inline void rq_pile_check_step(rq_pile *pile, uint16_t sections, rq_reply *reply);
+
 /* RQ_WORD_INSIDE if the layer's outline has the cell (col, row), else RQ_WORD_OUTSIDE. Refused by 22, 12 and 11. */
 static inline void rq_pile_query(const rq_pile *pile, uint8_t layer, uint16_t col, uint16_t row, rq_reply *reply);
 
 /*
  * What follows is how the calls above reach the library, which takes the arrays of a holder or a pile one by one.
  */
-void rq_fresh_parts(uint8_t letters[1224], uint8_t rows[4080], int16_t numbers[1600], uint16_t heads[40]);
-void rq_begin_parts(uint16_t heads[40], uint8_t party, uint16_t col, uint16_t row, rq_reply *reply);
-void rq_add_parts(uint8_t letters[1224], uint16_t heads[40], uint8_t party, uint8_t letter, rq_reply *reply);
-void rq_drop_parts(uint16_t heads[40], uint8_t party, rq_reply *reply);
-void rq_clear_parts(uint16_t heads[40], uint8_t party, uint8_t place, rq_reply *reply);
-void rq_close_parts(const uint8_t letters[1224], uint8_t rows[4080], int16_t numbers[1600], uint16_t heads[40], uint8_t party,
-                    uint8_t place, rq_reply *reply);
-void rq_query_parts(const uint8_t rows[4080], const uint16_t heads[40], uint8_t party, uint8_t place, uint16_t col, uint16_t row,
-                    rq_reply *reply);
-void rq_row_parts(const uint8_t rows[4080], const uint16_t heads[40], uint8_t party, uint8_t place, uint16_t row, rq_reply *reply);
-void rq_reading_parts(const int16_t numbers[1600], const uint16_t heads[40], uint8_t party, uint8_t place, float angle, float load,
-                      rq_reply *reply);
-void rq_piece_parts(const int16_t numbers[1600], const uint16_t heads[40], uint8_t party, uint8_t place, uint16_t position,
-                    float point[2], rq_reply *reply);
-bool rq_call_parts(uint8_t letters[1224], uint8_t rows[4080], int16_t numbers[1600], uint16_t heads[40], const uint8_t *call,
-                   uint64_t n, rq_reply *reply);
+void rq_fresh_parts(uint8_t letters[RQ_HOLDER_LETTERS], uint8_t rows[RQ_HOLDER_ROWS], int16_t numbers[RQ_HOLDER_NUMBERS],
+                    uint16_t heads[RQ_HOLDER_HEADS]);
+void rq_begin_parts(uint16_t heads[RQ_HOLDER_HEADS], uint8_t party, uint16_t col, uint16_t row, rq_reply *reply);
+void rq_add_parts(uint8_t letters[RQ_HOLDER_LETTERS], uint16_t heads[RQ_HOLDER_HEADS], uint8_t party, uint8_t letter, rq_reply *reply);
+void rq_draft_parts(const uint16_t heads[RQ_HOLDER_HEADS], uint8_t party, rq_reply *reply);
+void rq_drop_parts(uint16_t heads[RQ_HOLDER_HEADS], uint8_t party, rq_reply *reply);
+void rq_clear_parts(uint16_t heads[RQ_HOLDER_HEADS], uint8_t party, uint8_t place, rq_reply *reply);
+uint16_t rq_prepare_parts(const uint8_t letters[RQ_HOLDER_LETTERS], uint8_t rows[RQ_HOLDER_ROWS], int16_t numbers[RQ_HOLDER_NUMBERS],
+                          uint16_t heads[RQ_HOLDER_HEADS], uint8_t party, uint8_t place, rq_reply *reply);
+void rq_commit_parts(uint16_t heads[RQ_HOLDER_HEADS], uint8_t party, uint8_t place, uint16_t word);
+void rq_query_parts(const uint8_t rows[RQ_HOLDER_ROWS], const uint16_t heads[RQ_HOLDER_HEADS], uint8_t party, uint8_t place, uint16_t col,
+                    uint16_t row, rq_reply *reply);
+void rq_row_parts(const uint8_t rows[RQ_HOLDER_ROWS], const uint16_t heads[RQ_HOLDER_HEADS], uint8_t party, uint8_t place, uint16_t row,
+                  rq_reply *reply);
+void rq_reading_parts(const int16_t numbers[RQ_HOLDER_NUMBERS], const uint16_t heads[RQ_HOLDER_HEADS], uint8_t party, uint8_t place,
+                      float angle, float load, rq_reply *reply);
+void rq_piece_parts(const int16_t numbers[RQ_HOLDER_NUMBERS], const uint16_t heads[RQ_HOLDER_HEADS], uint8_t party, uint8_t place,
+                    uint16_t position, float point[2], rq_reply *reply);
+bool rq_call_parts(uint8_t letters[RQ_HOLDER_LETTERS], uint8_t rows[RQ_HOLDER_ROWS], int16_t numbers[RQ_HOLDER_NUMBERS],
+                   uint16_t heads[RQ_HOLDER_HEADS], const uint8_t *call, uint64_t n, rq_reply *reply);
 uint64_t rq_replay_numbers(const uint8_t *script, uint64_t n, rq_reply *replies, uint64_t k);
-void rq_pile_fresh_parts(uint8_t rows[8160], uint8_t state[1]);
-void rq_pile_set_parts(uint8_t rows[8160], uint8_t state[1], uint8_t layer, uint16_t col, uint16_t row, const uint8_t *letters,
-                       uint64_t n, rq_reply *reply);
-void rq_pile_empty_parts(uint8_t rows[8160], uint8_t state[1], uint8_t layer, rq_reply *reply);
-void rq_pile_check_parts(const uint8_t rows[8160], uint8_t state[1], rq_reply *reply);
-void rq_pile_query_parts(const uint8_t rows[8160], const uint8_t state[1], uint8_t layer, uint16_t col, uint16_t row,
+void rq_pile_fresh_parts(uint8_t rows[RQ_PILE_ROWS], uint16_t state[RQ_PILE_STATE]);
+void rq_pile_set_parts(uint8_t rows[RQ_PILE_ROWS], uint16_t state[RQ_PILE_STATE], uint8_t layer, uint16_t col, uint16_t row,
+                       const uint8_t *letters, uint64_t n, rq_reply *reply);
+void rq_pile_empty_parts(uint8_t rows[RQ_PILE_ROWS], uint16_t state[RQ_PILE_STATE], uint8_t layer, rq_reply *reply);
+void rq_pile_check_parts(const uint8_t rows[RQ_PILE_ROWS], uint16_t state[RQ_PILE_STATE], rq_reply *reply);
+void rq_pile_check_step_parts(const uint8_t rows[RQ_PILE_ROWS], uint16_t state[RQ_PILE_STATE], uint16_t sections, rq_reply *reply);
+void rq_pile_query_parts(const uint8_t rows[RQ_PILE_ROWS], const uint16_t state[RQ_PILE_STATE], uint8_t layer, uint16_t col, uint16_t row,
                          rq_reply *reply);
 
 static inline void rq_fresh(rq_holder *holder) {
+    rq_reply reply = RQ_REPLY_INIT;
+    uint8_t spot;
+    for (spot = 0; spot < RQ_PARTIES * RQ_PLACES; spot++) {
+        rq_clear_parts(holder->heads, (uint8_t)(spot / RQ_PLACES), (uint8_t)(spot % RQ_PLACES), &reply);
+    }
     rq_fresh_parts(holder->letters, holder->rows, holder->numbers, holder->heads);
 }
 
@@ -377,6 +424,10 @@ static inline void rq_add(rq_holder *holder, uint8_t party, uint8_t letter, rq_r
     rq_add_parts(holder->letters, holder->heads, party, letter, reply);
 }
 
+static inline void rq_draft(const rq_holder *holder, uint8_t party, rq_reply *reply) {
+    rq_draft_parts(holder->heads, party, reply);
+}
+
 static inline void rq_drop(rq_holder *holder, uint8_t party, rq_reply *reply) {
     rq_drop_parts(holder->heads, party, reply);
 }
@@ -386,7 +437,8 @@ static inline void rq_clear(rq_holder *holder, uint8_t party, uint8_t place, rq_
 }
 
 static inline void rq_close(rq_holder *holder, uint8_t party, uint8_t place, rq_reply *reply) {
-    rq_close_parts(holder->letters, holder->rows, holder->numbers, holder->heads, party, place, reply);
+    const uint16_t word = rq_prepare_parts(holder->letters, holder->rows, holder->numbers, holder->heads, party, place, reply);
+    rq_commit_parts(holder->heads, party, place, word);
 }
 
 static inline void rq_query(const rq_holder *holder, uint8_t party, uint8_t place, uint16_t col, uint16_t row, rq_reply *reply) {
@@ -431,6 +483,10 @@ static inline void rq_pile_check(rq_pile *pile, rq_reply *reply) {
     rq_pile_check_parts(pile->rows, pile->state, reply);
 }
 
+static inline void rq_pile_check_step(rq_pile *pile, uint16_t sections, rq_reply *reply) {
+    rq_pile_check_step_parts(pile->rows, pile->state, sections, reply);
+}
+
 static inline void rq_pile_query(const rq_pile *pile, uint8_t layer, uint16_t col, uint16_t row, rq_reply *reply) {
     rq_pile_query_parts(pile->rows, pile->state, layer, col, row, reply);
 }
@@ -444,8 +500,8 @@ static inline void rq_pile_query(const rq_pile *pile, uint8_t layer, uint16_t co
 #define RQ_CHECK(name, fact) typedef char rq_check_##name[(fact) ? 1 : -1]
 #endif
 RQ_CHECK(a_reply_has_14_bytes, sizeof(rq_reply) == 14);
-RQ_CHECK(a_holder_has_8584_bytes, sizeof(rq_holder) == 8584);
-RQ_CHECK(a_pile_has_8161_bytes, sizeof(rq_pile) == 8161);
+RQ_CHECK(a_holder_has_10416_bytes, sizeof(rq_holder) == 10416);
+RQ_CHECK(a_pile_has_8164_bytes, sizeof(rq_pile) == 8164);
 #undef RQ_CHECK
 
 #ifdef __cplusplus

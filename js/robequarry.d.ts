@@ -118,6 +118,11 @@ export interface Located {
   word: 'inside' | 'outside' | 'undecided';
 }
 
+export interface Draft {
+  start: Place;
+  letterCount: number;
+}
+
 export interface Closed {
   word: 'taken' | 'same';
   anchor: Place;
@@ -142,6 +147,7 @@ export class Holder {
   private constructor();
   begin(party: number, start: Place): Done | Refused;
   add(party: number, letter: number): Done | Refused;
+  draft(party: number): Draft | Refused;
   drop(party: number): Done | Refused;
   clear(party: number, place: number): Done | Refused;
   close(party: number, place: number): Closed | Refused;
@@ -159,6 +165,7 @@ export class Pile {
   set(layer: number, outline: Outline): TakenCount | NotTaken;
   empty(layer: number): Done | Refused;
   check(): { passed: true } | ({ passed: false } & Refused);
+  checkStep(sections: number): { passed: true } | ({ passed: false } & Refused) | undefined;
   query(layer: number, cell: Place): Position | Refused;
   copy(): Pile;
   free(): void;

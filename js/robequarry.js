@@ -33,13 +33,13 @@ const FIELDS = {
 
 const WORDS = [
   null, 'inside', 'outside', 'taken', 'same', 'none', 'columns', 'undecided', 'move', 'line', 'close', 'equal', 'firstWithinSecond',
-  'secondWithinFirst', 'noCommonCell', 'crossing',
+  'secondWithinFirst', 'noCommonCell', 'crossing', 'more',
 ];
 
 // Bytes, as include/robequarry.h has them: a reply; a holder's four arrays and a pile's two, one after the other.
 const REPLY = 14;
-const HOLDER = { letters: 0, rows: 1224, numbers: 5304, heads: 8504, size: 8584 };
-const PILE = { rows: 0, state: 8160, size: 8161 };
+const HOLDER = { letters: 0, rows: 1224, numbers: 6324, heads: 10324, size: 10416 };
+const PILE = { rows: 0, state: 8160, size: 8164 };
 const POINT = 8;
 const WITNESS = 6;
 const PAGE = 65536;
@@ -329,6 +329,13 @@ export class Holder extends Owner {
     return done(this.#reply((calls, at) => calls.rq_add_parts(this.#letters(), this.#heads(), party, letter, at)));
   }
 
+  /** Where the party's draft starts, and how many letters it has. */
+  draft(party) {
+    u8(party, 'party');
+    const reply = this.#reply((calls, at) => calls.rq_draft_parts(this.#heads(), party, at));
+    return reply.number !== 0 ? refused(reply) : { start: cellOf(reply), letterCount: reply.place };
+  }
+
   drop(party) {
     u8(party, 'party');
     return done(this.#reply((calls, at) => calls.rq_drop_parts(this.#heads(), party, at)));
@@ -343,8 +350,10 @@ export class Holder extends Owner {
   close(party, place) {
     u8(party, 'party');
     u8(place, 'place');
-    const reply = this.#reply((calls, at) =>
-      calls.rq_close_parts(this.#letters(), this.#rows(), this.#numbers(), this.#heads(), party, place, at));
+    const reply = this.#reply((calls, at) => {
+      const word = calls.rq_prepare_parts(this.#letters(), this.#rows(), this.#numbers(), this.#heads(), party, place, at);
+      calls.rq_commit_parts(this.#heads(), party, place, word);
+    });
     return reply.number !== 0 ? refused(reply) : { word: WORDS[reply.word], anchor: cellOf(reply), edgeCount: reply.place };
   }
 
@@ -431,6 +440,14 @@ export class Pile extends Owner {
 
   check() {
     const reply = this.#reply((calls, at) => calls.rq_pile_check_parts(this.#rows(), this.#state(), at));
+    return reply.number !== 0 ? { passed: false, refusal: refusalOf(reply) } : { passed: true };
+  }
+
+  /** Some sections of a check: undefined while it goes on, else the answer of the whole check. */
+  checkStep(sections) {
+    u16(sections, 'sections');
+    const reply = this.#reply((calls, at) => calls.rq_pile_check_step_parts(this.#rows(), this.#state(), sections, at));
+    if (WORDS[reply.word] === 'more') return undefined;
     return reply.number !== 0 ? { passed: false, refusal: refusalOf(reply) } : { passed: true };
   }
 

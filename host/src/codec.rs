@@ -22,6 +22,7 @@ pub const FIRST_WITHIN: u16 = 12;
 pub const SECOND_WITHIN: u16 = 13;
 pub const NO_COMMON: u16 = 14;
 pub const CROSSING: u16 = 15;
+pub const MORE: u16 = 16;
 
 /// A reply, with a name for each of its numbers, in their order (contract 4.1). A field that the reply does not name is 0. In C it is
 /// `rq_reply`.
@@ -30,7 +31,7 @@ pub const CROSSING: u16 = 15;
 pub struct Fields {
     /// 0, or the refusal's number.
     pub number: u16,
-    /// [`NO_WORD`] to [`CLOSE`]; of a comparison, [`EQUAL`] to [`CROSSING`].
+    /// [`NO_WORD`] to [`CLOSE`]; of a comparison, [`EQUAL`] to [`CROSSING`]; of a pile's check in steps, [`MORE`].
     pub word: u16,
     pub place: u16,
     pub piece: u16,

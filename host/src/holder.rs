@@ -124,6 +124,16 @@ impl Holder {
         Refusal::check(&reply)
     }
 
+    /// A party's draft: where it starts and how many letters it has.
+    #[inline]
+    pub fn draft(&self, party: u8) -> Result<(Corner, u16), Refusal> {
+        let mut reply = [0; REPLY];
+        self.memory.draft(party, &mut reply);
+        Refusal::check(&reply)?;
+        let fields = Fields::from(reply);
+        Ok((Corner::new(fields.col, fields.row), fields.place))
+    }
+
     /// Discards the draft: the drop of contract 7.5.
     #[inline]
     pub fn drop_draft(&mut self, party: u8) -> Result<(), Refusal> {

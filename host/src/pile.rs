@@ -1,4 +1,4 @@
-use crate::codec::{Fields, INSIDE};
+use crate::codec::{Fields, INSIDE, MORE};
 use crate::limits::REPLY;
 use crate::raw::PileMemory;
 use crate::{Cell, Outline, Refusal, Taken};
@@ -32,6 +32,8 @@ pub enum PileCall {
 /// assert_eq!(pile.check(), Err(Refusal::Section { kind: SectionKind::Column, at: 9 }));
 /// assert_eq!(pile.query(1, Cell::new(9, 1)), Err(Refusal::NotPassed));
 /// pile.set(1, &cell_at(1))?;
+/// assert_eq!(pile.check_step(100), None);
+/// assert_eq!(pile.check_step(410), Some(Ok(())));
 /// pile.check()?;
 /// assert!(pile.query(1, Cell::new(9, 1))?);
 /// pile.empty(2)?;
@@ -83,6 +85,15 @@ impl Pile {
         let mut reply = [0; REPLY];
         self.memory.check(&mut reply);
         Refusal::check_pile(&reply)
+    }
+
+    /// Some sections of a check, so that something else can be done in between: none while it goes on, else what the whole check
+    /// answers. A set or an empty begins it anew.
+    pub fn check_step(&mut self, sections: u16) -> Option<Result<(), Refusal>> {
+        let mut reply = [0; REPLY];
+        self.memory.check_step(sections, &mut reply);
+        let [_, word, ..] = reply;
+        (word != MORE).then(|| Refusal::check_pile(&reply))
     }
 
     /// Whether the outline of a layer encloses the cell. Only a pile that has passed answers.

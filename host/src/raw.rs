@@ -15,7 +15,10 @@ use crate::limits::{LAYERS, LONGEST, MOST_NUMBERS, PARTIES, PLACES, REPLY, SIDE}
 pub type Reply = [u16; REPLY];
 
 const DRAFTS: usize = PARTIES as usize;
-const WORKS: usize = PARTIES as usize * PLACES as usize;
+const SPOTS: usize = PARTIES as usize * PLACES as usize;
+
+/// The slots for outlines: for each party one more than it has places, so that one is free.
+const SLOTS: usize = PARTIES as usize * (PLACES as usize + 1);
 
 /// The bytes of an outline's rows: of each row the first enclosed column, and then of each row the column after the last.
 const SPANS: usize = 2 * SIDE as usize;
@@ -23,14 +26,14 @@ const SPANS: usize = 2 * SIDE as usize;
 /// The letters of all drafts.
 const LETTERS: usize = DRAFTS * LONGEST;
 
-/// The rows of all outlines at work.
-const ROWS: usize = WORKS * SPANS;
+/// The rows of the outlines in all slots.
+const ROWS: usize = SLOTS * SPANS;
 
 /// The numbers of their edges.
-const NUMBERS: usize = WORKS * MOST_NUMBERS;
+const NUMBERS: usize = SLOTS * MOST_NUMBERS;
 
-/// Four numbers for each draft and for each outline at work.
-const HEADS: usize = 4 * (DRAFTS + WORKS);
+/// Four numbers for each draft, a word for each place, and three numbers for each slot.
+const HEADS: usize = 4 * DRAFTS + SPOTS + 3 * SLOTS;
 
 /// The rows of all layers of a pile.
 const LAYER_ROWS: usize = LAYERS as usize * SPANS;
@@ -102,7 +105,7 @@ mod library {
 
         pub safe fn rq_clear_parts(heads: &mut [u16; HEADS], party: u8, place: u8, reply: &mut Reply);
 
-        pub safe fn rq_close_parts(
+        pub safe fn rq_prepare_parts(
             letters: &[u8; LETTERS],
             rows: &mut [u8; ROWS],
             numbers: &mut [i16; NUMBERS],
@@ -110,7 +113,11 @@ mod library {
             party: u8,
             place: u8,
             reply: &mut Reply,
-        );
+        ) -> u16;
+
+        pub safe fn rq_commit_parts(heads: &mut [u16; HEADS], party: u8, place: u8, word: u16);
+
+        pub safe fn rq_draft_parts(heads: &[u16; HEADS], party: u8, reply: &mut Reply);
 
         pub safe fn rq_query_parts(
             rows: &[u8; ROWS],
@@ -154,11 +161,11 @@ mod library {
             reply: &mut Reply,
         ) -> bool;
 
-        pub safe fn rq_pile_fresh_parts(rows: &mut [u8; LAYER_ROWS], state: &mut [u8; 1]);
+        pub safe fn rq_pile_fresh_parts(rows: &mut [u8; LAYER_ROWS], state: &mut [u16; 2]);
 
         pub fn rq_pile_set_parts(
             rows: &mut [u8; LAYER_ROWS],
-            state: &mut [u8; 1],
+            state: &mut [u16; 2],
             layer: u8,
             col: u16,
             row: u16,
@@ -167,13 +174,20 @@ mod library {
             reply: &mut Reply,
         );
 
-        pub safe fn rq_pile_empty_parts(rows: &mut [u8; LAYER_ROWS], state: &mut [u8; 1], layer: u8, reply: &mut Reply);
+        pub safe fn rq_pile_empty_parts(rows: &mut [u8; LAYER_ROWS], state: &mut [u16; 2], layer: u8, reply: &mut Reply);
 
-        pub safe fn rq_pile_check_parts(rows: &[u8; LAYER_ROWS], state: &mut [u8; 1], reply: &mut Reply);
+        pub safe fn rq_pile_check_parts(rows: &[u8; LAYER_ROWS], state: &mut [u16; 2], reply: &mut Reply);
+
+        pub safe fn rq_pile_check_step_parts(
+            rows: &[u8; LAYER_ROWS],
+            state: &mut [u16; 2],
+            sections: u16,
+            reply: &mut Reply,
+        );
 
         pub safe fn rq_pile_query_parts(
             rows: &[u8; LAYER_ROWS],
-            state: &[u8; 1],
+            state: &[u16; 2],
             layer: u8,
             col: u16,
             row: u16,
@@ -242,17 +256,18 @@ pub fn replay(script: &[u8], replies: &mut [u16]) -> usize {
     unsafe { library::rq_replay_numbers(script.as_ptr(), count(script), replies.as_mut_ptr(), count(replies)) as usize }
 }
 
-/// The memory of a holder, 8,584 bytes without padding.
+/// The memory of a holder, 10,416 bytes without padding.
 #[derive(Clone, PartialEq, Eq)]
 #[repr(C)]
 pub struct HolderMemory {
     /// The letters of the two drafts, 612 each.
     pub letters: [u8; LETTERS],
-    /// The rows of the eight outlines at work, 510 bytes each: 255 first columns, and 255 columns after the last.
+    /// The rows of the outlines in ten slots, 510 bytes each: 255 first columns, and 255 columns after the last.
     pub rows: [u8; ROWS],
     /// The numbers of their edges, 200 each.
     pub numbers: [i16; NUMBERS],
-    /// Four numbers for each draft and then for each outline at work: whether there is one, a column, a row and a count.
+    /// Of each draft whether there is one, its start and its count; the word of each place, which names a slot; of each slot the anchor
+    /// and the count of edges.
     pub heads: [u16; HEADS],
 }
 
@@ -301,7 +316,27 @@ impl HolderMemory {
     /// Tests the draft and ends it. If it is taken, it replaces what is at work at the place.
     #[inline]
     pub fn close(&mut self, party: u8, place: u8, reply: &mut Reply) {
-        library::rq_close_parts(&self.letters, &mut self.rows, &mut self.numbers, &mut self.heads, party, place, reply);
+        let word = self.prepare(party, place, reply);
+        self.commit(party, place, word);
+    }
+
+    /// The first half of a close: replies, ends the draft, and fills a slot that no place names. Returns the word for the second half.
+    #[inline]
+    pub fn prepare(&mut self, party: u8, place: u8, reply: &mut Reply) -> u16 {
+        let HolderMemory { letters, rows, numbers, heads } = self;
+        library::rq_prepare_parts(letters, rows, numbers, heads, party, place, reply)
+    }
+
+    /// The second half of a close: puts the slot that the word names to work at the place. A word of 0 does nothing.
+    #[inline]
+    pub fn commit(&mut self, party: u8, place: u8, word: u16) {
+        library::rq_commit_parts(&mut self.heads, party, place, word);
+    }
+
+    /// Tells a party's draft: its start and its count of letters.
+    #[inline]
+    pub fn draft(&self, party: u8, reply: &mut Reply) {
+        library::rq_draft_parts(&self.heads, party, reply);
     }
 
     /// Says whether what is at work at a place encloses a cell.
@@ -340,25 +375,29 @@ impl HolderMemory {
 /// The heads alone, which say what there is.
 impl fmt::Debug for HolderMemory {
     fn fmt(&self, f: &mut fmt::Formatter<'_>) -> fmt::Result {
-        let heads: Vec<&[u16]> = self.heads.chunks_exact(4).collect();
-        f.debug_struct("HolderMemory").field("heads", &heads).finish_non_exhaustive()
+        let (drafts, rest) = self.heads.split_at(4 * DRAFTS);
+        let (words, slots) = rest.split_at(SPOTS);
+        let drafts: Vec<&[u16]> = drafts.chunks_exact(4).collect();
+        let slots: Vec<&[u16]> = slots.chunks_exact(3).collect();
+        let mut told = f.debug_struct("HolderMemory");
+        told.field("drafts", &drafts).field("words", &words).field("slots", &slots).finish_non_exhaustive()
     }
 }
 
-/// The memory of a pile, 8,161 bytes without padding.
+/// The memory of a pile, 8,164 bytes without padding.
 #[derive(Clone, PartialEq, Eq)]
 #[repr(C)]
 pub struct PileMemory {
     /// The rows of the sixteen layers, as those of a holder.
     pub rows: [u8; LAYER_ROWS],
-    /// Not zero where the pile has passed.
-    pub state: [u8; 1],
+    /// 23205 where the pile has passed, any other number where not; and how far a check in steps has come.
+    pub state: [u16; 2],
 }
 
 impl PileMemory {
     /// Memory in which every byte is this one. With zeros it is a fresh pile.
     pub const fn filled(byte: u8) -> Self {
-        PileMemory { rows: [byte; LAYER_ROWS], state: [byte] }
+        PileMemory { rows: [byte; LAYER_ROWS], state: [u16::from_ne_bytes([byte; 2]); 2] }
     }
 
     /// Makes it a fresh pile, whatever it held.
@@ -387,6 +426,12 @@ impl PileMemory {
         library::rq_pile_check_parts(&self.rows, &mut self.state, reply);
     }
 
+    /// Some sections of a check: the word [`MORE`](crate::codec::MORE) while it goes on, else the reply of the whole check.
+    #[inline]
+    pub fn check_step(&mut self, sections: u16, reply: &mut Reply) {
+        library::rq_pile_check_step_parts(&self.rows, &mut self.state, sections, reply);
+    }
+
     /// Says whether a layer encloses a cell.
     #[inline]
     pub fn query(&self, layer: u8, col: u16, row: u16, reply: &mut Reply) {
@@ -407,5 +452,5 @@ impl fmt::Debug for PileMemory {
 }
 
 // No padding, and the sizes that include/robequarry.h states.
-const _: () = assert!(size_of::<HolderMemory>() == 8_584 && align_of::<HolderMemory>() == 2);
-const _: () = assert!(size_of::<PileMemory>() == 8_161 && align_of::<PileMemory>() == 1);
+const _: () = assert!(size_of::<HolderMemory>() == 10_416 && align_of::<HolderMemory>() == 2);
+const _: () = assert!(size_of::<PileMemory>() == 8_164 && align_of::<PileMemory>() == 2);

@@ -92,6 +92,7 @@ fn facts() -> Vec<(&'static str, usize)> {
     let call = |action: Action| usize::from(action.by(0).bytes()[0]);
     let refused = |refusal: Refusal| usize::from(refusal.number());
     let (place, cell) = (0, Cell::new(0, 0));
+    let (holder, pile) = (HolderMemory::filled(0), PileMemory::filled(0));
     vec![
         ("RQ_SIDE", SIDE.into()),
         ("RQ_LETTERS", LONGEST),
@@ -104,6 +105,13 @@ fn facts() -> Vec<(&'static str, usize)> {
         ("RQ_LAYERS", LAYERS.into()),
         ("RQ_CALL_BYTES", CALL),
         ("RQ_REPLY_NUMBERS", REPLY),
+        ("RQ_SLOTS", usize::from(PARTIES) * (usize::from(PLACES) + 1)),
+        ("RQ_HOLDER_LETTERS", holder.letters.len()),
+        ("RQ_HOLDER_ROWS", holder.rows.len()),
+        ("RQ_HOLDER_NUMBERS", holder.numbers.len()),
+        ("RQ_HOLDER_HEADS", holder.heads.len()),
+        ("RQ_PILE_ROWS", pile.rows.len()),
+        ("RQ_PILE_STATE", pile.state.len()),
         ("sizeof(rq_reply)", 2 * REPLY),
         ("sizeof(rq_holder)", size_of::<HolderMemory>()),
         ("sizeof(rq_pile)", size_of::<PileMemory>()),
@@ -148,6 +156,7 @@ fn facts() -> Vec<(&'static str, usize)> {
         ("RQ_WORD_SECOND_WITHIN", codec::SECOND_WITHIN.into()),
         ("RQ_WORD_NO_COMMON", codec::NO_COMMON.into()),
         ("RQ_WORD_CROSSING", codec::CROSSING.into()),
+        ("RQ_WORD_MORE", codec::MORE.into()),
         ("RQ_CALL_BEGIN", call(Action::Begin(Corner::new(0, 0)))),
         ("RQ_CALL_ADD", call(Action::Add(0))),
         ("RQ_CALL_DROP", call(Action::Drop)),
@@ -161,7 +170,7 @@ fn facts() -> Vec<(&'static str, usize)> {
 }
 
 /// Every name of the header is one of the facts, which the compiler holds to the header: for 64 bits and, where it can, for 32. A holder has at
-/// most 8,600 bytes and a pile at most 8,200.
+/// most 10,500 bytes and a pile at most 8,200.
 #[test]
 fn names_and_sizes() {
     let header = fs::read_to_string(host().join("../include/robequarry.h")).expect("it is there");
@@ -170,7 +179,7 @@ fn names_and_sizes() {
     for (name, value) in facts() {
         fact(format!("{name} == {value}"));
     }
-    fact("sizeof(rq_holder) <= 8600 && sizeof(rq_pile) <= 8200".to_string());
+    fact("sizeof(rq_holder) <= 10500 && sizeof(rq_pile) <= 8200".to_string());
     let named = |line: &&str| line.starts_with("    RQ_") && line.contains(" = ");
     for line in header.lines().filter(named) {
         let name = line.split_whitespace().next().expect("it begins with a name");

@@ -1,5 +1,6 @@
 //! The safe interface's own part: lists as types, the memory of holders and piles, the refusals' words.
 
+use robequarry::codec::{INSIDE, TAKEN};
 use robequarry::limits::{CALL, LAST_CORNER, LAST_REFUSAL, LAYERS, LONGEST, LONGEST_LIST, PARTIES, PLACES, REPLY};
 use robequarry::raw::{self, HolderMemory, PileMemory};
 use robequarry::{
@@ -67,6 +68,31 @@ fn fresh_memory() {
     assert_eq!((Holder::new(), Pile::new()), (Holder::default(), Pile::default()));
 }
 
+/// A draft is told, and a close is its two halves.
+#[test]
+fn drafts_and_halves() {
+    let mut holder = Holder::new();
+    assert_eq!(holder.draft(KNEE), Err(Refusal::NoDraft));
+    assert_eq!(holder.draft(2), Err(Refusal::Party));
+    holder.begin(KNEE, Corner::new(5, 6)).unwrap();
+    holder.add(KNEE, 1).unwrap();
+    assert_eq!(holder.draft(KNEE), Ok((Corner::new(5, 6), 1)));
+
+    let mut memory = HolderMemory::filled(0);
+    let mut reply = [0; REPLY];
+    memory.begin(KNEE, 5, 6, &mut reply);
+    for letter in [1, 0, 3, 2] {
+        memory.add(KNEE, letter, &mut reply);
+    }
+    let word = memory.prepare(KNEE, 2, &mut reply);
+    assert_eq!((reply[0], reply[1]), (0, TAKEN));
+    memory.query(KNEE, 2, 5, 6, &mut reply);
+    assert_eq!(reply[0], 12, "before the second half nothing is at work");
+    memory.commit(KNEE, 2, word);
+    memory.query(KNEE, 2, 5, 6, &mut reply);
+    assert_eq!((reply[0], reply[1]), (0, INSIDE));
+}
+
 /// Holders and piles are values: a copy goes its own way.
 #[test]
 fn copies_stand_apart() {
@@ -79,7 +105,7 @@ fn copies_stand_apart() {
     assert_eq!(holder.query(KNEE, 0, Cell::new(5, 5)), Ok(true));
     assert_eq!(copy.query(KNEE, 0, Cell::new(5, 5)), Err(Refusal::NothingAtWork));
     let shown = format!("{holder:?}");
-    assert!(shown.contains("[1, 5, 5, 2]") && shown.len() < 1_000, "{shown}");
+    assert!(shown.contains("[5, 5, 2]") && shown.len() < 1_000, "{shown}");
 
     let mut pile = Pile::new();
     pile.check().unwrap();

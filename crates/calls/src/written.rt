@@ -5,7 +5,9 @@ use chart::Fields;
 use chart::Point;
 use chart::refusals;
 use chart::reply;
+use chart::reply::NUMBERS;
 ghost use mathlib.Core.Path.{_≡_};
+ghost use Rattle.chart.specs.Fields.{numbersOf};
 ghost use Rattle.calls.specs.Replies.{pieceIn, pieceFields, replyFields};
 
 // The piece in a reply to a piece call. Any other reply has none.
@@ -58,5 +60,39 @@ pub fn of_reply(r: Reply) -> Fields
         Reply::DraftFull => reply::numbered(refusals::DRAFT_FULL),
         Reply::NoParty => reply::numbered(refusals::PARTY),
         Reply::NoPlace => reply::numbered(refusals::PLACE),
+    }
+}
+
+// Writes any reply.
+pub fn put(r: Reply, numbers: &mut [u16; NUMBERS])
+    ensures { λ _. ⌜ now (numbers .exit) ≡ numbersOf (replyFields r) ⌝ }
+{
+    reply::put(of_reply(r), numbers);
+}
+
+// Writes a reply whose commonest answers have no fields. Those are few, so that a compiler writes them where they are found.
+pub fn put_word(r: Reply, numbers: &mut [u16; NUMBERS])
+    ensures { λ _. ⌜ now (numbers .exit) ≡ numbersOf (replyFields r) ⌝ }
+{
+    match r {
+        Reply::Done => reply::put(reply::worded(reply::NO_WORD), numbers),
+        Reply::Inside => reply::put(reply::worded(reply::INSIDE), numbers),
+        Reply::Outside => reply::put(reply::worded(reply::OUTSIDE), numbers),
+        _ => put(r, numbers),
+    }
+}
+
+// Writes the reply of a row, whose commonest answer is its columns.
+pub fn put_columns(r: Reply, numbers: &mut [u16; NUMBERS])
+    ensures { λ _. ⌜ now (numbers .exit) ≡ numbersOf (replyFields r) ⌝ }
+{
+    if let Reply::Columns { first, last } = r {
+        let ends = Point {
+            col: first,
+            row: last,
+        };
+        reply::put(reply::accepted(reply::COLUMNS, 0, ends), numbers);
+    } else {
+        put(r, numbers);
     }
 }

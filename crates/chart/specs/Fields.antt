@@ -19,7 +19,7 @@ use Rattle.chart.specs.declared.Nesting.the-variants.{Equal, FirstWithin
 use Rattle.chart.specs.declared.Comparison.{Comparison}
 use Rattle.chart.specs.declared.Comparison.the-variants.{Found, Refused as TurnedBack}
 
--- The words of a reply (contract 4.3): of a test, a query and a comparison, and of a holder's calls
+-- The words of a reply (contract 4.3): of a test, a query and a comparison, and of a holder's and a pile's calls
 abbrev pub no-word : ℕ
 no-word = 0
 
@@ -67,6 +67,9 @@ no-common = 14
 
 abbrev pub crossing : ℕ
 crossing = 15
+
+abbrev pub more : ℕ
+more = 16
 
 -- A reply with a number only; with a number and a place
 abbrev pub numbered : ℕ → Fields

@@ -12,7 +12,7 @@ ghost use lib.ListN.{length};
 ghost use lib.Dec.{leb};
 ghost use Rattle.chart.specs.Fields.{numbered as numberedOf, placed as placedOf, worded as wordedOf, accepted as acceptedOf};
 ghost use Rattle.chart.specs.Fields.{refusalFields, verdictFields, positionFields, handing as handingOf, nestingFields};
-ghost use Rattle.chart.specs.Fields.{comparisonFields, replyWidth, replyAfter};
+ghost use Rattle.chart.specs.Fields.{comparisonFields, replyWidth, replyAfter, numbersOf};
 
 // The count of numbers in a reply.
 pub const NUMBERS: usize = 7;
@@ -49,6 +49,8 @@ pub const SECOND_WITHIN: u16 = 13;
 pub const NO_COMMON: u16 = 14;
 
 pub const CROSSING: u16 = 15;
+
+pub const MORE: u16 = 16;
 
 // A reply with a number only.
 pub fn numbered(number: u16) -> Fields
@@ -205,4 +207,11 @@ pub fn write(f: Fields, list: &mut [u16]) -> bool
     list[5] = f.col;
     list[6] = f.row;
     true
+}
+
+// Writes a reply's seven numbers to an array of as many.
+pub fn put(f: Fields, reply: &mut [u16; NUMBERS])
+    ensures { λ _. ⌜ now (reply .exit) ≡ numbersOf f ⌝ }
+{
+    write(f, &mut reply[..]);
 }

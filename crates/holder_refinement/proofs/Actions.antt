@@ -18,14 +18,10 @@ use Rattle.calls.specs.declared.Question.{Question}
 use Rattle.calls.specs.declared.Reply.{Reply}
 use Rattle.calls.specs.declared.Reply.the-variants.{Done, NoDraft, NoPlace}
 use Rattle.holder_model.specs.Book.{PartyModel, putDraft, putWork, OnDraft, OnParty, workAfter, closes, asks, drafting, closing, acts}
-use Rattle.draft.specs.declared.Draft.{Draft}
-use Rattle.draft.specs.declared.Drafted.{Drafted}
-use Rattle.draft.specs.Draft.{outlineOf, endOf}
-use Rattle.work.specs.declared.Work.{Work}
-use Rattle.work.specs.Work.{removed, answered}
-use Rattle.slots.specs.declared.Acted.{Acted}
-use Rattle.slots.specs.Slots.{acted, redrafted, clearOf, closedWork, closedBy, closeOf, askOf, actedOf}
-use Rattle.holder.specs.Holder.{keptPlace, reachedBy}
+use Rattle.holder_records.specs.Draft.{Draft, Drafted, outlineOf, endOf}
+use Rattle.holder_records.specs.Work.{Work, removed, answered}
+use Rattle.holder_records.specs.Acts.{Acted, acted, redrafted, clearOf, closedWork, closedBy, closeOf, askOf, actedOf, keptPlace}
+use Rattle.holder_records.specs.Acts.{reachedBy}
 use Rattle.holder_refinement.proofs.Drafts.{IsDraft, AgreesDraft, ended-stands, begin-agrees, add-agrees, drop-agrees}
 use Rattle.holder_refinement.proofs.Works.{IsWork, numbersOf, taken-working, removed-stands, closed-agrees, answered-asked}
 

@@ -6,7 +6,7 @@ use mathlib.Core.Path.{_≡_, refl, sym, ap, _∙_}
 use mathlib.Core.Bool.{Bool, true, false, cond, true≢false}
 use mathlib.Core.Option.{Option, none, some}
 use mathlib.Core.List.{[], _∷_, _++_}
-use lib.ListN.{length, length-take, length-set, length-replicate}
+use lib.ListN.{length, length-take, length-set}
 use lib.Seq.{take-suc-set}
 use lib.Dec.{leb, ltb}
 use borrow.Author.Tests.{leb-false}
@@ -15,9 +15,7 @@ use Rattle.chart.specs.Outline.{Outline}
 use Rattle.chart.specs.declared.Point.{Point}
 use Rattle.lattice.specs.Refusals.{badStart}
 use Rattle.holder_model.specs.Book.{OnDraft, begins, adds, drops}
-use Rattle.draft.specs.declared.Draft.{Draft}
-use Rattle.draft.specs.declared.Drafted.{Drafted}
-use Rattle.draft.specs.Draft.{outlineOf, noDraft, endOf, begunAt, lengthened, beginOf, addOf, dropOf}
+use Rattle.holder_records.specs.Draft.{Draft, Drafted, outlineOf, endOf, begunAt, lengthened, beginOf, addOf, dropOf}
 
 -- ---- the relation
 
@@ -38,10 +36,6 @@ pub record IsDraft (d : Draft) (o : Option Outline) : Type 0 where
 -- The same reply, and the next draft represents the model's next draft
 abbrev pub AgreesDraft : Drafted → OnDraft → Type 0
 AgreesDraft a n = (a .reply ≡ n .reply) × IsDraft (a .draft) (n .draft)
-
-pub no-draft-stands : IsDraft noDraft none
-unfolding noDraft
-no-draft-stands = record { space = length-replicate {A = ℕ} longest 0; stands = refl }
 
 -- After the draft ends
 pub ended-stands : {d : Draft} {o : Option Outline} → IsDraft d o → IsDraft (endOf d) none

@@ -1,12 +1,14 @@
--- Drafts and works that represent the model's, their places in the holder, and a party's state; the list theorem and its consequences.
+-- Drafts and works that represent the model's, and what each call does to them; the list theorem; parties; what is kept at
+-- any instant.
 pub mod Drafts
 pub mod Works
-pub mod Slots
 pub mod Actions
+pub mod Sizes
+pub mod Keeps
+pub mod Turns
 pub mod ListTheorem
 pub mod Parties
-pub mod Queries
-pub mod Closes
-pub mod Rows
-pub mod Readings
-pub mod Pieces
+pub mod Drafting
+pub mod Unaltered
+pub mod Apart
+pub mod Numbers

@@ -5,7 +5,7 @@ use mathlib.Core.List.{List}
 use Rattle.calls.specs.declared.Call.{Call}
 use Rattle.holder_model.specs.Parties.{callsOf, repliesTo}
 use Rattle.holder_model.proofs.Parties.{replies-to}
-use Rattle.holder.specs.Run.{handled}
+use Rattle.holder_answers.specs.Run.{handled}
 use Rattle.holder_refinement.proofs.ListTheorem.{list-theorem}
 
 -- The replies to a party's calls are those that its calls alone would get

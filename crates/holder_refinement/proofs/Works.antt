@@ -35,9 +35,8 @@ use Rattle.calls.specs.declared.Reading.{Reading}
 use Rattle.calls.specs.declared.Reply.the-variants.{Taken as WasTaken, Same}
 use Rattle.holder_model.specs.Book.{sameBlock, equalsWork, closedReply as closedInBook, asked, askedRow, askedReading, askedPiece, asks}
 use Rattle.holder_model.proofs.SameBlock.{same-block-iff}
-use Rattle.work.specs.declared.Work.{Work}
-use Rattle.work.specs.Work.{listed, workEdges, noWork, replaced, removed, hasEdges, located, spanned, readAt, drawnAt, answered}
-use Rattle.slots.specs.Slots.{closedReply}
+use Rattle.holder_records.specs.Work.{Work, listed, workEdges, replaced, removed, hasEdges, located, spanned, readAt, drawnAt, answered}
+use Rattle.holder_records.specs.Acts.{closedReply}
 
 -- ---- the relation
 
@@ -53,10 +52,6 @@ pub record Working (w : Work) (o : Outline) : Type 0 where
 abbrev pub IsWork : Work → Option Outline → Type 0
 IsWork w none = w .taken ≡ false
 IsWork w (some o) = Working w o
-
-pub no-work-stands : IsWork noWork none
-unfolding noWork
-no-work-stands = refl
 
 pub removed-stands : (w : Work) → IsWork (removed w) none
 unfolding removed

@@ -1,2 +1,2 @@
--- What a work of the holder keeps of the outline at work.
-pub mod Rows
+-- What the plain book says of a draft.
+pub mod Told

@@ -1,1 +1,1 @@
-// The holder replies as the model does. Theorems, no code.
+// The holder in four arrays replies as the plain book does, at any instant. Theorems, no code.

@@ -12,7 +12,7 @@ ghost use lib.ListN.{length};
 ghost use Rattle.base.specs.Below.{first as firstOf};
 ghost use Rattle.chart.specs.Limits.{side};
 ghost use Rattle.windows.specs.Windows.{window};
-ghost use Rattle.pile_sections.specs.Sections.{inRow, columnSection, rowSection, dentedColumn, dentedRow};
+ghost use Rattle.pile_sections.specs.Sections.{inRow, columnSection, rowSection, columnClear, rowClear, dentedColumn, dentedRow};
 ghost use Rattle.live_sections.specs.Layers.{layerBytes, layersOf};
 ghost use Rattle.live_sections.specs.parts.Reach.{hasCell, reachOf, NoneBelow, NoneFrom, clearOf, Sized};
 
@@ -82,7 +82,7 @@ fn top(first: &[u8], past: &[u8], low: u8) -> u8
 }
 
 // The rows of each layer that have a cell: from the lowest up to but not including the row past the highest.
-fn reach(rows: &[u8]) -> Section
+pub fn reach(rows: &[u8]) -> Section
     requires { ⌜ length (now rows) ≡ layerBytes ⌝ }
     ensures { λ r. ⌜ r ≡ reachOf (layersOf (now (rows .entry))) ⌝ }
 {
@@ -245,4 +245,20 @@ pub fn dented_row(rows: &[u8]) -> u16
         r += 1;
     }
     SIDE
+}
+
+// Whether the section at a column is convex.
+pub fn clear_column(rows: &[u8], reach: Section, col: u8) -> bool
+    requires { ⌜ (length (now rows) ≡ layerBytes) × (reach ≡ reachOf (layersOf (now rows))) ⌝ }
+    ensures { λ b. ⌜ b ≡ columnClear (layersOf (now (rows .entry))) col ⌝ }
+{
+    is_clear(column(rows, reach, col))
+}
+
+// Whether the section at a row is convex.
+pub fn clear_row(rows: &[u8], r: usize) -> bool
+    requires { ⌜ (r < side) × (length (now rows) ≡ layerBytes) ⌝ }
+    ensures { λ b. ⌜ b ≡ rowClear (layersOf (now (rows .entry))) r ⌝ }
+{
+    is_clear(row(rows, r))
 }

@@ -1,3 +1,3 @@
--- The intervals of a section; a pile replies as the model does.
+-- What the layers' sections mean, and that the model determines its replies.
 pub mod Sections
-pub mod ListTheorem
+pub mod Once

@@ -18,8 +18,8 @@ use Rattle.polygon.specs.Loose.{badCell}
 use Rattle.sections.specs.Sections.{lastLayer}
 use Rattle.pile_replies.specs.declared.PileReply.{PileReply}
 use Rattle.pile_replies.specs.declared.PileReply.the-variants.{Done, Inside, Outside, Judged, Cell, NotPassed, Dented, Layer}
-use Rattle.pile.specs.Calls.{PileCall, Set, SetEmpty, Check, Query}
-use Rattle.pile.specs.Meaning.{AllConvex, CheckedBy}
+use Rattle.pile_model.specs.Calls.{PileCall, Set, SetEmpty, Check, Query}
+use Rattle.pile_sections.specs.Meaning.{AllConvex, CheckedBy}
 
 -- ---- the state
 
@@ -109,3 +109,9 @@ AllAnswer b [] [] = Unit {0}
 AllAnswer b [] (r ∷ rs) = ⊥
 AllAnswer b (c ∷ cs) [] = ⊥
 AllAnswer b (c ∷ cs) (r ∷ rs) = Answers b c r × AllAnswer (next b c r) cs rs
+
+-- The model after the calls with these replies
+unfoldable pub bookAfter : PileBook → List PileCall → List PileReply → PileBook
+bookAfter b [] rs = b
+bookAfter b (c ∷ cs) [] = b
+bookAfter b (c ∷ cs) (r ∷ rs) = bookAfter (next b c r) cs rs

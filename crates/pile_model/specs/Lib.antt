@@ -1,3 +1,3 @@
--- The model of a pile; a list of calls on a pile.
+-- The calls on a pile, and its model.
+pub mod Calls
 pub mod Book
-pub mod Run

@@ -1,3 +1,7 @@
--- Calls made one by one get the model's replies; what a check and a query after them say.
+-- Piles and the model in step; a check in steps; the theorems about lists of calls; what a refused call leaves; each moment of a call.
+pub mod InStep
+pub mod Steps
 pub mod Theorem
-pub mod Meaning
+pub mod Unaltered
+pub mod Instant
+pub mod Distance

@@ -1,1 +1,1 @@
-// Calls made one by one on a pile in the caller's arrays get the model's replies. Definitions and theorems, no code.
+// The theorems about lists of calls on a pile, as C makes them, and about each moment of a call. No code.

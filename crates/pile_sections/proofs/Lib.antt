@@ -1,3 +1,4 @@
--- Sections with equal lists, and what the test of a section says.
+-- Sections with equal lists, what the test of a section says, and what the first that fails it means.
 pub mod CutLaws
 pub mod RunLaws
+pub mod CheckLaws

@@ -3,7 +3,7 @@
 use Prim.Native.Nat.{ℕ, _+_, _-_, _*_, _≤_, _<_}
 use native.Mathlib.Omega.{arith}
 use mathlib.Core.Path.{_≡_, refl, sym, ap, ap₂, _∙_, subst}
-use mathlib.Core.Bool.{Bool, true, false, not, cond, _&&_, _||_, or-false, or-assoc, and-true, and-false, and-assoc}
+use mathlib.Core.Bool.{Bool, true, false, not, cond, _&&_, _||_, or-false, or-assoc, and-true, and-assoc}
 use mathlib.Core.List.{List, [], _∷_}
 use lib.ListN.{length, drop}
 use lib.IntN.{ℤ, pos, negsuc, _+ℤ_}
@@ -21,7 +21,6 @@ use Rattle.convexity.specs.Edges.{Edge, pairs}
 use Rattle.convexity.specs.Inside.{minℤ, maxℤ, colSteps, rowSteps}
 use Rattle.directions.specs.CornerHull.{chartNumber, onChart}
 use Rattle.edge_walk.specs.declared.Corner.{Corner}
-use Rattle.edge_walk.specs.parts.Walk.{stepped}
 use Rattle.edge_walk.proofs.Loop.{edgeAt, next-edge, no-edge}
 use Rattle.edge_walk.proofs.Sizes.{Between, After, after-start, after-step, after-fits}
 use Rattle.polygon.proofs.Integers.{min-at-most, max-at-least}

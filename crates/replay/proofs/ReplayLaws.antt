@@ -1,31 +1,26 @@
 -- A whole call whose reply fits writes its reply first, and the rest of the script is replayed on the next
 -- holder into the rest of the buffer. From a fresh holder the list theorem makes the replies the model's.
 use Prim.Native.Nat.{ℕ, zero, suc, _+_, _*_, _-_, _/_, _≤_, _<_, min}
-use native.Mathlib.Nat.{zero-add, add-zero, le-refl}
+use native.Mathlib.Nat.{zero-add, add-zero}
 use native.Mathlib.Omega.{arith}
 use mathlib.Core.Path.{_≡_, refl, sym, ap, _∙_}
 use mathlib.Core.Bool.{Bool, true, false, not, true≢false}
-use mathlib.Core.List.{List, [], _∷_, _++_, append-assoc, append-nil}
-use lib.IntN.{pos}
-use lib.ListN.{length, take, drop, replicate, length-replicate, length-append, length-drop, take-append-drop, drop-of-length-le}
-use lib.Seq.{take-all, drop-drop, take-at, drop-at, length-take-le}
-use borrow.Author.Tests.{le-leb, not-true, not-false}
-use Rattle.chart.specs.Fields.{numbersOf, replyAfter}
-use Rattle.chart.proofs.ReplyLaws.{replyAfter-room}
+use mathlib.Core.List.{List, [], _∷_, _++_, append-assoc}
+use lib.ListN.{length, take, drop, take-append-drop}
+use lib.Seq.{drop-drop, paste, length-paste, take-paste, drop-paste}
+use borrow.Author.Tests.{not-true, not-false}
+use Rattle.chart.specs.Fields.{numbersOf}
 use Rattle.calls.specs.declared.Call.{Call}
 use Rattle.calls.specs.declared.Reply.{Reply}
 use Rattle.calls.specs.Replies.{replyFields}
-use Rattle.holder.specs.Run.{handled, handledFrom}
-use Rattle.holder.specs.Holder.{freshHolder, answerOf}
-use Rattle.holder.specs.declared.Holder.{Holder}
-use Rattle.holder_refinement.proofs.ListTheorem.{list-theorem}
 use Rattle.wire.specs.declared.Decoded.{Decoded}
 use Rattle.wire.specs.declared.Decoded.the-variants.{Call as OfCall, Nothing}
-use Rattle.wire.specs.Wire.{callWidth, replyWidth, decoded, received}
-use Rattle.live_memory.specs.Layout.{letterBytes, rowBytes, edgeNumbers, headNumbers, Memory, memory, holderIn, Fits}
-use Rattle.live_memory.proofs.Zeros.{zeros, zeros-fresh}
-use Rattle.live.specs.Called.{isCall, nextHolder, replyBy, Called}
-use Rattle.live.proofs.CallLaws.{fits-by}
+use Rattle.wire.specs.Wire.{callWidth, replyWidth, decoded}
+use Rattle.holder_memory.specs.Layout.{Holder}
+use Rattle.holder_answers.specs.Arrays.{answerOf}
+use Rattle.holder_answers.specs.Run.{freshHolder, handled, handledFrom}
+use Rattle.holder_refinement.proofs.ListTheorem.{list-theorem}
+use Rattle.holder_bytes.specs.Responded.{isCall, nextHolder, replyBy, Responded}
 use Rattle.replay.specs.Script.{followed, callsFrom, callsRead, written, repliesAfter}
 
 -- ---- the buffer after a replay of n calls on a holder
@@ -113,7 +108,7 @@ pub record Underway (script buffer : List ℕ) (end : ℕ) (h : Holder) (done : 
   pub whole : repliesAfter script buffer
       ≡ take (replyWidth * done) list ++ listFrom h (end - done) (drop (callWidth * done) script) (drop (replyWidth * done) list)
 
-underway-first : (script buffer : List ℕ) (end : ℕ) (h : Holder) → end ≡ min (length script / callWidth) (length buffer / replyWidth)
+pub underway-first : (script buffer : List ℕ) (end : ℕ) (h : Holder) → end ≡ min (length script / callWidth) (length buffer / replyWidth)
     → h ≡ freshHolder → Underway script buffer end h 0 buffer
 unfolding callsRead
 underway-first script buffer end h most e =
@@ -125,18 +120,6 @@ underway-first script buffer end h most e =
       count = let z : end - 0 ≡ end = omega arith in rw (z, sym most) (sym (zero-add _));
       whole = let z : end - 0 ≡ end = omega arith in rw (z, e) (rw most (sym (listFrom-fresh script buffer)));
     }
-
--- The arrays of a fresh holder
-abbrev zeroLists : Memory
-zeroLists = memory (zeros letterBytes) (zeros rowBytes) (replicate edgeNumbers (pos 0)) (zeros headNumbers)
-
-pub underway-zeros : (script buffer : List ℕ) (end : ℕ) → end ≡ min (length script / callWidth) (length buffer / replyWidth)
-    → Fits zeroLists × Underway script buffer end (holderIn zeroLists) 0 buffer
-underway-zeros script buffer end most = (
-  fits-by zeroLists (length-replicate {A = ℕ} letterBytes 0) (length-replicate {A = ℕ} rowBytes 0) (length-replicate edgeNumbers (pos 0))
-      (length-replicate {A = ℕ} headNumbers 0),
-  underway-first script buffer end (holderIn zeroLists) most zeros-fresh,
-)
 
 module _ (script buffer : List ℕ) (end : ℕ) (h : Holder) (done : ℕ) (list : List ℕ) (st : Underway script buffer end h done list) where
   -- The rest of the script and of the buffer
@@ -165,40 +148,29 @@ module _ (script buffer : List ℕ) (end : ℕ) (h : Holder) (done : ℕ) (list 
   -- ---- one call
 
   module _ (i : done < end) where
-    room : replyWidth ≤ length l
-    room = rw (length-drop (replyWidth * done) list) (omega (arith, st .numbers))
-
-    -- The call is received: there is room for its reply
-    received-decoded : received (take callWidth s) (length l) ≡ decoded (take callWidth s)
-    unfolding received
-    received-decoded = rw (le-leb replyWidth (length l) room)
-
-    -- The buffer for the reply is the rest of the list
-    buffer-part : take (length list - replyWidth * done) l ≡ l
-    buffer-part = take-all (length list - replyWidth * done) l (rw (length-drop (replyWidth * done) list) (le-refl _))
+    -- There is room for the reply
+    pub room : replyWidth * done + replyWidth ≤ length list
+    room = omega (arith, st .numbers)
 
     -- For bytes that are a call
     module _ (x : Call) (e : decoded (take callWidth s) ≡ OfCall x) where
+      abbrev n : List ℕ
+      n = numbersOf (replyFields (answerOf h x .reply))
+
       abbrev next : List ℕ
-      next = take (replyWidth * done) list ++ replyAfter (replyFields (answerOf h x .reply)) l
+      next = paste list (replyWidth * done) n replyWidth
 
       underway-next : Underway script buffer end (answerOf h x .holder) (done + 1) next
       unfolding numbersOf
       underway-next =
-          let f = replyFields (answerOf h x .reply) in
-          let n = numbersOf f in
           let a = take (replyWidth * done) list in
-          let la : length a ≡ replyWidth * done = length-take-le (replyWidth * done) list (omega (arith, st .numbers)) in
-          let lf : length (a ++ n) ≡ replyWidth * (done + 1) = length-append a n ∙ omega arith in
-          let shape : next ≡ a ++ n ++ drop replyWidth l = ap (λ (t : List ℕ). a ++ t) (replyAfter-room f l room)
-          ∙ sym (append-assoc a n (drop replyWidth l)) in
-          let front : take (replyWidth * (done + 1)) next ≡ a ++ n = ap (take (replyWidth * (done + 1))) shape
-          ∙ take-at (a ++ n) (drop replyWidth l) (replyWidth * (done + 1)) lf in
-          let back : drop (replyWidth * (done + 1)) next ≡ drop replyWidth l = ap (drop (replyWidth * (done + 1))) shape
-          ∙ drop-at (a ++ n) (drop replyWidth l) (replyWidth * (done + 1)) lf in
-          let ll : length l ≡ length list - replyWidth * done = length-drop (replyWidth * done) list in
-          let ld : length (drop replyWidth l) ≡ length l - replyWidth = length-drop replyWidth l in
-          let size : length next ≡ length list = ap length shape ∙ length-append (a ++ n) (drop replyWidth l) ∙ omega (arith, room) in
+          let start : replyWidth * done ≤ length list = omega (arith, room) in
+          let more : replyWidth * (done + 1) ≡ replyWidth * done + replyWidth = omega arith in
+          let at = replyWidth * done in
+          let front : take (replyWidth * (done + 1)) next ≡ a ++ n = rw more (take-paste list at n replyWidth start (omega arith)) in
+          let back : drop (replyWidth * (done + 1)) next ≡ drop replyWidth l =
+          rw more (drop-paste list at n replyWidth start (omega arith) ∙ sym (drop-drop replyWidth at list)) in
+          let size : length next ≡ length list = length-paste list (replyWidth * done) n replyWidth room (omega arith) in
           let further : callWidth * done + callWidth ≡ callWidth * (done + 1) = omega arith in
           let left : drop callWidth s ≡ drop (callWidth * (done + 1)) script = drop-drop callWidth (callWidth * done) script
           ∙ ap (λ (t : ℕ). drop t script) further in
@@ -215,46 +187,28 @@ module _ (script buffer : List ℕ) (end : ℕ) (h : Holder) (done : ℕ) (list 
       carried : (g : Holder) (t : List ℕ) → g ≡ answerOf h x .holder → t ≡ next → Underway script buffer end g (done + 1) t
       carried g t p q = rw (p, q) underway-next
 
-    -- The holder's arrays, and the part of the buffer for the reply, after these bytes
-    module _ (m k : Memory) (b : Bool) (part : List ℕ) (n : ℕ) (sent : n ≡ callWidth) (is : holderIn m ≡ h) (f : Fits m)
-        (t : Called (Fits m) m k (received (take n s) (length (take (length list - replyWidth * done) l)))
-        (take (length list - replyWidth * done) l) part b) where
-      abbrev listed : List ℕ
-      listed = take (replyWidth * done) list ++ (part ++ drop (length list - replyWidth * done) l)
-
-      -- The part goes to the end of the buffer
-      listed-part : listed ≡ take (replyWidth * done) list ++ part
-      listed-part =
-          let all : length l ≤ length list - replyWidth * done = rw (length-drop (replyWidth * done) list) (le-refl _) in
-          rw (drop-of-length-le l all, append-nil part)
-
-      -- The call
+    -- The holder and the reply after these bytes
+    module _ (g : Holder) (b : Bool) (old reply : List ℕ) (n : ℕ) (sent : n ≡ callWidth)
+        (t : Responded h g (decoded (take n s)) old reply b) where
       abbrev d : Decoded
-      d = received (take n s) (length (take (length list - replyWidth * done) l))
+      d = decoded (take n s)
 
       d-is : d ≡ decoded (take callWidth s)
-      d-is = rw (buffer-part, sent, received-decoded)
+      d-is = rw sent
 
-      -- Not a call: the loop stops, and the buffer is unchanged
-      pub stops-at-none : not b ≡ true → Stopped × (listed ≡ list)
-      stops-at-none off =
-          let no : b ≡ false = not-true b off in
-          let e : decoded (take callWidth s) ≡ Nothing = sym d-is ∙ unanswered d (sym no ∙ t .done f) in (
-            calls-none h (end - done) s l e,
-            listed-part ∙ ap (λ (p : List ℕ). take (replyWidth * done) list ++ p) (t .unaltered no .1 ∙ buffer-part)
-                ∙ take-append-drop (replyWidth * done) list,
-          )
+      -- Not a call: the loop stops
+      pub stops-at-none : not b ≡ true → Stopped
+      stops-at-none off = calls-none h (end - done) s l (sym d-is ∙ unanswered d (sym (not-true b off) ∙ t .done))
 
       -- A call: the loop continues with the next holder
-      by-call : (x : Call) → d ≡ OfCall x → b ≡ true → Underway script buffer end (holderIn k) (done + 1) listed
+      by-call : (x : Call) → d ≡ OfCall x → Underway script buffer end g (done + 1) (paste list (replyWidth * done) reply replyWidth)
       unfolding nextHolder replyBy
-      by-call x q so =
-          let g : holderIn k ≡ answerOf h x .holder = t .holder so ∙ rw (q, is) in
-          let p : part ≡ replyAfter (replyFields (answerOf h x .reply)) l = t .replied so ∙ rw (q, is, buffer-part) in
-          carried x (sym d-is ∙ q) (holderIn k) listed g (listed-part ∙ ap (λ (p : List ℕ). take (replyWidth * done) list ++ p) p)
+      by-call x q =
+          let r : reply ≡ numbersOf (replyFields (answerOf h x .reply)) = t .replied ∙ rw q in
+          carried x (sym d-is ∙ q) g _ (t .holder ∙ rw q) (rw r)
 
-      pub underway-responded : not b ≡ false → Underway script buffer end (holderIn k) (done + 1) listed × Fits k
-      underway-responded on =
-          let so : b ≡ true = not-false b on in
-          let (x, q) = answered d (sym so ∙ t .done f) in
-          (by-call x q so, t .fits f)
+      pub underway-responded : not b ≡ false → (list′ : List ℕ) → list′ ≡ paste list (replyWidth * done) reply replyWidth
+          → Underway script buffer end g (done + 1) list′
+      underway-responded on list′ put =
+          let (x, q) = answered d (sym (not-false b on) ∙ t .done) in
+          rw put (by-call x q)

@@ -2,13 +2,12 @@
 // reply is an array of seven numbers: number, word (contract 4.3), place, piece, length, column, row. A holder
 // and a pile are passed as their arrays, to the functions of `on_holder` and `on_pile`.
 use border_model::written::of_traced;
-use chart::Fields;
 use chart::Point;
 use chart::reply::NUMBERS;
 use chart::reply::of_comparison;
 use chart::reply::of_position;
 use chart::reply::of_verdict;
-use chart::reply::write;
+use chart::reply::put;
 use completion_call::written::of_completed;
 use witness::written::of_witnessed;
 ghost use mathlib.Core.Path.{_≡_};
@@ -30,13 +29,6 @@ ghost use Rattle.replay.specs.Script.{callsRead, repliesAfter};
 
 pub mod on_holder;
 pub mod on_pile;
-
-// Writes a reply's seven numbers.
-fn put(f: Fields, reply: &mut [u16; NUMBERS])
-    ensures { λ _. ⌜ now (reply .exit) ≡ numbersOf f ⌝ }
-{
-    write(f, &mut reply[..]);
-}
 
 // Tests an outline: the start corner and the letters. If it is taken, its edges stand first in the buffer.
 #[no_mangle]

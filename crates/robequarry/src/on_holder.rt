@@ -3,23 +3,27 @@
 use calls::Reading;
 use chart::Point;
 use chart::reply::NUMBERS as REPLY;
-use live_memory::HEADS;
-use live_memory::LETTERS;
-use live_memory::NUMBERS;
-use live_memory::ROW_BYTES;
+use holder_memory::HEADS;
+use holder_memory::LETTERS;
+use holder_memory::NUMBERS;
+use holder_memory::ROW_BYTES;
 ghost use mathlib.Core.Path.{_≡_};
 ghost use mathlib.Core.List.{List};
 ghost use Prim.Native.Nat.{ℕ};
 ghost use lib.IntN.{ℤ};
-ghost use Rattle.chart.specs.Fields.{replyWidth};
+ghost use Rattle.chart.specs.Fields.{numbersOf};
 ghost use Rattle.chart.specs.Outline.{at};
 ghost use Rattle.calls.specs.Calls.{by};
+ghost use Rattle.calls.specs.Replies.{pieceIn};
 ghost use Rattle.calls.specs.declared.Action.{Action};
 ghost use Rattle.calls.specs.declared.Question.{Question};
-ghost use Rattle.holder.specs.Holder.{freshHolder};
-ghost use Rattle.wire.specs.Wire.{received};
-ghost use Rattle.live_memory.specs.Layout.{memory, holderIn, Fits};
-ghost use Rattle.live.specs.Called.{Called, Done, pieceDrawn};
+ghost use Rattle.drawing.specs.Points.{pointAfter};
+ghost use Rattle.wire.specs.Wire.{decoded};
+ghost use Rattle.holder_memory.specs.Layout.{arrays};
+ghost use Rattle.holder_answers.specs.Arrays.{answerOf, commitOf, draftOf};
+ghost use Rattle.holder_answers.specs.Run.{freshHolder};
+ghost use Rattle.holder_written.specs.Written.{Done, Prepared, draftFields};
+ghost use Rattle.holder_bytes.specs.Responded.{Responded};
 
 // Makes the arrays a fresh holder, whatever they held.
 #[no_mangle]
@@ -29,16 +33,9 @@ pub extern "C" fn rq_fresh_parts(
     numbers: &mut [i16; NUMBERS],
     heads: &mut [u16; HEADS],
 )
-    ensures holder { λ _. ⌜ holderIn (memory (now (letters .exit)) (now (rows .exit)) (now (numbers .exit)) (now (heads .exit)))
-        ≡ freshHolder ⌝ }
-    ensures fits { λ _. ⌜ Fits (memory (now (letters .exit)) (now (rows .exit)) (now (numbers .exit)) (now (heads .exit))) ⌝ }
+    ensures { λ _. ⌜ arrays (now (letters .exit)) (now (rows .exit)) (now (numbers .exit)) (now (heads .exit)) ≡ freshHolder ⌝ }
 {
-    live::fresh(
-        &mut letters[..],
-        &mut rows[..],
-        &mut numbers[..],
-        &mut heads[..],
-    );
+    holder_calls::clear_all(letters, rows, numbers, heads);
 }
 
 // Begin (contract 7.3).
@@ -51,10 +48,10 @@ pub extern "C" fn rq_begin_parts(
     reply: &mut [u16; REPLY],
 )
     ensures { λ _. ⌜ ((letters rows : List ℕ) (numbers : List ℤ)
-        → Done (memory letters rows numbers (now (heads .entry))) (memory letters rows numbers (now (heads .exit)))
+        → Done (arrays letters rows numbers (now (heads .entry))) (arrays letters rows numbers (now (heads .exit)))
         (by party (Action.Begin (at col row))) (now (reply .exit))) ⌝ }
 {
-    live_calls::begin(&mut heads[..], party, Point { col, row }, &mut reply[..]);
+    holder_written::begin(heads, party, Point { col, row }, reply);
 }
 
 // Add (contract 7.4).
@@ -67,26 +64,20 @@ pub extern "C" fn rq_add_parts(
     reply: &mut [u16; REPLY],
 )
     ensures { λ _. ⌜ ((rows : List ℕ) (numbers : List ℤ)
-        → Done (memory (now (letters .entry)) rows numbers (now (heads .entry)))
-        (memory (now (letters .exit)) rows numbers (now (heads .exit))) (by party (Action.Add letter)) (now (reply .exit))) ⌝ }
+        → Done (arrays (now (letters .entry)) rows numbers (now (heads .entry)))
+        (arrays (now (letters .exit)) rows numbers (now (heads .exit))) (by party (Action.Add letter)) (now (reply .exit))) ⌝ }
 {
-    live_calls::add(
-        &mut letters[..],
-        &mut heads[..],
-        party,
-        letter,
-        &mut reply[..],
-    );
+    holder_written::add(letters, heads, party, letter, reply);
 }
 
 // Drop (contract 7.5).
 #[no_mangle]
 pub extern "C" fn rq_drop_parts(heads: &mut [u16; HEADS], party: u8, reply: &mut [u16; REPLY])
     ensures { λ _. ⌜ ((letters rows : List ℕ) (numbers : List ℤ)
-        → Done (memory letters rows numbers (now (heads .entry))) (memory letters rows numbers (now (heads .exit))) (by party Action.Drop)
+        → Done (arrays letters rows numbers (now (heads .entry))) (arrays letters rows numbers (now (heads .exit))) (by party Action.Drop)
         (now (reply .exit))) ⌝ }
 {
-    live_calls::drop(&mut heads[..], party, &mut reply[..]);
+    holder_written::drop(heads, party, reply);
 }
 
 // Clear (contract 7.6).
@@ -98,15 +89,16 @@ pub extern "C" fn rq_clear_parts(
     reply: &mut [u16; REPLY],
 )
     ensures { λ _. ⌜ ((letters rows : List ℕ) (numbers : List ℤ)
-        → Done (memory letters rows numbers (now (heads .entry))) (memory letters rows numbers (now (heads .exit)))
+        → Done (arrays letters rows numbers (now (heads .entry))) (arrays letters rows numbers (now (heads .exit)))
         (by party (Action.Clear place)) (now (reply .exit))) ⌝ }
 {
-    live_calls::clear(&mut heads[..], party, place, &mut reply[..]);
+    holder_written::clear(heads, party, place, reply);
 }
 
-// Close (contract 7.7).
+// The first half of a close (contract 7.7): replies, ends the draft and fills a slot that no place names. Returns the word for the second
+// half, or 0 if the close is refused.
 #[no_mangle]
-pub extern "C" fn rq_close_parts(
+pub extern "C" fn rq_prepare_parts(
     letters: &[u8; LETTERS],
     rows: &mut [u8; ROW_BYTES],
     numbers: &mut [i16; NUMBERS],
@@ -114,27 +106,26 @@ pub extern "C" fn rq_close_parts(
     party: u8,
     place: u8,
     reply: &mut [u16; REPLY],
-)
-    ensures { λ _. ⌜ Done (memory (now (letters .entry)) (now (rows .entry)) (now (numbers .entry)) (now (heads .entry)))
-        (memory (now (letters .entry)) (now (rows .exit)) (now (numbers .exit)) (now (heads .exit))) (by party (Action.Close place))
-        (now (reply .exit)) ⌝ }
+) -> u16
+    ensures { λ w. ⌜ Prepared (arrays (now (letters .entry)) (now (rows .entry)) (now (numbers .entry)) (now (heads .entry)))
+        (arrays (now (letters .entry)) (now (rows .exit)) (now (numbers .exit)) (now (heads .exit))) party place w (now (reply .exit)) ⌝ }
 {
-    live_calls::close(
-        &letters[..],
-        &mut rows[..],
-        &mut numbers[..],
-        &mut heads[..],
-        party,
-        place,
-        &mut reply[..],
-    );
+    holder_written::prepare(letters, rows, numbers, heads, party, place, reply)
+}
+
+// The second half of a close: the place gets the word that the first half returned, in one store.
+#[no_mangle]
+pub extern "C" fn rq_commit_parts(heads: &mut [u16; HEADS], party: u8, place: u8, word: u16)
+    ensures { λ _. ⌜ now (heads .exit) ≡ commitOf (now (heads .entry)) party place word ⌝ }
+{
+    holder_closes::commit(heads, party, place, word);
 }
 
 // Query (contract 7.8).
 #[no_mangle]
-pub extern "C" fn rq_query_parts(
-    rows: &[u8; ROW_BYTES],
-    heads: &[u16; HEADS],
+pub extern "C" fn rq_query_parts<'a>(
+    rows: &'a [u8; ROW_BYTES],
+    heads: &'a [u16; HEADS],
     party: u8,
     place: u8,
     col: u16,
@@ -142,43 +133,36 @@ pub extern "C" fn rq_query_parts(
     reply: &mut [u16; REPLY],
 )
     ensures { λ _. ⌜ ((letters : List ℕ) (numbers : List ℤ)
-        → Done (memory letters (now (rows .entry)) numbers (now (heads .entry)))
-        (memory letters (now (rows .entry)) numbers (now (heads .entry))) (by party (Action.Ask place (Question.Cell (at col row))))
+        → Done (arrays letters (now (rows .entry)) numbers (now (heads .entry)))
+        (arrays letters (now (rows .entry)) numbers (now (heads .entry))) (by party (Action.Ask place (Question.Cell (at col row))))
         (now (reply .exit))) ⌝ }
 {
-    live_calls::query(
-        &rows[..],
-        &heads[..],
-        party,
-        place,
-        Point { col, row },
-        &mut reply[..],
-    );
+    holder_written::query(rows, heads, party, place, Point { col, row }, reply);
 }
 
 // Row (contract 7.9).
 #[no_mangle]
-pub extern "C" fn rq_row_parts(
-    rows: &[u8; ROW_BYTES],
-    heads: &[u16; HEADS],
+pub extern "C" fn rq_row_parts<'a>(
+    rows: &'a [u8; ROW_BYTES],
+    heads: &'a [u16; HEADS],
     party: u8,
     place: u8,
     row: u16,
     reply: &mut [u16; REPLY],
 )
     ensures { λ _. ⌜ ((letters : List ℕ) (numbers : List ℤ)
-        → Done (memory letters (now (rows .entry)) numbers (now (heads .entry)))
-        (memory letters (now (rows .entry)) numbers (now (heads .entry))) (by party (Action.Ask place (Question.Row row)))
+        → Done (arrays letters (now (rows .entry)) numbers (now (heads .entry)))
+        (arrays letters (now (rows .entry)) numbers (now (heads .entry))) (by party (Action.Ask place (Question.Row row)))
         (now (reply .exit))) ⌝ }
 {
-    live_calls::row(&rows[..], &heads[..], party, place, row, &mut reply[..]);
+    holder_written::row(rows, heads, party, place, row, reply);
 }
 
 // Reading (contract 7.10).
 #[no_mangle]
-pub extern "C" fn rq_reading_parts(
-    numbers: &[i16; NUMBERS],
-    heads: &[u16; HEADS],
+pub extern "C" fn rq_reading_parts<'a>(
+    numbers: &'a [i16; NUMBERS],
+    heads: &'a [u16; HEADS],
     party: u8,
     place: u8,
     angle: f32,
@@ -186,25 +170,18 @@ pub extern "C" fn rq_reading_parts(
     reply: &mut [u16; REPLY],
 )
     ensures { λ _. ⌜ ((letters rows : List ℕ)
-        → Done (memory letters rows (now (numbers .entry)) (now (heads .entry)))
-        (memory letters rows (now (numbers .entry)) (now (heads .entry)))
+        → Done (arrays letters rows (now (numbers .entry)) (now (heads .entry)))
+        (arrays letters rows (now (numbers .entry)) (now (heads .entry)))
         (by party (Action.Ask place (Question.Reading (record { angle = angle; load = load })))) (now (reply .exit))) ⌝ }
 {
-    live_calls::reading(
-        &numbers[..],
-        &heads[..],
-        party,
-        place,
-        Reading { angle, load },
-        &mut reply[..],
-    );
+    holder_written::reading(numbers, heads, party, place, Reading { angle, load }, reply);
 }
 
 // Piece (contract 7.11). Writes the point of a move or a line to `point`. Any other path command leaves it unchanged.
 #[no_mangle]
-pub extern "C" fn rq_piece_parts(
-    numbers: &[i16; NUMBERS],
-    heads: &[u16; HEADS],
+pub extern "C" fn rq_piece_parts<'a>(
+    numbers: &'a [i16; NUMBERS],
+    heads: &'a [u16; HEADS],
     party: u8,
     place: u8,
     position: u16,
@@ -212,22 +189,23 @@ pub extern "C" fn rq_piece_parts(
     reply: &mut [u16; REPLY],
 )
     ensures call { λ _. ⌜ ((letters rows : List ℕ)
-        → Done (memory letters rows (now (numbers .entry)) (now (heads .entry)))
-        (memory letters rows (now (numbers .entry)) (now (heads .entry))) (by party (Action.Ask place (Question.Piece position)))
+        → Done (arrays letters rows (now (numbers .entry)) (now (heads .entry)))
+        (arrays letters rows (now (numbers .entry)) (now (heads .entry))) (by party (Action.Ask place (Question.Piece position)))
         (now (reply .exit))) ⌝ }
     ensures point { λ _. ⌜ ((letters rows : List ℕ) → now (point .exit)
-        ≡ pieceDrawn (holderIn (memory letters rows (now (numbers .entry)) (now (heads .entry))))
-        (by party (Action.Ask place (Question.Piece position))) (now (point .entry))) ⌝ }
+        ≡ pointAfter (pieceIn (answerOf (arrays letters rows (now (numbers .entry)) (now (heads .entry)))
+        (by party (Action.Ask place (Question.Piece position))) .reply)) (now (point .entry))) ⌝ }
 {
-    live_calls::piece(
-        &numbers[..],
-        &heads[..],
-        party,
-        place,
-        position,
-        &mut point[..],
-        &mut reply[..],
-    );
+    holder_written::piece(numbers, heads, party, place, position, point, reply);
+}
+
+// What is drafted: 19, 13, or the count of letters in the third field and the start in the last two.
+#[no_mangle]
+pub extern "C" fn rq_draft_parts(heads: &[u16; HEADS], party: u8, reply: &mut [u16; REPLY])
+    ensures { λ _. ⌜ ((letters rows : List ℕ) (numbers : List ℤ) → now (reply .exit)
+        ≡ numbersOf (draftFields (draftOf (arrays letters rows numbers (now (heads .entry))) party))) ⌝ }
+{
+    holder_written::draft(heads, party, reply);
 }
 
 // One call of eleven bytes. If the bytes are not a call, returns false and changes nothing.
@@ -240,18 +218,9 @@ pub extern "C" fn rq_call_parts(
     call: &[u8],
     reply: &mut [u16; REPLY],
 ) -> bool
-    ensures { λ r. ⌜ Called (Fits (memory (now (letters .entry)) (now (rows .entry)) (now (numbers .entry)) (now (heads .entry))))
-        (memory (now (letters .entry)) (now (rows .entry)) (now (numbers .entry)) (now (heads .entry)))
-        (memory (now (letters .exit)) (now (rows .exit)) (now (numbers .exit)) (now (heads .exit)))
-        (received (now (call .entry)) replyWidth) (now (reply .entry)) (now (reply .exit)) r ⌝ }
-    ensures fits { λ _. ⌜ Fits (memory (now (letters .entry)) (now (rows .entry)) (now (numbers .entry)) (now (heads .entry))) ⌝ }
+    ensures { λ r. ⌜ Responded (arrays (now (letters .entry)) (now (rows .entry)) (now (numbers .entry)) (now (heads .entry)))
+        (arrays (now (letters .exit)) (now (rows .exit)) (now (numbers .exit)) (now (heads .exit))) (decoded (now (call .entry)))
+        (now (reply .entry)) (now (reply .exit)) r ⌝ }
 {
-    live_bytes::respond(
-        &mut letters[..],
-        &mut rows[..],
-        &mut numbers[..],
-        &mut heads[..],
-        call,
-        &mut reply[..],
-    )
+    holder_bytes::respond(letters, rows, numbers, heads, call, reply)
 }

@@ -2,100 +2,99 @@
 // each function here takes both. Their lengths are part of their types.
 use chart::Point;
 use chart::reply::NUMBERS as REPLY;
-use live_pile::ROW_BYTES;
-use live_pile::STATE_BYTES;
+use pile_calls::ROW_BYTES;
+use pile_calls::STATE_NUMBERS;
 ghost use mathlib.Core.Path.{_≡_};
 ghost use Rattle.chart.specs.Outline.{at, outline};
 ghost use Rattle.chart.specs.Fields.{fieldsOf};
 ghost use Rattle.verdict.specs.Named.{CellNamed};
-ghost use Rattle.pile.specs.Pile.{freshPile};
-ghost use Rattle.pile.specs.Calls.{Set, SetEmpty, Check, Query};
-ghost use Rattle.pile.specs.Meaning.{CheckedRuns, NoDent};
+ghost use Rattle.pile_sections.specs.Meaning.{CheckedRuns, NoDent};
+ghost use Rattle.pile_model.specs.Calls.{Set, SetEmpty, Check, Query};
 ghost use Rattle.live_sections.specs.Layers.{layersOf};
-ghost use Rattle.live_pile.specs.Layout.{memory, pileIn, Fits};
-ghost use Rattle.live_pile.specs.Called.{Done, CheckWritten};
+ghost use Rattle.pile_calls.specs.Arrays.{arrays, freshPile};
+ghost use Rattle.pile_written.specs.Written.{Done, StepsDone, CheckWritten};
 
 // Makes the arrays a fresh pile, whatever they held.
 #[no_mangle]
-pub extern "C" fn rq_pile_fresh_parts(rows: &mut [u8; ROW_BYTES], state: &mut [u8; STATE_BYTES])
-    ensures pile { λ _. ⌜ pileIn (memory (now (rows .exit)) (now (state .exit))) ≡ freshPile ⌝ }
-    ensures fits { λ _. ⌜ Fits (memory (now (rows .exit)) (now (state .exit))) ⌝ }
+pub extern "C" fn rq_pile_fresh_parts(rows: &mut [u8; ROW_BYTES], state: &mut [u16; STATE_NUMBERS])
+    ensures { λ _. ⌜ arrays (now (rows .exit)) (now (state .exit)) ≡ freshPile ⌝ }
 {
-    live_pile::fresh(&mut rows[..], &mut state[..]);
+    pile_calls::clear_all(rows, state);
 }
 
 // Sets a layer to an outline.
 #[no_mangle]
 pub extern "C" fn rq_pile_set_parts(
     rows: &mut [u8; ROW_BYTES],
-    state: &mut [u8; STATE_BYTES],
+    state: &mut [u16; STATE_NUMBERS],
     layer: u8,
     col: u16,
     row: u16,
     letters: &[u8],
     reply: &mut [u16; REPLY],
 )
-    ensures call { λ _. ⌜ Done (memory (now (rows .entry)) (now (state .entry))) (memory (now (rows .exit)) (now (state .exit)))
+    ensures call { λ _. ⌜ Done (arrays (now (rows .entry)) (now (state .entry))) (arrays (now (rows .exit)) (now (state .exit)))
         (Set layer (outline (at col row) (now (letters .entry)))) (now (reply .exit)) ⌝ }
     ensures cell { λ _. ⌜ CellNamed (outline (at col row) (now (letters .entry))) (fieldsOf (now (reply .exit))) ⌝ }
 {
-    live_pile::set(
-        &mut rows[..],
-        &mut state[..],
-        layer,
-        Point { col, row },
-        letters,
-        &mut reply[..],
-    );
+    pile_written::set(rows, state, layer, Point { col, row }, letters, reply);
 }
 
 // Sets a layer to empty.
 #[no_mangle]
 pub extern "C" fn rq_pile_empty_parts(
     rows: &mut [u8; ROW_BYTES],
-    state: &mut [u8; STATE_BYTES],
+    state: &mut [u16; STATE_NUMBERS],
     layer: u8,
     reply: &mut [u16; REPLY],
 )
-    ensures { λ _. ⌜ Done (memory (now (rows .entry)) (now (state .entry))) (memory (now (rows .exit)) (now (state .exit))) (SetEmpty layer)
-        (now (reply .exit)) ⌝ }
+    ensures { λ _. ⌜ Done (arrays (now (rows .entry)) (now (state .entry))) (arrays (now (rows .exit)) (now (state .exit)))
+        (SetEmpty layer) (now (reply .exit)) ⌝ }
 {
-    live_pile::set_empty(&mut rows[..], &mut state[..], layer, &mut reply[..]);
+    pile_written::set_empty(rows, state, layer, reply);
 }
 
 // Checks every section.
 #[no_mangle]
 pub extern "C" fn rq_pile_check_parts(
     rows: &[u8; ROW_BYTES],
-    state: &mut [u8; STATE_BYTES],
+    state: &mut [u16; STATE_NUMBERS],
     reply: &mut [u16; REPLY],
 )
-    ensures call { λ _. ⌜ Done (memory (now (rows .entry)) (now (state .entry))) (memory (now (rows .entry)) (now (state .exit))) Check
-        (now (reply .exit)) ⌝ }
+    ensures call { λ _. ⌜ Done (arrays (now (rows .entry)) (now (state .entry))) (arrays (now (rows .entry)) (now (state .exit)))
+        Check (now (reply .exit)) ⌝ }
     ensures meaning { λ _. ⌜ CheckWritten (CheckedRuns (layersOf (now (rows .entry)))) (NoDent (layersOf (now (rows .entry))))
-        (now (reply .entry)) (now (reply .exit)) ⌝ }
+        (now (reply .exit)) ⌝ }
 {
-    live_pile::check(&rows[..], &mut state[..], &mut reply[..]);
+    pile_written::check(rows, state, reply);
+}
+
+// Some sections of a check: "more" while it goes on, else the reply of the whole check. With none it replies "more" and does nothing.
+#[no_mangle]
+pub extern "C" fn rq_pile_check_step_parts(
+    rows: &[u8; ROW_BYTES],
+    state: &mut [u16; STATE_NUMBERS],
+    sections: u16,
+    reply: &mut [u16; REPLY],
+)
+    ensures { λ _. ⌜ StepsDone (arrays (now (rows .entry)) (now (state .entry))) (arrays (now (rows .entry)) (now (state .exit)))
+        sections (now (reply .exit)) ⌝ }
+{
+    pile_written::check_steps(rows, state, sections, reply);
 }
 
 // Whether a layer has a cell.
 #[no_mangle]
-pub extern "C" fn rq_pile_query_parts(
-    rows: &[u8; ROW_BYTES],
-    state: &[u8; STATE_BYTES],
+pub extern "C" fn rq_pile_query_parts<'a>(
+    rows: &'a [u8; ROW_BYTES],
+    state: &'a [u16; STATE_NUMBERS],
     layer: u8,
     col: u16,
     row: u16,
     reply: &mut [u16; REPLY],
 )
-    ensures { λ _. ⌜ Done (memory (now (rows .entry)) (now (state .entry))) (memory (now (rows .entry)) (now (state .entry)))
+    ensures { λ _. ⌜ Done (arrays (now (rows .entry)) (now (state .entry))) (arrays (now (rows .entry)) (now (state .entry)))
         (Query layer (at col row)) (now (reply .exit)) ⌝ }
 {
-    live_pile::query(
-        &rows[..],
-        &state[..],
-        layer,
-        Point { col, row },
-        &mut reply[..],
-    );
+    pile_written::query(rows, state, layer, Point { col, row }, reply);
 }

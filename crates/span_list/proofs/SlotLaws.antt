@@ -1,7 +1,7 @@
 -- The two halves of a slot are windows of the list, so a copy into both sets the slot and leaves every other slot unchanged.
 use Prim.Native.Nat.{ℕ, _+_, _-_, _*_, _≤_, _<_}
 use native.Mathlib.Omega.{arith}
-use mathlib.Core.Path.{_≡_, sym, ap, ap₂, _∙_}
+use mathlib.Core.Path.{_≡_, refl, sym, ap, ap₂, _∙_}
 use mathlib.Core.Bool.{_&&_}
 use mathlib.Core.Logic.{⊎-elim}
 use mathlib.Core.List.{List}
@@ -10,14 +10,16 @@ use lib.Seq.{getD-take, getD-drop, paste, length-paste}
 use lib.Dec.{leb, ltb}
 use borrow.Author.Tests.{le-leb, lt-leb, lt-ltb}
 use Rattle.chart.specs.Limits.{side}
+use Rattle.chart.specs.Outline.{Outline}
 use Rattle.rows.specs.parts.Rows.{rows as rowOf}
 use Rattle.spans.specs.declared.Spans.{Spans}
-use Rattle.spans.specs.Spans.{noSpans, inSpans, spanFrom, spanAt}
+use Rattle.spans.specs.Spans.{noSpans, spansOf, inSpans, spanFrom, spanAt}
+use Rattle.spans.proofs.Tables.{length-table}
 use Rattle.windows.specs.Windows.{window}
 use Rattle.windows.proofs.Slots.{window-paste, window-paste-before, window-paste-after, order}
 use Rattle.windows.proofs.Fills.{window-replicate}
 use Rattle.span_list.specs.declared.Ends.{Ends}
-use Rattle.span_list.specs.SpanList.{slotBytes, spansAt, SpansPut, endsAt}
+use Rattle.span_list.specs.SpanList.{slotBytes, spansAt, rowsPut, SpansPut, endsAt}
 
 -- ---- read
 
@@ -96,12 +98,32 @@ module _ (rows : List ℕ) (s : ℕ) (x : Spans) (room : slotBytes * s + slotByt
       → r₂ ≡ paste r₁ (slotBytes * s + side) (x .past) side → SpansPut rows r₂ s x
   copies-put r₁ e₁ r₂ e₂ = rw (e₂, e₁) halves-put
 
-pub zeros-put : (rows : List ℕ) (s : ℕ) → slotBytes * s + slotBytes ≤ length rows → (r₁ : List ℕ)
-    → r₁ ≡ paste rows (slotBytes * s) (replicate side 0) side
-    → (r₂ : List ℕ) → r₂ ≡ paste r₁ (slotBytes * s + side) (replicate side 0) side → SpansPut rows r₂ s noSpans
+-- The list that two copies leave
+pub halves-list : (rows : List ℕ) (s : ℕ) (x : Spans) (r₁ : List ℕ) → r₁ ≡ paste rows (slotBytes * s) (x .first) side
+    → (r₂ : List ℕ) → r₂ ≡ paste r₁ (slotBytes * s + side) (x .past) side → r₂ ≡ rowsPut rows s x
+halves-list rows s x r₁ e₁ r₂ e₂ = rw (e₂, e₁)
+
+pub zeros-list : (rows : List ℕ) (s : ℕ) (r₁ : List ℕ) → r₁ ≡ paste rows (slotBytes * s) (replicate side 0) side
+    → (r₂ : List ℕ) → r₂ ≡ paste r₁ (slotBytes * s + side) (replicate side 0) side → r₂ ≡ rowsPut rows s noSpans
 unfolding noSpans
-zeros-put rows s room r₁ e₁ r₂ e₂ =
-    copies-put rows s noSpans room (length-replicate {A = ℕ} side 0) (length-replicate {A = ℕ} side 0) r₁ e₁ r₂ e₂
+zeros-list rows s r₁ e₁ r₂ e₂ = rw (e₂, e₁)
+
+-- Spans have a number for each row in both lists: those of an outline do, and those of no cell
+pub record Whole (x : Spans) : Type 0 where
+  pub first : length (x .first) ≡ side
+  pub past : length (x .past) ≡ side
+
+pub outline-whole : (o : Outline) → Whole (spansOf o)
+unfolding spansOf
+outline-whole o = record { first = length-table _ 0 side; past = length-table _ 0 side }
+
+pub none-whole : Whole noSpans
+unfolding noSpans
+none-whole = record { first = length-replicate {A = ℕ} side 0; past = length-replicate {A = ℕ} side 0 }
+
+pub spans-put : (rows : List ℕ) (s : ℕ) (x : Spans) → slotBytes * s + slotBytes ≤ length rows → Whole x → (rows′ : List ℕ)
+    → rows′ ≡ rowsPut rows s x → SpansPut rows rows′ s x
+spans-put rows s x room w rows′ e = copies-put rows s x room (w .first) (w .past) _ refl rows′ e
 
 -- A list of zeros has no cell in any slot
 pub zeros-none : (s n : ℕ) → slotBytes * s + slotBytes ≤ n → spansAt (replicate n 0) s ≡ noSpans

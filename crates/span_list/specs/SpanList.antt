@@ -4,6 +4,7 @@ use Prim.Native.Nat.{ℕ, _+_, _*_}
 use mathlib.Core.Path.{_≡_}
 use mathlib.Core.List.{List}
 use lib.ListN.{length, getD}
+use lib.Seq.{paste}
 use Rattle.chart.specs.Limits.{side}
 use Rattle.spans.specs.declared.Spans.{Spans}
 use Rattle.windows.specs.Windows.{window}
@@ -18,6 +19,10 @@ spansFrom first past = record { first = first; past = past }
 
 unfoldable pub spansAt : List ℕ → ℕ → Spans
 spansAt rows s = record { first = window (slotBytes * s) side rows; past = window (slotBytes * s + side) side rows }
+
+-- The list after these spans are written to slot s
+abbrev pub rowsPut : List ℕ → ℕ → Spans → List ℕ
+rowsPut rows s x = paste (paste rows (slotBytes * s) (x .first) side) (slotBytes * s + side) (x .past) side
 
 -- The second list has these spans at slot s and otherwise equals the first
 pub record SpansPut (rows rows′ : List ℕ) (s : ℕ) (x : Spans) : Type 0 where

@@ -10,7 +10,7 @@ ghost use lib.Seq.{paste};
 ghost use Rattle.chart.specs.Limits.{side};
 ghost use Rattle.chart.specs.Outline.{outline};
 ghost use Rattle.spans.specs.Spans.{noSpans, spansOf, inSpans, spanAt};
-ghost use Rattle.span_list.specs.SpanList.{slotBytes, spansFrom, spansAt, SpansPut, endsAt};
+ghost use Rattle.span_list.specs.SpanList.{slotBytes, spansFrom, spansAt, rowsPut, endsAt};
 
 // How many bytes a slot has.
 pub const WIDTH: usize = 2 * ROWS;
@@ -18,7 +18,7 @@ pub const WIDTH: usize = 2 * ROWS;
 // Copies 255 bytes into a list, from an index on.
 fn put_rows(from: &[u8; ROWS], at: usize, rows: &mut [u8])
     requires { ⌜ at + side ≤ length (now rows) ⌝ }
-    ensures { λ _. ⌜ (now (rows .exit) ≡ paste (now (rows .entry)) at (now (from .entry)) side) × (length (now (from .entry)) ≡ side) ⌝ }
+    ensures { λ _. ⌜ now (rows .exit) ≡ paste (now (rows .entry)) at (now (from .entry)) side ⌝ }
 {
     let all = &from[..];
     let mut i = 0;
@@ -43,7 +43,7 @@ fn put_zeros(at: usize, rows: &mut [u8])
 // Writes these first columns and these columns past the last to the slot.
 fn put<'a>(rows: &mut [u8], slot: usize, first: &'a [u8; ROWS], past: &'a [u8; ROWS])
     requires { ⌜ slotBytes * slot + slotBytes ≤ length (now rows) ⌝ }
-    ensures { λ _. ⌜ SpansPut (now (rows .entry)) (now (rows .exit)) slot (spansFrom (now (first .entry)) (now (past .entry))) ⌝ }
+    ensures { λ _. ⌜ now (rows .exit) ≡ rowsPut (now (rows .entry)) slot (spansFrom (now (first .entry)) (now (past .entry))) ⌝ }
 {
     let at = WIDTH * slot;
     put_rows(first, at, rows);
@@ -53,7 +53,7 @@ fn put<'a>(rows: &mut [u8], slot: usize, first: &'a [u8; ROWS], past: &'a [u8; R
 // Writes the rows of an outline to the slot. They are found here, so no caller has them on its stack while it judges the outline.
 pub fn put_outline(rows: &mut [u8], slot: usize, start: Point, letters: &[u8])
     requires { ⌜ slotBytes * slot + slotBytes ≤ length (now rows) ⌝ }
-    ensures { λ _. ⌜ SpansPut (now (rows .entry)) (now (rows .exit)) slot (spansOf (outline start (now (letters .entry)))) ⌝ }
+    ensures { λ _. ⌜ now (rows .exit) ≡ rowsPut (now (rows .entry)) slot (spansOf (outline start (now (letters .entry)))) ⌝ }
 {
     let spans = spans_of(start, letters);
     put(rows, slot, &spans.first, &spans.past);
@@ -62,7 +62,7 @@ pub fn put_outline(rows: &mut [u8], slot: usize, start: Point, letters: &[u8])
 // Makes every row of the slot empty.
 pub fn put_none(rows: &mut [u8], slot: usize)
     requires { ⌜ slotBytes * slot + slotBytes ≤ length (now rows) ⌝ }
-    ensures { λ _. ⌜ SpansPut (now (rows .entry)) (now (rows .exit)) slot noSpans ⌝ }
+    ensures { λ _. ⌜ now (rows .exit) ≡ rowsPut (now (rows .entry)) slot noSpans ⌝ }
 {
     let at = WIDTH * slot;
     put_zeros(at, rows);

@@ -3,7 +3,7 @@ use crate::lines::same;
 use calls::written::of_reply;
 use chart::reply;
 use chart::reply::NUMBERS;
-use holder::Holder;
+use holder_values::Holder;
 use wire::BYTES;
 use wire::Decoded;
 use wire::received;
@@ -41,7 +41,7 @@ fn answer(holder: Holder, call: &[u8], expected: &[u16]) -> Step {
 pub(crate) fn differing(script: &[u8], replies: &[u16], count: usize) -> usize
     requires { ⌜ (callWidth * count ≤ length (now script)) × (replyWidth * count ≤ length (now replies)) ⌝ }
 {
-    let mut holder = holder::fresh();
+    let mut holder = holder_values::fresh();
     let mut others = 0;
     let mut i = 0;
     while i < count {

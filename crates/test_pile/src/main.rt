@@ -2,9 +2,9 @@
 use chart::Fields;
 use chart::Point;
 use libc::STDOUT_FILENO;
-use pile::Pile;
-use pile::Piled;
-use pile::fresh;
+use pile_calls::Pile;
+use pile_calls::Piled;
+use pile_calls::fresh;
 use pile_replies::of_reply;
 
 fn number(n: u16) {

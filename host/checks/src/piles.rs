@@ -1,6 +1,7 @@
 //! Lists of calls on a pile, from a seed: layers that are like each other, so that about half of the checks pass. And such a list on
 //! piles of the library.
 
+use robequarry::codec::MORE;
 use robequarry::limits::{LAST_CELL, LAST_CORNER, LAYERS, REPLY};
 use robequarry::raw::{PileMemory, Reply};
 use robequarry::{Cell, Corner, Outline, Pile, PileCall};
@@ -110,7 +111,8 @@ fn other_call(random: &mut Random, near: Block) -> PileCall {
 }
 
 /// Two piles of the library that get the same calls, the one by the typed calls or by [`Pile::call`], as chance has it, the other in
-/// memory that held something else before it was made fresh. After each call the memory of both is the same.
+/// memory that held something else before it was made fresh, where half of the checks are made in steps. After each call the memory of
+/// both is the same.
 pub struct Mixed {
     random: Random,
     pile: Pile,
@@ -132,11 +134,23 @@ impl Mixed {
                 self.memory.set(*layer, start.col, start.row, letters, &mut other);
             }
             PileCall::SetEmpty(layer) => self.memory.empty(*layer, &mut other),
+            PileCall::Check if self.random.once_in(2) => self.check_in_steps(&mut other),
             PileCall::Check => self.memory.check(&mut other),
             PileCall::Query(layer, cell) => self.memory.query(*layer, cell.col, cell.row, &mut other),
         }
         assert_eq!(reply, other.into(), "{call:?}");
         assert!(*self.pile.memory() == *self.memory, "memory differs after {call:?}");
         reply
+    }
+    /// Steps of any size, until the check has ended.
+    fn check_in_steps(&mut self, reply: &mut Reply) {
+        loop {
+            let sections = self.random.below(300) as u16;
+            self.memory.check_step(sections, reply);
+            let [_, word, ..] = *reply;
+            if word != MORE {
+                return;
+            }
+        }
     }
 }

@@ -6,15 +6,13 @@ use robequarry_checks::stack;
 fn bound(function: &str) -> usize {
     match function {
         // A few numbers are read or written where they stand.
-        "rq_fresh" | "rq_begin" | "rq_add" | "rq_drop" | "rq_clear" | "rq_query" | "rq_row" | "rq_reading" | "rq_piece" => {
-            200
-        }
-        "rq_pile_fresh" | "rq_pile_empty" | "rq_pile_query" | "rq_loose_query" => 200,
+        "rq_fresh" | "rq_begin" | "rq_add" | "rq_draft" | "rq_drop" | "rq_clear" | "rq_query" | "rq_row" => 200,
+        "rq_reading" | "rq_piece" | "rq_pile_fresh" | "rq_pile_empty" | "rq_pile_query" | "rq_loose_query" => 200,
         // As bytes every call but a close stays small: a close must not become a part of the function that reads the bytes.
         "rq_call" => 300,
         // A byte for the first column and one for the end of each row of two polygons.
         "rq_compare" => 1_700,
-        "rq_pile_check" => 600,
+        "rq_pile_check" | "rq_pile_check_step" => 600,
         // What tests an outline has one bit for each corner, 8,192 bytes.
         "rq_test" | "rq_pile_set" => 8_600,
         // A close has the edges of the outline as well, until it knows whether they are those at work.
@@ -24,7 +22,7 @@ fn bound(function: &str) -> usize {
         // The sides of every row and its hull, too, on either side of the block.
         "rq_witness" | "rq_complete" => 13_000,
         // A replay has a holder of its own as well.
-        "rq_replay" => 18_000,
+        "rq_replay" => 20_000,
         _ => unreachable!("{function} has no bound"),
     }
 }

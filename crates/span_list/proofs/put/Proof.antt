@@ -1,7 +1,7 @@
--- The slot is two windows of the list, and one copy fills each (SlotLaws).
+-- One copy fills each half of the slot.
 use borrow.Author.Needs.{needs}
 use Rattle.span_list.specs.SpanList.{spansFrom}
-use Rattle.span_list.proofs.SlotLaws.{copies-put}
+use Rattle.span_list.proofs.SlotLaws.{halves-list}
 use Rattle.span_list.proofs.put.Statement.{statement}
 use Rattle.span_list.proofs.put.Tie as tie
 
@@ -10,8 +10,8 @@ returns c =
     let s = c .before .before .before .before .before .before .before .before .before in
     let second = c .before .before in
     let first = second .before .before .before .before in
-    copies-put (s .args .rows .now) (s .args .slot) (spansFrom (s .args .first .now) (s .args .past .now)) (s .pre)
-    (first .put-rows .ensures .1) (second .put-rows2 .ensures .1) _ (first .put-rows .ensures .0) _ (second .put-rows2 .ensures .0)
+    halves-list (s .args .rows .now) (s .args .slot) (spansFrom (s .args .first .now) (s .args .past .now)) _ (first .put-rows .ensures) _
+    (second .put-rows2 .ensures)
 
 pub put-spec : {M : Type 1} → statement M
 put-spec =

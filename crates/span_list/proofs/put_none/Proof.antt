@@ -1,12 +1,12 @@
 -- Both halves of the slot are written, and no other byte.
-use Rattle.span_list.proofs.SlotLaws.{zeros-put}
+use Rattle.span_list.proofs.SlotLaws.{zeros-list}
 use borrow.Author.Needs.{needs}
 use Rattle.span_list.proofs.put_none.Statement.{statement}
 use Rattle.span_list.proofs.put_none.Tie as tie
 
 returns : tie.Need-returns
 returns c = let s = c .before .before .before .before .before .before .before .before .before in
-    zeros-put (s .args .rows .now) (s .args .slot) (s .pre) _ (c .before .before .before .before .before .before .put-zeros .ensures) _
+    zeros-list (s .args .rows .now) (s .args .slot) _ (c .before .before .before .before .before .before .put-zeros .ensures) _
     (c .before .before .put-zeros2 .ensures)
 
 pub put-none-spec : {M : Type 1} → statement M

@@ -43,7 +43,7 @@ same-length c = kept (c .before)
 returns : tie.Need-returns Inv-loop μ-loop
 returns c =
     let e : c .before .loop .i ≡ side = omega (arith, c .before .loop .inv .0, c .loop-test .left) in
-    (c .before .loop .inv .1 ∙ rw e, c .before .before .all .given .0)
+    c .before .loop .inv .1 ∙ rw e
 
 pub put-rows-spec : {M : Type 1} → statement M
 put-rows-spec =

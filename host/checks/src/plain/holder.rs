@@ -1,5 +1,5 @@
-//! The holder: calls on it by their arguments and as bytes, and a script of calls. What it keeps is as large as the library's, 8,584
-//! bytes. The calls that are measured are no part of their caller, as the library's are none.
+//! The holder: calls on it by their arguments and as bytes, and a script of calls. What it keeps is as large as the library's, 10,416
+//! bytes, with a spare slot for each party. The calls that are measured are no part of their caller, as the library's are none.
 
 use robequarry::codec::{COLUMNS, INSIDE, NONE, OUTSIDE, SAME, TAKEN};
 use robequarry::limits::{CALL, LAST_LETTER, LONGEST, MOST_NUMBERS, PARTIES, PLACES, REPLY, SIDE};
@@ -20,19 +20,25 @@ struct Draft {
 }
 
 struct Work {
-    taken: bool,
     anchor: Point,
     edges: u16,
     numbers: [i16; MOST_NUMBERS],
     spans: Spans,
 }
 
+/// A place names a slot by a code word; any other number names none.
 struct Party {
     draft: Draft,
-    works: [Work; PLACES as usize],
+    words: [u16; PLACES as usize],
+    slots: [Work; SLOTS],
 }
 
-/// A draft and four works for each party.
+/// A party has one slot more than it has places.
+const SLOTS: usize = PLACES as usize + 1;
+
+const WORDS: [u16; SLOTS] = [0x5555, 0x3333, 0x6666, 0x0f0f, 0x5a5a];
+
+/// A draft and four places for each party.
 pub struct Holder {
     parties: [Party; PARTIES as usize],
 }
@@ -138,10 +144,9 @@ impl Holder {
         let Some(party) = self.parties.get(usize::from(party)) else {
             return numbered(19);
         };
-        match party.works.get(usize::from(place)) {
+        match party.words.get(usize::from(place)) {
             None => numbered(20),
-            Some(work) if !work.taken => numbered(12),
-            Some(work) => answer(work),
+            Some(&word) => party.slot(word).map_or(numbered(12), answer),
         }
     }
 }
@@ -151,14 +156,27 @@ impl Party {
         let nowhere = Point::new(0, 0);
         Party {
             draft: Draft { begun: false, start: nowhere, count: 0, letters: [0; LONGEST] },
-            works: std::array::from_fn(|_| Work {
-                taken: false,
+            words: [0; PLACES as usize],
+            slots: std::array::from_fn(|_| Work {
                 anchor: nowhere,
                 edges: 0,
                 numbers: [0; MOST_NUMBERS],
                 spans: Spans::NONE,
             }),
         }
+    }
+
+    #[inline]
+    fn slot(&self, word: u16) -> Option<&Work> {
+        let tag = match word {
+            0x5555 => 0,
+            0x3333 => 1,
+            0x6666 => 2,
+            0x0f0f => 3,
+            0x5a5a => 4,
+            _ => return None,
+        };
+        Some(&self.slots[tag])
     }
 
     #[inline]
@@ -203,22 +221,23 @@ impl Party {
 
     #[inline]
     fn clear(&mut self, place: u8) -> Fields {
-        let Some(work) = self.works.get_mut(usize::from(place)) else {
+        let Some(word) = self.words.get_mut(usize::from(place)) else {
             return numbered(20);
         };
-        work.taken = false;
+        *word = 0;
         numbered(0)
     }
 
+    /// Fills the slot that no place names, and then names it.
     fn close(&mut self, place: u8) -> Fields {
-        let draft = &mut self.draft;
-        let begun = std::mem::replace(&mut draft.begun, false);
-        let Some(work) = self.works.get_mut(usize::from(place)) else {
+        let begun = std::mem::replace(&mut self.draft.begun, false);
+        let Some(&old) = self.words.get(usize::from(place)) else {
             return numbered(20);
         };
         if !begun {
             return numbered(13);
         }
+        let draft = &self.draft;
         let letters = &draft.letters[..usize::from(draft.count)];
         let mut edges = Edges { numbers: [0; MOST_NUMBERS], count: 0 };
         let anchor = match find_edges(draft.start, letters, &mut edges) {
@@ -226,12 +245,14 @@ impl Party {
             Err(refusal) => return refusal,
         };
         let list = edges.list();
-        let same = work.taken && anchor == work.anchor && list == work.list();
-        work.taken = true;
+        let same = self.slot(old).is_some_and(|work| anchor == work.anchor && list == work.list());
+        let free = WORDS.iter().position(|word| !self.words.contains(word)).expect("there are more slots than places");
+        let work = &mut self.slots[free];
         work.anchor = anchor;
         work.edges = edges.count as u16;
         work.numbers[..list.len()].copy_from_slice(list);
         work.spans.put(draft.start, letters);
+        self.words[usize::from(place)] = WORDS[free];
         Fields { word: if same { SAME } else { TAKEN }, ..taken(edges.count, anchor) }
     }
 }

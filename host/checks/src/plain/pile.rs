@@ -1,5 +1,5 @@
 //! The library's pile in plain Rust: a layer as the runs of its rows, a section by the lines through the ends of two runs. What it keeps
-//! is as large as the library's, 8,161 bytes. The calls that are measured are no part of their caller.
+//! is as large as the library's but for the place of a check in steps. The calls that are measured are no part of their caller.
 
 use robequarry::codec::{INSIDE, OUTSIDE};
 use robequarry::limits::{LAST_CELL, LAYERS, MOST_NUMBERS};

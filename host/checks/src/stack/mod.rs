@@ -21,7 +21,7 @@ const SIZE: usize = 1 << 18;
 const PAINTS: [u8; 2] = [0xa5, 0x5a];
 
 /// The functions of include/robequarry.h, in its order. A close as bytes needs what a close needs, and every other call little.
-const FUNCTIONS: [&str; 24] = [
+const FUNCTIONS: [&str; 26] = [
     "rq_test",
     "rq_loose_query",
     "rq_border",
@@ -31,6 +31,7 @@ const FUNCTIONS: [&str; 24] = [
     "rq_fresh",
     "rq_begin",
     "rq_add",
+    "rq_draft",
     "rq_drop",
     "rq_clear",
     "rq_close",
@@ -45,6 +46,7 @@ const FUNCTIONS: [&str; 24] = [
     "rq_pile_set",
     "rq_pile_empty",
     "rq_pile_check",
+    "rq_pile_check_step",
     "rq_pile_query",
 ];
 
@@ -136,8 +138,9 @@ impl Stack {
         }
     }
 
-    /// Measures a call by its arguments.
+    /// Measures a call by its arguments, and the question about its party's draft.
     fn measure_call(&mut self, on: &HolderMemory, Call { party, action }: Call, reply: &mut Reply) {
+        self.note("rq_draft", &mut || on.draft(party, reply));
         match action {
             Action::Begin(start) => self.on_copies("rq_begin", on, |h| h.begin(party, start.col, start.row, reply)),
             Action::Add(letter) => self.on_copies("rq_add", on, |h| h.add(party, letter, reply)),
@@ -170,7 +173,10 @@ impl Stack {
                     self.note("rq_pile_set", &mut || pile.set(*layer, start.col, start.row, letters, &mut reply));
                 }
                 PileCall::SetEmpty(layer) => self.note("rq_pile_empty", &mut || pile.empty(*layer, &mut reply)),
-                PileCall::Check => self.note("rq_pile_check", &mut || pile.check(&mut reply)),
+                PileCall::Check => {
+                    self.note("rq_pile_check_step", &mut || pile.check_step(300, &mut reply));
+                    self.note("rq_pile_check", &mut || pile.check(&mut reply));
+                }
                 PileCall::Query(layer, cell) => {
                     self.note("rq_pile_query", &mut || pile.query(*layer, cell.col, cell.row, &mut reply));
                 }

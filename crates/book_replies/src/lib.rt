@@ -1,0 +1,1 @@
+// What the plain book's replies mean. No code: definitions and theorems.

@@ -1,0 +1,2 @@
+-- What a call as bytes leaves and returns.
+pub mod Responded

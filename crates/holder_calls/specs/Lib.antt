@@ -1,0 +1,2 @@
+-- What the functions of the crate promise each other.
+pub mod parts

@@ -1,0 +1,3 @@
+-- The count of numbers at work; the place that a call reaches.
+pub mod Listed
+pub mod Places

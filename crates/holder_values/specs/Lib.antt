@@ -1,0 +1,2 @@
+-- A holder by value.
+pub mod Values

@@ -1,0 +1,2 @@
+-- The outline in a slot, case by case.
+pub mod WorkCases

@@ -1,0 +1,2 @@
+-- A call with its reply written.
+pub mod Written

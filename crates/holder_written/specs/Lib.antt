@@ -1,0 +1,2 @@
+-- A call as C makes it.
+pub mod Written

@@ -1,2 +1,0 @@
--- The calls on a draft in the caller's arrays, case by case.
-mod DraftCases

@@ -1,3 +1,0 @@
--- A holder in arrays of the caller's.
-pub mod Layout
-pub mod parts

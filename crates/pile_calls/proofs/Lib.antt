@@ -1,0 +1,3 @@
+-- The cases of the definitions.
+pub mod Cases
+pub mod StepCases

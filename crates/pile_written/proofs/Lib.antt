@@ -1,0 +1,2 @@
+-- From a reply to its seven numbers.
+pub mod WrittenLaws

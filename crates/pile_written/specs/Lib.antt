@@ -1,0 +1,2 @@
+-- A call on a pile as C makes it.
+pub mod Written

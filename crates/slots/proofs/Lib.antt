@@ -1,2 +1,0 @@
--- The cell of a close's reply.
-pub mod CloseLaws

@@ -1,2 +1,0 @@
--- What a call does to a draft and a work.
-pub mod Slots

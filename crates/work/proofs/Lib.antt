@@ -1,2 +1,0 @@
--- The count of numbers at work.
-pub mod Listed

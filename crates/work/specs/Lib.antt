@@ -1,2 +1,0 @@
--- An outline at work as the holder keeps it, and the questions about it.
-pub mod Work
