@@ -23,7 +23,7 @@ function row_of(call) {
     if (call ~ /^replay/) return "rq_replay"
     if (call ~ /^border/) return "rq_border"
     if (call ~ /^(witness|completion)/) return "rq_witness, rq_complete"
-    if (call ~ /^pile check/) return "rq_pile_check"
+    if (call ~ /^pile check/) return "rq_pile_check, rq_pile_check_step"
     if (call ~ /^compare/) return "rq_compare"
     if (call ~ /by rq_call/) return "any other call by rq_call"
     return "every other function"

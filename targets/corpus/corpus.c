@@ -404,6 +404,10 @@ static void call(uint8_t number, uint8_t party, uint8_t place, uint32_t x, uint3
     put_word(bytes + 7, y);
     hash(rq_call(&by_bytes, bytes, RQ_CALL_BYTES, &other_reply));
     told("the same by bytes", &other_reply);
+    if (number <= RQ_CALL_DROP || number == RQ_CALL_CLOSE) {
+        rq_draft(&holder, party, &reply);
+        told("draft", &reply);
+    }
     if (calls + 1 < MOST_CALLS) calls++;
 }
 
@@ -552,6 +556,20 @@ static void check_pile(void) {
     hash_bytes(&pile, sizeof pile);
 }
 
+/* Steps of any size. A damaged place begins anew, or goes on elsewhere. */
+static void check_pile_in_steps(void) {
+    rq_reply reply = blank;
+    if (once_in(4)) pile.state[1] = (uint16_t)(once_in(2) ? bits() : below(2 * RQ_SIDE + 2));
+    do {
+        const uint16_t sections = (uint16_t)(once_in(8) ? bits() : below(300));
+        new_input();
+        SAY("sections", sections);
+        rq_pile_check_step(&pile, sections, &reply);
+        told("pile check step", &reply);
+        hash_bytes(pile.state, sizeof pile.state);
+    } while (reply.word == RQ_WORD_MORE);
+}
+
 /* A cell beside the outline's border, or any. */
 static void query_pile(uint8_t layer) {
     uint16_t col = outline.col, row = outline.row;
@@ -596,6 +614,7 @@ static void run_piles(uint32_t number) {
     check_pile();
     for (uint32_t times = 0; times < 12; times++) {
         fill_layers((number + times) % 4);
+        check_pile_in_steps();
         check_pile();
         for (uint32_t i = 0; i < 60; i++) query_pile((uint8_t)(once_in(16) ? bits() : below(RQ_LAYERS)));
         if (once_in(2)) lower_pile();

@@ -120,9 +120,10 @@ static void holder_lines(void) {
     line("add by rq_call", 0, restore_heads, call_bytes, 400);
     set_call(RQ_CALL_QUERY, 80);
     line("query by rq_call", 0, nothing, call_bytes, 400);
+    line("draft", 0, restore_heads, call_draft, 400);
     line("drop", 0, restore_heads, call_drop, 400);
     kept.heads[0] = 0;
-    line("begin", 0, call_drop, call_begin, 400);
+    line("begin", 0, restore_heads, call_begin, 400);
     line("clear", 0, nothing, call_clear, 400);
     line("fresh", 0, nothing, call_fresh, 40);
 }
@@ -179,6 +180,7 @@ static int table(void) {
     circle(74);
     set_all_layers();
     line("pile check, sixteen layers", shape.n, nothing, call_pile_check, 8);
+    line("pile check, one section", shape.n, nothing, call_pile_step, 510);
     col = row = 80;
     line("pile query", 16, nothing, call_pile_query, 400);
     compare_lines();

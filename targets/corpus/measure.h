@@ -94,6 +94,7 @@ static void call_compare(void) {
 static void call_fresh(void) { rq_fresh(&holder); }
 static void call_begin(void) { rq_begin(&holder, 0, 5, 5, &reply); }
 static void call_add(void) { rq_add(&holder, 0, 1, &reply); }
+static void call_draft(void) { rq_draft(&holder, 0, &reply); }
 static void call_drop(void) { rq_drop(&holder, 0, &reply); }
 static void call_clear(void) { rq_clear(&holder, 0, 0, &reply); }
 static void call_close(void) { rq_close(&holder, 0, 0, &reply); }
@@ -104,6 +105,7 @@ static void call_piece(void) { rq_piece(&holder, 0, 0, col, point, &reply); }
 static void call_bytes(void) { rq_call(&holder, bytes, RQ_CALL_BYTES, &reply); }
 static void call_pile_set(void) { rq_pile_set(&pile, 3, shape.col, shape.row, shape.letters, shape.n, &reply); }
 static void call_pile_check(void) { rq_pile_check(&pile, &reply); }
+static void call_pile_step(void) { rq_pile_check_step(&pile, 1, &reply); }
 static void call_pile_query(void) { rq_pile_query(&pile, 3, col, row, &reply); }
 
 /* A draft is one number of its party's head; letters that are already there may stay. */

@@ -14,6 +14,10 @@ uint32_t port_float_control(void);
 /* Sets flush-to-zero, or clears it again. False where the machine has no such mode. */
 bool port_flush_to_zero(bool on);
 
+/* Whether a call can be run instruction by instruction here; and runs it so, with a look before each of its instructions. */
+bool port_can_step(void);
+void port_step(void (*call)(void), void (*look)(void));
+
 /* What stands before the words of the control register: its name, and the masks of its flush-to-zero and default-NaN bits. */
 struct float_modes {
     const char *name;

@@ -77,6 +77,52 @@ static void set_up(void) {
 
 #endif
 
+/*
+ * Stepping: the machine's timer interrupts after each instruction. QEMU is told that an instruction takes longer than a tick of the timer
+ * (STEPPED in targets/run). The timer is stopped while the look is taken, and its start is the last that the interrupt does.
+ */
+static volatile uint32_t *const timer = (volatile uint32_t *)0xe000e010;
+static volatile bool stepping;
+static void (*at_each)(void);
+static uint32_t interrupts;
+
+static void start_timer(void) {
+    timer[2] = 0;
+    timer[0] = 7;
+}
+
+static void interrupted(void) {
+    timer[0] = 0;
+    *(volatile uint32_t *)0xe000ed04 = 1u << 25;
+    interrupts++;
+    at_each();
+    if (stepping) start_timer();
+}
+
+void port_step(void (*call)(void), void (*look)(void)) {
+    at_each = look;
+    stepping = true;
+    timer[1] = 1;
+    start_timer();
+    call();
+    stepping = false;
+    timer[0] = 0;
+}
+
+static void eight_instructions(void) {
+    __asm__ volatile("nop\n nop\n nop\n nop\n nop\n nop\n nop\n nop");
+}
+
+static void no_look(void) {
+}
+
+/* Every one of some instructions must have been interrupted. */
+bool port_can_step(void) {
+    interrupts = 0;
+    port_step(eight_instructions, no_look);
+    return interrupts >= 8 && interrupts < 40;
+}
+
 /* The numbers of the command line, after the program's name. */
 static void read_numbers(uint32_t numbers[2]) {
     char line[64] = "";
@@ -109,4 +155,5 @@ static void fault(void) {
 
 __attribute__((section(".vectors"), used)) static const void *const vectors[] = {
     &stack_top, (const void *)reset, (const void *)fault, (const void *)fault, (const void *)fault, (const void *)fault, (const void *)fault,
+    0, 0, 0, 0, (const void *)fault, (const void *)fault, 0, (const void *)fault, (const void *)interrupted,
 };

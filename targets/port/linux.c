@@ -24,7 +24,59 @@ static void set_float_control(uint32_t control) {
     __asm__ volatile("ldmxcsr %0" : : "m"(control) : "memory");
 }
 
+/*
+ * The trap flag has the processor raise SIGTRAP after each instruction. The kernel clears the flag for the handler, and puts it back as the
+ * handler returns. The handler's own stack keeps what it does apart from the call.
+ */
+struct action {
+    void (*handler)(int);
+    unsigned long flags;
+    void (*restorer)(void);
+    unsigned long mask;
+};
+enum { SIGACTION = 13, SIGALTSTACK = 131, TRAP = 5, ON_STACK = 0x08000000, HAS_RESTORER = 0x04000000 };
+
+void restore(void);
+__asm__("restore: mov $15, %eax\n syscall\n");
+
+static void (*at_each)(void);
+
+static void trapped(int signal) {
+    (void)signal;
+    at_each();
+}
+
+bool port_can_step(void) {
+    return true;
+}
+
+void port_step(void (*call)(void), void (*look)(void)) {
+    static char stack[65536];
+    const struct {
+        void *start;
+        int flags;
+        unsigned long size;
+    } own = {stack, 0, sizeof stack};
+    const struct action action = {trapped, ON_STACK | HAS_RESTORER, restore, 0};
+    at_each = look;
+    system_call(SIGALTSTACK, (long)&own, 0, 0);
+    __asm__ volatile("mov $8, %%r10\n syscall"
+                     : : "a"((long)SIGACTION), "D"((long)TRAP), "S"(&action), "d"(0L) : "rcx", "r10", "r11", "memory");
+    __asm__ volatile("pushfq\n orq $0x100, (%%rsp)\n popfq" : : : "memory", "cc");
+    call();
+    __asm__ volatile("pushfq\n andq $~0x100, (%%rsp)\n popfq" : : : "memory", "cc");
+}
+
 #elif defined(__aarch64__)
+
+bool port_can_step(void) {
+    return false;
+}
+
+void port_step(void (*call)(void), void (*look)(void)) {
+    (void)look;
+    call();
+}
 
 static long system_call(long number, long a, long b, long c) {
     register long x8 __asm__("x8") = number;

@@ -11,6 +11,15 @@ bool port_flush_to_zero(bool on) {
     return !on;
 }
 
+bool port_can_step(void) {
+    return false;
+}
+
+void port_step(void (*call)(void), void (*look)(void)) {
+    (void)look;
+    call();
+}
+
 int start(uint32_t first, uint32_t second) {
     return program(first, second);
 }
