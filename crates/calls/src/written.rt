@@ -82,17 +82,19 @@ pub fn put_word(r: Reply, numbers: &mut [u16; NUMBERS])
     }
 }
 
-// Writes the reply of a row, whose commonest answer is its columns.
+// Writes the reply of a row, whose commonest answers are its columns, or that it has none.
 pub fn put_columns(r: Reply, numbers: &mut [u16; NUMBERS])
     ensures { λ _. ⌜ now (numbers .exit) ≡ numbersOf (replyFields r) ⌝ }
 {
-    if let Reply::Columns { first, last } = r {
-        let ends = Point {
-            col: first,
-            row: last,
-        };
-        reply::put(reply::accepted(reply::COLUMNS, 0, ends), numbers);
-    } else {
-        put(r, numbers);
+    match r {
+        Reply::Columns { first, last } => {
+            let ends = Point {
+                col: first,
+                row: last,
+            };
+            reply::put(reply::accepted(reply::COLUMNS, 0, ends), numbers)
+        }
+        Reply::None => reply::put(reply::worded(reply::NONE), numbers),
+        _ => put(r, numbers),
     }
 }

@@ -219,8 +219,8 @@ pub fn ends_away(s: Point, end: u32) -> bool
     end / ROW_UNIT != (s.col as u32) * ROWS + (s.row as u32)
 }
 
-// Whether the steps of the letters do not add up to zero, modulo 128. Rights and ups are then half of the letters, and so are ups and lefts.
-// This is a hint: it only decides which walk comes first, so nothing is promised. The loop is vectorised.
+// Whether the steps of the letters do not add up to zero, modulo 128. If they do, rights and ups are half of the letters, and so are ups
+// and lefts. This is a hint: it only decides which walk comes first, so nothing is promised. The loop is vectorised.
 pub fn seems_open(w: &[u8]) -> bool {
     let mut back = 0u8;
     let mut middle = 0u8;

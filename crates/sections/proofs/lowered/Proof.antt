@@ -32,4 +32,6 @@ returns-2 c =
     )
 
 pub lowered-spec : {M : Type 1} → statement M
-lowered-spec = tie.close (tie.spec (λ c. search needs) mul-if1 (λ c. search needs) (λ c. search needs) (λ c. search needs) returns returns-2)
+lowered-spec =
+    tie.close
+    (tie.spec (λ c. search needs) mul-if1 (λ c. search needs) (λ c. search needs) (λ c. search needs) returns returns-2)

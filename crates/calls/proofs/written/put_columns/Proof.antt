@@ -1,4 +1,4 @@
--- Columns are their clause of the definition; any other reply is written as any is.
+-- Columns, and none, are clauses of the definition; any other reply is written as any is.
 use mathlib.Core.Path.{sym, _∙_, ap}
 use Rattle.chart.specs.Fields.{numbersOf}
 use Rattle.calls.specs.Replies.{replyFields}
@@ -9,9 +9,17 @@ use Rattle.calls.proofs.written.put_columns.Tie as tie
 returns : tie.Need-returns
 unfolding replyFields
 returns c =
-    c .put .ensures ∙ ap numbersOf (c .before .before .accepted .ensures ∙ ap replyFields (sym (c .before .before .before .before .r .given .1)))
+    let ends = c .before .before in
+    c .put .ensures ∙ ap numbersOf (ends .accepted .ensures ∙ ap replyFields (sym (ends .before .before .r .given .1)))
+
+returns-2 : tie.Need-returns-2
+unfolding replyFields
+returns-2 c =
+    let none = c .before .before in
+    c .put2 .ensures ∙ ap numbersOf (none .worded .ensures ∙ ap replyFields (sym (none .before .enum-told .given .1)))
 
 pub put-columns-spec : {M : Type 1} → statement M
 put-columns-spec =
     tie.close
-    (tie.spec (λ c. search needs) (λ c κs. search needs) (λ c κs. search needs) (λ c κs. search needs) returns (λ c. search needs))
+    (tie.spec (λ c. search needs) (λ c κs. search needs) (λ c κs. search needs) (λ c. search needs) (λ c κs. search needs)
+    (λ c κs. search needs) (λ c κs. search needs) returns returns-2 (λ c. search needs))

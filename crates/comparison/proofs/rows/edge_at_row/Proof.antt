@@ -42,4 +42,7 @@ returns : tie.Need-returns
 returns c = let s = c .before .before .before .before in (refl, omega (arith, plus-one s, plus-two s))
 
 pub edge-at-row-spec : {M : Type 1} → statement M
-edge-at-row-spec = tie.close (tie.spec (λ c. search needs) (λ c. search needs) (λ c. search needs) (λ c. search needs) mul-t8 mul-t9 add-t10 mul-t11 mul-t12 add-t13 returns)
+edge-at-row-spec =
+    tie.close
+    (tie.spec (λ c. search needs) (λ c. search needs) (λ c. search needs) (λ c. search needs) mul-t8 mul-t9 add-t10 mul-t11 mul-t12
+    add-t13 returns)

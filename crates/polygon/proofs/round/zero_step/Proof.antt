@@ -21,4 +21,6 @@ returns-2 : tie.Need-returns-2
 returns-2 c = c .if1 .left ∙ simp (sym (cols-nil (c .before)) ∙ c .if1 .left)
 
 pub zero-step-spec : {M : Type 1} → statement M
-zero-step-spec = tie.close (tie.spec (λ c κs. search needs) (λ c κs. search needs) (λ c κs. search needs) (λ c κs. search needs) returns returns-2)
+zero-step-spec =
+    tie.close
+    (tie.spec (λ c κs. search needs) (λ c κs. search needs) (λ c κs. search needs) (λ c κs. search needs) returns returns-2)

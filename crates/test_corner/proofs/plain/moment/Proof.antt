@@ -17,4 +17,6 @@ returns-3 : tie.Need-returns-3
 returns-3 c = small c
 
 pub moment-spec : {M : Type 1} → statement M
-moment-spec = tie.close (tie.spec (λ c κs. search needs) (λ c κs. search needs) (λ c. search needs) (λ c. search needs) mul-result returns-3)
+moment-spec =
+    tie.close
+    (tie.spec (λ c κs. search needs) (λ c κs. search needs) (λ c. search needs) (λ c. search needs) mul-result returns-3)
