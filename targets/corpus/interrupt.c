@@ -1,8 +1,8 @@
 /*
  * Questions between any two instructions of a call that alters a holder or a pile, as an interrupt would ask them. All answers at a place
- * of a holder must be those from before the call, or all those from after it; so must all answers of a pile. The port runs a call
- * instruction by instruction, and whenever memory has changed, questions are asked. The status is 1 where an answer is neither, and 2
- * where the machine cannot be stepped.
+ * of a holder must be those from before the call, or all those from after it; so must what is told of each draft, and all answers of a
+ * pile. The port runs a call instruction by instruction, and whenever memory has changed, questions are asked. The status is 1 where an
+ * answer is neither, and 2 where the machine cannot be stepped.
  *
  * The numbers of the command line: a seed, and how many cells are asked at each place; 0 asks every cell where the call acts.
  */
@@ -93,8 +93,22 @@ static void ask_place(uint8_t whose, uint8_t at) {
     wrong += !so_far.with_old && !so_far.with_new;
 }
 
+static void ask_draft(uint8_t whose) {
+    struct agreement so_far = {true, true};
+    rq_reply now = RQ_REPLY_INIT, old = RQ_REPLY_INIT, new = RQ_REPLY_INIT;
+    rq_draft(&holder, whose, &now);
+    rq_draft(&old_holder, whose, &old);
+    rq_draft(&new_holder, whose, &new);
+    agree(&so_far, &now, &old, &new, sizeof now);
+    wrong += !so_far.with_old && !so_far.with_new;
+}
+
+/* While a holder is made fresh, its drafts are not asked about. */
+static bool ask_drafts;
+
 static void ask_holder(void) {
     for (uint8_t whose = 0; whose < RQ_PARTIES; whose++) {
+        if (ask_drafts) ask_draft(whose);
         for (uint8_t at = 0; at < RQ_PLACES; at++) ask_place(whose, at);
     }
 }
@@ -253,6 +267,7 @@ static void step_holder(void) {
     subject.ask = ask_holder;
     for (uint8_t whose = 0; whose < RQ_PARTIES; whose++) {
         fill_holder();
+        ask_drafts = true;
         party = whose;
         place = (uint8_t)below(RQ_PLACES);
         step_through("begin", 0, make_begin);
@@ -261,6 +276,10 @@ static void step_holder(void) {
         step_through("add as bytes", 0, make_bytes);
         step_through("drop", 0, make_drop);
         step_through("begin", 0, make_begin);
+        as_bytes(RQ_CALL_DROP);
+        step_through("drop as bytes", 0, make_bytes);
+        as_bytes(RQ_CALL_BEGIN);
+        step_through("begin as bytes", 0, make_bytes);
         step_closes(40, 120);
         if (cells == 0) step_closes(400, RQ_LETTERS);
         as_bytes(RQ_CALL_CLEAR);
@@ -268,6 +287,7 @@ static void step_holder(void) {
         place = RQ_PLACES;
         step_through("close", 0, make_close);
         place = 0;
+        ask_drafts = false;
         step_through("fresh", 0, make_fresh);
     }
 }
@@ -277,6 +297,8 @@ static void step_holder(void) {
 static void make_set(void) { rq_pile_set(&pile, place, shape.col, shape.row, shape.letters, shape.n, &reply); }
 static void make_empty(void) { rq_pile_empty(&pile, place, &reply); }
 static void make_check(void) { rq_pile_check(&pile, &reply); }
+static void make_step(void) { rq_pile_check_step(&pile, 60, &reply); }
+static void make_last_step(void) { rq_pile_check_step(&pile, 2 * RQ_SIDE, &reply); }
 static void make_pile_fresh(void) { rq_pile_fresh(&pile); }
 
 static void square(void) {
@@ -295,6 +317,10 @@ static void step_pile(void) {
     rq_pile_fresh(&pile);
     square();
     for (place = 3; place < 6; place++) make_set();
+    step_through("pile check, 60 sections", 0, make_step);
+    step_through("pile check, all that are left", 0, make_last_step);
+    rq_pile_fresh(&pile);
+    for (place = 3; place < 6; place++) make_set();
     step_through("pile check", 0, make_check);
     place = 4;
     convex(40, 120);
@@ -304,6 +330,7 @@ static void step_pile(void) {
     make_check();
     step_through("pile empty", 0, make_empty);
     step_through("pile check", 0, make_check);
+    step_through("pile check, a step", 0, make_last_step);
     make_set();
     make_check();
     step_through("pile fresh", 0, make_pile_fresh);
