@@ -29,7 +29,8 @@
  *
  * One holder or pile has one writer at a time, and nothing that alters it may interrupt another call on it. A question may interrupt any
  * call on the same holder or pile, on the same processor. Its answer is the one from before that call or the one from after it: a close
- * fills a spare slot, and then one 16-bit store puts the slot to work. A reset in the middle of a call leaves what is at work so, too.
+ * fills a spare slot, and then one 16-bit store puts the slot to work. Only rq_draft, while rq_fresh is under way, may tell a draft that is
+ * half cleared. A reset in the middle of a call leaves what is at work so, too.
  *
  * A list is a pointer and a count of its elements. A list that is const is not altered. A buffer is a list that a call writes to,
  * from its front; the rest of it is unaltered. Every call writes all seven numbers of its reply.
@@ -118,7 +119,7 @@ typedef struct rq_reply {
     uint16_t number; /* 0, or the refusal: RQ_REFUSED_... */
     uint16_t word;   /* RQ_NO_WORD, or the answer: RQ_WORD_... */
     uint16_t place;  /* of a letter; or a count, as the call says */
-    uint16_t piece;  /* of the border, clockwise: 1 left to top, 2 top to right, 3 right to bottom, 4 bottom to left; or what the call says */
+    uint16_t piece;  /* of the border, clockwise: 1 left to top, 2 top to right, 3 right to bottom, 4 bottom to left; or as the call says */
     uint16_t length; /* a count of letters */
     uint16_t col;    /* column and row of a cell; or of a corner, as the call says */
     uint16_t row;
@@ -132,8 +133,9 @@ typedef struct rq_reply {
 
 /*
  * Refusals, with the fields that they name. Each call lists its own in the order in which they are checked, and the reply has the first
- * that applies. A refused call alters nothing but its reply, with two exceptions: a close still ends its party's draft, unless it is
- * refused by 19; and a pile whose check is refused has not passed. There is no 7.
+ * that applies. A refused call alters nothing but its reply, with three exceptions: a close still ends its party's draft, unless it is
+ * refused by 19; a pile whose check is refused has not passed; and after a refused step of a check the next step begins anew. There is
+ * no 7.
  */
 enum {
     RQ_REFUSED_LENGTH = 1,           /* fewer than 4 letters, or more than RQ_LETTERS */
@@ -151,7 +153,7 @@ enum {
     RQ_REFUSED_CELL = 11,            /* a number of a cell is above 254; in a reading, a number is none, infinite, below 0 or above 254;
                                         in a compare, the edges leave the chart. compare, place: which list */
     RQ_REFUSED_NOTHING_AT_WORK = 12, /* nothing is at work at the place; in a pile, no check has passed since a layer was set */
-    RQ_REFUSED_NO_DRAFT = 13,        /* add, drop, close: the party has no draft */
+    RQ_REFUSED_NO_DRAFT = 13,        /* add, draft, drop, close: the party has no draft */
     RQ_REFUSED_DRAFT_OPEN = 14,      /* begin: the party has a draft */
     RQ_REFUSED_DRAFT_FULL = 15,      /* add: the draft has RQ_LETTERS letters */
     RQ_REFUSED_DIRECTIONS = 16,      /* an edge is zero, or the edges do not sum to zero, or their directions do not increase strictly
@@ -286,7 +288,7 @@ static inline void rq_clear(rq_holder *holder, uint8_t party, uint8_t place, rq_
  * what is at work stays then.
  *
  * It is two calls, one after the other. The first replies, ends the draft, and writes a taken outline to the party's slot that no place
- * names; every question still has its old answer. The second puts that slot to work, by one store.
+ * names; every question about a place still has its old answer. The second puts that slot to work, by one store.
  */
 static inline void rq_close(rq_holder *holder, uint8_t party, uint8_t place, rq_reply *reply);
 
@@ -365,9 +367,10 @@ static inline void rq_pile_empty(rq_pile *pile, uint8_t layer, rq_reply *reply);
 static inline void rq_pile_check(rq_pile *pile, rq_reply *reply);
 
 /*
- * Some sections of a check, so that a watchdog can be fed in between: there are 2 * RQ_SIDE. The word is RQ_WORD_MORE while the check goes on;
- * else the reply and the pile are those of rq_pile_check, and the next step begins anew. A set or an empty begins it anew, too. With 0
- * sections it replies RQ_WORD_MORE and does nothing.
+ * Some sections of a check, so that a watchdog can be fed in between: there are 2 * RQ_SIDE. The word is RQ_WORD_MORE while the check goes
+ * on; else the reply is that of rq_pile_check, the pile has passed or not as after it, and the next step begins anew. A set or an empty
+ * begins it anew, too. With 0 sections it replies RQ_WORD_MORE and does nothing. Where it goes on stands in the pile's memory: if that may
+ * be damaged, only rq_pile_check tests every section.
  */
 static inline void rq_pile_check_step(rq_pile *pile, uint16_t sections, rq_reply *reply);
 
@@ -375,7 +378,8 @@ static inline void rq_pile_check_step(rq_pile *pile, uint16_t sections, rq_reply
 static inline void rq_pile_query(const rq_pile *pile, uint8_t layer, uint16_t col, uint16_t row, rq_reply *reply);
 
 /*
- * What follows is how the calls above reach the library, which takes the arrays of a holder or a pile one by one.
+ * What follows is how the calls above reach the library, which takes the arrays of a holder or a pile one by one. Whoever calls these makes
+ * rq_commit_parts the next call that alters after rq_prepare_parts, with the same party and place and with the word that it returned.
  */
 void rq_fresh_parts(uint8_t letters[RQ_HOLDER_LETTERS], uint8_t rows[RQ_HOLDER_ROWS], int16_t numbers[RQ_HOLDER_NUMBERS],
                     uint16_t heads[RQ_HOLDER_HEADS]);
