@@ -29,7 +29,7 @@
 //! `&self`, and whatever can alter something `&mut self`.
 //!
 //! Files hold outlines in two forms: [`text`], a line each, which [`Outline`] also parses from a string, and [`fitting`] files, records
-//! of bytes. Both readers stop at the first fault and say where it is.
+//! of bytes. Both readers say where a fault is; one of a fitting file ends it. An [`image`] is what a controller saves of a place.
 //!
 //! [`raw`] has the library's functions as they are, on plain lists of numbers; [`codec`] reads and writes these, and [`limits`] names
 //! what bounds them.
@@ -39,8 +39,10 @@
 mod chart;
 pub mod codec;
 mod comparison;
+mod decoding;
 pub mod fitting;
 mod holder;
+pub mod image;
 pub mod limits;
 mod outline;
 mod pile;

@@ -13,10 +13,12 @@
 //! # Ok::<(), text::Wrong>(())
 //! ```
 
+use std::borrow::Cow;
 use std::error::Error;
 use std::fmt;
 use std::str::FromStr;
 
+pub use crate::decoding::{decode, is_utf16, may_be_mark, unescaped, unicode, Decoder};
 use crate::{Cell, Corner, Edges, Outline};
 
 /// Why a line is not an outline, or not a list of edges.
@@ -33,8 +35,6 @@ pub enum Wrong {
     Letter { found: char },
     /// A number of an edge is not a signed number of 16 bits: this field.
     Edge { field: String },
-    /// The line is not UTF-8.
-    Encoding,
 }
 
 impl fmt::Display for Wrong {
@@ -52,26 +52,27 @@ impl fmt::Display for Wrong {
             Wrong::Edge { field } => {
                 write!(f, "a number of an edge is from {} to {}, not `{}`", i16::MIN, i16::MAX, Escaped(field))
             }
-            Wrong::Encoding => write!(f, "the text is not UTF-8"),
         }
     }
 }
 
 impl Error for Wrong {}
 
-/// Text in which control characters are escaped, as `\u{1b}`, so that a terminal shows them and does not obey them.
+/// Text in which control characters are escaped, as `\u{1b}`, so that a terminal shows them and does not obey them. A backslash before
+/// `u{` is escaped as well, so that [`unescaped`] gives the text back.
 #[derive(Clone, Copy, Debug)]
 pub struct Escaped<'a>(pub &'a str);
 
 impl fmt::Display for Escaped<'_> {
     fn fmt(&self, f: &mut fmt::Formatter<'_>) -> fmt::Result {
-        let mut rest = self.0;
-        while let Some(at) = rest.find(obeyed) {
-            let found = rest[at..].chars().next().expect("there is a character");
-            write!(f, "{}{}", &rest[..at], found.escape_unicode())?;
-            rest = &rest[at + found.len_utf8()..];
+        let mut from = 0;
+        for (at, found) in self.0.char_indices() {
+            if obeyed(found) || self.0[at..].starts_with("\\u{") {
+                write!(f, "{}{}", &self.0[from..at], found.escape_unicode())?;
+                from = at + found.len_utf8();
+            }
         }
-        f.write_str(rest)
+        f.write_str(&self.0[from..])
     }
 }
 
@@ -81,13 +82,13 @@ fn obeyed(char: char) -> bool {
 }
 
 /// A line without its name, and the name, which may be empty.
-fn parts(line: &str) -> (&str, &str) {
+fn parts(line: &str) -> (&str, Cow<'_, str>) {
     let (content, name) = line.split_once('#').unwrap_or((line, ""));
-    (content, name.trim())
+    (content, unescaped(name.trim_matches(|char: char| char.is_ascii_whitespace())))
 }
 
 /// The outline of a line and its name, which may be empty; none where the line has no outline.
-pub fn entry(line: &str) -> Result<Option<(Outline, &str)>, Wrong> {
+pub fn entry(line: &str) -> Result<Option<(Outline, Cow<'_, str>)>, Wrong> {
     let (content, name) = parts(line);
     let mut fields = content.split_ascii_whitespace();
     let Some(col) = fields.next() else {
@@ -103,7 +104,7 @@ pub fn entry(line: &str) -> Result<Option<(Outline, &str)>, Wrong> {
 }
 
 /// The edges of a line and their name, which may be empty; none where the line has no edges.
-pub fn edges(line: &str) -> Result<Option<(Edges, &str)>, Wrong> {
+pub fn edges(line: &str) -> Result<Option<(Edges, Cow<'_, str>)>, Wrong> {
     let (content, name) = parts(line);
     let mut fields = content.split_ascii_whitespace();
     let Some(col) = fields.next() else {
@@ -187,22 +188,25 @@ impl fmt::Display for Fault {
 
 impl Error for Fault {}
 
-/// The outlines of a text with their names, up to the first fault.
+/// The outlines of a decoded text with their names, and a fault for each line that holds something else.
+///
+/// A line is by itself, so a fault need not end the reading; whoever wants the whole text stops at the first.
 #[derive(Clone, Debug)]
 pub struct Lines<'a> {
-    text: &'a [u8],
+    text: &'a str,
     line: usize,
+    passed: &'a str,
 }
 
 impl<'a> Lines<'a> {
-    /// The outlines of a text.
-    pub fn of(text: &'a [u8]) -> Self {
+    /// The outlines of a text that [`decode`] gave.
+    pub fn of(text: &'a str) -> Self {
         Lines::after(0, text)
     }
 
     /// The outlines of a part of a text that so many lines stand before.
-    pub fn after(line: usize, text: &'a [u8]) -> Self {
-        Lines { text, line }
+    pub fn after(line: usize, text: &'a str) -> Self {
+        Lines { text, line, passed: "" }
     }
 
     /// How many lines have been read, with those before.
@@ -210,30 +214,29 @@ impl<'a> Lines<'a> {
         self.line
     }
 
-    fn take(&mut self) -> &'a [u8] {
-        let end = self.text.iter().position(|&byte| byte == b'\n');
-        let (line, rest) = end.map_or((self.text, &[][..]), |end| (&self.text[..end], &self.text[end + 1..]));
-        self.text = rest;
-        self.line += 1;
-        line
+    /// The lines without an outline that stood before the last one that was given, or at the text's end.
+    pub fn passed(&self) -> &'a str {
+        self.passed
     }
 }
 
 impl<'a> Iterator for Lines<'a> {
-    type Item = Result<(Outline, &'a str), Fault>;
+    type Item = Result<(Outline, Cow<'a, str>), Fault>;
 
     fn next(&mut self) -> Option<Self::Item> {
+        let (begin, mut passed) = (self.text, 0);
         while !self.text.is_empty() {
-            let line = std::str::from_utf8(self.take()).map_err(|_| Wrong::Encoding);
-            match line.and_then(entry) {
-                Ok(None) => {}
-                Ok(Some(found)) => return Some(Ok(found)),
-                Err(wrong) => {
-                    self.text = &[];
-                    return Some(Err(Fault { line: self.line, wrong }));
-                }
+            let (line, rest) = self.text.split_once('\n').unwrap_or((self.text, ""));
+            self.line += 1;
+            self.text = rest;
+            let read = entry(line);
+            if read != Ok(None) {
+                self.passed = &begin[..passed];
+                return read.map_err(|wrong| Fault { line: self.line, wrong }).transpose();
             }
+            passed = begin.len() - rest.len();
         }
+        self.passed = begin;
         None
     }
 }
@@ -244,11 +247,11 @@ mod tests {
 
     #[test]
     fn outlines_names_and_empty_lines() {
-        let text = b"# specimens\n\n0 1 101030323212 # H3: a plus\r\n  256\t0  7777\n3 4";
-        let entries: Vec<(Outline, &str)> = Lines::of(text).map(Result::unwrap).collect();
+        let text = "# specimens\n\n0 1 101030323212 # H3: a plus\n  256\t0  7777\n3 4";
+        let entries: Vec<(Outline, Cow<str>)> = Lines::of(text).map(Result::unwrap).collect();
         assert_eq!(entries[0].1, "H3: a plus");
         assert_eq!(entries[0].0, Outline::new(Corner::new(0, 1), [1, 0, 1, 0, 3, 0, 3, 2, 3, 2, 1, 2]));
-        assert_eq!((entries[1].1, &entries[1].0.letters[..]), ("", &[7; 4][..]));
+        assert_eq!((&*entries[1].1, &entries[1].0.letters[..]), ("", &[7; 4][..]));
         assert_eq!(entries[2].0, Outline::new(Corner::new(3, 4), []));
         let lines: Vec<String> = entries.iter().map(|(outline, _)| line(outline).unwrap()).collect();
         assert_eq!(lines, ["0 1 101030323212", "256 0 7777", "3 4"]);
@@ -257,17 +260,29 @@ mod tests {
 
     #[test]
     fn a_fault_names_its_line() {
-        let fault = |text: &[u8]| Lines::of(text).last().unwrap().unwrap_err().to_string();
-        assert_eq!(fault(b"0 0 1032\n\n0 0 10x2"), "line 3: letters are 0 right, 1 up, 2 left and 3 down, not `x`");
-        assert_eq!(fault(b"0 -1 1032"), "line 1: column and row are numbers from 0 to 65535, not `-1`");
-        assert_eq!(fault(b"+1 0 1032"), "line 1: column and row are numbers from 0 to 65535, not `+1`");
-        assert_eq!(fault(b"65536 0 1032"), "line 1: column and row are numbers from 0 to 65535, not `65536`");
-        assert!(fault(b"7").starts_with("line 1: an outline is a column"));
-        assert!(fault(b"0 0 10 32").starts_with("line 1: an outline is a column"));
-        assert_eq!(fault(b"0 0 1032 # \xff"), "line 1: the text is not UTF-8");
-        assert!(fault(b"0 \x1b[2J 1032").ends_with("not `\\u{1b}[2J`"));
-        assert_eq!(Lines::of(b"x\n0 0 1032").count(), 1);
-        assert_eq!(Lines::after(4, b"x").next(), Some(Err(Fault { line: 5, wrong: Wrong::Fields })));
+        let fault = |text: &str| Lines::of(text).last().unwrap().unwrap_err().to_string();
+        assert_eq!(fault("0 0 1032\n\n0 0 10x2"), "line 3: letters are 0 right, 1 up, 2 left and 3 down, not `x`");
+        assert_eq!(fault("0 -1 1032"), "line 1: column and row are numbers from 0 to 65535, not `-1`");
+        assert_eq!(fault("+1 0 1032"), "line 1: column and row are numbers from 0 to 65535, not `+1`");
+        assert_eq!(fault("65536 0 1032"), "line 1: column and row are numbers from 0 to 65535, not `65536`");
+        assert!(fault("7").starts_with("line 1: an outline is a column"));
+        assert!(fault("0 0 10 32").starts_with("line 1: an outline is a column"));
+        assert!(fault("0 \x1b[2J 1032").ends_with("not `\\u{1b}[2J`"));
+        assert_eq!(Lines::of("x\n0 0 1032").count(), 2);
+        assert_eq!(Lines::after(4, "x").next(), Some(Err(Fault { line: 5, wrong: Wrong::Fields })));
+    }
+
+    #[test]
+    fn what_is_passed_is_there() {
+        let mut lines = Lines::of("# one\n\n0 0 1032\n0 0 x\n#two\n1 1 1032\n# three");
+        assert!(lines.next().unwrap().is_ok());
+        assert_eq!(lines.passed(), "# one\n\n");
+        assert!(lines.next().unwrap().is_err());
+        assert_eq!(lines.passed(), "");
+        assert!(lines.next().unwrap().is_ok());
+        assert_eq!(lines.passed(), "#two\n");
+        assert!(lines.next().is_none());
+        assert_eq!(lines.passed(), "# three");
     }
 
     #[test]
@@ -284,6 +299,7 @@ mod tests {
     #[test]
     fn control_characters_are_shown() {
         assert_eq!(Escaped("a\u{1b}[31mb\tc\u{202e}").to_string(), "a\\u{1b}[31mb\\u{9}c\\u{202e}");
-        assert_eq!(Escaped("Knie, größer").to_string(), "Knie, größer");
+        assert_eq!(Escaped("Knie, größer C:\\user").to_string(), "Knie, größer C:\\user");
+        assert_eq!(Escaped("\\u{1b}").to_string(), "\\u{5c}u{1b}");
     }
 }

@@ -6,6 +6,7 @@ use std::path::Path;
 
 use crate::input::Form;
 use crate::options::{self, Choice, Value, CONTRADICTIONS, NEEDS};
+use crate::origin::Origin;
 use crate::report::Format;
 
 #[derive(Debug, Default)]
@@ -13,6 +14,8 @@ pub struct Arguments {
     pub plain: Vec<OsString>,
     /// Options by their long names, each once; a value is empty where the option takes none.
     given: Vec<(&'static str, OsString)>,
+    /// What is written of where something came from.
+    pub origin: Origin,
 }
 
 impl Arguments {
@@ -108,7 +111,11 @@ impl Arguments {
 
     /// The form in which outlines are written, where it is given.
     pub fn to(&self) -> Option<Form> {
-        self.value("--to").map(|word| if word == "text" { Form::Text } else { Form::Fitting })
+        self.value("--to").and_then(OsStr::to_str).map(|word| match word {
+            "text" => Form::Text,
+            "image" => Form::Image,
+            _ => Form::Fitting,
+        })
     }
 
     pub fn format(&self) -> Format {

@@ -11,7 +11,7 @@ use std::sync::mpsc::{channel, Receiver, Sender};
 use std::sync::{Arc, Condvar, Mutex};
 use std::thread;
 
-use crate::input::{self, Fault, Form, Found, Piece, Pieces};
+use crate::input::{self, Fault, Form, Found, Nothing, Piece, Pieces, Why};
 
 /// How many pieces each worker may be ahead by.
 const AHEAD: usize = 4;
@@ -32,28 +32,29 @@ pub struct Source {
 pub enum Step {
     Piece(Piece),
     Fault(Fault),
-    End { empty: bool },
-    PassedOver,
+    End(End),
 }
 
-/// What a worker makes of a step: what is to be written, and the fault that ends the file.
+/// What a worker makes of a piece: what is to be written, and whether no more of the file is wanted.
 pub struct Result<T> {
     pub made: T,
-    pub fault: Option<Fault>,
+    pub ended: bool,
 }
 
 /// What comes back: of which file, and whether it is the end of it.
 pub struct Done<T> {
     pub source: Arc<Source>,
     pub made: Option<T>,
+    /// A fault after which no more of the file is read.
     pub fault: Option<Fault>,
     pub end: Option<End>,
 }
 
 #[derive(Clone, Copy, PartialEq)]
 pub enum End {
-    File { empty: bool },
-    PassedOver,
+    /// Of a file that was read; perhaps why it gave no outline.
+    File(Option<Nothing>),
+    PassedOver(Why),
 }
 
 /// How many results are still to be written. The reader waits while they are too many.
@@ -98,7 +99,7 @@ pub fn run<T: Send, E>(
     let workers = thread::available_parallelism().map_or(1, usize::from).min(MOST_WORKERS);
     let window = Window { open: Mutex::new(Some(AHEAD * workers + 1)), moved: Condvar::new() };
     let (tasks, waiting) = channel::<Task>();
-    let (results, done) = channel::<(u64, Done<T>)>();
+    let (results, done) = channel::<(u64, Done<(T, bool)>)>();
     let waiting = Mutex::new(waiting);
     thread::scope(|scope| {
         let (window, waiting, work) = (&window, &waiting, &work);
@@ -126,19 +127,17 @@ fn read_all(files: impl Iterator<Item = Found>, form: Option<Form>, window: &Win
         let (path, opened) = match found {
             Found::File(path) => {
                 let opened = input::open(&path);
-                (path, Some(opened))
+                (path, Ok(opened))
             }
-            Found::Unread(path, error) => (path, Some(Err(error))),
-            Found::PassedOver => (PathBuf::new(), None),
+            Found::Unread(path, error) => (path, Ok(Err(error))),
+            Found::PassedOver(path, why) => (path, Err(why)),
         };
         let name = shown(&path);
         let source = Arc::new(Source { path, name, ended: AtomicBool::new(false) });
         let goes_on = match opened {
-            None => send(&source, Step::PassedOver),
-            Some(Err(error)) => {
-                send(&source, Step::Fault(Fault::Unread(error))) && send(&source, Step::End { empty: false })
-            }
-            Some(Ok(bytes)) => read_one(bytes, form, &source, &mut send),
+            Err(why) => send(&source, Step::End(End::PassedOver(why))),
+            Ok(Err(error)) => send(&source, Step::Fault(Fault::Unread(error))) && send(&source, Step::End(End::File(None))),
+            Ok(Ok(bytes)) => read_one(bytes, form, &source, &mut send),
         };
         if !goes_on {
             return;
@@ -153,7 +152,7 @@ fn read_one(
     source: &Arc<Source>,
     send: &mut impl FnMut(&Arc<Source>, Step) -> bool,
 ) -> bool {
-    let mut pieces = Pieces::of(bytes, form);
+    let mut pieces = Pieces::of(bytes, input::form_to_read(&source.path, form));
     for piece in pieces.by_ref() {
         if source.ended.load(Ordering::Relaxed) {
             break;
@@ -162,13 +161,13 @@ fn read_one(
             return false;
         }
     }
-    send(source, Step::End { empty: pieces.was_empty() })
+    send(source, Step::End(End::File(pieces.nothing())))
 }
 
 /// A worker: makes a result of each step that it gets hold of.
 fn work_on<T>(
     waiting: &Mutex<Receiver<Task>>,
-    results: &Sender<(u64, Done<T>)>,
+    results: &Sender<(u64, Done<(T, bool)>)>,
     work: &impl Fn(&Source, &Piece) -> Result<T>,
 ) {
     loop {
@@ -180,16 +179,15 @@ fn work_on<T>(
             Step::Piece(piece) => {
                 // A panic has been told by now. Nobody must wait for this result.
                 let worked = catch_unwind(AssertUnwindSafe(|| work(&source, &piece)));
-                let Result { made, fault } = worked.unwrap_or_else(|_| process::exit(101));
-                (Some(made), fault, None)
+                let Result { made, ended } = worked.unwrap_or_else(|_| process::exit(101));
+                if ended {
+                    source.ended.store(true, Ordering::Relaxed);
+                }
+                (Some((made, ended)), None, None)
             }
             Step::Fault(fault) => (None, Some(fault), None),
-            Step::End { empty } => (None, None, Some(End::File { empty })),
-            Step::PassedOver => (None, None, Some(End::PassedOver)),
+            Step::End(end) => (None, None, Some(end)),
         };
-        if fault.is_some() {
-            source.ended.store(true, Ordering::Relaxed);
-        }
         if results.send((number, Done { source, made, fault, end })).is_err() {
             return;
         }
@@ -198,21 +196,23 @@ fn work_on<T>(
 
 /// Gives the results to the sink in the order of their numbers. What comes after a file's fault, but for its end, is dropped.
 fn in_order<T, E>(
-    done: &Receiver<(u64, Done<T>)>,
+    done: &Receiver<(u64, Done<(T, bool)>)>,
     window: &Window,
     sink: &mut impl FnMut(Done<T>) -> std::result::Result<(), E>,
 ) -> std::result::Result<(), E> {
-    let mut early: BTreeMap<u64, Done<T>> = BTreeMap::new();
+    let mut early = BTreeMap::new();
     let (mut next, mut faulty) = (0, false);
     for (number, result) in done {
         early.insert(number, result);
         while let Some(result) = early.remove(&next) {
             next += 1;
-            let (fault, end) = (result.fault.is_some(), result.end.is_some());
-            if !faulty || end {
-                sink(result)?;
+            let Done { source, made, fault, end } = result;
+            let ends = fault.is_some() || made.as_ref().is_some_and(|(_, ended)| *ended);
+            let at_end = end.is_some();
+            if !faulty || at_end {
+                sink(Done { source, made: made.map(|(made, _)| made), fault, end })?;
             }
-            faulty = (faulty || fault) && !end;
+            faulty = (faulty || ends) && !at_end;
             window.leave();
         }
     }
@@ -223,6 +223,6 @@ fn in_order<T, E>(
 fn shown(path: &Path) -> Arc<str> {
     match path.to_str() {
         Some("-") => "standard input".into(),
-        _ => robequarry::text::Escaped(&path.to_string_lossy()).to_string().into(),
+        _ => crate::paths::shown(path).into(),
     }
 }

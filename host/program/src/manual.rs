@@ -2,7 +2,7 @@
 
 use std::fmt::Write;
 
-use crate::commands::Command;
+use crate::commands::{statuses as statuses_of, Command};
 use crate::options;
 
 /// The page in roff, for section 1.
@@ -22,6 +22,7 @@ pub fn page(commands: &[&Command], introduction: &str, files: &str, statuses: &s
             let choice = options::named(name).expect("a command takes options of the table");
             write!(page, ".TP\n.B {}\n{}\n", roff(&options::usage(choice)), roff(choice.summary)).expect(ROOM);
         }
+        paragraphs(&mut page, &statuses_of(command));
     }
     section(&mut page, "FILES", files);
     section(&mut page, "EXIT STATUS", statuses);

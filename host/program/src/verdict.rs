@@ -1,6 +1,7 @@
 //! What the library says of an outline, in words.
 
 use robequarry::limits::{LAST_CORNER, LONGEST, SHORTEST};
+use robequarry::text::Escaped;
 use robequarry::{Cell, Edges, Outline, Refusal, Verdict, Witness};
 
 use crate::story::{LETTERS, NAMES};
@@ -26,6 +27,14 @@ pub fn count(n: usize, what: &str) -> String {
         0 => format!("no {what}"),
         1 => format!("1 {what}"),
         _ => format!("{n} {what}s"),
+    }
+}
+
+/// The name under which an outline of a file is spoken of. `name` may be empty.
+pub fn described(number: usize, name: &str) -> String {
+    match name {
+        "" => format!("outline {number}"),
+        name => format!("outline {number} ({})", Escaped(name)),
     }
 }
 

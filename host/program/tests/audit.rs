@@ -14,7 +14,7 @@ use support::call::{err, file, out, path, program, record, status, DENTED, PLUS,
 /// Edges are audited against outlines: what the first line says, and the status.
 fn audited(edges: &str, outlines: &str) -> (String, i32) {
     let (old, new) = (file("audit/edges.txt", edges.as_bytes()), file("audit/outlines.txt", outlines.as_bytes()));
-    let audited = program(&["audit", &old, &new]);
+    let audited = program(&["audit", &old, &new, "--by-position"]);
     assert_eq!(err(&audited), "");
     (out(&audited).lines().next().unwrap_or_default().to_string(), status(&audited))
 }
@@ -48,27 +48,30 @@ fn tables_of_another_date() {
     let then = program(&["check", SPECIMENS, "--format", "csv"]).stdout;
     let table = file("audit/then.csv", &then);
     let same = program(&["audit", &table, SPECIMENS]);
-    assert!(out(&same).ends_with("16 outlines: 16 agree, 0 differ, 0 unsafe\n"), "{}", out(&same));
+    assert!(out(&same).ends_with("16 outlines: 16 agree, 0 differ, 0 unsafe, 0 not compared\n"), "{}", out(&same));
     assert_eq!((status(&same), out(&same).lines().count()), (0, 17));
     assert_eq!(out(&program(&["audit", &table, &table])), out(&same));
     let quiet = program(&["audit", &table, SPECIMENS, "--differences"]);
-    assert_eq!(out(&quiet), "16 outlines: 16 agree, 0 differ, 0 unsafe\n");
+    assert_eq!(out(&quiet), "16 outlines: 16 agree, 0 differ, 0 unsafe, 0 not compared\n");
 
     // An engine that takes the dent, one that refuses a plus, one that names another place, and one outline more than there is.
     let other = "outline,number,place,anchor,edges\n5,0,,0 0,0 2 2 -2 -2 0\n2,9,,,\n6,8,4,,\n99,0,,0 0,\n";
     let told = program(&["audit", &file("audit/other.csv", other.as_bytes()), SPECIMENS, "--format=json", "--differences"]);
     let text = out(&told);
-    let lines: Vec<&str> = text.lines().collect();
+    let lines: Vec<&str> = text.lines().skip(1).collect();
     let start = "{\"type\":\"audit\",\"file\":null,\"outline\":5,\"name\":\"H6: a dent\",\"finding\":\"unsafe\",\"then\":0,\"now\":9,";
     assert_eq!(lines[0], format!("{start}\"let_in\":[[1,1]],\"left_out\":[]}}"));
     assert!(lines[1].contains("\"outline\":2,") && lines[1].contains("\"finding\":\"verdict\",\"then\":9,\"now\":0"));
     assert!(lines[2].contains("\"outline\":6,") && lines[2].contains("\"finding\":\"field\""));
     assert!(lines[3].contains("\"outline\":99,") && lines[3].contains("\"finding\":\"only then\""));
     assert!(lines[4].contains("\"outline\":0,") && lines[4].contains("\"finding\":\"only now\""));
-    assert_eq!(lines[17], "{\"type\":\"summary\",\"outlines\":17,\"agree\":0,\"differ\":17,\"unsafe\":1}");
+    assert_eq!(
+        lines[17],
+        "{\"type\":\"summary\",\"outlines\":17,\"agree\":0,\"differ\":3,\"unsafe\":1,\"not_compared\":14,\"faults\":0}"
+    );
     assert_eq!(status(&told), 1);
     let csv = out(&program(&["audit", &table, SPECIMENS, "--format=csv"]));
-    assert!(csv.starts_with("file,outline,name,finding,then,now,let_in,left_out\n") && csv.contains(",agrees,0,0,,\n"));
+    assert!(csv.contains("\nfile,outline,name,finding,then,now,let_in,left_out\n") && csv.contains(",agrees,0,0,,\n"));
 }
 
 /// A table of a whole folder, held to the folder where it was and to a copy elsewhere.
@@ -85,7 +88,7 @@ fn a_fleet_of_another_date() {
     let table = file("audit/fleet.csv", &program(&["check", &then, "--format", "csv"]).stdout);
     for place in [&then, &now] {
         let same = program(&["audit", &table, place]);
-        assert!(out(&same).ends_with("4 outlines: 4 agree, 0 differ, 0 unsafe\n"), "{}", out(&same));
+        assert!(out(&same).ends_with("4 outlines: 4 agree, 0 differ, 0 unsafe, 0 not compared\n"), "{}", out(&same));
         assert_eq!(status(&same), 0);
     }
     // One file is changed, one is new, and one has gone.
@@ -95,13 +98,15 @@ fn a_fleet_of_another_date() {
     let told = out(&program(&["audit", &table, &now, "--differences"]));
     let lines: Vec<&str> = told.lines().collect();
     assert!(
-        lines[0].starts_with(&format!("{then}/b/three.fit: outline 0: there is no such outline now - then taken")),
+        lines[0]
+            .starts_with(&format!("{then}/b/three.fit: outline 0: NOT COMPARED: there is no such outline now - then taken")),
         "{told}"
     );
     let two = format!("{then}/two.fit: outline 0: the verdict is another - then refused by 9, a dent; now taken, 4 edges");
     assert_eq!(lines[1], two);
-    let four = format!("{now}/four.fit: outline 0: nothing was said of it then - then nothing; now taken, 4 edges");
-    assert_eq!((lines[2], lines[3]), (four.as_str(), "5 outlines: 2 agree, 3 differ, 0 unsafe"));
+    let four =
+        format!("{now}/four.fit: outline 0: NOT COMPARED: nothing was said of it then - then nothing; now taken, 4 edges");
+    assert_eq!((lines[2], lines[3]), (four.as_str(), "5 outlines: 2 agree, 1 differ, 0 unsafe, 2 not compared"));
 }
 
 #[test]
@@ -122,10 +127,14 @@ fn faults_of_an_audit() {
     assert!(bad("audit/quote.csv", "outline,number\n0,\"0\n").0.ends_with("line 2: a quote has no end\n"));
     let none = program(&["audit", "no/such/file", SPECIMENS]);
     assert!(err(&none).starts_with("robequarry: no/such/file: cannot be read: "));
-    let fault = program(&["audit", &file("audit/one.txt", b"0 0\n"), &file("audit/fault.txt", b"0 0 1032\n0 0 x\n")]);
-    assert!(
-        err(&fault).contains("line 2: letters are") && out(&fault).ends_with("1 outline: 1 agree, 0 differ, 0 unsafe\n")
-    );
+    let fault = program(&[
+        "audit",
+        &file("audit/one.edges", b"0 0\n"),
+        &file("audit/fault.txt", b"0 0 1032\n0 0 x\n"),
+        "--by-position",
+    ]);
+    assert!(err(&fault).contains("line 2: letters are") && fault.status.code() == Some(2));
+    assert!(out(&fault).ends_with("1 outline: 1 agree, 0 differ, 0 unsafe, 0 not compared\n"), "{}", out(&fault));
 }
 
 /// Whatever the outline and whatever the edges: let in and left out are what plain counting of cells says.
@@ -151,11 +160,11 @@ fn drawn_outlines_against_edges_of_others() {
         expected.push((apart(&in_list, &marked), apart(&marked, &in_list)));
     }
     let (old, new) = (file("audit/drawn-edges.txt", edges.as_bytes()), file("audit/drawn.txt", outlines.as_bytes()));
-    let csv = out(&program(&["audit", &old, &new, "--format=csv"]));
+    let csv = out(&program(&["audit", &old, &new, "--format=csv", "--by-position"]));
     let count = |field: &str| field.split(' ').filter(|number| !number.is_empty()).count() / 2;
     let found: Vec<(usize, usize)> = csv
         .lines()
-        .skip(1)
+        .skip(2)
         .map(|line| {
             let fields: Vec<&str> = line.split(',').collect();
             (count(fields[6]), count(fields[7]))

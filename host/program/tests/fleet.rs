@@ -37,7 +37,7 @@ fn folders_are_read_in_order_and_past_faults() {
          longest outline: 12 letters, in outline 0 of {folder}/a/y.fit\n  \
          most edges: 4 edges, in outline 0 of {folder}/a/z.fit\n  \
          1 file with a fault\n  \
-         1 file passed over: the name ends in neither .fit nor .txt\n"
+         1 passed over: the name ends in none of .fit, .txt and .img\n"
     );
     assert_eq!(out(&checked), lines);
     let fault = "fault 23: outline 1 has no mark: the bytes 4B 4F are not at byte 18";
@@ -48,7 +48,7 @@ fn folders_are_read_in_order_and_past_faults() {
     let every = program(&["check", &folder, "--every-file", "--summary"]);
     assert!(out(&every).starts_with("5 outlines in 5 files: 3 taken, 2 refused\n"), "{}", out(&every));
     let named = program(&["check", &format!("{folder}/notes.md"), &format!("{folder}/c.fit")]);
-    assert!(out(&named).ends_with("c.fit\n") && status(&named) == 0, "{}", out(&named));
+    assert!(out(&named).ends_with("c.fit\n  1 file without an outline\n") && status(&named) == 0, "{}", out(&named));
     let none = program(&["check", &format!("{folder}/none"), &format!("{folder}/c.fit")]);
     assert!(err(&none).contains("none: cannot be read: ") && out(&none).contains("1 outline in 2 files"));
     assert_eq!(status(&none), 2);
@@ -59,19 +59,22 @@ fn a_json_object_a_line() {
     let folder = fleet();
     let checked = program(&["check", &folder, "--format", "json"]);
     let text = out(&checked);
-    let lines: Vec<&str> = text.lines().collect();
+    let mut lines: Vec<&str> = text.lines().collect();
+    let origin = lines.remove(0);
+    assert!(origin.starts_with("{\"type\":\"origin\",\"program\":") && origin.contains(robequarry::ARCHIVE), "{origin}");
+    assert!(origin.ends_with(&format!("\"call\":\"robequarry check {folder} --format json\"}}")), "{origin}");
     let dent = format!(
         "{{\"type\":\"outline\",\"file\":\"{folder}/a/y.fit\",\"outline\":0,\"name\":null,\"letters\":12,\"number\":9,\
          \"meaning\":\"a dent\",\"place\":4,\"piece\":2,\"length\":4,\"cell\":[4,5],\"anchor\":null,\"edges\":null,\
          \"missing\":[4,5],\"witness\":[[5,4],[3,6],[3,5]]}}"
     );
     assert_eq!(lines[0], dent);
-    assert!(lines[1].starts_with(&format!("{{\"type\":\"fault\",\"file\":\"{folder}/a/y.fit\",\"number\":23,\"byte\":18")));
+    let fault = format!("{{\"type\":\"fault\",\"file\":\"{folder}/a/y.fit\",\"outline\":1,\"number\":23,\"meaning\":");
+    assert!(lines[1].starts_with(&fault) && lines[1].ends_with("\"line\":null,\"byte\":18}"), "{}", lines[1]);
     let taken = "\"anchor\":[0,1],\"edges\":[[1,1],[1,-1],[-1,-1],[-1,1]],\"missing\":null,\"witness\":null}";
     assert!(lines[2].ends_with(taken), "{}", lines[2]);
-    assert!(
-        lines[6].starts_with("{\"type\":\"summary\",\"files\":4,\"empty\":0,\"faults\":1,\"passed_over\":1,\"outlines\":5")
-    );
+    assert!(lines[6]
+        .starts_with("{\"type\":\"summary\",\"files\":4,\"empty\":0,\"faults\":1,\"faulty_lines\":0,\"passed_over\":1,"));
     assert_eq!((lines.len(), status(&checked)), (7, 2));
     // Of a back-step the reply names no cell, and the witness does.
     let back_step = fed(&["check", "-", "--format=json"], b"0 0 110301033222\n");
@@ -81,12 +84,17 @@ fn a_json_object_a_line() {
 
 #[test]
 fn csv_is_a_table() {
-    let checked = fed(&["check", "-", "--format", "csv"], b"0 1 101030323212 # a, \"b\"\n0 0 103\n");
-    let lines = "file,outline,name,letters,number,meaning,place,piece,length,cell,anchor,edges,missing,witness\n\
-                 standard input,0,\"a, \"\"b\"\"\",12,0,taken,4,,,,0 1,1 1 1 -1 -1 -1 -1 1,,\n\
-                 standard input,1,,3,1,too few or too many letters,,,,,,,,\n";
-    assert_eq!((out(&checked).as_str(), status(&checked)), (lines, 1));
-    assert!(err(&checked).starts_with("robequarry: 2 outlines in 1 file: 1 taken, 1 refused\n"));
+    let checked = fed(&["check", "-", "--format", "csv"], b"0 1 101030323212 # a, \"b\"\n0 0 103\n0 0 x\n");
+    let text = out(&checked);
+    let (origin, table) = text.split_once('\n').expect("there are lines");
+    assert!(origin.starts_with("# robequarry ") && origin.ends_with("Z: robequarry check - --format csv"), "{origin}");
+    let lines =
+        "type,file,outline,name,letters,number,meaning,place,piece,length,cell,anchor,edges,missing,witness,line,byte\n\
+                 outline,standard input,0,\"a, \"\"b\"\"\",12,0,taken,4,,,,0 1,1 1 1 -1 -1 -1 -1 1,,,,\n\
+                 outline,standard input,1,,3,1,too few or too many letters,,,,,,,,,,\n\
+                 fault,standard input,2,,,,\"line 3: letters are 0 right, 1 up, 2 left and 3 down, not `x`\",,,,,,,,,3,\n";
+    assert_eq!((table, status(&checked)), (lines, 2));
+    assert!(err(&checked).contains("robequarry: 2 outlines in 1 file: 1 taken, 1 refused\n"));
 }
 
 /// A text that is cut in many pieces has the same numbers, lines and counts as a small one; what follows a fault is not read.

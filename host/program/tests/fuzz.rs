@@ -5,7 +5,7 @@ use std::io::{self, Read};
 use std::path::Path;
 
 use robequarry_checks::random::Random;
-use robequarry_program::input::Pieces;
+use robequarry_program::input::{Nothing, Pieces};
 
 /// So many inputs, each cut in several ways.
 const INPUTS: usize = 3000;
@@ -41,12 +41,15 @@ fn read(source: impl Read) -> (Vec<String>, bool) {
                 Ok((outline, name)) => format!("{} {outline:?} {name}", piece.outlines + i),
                 Err(fault) => fault.to_string(),
             });
+            if faulty {
+                break;
+            }
         }
         if faulty {
             break;
         }
     }
-    (lines, pieces.was_empty())
+    (lines, pieces.nothing() == Some(Nothing::Empty))
 }
 
 fn seeds() -> Vec<Vec<u8>> {
@@ -55,6 +58,8 @@ fn seeds() -> Vec<Vec<u8>> {
         fs::read(root.join("specimens.txt")).expect("it ships"),
         b"\xEF\xBB\xBF0 0 1032 # one\n\n# two\n1 1 1032\r\n2 2 10x2\n3 3 1032".to_vec(),
         b" \n\t 7 7 1032\n".to_vec(),
+        b"\xFF\xFE0\0 \x000\0 \x001\x000\x003\x002\0\r\0\n\x001\0 \x001\0".to_vec(),
+        b"0 0 1032 # Ren\xE9e\r1 1 1032\r\n2 2 1032\n\r3 3".to_vec(),
     ];
     for name in ["h3", "two_and_a_fault", "specimens", "65536_bytes", "65537_bytes", "lone_byte", "wrong_mark"] {
         seeds.push(fs::read(root.join(format!("../../files/{name}.fit"))).expect("it ships"));

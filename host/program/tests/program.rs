@@ -41,7 +41,8 @@ fn a_fitting_file_is_read_as_well() {
     assert_eq!(status(&program(&["check", &plus])), 0);
     let path = file("empty.fit", &[]);
     let empty = program(&["check", &path]);
-    assert_eq!((out(&empty).as_str(), status(&empty)), ("no outline in 1 file: 0 taken, 0 refused\n  1 file empty\n", 0));
+    let said = "no outline in 1 file: 0 taken, 0 refused\n  1 file without an outline\n  nothing was checked\n";
+    assert_eq!((out(&empty).as_str(), status(&empty)), (said, 3));
     assert_eq!(err(&empty), format!("robequarry: {path}: the file is empty: it holds no outline\n"));
 }
 
@@ -93,7 +94,8 @@ fn faults_of_a_call() {
         (&["explain", SPECIMENS, "--outline", "x"], "--outline needs a number, not `x`"),
     ] {
         let called = program(arguments);
-        assert_eq!(err(&called), format!("robequarry: {message}\nTry `robequarry --help`.\n"));
+        let command = arguments.first().filter(|name| **name != "chekc").map_or(String::new(), |name| format!("{name} "));
+        assert_eq!(err(&called), format!("robequarry: {message}\nTry `robequarry {command}--help`.\n"));
         assert_eq!((out(&called).as_str(), status(&called)), ("", 2));
     }
     let none = program(&["explain", SPECIMENS, "-n", "16"]);
@@ -114,6 +116,8 @@ fn help_names_every_command() {
         let more = program(&[name, "--help"]);
         assert!(out(&more).starts_with(&format!("robequarry {name}")), "{name}");
         assert_eq!(out(&program(&["help", name])), out(&more));
+        // Its own statuses, and a line for each of its options.
+        assert!(out(&more).contains("\nExit status:\n  0   ") && out(&more).contains("\n  2   "), "{name}");
     }
 }
 
@@ -161,7 +165,7 @@ fn rows_of_a_block() {
     assert!(out(&dented).starts_with("outline 5 (H6: a dent): refused, 9: "));
     assert_eq!(status(&dented), 1);
     let wrong = program(&["row", SPECIMENS, "-1"]);
-    assert_eq!(err(&wrong), "robequarry: `-1` is not a row\nTry `robequarry --help`.\n");
+    assert_eq!(err(&wrong), "robequarry: `-1` is not a row\nTry `robequarry row --help`.\n");
 }
 
 #[test]
@@ -182,7 +186,7 @@ fn readings_in_words() {
     assert!(out(&dented).starts_with("outline 5 (H6: a dent): refused, 9: "));
     assert_eq!(status(&dented), 1);
     let wrong = program(&["reading", SPECIMENS, "1", "x"]);
-    assert_eq!(err(&wrong), "robequarry: `x` is not a load\nTry `robequarry --help`.\n");
+    assert_eq!(err(&wrong), "robequarry: `x` is not a load\nTry `robequarry reading --help`.\n");
     assert_eq!(status(&program(&["reading", SPECIMENS, "1"])), 2);
 }
 
@@ -241,9 +245,7 @@ fn complete_writes_what_to_draw_instead() {
     let checked = program(&["check", &again]);
     assert!(out(&checked).contains("3 outlines in 1 file: 3 taken, 0 refused\n"), "{}", out(&checked));
     let twice = program(&["complete", &again]);
-    let without_remark: String =
-        lines.lines().filter(|line| !line.starts_with('#')).map(|line| format!("{line}\n")).collect();
-    assert_eq!((out(&twice), status(&twice)), (without_remark, 0));
+    assert_eq!((out(&twice).as_str(), status(&twice)), (lines, 0));
 
     // A fitting file has no names; the test's refusal by 9 is none of the completion's.
     let dented = program(&["complete", &file("dented.fit", &record((7, 3), &DENTED))]);

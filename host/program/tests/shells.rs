@@ -75,7 +75,7 @@ fn the_shells_take_them() {
 fn bash_completes_words() {
     for (words, expected) in [
         ("robequarry ch", "check"),
-        ("robequarry check --fo", "--format"),
+        ("robequarry check --form", "--format"),
         ("robequarry check --format j", "json"),
         ("robequarry convert --to f", "fitting"),
         ("robequarry completions z", "zsh"),

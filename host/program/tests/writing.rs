@@ -19,10 +19,10 @@ fn text_to_fitting_file_and_back() {
     assert_eq!((out(&back).as_str(), status(&back)), ("0 1 101030323212\n7 7 00\n", 0));
     assert_eq!(program(&["convert", &text, "--to=fitting"]).stdout, bytes);
     // Names and all, from text to text.
-    assert_eq!(out(&program(&["convert", &text, "--to=text"])), "0 1 101030323212  # a plus\n7 7 00\n");
-
-    let unsaid = program(&["convert", &text]);
-    assert!(err(&unsaid).starts_with("robequarry: convert needs a form: --to text or --to fitting\n"));
+    assert_eq!(out(&program(&["convert", &text, "--to=text"])), "# two\n0 1 101030323212  # a plus\n7 7 00\n");
+    // Where nothing says the form, it is the other one.
+    assert_eq!(program(&["convert", &text]).stdout, bytes);
+    assert_eq!(out(&program(&["convert", &fitting])), out(&back));
     let both = program(&["convert", &text, "--to=fitting", "-o", "a.txt"]);
     assert!(err(&both).starts_with("robequarry: --to fitting and the name a.txt contradict each other\n"));
     let start = fed(&["convert", "-", "--to=fitting"], b"0 0 1032\n256 0 1032\n");
@@ -96,7 +96,8 @@ fn sixteen_layers_from_a_file() {
     assert_eq!(status, 0);
     assert_eq!(pile(&"9 1 1032\n".repeat(16)).1, 0);
     let empty = fed(&["pile", "-"], b"");
-    assert!(err(&empty).ends_with("the file is empty: it holds no outline\n") && out(&empty).starts_with("passed"));
+    assert!(err(&empty).ends_with("the file is empty: it holds no outline\n") && support::call::status(&empty) == 3);
+    assert_eq!(out(&empty), "nothing was checked: there is no layer\n");
     let (said, status) = pile(&"9 1 1032\n".repeat(17));
     assert!(said.starts_with("refused, 22: the layer is none of the 16 - the file has 17 outlines") && status == 1);
     let (said, status) = pile("9 1 1032\n0 0 111033003222\n");
@@ -150,7 +151,7 @@ fn contradictions_in_a_picture() {
         (&["--pile", "--row=255"], "--row is a number from 0 to 254"),
     ] {
         let called = program(&[&["draw", &file("writing/one.txt", b"0 0 1032\n"), "-o", "x.svg"], arguments].concat());
-        assert_eq!(err(&called), format!("robequarry: {message}\nTry `robequarry --help`.\n"));
+        assert_eq!(err(&called), format!("robequarry: {message}\nTry `robequarry draw --help`.\n"));
         assert_eq!(status(&called), 2);
     }
 }

@@ -28,24 +28,22 @@ pub fn fitting(bytes: &[u8]) {
 
 /// Each line of a text is read as it is by itself, and what is read is written back and read again.
 pub fn text(bytes: &[u8]) {
-    let mut read: Vec<_> = Lines::of(bytes).collect();
-    let fault = read.last().and_then(|last| last.as_ref().err()).cloned();
-    read.truncate(read.len() - usize::from(fault.is_some()));
-    let entries: Vec<(Outline, &str)> = read.into_iter().map(|entry| entry.expect("a fault comes last")).collect();
-    for (outline, name) in &entries {
+    let decoded = text::decode(bytes);
+    assert_eq!(text::decode(decoded.as_bytes()), decoded.strip_prefix('\u{feff}').unwrap_or(&decoded));
+    let read: Vec<_> = Lines::of(&decoded).collect();
+    for (outline, name) in read.iter().flatten() {
         let line = text::line(outline).expect("it was digits");
         assert_eq!(line.parse().as_ref(), Ok(outline));
-        assert_eq!(text::entry(&format!("{line} #{name}")).as_ref(), Ok(&Some((outline.clone(), *name))));
-        assert!(!text::Escaped(name).to_string().chars().any(char::is_control));
+        let escaped = text::Escaped(name).to_string();
+        assert!(!escaped.chars().any(char::is_control));
+        assert_eq!(text::unescaped(&escaped), *name);
+        let again = format!("{line} #{}", escaped.trim_matches(|char: char| char.is_ascii_whitespace()));
+        assert_eq!(text::entry(&again).map(|entry| entry.map(|(outline, _)| outline)).as_ref(), Ok(&Some(outline.clone())));
     }
-    let lines: Vec<&[u8]> = bytes.split(|&byte| byte == b'\n').collect();
-    let upto = fault.as_ref().map_or(lines.len(), |fault| fault.line - 1);
-    let alone = lines[..upto].iter().map(|line| text::entry(std::str::from_utf8(line).expect("it was read")));
-    let alone: Vec<(Outline, &str)> = alone.filter_map(|entry| entry.expect("it was read")).collect();
-    assert_eq!(alone, entries);
-    if let Some(fault) = fault {
-        let line = std::str::from_utf8(lines[fault.line - 1]).map_err(|_| text::Wrong::Encoding);
-        assert_eq!(line.and_then(text::entry), Err(fault.wrong.clone()));
+    let alone = decoded.split('\n').enumerate().map(|(i, line)| (i + 1, text::entry(line)));
+    let alone = alone.filter_map(|(line, read)| read.map_err(|wrong| text::Fault { line, wrong }).transpose());
+    assert!(alone.eq(read.iter().cloned()));
+    for fault in read.iter().filter_map(|read| read.as_ref().err()) {
         assert!(!fault.to_string().chars().any(char::is_control));
     }
 }

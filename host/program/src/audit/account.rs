@@ -2,6 +2,7 @@
 
 use robequarry::{Cell, Edges, Verdict};
 
+use crate::story::Rows;
 use crate::verdict::{count, fields, meaning, Named};
 
 #[derive(Clone, Debug, Default, PartialEq)]
@@ -13,12 +14,15 @@ pub struct Account {
     pub length: Option<usize>,
     pub cell: Option<Cell>,
     pub edges: Option<Edges>,
+    /// Of each row the marked columns, by which a controller answers a query.
+    pub rows: Option<Rows>,
 }
 
 impl Account {
     pub fn of(verdict: &Verdict) -> Self {
         let Named { number, place, piece, length, cell } = fields(verdict);
-        Account { number, place, piece: piece.map(usize::from), length, cell, edges: verdict.as_ref().ok().cloned() }
+        let (piece, edges) = (piece.map(usize::from), verdict.as_ref().ok().cloned());
+        Account { number, place, piece, length, cell, edges, rows: None }
     }
 
     /// Edges that are at work: the outline was taken.
@@ -42,7 +46,11 @@ impl Account {
     pub fn words(&self) -> String {
         match (self.number, &self.edges) {
             (0, Some(edges)) => format!("taken, {}", count(edges.steps().len(), "edge")),
-            (0, None) => meaning(0).to_string(),
+            (0, None) => match &self.rows {
+                Some(rows) if rows.is_empty() => "an empty place".to_string(),
+                Some(rows) => count(rows.len(), "row"),
+                None => meaning(0).to_string(),
+            },
             (number, _) => format!("refused by {number}, {}", meaning(number)),
         }
     }

@@ -11,16 +11,18 @@ use robequarry::{Outline, Refusal};
 use crate::story::Rows;
 use crate::walk::Point;
 pub use account::Account;
-pub use now::{shown, Now, Outlines};
+pub use now::{Now, Outlines};
 pub use then::{open, Line};
 
 /// How an account from then stands to now.
 #[derive(Debug, Default, PartialEq)]
 pub struct Finding {
-    /// Cells in the edges from then that are not marked, from the lowest row up: the hazard.
+    /// Cells in the edges or rows from then that are not marked, from the lowest row up: the hazard.
     pub let_in: Vec<Point>,
-    /// Marked cells that these edges leave out.
+    /// Marked cells that these leave out.
     pub left_out: Vec<Point>,
+    /// Whether these cells differ by rows, and not by edges.
+    pub by_rows: bool,
     /// Why the list of edges from then answers for no cell.
     pub list_refused: Option<Refusal>,
     /// The verdict is another: taken or refused, or by another number.
@@ -46,8 +48,25 @@ impl Finding {
         }
     }
 
-    /// Compares an account with what is said now. `marked` are the cells of the outline, where that is there.
+    /// Compares an account with what is said now, its edges and its rows. `marked` are the cells of the outline, where that is there.
     pub fn of(then: &Account, now: &Account, marked: Option<&Rows>) -> Self {
+        let mut finding = Finding::of_edges(then, now, marked);
+        let Some(rows) = then.rows.as_ref().filter(|_| finding.let_in.is_empty()) else {
+            return finding;
+        };
+        let marked = match (marked, &now.edges) {
+            (Some(marked), _) => cells::of_rows(marked),
+            (None, Some(edges)) => cells::inside(edges).unwrap_or_default(),
+            (None, None) => return finding,
+        };
+        let (let_in, left_out) = cells::apart(&cells::of_rows(rows), &marked);
+        if !let_in.is_empty() || finding.left_out.is_empty() && !left_out.is_empty() {
+            (finding.let_in, finding.left_out, finding.by_rows) = (let_in, left_out, true);
+        }
+        finding
+    }
+
+    fn of_edges(then: &Account, now: &Account, marked: Option<&Rows>) -> Self {
         let verdict = then.number != now.number;
         let field = if verdict { None } else { then.other_field(now) };
         let mut finding = Finding { verdict, field, ..Finding::default() };
@@ -113,6 +132,26 @@ mod tests {
         assert_eq!(found("0 0", "0 1 1033").let_in, [(0, 0)]);
         // Edges that leave the chart let in cells of the chart alone.
         assert_eq!(found("254 254  5 0  -5 0", "254 254 1032").let_in, []);
+    }
+
+    /// A query answers by rows, so they are held to the outline by themselves.
+    #[test]
+    fn rows_from_the_field() {
+        let outline: Outline = PLUS.parse().unwrap();
+        let now = Account::of(&outline.test());
+        let found = |rows: &[(i32, (i32, i32))]| {
+            let rows = rows.iter().map(|&(row, run)| (row, vec![run])).collect();
+            let then = Account { rows: Some(rows), ..Account::default() };
+            Finding::of(&then, &now, Some(&marked(&outline, now.number)))
+        };
+        assert!(found(&[(0, (1, 1)), (1, (0, 2)), (2, (1, 1))]).agrees());
+        let wide = found(&[(0, (1, 1)), (1, (0, 3)), (2, (1, 1))]);
+        assert_eq!((wide.word(), &wide.let_in[..], wide.by_rows), ("unsafe", &[(3, 1)][..], true));
+        assert_eq!(found(&[(0, (1, 1))]).word(), "cells left out");
+        assert_eq!(found(&[]).left_out.len(), 5);
+        // Right edges do not excuse wrong rows.
+        let both = Account { rows: Some(Rows::from([(7, vec![(7, 7)])])), ..now.clone() };
+        assert_eq!(Finding::of(&both, &now, Some(&marked(&outline, 0))).let_in, [(7, 7)]);
     }
 
     #[test]

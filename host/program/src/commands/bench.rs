@@ -16,6 +16,7 @@ pub const COMMAND: Command = Command {
     help: "\
 Times the test of each outline of a file, and a query of a cell where the outline is taken; without a file, of the specimens. A
 time is the least of many. The benchmark against other programs is `cargo run --release --bin bench` in host/.",
+    statuses: &[(0, "every outline is taken"), (1, "an outline is refused"), (2, "something is wrong with the call, or with the file")],
     options: &["--text", "--fitting"],
     run,
 };

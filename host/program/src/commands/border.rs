@@ -3,7 +3,7 @@ use std::path::Path;
 
 use robequarry::{text, Cell, Edges};
 
-use super::{form_to_write, number, put, refused, written, Command, Console, Failure, Status};
+use super::{form_to_write, guard, number, put, refused, written, Command, Console, Failure, Status};
 use crate::arguments::Arguments;
 use crate::audit;
 use crate::engine;
@@ -23,10 +23,14 @@ and rows, clockwise from the anchor. Where no taken outline has them, it writes 
 With --edges it does so for each line of a file: a list of edges as `audit` reads it, or a CSV as `check --format csv` writes it, of
 which it takes what has edges. What it writes is a file of outlines; a line after a # says which edges have no outline.
 
-    robequarry border --edges controllers.txt -o outlines.txt
-
-Here the exit status is 0 if every list of edges has an outline, and 1 if one has none.",
-    options: &["--edges", "--out", "--to"],
+    robequarry border --edges controllers.txt -o outlines.txt",
+    statuses: &[
+        (0, "every list of edges has an outline"),
+        (1, "one has none"),
+        (2, "something is wrong with the call, or with the file"),
+        (3, "there was no list of edges"),
+    ],
+    options: &["--edges", "--out", "--to", "--force"],
     run,
 };
 
@@ -61,23 +65,27 @@ fn from_numbers(edges: &Edges, arguments: &Arguments, console: &mut Console) -> 
 
 fn from_file(path: &Path, arguments: &Arguments, console: &mut Console) -> Result<Status, Failure> {
     let faulty = |sentence: String| Failure::File(path.to_path_buf(), sentence);
+    if let Some(out) = arguments.path("--out") {
+        guard(out, &[path], arguments)?;
+    }
     let lines = audit::open(path).map_err(|error| faulty(format!("cannot be read: {error}")))?;
     let mut sink = sink(arguments)?;
-    let mut all = true;
+    let (mut all, mut number) = (true, 0);
     for line in lines.map_err(|wrong| faulty(wrong.to_string()))? {
         let line = line.map_err(|wrong| faulty(wrong.to_string()))?;
         let Some(edges) = line.account.edges else {
             continue;
         };
         match engine::border(&edges) {
-            Ok(outline) => put(sink.outline(&outline, &line.name, console), path, line.outline)?,
+            Ok(outline) => put(sink.outline(&outline, &line.name, console), path, number)?,
             Err(refusal) => {
-                let (list, number) = (text::edge_line(&edges), refusal.number());
-                put(sink.remark(&format!("{list}: refused, {number}: {refusal}"), console), path, line.outline)?;
+                let (list, refused) = (text::edge_line(&edges), refusal.number());
+                put(sink.remark(&format!("{list}: refused, {refused}: {refusal}"), console), path, number)?;
                 all = false;
             }
         }
+        number += 1;
     }
     written(sink, path, console)?;
-    Ok(Status::of(all))
+    Ok(if number == 0 { Status::Nothing } else { Status::of(all) })
 }

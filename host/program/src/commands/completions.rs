@@ -12,6 +12,7 @@ Writes the completions of commands, options and their values for a shell.
     robequarry completions bash > ~/.local/share/bash-completion/completions/robequarry
     robequarry completions zsh > ~/.zfunc/_robequarry
     robequarry completions fish > ~/.config/fish/completions/robequarry.fish",
+    statuses: &[(0, "they were written"), (2, "something is wrong with the call")],
     options: &[],
     run,
 };

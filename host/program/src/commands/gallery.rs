@@ -13,6 +13,7 @@ pub const COMMAND: Command = Command {
     help: "\
 Writes into a folder a picture of each specimen of the contract and of each block for training, and sheets of them. The
 pictures in docs/pictures/ are made by `robequarry gallery docs/pictures`.",
+    statuses: &[(0, "the pictures were written"), (2, "something is wrong with the call, or a picture cannot be written")],
     options: &[],
     run,
 };

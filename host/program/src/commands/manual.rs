@@ -11,6 +11,7 @@ Writes the manual page in the form that man reads.
 
     robequarry manual > robequarry.1
     man ./robequarry.1",
+    statuses: &[(0, "it was written"), (2, "something is wrong with the call")],
     options: &[],
     run,
 };

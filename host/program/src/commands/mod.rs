@@ -11,6 +11,7 @@ mod convert;
 mod draw;
 mod explain;
 mod gallery;
+mod image;
 mod manual;
 mod pile;
 mod reading;
@@ -27,10 +28,14 @@ use robequarry::Refusal;
 use crate::arguments::{nearest, Arguments};
 use crate::console;
 use crate::engine::AtWork;
-use crate::input::{Entry, Fault, Form, Reader};
+use crate::explain::wrapped;
+use crate::input::{Entry, Fault, Form, Found, Reader, Walk};
 use crate::options;
+use crate::origin::Origin;
 use crate::output::{self, Sink};
-use crate::verdict::Said;
+use crate::paths::shown;
+use crate::report::{json_line, Format, Row};
+use crate::verdict::{described, Said};
 
 type Console = console::Console<io::Stdout, io::Stderr>;
 
@@ -43,9 +48,21 @@ enum Status {
     Refused,
     /// A file had a fault, which has been told; others were read.
     Faulty,
+    /// There was nothing to look at, or something was not compared: no reason to be at ease.
+    Nothing,
 }
 
 impl Status {
+    /// The worse of two: a fault, a refusal, nothing looked at, and all well.
+    fn worse(self, other: Self) -> Self {
+        let rank = |status: Self| [Status::Faulty, Status::Refused, Status::Nothing].iter().position(|one| *one == status);
+        match (rank(self), rank(other)) {
+            (None, _) => other,
+            (Some(a), Some(b)) if b < a => other,
+            _ => self,
+        }
+    }
+
     fn of(taken: bool) -> Self {
         if taken {
             Status::Taken
@@ -77,6 +94,8 @@ pub struct Command {
     pub usage: &'static str,
     pub summary: &'static str,
     pub help: &'static str,
+    /// Each exit status, and what it says.
+    pub statuses: &'static [(u8, &'static str)],
     pub options: &'static [&'static str],
     run: fn(&Arguments, &mut Console) -> Result<Status, Failure>,
 }
@@ -84,6 +103,7 @@ pub struct Command {
 const COMMANDS: &[&Command] = &[
     &check::COMMAND,
     &audit::COMMAND,
+    &image::COMMAND,
     &explain::COMMAND,
     &draw::COMMAND,
     &complete::COMMAND,
@@ -109,43 +129,57 @@ that a cell is missing, and the smallest convex block round it is what to draw i
 come from the proved library.";
 
 const FILES: &str = "\
-Files hold one or more outlines, numbered from 0, in one of two forms:
+Files hold one or more outlines, numbered from 0, in one of three forms:
   text           an outline a line: the start's column and row, then the letters in a row; a name may follow a #
                      0 1 101030323212    # a plus
   fitting file   records of bytes: 4B 4F, column, row, the count of letters (two bytes, low first), the letters
+  image          622 bytes, as rq_save writes them of one place of a controller: a record, zeros, and a checksum
 A file shows its form by itself; --text or --fitting says it. The file `-` is standard input.";
 
 const STATUSES: &str = "\
-Exit status: 0 if every outline is taken, 1 if one, or what is asked of it, is refused, 2 if something is wrong with the call or
-a file.";
+Exit status: 0 if all is well, 1 if an outline, or what is asked of it, is refused or differs, 2 if something is wrong with the call or
+a file, 3 if nothing was looked at, or something was not compared. Each command's help says what its own statuses mean.";
+
+/// The statuses of a command in lines.
+pub fn statuses(command: &Command) -> String {
+    let line = |(status, meaning): &(u8, &str)| {
+        let lines = wrapped(meaning, 120);
+        format!("  {status}   {}", lines.join("\n      "))
+    };
+    format!("Exit status:\n{}", command.statuses.iter().map(line).collect::<Vec<_>>().join("\n"))
+}
 
 /// Runs a call of the program, and gives its exit status.
 pub fn run(words: Vec<OsString>) -> u8 {
     let mut console = Console::new();
+    let name = words.first().and_then(|name| COMMANDS.iter().find(|command| *name == command.name)).map(|found| found.name);
     let done = dispatch(words, &mut console);
     let flushed = console.flush().map_err(Failure::Output);
     match done.and_then(|status| flushed.map(|()| status)) {
         Ok(Status::Taken) => 0,
         Ok(Status::Refused) => 1,
         Ok(Status::Faulty) => 2,
+        Ok(Status::Nothing) => 3,
         Err(failure) => {
-            report(failure);
+            report(failure, name);
             2
         }
     }
 }
 
-/// Says what is wrong. Where standard error is closed there is nobody to tell.
-fn report(failure: Failure) {
+/// Says what is wrong, and which help says more. Where standard error is closed there is nobody to tell.
+fn report(failure: Failure, command: Option<&str>) {
+    let name = command.map_or(String::new(), |name| format!("{name} "));
     let message = match failure {
-        Failure::Call(message) => format!("{}\nTry `robequarry --help`.", Escaped(&message)),
-        Failure::File(path, message) => format!("{}: {message}", Escaped(&path.to_string_lossy())),
+        Failure::Call(message) => format!("{}\nTry `robequarry {name}--help`.", Escaped(&message)),
+        Failure::File(path, message) => format!("{}: {message}", shown(&path)),
         Failure::Output(error) => format!("the output cannot be written: {error}"),
     };
     let _ = writeln!(io::stderr(), "robequarry: {message}");
 }
 
 fn dispatch(words: Vec<OsString>, console: &mut Console) -> Result<Status, Failure> {
+    let origin = Origin::of(&words);
     let mut words = words.into_iter();
     let Some(name) = words.next() else {
         return Err(Failure::Call("no command is given".to_string()));
@@ -158,7 +192,8 @@ fn dispatch(words: Vec<OsString>, console: &mut Console) -> Result<Status, Failu
         return Ok(Status::Taken);
     }
     let command = command(&name)?;
-    let arguments = Arguments::parse(words, command.options).map_err(Failure::Call)?;
+    let mut arguments = Arguments::parse(words, command.options).map_err(Failure::Call)?;
+    arguments.origin = origin;
     if arguments.has("--help") {
         console.line(command_help(command))?;
         return Ok(Status::Taken);
@@ -199,10 +234,11 @@ fn help(name: Option<OsString>, console: &mut Console) -> Result<Status, Failure
 
 fn command_help(command: &Command) -> String {
     format!(
-        "robequarry {}\n\n{}\n\n{}\n\n{FILES}\n\n{STATUSES}",
+        "robequarry {}\n\n{}\n\n{}\n\n{FILES}\n\n{}",
         command.usage,
         command.help,
-        options::help(command.options)
+        options::help(command.options),
+        statuses(command)
     )
 }
 
@@ -213,7 +249,7 @@ fn plain<'a, const N: usize>(arguments: &'a Arguments, what: &str) -> Result<[&'
         let given = match words.len() {
             0 => "nothing is given".to_string(),
             n if n < N => "too little is given".to_string(),
-            _ => format!("`{}` is one too many", words[N].display()),
+            _ => format!("`{}` is one too many", shown(words[N])),
         };
         Failure::Call(format!("{what}; {given}"))
     })
@@ -234,14 +270,6 @@ fn faulty(path: &Path, fault: Fault) -> Failure {
     Failure::File(path.to_path_buf(), fault.to_string())
 }
 
-/// The name under which an outline of a file is spoken of. `name` may be empty.
-fn described(number: usize, name: &str) -> String {
-    match name {
-        "" => format!("outline {number}"),
-        name => format!("outline {number} ({})", Escaped(name)),
-    }
-}
-
 fn title(number: usize, entry: &Entry) -> String {
     described(number, entry.name.as_deref().unwrap_or(""))
 }
@@ -259,8 +287,7 @@ fn one(path: &Path, arguments: &Arguments, wanted: Option<usize>) -> Result<(usi
         read += 1;
     }
     let holds = match read {
-        0 if reader.was_empty() => "the file is empty".to_string(),
-        0 => "it holds no outline".to_string(),
+        0 => reader.nothing().map_or("it holds no outline", |nothing| nothing.words()).to_string(),
         1 => "its only outline is number 0".to_string(),
         _ => format!("its outlines are numbered 0 to {}", read - 1),
     };
@@ -270,9 +297,53 @@ fn one(path: &Path, arguments: &Arguments, wanted: Option<usize>) -> Result<(usi
 /// Every outline of a file. A fault is a fault of the whole; an empty file is said to be empty.
 fn every(path: &Path, arguments: &Arguments, console: &mut Console) -> Result<Vec<Entry>, Failure> {
     let mut reader = read(path, arguments)?;
-    let entries = reader.by_ref().map(|entry| entry.map_err(|fault| faulty(path, fault))).collect();
+    let entries = reader.by_ref().map(|entry| entry.map_err(|fault| faulty(path, fault))).collect::<Result<_, _>>()?;
     say_empty(path, &reader, console)?;
-    entries
+    Ok(entries)
+}
+
+/// The files of a path: itself, or those of a folder, in order. What cannot be read is a fault of the whole; what is passed over is said.
+fn files(path: &Path, console: &mut Console) -> Result<Vec<PathBuf>, Failure> {
+    let (mut files, mut passed_over) = (Vec::new(), 0);
+    for found in Walk::of([path.to_path_buf()].into_iter(), false) {
+        match found {
+            Found::File(file) => files.push(file),
+            Found::PassedOver(..) => passed_over += 1,
+            Found::Unread(file, error) => return Err(faulty(&file, Fault::Unread(error))),
+        }
+    }
+    if passed_over > 0 {
+        console.remark(format_args!("{}: {passed_over} passed over; `check --verbose` names them", shown(path)))?;
+    }
+    Ok(files)
+}
+
+/// Refuses to write over a file that is read, unless that is wished.
+fn guard(out: &Path, inputs: &[&Path], arguments: &Arguments) -> Result<(), Failure> {
+    let real = |path: &Path| path.canonicalize().ok();
+    let same = |input: &&&Path| input.as_os_str() != "-" && real(input).is_some() && real(input) == real(out);
+    match inputs.iter().find(same) {
+        Some(_) if !arguments.has("--force") && out.as_os_str() != "-" => {
+            let sentence = format!("{} is read, and would be written over: give another name, or --force", shown(out));
+            Err(Failure::Call(sentence))
+        }
+        _ => Ok(()),
+    }
+}
+
+/// Whether a command writes JSON, of the two that it can write.
+fn is_json(arguments: &Arguments, command: &str) -> Result<bool, Failure> {
+    match arguments.format() {
+        Format::Csv => Err(Failure::Call(format!("{command} writes text or json, not csv"))),
+        format => Ok(format == Format::Json),
+    }
+}
+
+/// Writes an object on a line.
+fn object(row: &Row, console: &mut Console) -> Result<(), Failure> {
+    let mut line = Vec::new();
+    json_line(&mut line, row);
+    Ok(console.bytes(&line)?)
 }
 
 /// Who types lines waits for answers.
@@ -285,8 +356,8 @@ fn answer(path: &Path, console: &mut Console) -> Result<(), Failure> {
 
 /// Says that a file is empty, where it is.
 fn say_empty(path: &Path, reader: &Reader, console: &mut Console) -> Result<(), Failure> {
-    if reader.was_empty() {
-        console.remark(format_args!("{}: the file is empty: it holds no outline", Escaped(&path.to_string_lossy())))?;
+    if let Some(nothing) = reader.nothing() {
+        console.remark(format_args!("{}: {}", shown(path), nothing.words()))?;
     }
     Ok(())
 }
@@ -305,11 +376,10 @@ fn at_work(path: &Path, arguments: &Arguments, console: &mut Console) -> Result<
 
 /// The form in which outlines are written: that of --to, or that of the file's name. The two must agree.
 fn form_to_write(arguments: &Arguments) -> Result<Option<Form>, Failure> {
-    let name = arguments.path("--out").and_then(|out| Some((out, output::form_of(out)?)));
+    let name = arguments.path("--out").and_then(|out| Some((out, Form::by_name(out)?)));
     match (arguments.to(), name) {
         (Some(to), Some((out, form))) if to != form => {
-            let word = if to == Form::Text { "text" } else { "fitting" };
-            Err(Failure::Call(format!("--to {word} and the name {} contradict each other", out.display())))
+            Err(Failure::Call(format!("--to {} and the name {} contradict each other", to.word(), shown(out))))
         }
         (to, name) => Ok(to.or(name.map(|(_, form)| form))),
     }

@@ -11,6 +11,11 @@ pub const COMMAND: Command = Command {
 Says where a reading lies to the hull of a taken outline's block: inside, outside, or undecided, where it is too near an edge to
 tell in arithmetic of 32 bits. Angle and load are in chart units, in which the centre of a cell is at its whole column and row, and
 are read as the nearest floats of 32 bits. Of a refused outline, and of a reading that is off the chart, it writes the refusal.",
+    statuses: &[
+        (0, "the reading is answered, whichever the word"),
+        (1, "the outline or the reading is refused"),
+        (2, "something is wrong with the call, or with the file"),
+    ],
     options: &["--outline", "--text", "--fitting"],
     run,
 };

@@ -10,6 +10,11 @@ pub const COMMAND: Command = Command {
     help: "\
 Writes the first and the last column of a taken outline's block in a row, or `none` where the row has no marked cell. Without a
 row it writes every row that has one. Of a refused outline it writes the refusal.",
+    statuses: &[
+        (0, "the row is answered"),
+        (1, "the outline or the row is refused"),
+        (2, "something is wrong with the call, or with the file"),
+    ],
     options: &["--outline", "--text", "--fitting"],
     run,
 };

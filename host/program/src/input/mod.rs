@@ -1,8 +1,10 @@
-//! Files of outlines, in either form, read in pieces.
+//! Files of outlines, texts, fitting files and images, read in pieces.
 
 mod folders;
+mod lines;
 mod pieces;
 
+use std::borrow::Cow;
 use std::fmt;
 use std::fs::File;
 use std::io::{self, Read};
@@ -11,10 +13,11 @@ use std::path::Path;
 use robequarry::fitting::Records;
 use robequarry::limits::LONGEST_FILE;
 use robequarry::text::Lines;
-use robequarry::{fitting, text, Outline};
+use robequarry::{fitting, image, text, Outline};
 
-pub use folders::{Found, Walk};
-pub use pieces::{Piece, Pieces, LONGEST_LINE};
+pub use folders::{ends_in, Found, Walk, Why};
+pub use lines::{TextLines, Wrong as LineWrong};
+pub use pieces::{Nothing, Piece, Pieces, LONGEST_LINE};
 
 /// An outline of a file, with its name where the text form gives one.
 #[derive(Clone, Debug, PartialEq, Eq)]
@@ -33,13 +36,31 @@ impl Entry {
 pub enum Form {
     Fitting,
     Text,
+    Image,
 }
 
-/// What is wrong with a file. Nothing after it is read.
+impl Form {
+    /// The form that a file's name shows.
+    pub fn by_name(path: &Path) -> Option<Self> {
+        let endings = [("fit", Form::Fitting), ("txt", Form::Text), ("img", Form::Image)];
+        endings.iter().find(|(ending, _)| ends_in(path, ending)).map(|(_, form)| *form)
+    }
+
+    pub fn word(self) -> &'static str {
+        match self {
+            Form::Fitting => "fitting",
+            Form::Text => "text",
+            Form::Image => "image",
+        }
+    }
+}
+
+/// What is wrong with a file. Nothing after it is read, but for the lines of a text.
 #[derive(Debug)]
 pub enum Fault {
     Fitting(fitting::Fault),
     Text(text::Fault),
+    Image(image::Wrong),
     /// The file begins as neither form does.
     Neither,
     /// A line of a text is longer than any fitting file.
@@ -55,6 +76,7 @@ impl Fault {
         match self {
             Fault::Fitting(fault) => Some(fault.number()),
             Fault::Neither => Some(23),
+            Fault::Image(_) => Some(26),
             Fault::LongLine { .. } => Some(25),
             Fault::Text(_) | Fault::Unread(_) => None,
         }
@@ -67,6 +89,11 @@ impl Fault {
             Fault::Neither => Some(0),
             _ => None,
         }
+    }
+
+    /// Whether what follows may be read: a line of a text is by itself.
+    pub fn is_of_a_line(&self) -> bool {
+        matches!(self, Fault::Text(_))
     }
 
     /// The line of a text that it is in.
@@ -84,6 +111,7 @@ impl fmt::Display for Fault {
         match self {
             Fault::Fitting(fault) => fault.fmt(f),
             Fault::Text(fault) => fault.fmt(f),
+            Fault::Image(wrong) => wrong.fmt(f),
             Fault::Neither => write!(
                 f,
                 "neither text nor a fitting file: a text of outlines begins with a digit or a #, a fitting file with the \
@@ -95,20 +123,33 @@ impl fmt::Display for Fault {
     }
 }
 
-/// The outlines of a piece with their names, which may be empty, up to the first fault.
+/// The outlines of a piece with their names, which may be empty, and its faults. A fault of a fitting file ends it.
 pub enum Entries<'a> {
     Fitting(Records<'a>),
     Text(Lines<'a>),
+    Image(Option<&'a Outline>),
 }
 
 impl<'a> Iterator for Entries<'a> {
-    type Item = Result<(Outline, &'a str), Fault>;
+    type Item = Result<(Outline, Cow<'a, str>), Fault>;
 
     fn next(&mut self) -> Option<Self::Item> {
+        let nameless = |outline: Outline| (outline, Cow::Borrowed(""));
         match self {
-            Entries::Fitting(records) => Some(records.next()?.map(|outline| (outline, "")).map_err(Fault::Fitting)),
+            Entries::Fitting(records) => Some(records.next()?.map(nameless).map_err(Fault::Fitting)),
             Entries::Text(lines) => Some(lines.next()?.map_err(Fault::Text)),
+            Entries::Image(outline) => outline.take().map(|outline| Ok(nameless(outline.clone()))),
         }
+    }
+}
+
+impl Entries<'_> {
+    /// The comments that stand before what was given last, or at the end, each without its line end.
+    pub fn comments(&self) -> Vec<String> {
+        let Entries::Text(lines) = self else {
+            return Vec::new();
+        };
+        lines.passed().lines().filter(|line| !line.trim().is_empty()).map(str::to_string).collect()
     }
 }
 
@@ -124,20 +165,47 @@ pub fn open(path: &Path) -> io::Result<Box<dyn Read>> {
     Ok(Box::new(file))
 }
 
+/// The form in which a file is read: the given one, or that of an image by its name. Else it shows its form.
+pub fn form_to_read(path: &Path, given: Option<Form>) -> Option<Form> {
+    given.or_else(|| Form::by_name(path).filter(|form| *form == Form::Image))
+}
+
 /// The outlines of a file one by one, a piece of it in memory at a time.
 pub struct Reader {
     pieces: Pieces<Box<dyn Read>>,
-    waiting: std::vec::IntoIter<Result<Entry, Fault>>,
+    waiting: std::vec::IntoIter<Waiting>,
+    /// The comments that were passed and not yet taken.
+    comments: Vec<String>,
 }
+
+/// What is read: an outline or a fault, and the comments before it; or comments alone.
+type Waiting = (Vec<String>, Option<Result<Entry, Fault>>);
 
 impl Reader {
     pub fn open(path: &Path, form: Option<Form>) -> io::Result<Self> {
-        Ok(Reader { pieces: Pieces::of(open(path)?, form), waiting: Vec::new().into_iter() })
+        let pieces = Pieces::of(open(path)?, form_to_read(path, form));
+        Ok(Reader { pieces, waiting: Vec::new().into_iter(), comments: Vec::new() })
     }
 
-    /// Whether the file was read to its end and had no byte.
-    pub fn was_empty(&self) -> bool {
-        self.pieces.was_empty()
+    /// The form of the file, once something of it was read.
+    pub fn form(&self) -> Option<Form> {
+        self.pieces.form()
+    }
+
+    /// Why the file, which was read to its end, gave no outline.
+    pub fn nothing(&self) -> Option<Nothing> {
+        self.pieces.nothing()
+    }
+
+    /// The comments that stood between the last outlines.
+    pub fn comments(&mut self) -> Vec<String> {
+        std::mem::take(&mut self.comments)
+    }
+
+    /// Gives no more, after a fault.
+    pub fn end(&mut self) {
+        self.pieces.end();
+        self.waiting = Vec::new().into_iter();
     }
 }
 
@@ -146,18 +214,21 @@ impl Iterator for Reader {
 
     fn next(&mut self) -> Option<Self::Item> {
         loop {
-            match self.waiting.next() {
-                Some(Ok(entry)) => return Some(Ok(entry)),
-                Some(Err(fault)) => {
-                    self.pieces.end();
-                    return Some(Err(fault));
+            for (comments, read) in self.waiting.by_ref() {
+                self.comments.extend(comments);
+                if read.is_some() {
+                    return read;
                 }
-                None => {}
             }
             match self.pieces.next()? {
                 Ok(piece) => {
-                    let entry = |(outline, name)| Entry::of(outline, name);
-                    self.waiting = piece.entries().map(|read| read.map(entry)).collect::<Vec<_>>().into_iter();
+                    let (mut entries, mut waiting) = (piece.entries(), Vec::new());
+                    while let Some(read) = entries.next() {
+                        let entry = read.map(|(outline, name)| Entry::of(outline, &name));
+                        waiting.push((entries.comments(), Some(entry)));
+                    }
+                    waiting.push((entries.comments(), None));
+                    self.waiting = waiting.into_iter();
                 }
                 Err(fault) => return Some(Err(fault)),
             }
@@ -167,8 +238,8 @@ impl Iterator for Reader {
 
 /// The outlines of a text that is in memory, for our own texts.
 pub fn entries(text: &str) -> Vec<Entry> {
-    let read = Lines::of(text.as_bytes()).map(|read| read.expect("our own text has no fault"));
-    read.map(|(outline, name)| Entry::of(outline, name)).collect()
+    let read = Lines::of(text).map(|read| read.expect("our own text has no fault"));
+    read.map(|(outline, name)| Entry::of(outline, &name)).collect()
 }
 
 /// Whether so many bytes are too many for a fitting file.

@@ -1,9 +1,13 @@
-//! A source of bytes in pieces: whole lines of a text, or a fitting file whole. No more than a piece is in memory.
+//! A source of bytes in pieces: whole lines of a text, decoded, or a fitting file whole. No more than a piece is in memory.
 
+use std::borrow::Cow;
 use std::io::{self, Read};
 
 use robequarry::fitting::{self, MARK};
+use robequarry::image::{self, Image};
 use robequarry::limits::LONGEST_FILE;
+use robequarry::text::{is_utf16, may_be_mark, unicode, Decoder};
+use robequarry::Outline;
 
 use super::{too_large, Entries, Fault, Form};
 
@@ -18,19 +22,46 @@ const BYTE_ORDER_MARK: &[u8] = b"\xEF\xBB\xBF";
 
 /// A part of a file, and what stands before it.
 pub struct Piece {
-    pub form: Form,
-    pub bytes: Vec<u8>,
-    /// How many outlines stand in the file before this piece.
+    content: Content,
+    /// How many outlines stand in the file before this piece, with the lines that should be one and are not.
     pub outlines: usize,
     /// How many lines do.
-    pub lines: usize,
+    lines: usize,
+}
+
+enum Content {
+    Fitting(Vec<u8>),
+    Text(String),
+    Image(Outline),
 }
 
 impl Piece {
     pub fn entries(&self) -> Entries<'_> {
-        match self.form {
-            Form::Fitting => Entries::Fitting(fitting::Records::of(&self.bytes)),
-            Form::Text => Entries::Text(robequarry::text::Lines::after(self.lines, &self.bytes)),
+        match &self.content {
+            Content::Fitting(bytes) => Entries::Fitting(fitting::Records::of(bytes)),
+            Content::Text(text) => Entries::Text(robequarry::text::Lines::after(self.lines, text)),
+            Content::Image(outline) => Entries::Image(Some(outline)),
+        }
+    }
+}
+
+/// Why a source that was read to its end gave no outline.
+#[derive(Clone, Copy, Debug, PartialEq, Eq)]
+pub enum Nothing {
+    /// It has no byte.
+    Empty,
+    /// It is a text without an outline.
+    NoOutline,
+    /// It is the image of an empty place.
+    EmptyPlace,
+}
+
+impl Nothing {
+    pub fn words(self) -> &'static str {
+        match self {
+            Nothing::Empty => "the file is empty: it holds no outline",
+            Nothing::NoOutline => "the text holds no outline",
+            Nothing::EmptyPlace => "the image is that of an empty place: it holds no outline",
         }
     }
 }
@@ -39,30 +70,43 @@ impl Piece {
 pub struct Pieces<R> {
     source: R,
     form: Option<Form>,
-    /// What was read and not yet given.
+    decoder: Decoder,
+    /// What was read and not yet given; of a text, decoded.
     kept: Vec<u8>,
     outlines: usize,
     lines: usize,
     state: State,
+    /// Whether the source has ended: what a terminal sends after its end is not asked for.
+    read_out: bool,
 }
 
 #[derive(Clone, Copy, PartialEq)]
 enum State {
     Begin,
     Text,
+    /// Ended with a fault, or with an outline.
     Ended,
-    Empty,
+    Held(Nothing),
 }
 
 impl<R: Read> Pieces<R> {
     /// In the form that is given, or else in the form that the source shows.
     pub fn of(source: R, form: Option<Form>) -> Self {
-        Pieces { source, form, kept: Vec::new(), outlines: 0, lines: 0, state: State::Begin }
+        let (decoder, kept) = (Decoder::default(), Vec::new());
+        Pieces { source, form, decoder, kept, outlines: 0, lines: 0, state: State::Begin, read_out: false }
     }
 
-    /// Whether the source ended and had no byte.
-    pub fn was_empty(&self) -> bool {
-        self.state == State::Empty
+    /// Why the source, which was read to its end, gave no outline; none where it gave one, or a fault.
+    pub fn nothing(&self) -> Option<Nothing> {
+        match self.state {
+            State::Held(nothing) => Some(nothing),
+            _ => None,
+        }
+    }
+
+    /// The form, where it is given or has shown.
+    pub fn form(&self) -> Option<Form> {
+        self.form
     }
 
     /// Gives no more.
@@ -72,6 +116,9 @@ impl<R: Read> Pieces<R> {
 
     /// Reads once. Returns false at the source's end.
     fn more(&mut self) -> io::Result<bool> {
+        if self.read_out {
+            return Ok(false);
+        }
         let length = self.kept.len();
         self.kept.resize(length + READ, 0);
         let read = loop {
@@ -81,7 +128,21 @@ impl<R: Read> Pieces<R> {
             }
         };
         self.kept.truncate(length + *read.as_ref().unwrap_or(&0));
+        self.read_out = matches!(read, Ok(0));
         read.map(|count| count > 0)
+    }
+
+    /// Reads once, and decodes what was read.
+    fn more_text(&mut self) -> io::Result<bool> {
+        let length = self.kept.len();
+        let goes_on = self.more()?;
+        if !goes_on {
+            self.decoder.finish(&mut self.kept);
+        } else if !self.decoder.leaves(&self.kept[length..]) {
+            let read = self.kept.split_off(length);
+            self.decoder.push(&read, &mut self.kept);
+        }
+        Ok(goes_on)
     }
 
     /// Reads until the form shows.
@@ -91,28 +152,48 @@ impl<R: Read> Pieces<R> {
                 break;
             }
         }
-        if self.kept.is_empty() {
-            self.state = State::Empty;
+        if self.kept.is_empty() && self.form != Some(Form::Image) {
+            self.state = State::Held(Nothing::Empty);
             return Ok(None);
         }
         match self.form.or_else(|| form_of(&self.kept)) {
             Some(Form::Text) => {
-                if self.kept.starts_with(BYTE_ORDER_MARK) {
-                    self.kept.drain(..BYTE_ORDER_MARK.len());
-                }
+                let read = std::mem::take(&mut self.kept);
+                self.decoder.push(&read, &mut self.kept);
                 self.state = State::Text;
+                self.form = Some(Form::Text);
                 self.text()
             }
             form => {
                 self.state = State::Ended;
                 self.rest()?;
-                match form {
-                    Some(_) => Ok(Some(self.piece(Form::Fitting))),
-                    None if too_large(self.kept.len()) => Err(Fault::Fitting(fitting::Fault::Large)),
-                    None => Err(Fault::Neither),
-                }
+                self.records(form)
             }
         }
+    }
+
+    /// What is there whole: a fitting file, an image, or neither.
+    fn records(&mut self, form: Option<Form>) -> Result<Option<Piece>, Fault> {
+        // An image is no fitting file: what follows its letters has no mark.
+        let image = match form {
+            None if too_large(self.kept.len()) => return Err(Fault::Fitting(fitting::Fault::Large)),
+            None => return Err(Fault::Neither),
+            Some(_) if form == self.form && form == Some(Form::Fitting) => Err(image::Wrong::Mark),
+            Some(_) => Image::try_from(&self.kept[..]),
+        };
+        self.form = if image.is_ok() { Some(Form::Image) } else { form };
+        let content = match image {
+            Ok(image) => match image.outline() {
+                Some(outline) => Content::Image(outline.clone()),
+                None => {
+                    self.state = State::Held(Nothing::EmptyPlace);
+                    return Ok(None);
+                }
+            },
+            Err(wrong) if form == Some(Form::Image) => return Err(Fault::Image(wrong)),
+            Err(_) => Content::Fitting(std::mem::take(&mut self.kept)),
+        };
+        Ok(Some(Piece { content, outlines: 0, lines: 0 }))
     }
 
     /// Reads to the end, or until it is clear that there is too much for a fitting file.
@@ -132,10 +213,13 @@ impl<R: Read> Pieces<R> {
             if self.kept.len() > LONGEST_LINE {
                 return Err(Fault::LongLine { line: self.lines + 1 });
             }
-            if !self.more().map_err(Fault::Unread)? {
-                self.state = State::Ended;
+            if !self.more_text().map_err(Fault::Unread)? {
                 let length = self.kept.len();
-                return if length == 0 { Ok(None) } else { self.lines_up_to(length).map(Some) };
+                if length > 0 {
+                    return self.lines_up_to(length).map(Some);
+                }
+                self.state = if self.outlines == 0 { State::Held(Nothing::NoOutline) } else { State::Ended };
+                return Ok(None);
             }
         }
     }
@@ -147,20 +231,12 @@ impl<R: Read> Pieces<R> {
             return Err(Fault::LongLine { line: self.lines + 1 });
         }
         let after = self.kept.split_off(whole);
-        let piece = self.piece(Form::Text);
-        self.kept = after;
+        let bytes = std::mem::replace(&mut self.kept, after);
+        let (lines, outlines) = counted(&bytes);
+        let piece = Piece { content: Content::Text(unicode(bytes)), outlines: self.outlines, lines: self.lines };
+        self.lines += lines;
+        self.outlines += outlines;
         Ok(piece)
-    }
-
-    /// All that is kept, as a piece.
-    fn piece(&mut self, form: Form) -> Piece {
-        let piece = Piece { form, bytes: std::mem::take(&mut self.kept), outlines: self.outlines, lines: self.lines };
-        if form == Form::Text {
-            let (lines, outlines) = counted(&piece.bytes);
-            self.lines += lines;
-            self.outlines += outlines;
-        }
-        piece
     }
 }
 
@@ -171,7 +247,7 @@ impl<R: Read> Iterator for Pieces<R> {
         let next = match self.state {
             State::Begin => self.begin(),
             State::Text => self.text(),
-            State::Ended | State::Empty => return None,
+            State::Ended | State::Held(_) => return None,
         };
         if next.is_err() {
             self.end();
@@ -192,17 +268,26 @@ fn whole_lines(bytes: &[u8]) -> usize {
     at
 }
 
-/// How many lines there are, and how many of them hold an outline.
+/// How many lines there are, and how many of them hold an outline, or something else that is no comment.
 fn counted(bytes: &[u8]) -> (usize, usize) {
     let holds = |line: &&[u8]| line.iter().find(|byte| !byte.is_ascii_whitespace()).is_some_and(|&byte| byte != b'#');
     let lines = || bytes.split_inclusive(|&byte| byte == b'\n');
     (lines().count(), lines().filter(holds).count())
 }
 
-/// Where the first byte is that tells the form, after a byte order mark and white space.
-fn telling(bytes: &[u8]) -> Option<usize> {
-    let skipped = if bytes.starts_with(BYTE_ORDER_MARK) { BYTE_ORDER_MARK.len() } else { 0 };
-    bytes[skipped..].iter().position(|byte| !byte.is_ascii_whitespace()).map(|at| skipped + at)
+/// The bytes without a mark, of UTF-16 the characters that are whole: what the form is told by.
+fn unmarked(bytes: &[u8]) -> Cow<'_, [u8]> {
+    if !is_utf16(bytes) {
+        return Cow::Borrowed(bytes.strip_prefix(BYTE_ORDER_MARK).unwrap_or(bytes));
+    }
+    let mut whole = Vec::new();
+    Decoder::default().push(bytes, &mut whole);
+    Cow::Owned(whole)
+}
+
+/// What begins at the first byte that is no white space.
+fn telling(bytes: &[u8]) -> Option<&[u8]> {
+    bytes.iter().position(|byte| !byte.is_ascii_whitespace()).map(|at| &bytes[at..])
 }
 
 /// Whether a text may begin with this byte.
@@ -210,22 +295,27 @@ fn begins_text(byte: u8) -> bool {
     byte.is_ascii_digit() || byte == b'#'
 }
 
+fn ends_line(byte: &u8) -> bool {
+    matches!(byte, b'\n' | b'\r')
+}
+
 /// Whether the form shows: there is a byte that tells, and of a text its first line; more bytes would not change what is seen.
 fn shows(bytes: &[u8]) -> bool {
-    match telling(bytes) {
+    match telling(&unmarked(bytes)) {
+        _ if may_be_mark(bytes) => false,
         None => false,
-        Some(at) if begins_text(bytes[at]) => bytes[at..].contains(&b'\n'),
-        Some(_) => !BYTE_ORDER_MARK.starts_with(bytes) && bytes != &MARK[..1],
+        Some(rest) if begins_text(rest[0]) => rest.iter().any(ends_line),
+        Some(_) => bytes != &MARK[..1],
     }
 }
 
 /// A text begins with a digit or a `#`, after white space, and has no zero byte in that line; a fitting file begins with its mark. Bytes
-/// that are all white space are a text.
+/// that are white space are a text.
 fn form_of(bytes: &[u8]) -> Option<Form> {
-    match telling(bytes) {
+    match telling(&unmarked(bytes)) {
         None => Some(Form::Text),
-        Some(at) if begins_text(bytes[at]) => {
-            let mut line = bytes[at..].iter().take_while(|&&byte| byte != b'\n');
+        Some(rest) if begins_text(rest[0]) => {
+            let mut line = rest.iter().take_while(|byte| !ends_line(byte));
             line.all(|&byte| byte != 0).then_some(Form::Text)
         }
         _ if MARK.starts_with(bytes) || bytes.starts_with(&MARK) => Some(Form::Fitting),
@@ -318,8 +408,8 @@ mod tests {
     #[test]
     fn an_empty_source_is_empty() {
         let mut pieces = Pieces::of(&b""[..], None);
-        assert!(pieces.next().is_none() && pieces.was_empty());
+        assert!(pieces.next().is_none() && pieces.nothing() == Some(Nothing::Empty));
         let mut blank = Pieces::of(&b"\n"[..], None);
-        assert!(blank.next().is_some() && blank.next().is_none() && !blank.was_empty());
+        assert!(blank.next().is_some() && blank.next().is_none() && blank.nothing() == Some(Nothing::NoOutline));
     }
 }

@@ -6,7 +6,7 @@ mod verdicts;
 
 pub use row::{csv_line, csv_names, json_line, Row, Value};
 pub use tally::Tally;
-pub use verdicts::{verdict_row, VERDICT_COLUMNS};
+pub use verdicts::{file_row, verdict_row, VERDICT_COLUMNS};
 
 #[derive(Clone, Copy, Debug, PartialEq, Eq)]
 pub enum Format {

@@ -12,6 +12,8 @@ pub enum Value<'a> {
     Pair(i32, i32),
     /// `[[1,2],[3,4]]`; in CSV `1 2 3 4`.
     Pairs(Vec<(i32, i32)>),
+    /// `[1,"a"]`. CSV has none.
+    List(Vec<Value<'a>>),
     /// An object in an object. CSV has none.
     Object(Vec<(Cow<'a, str>, Value<'a>)>),
 }
@@ -93,6 +95,11 @@ fn json(out: &mut Vec<u8>, value: &Value) {
             list(out, pairs, b',', json_pair);
             out.push(b']');
         }
+        Value::List(values) => {
+            out.push(b'[');
+            list(out, values, b',', json);
+            out.push(b']');
+        }
         Value::Object(fields) => {
             out.push(b'{');
             list(out, fields, b',', |out, (name, value)| field(out, name, value));
@@ -132,7 +139,7 @@ pub fn csv_names(out: &mut Vec<u8>, names: &[&str]) {
 
 pub fn csv_line(out: &mut Vec<u8>, row: &Row) {
     list(out, row, b',', |out, (_, value)| match value {
-        Value::Nothing | Value::Object(_) => {}
+        Value::Nothing | Value::List(_) | Value::Object(_) => {}
         Value::Number(number) => decimal(out, *number),
         Value::Text(text) => csv_text(out, text),
         Value::Pair(a, b) => pair(out, (*a, *b), b' '),
@@ -144,7 +151,7 @@ pub fn csv_line(out: &mut Vec<u8>, row: &Row) {
 /// A field, in quotes where it needs them. Control characters are escaped as in a text.
 fn csv_text(out: &mut Vec<u8>, text: &str) {
     let text = robequarry::text::Escaped(text).to_string();
-    if text.contains([',', '"']) {
+    if text.contains([',', '"']) || text.starts_with(' ') || text.ends_with(' ') {
         out.extend_from_slice(format!("\"{}\"", text.replace('"', "\"\"")).as_bytes());
     } else {
         out.extend_from_slice(text.as_bytes());
@@ -172,12 +179,13 @@ mod tests {
             ("c", Value::text("x, \"y\"\u{1b}\\")),
             ("d", Value::Pair(1, 2)),
             ("e", Value::Pairs(vec![(1, 2), (3, -4)])),
+            ("f", Value::List(vec![Value::Number(1), Value::Nothing, Value::text("z")])),
         ];
         let (mut json, mut csv) = (Vec::new(), Vec::new());
         json_line(&mut json, &row);
         csv_line(&mut csv, &row);
-        let expected = r#"{"a":null,"b":-3,"c":"x, \"y\"\u001b\\","d":[1,2],"e":[[1,2],[3,-4]]}"#;
+        let expected = r#"{"a":null,"b":-3,"c":"x, \"y\"\u001b\\","d":[1,2],"e":[[1,2],[3,-4]],"f":[1,null,"z"]}"#;
         assert_eq!(String::from_utf8(json).unwrap(), format!("{expected}\n"));
-        assert_eq!(String::from_utf8(csv).unwrap(), ",-3,\"x, \"\"y\"\"\\u{1b}\\\",1 2,1 2 3 -4\n");
+        assert_eq!(String::from_utf8(csv).unwrap(), ",-3,\"x, \"\"y\"\"\\u{1b}\\\",1 2,1 2 3 -4,\n");
     }
 }

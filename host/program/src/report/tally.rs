@@ -8,6 +8,7 @@ use robequarry::limits::LAST_REFUSAL;
 use robequarry::Verdict;
 
 use super::row::{Row, Value};
+use crate::input::Why;
 use crate::verdict::{count, meaning};
 
 /// An outline of a file.
@@ -23,10 +24,14 @@ type Most = Option<(usize, Place)>;
 #[derive(Clone, Debug, Default, PartialEq, Eq)]
 pub struct Tally {
     pub files: usize,
+    /// Files that hold no outline.
     pub empty: usize,
+    /// Files with a fault.
     pub faults: usize,
-    /// Files of folders that were not read for their names.
-    pub passed_over: usize,
+    /// Lines of texts that are no outline.
+    pub faulty_lines: usize,
+    /// What was not read, by its reason.
+    passed_over: [usize; Why::ALL.len()],
     pub outlines: usize,
     pub taken: usize,
     refused: [usize; LAST_REFUSAL as usize + 1],
@@ -54,7 +59,8 @@ impl Tally {
         self.files += later.files;
         self.empty += later.empty;
         self.faults += later.faults;
-        self.passed_over += later.passed_over;
+        self.faulty_lines += later.faulty_lines;
+        self.passed_over.iter_mut().zip(later.passed_over).for_each(|(all, more)| *all += more);
         self.outlines += later.outlines;
         self.taken += later.taken;
         self.refused.iter_mut().zip(later.refused).for_each(|(all, more)| *all += more);
@@ -63,6 +69,11 @@ impl Tally {
                 raise(most, number, || place);
             }
         }
+    }
+
+    /// Counts in what was not read.
+    pub fn pass_over(&mut self, why: Why) {
+        self.passed_over[why as usize] += 1;
     }
 
     pub fn refused(&self) -> usize {
@@ -86,14 +97,20 @@ impl Tally {
                 line(format!("{what}: {}, in outline {} of {}", count(*number, unit), place.outline, place.file));
             }
         }
-        for (number, what) in [
-            (self.faults, "with a fault"),
-            (self.empty, "empty"),
-            (self.passed_over, "passed over: the name ends in neither .fit nor .txt"),
+        for (number, unit, what) in [
+            (self.faults, "file", "with a fault"),
+            (self.faulty_lines, "line", "with a fault, which is no outline"),
+            (self.empty, "file", "without an outline"),
         ] {
             if number > 0 {
-                line(format!("{} {what}", count(number, "file")));
+                line(format!("{} {what}", count(number, unit)));
             }
+        }
+        for (why, number) in Why::ALL.iter().zip(self.passed_over).filter(|(_, number)| *number > 0) {
+            line(format!("{number} passed over: {}", why.words()));
+        }
+        if self.outlines == 0 {
+            line("nothing was checked".to_string());
         }
         text
     }
@@ -116,7 +133,8 @@ impl Tally {
             ("files", Value::number(self.files)),
             ("empty", Value::number(self.empty)),
             ("faults", Value::number(self.faults)),
-            ("passed_over", Value::number(self.passed_over)),
+            ("faulty_lines", Value::number(self.faulty_lines)),
+            ("passed_over", Value::number(self.passed_over.iter().sum::<usize>())),
             ("outlines", Value::number(self.outlines)),
             ("taken", Value::number(self.taken)),
             ("refused", Value::Object(refused.collect())),
