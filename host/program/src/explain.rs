@@ -142,7 +142,7 @@ pub fn digits(letters: &[u8]) -> String {
     letters.iter().map(digit).collect()
 }
 
-fn capital(text: &str) -> String {
+pub fn capital(text: &str) -> String {
     let mut chars = text.chars();
     chars.next().map_or(String::new(), |first| first.to_uppercase().chain(chars).collect())
 }

@@ -5,6 +5,7 @@ use std::fmt::Write;
 use robequarry::{text, Outline, Verdict};
 
 use crate::engine::Help;
+use crate::explain::capital;
 use crate::origin::Origin;
 use crate::picture::{beside, picture};
 use crate::report::Tally;
@@ -56,7 +57,7 @@ impl Shown {
         );
         if let Some(Help { witness, completed }) = &help {
             let line = text::line(completed).expect("the library's letters are digits");
-            writeln!(section, "<p>{}.</p>", escaped(&shown(witness))).expect(ROOM);
+            writeln!(section, "<p>{}.</p>", escaped(&capital(&shown(witness)))).expect(ROOM);
             writeln!(section, "<p>Draw this instead: <code>{line}</code></p>").expect(ROOM);
         }
         section + "</section>\n"
@@ -179,7 +180,7 @@ mod tests {
             "<li>a&amp;b.txt: line 1: &lt;wrong&gt;</li>",
             "<h3>a&amp;b.txt: outline 3 (knee &quot;x&quot;)</h3>",
             "Draw this instead: <code>0 0 111030303222</code>",
-            "the cell (1, 1) lies in the triangle of (2, 0), (0, 2), (0, 1), which are all marked.",
+            "The cell (1, 1) lies in the triangle of (2, 0), (0, 2), (0, 1), which are all marked.",
             "call &lt;x&gt;</footer>",
         ] {
             assert!(page.contains(part), "{part}\n{page}");

@@ -7,6 +7,7 @@ use std::path::{Path, PathBuf};
 use std::process::{Command, Output, Stdio};
 
 use support::call::{err, out, status};
+use support::xml;
 
 fn root() -> PathBuf {
     Path::new(env!("CARGO_MANIFEST_DIR")).join("../..")
@@ -80,12 +81,20 @@ fn run_lists_a_file() {
         assert_eq!((out(&listed), status(&listed)), (lines, i32::from(fault)), "{}", fitting.display());
         assert!(err(&listed).starts_with("run: 1 of 2: "));
         assert!(err(&listed).contains(&format!("\n[1 of {crates}] rt: fitting_listing proved (1 s)\n")), "{}", err(&listed));
-        assert!(err(&listed).contains("\nrun: 2 of 2: "));
+        assert!(err(&listed).contains("\nrun: 2 of 2: ") && err(&listed).contains("\nrun: in words: "));
         faults += usize::from(fault);
     }
     assert!(faults > 5);
     let shipped = fs::read_to_string(root().join("files/specimens.lines")).expect("it ships");
-    assert_eq!(out(&run(&[], true)), shipped);
+    let listed = run(&[], true);
+    assert_eq!(out(&listed), shipped);
+    // It ends with a sentence in words, and with a picture that is well-formed.
+    let end = "run: in words: 20 outlines: 9 taken, 11 refused; the first refused one is record 5, by 9: a dent, so a cell is missing\n\
+               run: a picture of the first outlines, for a browser: target/run.svg\n";
+    assert!(err(&listed).ends_with(end), "{}", err(&listed));
+    let svg = fs::read_to_string(root().join("target/run.svg")).expect("it was written");
+    let picture = xml::parse(&format!("<?xml version=\"1.0\" encoding=\"UTF-8\"?>{svg}"));
+    assert_eq!((picture.of_class("taken").len(), picture.of_class("refused").len()), (9, 11));
 }
 
 #[test]

@@ -36,6 +36,7 @@ pub struct Files {
     open: Option<Opened>,
     form: Option<Form>,
     keep_going: bool,
+    passed_over: usize,
     index: Option<Index<Place>>,
 }
 
@@ -72,7 +73,7 @@ impl Outlines {
                 }
             }
         }
-        let (mut files, mut by_name, folder) = (Vec::new(), HashMap::new(), path.is_dir());
+        let (mut files, mut by_name, folder, mut passed_over) = (Vec::new(), HashMap::new(), path.is_dir(), 0);
         for found in Walk::of([path.to_path_buf()].into_iter(), false) {
             match found {
                 Found::File(file) => {
@@ -83,10 +84,18 @@ impl Outlines {
                     files.push(File { path: file, name, asked: Vec::new() });
                 }
                 Found::Unread(path, error) => faults.push((path, Fault::Unread(error).to_string())),
-                Found::PassedOver(..) => {}
+                Found::PassedOver(..) => passed_over += 1,
             }
         }
-        Ok(Outlines::Files(Files { files, by_name, folder, open: None, form, keep_going, index: None }))
+        Ok(Outlines::Files(Files { files, by_name, folder, open: None, form, keep_going, passed_over, index: None }))
+    }
+
+    /// How much of a folder was not read.
+    pub fn passed_over(&self) -> usize {
+        match self {
+            Outlines::Files(files) => files.passed_over,
+            Outlines::Table(_) => 0,
+        }
     }
 
     /// The outline that a line speaks of. A number of a list counts only where that is asked.

@@ -110,6 +110,7 @@ pub enum List {
     Images {
         folder: PathBuf,
         files: Walk,
+        passed_over: usize,
     },
 }
 
@@ -117,7 +118,7 @@ pub enum List {
 pub fn open(path: &Path) -> io::Result<Result<List, Wrong>> {
     if path.is_dir() || ends_in(path, "img") {
         let files = Walk::of([path.to_path_buf()].into_iter(), false);
-        return Ok(Ok(List::Images { folder: path.to_path_buf(), files }));
+        return Ok(Ok(List::Images { folder: path.to_path_buf(), files, passed_over: 0 }));
     }
     let mut lines = TextLines::of(input::open(path)?);
     loop {
@@ -153,6 +154,14 @@ impl List {
         matches!(self, List::Table(_))
     }
 
+    /// How much of a folder was not read, so far.
+    pub fn passed_over(&self) -> usize {
+        match self {
+            List::Images { passed_over, .. } => *passed_over,
+            _ => 0,
+        }
+    }
+
     fn next_line(&mut self) -> Result<Option<Line>, Wrong> {
         match self {
             List::Table(table) => loop {
@@ -167,7 +176,7 @@ impl List {
                 }
             },
             List::Lines { first, lines, edges, rows } => next_of_list(first, lines, edges, rows),
-            List::Images { folder, files } => next_image(folder, files),
+            List::Images { folder, files, passed_over } => next_image(folder, files, passed_over),
         }
     }
 }
@@ -234,7 +243,7 @@ fn rows_of(content: &str) -> Option<Rows> {
 }
 
 /// The next image of a folder, known by its file's name.
-fn next_image(folder: &Path, files: &mut Walk) -> Result<Option<Line>, Wrong> {
+fn next_image(folder: &Path, files: &mut Walk, passed_over: &mut usize) -> Result<Option<Line>, Wrong> {
     for found in files {
         let (path, bytes) = match found {
             Found::File(path) if ends_in(&path, "img") => {
@@ -242,7 +251,10 @@ fn next_image(folder: &Path, files: &mut Walk) -> Result<Option<Line>, Wrong> {
                 (path, bytes)
             }
             Found::Unread(path, error) => (path, Err(error)),
-            _ => continue,
+            _ => {
+                *passed_over += 1;
+                continue;
+            }
         };
         let within = path.strip_prefix(folder).unwrap_or(&path);
         let file = Some(shown(if within.as_os_str().is_empty() { &path } else { within }));

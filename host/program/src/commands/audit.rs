@@ -86,7 +86,7 @@ fn run(arguments: &Arguments, console: &mut Console) -> Result<Status, Failure> 
 pub fn compare(old: &Path, new: &Path, arguments: &Arguments, console: &mut Console) -> Result<Status, Failure> {
     let unread = |path: PathBuf| move |error: std::io::Error| Failure::File(path, format!("cannot be read: {error}"));
     let lines = audit::open(old).map_err(unread(old.to_path_buf()))?;
-    let lines = lines.map_err(|wrong| Failure::File(old.to_path_buf(), wrong.to_string()))?;
+    let mut lines = lines.map_err(|wrong| Failure::File(old.to_path_buf(), wrong.to_string()))?;
     let (keep_going, by_position) = (arguments.has("--keep-going"), arguments.has("--by-position"));
     let mut faults = Vec::new();
     let opened = Outlines::open(new, arguments.form(), keep_going, &mut faults);
@@ -94,7 +94,7 @@ pub fn compare(old: &Path, new: &Path, arguments: &Arguments, console: &mut Cons
     let (format, differences) = (arguments.format(), arguments.has("--differences"));
     let mut teller = Teller { format, differences, counts: Counts::default(), console };
     teller.begin(arguments)?;
-    for line in lines {
+    for line in lines.by_ref() {
         match line {
             Ok(line) => {
                 let now = outlines.find(&line, by_position, &mut faults);
@@ -116,6 +116,10 @@ pub fn compare(old: &Path, new: &Path, arguments: &Arguments, console: &mut Cons
         }
     });
     told?;
+    let passed_over = outlines.passed_over() + lines.passed_over();
+    if passed_over > 0 {
+        teller.console.remark(format_args!("{passed_over} passed over; `check --verbose` names them"))?;
+    }
     teller.end(&faults)
 }
 
@@ -205,7 +209,7 @@ impl Found {
         vec![
             ("file", text(&self.file)),
             ("outline", Value::perhaps(self.outline.map(Value::number))),
-            ("name", text(&self.name)),
+            ("name", if self.name.is_empty() { Value::Nothing } else { Value::name(self.name.as_str()) }),
             ("finding", Value::text(self.word())),
             ("then", number(&self.then)),
             ("now", number(&self.now)),

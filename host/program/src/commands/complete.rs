@@ -55,7 +55,7 @@ fn run(arguments: &Arguments, console: &mut Console) -> Result<Status, Failure> 
         let form = form_to_write(arguments)?.unwrap_or(Form::Text);
         return one_file(path, out, form, arguments, console);
     }
-    let mut status = Status::Nothing;
+    let (mut status, mut any) = (Status::Taken, false);
     for file in files(path, console)? {
         let target = match out {
             Some(folder) => Some(target(path, &file, folder, arguments)?),
@@ -64,9 +64,10 @@ fn run(arguments: &Arguments, console: &mut Console) -> Result<Status, Failure> 
         };
         let form = arguments.to().or_else(|| Form::by_name(&file)).unwrap_or(Form::Text);
         let done = one_file(&file, target.as_deref(), form, arguments, console)?;
-        status = if status == Status::Nothing { done } else { status.worse(done) };
+        any |= done != Status::Nothing;
+        status = if done == Status::Nothing { status } else { status.worse(done) };
     }
-    Ok(status)
+    Ok(if any { status } else { Status::Nothing })
 }
 
 /// Where the completions of a folder's file go: under the same name in the other folder, with the ending of the form.

@@ -135,6 +135,16 @@ fn many(path: &Path, out: &Path, arguments: &Arguments, console: &mut Console) -
             console.progress(|| count(drawn, "picture"))?;
         }
     }
+    if let Some(other) = other {
+        for file in files(other, console)? {
+            let within = file.strip_prefix(other).unwrap_or(&file);
+            if !path.join(within).is_file() {
+                console
+                    .line(format_args!("{}: NOT COMPARED: the other folder has no such file", crate::paths::shown(&file)))?;
+                status = status.worse(Status::Nothing);
+            }
+        }
+    }
     console.line(format_args!("{} in {}", count(drawn, "picture"), crate::paths::shown(out)))?;
     Ok(if outlines == 0 { status.worse(Status::Nothing) } else { status })
 }

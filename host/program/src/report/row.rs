@@ -2,12 +2,17 @@
 
 use std::borrow::Cow;
 
+use robequarry::text::Escaped;
+
 #[derive(Clone, Debug, PartialEq)]
 pub enum Value<'a> {
     /// `null`; in CSV an empty field.
     Nothing,
     Number(i64),
+    /// Our own words, and what has been escaped.
     Text(Cow<'a, str>),
+    /// A name, which CSV escapes so that it can be read back.
+    Name(Cow<'a, str>),
     /// `[1,2]`; in CSV `1 2`.
     Pair(i32, i32),
     /// `[[1,2],[3,4]]`; in CSV `1 2 3 4`.
@@ -24,6 +29,10 @@ pub type Row<'a> = Vec<(&'static str, Value<'a>)>;
 impl<'a> Value<'a> {
     pub fn text(text: impl Into<Cow<'a, str>>) -> Self {
         Value::Text(text.into())
+    }
+
+    pub fn name(name: impl Into<Cow<'a, str>>) -> Self {
+        Value::Name(name.into())
     }
 
     pub fn number(number: impl TryInto<i64>) -> Self {
@@ -88,7 +97,7 @@ fn json(out: &mut Vec<u8>, value: &Value) {
     match value {
         Value::Nothing => out.extend_from_slice(b"null"),
         Value::Number(number) => decimal(out, *number),
-        Value::Text(text) => json_text(out, text),
+        Value::Text(text) | Value::Name(text) => json_text(out, text),
         Value::Pair(a, b) => json_pair(out, &(*a, *b)),
         Value::Pairs(pairs) => {
             out.push(b'[');
@@ -142,15 +151,15 @@ pub fn csv_line(out: &mut Vec<u8>, row: &Row) {
         Value::Nothing | Value::List(_) | Value::Object(_) => {}
         Value::Number(number) => decimal(out, *number),
         Value::Text(text) => csv_text(out, text),
+        Value::Name(name) => csv_text(out, &Escaped(name).to_string()),
         Value::Pair(a, b) => pair(out, (*a, *b), b' '),
         Value::Pairs(pairs) => list(out, pairs, b' ', |out, numbers| pair(out, *numbers, b' ')),
     });
     out.push(b'\n');
 }
 
-/// A field, in quotes where it needs them. Control characters are escaped as in a text.
+/// A field, in quotes where it needs them.
 fn csv_text(out: &mut Vec<u8>, text: &str) {
-    let text = robequarry::text::Escaped(text).to_string();
     if text.contains([',', '"']) || text.starts_with(' ') || text.ends_with(' ') {
         out.extend_from_slice(format!("\"{}\"", text.replace('"', "\"\"")).as_bytes());
     } else {
@@ -176,7 +185,7 @@ mod tests {
         let row: Row = vec![
             ("a", Value::Nothing),
             ("b", Value::Number(-3)),
-            ("c", Value::text("x, \"y\"\u{1b}\\")),
+            ("c", Value::name("x, \"y\"\u{1b}\\")),
             ("d", Value::Pair(1, 2)),
             ("e", Value::Pairs(vec![(1, 2), (3, -4)])),
             ("f", Value::List(vec![Value::Number(1), Value::Nothing, Value::text("z")])),

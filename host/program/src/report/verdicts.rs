@@ -45,7 +45,7 @@ pub fn verdict_row<'a>(file: &'a str, number: usize, name: &'a str, outline: &Ou
         ("type", Value::text("outline")),
         ("file", Value::text(file)),
         ("outline", Value::number(number)),
-        ("name", if name.is_empty() { Value::Nothing } else { Value::text(name) }),
+        ("name", if name.is_empty() { Value::Nothing } else { Value::name(name) }),
         ("letters", Value::number(outline.letters.len())),
         ("number", Value::number(said.number)),
         ("meaning", Value::text(verdict.as_ref().err().map_or(TAKEN, |refusal| meaning(refusal.number())))),
