@@ -76,3 +76,19 @@ impl Random {
         Point::new(self.from_to(0, usize::from(last)) as u16, self.from_to(0, usize::from(last)) as u16)
     }
 }
+
+#[cfg(test)]
+mod tests {
+    use super::*;
+
+    /// The first numbers of splitmix64 from two seeds, as they are published for it.
+    #[test]
+    fn published_numbers() {
+        let first = |seed: u64| {
+            let mut random = Random::new(seed);
+            [random.any(), random.any(), random.any()]
+        };
+        assert_eq!(first(0), [0xe220_a839_7b1d_cdaf, 0x6e78_9e6a_a1b9_65f4, 0x06c4_5d18_8009_454f]);
+        assert_eq!(first(1_234_567), [6_457_827_717_110_365_317, 3_203_168_211_198_807_973, 9_817_491_932_198_370_423]);
+    }
+}

@@ -1,6 +1,10 @@
 //! What the commands ask of the library beyond a test. Everything asked here is answered by it.
 
+use robequarry::limits::LAST_CELL;
 use robequarry::{Comparison, Edges, Holder, Located, Outline, Piece, Refusal, RefusedList, Witness};
+
+use crate::story::{Rows, Story};
+use crate::walk::Point;
 
 /// Whose outline it is on the holder, and where: the knee's, at the first place.
 const PARTY: u8 = 0;
@@ -44,6 +48,24 @@ impl AtWork {
     pub fn reading(&self, angle: f32, load: f32) -> Result<Located, Refusal> {
         self.0.reading(PARTY, PLACE, angle, load)
     }
+}
+
+/// The cells of a taken outline, row by row as a controller answers for them.
+pub fn rows(outline: &Outline) -> Result<Rows, Refusal> {
+    let at_work = AtWork::of(outline)?;
+    let mut rows = Rows::new();
+    for row in 0..=LAST_CELL {
+        if let Some((first, last)) = at_work.row(row)? {
+            rows.insert(row.into(), vec![(first.into(), last.into())]);
+        }
+    }
+    Ok(rows)
+}
+
+/// The cells that are missing from an outline, from the lowest row up, each row from the left: those that its completion adds.
+pub fn missing(outline: &Outline) -> Vec<Point> {
+    let added = |help: Help| Story::of(&help.completed).cells_beyond(&Story::of(outline));
+    Help::of(outline).map(added).unwrap_or_default()
 }
 
 /// The outline that has an anchor and edges, clockwise from W.

@@ -4,10 +4,10 @@ use std::fmt::Write;
 
 use robequarry::{Edges, Outline, Refusal, Verdict};
 
-use crate::engine::Help;
+use crate::engine::{missing, Help};
 use crate::story::{Piece, Story, LETTERS, NAMES};
 use crate::verdict::{at, count, shown, Said};
-use crate::walk::{corner_cells, direction, start};
+use crate::walk::{corner_cells, direction, start, Point};
 use crate::words::{christoffel, divisor, is_christoffel, Factor};
 
 /// Lines are broken before they get longer than this.
@@ -23,7 +23,7 @@ pub fn explain(title: &str, outline: &Outline, verdict: &Verdict) -> String {
     writeln!(text, "{title}: start {}, {letters}", at(start(outline))).expect("a string has room");
     paragraph(&mut text, "  ", &digits(&outline.letters));
     if told(verdict) {
-        tell(&mut text, &Story::of(outline), verdict);
+        tell(&mut text, outline, &Story::of(outline), verdict);
     }
     let said = Said::of(outline, verdict);
     text.push('\n');
@@ -42,7 +42,8 @@ pub fn told(verdict: &Verdict) -> bool {
     matches!(verdict, Ok(_) | Err(Refusal::BackStep { .. } | Refusal::Dent { .. }))
 }
 
-fn tell(text: &mut String, story: &Story, verdict: &Verdict) {
+fn tell(text: &mut String, outline: &Outline, story: &Story, verdict: &Verdict) {
+    let edges = factor_edges(story, verdict);
     let way = match story.clockwise {
         true => "drawn clockwise",
         false => "drawn anticlockwise, so read backward with each letter turned round",
@@ -54,13 +55,13 @@ fn tell(text: &mut String, story: &Story, verdict: &Verdict) {
     paragraph(text, "  ", &format!("cut at {}", corners.collect::<Vec<_>>().join(", ")));
     for piece in &story.pieces {
         text.push('\n');
-        tell_piece(text, story, piece);
+        tell_piece(text, story, piece, &edges[piece.number - 1]);
         if piece.back_step.is_some() {
             break;
         }
     }
-    let missing = story.missing();
     if verdict.is_err() {
+        let missing = missing(outline);
         let mut cells: Vec<String> = missing.iter().take(MOST_CELLS).map(|&cell| at(cell)).collect();
         if missing.len() > MOST_CELLS {
             cells.push(format!("and {} more", missing.len() - MOST_CELLS));
@@ -70,7 +71,14 @@ fn tell(text: &mut String, story: &Story, verdict: &Verdict) {
     }
 }
 
-fn tell_piece(text: &mut String, story: &Story, piece: &Piece) {
+/// The edge of each factor of each piece: those of a taken outline are the library's, one after the other.
+pub fn factor_edges(story: &Story, verdict: &Verdict) -> [Vec<Point>; 4] {
+    let mut steps = verdict.iter().flat_map(|edges| edges.steps()).map(|(cols, rows)| (cols.into(), rows.into()));
+    let mut next = |piece: &Piece, factor: Factor| steps.next().unwrap_or_else(|| story.edge(piece.number, factor));
+    story.pieces.each_ref().map(|piece| piece.factors.iter().map(|&factor| next(piece, factor)).collect())
+}
+
+fn tell_piece(text: &mut String, story: &Story, piece: &Piece, edges: &[Point]) {
     let k = piece.number - 1;
     let [earlier, later] = LETTERS[k];
     let order = format!("{earlier} {} before {later} {}", direction(earlier), direction(later));
@@ -86,17 +94,16 @@ fn tell_piece(text: &mut String, story: &Story, piece: &Piece) {
         return paragraph(text, "  ", "without its first letter nothing is left: no edge");
     }
     paragraph(text, "  ", &format!("without its first letter: {}", digits(&piece.letters[1..])));
-    for &factor in &piece.factors {
-        tell_factor(text, story, piece, factor);
+    for (&factor, &edge) in piece.factors.iter().zip(edges) {
+        tell_factor(text, piece, factor, edge);
     }
 }
 
-fn tell_factor(text: &mut String, story: &Story, piece: &Piece, factor: Factor) {
+fn tell_factor(text: &mut String, piece: &Piece, factor: Factor, edge: Point) {
     let copy = piece.copy(factor);
     let times = if factor.times > 1 { format!(", {} times", factor.times) } else { String::new() };
-    let (cols, rows) = story.edge(piece.number, factor);
     let judged = match is_christoffel(copy) {
-        true => format!("a Christoffel word; edge {}", at((cols, rows))),
+        true => format!("a Christoffel word; edge {}", at(edge)),
         false => format!("NO Christoffel word: {}", why_not(piece, copy)),
     };
     paragraph(text, "  ", &format!("factor {}{times}: {judged}", word(piece.number, copy)));

@@ -226,3 +226,82 @@ fn shown(path: &Path) -> Arc<str> {
         _ => crate::paths::shown(path).into(),
     }
 }
+
+#[cfg(test)]
+mod tests {
+    use super::*;
+    use std::sync::atomic::AtomicUsize;
+    use std::time::Duration;
+
+    /// Files that are not there, each of which gives a fault and an end.
+    fn missing(count: usize) -> impl Iterator<Item = Found> + Send {
+        (0..count).map(|number| Found::File(PathBuf::from(format!("/no/such/file/{number}"))))
+    }
+
+    /// The files of the crate itself, of which every piece takes another time.
+    #[test]
+    fn results_come_in_the_order_of_the_files() {
+        let own = Path::new(env!("CARGO_MANIFEST_DIR")).join("specimens.txt");
+        let files = (0..60).map(|_| Found::File(own.clone()));
+        let worked = AtomicUsize::new(0);
+        let work = |_: &Source, piece: &Piece| {
+            let turn = worked.fetch_add(1, Ordering::Relaxed);
+            thread::sleep(Duration::from_micros((turn as u64 * 7919) % 500));
+            Result { made: piece.entries().count(), ended: false }
+        };
+        let (mut outlines, mut ends) = (Vec::new(), 0);
+        let done: std::result::Result<(), ()> = run(files, None, work, |done| {
+            outlines.extend(done.made);
+            if done.end.is_some() {
+                ends += 1;
+                assert_eq!(outlines.len(), ends);
+            }
+            Ok(())
+        });
+        assert!(done.is_ok() && outlines.iter().all(|count| *count == 16) && ends == 60);
+    }
+
+    /// An error of the sink ends the run, though thousands of files are left, and what could not be read comes in order too.
+    #[test]
+    fn an_error_of_the_sink_ends_the_run() {
+        let mut names = Vec::new();
+        let ended = run(
+            missing(100_000),
+            None,
+            |_, _| Result { made: (), ended: false },
+            |done| {
+                if done.fault.is_some() {
+                    names.push(done.source.name.to_string());
+                }
+                if names.len() < 100 {
+                    Ok(())
+                } else {
+                    Err("enough")
+                }
+            },
+        );
+        assert_eq!(ended, Err("enough"));
+        assert!(names.iter().enumerate().all(|(i, name)| *name == format!("/no/such/file/{i}")));
+    }
+
+    /// What follows the end of a file's work is dropped, but for the file's end.
+    #[test]
+    fn a_worker_can_end_a_file() {
+        let long = std::env::temp_dir().join(format!("robequarry-{}-long.txt", process::id()));
+        std::fs::write(&long, "0 0 1032\n".repeat(200_000)).unwrap();
+        let (mut pieces, mut ends) = (0, 0);
+        let files = [Found::File(long.clone()), Found::File(long.clone())].into_iter();
+        let done: std::result::Result<(), ()> = run(
+            files,
+            None,
+            |_, _| Result { made: (), ended: true },
+            |done| {
+                pieces += usize::from(done.made.is_some());
+                ends += usize::from(done.end.is_some());
+                Ok(())
+            },
+        );
+        std::fs::remove_file(&long).unwrap();
+        assert_eq!((done, pieces, ends), (Ok(()), 2, 2));
+    }
+}

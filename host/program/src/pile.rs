@@ -5,8 +5,9 @@ use std::ops::RangeInclusive;
 use robequarry::limits::LAYERS;
 use robequarry::{Pile, Refusal, SectionKind, Verdict};
 
+use crate::engine;
 use crate::input::Entry;
-use crate::story::{holds, joined, missing, Rows, Story};
+use crate::story::{holds, joined, missing, Rows};
 use crate::verdict::{count, Said};
 use crate::walk::Point;
 
@@ -115,7 +116,7 @@ impl Layers {
             }
             say(layer, entry, Some(&entry.outline.test()));
             match pile.set(layer as u8, &entry.outline) {
-                Ok(_) => rows[layer] = Story::of(&entry.outline).rows,
+                Ok(_) => rows[layer] = engine::rows(&entry.outline).expect("what a pile takes a holder takes"),
                 Err(refusal) => refused = refused.or(Some(Refused::Layer(layer, refusal))),
             }
         }

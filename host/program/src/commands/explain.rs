@@ -3,11 +3,12 @@ use robequarry::{Outline, Verdict};
 use super::{is_json, object, one, plain, title, Command, Console, Failure, Status};
 use crate::arguments::Arguments;
 use crate::engine::Help;
-use crate::explain::{digits, explain, told};
+use crate::explain::{digits, explain, factor_edges, told};
 use crate::input::Entry;
 use crate::paths::shown;
 use crate::report::{verdict_row, Row, Value};
 use crate::story::{Piece, Story, NAMES};
+use crate::walk::Point;
 use crate::words::is_christoffel;
 
 pub const COMMAND: Command = Command {
@@ -51,7 +52,10 @@ fn row<'a>(file: &'a str, number: usize, entry: &'a Entry, verdict: &Verdict) ->
     row[0].1 = Value::text("story");
     let outline = &entry.outline;
     let story = told(verdict).then(|| Story::of(outline));
-    let pieces = story.as_ref().map(|story| Value::List(story.pieces.iter().map(|one| piece(story, one)).collect()));
+    let pieces = story.as_ref().map(|story| {
+        let edges = factor_edges(story, verdict);
+        Value::List(story.pieces.iter().zip(&edges).map(|(one, edges)| piece(story, one, edges)).collect())
+    });
     row.extend([
         ("start", Value::Pair(outline.start.col.into(), outline.start.row.into())),
         ("word", Value::text(digits(&outline.letters))),
@@ -67,10 +71,9 @@ fn line(outline: &Outline) -> Value<'static> {
     Value::text(robequarry::text::line(outline).expect("the library's letters are digits"))
 }
 
-fn piece<'a>(story: &Story, piece: &Piece) -> Value<'a> {
-    let factors = piece.factors.iter().map(|&factor| {
+fn piece<'a>(story: &Story, piece: &Piece, edges: &[Point]) -> Value<'a> {
+    let factors = piece.factors.iter().zip(edges).map(|(&factor, &(cols, rows))| {
         let copy = piece.copy(factor);
-        let (cols, rows) = story.edge(piece.number, factor);
         let letters: Vec<u8> = piece.letters[1 + factor.at..][..factor.length].to_vec();
         let fields = [
             ("letters", Value::text(digits(&letters))),

@@ -3,7 +3,7 @@
 use robequarry::limits::{LAST_CORNER, LAYERS, SIDE};
 use robequarry::{Cell, Edges, Outline, Refusal, SectionKind, Verdict};
 
-use crate::engine::{AtWork, Help};
+use crate::engine::{missing, AtWork, Help};
 use crate::explain::told;
 use crate::pile::Section;
 use crate::story::{Piece, Rows, Story, NAMES};
@@ -163,7 +163,7 @@ fn block(outline: &Outline, verdict: &Verdict) -> Drawing {
             drawing.edges = drawn.expect("what a test takes a holder takes, and draws");
         }
         Err(refusal) => {
-            drawing.missing = story.missing();
+            drawing.missing = missing(outline);
             let point = |cell: Cell| (cell.col.into(), cell.row.into());
             let Help { witness, .. } = Help::of(outline).expect("a block that is refused lacks a cell");
             drawing.named = Some(point(witness.missing));

@@ -197,4 +197,31 @@ mod tests {
         assert_eq!(String::from_utf8(json).unwrap(), format!("{expected}\n"));
         assert_eq!(String::from_utf8(csv).unwrap(), ",-3,\"x, \"\"y\"\"\\u{1b}\\\",1 2,1 2 3 -4,\n");
     }
+
+    /// RFC 8259, section 7: quotation mark, reverse solidus and U+0000 to U+001F must be escaped, and all else may stand as it is.
+    #[test]
+    fn strings_of_json() {
+        let written = |text: &str| {
+            let mut out = Vec::new();
+            json_text(&mut out, text);
+            String::from_utf8(out).unwrap()
+        };
+        for number in 0..0x20 {
+            let char = char::from_u32(number).unwrap().to_string();
+            assert_eq!(written(&char), format!("\"\\u{number:04x}\""));
+        }
+        assert_eq!(written("\"\\/"), "\"\\\"\\\\/\"");
+        assert_eq!(written("\u{1D11E} \u{e9}"), "\"\u{1D11E} \u{e9}\"");
+        assert_eq!(written("\u{7f}\u{9b}"), "\"\\u007f\\u009b\"");
+    }
+
+    /// RFC 4180, section 2: fields with a separator or a quote are in quotes, and a quote in them stands twice.
+    #[test]
+    fn fields_of_csv() {
+        for (text, expected) in [("a b", "a b"), ("a,b", "\"a,b\""), ("a\"b", "\"a\"\"b\""), ("", ""), (" a", "\" a\"")] {
+            let mut out = Vec::new();
+            csv_text(&mut out, text);
+            assert_eq!(String::from_utf8(out).unwrap(), expected);
+        }
+    }
 }
