@@ -101,6 +101,9 @@ impl Decoder {
     }
 
     fn line_ends(&mut self, bytes: &[u8], lines: &mut Vec<u8>) {
+        if !self.after_return && !bytes.contains(&b'\r') {
+            return lines.extend_from_slice(bytes);
+        }
         for &byte in bytes {
             match byte {
                 b'\n' if self.after_return => {}
