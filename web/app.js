@@ -2,12 +2,25 @@
 
 import { SIDE } from "./chart.js";
 import { BLANK, marked, ofCells } from "./drawing.js";
+import { NO_UNITS } from "./units.js";
 
 export const LAYERS = 16;
 const MOST_UNDO = 200;
 
-// The outlines of a file and the one that is shown; last year's block, if there is one; a block for each speed.
-export const FRESH = { records: [BLANK], at: 0, file: "", last: null, layers: Array(LAYERS).fill(BLANK), layer: 0 };
+// The outlines of a file and the one that is shown; last year's block, if there is one; a block for each speed. Examples and tasks are on
+// a sheet of their own, which no file has. The party names the axes.
+export const FRESH = {
+  records: [BLANK],
+  at: 0,
+  file: "",
+  last: null,
+  layers: Array(LAYERS).fill(BLANK),
+  layer: 0,
+  practice: null,
+  task: false,
+  party: 0,
+  units: NO_UNITS,
+};
 
 export class App {
   constructor(engine) {
@@ -20,9 +33,16 @@ export class App {
     this.listeners = [];
   }
 
-  // The drawing on the chart: a layer while speeds are shown, else an outline of the file.
+  // Whether the sheet for practice is on the chart.
+  get practising() {
+    return this.panel !== "speeds" && this.state.practice !== null;
+  }
+
+  // The drawing on the chart: a layer while speeds are shown, else the sheet for practice, if there is one, or an outline of the file.
   get drawing() {
-    return this.panel === "speeds" ? this.state.layers[this.state.layer] : this.state.records[this.state.at];
+    const { state } = this;
+    if (this.panel === "speeds") return state.layers[state.layer];
+    return state.practice ?? state.records[state.at];
   }
 
   // The state with another drawing on the chart.
@@ -31,6 +51,7 @@ export class App {
     const replaced = (list, at) => list.map((old, i) => (i === at ? drawing : old));
     if (drawing === this.drawing) return state;
     if (this.panel === "speeds") return { ...state, layers: replaced(state.layers, state.layer) };
+    if (state.practice) return { ...state, practice: drawing };
     return { ...state, records: replaced(state.records, state.at) };
   }
 
@@ -42,14 +63,16 @@ export class App {
     return this.with(ofCells(cells, this.drawing.name));
   }
 
-  // A change that can be undone.
-  change(next) {
+  // A change that can be undone. Changes of one kind that follow each other are one, as letters of a name are.
+  change(next, kind = null) {
     if (next === this.state) return;
-    this.keep(this.state);
+    if (kind === null || kind !== this.kind) this.keep(this.state);
+    this.kind = kind;
     this.set(next);
   }
 
   keep(before) {
+    this.kind = null;
     this.past.push(before);
     if (this.past.length > MOST_UNDO) this.past.shift();
     this.future.length = 0;
@@ -76,9 +99,10 @@ export class App {
   travel(from, to) {
     if (from.length === 0) return;
     const next = from.pop();
+    this.kind = null;
     to.push(this.state);
     if (next.layers !== this.state.layers) this.panel = "speeds";
-    else if (next.records !== this.state.records && this.panel === "speeds") this.panel = "draw";
+    else if ((next.records !== this.state.records || next.practice !== this.state.practice) && this.panel === "speeds") this.panel = "draw";
     this.set(next);
   }
 

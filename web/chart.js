@@ -48,6 +48,14 @@ export class Cells {
     return this.runs().reduce((sum, [, first, last]) => sum + last - first + 1, 0);
   }
 
+  // The columns and the rows between which the cells lie.
+  bounds() {
+    const runs = this.runs();
+    const found = { left: SIDE, right: 0, bottom: runs[0][0], top: runs[runs.length - 1][0] };
+    for (const [, first, last] of runs) [found.left, found.right] = [Math.min(found.left, first), Math.max(found.right, last)];
+    return found;
+  }
+
   get empty() {
     return !this.marks.includes(1);
   }

@@ -6,17 +6,20 @@ import { BLANK } from "./drawing.js";
 import { listen as listenToKeys } from "./keys.js";
 import { Pointers } from "./pointer.js";
 import { strokes } from "./strokes.js";
+import { keepLanguage, MESSAGES, TABLES } from "./text.js";
 
 const CLICKS = {
   undo: (page) => page.app.undo(),
   redo: (page) => page.app.redo(),
-  clear: (page) => page.app.change(page.app.with({ ...BLANK, name: page.app.drawing.name })),
+  clear: (page) => page.app.change(page.app.with(BLANK)),
   in: (page) => page.zoom(1.25),
   out: (page) => page.zoom(0.8),
   fit: (page) => page.fit(),
-  whole: (page) => (page.view.fit([[0, 0], [SIDE, SIDE]]), page.show()),
+  whole: (page) => (page.view.fit([[0, 0], [SIDE, SIDE]]), page.looked()),
   why: (page) => ((page.why = !page.why), page.show(), page.keep()),
   instead: (page) => page.instead(),
+  "ask-yes": (page) => page.answered(true),
+  "ask-no": (page) => page.answered(false),
 };
 
 export function listen(page) {
@@ -28,7 +31,24 @@ export function listen(page) {
     radio.addEventListener("change", () => page.choose(radio.name, radio.value));
   }
   document.addEventListener("keydown", (event) => undoByKeys(event, page));
-  addEventListener("pagehide", () => page.save());
+  addEventListener("pagehide", (event) => page.goes(event));
+  addEventListener("beforeunload", (event) => page.goes(event));
+  addEventListener("storage", () => page.store.foreign && page.foreign());
+  listenToLanguage(page);
+}
+
+// The languages that the page has, to choose from by hand. The page begins again in the other one, with everything that is drawn.
+function listenToLanguage(page) {
+  const list = by("language");
+  const choice = ({ lang, language }) => Object.assign(document.createElement("option"), { value: lang, textContent: language });
+  list.replaceChildren(...TABLES.map(choice));
+  list.value = MESSAGES.lang;
+  list.hidden = TABLES.length < 2;
+  list.addEventListener("change", () => {
+    page.save();
+    keepLanguage(list.value);
+    location.reload();
+  });
 }
 
 function listenToChart(page, chart) {

@@ -10,10 +10,23 @@ export function ofCells(cells, name = "") {
   return { name, cells, ...(cells.empty ? { letters: null, faults: [] } : borderOrFaults(cells)) };
 }
 
-// An outline that is no simple walk has no cells.
+// An outline that is no simple walk has no cells. Its cells are found when they are asked for: a file may have many outlines.
 export function ofOutline({ name = "", start, letters }) {
-  return { name, start, letters, faults: [], cells: isSimple(start, letters) ? enclosed(start, letters) : null };
+  let found;
+  return {
+    name,
+    start,
+    letters,
+    faults: [],
+    get cells() {
+      if (found === undefined) found = isSimple(start, letters) ? enclosed(start, letters) : null;
+      return found;
+    },
+  };
 }
+
+// The same drawing under another name.
+export const named = (drawing, name) => (drawing.name === name ? drawing : { ...drawing, name });
 
 // With cells marked or not; the same drawing if nothing changes. A change to an outline without cells begins a new block.
 export function marked(drawing, cells, mark) {

@@ -17,9 +17,13 @@ ROOT = HERE.parent
 OUTLINES = ROOT / "host/program"
 
 IMPORT = re.compile(r'^import \{([^}]*)\} from "(\.[^"]+)";\n', re.MULTILINE)
-EXPORT = re.compile(r"^export ((?:async )?function|const|let|class) (\w+)", re.MULTILINE)
+EXPORT = re.compile(r"^export ((?:async )?function\*?|const|let|class) (\w+)", re.MULTILINE)
 FILLED = re.compile(r"\{(\w+)\}")
 PLACE = re.compile(r"\{\{([^}]+)\}\}|\[\[(\w+)\]\]")
+# An element whose whole content is a text, and the opening tag of one with texts in its attributes.
+CONTENT = re.compile(r"(<[a-z][^<>]*)>\{\{([^}]+)\}\}</")
+TAG = re.compile(r"<[a-z][^<>]*\{\{[^<>]*>")
+ATTRIBUTE = re.compile(r'([a-z-]+)="\{\{([^}]+)\}\}"')
 
 
 class Fault(Exception):
@@ -43,12 +47,29 @@ def check(path, table):
         raise Fault(f"{path}: there is no text for {', '.join(missing)}")
     if not re.fullmatch(r"[A-Za-z]{2,3}(-[A-Za-z0-9]+)*", table["lang"]):
         raise Fault(f"{path}: {table['lang']!r} is no language, as en or de-CH is")
+    if table["dir"] not in ("ltr", "rtl"):
+        raise Fault(f"{path}: {table['dir']!r} is no direction: ltr or rtl")
     for key, words in table.items():
         # Any plural may have the number in it, also one that this table does not have.
         plural = own.get(key.rpartition(".")[0] + ".other", "")
         unknown = set(FILLED.findall(words)) - set(FILLED.findall(own.get(key, "") + plural))
         if unknown:
             raise Fault(f"{path}: the text of {key} has {{{unknown.pop()}}}, which the page does not fill")
+
+
+def keyed(source):
+    """The document with the keys of its texts in attributes, so that the page can put another language there."""
+
+    def tag(found):
+        pairs = " ".join(f"{name}={key}" for name, key in ATTRIBUTE.findall(found[0]))
+        return f'{found[0][:-1]} data-texts="{pairs}">'
+
+    return TAG.sub(tag, CONTENT.sub(r'\1 data-text="\2">{{\2}}</', source))
+
+
+def version():
+    """The version of the library, as its interface to JavaScript has it."""
+    return re.search(r"export const version = '([^']+)'", (ROOT / "js/robequarry.js").read_text())[1]
 
 
 class Bundle:
@@ -102,11 +123,13 @@ def policy(script, style):
     )
 
 
-def page(library, table_path):
-    """The whole page as text."""
-    table = messages(table_path)
-    check(table_path, table)
-    bundle = Bundle({(HERE / "messages.js").resolve(): table_path})
+def page(library, table_path=None):
+    """The whole page as text: in the languages that it has, or in the one of another table."""
+    tables = [table_path] if table_path else [HERE / "messages.js", *sorted(HERE.glob("messages.*.js"))]
+    for path in tables:
+        check(path, messages(path))
+    table = messages(tables[0])
+    bundle = Bundle({path.resolve(): table_path for path in HERE.glob("messages*.js")} if table_path else {})
     bundle.add(HERE / "page.js")
     script = bundle.script()
     style = (HERE / "style.css").read_text()
@@ -114,6 +137,8 @@ def page(library, table_path):
         "policy": policy(script, style),
         "style": style,
         "script": script,
+        "version": version(),
+        "hash": hashlib.sha256(library.read_bytes()).hexdigest(),
         "library": base64.b64encode(library.read_bytes()).decode(),
         "specimens": (OUTLINES / "specimens.txt").read_text(),
         "training": (OUTLINES / "training.txt").read_text(),
@@ -129,12 +154,12 @@ def page(library, table_path):
             raise Fault(f"index.html: there is no text for {found[1]}")
         return html.escape(table[found[1]])
 
-    return PLACE.sub(filled, (HERE / "index.html").read_text())
+    return PLACE.sub(filled, keyed((HERE / "index.html").read_text()))
 
 
 def main():
     parser = argparse.ArgumentParser(prog="page", description="Writes the page as one HTML file.")
-    parser.add_argument("--messages", type=Path, default=HERE / "messages.js", metavar="FILE", help="the table of the page's sentences")
+    parser.add_argument("--messages", type=Path, metavar="FILE", help="one table of the page's sentences, in place of those that it has")
     parser.add_argument("--library", type=Path, default=ROOT / "target/wasm32/robequarry.wasm", help=argparse.SUPPRESS)
     parser.add_argument("-o", "--out", type=Path, default=ROOT / "target/page/robequarry.html", metavar="FILE", help="where to write it")
     arguments = parser.parse_args()
@@ -142,11 +167,14 @@ def main():
         made = page(arguments.library, arguments.messages)
         arguments.out.parent.mkdir(parents=True, exist_ok=True)
         arguments.out.write_text(made)
+        released = arguments.out.with_name(f"{arguments.out.stem}-{version()}{arguments.out.suffix}")
+        released.write_text(made)
     except OSError as error:
         sys.exit(f"page: {error.filename}: {error.strerror}")
     except Fault as fault:
         sys.exit(f"page: {fault}")
     print(f"page: {arguments.out.resolve()} ({len(made.encode()) // 1024} KB): open it in a browser")
+    print(f"page: {released.resolve()} is the same file, with the library's version in its name")
 
 
 if __name__ == "__main__":

@@ -1,13 +1,15 @@
 // The page: puts on the screen what is drawn and what the library says of it, in one go.
 
 import { load } from "../js/robequarry.js";
-import { App } from "./app.js";
+import { App, FRESH } from "./app.js";
 import { walk } from "./border.js";
 import { onChart, SIDE } from "./chart.js";
 import { listen } from "./controls.js";
 import { by, write } from "./dom.js";
 import { ofOutline } from "./drawing.js";
+import { showForm } from "./form.js";
 import { judge, saidAt } from "./judge.js";
+import { tell, unsay } from "./notice.js";
 import { block } from "./panels/block.js";
 import { holder } from "./panels/holder.js";
 import { lesson } from "./panels/lesson.js";
@@ -16,11 +18,12 @@ import { speeds } from "./panels/speeds.js";
 import { years } from "./panels/years.js";
 import { Picture } from "./picture.js";
 import { verdict } from "./say.js";
-import { restore, save } from "./store.js";
+import { Store } from "./store.js";
 import { story } from "./story.js";
 import { Tabs } from "./tabs.js";
-import { at, text } from "./text.js";
+import { at, count, text, translate } from "./text.js";
 import { Tools } from "./tools.js";
+import { inUnits, PARTIES } from "./units.js";
 import { View } from "./view.js";
 
 const PANELS = { draw: block, lesson, readings, years, speeds, holder };
@@ -29,6 +32,7 @@ class Page {
   constructor(engine) {
     this.engine = engine;
     this.app = new App(engine);
+    this.store = new Store();
     this.tools = new Tools(this.app);
     this.view = new View(by("chart"));
     this.picture = new Picture(this.view);
@@ -37,8 +41,11 @@ class Page {
     this.why = true;
     this.shows = 0;
     this.accounts = new WeakMap();
-    // The state right after a completion was taken over.
+    // The state right after cells were added in one go, and the question whether to do that.
     this.completed = null;
+    this.asked = null;
+    // What came of keeping the work: "kept", "other" or "none".
+    this.unkept = "kept";
     this.panels = Object.fromEntries(Object.entries(PANELS).map(([name, make]) => [name, make(this)]));
     this.app.listeners.push(() => this.show(), () => this.keep());
   }
@@ -47,19 +54,31 @@ class Page {
     return this.panels[this.app.panel];
   }
 
+  // The units of the party whose axes are shown.
+  get units() {
+    const { units, party } = this.app.state;
+    return units[PARTIES[party]];
+  }
+
   // Everything that is shown of the drawing, worked out from the drawing now. What cannot be worked out is not shown.
   show() {
     this.shows++;
     const { drawing } = this.app;
     const { answer, told, words } = this.account(drawing);
+    if (this.asked && this.asked.state !== this.app.state) this.asked = null;
     const more = attempt(() => this.panel.more(drawing, answer), {});
+    this.view.measures(this.app.state.party, this.units);
     this.picture.draw(told, drawing.faults, { why: this.why, ...more }, this.app.cursor);
-    this.showVerdict(words, answer);
+    const shown = attempt(() => (this.panel.show(drawing, answer), true), false);
+    const own = this.panel.headline;
+    const headline = own ? shown && attempt(() => own(drawing, answer, words), null) : words;
+    this.showVerdict(headline || failure(), answer, own ? words : null);
     this.showTools(answer);
     this.showWhere();
-    write(by("letters-print"), outlineWords(drawing));
+    this.showSheet();
+    attempt(() => showForm(this, drawing), null);
     this.tabs.show();
-    if (!attempt(() => (this.panel.show(drawing, answer), true), false)) this.tabs.hide();
+    if (!shown) this.tabs.hide();
   }
 
   // The answer to a drawing, with its picture and its words. They belong to the drawing, so they are made once.
@@ -75,12 +94,18 @@ class Page {
     return { answer, told: story(drawing, answer), words: verdict(drawing, answer) };
   }
 
-  showVerdict(words, { kind }) {
-    by("verdict").className = { taken: "taken", refused: "refused", unsent: "refused" }[kind] ?? "";
-    write(by("said"), words.what);
-    write(by("meaning"), words.meaning);
-    write(by("place"), words.where ?? "");
-    write(by("advice"), words.advice ?? "");
+  // The headline is about what the panel is about. Where that is not the drawing, the drawing's verdict stands below it.
+  showVerdict(headline, { kind }, drawn) {
+    const color = { taken: "taken", refused: "refused", unsent: "refused" };
+    by("verdict").className = color[headline.kind ?? kind] ?? "";
+    by("drawn").className = color[kind] ?? "";
+    write(by("said"), headline.what);
+    write(by("advice"), headline.advice ?? "");
+    write(by("meaning"), headline.meaning ?? "");
+    write(by("place"), headline.where ?? "");
+    by("details").hidden = !headline.where;
+    write(by("drawn"), text("drawn", { what: (drawn ?? headline).what }));
+    by("drawn").hidden = drawn === null;
   }
 
   showTools(answer) {
@@ -94,9 +119,17 @@ class Page {
     by("why").setAttribute("aria-pressed", String(this.why));
     if (back) write(by("instead"), text("instead.back"));
     else write(by("instead"), answer.added ? text("instead.count", { n: answer.added.count }) : text("instead"));
+    by("ask").hidden = this.asked === null;
+    if (this.asked) write(by("ask-text"), this.asked.words);
   }
 
-  // The cell under the pointer, or else the cursor's, with what the controller says there.
+  // Says that examples and tasks are not the wearer's work, where they are on the chart.
+  showSheet() {
+    by("sheet").hidden = !this.app.practising;
+    by("intro").hidden = this.app.practising;
+  }
+
+  // The cell under the pointer, or else the cursor's, with the library's answer there.
   showWhere() {
     const cell = this.hover ?? this.app.cursor;
     write(by("where"), this.tools.note ? text(this.tools.note) : attempt(() => this.whereWords(cell, this.app.drawing), ""));
@@ -109,7 +142,9 @@ class Page {
     const { answer } = this.account(drawing);
     const kind = drawing.cells?.has(...cell) ? "marked" : answer.added?.has(...cell) ? "missing" : "open";
     const said = this.panel.saidAt ? this.panel.saidAt(cell) : saidAt(this.engine, drawing, cell);
-    return text(`where.${said}`, { cell: text(`where.${kind}`, { cell: at(cell) }) });
+    const units = inUnits(this.units, cell);
+    const named = units ? text("where.units", { cell: at(cell), units }) : at(cell);
+    return text(`where.${said}`, { cell: text(`where.${kind}`, { cell: named }) });
   }
 
   cellAt([x, y]) {
@@ -119,14 +154,20 @@ class Page {
   // About a point of the chart, or else about the middle of the window.
   zoom(factor, point) {
     this.view.zoom(factor, point);
+    this.looked();
+  }
+
+  // The window has changed: it is shown, and kept.
+  looked() {
     this.show();
+    this.keep();
   }
 
   // Everything that is drawn, for the window to fit: the drawing, and what a panel shows beside it.
   fit() {
     const seen = [this.app.drawing, ...(this.panel.beside?.() ?? [])].flatMap(cornersOf);
     this.view.fit(seen.length > 0 ? seen : [[0, 0], [16, 12]]);
-    this.show();
+    this.looked();
   }
 
   // Shows what is new from near by, with the cursor at it.
@@ -153,31 +194,89 @@ class Page {
     this.show();
   }
 
-  // One click takes the completion over, another one undoes that.
-  instead() {
-    const { app } = this;
-    if (app.state === this.completed) return app.undo();
-    const { completion } = this.account(app.drawing).answer;
-    app.change(app.with(ofOutline({ ...completion, name: app.drawing.name })));
-    this.completed = app.state;
+  // Asks before cells are added in one go: how many, and where. Another change takes the question back.
+  ask(words, work) {
+    this.asked = { words, work, state: this.app.state };
+    this.show();
+    by("ask-yes").focus();
+  }
+
+  answered(yes) {
+    const { asked } = this;
+    this.asked = null;
+    if (yes && asked) asked.work();
+    this.show();
+    by("instead").focus();
+  }
+
+  // Makes a change that adds cells. One click takes it back.
+  complete(next) {
+    this.app.change(next);
+    this.completed = this.app.state;
     this.show();
   }
 
-  // Keeps the drawing for a reload: soon, and at the latest when the page goes.
+  // The completion is asked for first. Once it is there, one click undoes it.
+  instead() {
+    const { app } = this;
+    if (app.state === this.completed) return app.undo();
+    const { completion, added } = this.account(app.drawing).answer;
+    const next = () => this.complete(app.with(ofOutline({ ...completion, name: app.drawing.name })));
+    this.ask(text("ask.instead", { cells: count(added.count, "cell"), ...added.bounds() }), next);
+  }
+
+  // Keeps the work for a reload: soon, and at the latest when the page goes.
   keep() {
+    this.dirty = true;
     clearTimeout(this.saving);
     this.saving = setTimeout(() => this.save(), 300);
   }
 
-  save() {
-    const more = Object.fromEntries(Object.entries(this.panels).map(([name, panel]) => [name, panel.kept?.()]));
-    save(this.app, { why: this.why, panels: more });
+  // What is not kept is told.
+  save(force = false) {
+    clearTimeout(this.saving);
+    const panels = Object.fromEntries(Object.entries(this.panels).map(([name, panel]) => [name, panel.kept?.()]));
+    const what = this.store.save(this.app, { why: this.why, panels, view: this.view.kept() }, force);
+    this.dirty = what !== "kept";
+    if (what === "kept") unsay("store");
+    if (what === "none" && this.unkept !== "none") tell("store", text("store.none"));
+    if (what === "other") this.foreign();
+    this.unkept = what;
   }
 
+  // Another page has kept its own work: one of the two has to be chosen.
+  foreign() {
+    const here = { words: text("store.here"), work: () => this.save(true) };
+    const there = { words: text("store.there"), work: () => ((this.leaving = true), location.reload()) };
+    tell("store", text("store.other"), [here, there]);
+    this.unkept = "other";
+  }
+
+  // When the page goes. Nobody looks at the chart then, so a question is asked where work would be lost.
+  goes(event) {
+    if (this.leaving || !this.dirty) return;
+    this.save();
+    if (this.unkept !== "kept" && this.app.state !== FRESH && event.type === "beforeunload") event.preventDefault();
+  }
+
+  // Nothing is left of what was drawn, here or on this device.
+  forget() {
+    this.store.forget();
+    this.leaving = true;
+    location.reload();
+  }
+
+  // Nothing is to be kept yet: a page that is only opened overwrites nothing.
+  opened() {
+    clearTimeout(this.saving);
+    this.dirty = false;
+  }
+
+  // Returns whether the window is as it was, too.
   restore() {
-    const kept = restore();
-    if (kept === null) return;
-    this.app.state = kept.state;
+    const kept = this.store.restore();
+    if (kept === null) return false;
+    Object.assign(this.app, { state: kept.state, past: kept.past, future: kept.future });
     this.why = kept.why !== false;
     if (Object.hasOwn(this.panels, kept.panel)) this.app.panel = kept.panel;
     if (Array.isArray(kept.cursor) && onChart(...kept.cursor)) this.app.cursor = kept.cursor;
@@ -188,16 +287,11 @@ class Page {
         // What a panel cannot use of it is left out.
       }
     }
+    return this.view.restore(kept.view);
   }
 }
 
-// The name, the start and the letters, for a printed page.
-function outlineWords({ name, start, letters }) {
-  if (!letters) return name;
-  return text("outline.print", { name, start: at(start), letters: letters.join("") });
-}
-
-const failure = () => ({ what: text("failed.what"), meaning: text("failed.meaning") });
+const failure = () => ({ kind: "failed", what: text("failed.what"), meaning: text("failed.meaning") });
 
 // What comes of some work, or something else where it fails.
 function attempt(work, otherwise) {
@@ -217,11 +311,14 @@ function cornersOf({ start, letters, cells }) {
 }
 
 async function begin() {
+  translate(document);
   const bytes = Uint8Array.from(atob(by("library").textContent), (letter) => letter.charCodeAt(0));
   const page = new Page(await load(bytes));
-  page.restore();
+  const seen = page.restore();
   listen(page);
-  page.visit();
+  if (seen) page.show();
+  else page.visit();
+  page.opened();
   document.documentElement.dataset.ready = "yes";
 }
 

@@ -3,12 +3,13 @@
 import { SIDE } from "./chart.js";
 import { cellsPath, element, polyline, put } from "./svg.js";
 import { text } from "./text.js";
-import { ABOVE, LEFT } from "./view.js";
+import { axisName, valueAt } from "./units.js";
+import { ABOVE } from "./view.js";
 
 // Paths in columns and rows, from the bottom up. What is drawn about cell centres is moved by half a cell.
 const PATHS = [
   "ghost", "cells", "missing", "over", "grid", "side", "strip", "strip-line", "walk", "piece p1", "piece p2", "piece p3", "piece p4",
-  "other", "band", "edges", "inner", "triangle", "factor", "chord", "gap", "section-line",
+  "lack", "other", "band", "edges", "inner", "triangle", "factor", "chord", "gap", "section-line",
 ];
 
 // Where W, N, E and S are named, in pixels from their corner.
@@ -17,7 +18,7 @@ const BESIDE = { W: [-17, 5], N: [0, -11], E: [17, 5], S: [0, 22] };
 export class Picture {
   constructor(view) {
     this.view = view;
-    this.clip = element("rect", { x: LEFT, y: ABOVE });
+    this.clip = element("rect", { y: ABOVE });
     this.hatchings = [hatching("hatching"), hatching("backward")];
     this.plot = element("g", { class: "plot" });
     this.off = element("rect", { class: "off" });
@@ -42,9 +43,10 @@ export class Picture {
   // The parts that depend on the window alone.
   window() {
     const { view } = this;
-    const state = [view.scale, view.left, view.bottom, view.wide, view.high].join();
-    if (state === this.state) return;
-    this.state = state;
+    const state = [view.scale, view.left, view.bottom, view.wide, view.high, view.party].join();
+    if (state === this.state && view.units === this.units) return;
+    Object.assign(this, { state, units: view.units });
+    put(this.clip, "x", String(view.before));
     for (const [key, value] of [["width", view.width], ["height", view.height]]) {
       put(this.clip, key, String(value));
       put(this.off, key, String(value / view.scale));
@@ -124,8 +126,17 @@ export class Picture {
       marks.push(element("text", { class: "name", x: x + BESIDE[name][0], y: y + BESIDE[name][1] }, text(`corner.${name}`)));
     }
     for (const fault of faults) marks.push(...this.fault(fault));
+    if (more.ticks) marks.push(element("path", { class: "dents", d: more.ticks.map((tick) => this.tick(tick)).join("") }));
     for (const { name, at, r } of more.points ?? []) marks.push(circle(name, this.corner(at), r));
     return marks;
+  }
+
+  // A tick at the lower or at the left side of the window, beside a column or a row.
+  tick({ piece, place }) {
+    const { view } = this;
+    const wide = Math.max(1, view.scale);
+    if (piece === 0) return `M${view.x(place)} ${ABOVE + view.height}h${wide}v-6h${-wide}z`;
+    return `M${view.before} ${view.y(place)}v${-wide}h6v${wide}z`;
   }
 
   anchor(edges) {
@@ -164,20 +175,31 @@ export class Picture {
     return element("rect", { class: "cursor", x: this.view.x(col) + inset, y: this.view.y(row + 1) + inset, width: side, height: side });
   }
 
+  // Numbers of columns and rows, their values in units beside them, and the names of the axes.
   labels() {
     const { view } = this;
     const step = [1, 2, 5, 10, 20, 50].find((n) => n * view.scale >= 28) ?? 100;
     const bottom = ABOVE + view.height;
     const shown = (n, low, pixels) => n + 0.5 >= low && n + 0.5 <= low + pixels / view.scale;
     const made = [];
-    const label = (n, place) => made.push(element("text", place, String(n)));
+    const label = (words, place) => made.push(element("text", place, words));
+    const value = (axis, n) => (view.units ? valueAt(view.units[axis], n) : "");
+    // Values are longer than numbers of cells, so a column may have none.
+    const apart = Math.max(1, Math.ceil((8 * Math.max(...[0, SIDE - 1].map((n) => value("column", n).length))) / (step * view.scale)));
     for (let n = 0; n < SIDE; n += step) {
-      if (shown(n, view.left, view.width)) label(n, { class: "middle", x: view.x(n + 0.5), y: bottom + 16 });
-      if (shown(n, view.bottom, view.height)) label(n, { class: "right", x: LEFT - 6, y: view.y(n + 0.5) + 4 });
+      if (shown(n, view.left, view.width)) {
+        label(String(n), { class: "middle", x: view.x(n + 0.5), y: bottom + 16 });
+        if ((n / step) % apart === 0) label(value("column", n), { class: "middle unit", x: view.x(n + 0.5), y: bottom + 31 });
+      }
+      if (shown(n, view.bottom, view.height)) {
+        label(String(n), { class: "right", x: view.before - 6, y: view.y(n + 0.5) + 4 });
+        label(value("row", n), { class: "right unit", x: view.before - 36, y: view.y(n + 0.5) + 4 });
+      }
     }
     const turn = `translate(16 ${ABOVE + view.height / 2}) rotate(-90)`;
-    made.push(element("text", { class: "axis middle", x: LEFT + view.width / 2, y: bottom + 35 }, text("axis.column")));
-    made.push(element("text", { class: "axis middle", transform: turn }, text("axis.row")));
+    const name = (axis) => (view.units ? axisName(view.party, axis, view.units[axis]) : "");
+    label(name("column"), { class: "axis middle", x: view.before + view.width / 2, y: bottom + view.below - 7 });
+    label(name("row"), { class: "axis middle", transform: turn });
     return made;
   }
 }

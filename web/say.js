@@ -1,4 +1,4 @@
-// A verdict in words: what, its meaning, where, and what to do.
+// A verdict in words: what, what to do, its meaning, and the details.
 
 import { walk } from "./border.js";
 import { STEPS } from "./chart.js";
@@ -7,9 +7,11 @@ import { at, count, text } from "./text.js";
 
 const direction = (letter) => text(letter > 3 ? "direction.none" : `direction.${letter}`);
 
+const corner = (i) => text(`corner.${"WNES"[i]}`);
+
 const piece = (n) => {
   const [earlier, later] = LETTERS[n - 1].map(direction);
-  return text("piece", { n, from: "WNES"[n - 1], to: "WNES"[n % 4], earlier, later });
+  return text("piece", { n, from: corner(n - 1), to: corner(n % 4), earlier, later });
 };
 
 const letterAt = (letters, place) => text("letter", { letter: letters[place], direction: direction(letters[place]), place });
@@ -29,14 +31,17 @@ function taken({ anchor, edges }) {
   return {
     what: text("taken.what", { edges: count(edges.length, "edge") }),
     meaning: text("taken.meaning"),
+    advice: text("taken.advice"),
     where: `${text("taken.anchor", { anchor: at([anchor.col, anchor.row]) })} ${list}`,
   };
 }
 
+// What was at work before a refusal stays at work, and the words say so.
 function refused(drawing, answer) {
   const { number } = answer.reply.refusal;
-  const words = { what: text("refused.what", { number, name: text(`refusal.${number}`) }), meaning: text(`meaning.${number}`) };
-  return { ...words, ...(DETAILS[number]?.(drawing, answer) ?? {}) };
+  const what = text("refused.what", { number, name: text(`refusal.${number}`) });
+  const words = { what, meaning: text(`meaning.${number}`), ...(DETAILS[number]?.(drawing, answer) ?? {}) };
+  return { ...words, meaning: `${words.meaning} ${text("refused.stays")}` };
 }
 
 const cornerAt = (start, letters, place) => {
@@ -65,7 +70,10 @@ const DETAILS = {
     advice: text(letters.length > 612 ? "advice.smaller" : "advice.round"),
   }),
   2: ({ start }) => ({ where: text("where.2", { start: at(start) }), advice: text("advice.inside") }),
-  3: ({ letters }, { reply: { refusal } }) => ({ where: text("where.3", { byte: letters[refusal.place], place: refusal.place }) }),
+  3: ({ letters }, { reply: { refusal } }) => ({
+    where: text("where.3", { byte: letters[refusal.place], place: refusal.place }),
+    advice: text("advice.again"),
+  }),
   4: ({ start, letters }, { reply: { refusal } }) => ({
     where: text("where.4", { letter: letterAt(letters, refusal.place), corner: at(cornerAt(start, letters, refusal.place)) }),
     advice: text("advice.inside"),
@@ -97,11 +105,12 @@ const DETAILS = {
   },
 };
 
-// The words for a set of cells that has no single border, so that nothing is sent.
+// The words for a set of cells that has no single border, so that nothing is sent: advice for each fault.
 function unsent(faults) {
   const lines = faults.map(({ kind, at: corner, cell, count: n }) => {
     if (kind === "corner") return text("unsent.corner", { corner: at(corner) });
     return text(kind === "hole" && n > 1 ? "unsent.holes" : `unsent.${kind}`, { n, cell: at(cell) });
   });
-  return { what: text("unsent.what"), meaning: text("unsent.meaning"), where: lines.join(" "), advice: text("unsent.advice") };
+  const advice = faults.map(({ kind }) => text(`advice.${kind}`)).join(" ");
+  return { what: text("unsent.what"), meaning: text("unsent.meaning"), where: lines.join(" "), advice };
 }

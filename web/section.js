@@ -50,8 +50,8 @@ const LEFT = 46;
 const WIDTH = 340;
 const HEIGHT = 92;
 
-// The section as a picture: speeds along, rows or columns up.
-export function drawSection(svg, marks, missing, { piece }) {
+// The section as a picture: speeds along, and the axis of that name up.
+export function drawSection(svg, marks, missing, upward) {
   const [low, high] = [Math.min(...marks.map(([, n]) => n)) - 1, Math.max(...marks.map(([, n]) => n)) + 2];
   const [wide, tall] = [(WIDTH - LEFT - 4) / 16, HEIGHT / (high - low)];
   const tile = (name) => ([layer, n]) => {
@@ -60,7 +60,6 @@ export function drawSection(svg, marks, missing, { piece }) {
   };
   svg.setAttribute("viewBox", `0 0 ${WIDTH} ${HEIGHT + 34}`);
   const number = (_, n) => element("text", { class: "middle", x: LEFT + (n + 0.5) * wide, y: HEIGHT + 14 }, String(n));
-  const upward = text(piece === 0 ? "section.row" : "section.column");
   const ends = [low + 1, high - 2].map((n) => element("text", { class: "right", x: LEFT - 4, y: (high - n - 0.5) * tall + 4 }, String(n)));
   svg.replaceChildren(
     element("rect", { class: "field", x: LEFT, width: wide * 16, height: HEIGHT }),

@@ -1,11 +1,12 @@
 // The window on the chart: which part of it is shown, and how large.
 
 import { SIDE } from "./chart.js";
+import { valueAt } from "./units.js";
 
-// Room for the numbers and names of the axes, in pixels.
-export const LEFT = 52;
-export const BELOW = 42;
+// Room above the chart, and for the numbers and names of the axes, in pixels: without units, and with them.
 export const ABOVE = 8;
+const LEFT = [52, 100];
+const BELOW = [42, 58];
 
 const LEAST = 1.2;
 const MOST = 800;
@@ -16,6 +17,8 @@ const MARGIN = 3;
 export class View {
   constructor(svg) {
     this.svg = svg;
+    this.party = 0;
+    this.units = null;
     this.scale = 26;
     this.left = -1;
     this.bottom = -1;
@@ -27,12 +30,34 @@ export class View {
     this.box = this.svg.getBoundingClientRect();
     this.wide = this.svg.clientWidth;
     this.high = this.svg.clientHeight;
-    this.width = Math.max(60, this.wide - LEFT - 8);
-    this.height = Math.max(60, this.high - BELOW - ABOVE);
+    const has = (axis) => (this.units && valueAt(this.units[axis], 0) ? 1 : 0);
+    this.before = LEFT[has("row")];
+    this.below = BELOW[has("column")];
+    this.width = Math.max(60, this.wide - this.before - 8);
+    this.height = Math.max(60, this.high - this.below - ABOVE);
+  }
+
+  // Takes the party and the units of the axes.
+  measures(party, units) {
+    if (party === this.party && units === this.units) return;
+    Object.assign(this, { party, units });
+    this.measure();
+  }
+
+  // What part is shown, for a reload.
+  kept() {
+    return [this.scale, this.left, this.bottom];
+  }
+
+  restore(kept) {
+    if (!Array.isArray(kept) || kept.length !== 3 || !kept.every(Number.isFinite) || !(kept[0] >= LEAST && kept[0] <= MOST)) return false;
+    [this.scale, this.left, this.bottom] = kept;
+    this.clamp();
+    return true;
   }
 
   x(col) {
-    return LEFT + (col - this.left) * this.scale;
+    return this.before + (col - this.left) * this.scale;
   }
 
   y(row) {
@@ -42,7 +67,7 @@ export class View {
   // The point of the chart under a point of the screen, in columns and rows of corners.
   point(clientX, clientY) {
     const { box } = this;
-    const col = (clientX - box.left - LEFT) / this.scale + this.left;
+    const col = (clientX - box.left - this.before) / this.scale + this.left;
     const row = (ABOVE + this.height - (clientY - box.top)) / this.scale + this.bottom;
     return [col, row];
   }

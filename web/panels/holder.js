@@ -24,15 +24,17 @@ export function holder(page) {
   return {
     saidAt([col, row]) {
       const { word } = calls.holder.query(places.party, places.place, { col, row });
-      return word ?? "nothing";
+      return word ?? "empty";
     },
     more(_, answer) {
+      places.party = app.state.party;
       const cells = places.cells(places.party, places.place);
       if (!cells) return {};
       const inner = polyline(calls.drawing(places.party, places.place));
       return { plain: answer.kind === "taken", paths: { ghost: cellsPath(cells), inner } };
     },
     show(drawing) {
+      places.party = app.state.party;
       places.show();
       const draft = calls.drafts[places.party];
       const who = text(places.party === 0 ? "party.knee" : "party.ankle");
@@ -40,6 +42,12 @@ export function holder(page) {
       write(by("draft"), open ? text("draft.open", open) : text("draft.none", { who }));
       for (const id of ["call-send", "call-begin", "call-add", "call-rest"]) by(id).disabled = !drawing.letters;
       showLog(calls);
+    },
+    headline() {
+      const cells = places.cells(places.party, places.place);
+      const who = text(places.party === 0 ? "party.Knee" : "party.Ankle");
+      const values = { who, place: places.place, cells: count(cells?.count ?? 0, "cell") };
+      return { kind: "none", what: text(cells ? "place.work" : "place.empty", values), advice: text("holder.intro") };
     },
     kept: () => ({ made: calls.kept(), party: places.party, place: places.place }),
     restore(kept) {
@@ -100,7 +108,11 @@ class Places {
     this.party = 0;
     this.place = 0;
     this.known = [];
-    const choose = (made) => (this.choose(Number(made.dataset.party), Number(made.dataset.place)), page.show(), page.keep());
+    // The axes are those of the party whose place is chosen.
+    const choose = (made) => {
+      this.choose(Number(made.dataset.party), Number(made.dataset.place));
+      page.app.set({ ...page.app.state, party: this.party });
+    };
     this.buttons = [0, 1].flatMap((party) =>
       [0, 1, 2, 3].map((place) => button([], { role: "radio", "data-party": party, "data-place": place, id: `place-${party}-${place}` })),
     );

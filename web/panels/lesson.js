@@ -26,7 +26,9 @@ const ON_NOTHING = ["plus", "corner", "ring"];
 export function lesson(page) {
   const { app, engine } = page;
   const tasks = [
-    ...shipped("training").map((outline, i) => ({ goal: ON_BLOCKS[i], base: ofOutline({ ...outline, name: blockName(outline.name) }) })),
+    ...shipped("training").map(({ start, letters, name }, i) => {
+      return { goal: ON_BLOCKS[i], base: ofOutline({ start, letters, name: blockName(name) }) };
+    }),
     ...ON_NOTHING.map((goal) => ({ goal, base: BLANK })),
   ];
   // Which task is on the chart, if one is; which are done.
@@ -41,7 +43,7 @@ export function lesson(page) {
   const begin = (at) => {
     if (!tasks[at]) return;
     Object.assign(state, { at, begun: true });
-    app.change(app.with(tasks[at].base));
+    app.change({ ...app.state, practice: tasks[at].base, task: true });
     page.visit();
   };
   by("lesson-back").addEventListener("click", () => begin(state.at - 1));
@@ -58,16 +60,18 @@ export function lesson(page) {
     more: () => ({}),
     show(drawing, answer) {
       const task = tasks[state.at];
+      // The task is on the sheet for practice, and not on the chart once that is put away.
+      const begun = state.begun && app.state.practice !== null && app.state.task;
       by("lesson-back").disabled = state.at === 0;
       by("lesson-on").disabled = state.at === tasks.length - 1;
-      write(by("lesson-again"), text(state.begun ? "lesson.again" : "lesson.begin"));
+      write(by("lesson-again"), text(begun ? "lesson.again" : "lesson.begin"));
       write(by("lesson-title"), text("lesson.title", { n: state.at + 1, name: task.base.name || text("lesson.empty") }));
       write(by("lesson-task"), text(`task.${task.goal}`, values(task)));
       const found = measured(task, drawing, answer);
-      const done = state.begun && GOALS[task.goal](found);
+      const done = begun && GOALS[task.goal](found);
       if (done) state.done.add(state.at);
       const marks = { added: count(found.added, "cell"), removed: count(found.removed, "cell") };
-      write(by("lesson-state"), state.begun ? text(done ? "lesson.done" : "lesson.open", marks) : text("lesson.waiting"));
+      write(by("lesson-state"), begun ? text(done ? "lesson.done" : "lesson.open", marks) : text("lesson.waiting"));
       by("lesson-state").className = done ? "word inside" : "word";
       list(tasks, state);
     },

@@ -1,4 +1,4 @@
-// Readings: the point under the pointer, between cells, as the controller's sensors would give it.
+// Readings: the point under the pointer, between cells, as sensors would give it.
 
 import { by, write } from "../dom.js";
 import { atWork } from "../judge.js";
@@ -6,6 +6,7 @@ import { signs } from "../signs.js";
 import { stripPath, widthAt } from "../strip.js";
 import { element, polyline, put } from "../svg.js";
 import { text } from "../text.js";
+import { inUnits } from "../units.js";
 
 // Points across the loupe, and how many strips wide it is.
 const ACROSS = 31;
@@ -48,13 +49,15 @@ export function readings(page) {
     },
     show(drawing, answer) {
       const holder = atWork(engine, drawing);
-      const word = located(holder, point);
-      write(by("reading-word"), text(`reading.${word}`));
-      by("reading-word").className = `word ${word}`;
-      write(by("reading-text"), text(`reading.${word}.text`));
+      write(by("reading-units"), point.every(Number.isFinite) ? inUnits(page.units, point) : "");
       const step = answer.hull ? (STRIPS * widthAt(answer.hull, point)) / ACROSS : 1 / 64;
       enlarge(loupe, point, step, (at) => located(holder, at));
       write(by("loupe-text"), text("loupe.text", { width: (step * ACROSS).toPrecision(2) }));
+    },
+    headline(drawing) {
+      const word = located(atWork(engine, drawing), point);
+      const kind = { inside: "taken", outside: "refused", undecided: "near" }[word] ?? "none";
+      return { kind, what: text(`reading.${word}`), advice: text(`reading.${word}.text`) };
     },
     kept: () => point,
     restore(kept) {

@@ -35,11 +35,14 @@ export function years(page) {
     show(drawing, answer) {
       const { last } = app.state;
       by("years-swap").disabled = by("years-drop").disabled = !last;
-      const found = compared(last, answer);
-      write(by("years-word"), text(found ? `compare.${found.word}` : last ? "compare.refused" : "compare.none"));
-      write(by("years-text"), found ? text(`inner.${found.inner}`) : "");
       write(by("years-last"), last ? text("years.last", { cells: cellsOf(last), verdict: short(judge(engine, last)) }) : "");
       write(by("years-this"), text("years.this", { cells: cellsOf(drawing), verdict: short(answer) }));
+    },
+    headline(drawing, answer) {
+      const { last } = app.state;
+      const found = compared(last, answer);
+      const what = text(found ? `compare.${found.word}` : last ? "compare.refused" : "compare.none");
+      return { kind: "none", what, advice: found ? text(`inner.${found.inner}`) : text("compare.how") };
     },
   };
 }

@@ -99,7 +99,7 @@ class PageTest(unittest.TestCase):
         cls.addClassCleanup(folder.cleanup)
         cls.folder = Path(folder.name)
         cls.file = cls.folder / "robequarry.html"
-        cls.file.write_text(inline.page(LIBRARY, WEB / "messages.js"))
+        cls.file.write_text(inline.page(LIBRARY))
         cls.browser = start_browser(cls.folder)
         cls.addClassCleanup(cls.browser.quit)
 
@@ -142,7 +142,20 @@ class PageTest(unittest.TestCase):
         return self.script("return document.getElementById(arguments[0]).textContent", name)
 
     def says(self, words):
-        self.assertIn(words, self.text("said"))
+        """The verdict on the drawing: the headline, or below it where the panel is about something else."""
+        self.assertIn(words, self.text("drawn"))
+
+    def headline(self, words):
+        self.assertEqual(self.text("said"), words)
+
+    def instead(self):
+        """Takes the completion over, with the question before it answered."""
+        self.press("instead")
+        self.press("ask-yes")
+
+    def told(self):
+        """What the notices say."""
+        return self.script("return [...document.querySelectorAll('#notices p')].map((p) => p.textContent).join('\\n')")
 
     def press(self, name):
         self.by(name).click()

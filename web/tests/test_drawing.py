@@ -34,12 +34,12 @@ class Drawing(PageTest):
         self.assertIn("Two cells meet only at the corner (1, 1).", self.text("place"))
         self.draw([(0, 1), (3, 1)])
         self.assertIn("There are 2 parts; one of them has the cell (3, 1).", self.text("place"))
-        self.assertEqual(self.text("outline-head"), "Nothing to send.")
+        self.assertEqual(self.text("outline-head"), "No border yet.")
         self.press("clear")
         self.draw([(c, r) for c in (5, 6, 7) for r in (5, 6, 7) if (c, r) != (6, 6)])
         self.assertIn("There is a hole at the cell (6, 6).", self.text("place"))
         self.press("save-fitting")
-        self.assertIn("Outline 0 has no single border", self.text("file"))
+        self.assertIn("Outline 0 has no single border", self.told())
 
     def test_press_move_a_pixel_release_is_one_cell(self):
         for size in ((1280, 720), (800, 1280), (1024, 600), (390, 800)):
@@ -122,14 +122,15 @@ class Drawing(PageTest):
     def test_the_cell_under_the_pointer_is_named(self):
         self.draw(PLUS)
         for cell, words in (
-            ((1, 1), "Cell (1, 1): marked. The controller says: inside."),
-            ((4, 4), "Cell (4, 4): not marked. The controller says: outside."),
+            ((1, 1), "Cell (1, 1): marked. This page says: inside."),
+            ((4, 4), "Cell (4, 4): not marked. This page says: outside."),
         ):
             self.hover(cell)
             self.assertEqual(self.text("where"), words)
         self.draw([(1, 3), (3, 1)])
         self.hover((2, 2))
-        self.assertEqual(self.text("where"), "Cell (2, 2): not marked, and missing. The controller has no block here, so it says nothing.")
+        refused = "Cell (2, 2): not marked, and missing. The engine does not take this drawing, so there is no answer here."
+        self.assertEqual(self.text("where"), refused)
         self.hover((-1, 1))
         self.assertEqual(self.text("where"), "Off the chart.")
 
@@ -262,7 +263,7 @@ class KeysAlone(PageTest):
         self.keys(Keys.ARROW_LEFT, Keys.ARROW_UP, Keys.SPACE, Keys.ARROW_DOWN, Keys.ARROW_DOWN, Keys.SPACE)
         self.says("Taken, 4 edges")
         self.assertEqual(self.cells(), set(PLUS))
-        self.assertEqual(self.text("spoken"), "Cell (1, 0): marked. The controller says: inside.")
+        self.assertEqual(self.text("spoken"), "Cell (1, 0): marked. This page says: inside.")
         self.keys("e")
         self.with_key(Keys.SHIFT, Keys.ARROW_LEFT)
         self.assertNotIn((1, 0), self.cells())
@@ -317,24 +318,27 @@ class KeysAlone(PageTest):
     def test_what_was_spoken_is_not_left_behind(self):
         self.to_chart()
         self.keys(Keys.SPACE)
-        self.assertEqual(self.text("spoken"), "Cell (0, 0): marked. The controller says: inside.")
+        self.assertEqual(self.text("spoken"), "Cell (0, 0): marked. This page says: inside.")
         self.press("clear")
         self.assertEqual(self.text("spoken"), "")
 
     def test_every_control_can_be_reached(self):
-        """Tab goes round all panels' controls, and arrows from tab to tab."""
-        seen = set()
+        """Tab goes round all panels' controls that are shown, and arrows from tab to tab."""
+        shown = """return [...document.querySelectorAll('button, select, input, textarea, [tabindex="0"]')]
+            .filter((e) => !e.disabled && !e.closest("fieldset") && e.checkVisibility({ visibilityProperty: true })).map((e) => e.id)"""
+        self.pick("H6: a dent")
+        self.press("instead")
+        seen, wanted = set(), set()
         for panel in ("draw", "lesson", "readings", "years", "speeds", "holder"):
             self.script("document.getElementById(`tab-${arguments[0]}`).click(); document.activeElement.blur()", panel)
-            for _ in range(60):
+            wanted |= set(self.script(shown))
+            for _ in range(70):
                 self.keys(Keys.TAB)
                 seen.add(self.script("return document.activeElement.id"))
-        shown = """return [...document.querySelectorAll('button, select, input, textarea, [tabindex="0"]')]
-            .filter((e) => !e.disabled && !e.closest("fieldset")).map((e) => e.id)"""
+        self.assertLessEqual({"sheet-back", "ask-yes", "forget", "call-send"}, wanted)
         hidden = {f"tab-{name}" for name in ("draw", "lesson", "readings", "years", "speeds", "holder")}
-        wanted = {name for name in self.script(shown) if name} - hidden
         grouped = set(self.script("return [...document.querySelectorAll('[role=radio]')].map((e) => e.id)"))
-        self.assertEqual(wanted - seen - grouped, set())
+        self.assertEqual(wanted - hidden - {""} - seen - grouped, set())
 
 
 if __name__ == "__main__":

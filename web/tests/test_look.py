@@ -1,10 +1,11 @@
 """The file itself, what stays in its place, dark, print, and what a screen reader gets."""
 
 import base64
+import hashlib
 import re
 import unittest
 
-from support import DENTED, PLUS, PageTest, outlines
+from support import DENTED, LIBRARY, PLUS, ROOT, WEB, PageTest, inline
 
 PLACES = """return [...document.querySelectorAll("button, select, input, #chart")].filter((e) => e.checkVisibility()).map((e) => {
     const { x, y, width, height } = e.getBoundingClientRect();
@@ -35,6 +36,12 @@ CONTRAST = """
 """
 
 
+SMALL = """return [...document.querySelectorAll("button, select, label, summary, input[type=text], input[type=number]")].filter((e) => {
+    const { width, height } = e.getBoundingClientRect();
+    return e.checkVisibility() && (width < 44 || height < 44);
+  }).map((e) => e.id || e.textContent)"""
+
+
 class TheFile(PageTest):
     def test_it_is_small_and_whole(self):
         words = self.file.read_text()
@@ -44,6 +51,11 @@ class TheFile(PageTest):
         asked = self.script("return performance.getEntriesByType('resource').map((entry) => entry.name)")
         self.assertEqual([name for name in asked if not name.startswith("data:")], [])
         self.assertTrue(self.script("return location.protocol") == "file:")
+
+    def test_it_names_its_library(self):
+        self.assertEqual(self.text("library-hash"), hashlib.sha256(LIBRARY.read_bytes()).hexdigest())
+        self.assertEqual(self.text("library-version"), inline.version())
+        self.assertIn(f'RQ_VERSION "{inline.version()}"', (ROOT / "include/robequarry.h").read_text())
 
     def test_the_policy_keeps_everything_else_out(self):
         self.script(
@@ -98,11 +110,39 @@ class InPlace(PageTest):
             self.assertLessEqual(self.script("return document.documentElement.scrollWidth"), size[0])
 
     def test_the_chart_and_the_verdict_are_seen_at_once(self):
-        for width, height in ((1280, 720), (800, 1280)):
+        for width, height in ((1280, 720), (800, 1280), (390, 800), (360, 640), (800, 390)):
             self.resize(width, height)
-            for name in ("chart", "verdict", "undo", "instead"):
-                bottom = self.script("return document.getElementById(arguments[0]).getBoundingClientRect().bottom", name)
-                self.assertLessEqual(bottom, height, name)
+            self.open()
+            for name in ("chart", "verdict", "undo", "instead", "said"):
+                script = "const box = document.getElementById(arguments[0]).getBoundingClientRect(); return [box.top, box.bottom]"
+                top, bottom = self.script(script, name)
+                self.assertTrue(top >= 0 and bottom <= height, (width, height, name, top, bottom))
+
+    def test_fingers_find_their_targets(self):
+        """On phones and tablets every target has 44 pixels each way."""
+        for size in ((390, 800), (800, 390), (800, 1280)):
+            self.resize(*size)
+            self.open()
+            for panel in ("draw", "lesson", "readings", "years", "speeds", "holder"):
+                self.script("document.getElementById(arguments[0]).click()", f"tab-{panel}")
+                self.assertEqual(self.script(SMALL), [], (size, panel))
+
+    def test_right_to_left(self):
+        """A table may say rtl: words and boxes change sides, the chart does not."""
+        words = (WEB / "messages.js").read_text().replace('"dir": "ltr"', '"dir": "rtl"')
+        path = self.folder / "rtl.js"
+        path.write_text(words)
+        other = self.folder / "rtl.html"
+        other.write_text(inline.page(LIBRARY, path))
+        self.browser.get(other.as_uri())
+        self.until(lambda: self.script("return document.documentElement.dataset.ready") == "yes")
+        left = lambda name: self.script("return document.getElementById(arguments[0]).getBoundingClientRect().left", name)
+        self.assertGreater(left("chart"), left("verdict"))
+        self.assertLessEqual(self.script("return document.documentElement.scrollWidth"), 1280)
+        self.draw(PLUS)
+        self.assertEqual(self.cells(), set(PLUS))
+        self.assertLess(self.point((1, 1))[0], self.point((2, 1))[0])
+        self.script("localStorage.clear()")
 
 
 class Dark(PageTest):
@@ -119,13 +159,27 @@ class Dark(PageTest):
 
 
 class Print(PageTest):
+    def test_print_is_a_form(self):
+        """With the speeds chosen its verdict is theirs."""
+        self.panel("speeds")
+        self.press("pile-bad")
+        self.look("light", "print")
+        self.headline("Refused, 21: a dent at column 63")
+        self.assertTrue(self.script("return document.getElementById('said').checkVisibility()"))
+        self.assertEqual(self.text("form-name"), "Speed 0")
+
     def test_print_has_the_chart_and_the_verdict_in_light(self):
         self.draw(DENTED)
+        self.by("name").send_keys("wearer 9")
         self.look("dark", "print")
         shown = lambda name: self.script("return document.getElementById(arguments[0]).checkVisibility()", name)
-        for name in ("chart", "said", "meaning", "letters-print", "title"):
+        form = ("form-name", "form-date", "form-units", "form-signs", "sign-here")
+        for name in ("chart", "said", "meaning", "letters-print", "title", *form):
             self.assertTrue(shown(name), name)
-        for name in ("undo", "tabs", "instead", "example", "keys"):
+        self.assertEqual(self.text("form-name"), "wearer 9")
+        self.assertRegex(self.text("form-date"), r"20\d\d")
+        self.assertTrue(shown("library-version") and shown("library-hash"))
+        for name in ("undo", "tabs", "instead", "example", "keys", "intro"):
             self.assertFalse(shown(name), name)
         self.assertEqual(self.script("return getComputedStyle(document.body).backgroundColor"), "rgb(255, 255, 255)")
         self.look("light")
@@ -134,7 +188,34 @@ class Print(PageTest):
         self.assertEqual(len(re.findall(rb"/Type\s*/Page\b", pdf)), 1)
 
 
+class Contrast(PageTest):
+    def test_high_contrast(self):
+        """Windows' colours: cells, dents and the chosen tab can be told from the ground."""
+        features = [{"name": "forced-colors", "value": "active"}, {"name": "prefers-color-scheme", "value": "dark"}]
+        self.browser.execute_cdp_cmd("Emulation.setEmulatedMedia", {"media": "", "features": features})
+        self.assertTrue(self.script("return matchMedia('(forced-colors: active)').matches"))
+        self.draw(DENTED)
+        script = "return getComputedStyle(document.querySelector(arguments[0]))[arguments[1]]"
+        color = lambda selector, name: self.script(script, selector, name)
+        self.assertNotEqual(color("#chart .cells", "fill"), color("#chart .field", "fill"))
+        self.assertNotEqual(color("#chart .missing", "stroke"), color("#chart .field", "fill"))
+        self.assertNotEqual(color("#chart .edges", "stroke"), color("#chart .field", "fill"))
+        self.assertEqual(color("#tab-draw", "outlineStyle"), "solid")
+        self.assertEqual(color("#tab-years", "outlineStyle"), "none")
+
+
 class Spoken(PageTest):
+    def test_headings(self):
+        """One first heading, and no level is left out on the way down."""
+        script = "return [...document.querySelectorAll('h1, h2, h3, h4')].map((e) => [Number(e.tagName[1]), e.textContent])"
+        for panel in ("draw", "lesson", "readings", "years", "speeds", "holder"):
+            self.panel(panel)
+            found = self.script(script)
+            self.assertEqual([level for level, _ in found].count(1), 1)
+            self.assertTrue(all(b - a <= 1 for (a, _), (b, _) in zip(found, found[1:])), found)
+            self.assertIn([2, "Drawing"], found)
+            self.assertIn([2, self.text("said")], found)
+
     def test_names_roles_and_live_regions(self):
         """Every control has a name; what changes by itself is in a live region."""
         nameless = """return [...document.querySelectorAll("button, select, input, textarea, svg[role], [role=tabpanel]")].filter((e) =>
@@ -143,8 +224,7 @@ class Spoken(PageTest):
         for panel in ("speeds", "holder"):
             self.panel(panel)
         self.assertEqual(self.script(nameless), [])
-        live = {"told": "status", "spoken": "status", "file": "alert", "log": "log"}
-        live.update({name: "status" for name in ("reading-word", "pile-word", "years-word", "lesson-state")})
+        live = {"told": "status", "spoken": "status", "notices": "alert", "log": "log", "lesson-state": "status", "progress": "status"}
         for name, role in live.items():
             self.assertEqual(self.by(name).get_attribute("role"), role, name)
 

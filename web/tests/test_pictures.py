@@ -3,7 +3,8 @@
 import unittest
 from pathlib import Path
 
-from support import SCREENSHOTS, PageTest
+from support import PICK, SCREENSHOTS, PageTest
+
 
 @unittest.skipUnless(SCREENSHOTS, "no folder for pictures")
 class Pictures(PageTest):
@@ -22,8 +23,17 @@ class Pictures(PageTest):
         self.tool("paint")
         self.tool("brush")
 
+    def units(self):
+        for name, words in zip(("low", "high", "unit"), ("0", "127", "deg")):
+            self.by(f"column-{name}").send_keys(words)
+        for name, words in zip(("low", "high", "unit"), ("0", "1270", "N")):
+            self.by(f"row-{name}").send_keys(words)
+
     def test_desktop(self):
         self.pick("A block that is taken")
+        self.press("sheet-add")
+        self.units()
+        self.script("document.getElementById('panel-draw').scrollTop = 0")
         self.save("taken")
         self.pick("A block with a dent")
         self.save("dent")
@@ -34,7 +44,7 @@ class Pictures(PageTest):
         self.press("lesson-again")
         self.press("lesson-on")
         self.press("lesson-on")
-        self.press("instead")
+        self.instead()
         self.press("lesson-on")
         self.save("lesson")
         self.pick("A block that is taken")
@@ -47,7 +57,7 @@ class Pictures(PageTest):
         self.save("years")
         self.panel("speeds")
         self.press("pile-bad")
-        self.press("layer-9")
+        self.press("lacks-9")
         self.save("speeds")
         self.pick("H3: a plus")
         self.panel("holder")
@@ -66,6 +76,29 @@ class Pictures(PageTest):
         self.years()
         self.look("dark")
         self.save("tablet-dark")
+
+    def test_phone(self):
+        self.resize(390, 800)
+        self.open()
+        self.script(PICK, "A block with a dent")
+        self.save("phone")
+
+    def test_german(self):
+        self.pick("A block with a dent")
+        self.script("const list = document.getElementById('language'); list.value = 'de'; list.dispatchEvent(new Event('change'))")
+        self.until(lambda: self.script("return document.documentElement.lang + document.documentElement.dataset.ready") == "deyes")
+        self.press("instead")
+        self.save("german")
+
+    def test_print(self):
+        """The printed form, as the screen shows it with the style of print."""
+        self.pick("A block that is taken")
+        self.press("sheet-add")
+        self.units()
+        self.resize(794, 1123)
+        self.look("light", "print")
+        self.script("dispatchEvent(new Event('resize'))")
+        self.save("print")
 
 
 if __name__ == "__main__":

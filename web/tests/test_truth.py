@@ -22,10 +22,12 @@ SHOWN = """
       witness: [...document.querySelectorAll("#chart .witness")].map((ring) => ring.dataset.cell),
       named: [...document.querySelectorAll("#chart .named[data-cell]")].map((ring) => ring.dataset.cell),
       why: document.getElementById("why").getAttribute("aria-pressed") === "true",
-      said: document.getElementById("said").textContent,
+      said: document.getElementById("drawn").textContent.replace("This drawing: ", ""),
+      headline: document.getElementById("said").textContent,
+      own: document.getElementById("drawn").hidden,
       meaning: document.getElementById("meaning").textContent,
       place: document.getElementById("place").textContent,
-      color: document.getElementById("verdict").className,
+      color: document.getElementById("drawn").className,
     });
 """
 
@@ -58,6 +60,7 @@ RANDOM_EDITS = (
       pointer(below(12) === 0 ? "pointercancel" : "pointerup", cell(), more);
     };
     const tool = (name) => document.querySelector(`input[value=${name}]`).click();
+    const SPEEDS = ["layer-3", "layer-4", "layer-copy", "pile-bad", "pile-empty", "repair"];
     const ways = [
       [30, () => (tool("brush"), tool("paint"), stroke())],
       [8, () => (tool("brush"), tool("erase"), stroke())],
@@ -71,7 +74,8 @@ RANDOM_EDITS = (
       [8, () => click("undo")],
       [4, () => click("redo")],
       [2, () => click("clear")],
-      [14, () => click("instead")],
+      [14, () => (click("instead"), note(), click(below(4) === 0 ? "ask-no" : "ask-yes"))],
+      [3, () => click(["sheet-back", "sheet-add", "remove"][below(3)])],
       [2, () => click("why")],
       [3, () => click("example-on")],
       [1, () => click("example-back")],
@@ -86,7 +90,7 @@ RANDOM_EDITS = (
       [2, () => click(["tab-draw", "tab-lesson", "tab-readings", "tab-years", "tab-speeds", "tab-holder"][below(6)])],
       [2, () => click(["lesson-again", "lesson-on", "lesson-back"][below(3)])],
       [2, () => click(["years-keep", "years-swap", "years-drop"][below(3)])],
-      [2, () => (click("tab-speeds"), note(), click(["layer-3", "layer-4", "layer-copy", "pile-bad", "pile-empty"][below(5)]))],
+      [2, () => (click("tab-speeds"), note(), click(SPEEDS[below(6)]), click("ask-yes"))],
       [1, () => (click("tab-holder"), note(), click(["call-send", "call-begin", "call-rest", "call-clear", "log-clear"][below(5)]))],
     ];
     const total = ways.reduce((sum, [weight]) => sum + weight, 0);
@@ -157,6 +161,8 @@ class Truth(PageTest):
     def same(self, shown, line):
         """The page's words, edges, missing cells and witness are those of the program's answer."""
         number, told = line["number"], f"{shown} {line}"
+        if shown["own"]:
+            self.assertEqual(shown["headline"], shown["said"], told)
         if number == 0:
             self.assertEqual(shown["said"], f"Taken, {count(len(line['edges']))}", told)
             self.assertEqual((shown["color"], shown["missing"], shown["band"]), ("taken", "", ""), told)
@@ -164,7 +170,7 @@ class Truth(PageTest):
             return
         self.assertTrue(shown["said"].startswith(f"Refused, {number}: "), told)
         self.assertEqual((shown["color"], shown["edges"]), ("refused", ""), told)
-        if number == 9:
+        if number == 9 and shown["own"]:
             self.assertIn("the cell ({}, {}) lies in the hull".format(*line["cell"]), shown["meaning"], told)
         if number in (8, 9):
             self.assertIn(tuple(line["missing"]), cells_of(shown["missing"]), told)
@@ -197,6 +203,7 @@ class Truth(PageTest):
             self.click((3, 1))
             shown = self.now()
             self.assertEqual((shown["said"], shown["color"], shown["edges"], shown["band"]), ("No answer", "", "", ""))
+            self.headline("No answer")
             self.assertEqual(cells_of(shown["cells"]), {*PLUS, (3, 1)})
             self.script("Uint8Array.from = window.kept")
             self.press("undo")
@@ -225,12 +232,12 @@ class Truth(PageTest):
         bad = Path(self.folder) / "bad.fit"
         bad.write_bytes(b"K")
         self.by("load").send_keys(str(bad))
-        self.until(lambda: "Fault 23" in self.text("file"))
+        self.until(lambda: "Fault 23" in self.told())
         step()
         for panel in ("lesson", "readings", "years", "holder", "draw"):
             self.panel(panel)
             step()
-        self.press("instead")
+        self.instead()
         step()
         self.says("Taken")
         self.press("instead")
