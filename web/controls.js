@@ -35,6 +35,25 @@ export function listen(page) {
   addEventListener("beforeunload", (event) => page.goes(event));
   addEventListener("storage", () => page.store.foreign && page.foreign());
   listenToLanguage(page);
+  listenToPrint(page);
+}
+
+// A printed form shows everything that is drawn, whatever the window shows, and the details.
+function listenToPrint(page) {
+  let before = null;
+  addEventListener("beforeprint", () => {
+    before = { view: page.view.kept(), open: by("details").open };
+    by("details").open = true;
+    page.frame();
+  });
+  addEventListener("afterprint", () => {
+    if (before === null) return;
+    by("details").open = before.open;
+    page.view.measure();
+    page.view.restore(before.view);
+    page.show();
+    before = null;
+  });
 }
 
 // The languages that the page has, to choose from by hand. The page begins again in the other one, with everything that is drawn.
@@ -63,7 +82,8 @@ function listenToChart(page, chart) {
   chart.addEventListener("pointerenter", () => view.measure());
   addEventListener("scroll", () => view.measure(), { capture: true, passive: true });
   addEventListener("resize", () => view.measure());
-  new ResizeObserver(() => (view.measure(), page.show())).observe(chart);
+  const print = matchMedia("print");
+  new ResizeObserver(() => (view.measure(), print.matches ? page.frame() : page.show())).observe(chart);
 }
 
 function undoByKeys(event, { app, tools }) {

@@ -165,9 +165,14 @@ class Page {
 
   // Everything that is drawn, for the window to fit: the drawing, and what a panel shows beside it.
   fit() {
+    this.frame();
+    this.keep();
+  }
+
+  frame() {
     const seen = [this.app.drawing, ...(this.panel.beside?.() ?? [])].flatMap(cornersOf);
     this.view.fit(seen.length > 0 ? seen : [[0, 0], [16, 12]]);
-    this.looked();
+    this.show();
   }
 
   // Shows what is new from near by, with the cursor at it.

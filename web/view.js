@@ -27,7 +27,9 @@ export class View {
 
   // Takes the size and the place of the element; to be called when they have changed. A look at every stroke would lay out the page.
   measure() {
-    this.box = this.svg.getBoundingClientRect();
+    // The picture begins behind the element's own line.
+    const { left, top } = this.svg.getBoundingClientRect();
+    this.box = { left: left + this.svg.clientLeft, top: top + this.svg.clientTop };
     this.wide = this.svg.clientWidth;
     this.high = this.svg.clientHeight;
     const has = (axis) => (this.units && valueAt(this.units[axis], 0) ? 1 : 0);

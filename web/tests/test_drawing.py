@@ -129,7 +129,7 @@ class Drawing(PageTest):
             self.assertEqual(self.text("where"), words)
         self.draw([(1, 3), (3, 1)])
         self.hover((2, 2))
-        refused = "Cell (2, 2): not marked, and missing. The engine does not take this drawing, so there is no answer here."
+        refused = "Cell (2, 2): not marked, and missing. No answer: the engine does not take this drawing."
         self.assertEqual(self.text("where"), refused)
         self.hover((-1, 1))
         self.assertEqual(self.text("where"), "Off the chart.")

@@ -159,6 +159,33 @@ class Dark(PageTest):
 
 
 class Print(PageTest):
+    def test_print_shows_the_whole_block(self):
+        """However far the window is zoomed in; afterwards it is as it was."""
+        self.tool("rectangle")
+        self.drag((2, 2), (12, 8))
+        for _ in range(6):
+            self.press("in")
+        before = self.point((5, 5))
+        inside = lambda: self.script(
+            """const chart = document.getElementById("chart").getBoundingClientRect();
+            const plot = document.querySelector("#chart .plot").getScreenCTM();
+            const [left, right] = [plot.a * 2 + plot.e, plot.a * 13 + plot.e];
+            const [top, bottom] = [plot.d * 9 + plot.f, plot.d * 2 + plot.f];
+            return left > chart.left && right < chart.right && top > chart.top && bottom < chart.bottom"""
+        )
+        self.assertFalse(inside())
+        self.script("dispatchEvent(new Event('beforeprint'))")
+        self.assertTrue(inside())
+        self.assertTrue(self.script("return document.getElementById('details').open"))
+        self.look("light", "print")
+        self.resize(794, 1123)
+        self.until(inside)
+        self.look("light")
+        self.resize(*self.size)
+        self.script("dispatchEvent(new Event('afterprint'))")
+        self.until(lambda: self.point((5, 5)) == before)
+        self.assertFalse(self.script("return document.getElementById('details').open"))
+
     def test_print_is_a_form(self):
         """With the speeds chosen its verdict is theirs."""
         self.panel("speeds")

@@ -85,7 +85,9 @@ class Readings(PageTest):
             self.hover((0, 0), part)
             self.assertEqual(self.text("said"), word, part)
             near = [float(self.by(name).get_attribute("value")) for name in ("angle", "shin")]
-            self.assertTrue(all(abs(n + 0.5 - p) < 0.01 for n, p in zip(near, part)), (near, part))
+            # The pointer goes by whole pixels: it is at most half of one away, each way.
+            half = 0.51 / self.script("return document.querySelector('#chart .plot').getScreenCTM().a")
+            self.assertTrue(all(abs(n + 0.5 - p) < half for n, p in zip(near, part)), (near, part))
 
     def test_the_strip_is_where_readings_are_undecided(self):
         """Each point of the loupe is a reading. Across an edge of H3 the strip is 1/32 over the edge's length wide: a quarter of it."""

@@ -97,7 +97,8 @@ class Pictures(PageTest):
         self.units()
         self.resize(794, 1123)
         self.look("light", "print")
-        self.script("dispatchEvent(new Event('resize'))")
+        self.script("dispatchEvent(new Event('beforeprint'))")
+        self.browser.execute_async_script("setTimeout(arguments[0], 300)")
         self.save("print")
 
 
