@@ -32,7 +32,7 @@ module _ (marked : ℕ → ℕ → Bool) (r : ℕ) where
       → (marked c r ≡ true) ↔ ((a ≤ c) × (c ≤ b))
   unfolding SpanExact spanReply
   columns-said Empty exact a b e c = let z : _≡_ {A = ℕ} 0 1 = cc in absurd (omega arith)
-  columns-said (Run u v) exact a b e c = let p : u ≡ a = cc in let q : v ≡ b = cc in rw (sym p, sym q) (exact c)
+  columns-said (Run u v) exact a b e c = let p : u ≡ a = cc in let q : v ≡ b = cc in rw (sym p, sym q) (exact .1 c)
 
   none-said : (s : Span) → SpanExact marked r s → spanReply s ≡ None → (c : ℕ) → marked c r ≡ false
   unfolding SpanExact spanReply

@@ -200,7 +200,7 @@ word-columns : (marked : ℕ → ℕ → Bool) (r : ℕ) (s : Span) → SpanExac
     → (c : ℕ) → (marked c r ≡ true) ↔ ((replyFields (spanReply s) .col ≤ c) × (c ≤ replyFields (spanReply s) .row))
 unfolding SpanExact spanReply replyFields
 word-columns marked r Empty exact e c = absurd (omega (arith, e))
-word-columns marked r (Across a b) exact e c = exact c
+word-columns marked r (Across a b) exact e c = exact .1 c
 
 word-none : (marked : ℕ → ℕ → Bool) (r : ℕ) (s : Span) → SpanExact marked r s → replyFields (spanReply s) .word ≡ none-word → (c : ℕ)
     → marked c r ≡ false

@@ -1,6 +1,6 @@
--- The checker computes the reply for every row of the table, and one law turns that into what a row says. Two side values show that the
--- bound 1/64 cannot be replaced by a half or a quarter of it.
-use Prim.Native.Nat.{_*_, _^_}
+-- The checker computes the reply for every row of the table, and one law turns that into what a row says. A side value shows that
+-- the bound 1/64 cannot be replaced by a half of it.
+use Prim.Native.Nat.{_^_}
 use mathlib.Core.Path.{_≡_, refl}
 use mathlib.Core.Bool.{true}
 use mathlib.Core.List.{List·Memᴰ}
@@ -33,18 +33,11 @@ pub specimens-hold : (h : Asked) → List·Memᴰ h specimens
 unfolding answered
 specimens-hold h m = same-fields _ _ (all-at answered specimens computed h m)
 
--- The edge (-240, 222) from the cell (227, 149), at (1.5478.., 0.8438..): the error is 23063/32768 of 1/64
+-- The edge (-211, -250) from the cell (251, 250), which stays on the chart, at (1.7848.., 119.0557..): the error is more than 1/128,
+-- 2 ^ 142 units
 half-too-small :
-    let r = readingOf 0x3fc6_1fc2 0x3f58_0683 in
-    let e : PlacedEdge = record { cols = negsuc 239; rows = pos 222; col = pos 227; row = pos 149 } in
-    value binary32 (computedSide r e) -ℤ exactSide r e ≡ pos (23063 * 2 ^ 128)
+    let r = readingOf 0x3fe4_74c1 0x42ee_1c8d in
+    let e : PlacedEdge = record { cols = negsuc 210; rows = negsuc 249; col = pos 251; row = pos 250 } in
+    ltb (2 ^ 142) (natAbs (value binary32 (computedSide r e) -ℤ exactSide r e)) ≡ true
 unfolding negative units value inUnits readingOf computedSide exactSide sideValue ofBits ofInt sub mul
 half-too-small = refl
-
--- The edge (-227, -218) from (246, 229), which stays on the chart, at (0.2220.., 84.2252..): the error is more than 1/256, 2 ^ 141 units
-quarter-too-small :
-    let r = readingOf 0x3e63_6df6 0x42a8_7357 in
-    let e : PlacedEdge = record { cols = negsuc 226; rows = negsuc 217; col = pos 246; row = pos 229 } in
-    ltb (2 ^ 141) (natAbs (value binary32 (computedSide r e) -ℤ exactSide r e)) ≡ true
-unfolding negative units value inUnits readingOf computedSide exactSide sideValue ofBits ofInt sub mul
-quarter-too-small = refl

@@ -225,7 +225,8 @@ module _ (marked : ℕ → ℕ → Bool) (r : ℕ) where
     run-exact e =
         elim (decLt a b) [
           | yes l ↦
-              rw (lt-ltb a b l) (λ c. (λ g. let (i, j) = e c .0 g in (i, omega arith), λ (i, j). e c .1 (i, omega arith)))
+              rw (lt-ltb a b l)
+              (omega arith, λ c. (λ g. let (i, j) = e c .0 g in (i, omega arith), λ (i, j). e c .1 (i, omega arith)))
           | no l ↦ rw (le-ltb a b (omega arith)) (λ c. not-held (marked c r) (λ g. omega (arith, e c .0 g)))
         ]
 

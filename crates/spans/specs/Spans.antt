@@ -28,10 +28,10 @@ lastBelow f n = n - 1 - first (λ k. f (n - 1 - k)) n
 unfoldable pub rowSpan : (ℕ → ℕ → Bool) → ℕ → Span
 rowSpan marked r = cond (some (λ c. marked c r) side) (Columns (first (λ c. marked c r) side) (lastBelow (λ c. marked c r) side)) None
 
--- Exact: every column from the first to the last is marked, and no other
+-- Exact: there is a first and a last column, every column from the one to the other is marked, and no other
 unfoldable pub SpanExact : (ℕ → ℕ → Bool) → ℕ → Span → Type 0
 SpanExact marked r None = (c : ℕ) → marked c r ≡ false
-SpanExact marked r (Columns a b) = (c : ℕ) → (marked c r ≡ true) ↔ ((a ≤ c) × (c ≤ b))
+SpanExact marked r (Columns a b) = (a ≤ b) × ((c : ℕ) → (marked c r ≡ true) ↔ ((a ≤ c) × (c ≤ b)))
 
 -- ---- as a table
 
