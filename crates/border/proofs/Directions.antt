@@ -73,12 +73,3 @@ unfolding runIn
 run-odd zero dx dy h = absurd (h refl)
 run-odd (suc zero) dx dy h = refl
 run-odd (suc (suc k)) dx dy h = run-odd k dx dy (λ e. h (omega arith))
-
--- ---- letters
-
-pub frame-high : (k : ℕ) → 3 ≤ k → frameOf k ≡ frameOf 3
-unfolding frameOf
-frame-high zero h = absurd (omega arith)
-frame-high (suc zero) h = absurd (omega arith)
-frame-high (suc (suc zero)) h = absurd (omega arith)
-frame-high (suc (suc (suc k))) h = refl

@@ -1,4 +1,5 @@
 // The direction of an edge: its quadrant, and how many letters it has (contract 3.4 and 3.12).
+use pieces::pair_at;
 ghost use mathlib.Core.Path.{_≡_};
 ghost use Prim.Native.Nat.{_≤_};
 ghost use lib.IntN.{natAbs, negℤ};
@@ -56,22 +57,12 @@ pub(crate) fn run(k: usize, dx: i16, dy: i16) -> usize
 pub(crate) fn earlier(k: usize) -> u8
     ensures { λ r. ⌜ r ≡ frameOf k .earlier ⌝ }
 {
-    match k {
-        0 => 0,
-        1 => 3,
-        2 => 2,
-        _ => 1,
-    }
+    pair_at(k).earlier
 }
 
 // The later letter of piece k.
 pub(crate) fn later(k: usize) -> u8
     ensures { λ r. ⌜ r ≡ frameOf k .later ⌝ }
 {
-    match k {
-        0 => 1,
-        1 => 0,
-        2 => 3,
-        _ => 2,
-    }
+    pair_at(k).later
 }

@@ -3,7 +3,6 @@ pub mod LinesLaws
 pub mod Files
 pub mod Whole
 pub mod Theorems
-mod Answers
 mod EveryLine
 mod Parts
 mod Moved

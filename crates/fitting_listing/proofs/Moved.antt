@@ -9,6 +9,7 @@ use lib.Dec.{leb}
 use Rattle.chart.specs.Limits.{mostNumbers}
 use Rattle.chart.specs.Outline.{Outline}
 use Rattle.verdict.specs.Verdict.{testFields}
+use Rattle.verdict.proofs.Numbers.{tested-number}
 use Rattle.fitting_records.specs.declared.Found.{Found}
 use Rattle.fitting_records.specs.declared.Found.the-variants.{End, WrongMark, Truncated, Record}
 use Rattle.fitting_records.specs.Found.{foundIn, width}
@@ -16,7 +17,6 @@ use Rattle.text_lines.specs.declared.Line.{Line}
 use Rattle.fitting_listing.specs.Faults as faults
 use Rattle.fitting_listing.specs.Lines.{testedLine, outlineIn, listed, linesFrom, linesAt}
 use Rattle.fitting_listing.specs.Claims.{movedLine}
-use Rattle.fitting_listing.proofs.Answers.{tested-number}
 
 -- The test's number is never a fault's
 no-fault : (o : Outline) → leb faults.wrong-mark (testFields o mostNumbers .number) ≡ false

@@ -13,6 +13,7 @@ use Rattle.base.proofs.EachLaws.{any-found, any-at}
 use Rattle.chart.specs.Limits.{side}
 use Rattle.chart.specs.Outline.{Outline}
 use Rattle.lattice.specs.Refusals.{badStart}
+use Rattle.verdict.proofs.Numbers.{tested-number}
 use Rattle.fitting_records.proofs.RecordLaws.{record-stands}
 use Rattle.text_lines.specs.declared.Line.{Line}
 use Rattle.fitting_listing.specs.Faults as faults
@@ -21,7 +22,6 @@ use Rattle.fitting_listing.specs.Bytes.{fileOf}
 use Rattle.fitting_listing.specs.Claims.{answers, AllBytes, Storable, Parts, movedLine}
 use Rattle.fitting_listing.proofs.LinesLaws.{lines-read}
 use Rattle.fitting_listing.proofs.Files.{records-listed, file-listed}
-use Rattle.fitting_listing.proofs.Answers.{tested-number}
 use Rattle.fitting_listing.proofs.EveryLine.{file-all}
 use Rattle.fitting_listing.proofs.Parts.{bytes-further, record-storable, apart, one-way}
 use Rattle.fitting_listing.proofs.Moved.{lines-further}
