@@ -33,6 +33,25 @@ module _ (o : Outline) where
       let dent = dented-iff-missing o r in
       (λ e. dent .0 (nine .0 e .dented), λ x. nine .1 (record { reaches = r; dented = dent .1 x }))
 
+  -- The same of a test, whatever its buffer
+  pub test-nine-missing : (m : ℕ) → Reaches o → (testFields o m .number ≡ 9) ↔ ((x : Point) × Missing (block o) x)
+  unfolding testFields
+  test-nine-missing m r =
+      let nine = nine-iff-missing r in
+      (λ e. nine .0 (judged (verdictOf o) refl e), λ x. tested (verdictOf o) refl (nine .1 x))
+    where
+      judged : (v : Verdict) → verdictOf o ≡ v → verdictFields (testOf o m) .number ≡ 9 → verdictFields (verdictOf o) .number ≡ 9
+      judged (Refused f) e n = ap (λ (v : Verdict). verdictFields v .number) (e ∙ sym (test-refused o m f e)) ∙ n
+      judged (Taken k a) e n =
+          elim (decLt m (2 * k)) [
+            | yes h ↦ absurd (omega (arith, n, ap (λ (v : Verdict). verdictFields v .number) (test-short o m k a e h)))
+            | no h ↦ absurd (omega (arith, n, ap (λ (v : Verdict). verdictFields v .number) (test-taken o m k a e (omega arith))))
+          ]
+
+      tested : (v : Verdict) → verdictOf o ≡ v → verdictFields (verdictOf o) .number ≡ 9 → verdictFields (testOf o m) .number ≡ 9
+      tested (Refused f) e n = ap (λ (v : Verdict). verdictFields v .number) (test-refused o m f e ∙ sym e) ∙ n
+      tested (Taken k a) e n = absurd (omega (arith, n, ap (λ (v : Verdict). verdictFields v .number) e))
+
   -- The cell in the reply: the lowest missing one if refused by 9, and the anchor if the outline is taken
   pub verdict-named : CellNamed o (verdictFields (verdictOf o))
   unfolding pastEight dentOf dentIn cellFound

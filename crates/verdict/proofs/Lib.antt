@@ -7,5 +7,6 @@ pub mod Numbers
 pub mod Cells
 pub mod Drawn
 pub mod Convex
+pub mod BackSteps
 pub mod Rule
 pub mod RuleSpecimens

@@ -30,7 +30,8 @@ use Rattle.lattice.proofs.HullLaws.{lowest-unique}
 use Rattle.convexity.proofs.AsSent.{named-lowest, west-anchor}
 use Rattle.verdict.specs.Verdict.{cellFound, dentIn, verdictOf}
 use Rattle.verdict.specs.Dents.{dentOf}
-use Rattle.verdict.specs.Rule.{pieceWord, pieceCut, AllChristoffel, none, more, Smooth, FirstDent, FactorsOf, ByTheRule}
+use Rattle.verdict.specs.Rule.{pieceWord, pieceCut, SentAs, AllChristoffel, none, more, Smooth, FirstDent, FactorsOf, ByTheRule}
+use Rattle.verdict.proofs.BackSteps.{sent-as}
 use Rattle.verdict.proofs.VerdictLaws.{dented-or-not, TakenFacts, taken-facts, verdict-dented, verdict-taken}
 
 -- ---- dents in a list of factors
@@ -197,6 +198,10 @@ module _ (o : Outline) where
             let place : placeSent o (pieceCut o k + 1 + dentAt (factors t k)) ≡ i = cc in
             let copy : dentLength (factors t k) ≡ l = cc in
             let cell : cellFound (border o) ≡ x = cc in
+            let at : placeSent o (pieceCut o k + 1 + length (written (f .before))) ≡ i =
+            ap (λ (n : ℕ). placeSent o (pieceCut o k + 1 + n)) (sym (ap dentAt (f .whole)
+            ∙ dent-at (f .dent) (f .after) (f .dented) (f .before) (f .smooth)))
+            ∙ place in
             record {
               k = k;
               below = d;
@@ -208,10 +213,8 @@ module _ (o : Outline) where
               smooth = f .smooth;
               dented = f .dented;
               piece = cc;
-              place =
-                  sym place ∙
-                  ap (λ (n : ℕ). placeSent o (pieceCut o k + 1 + n)) (ap dentAt (f .whole)
-                  ∙ dent-at (f .dent) (f .after) (f .dented) (f .before) (f .smooth));
+              place = sym at;
+              sent = subst (λ (n : ℕ). SentAs o (pieceCut o k + 1 + length (written (f .before))) n) at (sent-as o (r .simple) _);
               copy = sym copy ∙ ap dentLength (f .whole) ∙ dent-length (f .dent) (f .after) (f .dented) (f .before) (f .smooth);
               cell = subst (λ (y : Point). LowestMissing (block o) y) cell (cell-lowest d);
             }
