@@ -1,10 +1,11 @@
 -- For a list that passes 16, the words of a loose query are about the hull of the corner
 -- cells, by the theorem for edges with increasing directions.
-use Prim.Native.Nat.{ℕ}
+use Prim.Native.Nat.{ℕ, _<_}
 use native.Mathlib.Omega.{arith}
 use mathlib.Core.Path.{_≡_, refl, sym, ap, _∙_}
 use mathlib.Core.Bool.{Bool, true, false, true≢false, cond, _||_}
 use mathlib.Core.List.{List}
+use lib.Dec.{lit<}
 use lib.IntN.{ℤ}
 use Rattle.chart.specs.declared.Point.{Point}
 use Rattle.chart.specs.declared.Position.{Position}
@@ -22,20 +23,31 @@ use Rattle.directions.proofs.Taken.{taken-passes}
 use Rattle.polygon.specs.Loose.{badList, badCell, looseOf, HullNamed}
 
 module _ (a : Point) (es : List ℤ) (x : Point) where
-  -- A refusal has no word
-  unnamed : (f : Refusal) → refusalFields f .word ≡ 0 → HullNamed a es x (refusalFields f)
-  unnamed f e = record { within = λ w. absurd (omega arith); beyond = λ w. absurd (omega arith) }
+  -- A refusal has no word, and a number
+  unnamed : (f : Refusal) → refusalFields f .word ≡ 0 → 0 < refusalFields f .number → HullNamed a es x (refusalFields f)
+  unnamed f e n =
+      record {
+        within = (λ w. absurd (omega arith), λ (z, h). absurd (omega (arith, z)));
+        beyond = (λ w. absurd (omega arith), λ (z, h). absurd (omega (arith, z)));
+      }
 
   named :
       (l c t i : Bool) → badDirections es ≡ t → insideEdges a es x ≡ i
       → HullNamed a es x (positionFields
       (cond l (Refused BadList) (cond c (Refused Cell) (cond t (Refused Directions) (cond i Inside Outside)))))
-  named true c t i p q = unnamed BadList refl
-  named false true t i p q = unnamed Cell refl
-  named false false true i p q = unnamed Directions refl
-  named false false false true p q = record { within = λ w. inside-iff-hull a es x p .0 q; beyond = λ w. absurd (omega arith) }
+  named true c t i p q = unnamed BadList refl (lit< tt)
+  named false true t i p q = unnamed Cell refl (lit< tt)
+  named false false true i p q = unnamed Directions refl (lit< tt)
+  named false false false true p q =
+      record {
+        within = (λ w. (refl, inside-iff-hull a es x p .0 q), λ h. refl);
+        beyond = (λ w. absurd (omega arith), λ (z, h). absurd (h (inside-iff-hull a es x p .0 q)));
+      }
   named false false false false p q =
-      record { within = λ w. absurd (omega arith); beyond = λ w h. true≢false (sym (inside-iff-hull a es x p .1 h) ∙ q) }
+      record {
+        within = (λ w. absurd (omega arith), λ (z, h). absurd (true≢false (sym (inside-iff-hull a es x p .1 h) ∙ q)));
+        beyond = (λ w. (refl, λ h. true≢false (sym (inside-iff-hull a es x p .1 h) ∙ q)), λ h. refl);
+      }
 
   hull-named : HullNamed a es x (positionFields (looseOf a es x))
   unfolding looseOf

@@ -1,6 +1,7 @@
 -- The loose query: refusals 10, 11 and 16, then inside or outside (contract 6.2).
 use Prim.Native.Nat.{_%_}
 use mathlib.Core.Path.{_≡_}
+use mathlib.Core.Logic.{_↔_}
 use mathlib.Core.Bool.{Bool, false, cond, _||_}
 use mathlib.Core.List.{List}
 use lib.ListN.{length}
@@ -40,7 +41,8 @@ looseOf a es x =
     (cond (badDirections es) (Refused Directions)
     (cond (insideEdges a es x) Inside Outside)))
 
--- What the word of a reply says: "inside" that the hull of the corner cells holds the cell, "outside" that it does not
+-- What the word of a reply says. A query that is not refused replies "inside" exactly when the hull of the corner cells holds the cell,
+-- and otherwise "outside"; a refusal has neither word
 pub record HullNamed (a : Point) (es : List ℤ) (x : Point) (f : Fields) : Type 0 where
-  pub within : f .word ≡ inside → CornersHold a es x
-  pub beyond : f .word ≡ outside → CornersHold a es x → ⊥
+  pub within : (f .word ≡ inside) ↔ ((f .number ≡ 0) × CornersHold a es x)
+  pub beyond : (f .word ≡ outside) ↔ ((f .number ≡ 0) × (CornersHold a es x → ⊥))
