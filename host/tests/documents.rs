@@ -298,6 +298,64 @@ fn the_header_cites_every_duty() {
     assert_eq!(cited(&safety), all, "docs/SAFETY.md cites its own duties");
 }
 
+/// The clauses in a list such as "3, 5.1 to 5.3, 7.2"; a chapter stands for all its clauses.
+fn clauses_in(list: &str, all: &[String]) -> BTreeSet<String> {
+    let mut found = BTreeSet::new();
+    for part in list.split(", ") {
+        let (first, last) = part.split_once(" to ").unwrap_or((part, part));
+        let within = |clause: &String| match (first.split_once('.'), clause.split_once('.'), last.split_once('.')) {
+            (Some((chapter, from)), Some((of, number)), Some((_, to))) => {
+                let number: u32 = number.parse().expect("a clause has a number");
+                chapter == of && from.parse().is_ok_and(|n: u32| n <= number) && to.parse().is_ok_and(|n: u32| number <= n)
+            }
+            (None, Some((of, _)), _) => first == of,
+            _ => false,
+        };
+        found.extend(all.iter().filter(|clause| within(clause)).cloned());
+    }
+    found
+}
+
+/// The list of clauses at the front of a table's cell.
+fn clause_list(cell: &str) -> &str {
+    let part_of_list = |word: &str| word == "to" || word.trim_end_matches(',').split('.').all(|n| n.parse::<u32>().is_ok());
+    let mut end = 0;
+    for word in cell.split(' ').take_while(|word| part_of_list(word)) {
+        end += word.len() + 1;
+    }
+    cell[..end.min(cell.len())].trim_end_matches([' ', ','])
+}
+
+#[test]
+fn every_clause_has_its_row() {
+    let contract = read("docs/CONTRACT.md");
+    let number = |line: &str| {
+        let first = line.split(' ').next()?;
+        let (chapter, clause) = first.split_once('.')?;
+        (chapter.parse::<u32>().is_ok() && clause.parse::<u32>().is_ok()).then(|| first.to_string())
+    };
+    let all: Vec<String> = contract.lines().filter_map(number).collect();
+    assert!(all.len() >= 88, "the contract's clauses are found: {}", all.len());
+    let demands = read("docs/DEMANDS.md");
+    let cells = |title: &str, column: usize| -> Vec<String> {
+        let (_, section) = demands.split_once(title).expect("the section is there");
+        let section = section.split_once("\n## ").map_or(section, |(own, _)| own);
+        let rows = section.lines().filter(|line| line.starts_with("| "));
+        rows.filter_map(|line| line.split('|').nth(column)).map(|cell| cell.trim().to_string()).collect()
+    };
+    let mut carried = BTreeSet::new();
+    for cell in cells("## Definitions and claims", 1) {
+        carried.extend(clauses_in(clause_list(&cell), &all));
+    }
+    let missing: Vec<&String> = all.iter().filter(|clause| !carried.contains(*clause)).collect();
+    assert!(missing.is_empty(), "docs/DEMANDS.md has no row for {missing:?}");
+    let jobs = cells("## Jobs, their clauses", 2);
+    assert_eq!(jobs.len(), 15, "a heading and fourteen jobs");
+    for cell in &jobs[1..] {
+        assert!(!clauses_in(cell, &all).is_empty(), "{cell}: no such clause");
+    }
+}
+
 /// What docs/SAFETY.md says of the tree as a whole.
 #[test]
 fn the_tree_is_as_the_safety_case_says() {
