@@ -12,11 +12,9 @@ use lib.Dec.{leb, ltb}
 use borrow.Author.Tests.{le-leb, lt-leb, leb-true}
 use Rattle.chart.specs.Limits.{side, longest}
 use Rattle.chart.specs.Outline.{Outline}
-use Rattle.chart.specs.Fields.{refusalFields}
+use Rattle.chart.specs.Fields.{verdictFields}
 use Rattle.chart.specs.declared.Point.{Point}
-use Rattle.chart.specs.declared.Refusal.{Refusal}
-use Rattle.chart.specs.declared.Refusal.the-variants.{Count, Start, Letter, Leaves, Unclosed, Touches, BackStep, Dent, Room}
-use Rattle.chart.specs.declared.Refusal.the-variants.{List as BadList, Cell, Directions}
+use Rattle.chart.specs.declared.Refusal.the-variants.{Cell}
 use Rattle.chart.specs.declared.Verdict.{Verdict}
 use Rattle.chart.specs.declared.Verdict.the-variants.{Taken, Refused}
 use Rattle.lattice.specs.Refusals.{badStart}
@@ -26,6 +24,7 @@ use Rattle.spans.specs.declared.Span.{Span}
 use Rattle.spans.specs.declared.Span.the-variants.{None as Empty, Columns as Across}
 use Rattle.spans.specs.Spans.{rowSpan, spanReply}
 use Rattle.verdict.specs.Verdict.{verdictOf}
+use Rattle.verdict.proofs.VerdictLaws.{verdict-number}
 use Rattle.polygon.specs.Loose.{badCell}
 use Rattle.readings.specs.declared.Located.{Located}
 use Rattle.readings.specs.declared.Located.the-variants.{Inside as IsInside, Outside as IsOutside, Undecided as IsUndecided}
@@ -58,20 +57,6 @@ abbrev number : Reply → ℕ
 number r = replyFields r .number
 
 -- ---- the numbers of replies
-
-refusal-small : (f : Refusal) → refusalFields f .number ≤ 16
-refusal-small Count = omega arith
-refusal-small Start = omega arith
-refusal-small (Letter q) = omega arith
-refusal-small (Leaves q) = omega arith
-refusal-small Unclosed = omega arith
-refusal-small (Touches q) = omega arith
-refusal-small (BackStep i q) = omega arith
-refusal-small (Dent i q l x) = omega arith
-refusal-small (Room e) = omega arith
-refusal-small BadList = omega arith
-refusal-small Cell = omega arith
-refusal-small Directions = omega arith
 
 -- A question about an outline has 0 or 11, and 11 exactly if it is off the chart
 pub record Answers (q : Question) (r : Reply) : Type 0 where
@@ -146,16 +131,16 @@ asks-small : (q : Question) (w : Option Outline) → number (asks q w) ≤ 16
 asks-small q none = omega (arith, asks-none q)
 asks-small q (some o) = omega (arith, asks-some q o .low)
 
-closed-small : (t : Bool) (v : Verdict) → number (closedReply t v) ≤ 16
+closed-small : (t : Bool) (v : Verdict) → verdictFields v .number ≤ 9 → number (closedReply t v) ≤ 16
 unfolding closedReply replyFields
-closed-small t (Refused f) = refusal-small f
-closed-small true (Taken n a) = omega arith
-closed-small false (Taken n a) = omega arith
+closed-small t (Refused f) h = omega (arith, h)
+closed-small true (Taken n a) h = omega arith
+closed-small false (Taken n a) h = omega arith
 
 closes-small : (d w : Option Outline) → number (closes d w .reply) ≤ 16
 unfolding closes replyFields
 closes-small none w = omega arith
-closes-small (some o) w = closed-small (equalsWork o w) (verdictOf o)
+closes-small (some o) w = closed-small (equalsWork o w) (verdictOf o) (verdict-number o)
 
 -- One of two replies about a draft
 one-of : (t : Bool) (x y : OnDraft) → number (x .reply) ≤ 16 → number (y .reply) ≤ 16 → number (cond t x y .reply) ≤ 16

@@ -102,7 +102,7 @@ pub fn border(anchor: Point, edges: &[i16], letters: &mut [u8]) -> Traced
     ensures outline { λ t. ⌜ BorderNamed anchor (now (edges .entry)) (tracedFields t) (now (letters .exit)) ⌝ }
 {
     if bad_list(edges) {
-        return Traced::Refused(Refusal::List);
+        return Traced::Refused(Refusal::EdgeList { edges: 0 });
     }
     if bad_cell(anchor) {
         return Traced::Refused(Refusal::Cell);

@@ -11,7 +11,7 @@ use lib.IntN.{ℤ}
 use borrow.Author.Tests.{lt-ltb, le-ltb}
 use Rattle.chart.specs.declared.Point.{Point}
 use Rattle.chart.specs.declared.Refusal.{Refusal}
-use Rattle.chart.specs.declared.Refusal.the-variants.{List as BadList, Cell, Directions}
+use Rattle.chart.specs.declared.Refusal.the-variants.{EdgeList, Cell, Directions}
 use Rattle.chart.specs.Fields.{refusalFields}
 use Rattle.convexity.specs.FromEdges.{lettersFrom}
 use Rattle.directions.specs.Increasing.{badDirections}
@@ -63,9 +63,9 @@ module _ (a : Point) (es : List ℤ) (buffer : List ℕ) where
   unfolding lettersAfter
   left t e k n = record { answer = e; letters = sym k ∙ ap (λ (u : Traced). writtenAfter u (lettersFrom es) buffer) e; named = n }
 
-  pub traced-list : badList es ≡ true → Answers a es buffer buffer (Refused BadList)
+  pub traced-list : badList es ≡ true → Answers a es buffer buffer (Refused (EdgeList 0))
   unfolding tracedOf writtenAfter tracedFields
-  traced-list e = left (Refused BadList) (rw e) refl (unnamed a es BadList buffer (omega arith) (omega arith))
+  traced-list e = left (Refused (EdgeList 0)) (rw e) refl (unnamed a es (EdgeList 0) buffer (omega arith) (omega arith))
 
   module _ (listed : badList es ≡ false) where
     pub traced-anchor : badCell a ≡ true → Answers a es buffer buffer (Refused Cell)

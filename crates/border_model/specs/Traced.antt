@@ -7,7 +7,7 @@ use lib.Dec.{ltb}
 use lib.IntN.{ℤ}
 use Rattle.chart.specs.declared.Point.{Point}
 use Rattle.chart.specs.declared.Fields.{Fields}
-use Rattle.chart.specs.declared.Refusal.the-variants.{List as BadList, Cell, Directions}
+use Rattle.chart.specs.declared.Refusal.the-variants.{EdgeList, Cell, Directions}
 use Rattle.chart.specs.Fields.{numbered, placed, refusalFields}
 use Rattle.chart.specs.Refusals.{no-outline, letter-buffer}
 use Rattle.convexity.specs.FromEdges.{lettersFrom}
@@ -23,7 +23,7 @@ lettersIn n w = cond (ltb n (length w)) NoRoom (Written (length w))
 
 unfoldable pub tracedOf : Point → List ℤ → ℕ → Traced
 tracedOf a es n =
-    cond (badList es) (Refused BadList)
+    cond (badList es) (Refused (EdgeList 0))
     (cond (badCell a) (Refused Cell)
     (cond (badDirections es) (Refused Directions)
     (cond (not (outlined a es)) NoOutline (lettersIn n (lettersFrom es)))))

@@ -1,3 +1,4 @@
--- A buffer after a reply; tables of replies.
+-- The numbers of the refusals; a buffer after a reply; tables of replies.
+pub mod RefusalLaws
 pub mod ReplyLaws
 pub mod Tables

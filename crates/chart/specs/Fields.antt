@@ -8,8 +8,9 @@ use Rattle.chart.specs.Refusals as refusals
 use Rattle.chart.specs.declared.Point.{Point}
 use Rattle.chart.specs.declared.Fields.{Fields}
 use Rattle.chart.specs.declared.Refusal.{Refusal}
-use Rattle.chart.specs.declared.Refusal.the-variants.{Count, Start, Letter, Leaves, Unclosed, Touches, BackStep, Dent, Room}
-use Rattle.chart.specs.declared.Refusal.the-variants.{List as BadList, Cell, Directions}
+use Rattle.chart.specs.declared.Refusal.the-variants.{Length, Start, Letter, OffChart, NotClosed, Touches, BackStep, Dent, EdgeList}
+use Rattle.chart.specs.declared.Refusal.the-variants.{Cell, NothingAtWork, NoDraft, DraftOpen, DraftFull, Directions, NoOutline}
+use Rattle.chart.specs.declared.Refusal.the-variants.{LetterBuffer, Party, Place, Section, Layer, Image, Damaged}
 use Rattle.chart.specs.declared.Verdict.{Verdict}
 use Rattle.chart.specs.declared.Verdict.the-variants.{Taken, Refused}
 use Rattle.chart.specs.declared.Position.{Position}
@@ -71,12 +72,15 @@ crossing = 15
 abbrev pub more : ℕ
 more = 16
 
--- A reply with a number only; with a number and a place
+-- A reply with a number only; with a number and a place; with a number, a piece and a place
 abbrev pub numbered : ℕ → Fields
 numbered n = record { number = n; word = no-word; place = 0; piece = 0; length = 0; col = 0; row = 0 }
 
 abbrev pub placed : ℕ → ℕ → Fields
 placed n p = record { number = n; word = no-word; place = p; piece = 0; length = 0; col = 0; row = 0 }
+
+abbrev pub pieced : ℕ → ℕ → ℕ → Fields
+pieced n k p = record { number = n; word = no-word; place = p; piece = k; length = 0; col = 0; row = 0 }
 
 -- A reply with a word only; a taken outline with a word, the count of edges and the anchor
 abbrev pub worded : ℕ → Fields
@@ -85,20 +89,32 @@ worded v = record { number = 0; word = v; place = 0; piece = 0; length = 0; col 
 abbrev pub accepted : ℕ → ℕ → Point → Fields
 accepted v edges a = record { number = 0; word = v; place = edges; piece = 0; length = 0; col = a .col; row = a .row }
 
+-- The table of the refusals: the number and the fields of each (contract 5.2)
 abbrev pub refusalFields : Refusal → Fields
-refusalFields Count = numbered refusals.length
+refusalFields Length = numbered refusals.length
 refusalFields Start = numbered refusals.start
 refusalFields (Letter p) = placed refusals.letter p
-refusalFields (Leaves p) = placed refusals.off-chart p
-refusalFields Unclosed = numbered refusals.not-closed
+refusalFields (OffChart p) = placed refusals.off-chart p
+refusalFields NotClosed = numbered refusals.not-closed
 refusalFields (Touches p) = placed refusals.touches p
-refusalFields (BackStep k p) = record { number = refusals.back-step; word = no-word; place = p; piece = k; length = 0; col = 0; row = 0 }
+refusalFields (BackStep k p) = pieced refusals.back-step k p
 refusalFields (Dent k p l x) =
     record { number = refusals.dent; word = no-word; place = p; piece = k; length = l; col = x .col; row = x .row }
-refusalFields (Room e) = placed refusals.edge-list e
-refusalFields BadList = numbered refusals.edge-list
+refusalFields (EdgeList e) = placed refusals.edge-list e
 refusalFields Cell = numbered refusals.cell
+refusalFields NothingAtWork = numbered refusals.nothing-at-work
+refusalFields NoDraft = numbered refusals.no-draft
+refusalFields DraftOpen = numbered refusals.draft-open
+refusalFields DraftFull = numbered refusals.draft-full
 refusalFields Directions = numbered refusals.directions
+refusalFields NoOutline = numbered refusals.no-outline
+refusalFields (LetterBuffer n) = placed refusals.letter-buffer n
+refusalFields Party = numbered refusals.party
+refusalFields Place = numbered refusals.place
+refusalFields (Section k p) = pieced refusals.section k p
+refusalFields Layer = numbered refusals.layer
+refusalFields Image = numbered refusals.image
+refusalFields Damaged = numbered refusals.damaged
 
 abbrev pub verdictFields : Verdict → Fields
 verdictFields (Taken e a) = accepted no-word e a

@@ -1,4 +1,4 @@
--- The numbers of the refusals (contract 5). There is no 7. The names are those of the C header.
+-- The numbers of the refusals (contract 5). There is no 7, and 23 to 25 are faults of a file. The names are those of the C header.
 use Prim.Native.Nat.{ℕ}
 
 abbrev pub length : ℕ
@@ -63,3 +63,9 @@ section = 21
 
 abbrev pub layer : ℕ
 layer = 22
+
+abbrev pub image : ℕ
+image = 26
+
+abbrev pub damaged : ℕ
+damaged = 27

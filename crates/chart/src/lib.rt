@@ -26,10 +26,11 @@ pub const MOST_NUMBERS: usize = 200;
 // The longest list of edges that a loose query accepts, in numbers.
 pub const LONGEST_LIST: usize = 2032;
 
-// Why an input is refused, with the fields that the refusal names (contract 5). There is no refusal 7.
+// Why a call is refused, with the fields that the refusal names (contract 5). The names are those of the C header. There is no 7, and 23
+// to 25 are faults of a file.
 pub enum Refusal {
     // 1. Fewer than 4 or more than 612 letters.
-    Count,
+    Length,
     // 2. The start corner is off the chart.
     Start,
     // 3. A letter is above 3.
@@ -37,11 +38,11 @@ pub enum Refusal {
         place: u16,
     },
     // 4. A letter steps off the chart's corners.
-    Leaves {
+    OffChart {
         place: u16,
     },
     // 5. The walk does not end where it started.
-    Unclosed,
+    NotClosed,
     // 6. A letter before the last leads to a corner where the walk has been.
     Touches {
         place: u16,
@@ -58,16 +59,45 @@ pub enum Refusal {
         length: u16,
         cell: Point,
     },
-    // 10, of a test. The buffer has fewer than two numbers for each edge.
-    Room {
+    // 10. Of a test: the buffer has fewer than two numbers for each edge; `edges` is their count. Of a list of edges, whose count of numbers
+    // is odd or too large, and of a witness's buffer: 0.
+    EdgeList {
         edges: u16,
     },
-    // 10, of a list of edges. Its count of numbers is odd or too large.
-    List,
     // 11. A cell number is above 254.
     Cell,
+    // 12. Nothing is at work at the place; a pile is unchecked, or did not pass.
+    NothingAtWork,
+    // 13. There is no draft to add to, to close or to drop.
+    NoDraft,
+    // 14. A draft is open already.
+    DraftOpen,
+    // 15. The draft has 612 letters already.
+    DraftFull,
     // 16. An edge is zero, the edges do not sum to zero, or directions do not increase strictly clockwise from up.
     Directions,
+    // 17. No outline is taken with this anchor and these edges.
+    NoOutline,
+    // 18. The buffer for letters is too short. `letters` is the count that it needs, if the call names it; a border and a completion
+    // name none, 0.
+    LetterBuffer {
+        letters: u16,
+    },
+    // 19. The party is above 1.
+    Party,
+    // 20. The place is above 3.
+    Place,
+    // 21. The first dented section of a pile: kind 0 is a column and 1 a row, `at` is its number.
+    Section {
+        kind: u16,
+        at: u16,
+    },
+    // 22. The layer is above 15.
+    Layer,
+    // 26. The bytes are not an image.
+    Image,
+    // 27. What is in memory is damaged.
+    Damaged,
 }
 
 // The verdict on an outline.

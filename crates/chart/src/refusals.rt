@@ -1,4 +1,4 @@
-// The numbers of the refusals (contract 5). There is no 7.
+// The numbers of the refusals (contract 5). There is no 7, and 23 to 25 are faults of a file.
 pub const LENGTH: u16 = 1;
 
 pub const START: u16 = 2;
@@ -40,3 +40,7 @@ pub const PLACE: u16 = 20;
 pub const SECTION: u16 = 21;
 
 pub const LAYER: u16 = 22;
+
+pub const IMAGE: u16 = 26;
+
+pub const DAMAGED: u16 = 27;

@@ -11,7 +11,7 @@ ghost use mathlib.Core.Path.{_≡_};
 ghost use lib.ListN.{length};
 ghost use lib.Dec.{leb};
 ghost use Rattle.chart.specs.Fields.{numbered as numberedOf, placed as placedOf, worded as wordedOf, accepted as acceptedOf};
-ghost use Rattle.chart.specs.Fields.{refusalFields, verdictFields, positionFields, handing as handingOf, nestingFields};
+ghost use Rattle.chart.specs.Fields.{pieced as piecedOf, refusalFields, verdictFields, positionFields, handing as handingOf, nestingFields};
 ghost use Rattle.chart.specs.Fields.{comparisonFields, replyWidth, replyAfter, numbersOf};
 
 // The count of numbers in a reply.
@@ -74,6 +74,21 @@ pub fn placed(number: u16, place: u16) -> Fields
     }
 }
 
+// A reply with a number, a piece and a place.
+fn pieced(number: u16, piece: u16, place: u16) -> Fields
+    ensures { λ r. ⌜ r ≡ piecedOf number piece place ⌝ }
+{
+    Fields {
+        number,
+        word: NO_WORD,
+        place,
+        piece,
+        length: 0,
+        col: 0,
+        row: 0,
+    }
+}
+
 // A reply with a word only.
 pub fn worded(word: u16) -> Fields
     ensures { λ r. ⌜ r ≡ wordedOf word ⌝ }
@@ -96,25 +111,18 @@ pub fn accepted(word: u16, edges: u16, anchor: Point) -> Fields
     }
 }
 
+// The table of the refusals: the number and the fields of each (contract 5.2).
 pub fn of_refusal(f: Refusal) -> Fields
     ensures { λ r. ⌜ r ≡ refusalFields f ⌝ }
 {
     match f {
-        Refusal::Count => numbered(refusals::LENGTH),
+        Refusal::Length => numbered(refusals::LENGTH),
         Refusal::Start => numbered(refusals::START),
         Refusal::Letter { place } => placed(refusals::LETTER, place),
-        Refusal::Leaves { place } => placed(refusals::OFF_CHART, place),
-        Refusal::Unclosed => numbered(refusals::NOT_CLOSED),
+        Refusal::OffChart { place } => placed(refusals::OFF_CHART, place),
+        Refusal::NotClosed => numbered(refusals::NOT_CLOSED),
         Refusal::Touches { place } => placed(refusals::TOUCHES, place),
-        Refusal::BackStep { piece, place } => Fields {
-            number: refusals::BACK_STEP,
-            word: NO_WORD,
-            place,
-            piece,
-            length: 0,
-            col: 0,
-            row: 0,
-        },
+        Refusal::BackStep { piece, place } => pieced(refusals::BACK_STEP, piece, place),
         Refusal::Dent {
             piece,
             place,
@@ -129,10 +137,21 @@ pub fn of_refusal(f: Refusal) -> Fields
             col: cell.col,
             row: cell.row,
         },
-        Refusal::Room { edges } => placed(refusals::EDGE_LIST, edges),
-        Refusal::List => numbered(refusals::EDGE_LIST),
+        Refusal::EdgeList { edges } => placed(refusals::EDGE_LIST, edges),
         Refusal::Cell => numbered(refusals::CELL),
+        Refusal::NothingAtWork => numbered(refusals::NOTHING_AT_WORK),
+        Refusal::NoDraft => numbered(refusals::NO_DRAFT),
+        Refusal::DraftOpen => numbered(refusals::DRAFT_OPEN),
+        Refusal::DraftFull => numbered(refusals::DRAFT_FULL),
         Refusal::Directions => numbered(refusals::DIRECTIONS),
+        Refusal::NoOutline => numbered(refusals::NO_OUTLINE),
+        Refusal::LetterBuffer { letters } => placed(refusals::LETTER_BUFFER, letters),
+        Refusal::Party => numbered(refusals::PARTY),
+        Refusal::Place => numbered(refusals::PLACE),
+        Refusal::Section { kind, at } => pieced(refusals::SECTION, kind, at),
+        Refusal::Layer => numbered(refusals::LAYER),
+        Refusal::Image => numbered(refusals::IMAGE),
+        Refusal::Damaged => numbered(refusals::DAMAGED),
     }
 }
 

@@ -6,7 +6,7 @@ use lib.IntN.{ℤ, pos}
 use Rattle.chart.specs.declared.Point.{Point}
 use Rattle.chart.specs.declared.Comparison.the-variants.{Found, Refused}
 use Rattle.chart.specs.declared.Refusal.{Refusal}
-use Rattle.chart.specs.declared.Refusal.the-variants.{List as BadList, Cell, Directions}
+use Rattle.chart.specs.declared.Refusal.the-variants.{EdgeList, Cell, Directions}
 use Rattle.convexity.specs.Edges.{pairs}
 use Rattle.directions.specs.Increasing.{badDirections}
 use Rattle.polygon.specs.Loose.{badList, badCell}
@@ -18,7 +18,7 @@ use Rattle.comparison.specs.declared.Checked.the-variants.{Fit, Unfit}
 use Rattle.comparison.specs.Compared.{checkedOf, decided, comparisonOf}
 
 module _ (a : Point) (es : List ℤ) where
-  pub checked-list : badList es ≡ true → Unfit BadList ≡ checkedOf a es
+  pub checked-list : badList es ≡ true → Unfit (EdgeList 0) ≡ checkedOf a es
   unfolding checkedOf
   checked-list e = rw e
 
@@ -53,7 +53,7 @@ fit-passes a es e =
   where
     go :
         (l c t p : Bool) → badDirections es ≡ t → cornersOnChart (pairs es) (pos (a .col)) (pos (a .row)) ≡ p
-        → fits (cond l (Unfit BadList) (cond c (Unfit Cell) (cond t (Unfit Directions) (cond p Fit (Unfit Cell))))) ≡ true
+        → fits (cond l (Unfit (EdgeList 0)) (cond c (Unfit Cell) (cond t (Unfit Directions) (cond p Fit (Unfit Cell))))) ≡ true
         → Passing (polygon a es)
     go true c t p v w h = absurd (false≢true h)
     go false true t p v w h = absurd (false≢true h)

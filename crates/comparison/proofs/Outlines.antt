@@ -13,6 +13,7 @@ use Rattle.chart.specs.declared.Verdict.the-variants.{Taken, Refused}
 use Rattle.chart.specs.declared.Comparison.the-variants.{Found}
 use Rattle.chart.specs.Outline.{Outline}
 use Rattle.chart.specs.Fields.{verdictFields, nestingFields, comparisonFields}
+use Rattle.chart.proofs.RefusalLaws.{refusal-number}
 use Rattle.convexity.specs.Border.{HasEdges}
 use Rattle.polygon.proofs.Taken.{taken-listed, taken-anchored}
 use Rattle.verdict.specs.Named.{cellOf}
@@ -25,7 +26,7 @@ use Rattle.comparison.specs.declared.Checked.the-variants.{Fit}
 use Rattle.comparison.specs.Compared.{checkedOf, comparisonOf}
 use Rattle.comparison.specs.Outlines.{anchorFrom, edgesFrom, BlocksNamed}
 use Rattle.comparison.proofs.Cases.{checked-fit, compared-found}
-use Rattle.comparison.proofs.Words.{refusal-number, word-once}
+use Rattle.comparison.proofs.Words.{word-once}
 
 -- Nothing refuses the list of a taken outline
 pub taken-checked : {o : Outline} {a : Point} {es : List ℤ} → HasEdges o a es → Fit ≡ checkedOf a es

@@ -14,8 +14,7 @@ use Rattle.chart.specs.declared.Nesting.the-variants.{Equal, FirstWithin, Secon
 use Rattle.chart.specs.declared.Comparison.{Comparison}
 use Rattle.chart.specs.declared.Comparison.the-variants.{Found, Refused}
 use Rattle.chart.specs.declared.Refusal.{Refusal}
-use Rattle.chart.specs.declared.Refusal.the-variants.{Count, Start, Letter, Leaves, Unclosed, Touches, BackStep, Dent, Room}
-use Rattle.chart.specs.declared.Refusal.the-variants.{List as BadList, Cell, Directions}
+use Rattle.chart.proofs.RefusalLaws.{refusal-number}
 use Rattle.chart.specs.Fields.{placed, refusalFields, nestingFields, comparisonFields}
 use Rattle.nesting.specs.Cells.{polygon}
 use Rattle.nesting.specs.Answer.{nesting}
@@ -26,21 +25,6 @@ use Rattle.comparison.specs.declared.Returned.{Returned}
 use Rattle.comparison.specs.declared.Returned.the-variants.{First, Second, Neither}
 use Rattle.comparison.specs.Compared.{checkedOf, decided, comparisonOf, CellsNamed, returnedWith, returnedBy, ReturnedList}
 use Rattle.comparison.proofs.Cases.{fit-passes}
-
--- A refusal has a number
-pub refusal-number : (f : Refusal) → 0 < refusalFields f .number
-refusal-number Count = omega arith
-refusal-number Start = omega arith
-refusal-number (Letter p) = omega arith
-refusal-number (Leaves p) = omega arith
-refusal-number Unclosed = omega arith
-refusal-number (Touches p) = omega arith
-refusal-number (BackStep k p) = omega arith
-refusal-number (Dent k p l x) = omega arith
-refusal-number (Room e) = omega arith
-refusal-number BadList = omega arith
-refusal-number Cell = omega arith
-refusal-number Directions = omega arith
 
 -- Each word belongs to one result
 word-above : (v : Nesting) → 0 < nestingFields v .word

@@ -10,7 +10,7 @@ use Rattle.chart.specs.declared.Nesting.{Nesting}
 use Rattle.chart.specs.declared.Nesting.the-variants.{Equal, FirstWithin, SecondWithin, Apart, Crossing}
 use Rattle.chart.specs.declared.Comparison.{Comparison}
 use Rattle.chart.specs.declared.Comparison.the-variants.{Found, Refused}
-use Rattle.chart.specs.declared.Refusal.the-variants.{List as BadList, Cell, Directions}
+use Rattle.chart.specs.declared.Refusal.the-variants.{EdgeList, Cell, Directions}
 use Rattle.chart.specs.Fields.{nestingFields}
 use Rattle.convexity.specs.Edges.{pairs}
 use Rattle.directions.specs.Increasing.{badDirections}
@@ -26,7 +26,7 @@ use Rattle.comparison.specs.declared.Returned.the-variants.{First, Secon
 -- What refuses a list: 10, 11 of the anchor, 16, then 11 if a corner cell is off the chart
 unfoldable pub checkedOf : Point → List ℤ → Checked
 checkedOf a es =
-    cond (badList es) (Unfit BadList)
+    cond (badList es) (Unfit (EdgeList 0))
     (cond (badCell a) (Unfit Cell)
     (cond (badDirections es) (Unfit Directions)
     (cond (cornersOnChart (pairs es) (pos (a .col)) (pos (a .row))) Fit (Unfit Cell))))

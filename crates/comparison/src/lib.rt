@@ -50,7 +50,7 @@ fn check(anchor: Point, edges: &[i16]) -> Checked
     ensures { λ r. ⌜ r ≡ checkedOf anchor (now (edges .entry)) ⌝ }
 {
     if polygon::bad_list(edges) {
-        return Checked::Unfit(Refusal::List);
+        return Checked::Unfit(Refusal::EdgeList { edges: 0 });
     }
     if polygon::bad_cell(anchor) {
         return Checked::Unfit(Refusal::Cell);

@@ -11,12 +11,11 @@ use borrow.Author.Tests.{lt-ltb, le-ltb}
 use Rattle.chart.specs.Limits.{mostNumbers}
 use Rattle.chart.specs.declared.Point.{Point}
 use Rattle.chart.specs.declared.Refusal.{Refusal}
-use Rattle.chart.specs.declared.Refusal.the-variants.{Count, Start, Letter, Leaves, Unclosed, Touches, BackStep, Dent, Room}
-use Rattle.chart.specs.declared.Refusal.the-variants.{List as BadList, Cell, Directions}
 use Rattle.chart.specs.declared.Verdict.{Verdict}
 use Rattle.chart.specs.declared.Verdict.the-variants.{Taken, Refused as TurnedBack}
 use Rattle.chart.specs.Outline.{Outline, outline, at}
 use Rattle.chart.specs.Fields.{refusalFields, verdictFields}
+use Rattle.chart.proofs.RefusalLaws.{refusal-number}
 use Rattle.lattice.specs.Chart.{size}
 use Rattle.lattice.specs.Refusals.{Simple}
 use Rattle.survey.specs.declared.Surveyed.{Surveyed}
@@ -29,8 +28,8 @@ use Rattle.convexity.specs.SameBlock.{SameCells}
 use Rattle.convexity.specs.FromEdges.{lettersFrom}
 use Rattle.convexity.specs.Pieces.{edges}
 use Rattle.convexity.proofs.SameBlock.{same-from-w-iff}
-use Rattle.verdict.specs.Verdict.{verdictOf, testOf, testFields}
-use Rattle.verdict.proofs.VerdictLaws.{test-taken, taken-fits}
+use Rattle.verdict.specs.Verdict.{afterSurvey as verdictAfter, verdictOf, testOf, testFields}
+use Rattle.verdict.proofs.VerdictLaws.{test-taken, taken-fits, refused-number}
 use Rattle.border_model.specs.Named.{BorderOf}
 use Rattle.border_model.proofs.Outlines.{taken-has, outlined-iff, outlined-border}
 use Rattle.completion.specs.Complete.{complete as completionOf}
@@ -43,20 +42,10 @@ use Rattle.completion_call.specs.Named.{outlineIn, Completes}
 use Rattle.completion_call.specs.parts.Answers.{Answers}
 use Rattle.completion_call.proofs.HullEnds.{HullOf}
 
--- The number of a refusal with fields of its own
-pub refusal-number : (f : Refusal) → (0 < refusalFields f .number) × (refusalFields f .number < 18)
-refusal-number Count = omega arith
-refusal-number Start = omega arith
-refusal-number (Letter p) = omega arith
-refusal-number (Leaves p) = omega arith
-refusal-number Unclosed = omega arith
-refusal-number (Touches p) = omega arith
-refusal-number (BackStep k p) = omega arith
-refusal-number (Dent k p l x) = omega arith
-refusal-number (Room e) = omega arith
-refusal-number BadList = omega arith
-refusal-number Cell = omega arith
-refusal-number Directions = omega arith
+-- The number of a refusal of 1 to 6
+pub stopped-number : (o : Outline) {f : Refusal} → surveyOf o ≡ Stopped f → (0 < refusalFields f .number) × (refusalFields f .number < 18)
+unfolding verdictOf verdictAfter
+stopped-number o {f} e = (refusal-number f, omega (arith, refused-number o {f = f} (rw e)))
 
 -- ---- the cases
 
@@ -136,7 +125,7 @@ module _ (o : Outline) (buffer : List ℕ) where
   unfolding completionAfter writtenAfter completedFields
   stopped-answers {f} e =
       let said = completed-stopped o (length buffer) e in
-      let n = refusal-number f in
+      let n = stopped-number o e in
       record {
         answer = sym said;
         letters = rw said refl;

@@ -33,7 +33,7 @@ use Rattle.completion_call.specs.declared.Completed.{Completed}
 use Rattle.completion_call.specs.declared.Completed.the-variants.{Written}
 use Rattle.completion_call.specs.Completion.{completedOf, completedFields, writtenAfter, completionAfter}
 use Rattle.completion_call.specs.Named.{replyTo, replied, Completes}
-use Rattle.completion_call.proofs.CompletedLaws.{refusal-number, completed-stopped, completed-short, completed-written}
+use Rattle.completion_call.proofs.CompletedLaws.{stopped-number, completed-stopped, completed-short, completed-written}
 use Rattle.completion_call.proofs.CompletedLaws.{border-completes, read-back}
 
 -- A taken outline passes 1 to 6
@@ -66,7 +66,7 @@ module _ (o : Outline) (buffer : List ℕ) where
   written-iff = (λ e. go e (case-of o (length buffer)), λ w. ap fields (completed-written o (length buffer) (w .0) (w .1)))
     where
       go : replyTo o buffer .number ≡ 0 → Case o (length buffer) → Simple o × (size (border (completionOf o)) ≤ length buffer)
-      go e (stopped f q) = absurd (omega (arith, refusal-number f, e, ap fields (completed-stopped o (length buffer) q)))
+      go e (stopped f q) = absurd (omega (arith, stopped-number o q, e, ap fields (completed-stopped o (length buffer) q)))
       go e (short h l) = absurd (omega (arith, e, ap fields (completed-short o (length buffer) h l)))
       go e (roomy h l) = (h, l)
 
@@ -129,7 +129,7 @@ module _ (o : Outline) (buffer : List ℕ) where
   enough l e = go (case-of o (length buffer))
     where
       go : Case o (length buffer) → ⊥
-      go (stopped f q) = omega (arith, refusal-number f, e, ap fields (completed-stopped o (length buffer) q))
+      go (stopped f q) = omega (arith, stopped-number o q, e, ap fields (completed-stopped o (length buffer) q))
       go (short h k) = omega (arith, length-border (completionOf o) (complete-simple o h), complete-shorter o h, walked o h .short)
       go (roomy h k) = omega (arith, e, ap fields (completed-written o (length buffer) h k))
 

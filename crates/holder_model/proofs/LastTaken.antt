@@ -1,17 +1,17 @@
 -- The outline last taken is at work, because what is at work at a place changes exactly if a call puts something there.
 use Prim.Native.Nat.{ℕ}
+use native.Mathlib.Omega.{arith}
 use mathlib.Core.Path.{_≡_, refl, sym, ap, _∙_}
 use mathlib.Core.Bool.{Bool, true, false, cond}
 use mathlib.Core.Option.{Option, none, some}
 use mathlib.Core.List.{List, [], _∷_, _++_, append-assoc, append-nil}
 use lib.Dec.{eqb}
-use borrow.Author.Tests.{eqb-true}
+use borrow.Author.Tests.{eqb-true, ne-eqb}
 use Rattle.base.specs.Put.{put}
 use Rattle.chart.specs.Outline.{Outline}
 use Rattle.chart.specs.Fields.{refusalFields}
+use Rattle.chart.proofs.RefusalLaws.{refusal-number}
 use Rattle.chart.specs.declared.Refusal.{Refusal}
-use Rattle.chart.specs.declared.Refusal.the-variants.{Count, Start, Letter, Leaves, Unclosed, Touches, BackStep, Dent, Room}
-use Rattle.chart.specs.declared.Refusal.the-variants.{List as BadList, Cell, Directions}
 use Rattle.chart.specs.declared.Verdict.{Verdict}
 use Rattle.chart.specs.declared.Verdict.the-variants.{Taken, Refused}
 use Rattle.verdict.specs.Verdict.{verdictOf}
@@ -27,18 +27,7 @@ use Rattle.calls.specs.declared.Action.the-variants.{Begin, Add, Drop, Clear, C
 
 -- No refusal has number 0
 pub refusal-numbered : (f : Refusal) → eqb (refusalFields f .number) 0 ≡ false
-refusal-numbered Count = refl
-refusal-numbered Start = refl
-refusal-numbered (Letter p) = refl
-refusal-numbered (Leaves p) = refl
-refusal-numbered Unclosed = refl
-refusal-numbered (Touches p) = refl
-refusal-numbered (BackStep k p) = refl
-refusal-numbered (Dent k p l x) = refl
-refusal-numbered (Room n) = refl
-refusal-numbered BadList = refl
-refusal-numbered Cell = refl
-refusal-numbered Directions = refl
+refusal-numbered f = ne-eqb (refusalFields f .number) 0 (omega (arith, refusal-number f))
 
 -- A reply that is not a refusal
 abbrev clean : Reply → Bool

@@ -15,12 +15,10 @@ use Rattle.chart.specs.Limits.{side}
 use Rattle.chart.specs.Outline.{Outline}
 use Rattle.chart.specs.declared.Fields.{Fields}
 use Rattle.chart.specs.declared.Point.{Point}
-use Rattle.chart.specs.declared.Refusal.{Refusal}
-use Rattle.chart.specs.declared.Refusal.the-variants.{Count, Start, Letter, Leaves, Unclosed, Touches, BackStep, Dent, Room}
-use Rattle.chart.specs.declared.Refusal.the-variants.{List as BadList, Cell, Directions}
 use Rattle.chart.specs.declared.Verdict.{Verdict}
 use Rattle.chart.specs.declared.Verdict.the-variants.{Taken, Refused}
-use Rattle.chart.specs.Fields.{inside, outside, same, undecided, refusalFields, verdictFields}
+use Rattle.chart.specs.Fields.{inside, outside, same, undecided, verdictFields}
+use Rattle.chart.proofs.RefusalLaws.{refusal-number, refusal-wordless}
 use Rattle.lattice.specs.Hull.{Missing, Convex}
 use Rattle.lattice.specs.Refusals.{Simple}
 use Rattle.convexity.specs.Clockwise.{border, block}
@@ -100,43 +98,15 @@ module _ (cs : List Call) (p k : ℕ) (there : p < parties) (place : k < places)
 
 -- ---- a close
 
-refusal-wordless : (f : Refusal) → refusalFields f .word ≡ 0
-refusal-wordless Count = refl
-refusal-wordless Start = refl
-refusal-wordless (Letter q) = refl
-refusal-wordless (Leaves q) = refl
-refusal-wordless Unclosed = refl
-refusal-wordless (Touches q) = refl
-refusal-wordless (BackStep i q) = refl
-refusal-wordless (Dent i q l x) = refl
-refusal-wordless (Room e) = refl
-refusal-wordless BadList = refl
-refusal-wordless Cell = refl
-refusal-wordless Directions = refl
-
 word-same : (t : Bool) (v : Verdict) → (replyFields (closedReply t v) .word ≡ same) ↔ ((n : ℕ) × (a : Point) × (closedReply t v ≡ Same n a))
 unfolding replyFields closedReply
 word-same t (Refused f) = (λ e. absurd (omega (arith, e, refusal-wordless f)), λ e. let z = e .2 in differ cc)
 word-same true (Taken n a) = (λ e. (n, a, refl), λ e. refl)
 word-same false (Taken n a) = (λ e. absurd (omega (arith, e)), λ e. let z = e .2 in differ cc)
 
-refusal-number : (f : Refusal) → refusalFields f .number ≡ 0 → ⊥
-refusal-number Count e = omega (arith, e)
-refusal-number Start e = omega (arith, e)
-refusal-number (Letter q) e = omega (arith, e)
-refusal-number (Leaves q) e = omega (arith, e)
-refusal-number Unclosed e = omega (arith, e)
-refusal-number (Touches q) e = omega (arith, e)
-refusal-number (BackStep i q) e = omega (arith, e)
-refusal-number (Dent i q l x) e = omega (arith, e)
-refusal-number (Room n) e = omega (arith, e)
-refusal-number BadList e = omega (arith, e)
-refusal-number Cell e = omega (arith, e)
-refusal-number Directions e = omega (arith, e)
-
 taken-by-number : (v : Verdict) → verdictFields v .number ≡ 0 → (n : ℕ) × (a : Point) × (v ≡ Taken n a)
 taken-by-number (Taken n a) e = (n, a, refl)
-taken-by-number (Refused f) e = absurd (refusal-number f e)
+taken-by-number (Refused f) e = absurd (omega (arith, e, refusal-number f))
 
 never-same : (v : Verdict) → replyFields (closedReply false v) .word ≡ same → ⊥
 unfolding replyFields closedReply

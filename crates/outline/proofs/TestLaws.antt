@@ -4,7 +4,7 @@ use mathlib.Core.Path.{_≡_, ap, _∙_}
 use borrow.Author.Tests.{lt-ltb, le-ltb}
 use Rattle.chart.specs.declared.Point.{Point}
 use Rattle.chart.specs.declared.Refusal.{Refusal}
-use Rattle.chart.specs.declared.Refusal.the-variants.{Room}
+use Rattle.chart.specs.declared.Refusal.the-variants.{EdgeList}
 use Rattle.chart.specs.declared.Verdict.{Verdict}
 use Rattle.chart.specs.declared.Verdict.the-variants.{Taken, Refused}
 use Rattle.chart.specs.Outline.{Outline}
@@ -33,7 +33,7 @@ module _ (m : ℕ) {v : Verdict} where
   room-refused e = rw e
 
   module _ {n : ℕ} {a : Point} (e : v ≡ Taken n a) where
-    pub room-short : m < 2 * n → Refused (Room n) ≡ withRoom m v
+    pub room-short : m < 2 * n → Refused (EdgeList n) ≡ withRoom m v
     unfolding withRoom
     room-short h = rw (e, lt-ltb m (2 * n) h)
 

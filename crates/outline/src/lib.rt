@@ -17,7 +17,7 @@ fn with_room(room: usize, verdict: Verdict) -> Verdict
         Verdict::Refused(why) => Verdict::Refused(why),
         Verdict::Taken { edges, anchor } => {
             if room < 2 * (edges as usize) {
-                return Verdict::Refused(Refusal::Room { edges });
+                return Verdict::Refused(Refusal::EdgeList { edges });
             }
             Verdict::Taken { edges, anchor }
         }

@@ -11,7 +11,7 @@ use Rattle.base.proofs.BelowLaws.{or-false-iff}
 use Rattle.chart.specs.Limits.{longestList}
 use Rattle.chart.specs.declared.Point.{Point}
 use Rattle.convexity.specs.Inside.{insideEdges}
-use Rattle.chart.specs.declared.Refusal.the-variants.{List as BadList, Cell, Directions}
+use Rattle.chart.specs.declared.Refusal.the-variants.{EdgeList, Cell, Directions}
 use Rattle.chart.specs.declared.Position.the-variants.{Inside, Outside, Refused}
 use Rattle.directions.specs.Increasing.{badDirections}
 use Rattle.polygon.specs.Loose.{insideList, badList, badCell, badDirectionsList, looseOf}
@@ -40,7 +40,7 @@ module _ (a : Point) (es : List ℤ) (x : Point) where
   unfolding insideList
   inside-short h = rw (le-ltb longestList (length es) h)
 
-  pub loose-list : badList es ≡ true → Refused BadList ≡ looseOf a es x
+  pub loose-list : badList es ≡ true → Refused (EdgeList 0) ≡ looseOf a es x
   unfolding looseOf
   loose-list e = rw e
 

@@ -11,7 +11,7 @@ use Rattle.chart.specs.declared.Point.{Point}
 use Rattle.chart.specs.declared.Position.{Position}
 use Rattle.chart.specs.declared.Position.the-variants.{Inside, Outside, Refused}
 use Rattle.chart.specs.declared.Refusal.{Refusal}
-use Rattle.chart.specs.declared.Refusal.the-variants.{List as BadList, Cell, Directions}
+use Rattle.chart.specs.declared.Refusal.the-variants.{EdgeList, Cell, Directions}
 use Rattle.chart.specs.Fields.{positionFields, refusalFields}
 use Rattle.chart.specs.Outline.{Outline}
 use Rattle.convexity.specs.Clockwise.{border}
@@ -34,15 +34,11 @@ module _ (a : Point) (es : List ℤ) (x : Point) where
   named :
       (l c t i : Bool) → badDirections es ≡ t → insideEdges a es x ≡ i
       → HullNamed a es x (positionFields
-      (cond l (Refused BadList) (cond c (Refused Cell) (cond t (Refused Directions) (cond i Inside Outside)))))
-  named true c t i p q = unnamed BadList refl (lit< tt)
-  named false true t i p q = unnamed Cell refl (lit< tt)
-  named false false true i p q = unnamed Directions refl (lit< tt)
-  named false false false true p q =
-      record {
-        within = (λ w. (refl, inside-iff-hull a es x p .0 q), λ h. refl);
-        beyond = (λ w. absurd (omega arith), λ (z, h). absurd (h (inside-iff-hull a es x p .0 q)));
-      }
+      (cond l (Refused (EdgeList 0)) (cond c (Refused Cell) (cond t (Refused Directions) (cond i Inside Outside)))))
+  named true c t i p q = unnamed (EdgeList 0) refl
+  named false true t i p q = unnamed Cell refl
+  named false false true i p q = unnamed Directions refl
+  named false false false true p q = record { within = λ w. inside-iff-hull a es x p .0 q; beyond = λ w. absurd (omega arith) }
   named false false false false p q =
       record {
         within = (λ w. absurd (omega arith), λ (z, h). absurd (true≢false (sym (inside-iff-hull a es x p .1 h) ∙ q)));
@@ -66,7 +62,7 @@ turned-back a es x = go (badList es) (badCell a || badCell x) (badDirections es)
     number p = positionFields p .number
 
     go :
-        (l c t i : Bool) → cond l (Refused BadList) (cond c (Refused Cell) (cond t (Refused Directions) (cond i Inside Outside)))
+        (l c t i : Bool) → cond l (Refused (EdgeList 0)) (cond c (Refused Cell) (cond t (Refused Directions) (cond i Inside Outside)))
         ≡ Refused Directions
         → t ≡ true
     go true c t i e = absurd (omega (arith, ap number e))

@@ -14,7 +14,7 @@ use Rattle.chart.specs.Fields.{inside, outside}
 use Rattle.convexity.specs.Inside.{insideEdges}
 use Rattle.directions.specs.Increasing.{badDirections}
 use Rattle.directions.specs.CornerHull.{CornersHold}
-use Rattle.chart.specs.declared.Refusal.the-variants.{List as BadList, Cell, Directions}
+use Rattle.chart.specs.declared.Refusal.the-variants.{EdgeList, Cell, Directions}
 use Rattle.chart.specs.declared.Position.{Position}
 use Rattle.chart.specs.declared.Position.the-variants.{Inside, Outside, Refused}
 
@@ -36,7 +36,7 @@ badDirectionsList es = ltb longestList (length es) || badDirections es
 
 unfoldable pub looseOf : Point → List ℤ → Point → Position
 looseOf a es x =
-    cond (badList es) (Refused BadList)
+    cond (badList es) (Refused (EdgeList 0))
     (cond (badCell a || badCell x) (Refused Cell)
     (cond (badDirections es) (Refused Directions)
     (cond (insideEdges a es x) Inside Outside)))

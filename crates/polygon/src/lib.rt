@@ -155,7 +155,7 @@ pub fn loose_query(anchor: Point, edges: &[i16], cell: Point) -> Position
     ensures hull { λ p. ⌜ HullNamed anchor (now (edges .entry)) cell (positionFields p) ⌝ }
 {
     if bad_list(edges) {
-        return Position::Refused(Refusal::List);
+        return Position::Refused(Refusal::EdgeList { edges: 0 });
     }
     if bad_cell(anchor) || bad_cell(cell) {
         return Position::Refused(Refusal::Cell);

@@ -8,7 +8,7 @@ use lib.Dec.{ltb, eqb}
 use borrow.Author.Tests.{lt-ltb, le-ltb}
 use Rattle.lattice.specs.Refusals.{badCount, badStart, letterPlace, leavingPlace, Stays, unclosed, touchingPlace, Simple}
 use Rattle.chart.specs.declared.Refusal.{Refusal}
-use Rattle.chart.specs.declared.Refusal.the-variants.{Count, Start, Letter, Leaves, Unclosed, Touches}
+use Rattle.chart.specs.declared.Refusal.the-variants.{Length, Start, Letter, OffChart, NotClosed, Touches}
 use Rattle.chart.specs.Outline.{Outline}
 use Rattle.lattice.specs.Chart.{walk, size}
 use Rattle.survey.specs.declared.Surveyed.the-variants.{Passed, Refused as Stopped}
@@ -27,7 +27,7 @@ pub none-found : {i p n : ℕ} → i ≡ p → n ≤ i → ltb p n ≡ false
 none-found {i} {p} {n} e h = le-ltb p n (omega arith)
 
 module _ (o : Outline) where
-  pub survey-count : badCount (o .letters) ≡ true → Stopped Count ≡ surveyOf o
+  pub survey-count : badCount (o .letters) ≡ true → Stopped Length ≡ surveyOf o
   unfolding surveyOf
   survey-count a = rw a
 
@@ -45,15 +45,15 @@ module _ (o : Outline) where
       survey-letter-at e h = ap (λ (i : ℕ). Stopped (Letter i)) e ∙ survey-letter (found e h)
 
       module _ (c : ltb (letterPlace (o .letters)) (size o) ≡ false) where
-        pub survey-leaves : ltb (leavingPlace o) (size o) ≡ true → Stopped (Leaves (leavingPlace o)) ≡ surveyOf o
+        pub survey-leaves : ltb (leavingPlace o) (size o) ≡ true → Stopped (OffChart (leavingPlace o)) ≡ surveyOf o
         unfolding surveyOf
         survey-leaves d = rw (a, b, c, d)
 
-        pub survey-leaves-at : {i : ℕ} → i ≡ leavingPlace o → i < size o → Stopped (Leaves i) ≡ surveyOf o
-        survey-leaves-at e h = ap (λ (i : ℕ). Stopped (Leaves i)) e ∙ survey-leaves (found e h)
+        pub survey-leaves-at : {i : ℕ} → i ≡ leavingPlace o → i < size o → Stopped (OffChart i) ≡ surveyOf o
+        survey-leaves-at e h = ap (λ (i : ℕ). Stopped (OffChart i)) e ∙ survey-leaves (found e h)
 
         module _ (d : Stays o) where
-          pub survey-unclosed : unclosed o ≡ true → Stopped Unclosed ≡ surveyOf o
+          pub survey-unclosed : unclosed o ≡ true → Stopped NotClosed ≡ surveyOf o
           unfolding surveyOf
           survey-unclosed e = rw (a, b, c, d, e)
 
@@ -90,7 +90,7 @@ module _ (o : Outline) where
   -- ---- past 1, 2 and 3
 
   module _ (b : Begun o) where
-    pub walk-leaves : {i : ℕ} → i ≡ leavingPlace o → i < size o → Stopped (Leaves i) ≡ surveyOf o
+    pub walk-leaves : {i : ℕ} → i ≡ leavingPlace o → i < size o → Stopped (OffChart i) ≡ surveyOf o
     walk-leaves = survey-leaves-at (b .counted) (b .started) (b .lettered)
 
     -- The number of the corner at which a walk that stays ends tells whether it is closed
@@ -98,7 +98,7 @@ module _ (o : Outline) where
       abbrev away : Bool
       away = not (eqb (n / 1024) (o .start .col * 1024 + o .start .row))
 
-      pub walk-unclosed : away ≡ true → Stopped Unclosed ≡ surveyOf o
+      pub walk-unclosed : away ≡ true → Stopped NotClosed ≡ surveyOf o
       walk-unclosed h = survey-unclosed (b .counted) (b .started) (b .lettered) t (sym (away-unclosed o b t e) ∙ h)
 
       module _ (h : away ≡ false) where

@@ -2,7 +2,7 @@
 use Prim.Native.Nat.{_-_}
 use mathlib.Core.Bool.{cond}
 use lib.Dec.{ltb}
-use Rattle.chart.specs.declared.Refusal.the-variants.{Count, Start, Letter, Leaves, Unclosed, Touches}
+use Rattle.chart.specs.declared.Refusal.the-variants.{Length, Start, Letter, OffChart, NotClosed, Touches}
 use Rattle.chart.specs.Outline.{Outline}
 use Rattle.lattice.specs.Chart.{size}
 use Rattle.lattice.specs.Refusals.{badCount, badStart, letterPlace, leavingPlace, unclosed, touchingPlace}
@@ -12,9 +12,9 @@ use Rattle.survey.specs.declared.Surveyed.the-variants.{Passed, Refused}
 
 unfoldable pub surveyOf : Outline → Surveyed
 surveyOf o =
-    cond (badCount (o .letters)) (Refused Count)
+    cond (badCount (o .letters)) (Refused Length)
     (cond (badStart (o .start)) (Refused Start)
     (cond (ltb (letterPlace (o .letters)) (size o)) (Refused (Letter (letterPlace (o .letters))))
-    (cond (ltb (leavingPlace o) (size o)) (Refused (Leaves (leavingPlace o)))
-    (cond (unclosed o) (Refused Unclosed)
+    (cond (ltb (leavingPlace o) (size o)) (Refused (OffChart (leavingPlace o)))
+    (cond (unclosed o) (Refused NotClosed)
     (cond (ltb (touchingPlace o) (size o - 1)) (Refused (Touches (touchingPlace o))) (Passed (cornersOf o)))))))

@@ -24,12 +24,12 @@ fn touched(start: Point, letters: &[u8], place: usize, number: u32) -> Surveyed
     let rest = survey_walk::walk_on(letters, place, number);
     let leaving = rest.leaves;
     if leaving < letters.len() {
-        return Surveyed::Refused(Refusal::Leaves {
+        return Surveyed::Refused(Refusal::OffChart {
             place: leaving as u16,
         });
     }
     if survey_walk::ends_away(start, rest.end) {
-        return Surveyed::Refused(Refusal::Unclosed);
+        return Surveyed::Refused(Refusal::NotClosed);
     }
     Surveyed::Refused(Refusal::Touches {
         place: (place - 1) as u16,
@@ -43,13 +43,13 @@ fn marked(start: Point, letters: &[u8]) -> Surveyed
 {
     let walk = survey_walk::along(start, letters);
     match walk {
-        Walk::Leaves { place } => Surveyed::Refused(Refusal::Leaves {
+        Walk::Leaves { place } => Surveyed::Refused(Refusal::OffChart {
             place: place as u16,
         }),
         Walk::Meets { place, number } => touched(start, letters, place, number),
         Walk::Round { end, corners } => {
             if survey_walk::ends_away(start, end) {
-                return Surveyed::Refused(Refusal::Unclosed);
+                return Surveyed::Refused(Refusal::NotClosed);
             }
             Surveyed::Passed(corners)
         }
@@ -65,10 +65,10 @@ fn walked(start: Point, letters: &[u8]) -> Surveyed
         let whole = survey_walk::walk_on(letters, 0, survey_walk::col_number(start));
         let left = whole.leaves;
         if left < letters.len() {
-            return Surveyed::Refused(Refusal::Leaves { place: left as u16 });
+            return Surveyed::Refused(Refusal::OffChart { place: left as u16 });
         }
         if survey_walk::ends_away(start, whole.end) {
-            return Surveyed::Refused(Refusal::Unclosed);
+            return Surveyed::Refused(Refusal::NotClosed);
         }
     }
     marked(start, letters)
@@ -79,7 +79,7 @@ pub fn survey(start: Point, letters: &[u8]) -> Surveyed
     ensures { λ r. ⌜ r ≡ surveyOf (outline start (now (letters .entry))) ⌝ }
 {
     if checks::bad_count(letters) {
-        return Surveyed::Refused(Refusal::Count);
+        return Surveyed::Refused(Refusal::Length);
     }
     if checks::bad_start(start) {
         return Surveyed::Refused(Refusal::Start);

@@ -5,7 +5,7 @@ use mathlib.Core.Bool.{Bool, true, false, cond}
 use lib.Dec.{ltb, eqb}
 use borrow.Author.Tests.{le-ltb, eqb-false}
 use Rattle.chart.specs.declared.Refusal.{Refusal}
-use Rattle.chart.specs.declared.Refusal.the-variants.{Count, Start, Letter, Leaves, Unclosed, Touches, Room}
+use Rattle.chart.specs.declared.Refusal.the-variants.{Length, Start, Letter, OffChart, NotClosed, Touches}
 use Rattle.chart.specs.declared.Verdict.{Verdict}
 use Rattle.chart.specs.declared.Verdict.the-variants.{Taken, Refused}
 use Rattle.chart.specs.Limits.{mostNumbers}
@@ -40,16 +40,17 @@ module _ (P : ℕ → Type 0) where
   room-link o (Refused f) e p = p
   room-link o (Taken n a) e p = rw (le-ltb mostNumbers (2 * n) (taken-fits o n a e)) p
 
-  -- What holds for 0, for 1 to 6 and for 8 and 9 holds for the number of a verdict. 2 needs a start off the chart
-  pub verdict-number : (o : Outline) → P 0 → P 1 → (badStart (o .start) ≡ true → P 2) → P 3 → P 4 → P 5 → P 6 → P 8 → P 9
-      → P (verdictFields (verdictOf o) .number)
-  unfolding verdictOf surveyOf afterSurvey borderVerdict roundVerdict backStepIn dentIn
-  verdict-number o p₀ p₁ p₂ p₃ p₄ p₅ p₆ p₈ p₉ =
-      survey-link (badCount (o .letters)) Count _ _ (λ e. p₁)
+  -- What holds for 0, for 1 to 6 and for 8 and 9 holds for a test's number. 2 needs a start off the chart
+  pub tested-number : (o : Outline) → P 0 → P 1 → (badStart (o .start) ≡ true → P 2) → P 3 → P 4 → P 5 → P 6 → P 8 → P 9
+      → P (testFields o mostNumbers .number)
+  unfolding testFields testOf verdictOf surveyOf afterSurvey borderVerdict roundVerdict backStepIn dentIn
+  tested-number o p₀ p₁ p₂ p₃ p₄ p₅ p₆ p₈ p₉ =
+      room-link o (verdictOf o) refl
+      (survey-link (badCount (o .letters)) Length _ _ (λ e. p₁)
       (survey-link (badStart (o .start)) Start _ _ p₂
       (survey-link (ltb (letterPlace (o .letters)) (size o)) (Letter (letterPlace (o .letters))) _ _ (λ e. p₃)
-      (survey-link (ltb (leavingPlace o) (size o)) (Leaves (leavingPlace o)) _ _ (λ e. p₄)
-      (survey-link (unclosed o) Unclosed _ _ (λ e. p₅)
+      (survey-link (ltb (leavingPlace o) (size o)) (OffChart (leavingPlace o)) _ _ (λ e. p₄)
+      (survey-link (unclosed o) NotClosed _ _ (λ e. p₅)
       (survey-link (ltb (touchingPlace o) (size o - 1)) (Touches (touchingPlace o)) _ _ (λ e. p₆)
       (link (ltb (backStepPiece (border o)) 4) _ _ p₈ (link (ltb (dentPiece (border o)) 4) _ _ p₉ p₀)))))))
 

@@ -16,7 +16,7 @@ use Rattle.base.proofs.BelowLaws.{first-le}
 use Rattle.chart.specs.declared.Point.{Point}
 use Rattle.chart.specs.Limits.{mostNumbers}
 use Rattle.chart.specs.declared.Refusal.{Refusal}
-use Rattle.chart.specs.declared.Refusal.the-variants.{Count, Start, Letter, Leaves, Unclosed, Touches, Room}
+use Rattle.chart.specs.declared.Refusal.the-variants.{Length, Start, Letter, OffChart, NotClosed, Touches, EdgeList}
 use Rattle.chart.specs.declared.Verdict.{Verdict}
 use Rattle.chart.specs.declared.Verdict.the-variants.{Taken, Refused}
 use Rattle.chart.specs.Outline.{Outline}
@@ -88,11 +88,11 @@ module _ (o : Outline) where
   pub simple-or-early : Simple o ⊎ Early 6 (verdictOf o)
   unfolding verdictOf surveyOf afterSurvey
   simple-or-early =
-      survey-link (badCount (o .letters)) Count _ _ (lit< tt) (lit≤ tt) λ counted.
+      survey-link (badCount (o .letters)) Length _ _ (lit< tt) (lit≤ tt) λ counted.
       survey-link (badStart (o .start)) Start _ _ (lit< tt) (lit≤ tt) λ started.
       survey-link (ltb (letterPlace (o .letters)) (size o)) (Letter (letterPlace (o .letters))) _ _ (lit< tt) (lit≤ tt) λ lettered.
-      survey-link (ltb (leavingPlace o) (size o)) (Leaves (leavingPlace o)) _ _ (lit< tt) (lit≤ tt) λ stays.
-      survey-link (unclosed o) Unclosed _ _ (lit< tt) (lit≤ tt) λ closed.
+      survey-link (ltb (leavingPlace o) (size o)) (OffChart (leavingPlace o)) _ _ (lit< tt) (lit≤ tt) λ stays.
+      survey-link (unclosed o) NotClosed _ _ (lit< tt) (lit≤ tt) λ closed.
       survey-link (ltb (touchingPlace o) (size o - 1)) (Touches (touchingPlace o)) _ _ (lit< tt) (lit≤ tt) λ simple.
       inl (record { counted = counted; started = started; lettered = lettered; stays = stays; closed = closed; simple = simple })
 
@@ -184,13 +184,28 @@ module _ (o : Outline) where
   pub nine-iff-dented : (verdictFields (verdictOf o) .number ≡ 9) ↔ Dented o
   nine-iff-dented = (dented-of-nine, nine-of-dented)
 
+  -- A verdict's number is at most 9
+  pub verdict-number : verdictFields (verdictOf o) .number ≤ 9
+  verdict-number = ⊎-elim reached early reaches-or-early
+    where
+      early : Early 8 (verdictOf o) → verdictFields (verdictOf o) .number ≤ 9
+      early e = omega (arith, e .early, ap (λ (v : Verdict). verdictFields v .number) (e .answer))
+
+      reached : Reaches o → verdictFields (verdictOf o) .number ≤ 9
+      reached r =
+          ⊎-elim (λ h. omega (arith, nine-of-dented (record { reaches = r; dented = h })))
+          (λ u. omega (arith, ap (λ (v : Verdict). verdictFields v .number) (verdict-taken r u))) (dented-or-not (border o))
+
+  pub refused-number : {f : Refusal} → verdictOf o ≡ Refused f → refusalFields f .number ≤ 9
+  refused-number e = omega (arith, verdict-number, ap (λ (v : Verdict). verdictFields v .number) e)
+
   -- ---- the room
 
   pub test-refused : (m : ℕ) (f : Refusal) → verdictOf o ≡ Refused f → testOf o m ≡ Refused f
   unfolding testOf withRoom
   test-refused m f e = rw e
 
-  pub test-short : (m n : ℕ) (a : Point) → verdictOf o ≡ Taken n a → m < 2 * n → testOf o m ≡ Refused (Room n)
+  pub test-short : (m n : ℕ) (a : Point) → verdictOf o ≡ Taken n a → m < 2 * n → testOf o m ≡ Refused (EdgeList n)
   unfolding testOf withRoom
   test-short m n a e h = rw (e, lt-ltb m (2 * n) h)
 

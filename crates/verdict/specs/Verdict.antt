@@ -9,7 +9,7 @@ use lib.IntN.{ℤ}
 use Rattle.chart.specs.declared.Point.{Point}
 use Rattle.chart.specs.declared.Fields.{Fields}
 use Rattle.chart.specs.declared.Refusal.{Refusal}
-use Rattle.chart.specs.declared.Refusal.the-variants.{BackStep, Dent, Room}
+use Rattle.chart.specs.declared.Refusal.the-variants.{BackStep, Dent, EdgeList}
 use Rattle.chart.specs.declared.Verdict.{Verdict}
 use Rattle.chart.specs.declared.Verdict.the-variants.{Taken, Refused}
 use Rattle.chart.specs.Outline.{Outline}
@@ -57,7 +57,7 @@ verdictOf o = afterSurvey (surveyOf o) (borderVerdict o)
 -- 10: a taken outline needs two numbers for each edge in a buffer of m
 unfoldable pub withRoom : ℕ → Verdict → Verdict
 withRoom m (Refused f) = Refused f
-withRoom m (Taken n a) = cond (ltb m (2 * n)) (Refused (Room n)) (Taken n a)
+withRoom m (Taken n a) = cond (ltb m (2 * n)) (Refused (EdgeList n)) (Taken n a)
 
 -- 1 to 10, or taken: what a test checks
 unfoldable pub testOf : Outline → ℕ → Verdict

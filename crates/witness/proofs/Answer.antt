@@ -9,9 +9,9 @@ use mathlib.Core.List.{List}
 use lib.ListN.{length}
 use borrow.Author.Tests.{lt-ltb, le-ltb}
 use Rattle.chart.specs.declared.Refusal.{Refusal}
-use Rattle.chart.specs.declared.Refusal.the-variants.{Count, Start, Letter, Leaves, Unclosed, Touches, BackStep, Dent, Room}
-use Rattle.chart.specs.declared.Refusal.the-variants.{List as BadList, Cell, Directions}
+use Rattle.chart.specs.declared.Refusal.the-variants.{EdgeList}
 use Rattle.chart.specs.Fields.{refusalFields}
+use Rattle.chart.proofs.RefusalLaws.{refusal-number}
 use Rattle.chart.specs.Outline.{Outline}
 use Rattle.lattice.specs.Refusals.{Simple}
 use Rattle.survey.specs.declared.Surveyed.{Surveyed}
@@ -27,21 +27,6 @@ use Rattle.witness.specs.Witnessed.{cellsAfter}
 use Rattle.witness.specs.Named.{cellIn, WitnessNamed}
 use Rattle.witness.proofs.Theorem.{missing-lowest, missing-none, witness-holds}
 
--- A refusal has a number above 0
-above : (f : Refusal) → 0 < refusalFields f .number
-above Count = omega arith
-above Start = omega arith
-above (Letter p) = omega arith
-above (Leaves p) = omega arith
-above Unclosed = omega arith
-above (Touches p) = omega arith
-above (BackStep k p) = omega arith
-above (Dent k p l x) = omega arith
-above (Room e) = omega arith
-above BadList = omega arith
-above Cell = omega arith
-above Directions = omega arith
-
 module _ (o : Outline) where
   -- ---- the reply
 
@@ -53,7 +38,7 @@ module _ (o : Outline) where
   unfolding witnessedOf pastSurvey
   answer-passed n e = rw e
 
-  pub shown-short : (n : ℕ) → n < sixNumbers → Refused BadList ≡ shownIn n o
+  pub shown-short : (n : ℕ) → n < sixNumbers → Refused (EdgeList 0) ≡ shownIn n o
   unfolding shownIn
   shown-short n l = rw (lt-ltb n sixNumbers l)
 
@@ -76,7 +61,7 @@ module _ (o : Outline) where
     refused : (f : Refusal) → (Simple o → sixNumbers ≤ length l → ⊥) → Named (Refused f)
     unfolding witnessedFields shownAfter
     refused f out =
-        let some : (refusalFields f .number ≡ 0) → ⊥ = λ z. omega (arith, above f) in
+        let some : (refusalFields f .number ≡ 0) → ⊥ = λ z. omega (arith, refusal-number f) in
         record {
           answers = (λ z. absurd (some z), λ p. absurd (out (p .0) (p .1)));
           full = λ z. absurd (some z);
@@ -128,7 +113,7 @@ module _ (o : Outline) where
         go (Passed c) e =
             rw (← answer-passed (length l) e)
             (elim (decLt (length l) sixNumbers) [
-              | yes m ↦ rw (← shown-short (length l) m) (refused BadList (λ h r. omega arith))
+              | yes m ↦ rw (← shown-short (length l) m) (refused (EdgeList 0) (λ h r. omega arith))
               | no m ↦ passed (survey-simple o e) (omega arith)
             ])
         go (Stopped f) e =

@@ -6,7 +6,7 @@ use mathlib.Core.List.{List, [], _∷_, _++_}
 use lib.ListN.{length, drop}
 use lib.Dec.{ltb}
 use Rattle.chart.specs.declared.Fields.{Fields}
-use Rattle.chart.specs.declared.Refusal.the-variants.{List as BadList}
+use Rattle.chart.specs.declared.Refusal.the-variants.{EdgeList}
 use Rattle.chart.specs.Fields.{no-word, worded, accepted, refusalFields}
 use Rattle.chart.specs.Outline.{Outline}
 use Rattle.calls.specs.Replies.{none}
@@ -24,7 +24,7 @@ sixNumbers = 6
 
 -- For an outline that passes 1 to 6, with a buffer of n numbers: 10, the lowest missing cell, or none
 unfoldable pub shownIn : ℕ → Outline → Witnessed
-shownIn n o = cond (ltb n sixNumbers) (Refused BadList) (cond (isMissing o) (Found (lowestMissing o)) None)
+shownIn n o = cond (ltb n sixNumbers) (Refused (EdgeList 0)) (cond (isMissing o) (Found (lowestMissing o)) None)
 
 -- The refusal of 1 to 6, or the given result
 unfoldable pub pastSurvey : Surveyed → Witnessed → Witnessed

@@ -6,7 +6,7 @@ use mathlib.Core.List.{List, _++_}
 use lib.ListN.{length, drop}
 use Rattle.chart.specs.declared.Point.{Point}
 use Rattle.chart.specs.declared.Refusal.{Refusal}
-use Rattle.chart.specs.declared.Refusal.the-variants.{List as BadList}
+use Rattle.chart.specs.declared.Refusal.the-variants.{EdgeList}
 use Rattle.chart.specs.Outline.{Outline}
 use Rattle.survey.specs.declared.Surveyed.the-variants.{Passed, Refused as Stopped}
 use Rattle.survey_walk.specs.declared.Corners.{Corners}
@@ -28,7 +28,7 @@ module _ (o : Outline) (l : List ℕ) where
   shows : {r : Witnessed} {after : List ℕ} → r ≡ shownIn (length l) o → after ≡ shownAfter r (witnessOf o) l → Shows r after
   shows e d = (e, d ∙ ap (λ (w : Witnessed). shownAfter w (witnessOf o) l) e)
 
-  pub short-shown : length l < sixNumbers → Shows (Refused BadList) l
+  pub short-shown : length l < sixNumbers → Shows (Refused (EdgeList 0)) l
   unfolding shownAfter
   short-shown m = shows (shown-short o (length l) m) refl
 

@@ -38,7 +38,7 @@ fn show(start: Point, letters: &[u8], cells: &mut [u16]) -> Witnessed
         (witnessOf (outline start (now (letters .entry)))) (now (cells .entry)) ⌝ }
 {
     if cells.len() < SIX {
-        return Witnessed::Refused(Refusal::List);
+        return Witnessed::Refused(Refusal::EdgeList { edges: 0 });
     }
     let shown = witness_search::find(start, letters);
     if shown.found {

@@ -29,7 +29,7 @@ returns-6 : tie.Need-returns-6
 returns-6 c = shown (c .before .before .f3 .given .1) (c .placed3 .ensures)
 
 returns-7 : tie.Need-returns-7
-returns-7 c = cc
+returns-7 c = shown (c .before .before .f4 .given .1) (c .pieced .ensures)
 
 returns-8 : tie.Need-returns-8
 returns-8 c = sym (ap refusalFields (c .before .f5 .given .1))
@@ -46,11 +46,49 @@ returns-11 c = shown (c .before .enum-told5 .given .1) (c .numbered5 .ensures)
 returns-12 : tie.Need-returns-12
 returns-12 c = shown (c .before .enum-told6 .given .1) (c .numbered6 .ensures)
 
+returns-13 : tie.Need-returns-13
+returns-13 c = shown (c .before .enum-told7 .given .1) (c .numbered7 .ensures)
+
+returns-14 : tie.Need-returns-14
+returns-14 c = shown (c .before .enum-told8 .given .1) (c .numbered8 .ensures)
+
+returns-15 : tie.Need-returns-15
+returns-15 c = shown (c .before .enum-told9 .given .1) (c .numbered9 .ensures)
+
+returns-16 : tie.Need-returns-16
+returns-16 c = shown (c .before .enum-told10 .given .1) (c .numbered10 .ensures)
+
+returns-17 : tie.Need-returns-17
+returns-17 c = shown (c .before .before .f7 .given .1) (c .placed5 .ensures)
+
+returns-18 : tie.Need-returns-18
+returns-18 c = shown (c .before .enum-told11 .given .1) (c .numbered11 .ensures)
+
+returns-19 : tie.Need-returns-19
+returns-19 c = shown (c .before .enum-told12 .given .1) (c .numbered12 .ensures)
+
+returns-20 : tie.Need-returns-20
+returns-20 c = shown (c .before .before .f8 .given .1) (c .pieced2 .ensures)
+
+returns-21 : tie.Need-returns-21
+returns-21 c = shown (c .before .enum-told13 .given .1) (c .numbered13 .ensures)
+
+returns-22 : tie.Need-returns-22
+returns-22 c = shown (c .before .enum-told14 .given .1) (c .numbered14 .ensures)
+
+returns-23 : tie.Need-returns-23
+returns-23 c = shown (c .before .enum-told15 .given .1) (c .numbered15 .ensures)
+
 pub of-refusal-spec : {M : Type 1} → statement M
 of-refusal-spec =
     tie.close
     (tie.spec (λ c. search needs) (λ c κs. search needs) (λ c. search needs) (λ c κs. search needs) (λ c. search needs)
     (λ c κs. search needs) (λ c. search needs) (λ c κs. search needs) (λ c. search needs) (λ c κs. search needs) (λ c. search needs)
-    (λ c κs. search needs) (λ c. search needs) (λ c. search needs) (λ c. search needs) (λ c κs. search needs) (λ c. search needs)
-    (λ c κs. search needs) (λ c. search needs) (λ c κs. search needs) (λ c. search needs) (λ c κs. search needs) returns returns-2
-    returns-3 returns-4 returns-5 returns-6 returns-7 returns-8 returns-9 returns-10 returns-11 returns-12)
+    (λ c κs. search needs) (λ c. search needs) (λ c κs. search needs) (λ c. search needs) (λ c. search needs) (λ c κs. search needs)
+    (λ c. search needs) (λ c κs. search needs) (λ c. search needs) (λ c κs. search needs) (λ c. search needs) (λ c κs. search needs)
+    (λ c. search needs) (λ c κs. search needs) (λ c. search needs) (λ c κs. search needs) (λ c. search needs) (λ c κs. search needs)
+    (λ c. search needs) (λ c κs. search needs) (λ c. search needs) (λ c κs. search needs) (λ c. search needs) (λ c κs. search needs)
+    (λ c. search needs) (λ c κs. search needs) (λ c. search needs) (λ c κs. search needs) (λ c. search needs) (λ c κs. search needs)
+    (λ c. search needs) (λ c κs. search needs) (λ c. search needs) (λ c κs. search needs) returns returns-2 returns-3 returns-4 returns-5
+    returns-6 returns-7 returns-8 returns-9 returns-10 returns-11 returns-12 returns-13 returns-14 returns-15 returns-16 returns-17
+    returns-18 returns-19 returns-20 returns-21 returns-22 returns-23)
