@@ -12,13 +12,14 @@ use Rattle.base.proofs.BelowLaws.{not-held, or-false-iff}
 use Rattle.chart.specs.Limits.{shortest, longest}
 use Rattle.chart.specs.declared.Point.{Point}
 use Rattle.chart.specs.Outline.{outline}
+use Rattle.chart.specs.declared.Refusal.the-variants.{NoOutline, LetterBuffer}
 use Rattle.lattice.specs.Refusals.{badCount}
 use Rattle.convexity.specs.Edges.{pairs}
 use Rattle.convexity.specs.FromEdges.{lettersFrom, stepCount}
 use Rattle.convexity.proofs.FromEdges.{length-letters}
 use Rattle.directions.specs.Increasing.{badDirections}
 use Rattle.polygon.specs.Loose.{badList, badCell}
-use Rattle.border_model.specs.declared.Traced.the-variants.{Written, NoOutline, NoRoom}
+use Rattle.border_model.specs.declared.Traced.the-variants.{Written, Refused}
 use Rattle.border_model.specs.Outlined.{takenAs, outlined}
 use Rattle.border_model.specs.Named.{Answers}
 use Rattle.border_model.proofs.Outlines.{taken-has, takenAs-iff}
@@ -39,7 +40,7 @@ module _ (a : Point) (es : List ℤ) where
 
   module _ (buffer : List ℕ) (listed : badList es ≡ false) (anchored : badCell a ≡ false) (turned : badDirections es ≡ false) {n : ℕ}
       (e : n ≡ 4 + stepCount (pairs es)) where
-    pub long-none : longest < n → Answers a es buffer buffer NoOutline
+    pub long-none : longest < n → Answers a es buffer buffer (Refused NoOutline)
     long-none h = traced-none a es buffer listed anchored turned (too-many (omega arith))
 
     -- The letters built are the first n of a list
@@ -54,11 +55,11 @@ module _ (a : Point) (es : List ℤ) where
       unfolding outlined
       tested = rw letters-are
 
-      pub untaken-none : takenAs (outline a (take n list)) a es ≡ false → Answers a es buffer buffer NoOutline
+      pub untaken-none : takenAs (outline a (take n list)) a es ≡ false → Answers a es buffer buffer (Refused NoOutline)
       untaken-none h = traced-none a es buffer listed anchored turned (sym tested ∙ h)
 
       module _ (h : takenAs (outline a (take n list)) a es ≡ true) where
-        pub short-none : length buffer < n → Answers a es buffer buffer NoRoom
+        pub short-none : length buffer < n → Answers a es buffer buffer (Refused (LetterBuffer 0))
         short-none l = traced-short a es buffer listed anchored turned (sym tested ∙ h) (omega (arith, count-is))
 
         pub copied : {after : List ℕ} → n ≤ length buffer → after ≡ take n list ++ drop n buffer → Answers a es buffer after (Written n)

@@ -81,15 +81,15 @@ fn trace(anchor: Point, edges: &[i16], letters: &mut [u8]) -> Traced
 {
     let n = count(edges);
     if LONGEST < n {
-        return Traced::NoOutline;
+        return Traced::Refused(Refusal::NoOutline);
     }
     let mut list = [0u8; LONGEST];
     writer::build(edges, &mut list);
     if !taken_as(anchor, &list[..n], edges) {
-        return Traced::NoOutline;
+        return Traced::Refused(Refusal::NoOutline);
     }
     if letters.len() < n {
-        return Traced::NoRoom;
+        return Traced::Refused(Refusal::LetterBuffer { letters: 0 });
     }
     copy(&list, n, letters);
     Traced::Written { letters: n as u16 }

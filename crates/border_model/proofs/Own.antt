@@ -12,6 +12,7 @@ use lib.IntN.{ℤ}
 use Rattle.chart.specs.Limits.{longest}
 use Rattle.chart.specs.declared.Point.{Point}
 use Rattle.chart.specs.Outline.{Outline}
+use Rattle.chart.specs.declared.Refusal.the-variants.{LetterBuffer}
 use Rattle.lattice.specs.Chart.{size}
 use Rattle.lattice.specs.Refusals.{Simple}
 use Rattle.lattice.proofs.WalkLaws.{walked, length-rotation}
@@ -24,7 +25,7 @@ use Rattle.convexity.proofs.Border.{border-form}
 use Rattle.directions.specs.Increasing.{badDirections}
 use Rattle.directions.proofs.Taken.{taken-passes}
 use Rattle.polygon.proofs.Taken.{taken-listed, taken-anchored}
-use Rattle.border_model.specs.declared.Traced.the-variants.{Written, NoRoom}
+use Rattle.border_model.specs.declared.Traced.the-variants.{Written, Refused}
 use Rattle.border_model.specs.Outlined.{TakenAs}
 use Rattle.border_model.specs.Traced.{tracedOf, tracedFields, lettersAfter}
 use Rattle.border_model.proofs.Outlines.{taken-has, outlined-iff}
@@ -70,7 +71,7 @@ module _ {o : Outline} {a : Point} {es : List ℤ} (t : TakenAs o a es) where
 
   -- With a buffer that is too short the reply is 18, and the buffer is unchanged
   pub own-short : (buffer : List ℕ) → length buffer < size o
-      → (tracedOf a es (length buffer) ≡ NoRoom) × (lettersAfter a es buffer ≡ buffer)
+      → (tracedOf a es (length buffer) ≡ Refused (LetterBuffer 0)) × (lettersAfter a es buffer ≡ buffer)
   own-short buffer short =
       let w =
       traced-short a es buffer (taken-listed (taken-has t)) (taken-anchored (taken-has t)) turned (outlined-iff a es .1 (o, t))

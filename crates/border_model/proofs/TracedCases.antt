@@ -11,13 +11,13 @@ use lib.IntN.{ℤ}
 use borrow.Author.Tests.{lt-ltb, le-ltb}
 use Rattle.chart.specs.declared.Point.{Point}
 use Rattle.chart.specs.declared.Refusal.{Refusal}
-use Rattle.chart.specs.declared.Refusal.the-variants.{EdgeList, Cell, Directions}
+use Rattle.chart.specs.declared.Refusal.the-variants.{EdgeList, Cell, Directions, NoOutline, LetterBuffer}
 use Rattle.chart.specs.Fields.{refusalFields}
 use Rattle.convexity.specs.FromEdges.{lettersFrom}
 use Rattle.directions.specs.Increasing.{badDirections}
 use Rattle.polygon.specs.Loose.{badList, badCell}
 use Rattle.border_model.specs.declared.Traced.{Traced}
-use Rattle.border_model.specs.declared.Traced.the-variants.{Written, Refused, NoOutline, NoRoom}
+use Rattle.border_model.specs.declared.Traced.the-variants.{Written, Refused}
 use Rattle.border_model.specs.Outlined.{outlined}
 use Rattle.border_model.specs.Traced.{lettersIn, tracedOf, tracedFields, writtenAfter, lettersAfter}
 use Rattle.border_model.specs.Named.{BorderNamed, Answers}
@@ -31,7 +31,7 @@ module _ (a : Point) (es : List ℤ) where
       → BorderNamed a es (refusalFields f) after
   unnamed f after s h = record { none = λ e. absurd (omega arith); some = λ e. absurd (omega arith); written = λ e. absurd (omega arith) }
 
-  unoutlined : (after : List ℕ) → outlined a es ≡ false → BorderNamed a es (tracedFields NoOutline) after
+  unoutlined : (after : List ℕ) → outlined a es ≡ false → BorderNamed a es (tracedFields (Refused NoOutline)) after
   unfolding tracedFields
   unoutlined after e =
       record {
@@ -40,7 +40,7 @@ module _ (a : Point) (es : List ℤ) where
         written = λ p. absurd (omega arith);
       }
 
-  short : (after : List ℕ) → outlined a es ≡ true → BorderNamed a es (tracedFields NoRoom) after
+  short : (after : List ℕ) → outlined a es ≡ true → BorderNamed a es (tracedFields (Refused (LetterBuffer 0))) after
   unfolding tracedFields
   short after e = record { none = λ p. absurd (omega arith); some = λ p. outlined-iff a es .0 e; written = λ p. absurd (omega arith) }
 
@@ -79,15 +79,15 @@ module _ (a : Point) (es : List ℤ) (buffer : List ℕ) where
           left (Refused Directions) (rw (listed, anchored, e)) refl (unnamed a es Directions buffer (omega arith) (omega arith))
 
       module _ (turned : badDirections es ≡ false) where
-        pub traced-none : outlined a es ≡ false → Answers a es buffer buffer NoOutline
+        pub traced-none : outlined a es ≡ false → Answers a es buffer buffer (Refused NoOutline)
         unfolding tracedOf writtenAfter
-        traced-none e = left NoOutline (rw (listed, anchored, turned, e)) refl (unoutlined a es buffer e)
+        traced-none e = left (Refused NoOutline) (rw (listed, anchored, turned, e)) refl (unoutlined a es buffer e)
 
         module _ (some : outlined a es ≡ true) where
-          pub traced-short : length buffer < length (lettersFrom es) → Answers a es buffer buffer NoRoom
+          pub traced-short : length buffer < length (lettersFrom es) → Answers a es buffer buffer (Refused (LetterBuffer 0))
           unfolding tracedOf lettersIn writtenAfter
           traced-short h =
-              left NoRoom (rw (listed, anchored, turned, some, lt-ltb (length buffer) (length (lettersFrom es)) h)) refl
+              left (Refused (LetterBuffer 0)) (rw (listed, anchored, turned, some, lt-ltb (length buffer) (length (lettersFrom es)) h)) refl
               (short a es buffer some)
 
           written : length (lettersFrom es) ≤ length buffer → Written (length (lettersFrom es)) ≡ tracedOf a es (length buffer)

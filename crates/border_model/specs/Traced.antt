@@ -7,40 +7,35 @@ use lib.Dec.{ltb}
 use lib.IntN.{ℤ}
 use Rattle.chart.specs.declared.Point.{Point}
 use Rattle.chart.specs.declared.Fields.{Fields}
-use Rattle.chart.specs.declared.Refusal.the-variants.{EdgeList, Cell, Directions}
-use Rattle.chart.specs.Fields.{numbered, placed, refusalFields}
-use Rattle.chart.specs.Refusals.{no-outline, letter-buffer}
+use Rattle.chart.specs.declared.Refusal.the-variants.{EdgeList, Cell, Directions, NoOutline, LetterBuffer}
+use Rattle.chart.specs.Fields.{placed, refusalFields}
 use Rattle.convexity.specs.FromEdges.{lettersFrom}
 use Rattle.directions.specs.Increasing.{badDirections}
 use Rattle.polygon.specs.Loose.{badList, badCell}
 use Rattle.border_model.specs.declared.Traced.{Traced}
-use Rattle.border_model.specs.declared.Traced.the-variants.{Written, Refused, NoOutline, NoRoom}
+use Rattle.border_model.specs.declared.Traced.the-variants.{Written, Refused}
 use Rattle.border_model.specs.Outlined.{outlined}
 
 -- 18, or the count of letters, with a buffer of n
 unfoldable pub lettersIn : ℕ → List ℕ → Traced
-lettersIn n w = cond (ltb n (length w)) NoRoom (Written (length w))
+lettersIn n w = cond (ltb n (length w)) (Refused (LetterBuffer 0)) (Written (length w))
 
 unfoldable pub tracedOf : Point → List ℤ → ℕ → Traced
 tracedOf a es n =
     cond (badList es) (Refused (EdgeList 0))
     (cond (badCell a) (Refused Cell)
     (cond (badDirections es) (Refused Directions)
-    (cond (not (outlined a es)) NoOutline (lettersIn n (lettersFrom es)))))
+    (cond (not (outlined a es)) (Refused NoOutline) (lettersIn n (lettersFrom es)))))
 
 -- The reply's fields
 unfoldable pub tracedFields : Traced → Fields
 tracedFields (Written n) = placed 0 n
 tracedFields (Refused f) = refusalFields f
-tracedFields NoOutline = numbered no-outline
-tracedFields NoRoom = numbered letter-buffer
 
 -- The buffer afterwards. The letters stand first and the rest is unchanged. A refused call changes nothing
 unfoldable pub writtenAfter : Traced → List ℕ → List ℕ → List ℕ
 writtenAfter (Written n) w buffer = w ++ drop (length w) buffer
 writtenAfter (Refused f) w buffer = buffer
-writtenAfter NoOutline w buffer = buffer
-writtenAfter NoRoom w buffer = buffer
 
 unfoldable pub lettersAfter : Point → List ℤ → List ℕ → List ℕ
 lettersAfter a es buffer = writtenAfter (tracedOf a es (length buffer)) (lettersFrom es) buffer

@@ -7,10 +7,6 @@ pub mod written;
 pub enum Traced {
     // This many letters were written.
     Written { letters: u16 },
-    // 10, 11 or 16.
+    // 10, 11, 16, 17 or 18.
     Refused(Refusal),
-    // 17. No outline is taken with this anchor and these edges.
-    NoOutline,
-    // 18. The buffer for letters is too short.
-    NoRoom,
 }

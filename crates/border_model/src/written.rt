@@ -1,7 +1,6 @@
 // The reply's number and fields (contract 4).
 use crate::Traced;
 use chart::Fields;
-use chart::refusals;
 use chart::reply;
 ghost use mathlib.Core.Path.{_≡_};
 ghost use Rattle.border_model.specs.Traced.{tracedFields};
@@ -12,7 +11,5 @@ pub fn of_traced(t: Traced) -> Fields
     match t {
         Traced::Written { letters } => reply::placed(0, letters),
         Traced::Refused(why) => reply::of_refusal(why),
-        Traced::NoOutline => reply::numbered(refusals::NO_OUTLINE),
-        Traced::NoRoom => reply::numbered(refusals::LETTER_BUFFER),
     }
 }

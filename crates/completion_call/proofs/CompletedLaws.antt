@@ -11,6 +11,7 @@ use borrow.Author.Tests.{lt-ltb, le-ltb}
 use Rattle.chart.specs.Limits.{mostNumbers}
 use Rattle.chart.specs.declared.Point.{Point}
 use Rattle.chart.specs.declared.Refusal.{Refusal}
+use Rattle.chart.specs.declared.Refusal.the-variants.{LetterBuffer}
 use Rattle.chart.specs.declared.Verdict.{Verdict}
 use Rattle.chart.specs.declared.Verdict.the-variants.{Taken, Refused as TurnedBack}
 use Rattle.chart.specs.Outline.{Outline, outline, at}
@@ -36,7 +37,7 @@ use Rattle.completion.specs.Complete.{complete as completionOf}
 use Rattle.completion.specs.parts.Written.{writtenFrom}
 use Rattle.completion.proofs.Theorem.{complete-simple, complete-hull}
 use Rattle.completion.proofs.Answers.{complete-taken-as}
-use Rattle.completion_call.specs.declared.Completed.the-variants.{Written, Refused, NoRoom}
+use Rattle.completion_call.specs.declared.Completed.the-variants.{Written, Refused}
 use Rattle.completion_call.specs.Completion.{lettersIn, afterSurvey, completedOf, completedFields, writtenAfter, completionAfter}
 use Rattle.completion_call.specs.Named.{outlineIn, Completes}
 use Rattle.completion_call.specs.parts.Answers.{Answers}
@@ -49,13 +50,13 @@ stopped-number o {f} e = (refusal-number f, omega (arith, refused-number o {f = 
 
 -- ---- the cases
 
-letters-short : (n : ℕ) (v : Outline) → n < size v → lettersIn n v ≡ NoRoom
+letters-short : (n : ℕ) (v : Outline) → n < size v → lettersIn n v ≡ Refused (LetterBuffer 0)
 unfolding lettersIn
-letters-short n v l = ap (λ (b : Bool). cond b NoRoom (Written (size v) (v .start))) (lt-ltb n (size v) l)
+letters-short n v l = ap (λ (b : Bool). cond b (Refused (LetterBuffer 0)) (Written (size v) (v .start))) (lt-ltb n (size v) l)
 
 letters-written : (n : ℕ) (v : Outline) → size v ≤ n → lettersIn n v ≡ Written (size v) (v .start)
 unfolding lettersIn
-letters-written n v l = ap (λ (b : Bool). cond b NoRoom (Written (size v) (v .start))) (le-ltb n (size v) l)
+letters-written n v l = ap (λ (b : Bool). cond b (Refused (LetterBuffer 0)) (Written (size v) (v .start))) (le-ltb n (size v) l)
 
 module _ (o : Outline) (n : ℕ) where
   pub completed-stopped : {f : Refusal} → surveyOf o ≡ Stopped f → completedOf o n ≡ Refused f
@@ -66,7 +67,7 @@ module _ (o : Outline) (n : ℕ) where
   unfolding completedOf afterSurvey
   past-survey h = ap (λ (s : Surveyed). afterSurvey s (lettersIn n (border (completionOf o)))) (sym (survey-passed o h))
 
-  pub completed-short : Simple o → n < size (border (completionOf o)) → completedOf o n ≡ NoRoom
+  pub completed-short : Simple o → n < size (border (completionOf o)) → completedOf o n ≡ Refused (LetterBuffer 0)
   completed-short h l = past-survey h ∙ letters-short n (border (completionOf o)) l
 
   pub completed-written : Simple o → size (border (completionOf o)) ≤ n
@@ -132,7 +133,7 @@ module _ (o : Outline) (buffer : List ℕ) where
         named = record { drawn = λ q. absurd (omega arith); completes = λ q. absurd (omega arith); short = λ q. absurd (omega arith) };
       }
 
-  pub short-answers : Simple o → length buffer < size (border (completionOf o)) → Answers o buffer buffer NoRoom
+  pub short-answers : Simple o → length buffer < size (border (completionOf o)) → Answers o buffer buffer (Refused (LetterBuffer 0))
   unfolding completionAfter writtenAfter completedFields
   short-answers h l =
       let said = completed-short o (length buffer) h l in
@@ -167,7 +168,7 @@ module _ (o : Outline) (buffer : List ℕ) where
       }
 
   module _ (h : Simple o) {begins ends : List ℕ} {b t m n : ℕ} (f : HullOf o begins ends b t m n) where
-    pub hull-short : length buffer < n → Answers o buffer buffer NoRoom
+    pub hull-short : length buffer < n → Answers o buffer buffer (Refused (LetterBuffer 0))
     hull-short l = short-answers h (omega (arith, f .count))
 
     pub hull-room : n ≤ length buffer → length (writtenFrom (rows begins) (rows ends) b t m) ≤ length buffer

@@ -6,8 +6,8 @@ use lib.ListN.{length, drop}
 use lib.Dec.{ltb}
 use Rattle.chart.specs.declared.Fields.{Fields}
 use Rattle.chart.specs.Outline.{Outline}
-use Rattle.chart.specs.Fields.{numbered, accepted, no-word, refusalFields}
-use Rattle.chart.specs.Refusals as refusals
+use Rattle.chart.specs.Fields.{accepted, no-word, refusalFields}
+use Rattle.chart.specs.declared.Refusal.the-variants.{LetterBuffer}
 use Rattle.lattice.specs.Chart.{size}
 use Rattle.survey.specs.declared.Surveyed.{Surveyed}
 use Rattle.survey.specs.declared.Surveyed.the-variants.{Passed, Refused as Stopped}
@@ -15,11 +15,11 @@ use Rattle.survey.specs.Survey.{surveyOf}
 use Rattle.convexity.specs.Clockwise.{border}
 use Rattle.completion.specs.Complete.{complete as completionOf}
 use Rattle.completion_call.specs.declared.Completed.{Completed}
-use Rattle.completion_call.specs.declared.Completed.the-variants.{Written, Refused, NoRoom}
+use Rattle.completion_call.specs.declared.Completed.the-variants.{Written, Refused}
 
 -- 18, or the count of letters of v and the corner where they start, with a buffer of n
 unfoldable pub lettersIn : ℕ → Outline → Completed
-lettersIn n v = cond (ltb n (size v)) NoRoom (Written (size v) (v .start))
+lettersIn n v = cond (ltb n (size v)) (Refused (LetterBuffer 0)) (Written (size v) (v .start))
 
 -- The refusal of 1 to 6, or the given result
 unfoldable pub afterSurvey : Surveyed → Completed → Completed
@@ -33,13 +33,11 @@ completedOf o n = afterSurvey (surveyOf o) (lettersIn n (border (completionOf o)
 unfoldable pub completedFields : Completed → Fields
 completedFields (Written n s) = accepted no-word n s
 completedFields (Refused f) = refusalFields f
-completedFields NoRoom = numbered refusals.letter-buffer
 
 -- The buffer afterwards. The letters stand first and the rest is unchanged. A refused call changes nothing
 unfoldable pub writtenAfter : Completed → List ℕ → List ℕ → List ℕ
 writtenAfter (Written n s) w buffer = w ++ drop (length w) buffer
 writtenAfter (Refused f) w buffer = buffer
-writtenAfter NoRoom w buffer = buffer
 
 unfoldable pub completionAfter : Outline → List ℕ → List ℕ
 completionAfter o buffer = writtenAfter (completedOf o (length buffer)) (border (completionOf o) .letters) buffer

@@ -22,10 +22,8 @@ pub mod written;
 pub enum Completed {
     // This many letters were written. They start at this corner.
     Written { letters: u16, start: Point },
-    // 1 to 6.
+    // 1 to 6, or 18.
     Refused(Refusal),
-    // 18. The buffer for letters is too short.
-    NoRoom,
 }
 
 // A 16-bit number as an index.
@@ -54,7 +52,7 @@ fn write_letters(start: Point, letters: &[u8], out: &mut [u8]) -> Completed
     let columns = wide(ends[east] - begins[west]);
     let count = 2 * (t - b) + 2 * columns;
     if out.len() < count {
-        return Completed::NoRoom;
+        return Completed::Refused(Refusal::LetterBuffer { letters: 0 });
     }
     round(&begins, &ends, b, t, west, out);
     let corner = Point {

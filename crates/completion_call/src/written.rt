@@ -1,7 +1,6 @@
 // The reply's number and fields (contract 4).
 use crate::Completed;
 use chart::Fields;
-use chart::refusals;
 use chart::reply;
 ghost use mathlib.Core.Path.{_≡_};
 ghost use Rattle.completion_call.specs.Completion.{completedFields};
@@ -12,6 +11,5 @@ pub fn of_completed(c: Completed) -> Fields
     match c {
         Completed::Written { letters, start } => reply::accepted(reply::NO_WORD, letters, start),
         Completed::Refused(why) => reply::of_refusal(why),
-        Completed::NoRoom => reply::numbered(refusals::LETTER_BUFFER),
     }
 }

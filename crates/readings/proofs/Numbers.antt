@@ -155,7 +155,8 @@ unfolding lt eq le
 not-near nan h = refl
 not-near (inf true) h = absurd (true≢false h)
 not-near (inf false) h = refl
-not-near (fin true m e) h = absurd (true≢false (sym (lt-ltb 0 (m * up e * down (negsuc 5) + 1 * up (negsuc 5) * down e) (omega (arith, unit e))) ∙ h))
+not-near (fin true m e) h =
+    absurd (true≢false (sym (lt-ltb 0 (m * up e * down (negsuc 5) + 1 * up (negsuc 5) * down e) (omega (arith, unit e))) ∙ h))
 not-near (fin false m e) h = go (m * up e * down (negsuc 5)) (1 * up (negsuc 5) * down e) (unit e)
   where
     go : (a b : ℕ) → 0 < b → (eqb a b && eqb a 0) ≡ false

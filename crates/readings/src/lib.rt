@@ -18,7 +18,7 @@ mod walk;
 // The last column and the last row.
 const LAST: u16 = SIDE - 1;
 
-// Where a reading lies. `Refused` is 11.
+// Where a reading lies. 11 is its only refusal: `Refused` has no other to name, and `reply` says which it is.
 pub enum Located {
     Inside,
     Outside,

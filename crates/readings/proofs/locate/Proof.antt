@@ -122,7 +122,8 @@ loop-again : tie.Need-loop-again Inv-loop μ-loop
 loop-again c =
     let p = c .before .before .before in
     let t = p .before .before .before in
-    walked-edge (t .before .loop .inv) (more t) (fits-x (p .before .before)) (fits-y (p .before)) (sym (pass-is p) ∙ c .before .next .given .1)
+    walked-edge (t .before .loop .inv) (more t) (fits-x (p .before .before)) (fits-y (p .before))
+    (sym (pass-is p) ∙ c .before .next .given .1)
 
 settle-requires : tie.Need-settle-requires Inv-loop μ-loop
 settle-requires c κs =

@@ -13,16 +13,7 @@ returns-2 : tie.Need-returns-2
 unfolding tracedFields
 returns-2 c = c .of-refusal .ensures ∙ sym (ap tracedFields (c .before .before .t2 .given .1))
 
-returns-3 : tie.Need-returns-3
-unfolding tracedFields
-returns-3 c = cc
-
-returns-4 : tie.Need-returns-4
-unfolding tracedFields
-returns-4 c = cc
-
 pub of-traced-spec : {M : Type 1} → statement M
 of-traced-spec =
     tie.close
-    (tie.spec (λ c. search needs) (λ c κs. search needs) (λ c. search needs) (λ c κs. search needs) (λ c. search needs)
-    (λ c κs. search needs) (λ c. search needs) (λ c κs. search needs) returns returns-2 returns-3 returns-4)
+    (tie.spec (λ c. search needs) (λ c κs. search needs) (λ c. search needs) (λ c κs. search needs) returns returns-2)

@@ -13,12 +13,7 @@ returns-2 : tie.Need-returns-2
 unfolding completedFields
 returns-2 c = c .of-refusal .ensures ∙ sym (ap completedFields (c .before .before .c2 .given .1))
 
-returns-3 : tie.Need-returns-3
-unfolding completedFields
-returns-3 c = cc
-
 pub of-completed-spec : {M : Type 1} → statement M
 of-completed-spec =
     tie.close
-    (tie.spec (λ c. search needs) (λ c κs. search needs) (λ c. search needs) (λ c κs. search needs) (λ c. search needs)
-    (λ c κs. search needs) returns returns-2 returns-3)
+    (tie.spec (λ c. search needs) (λ c κs. search needs) (λ c. search needs) (λ c κs. search needs) returns returns-2)

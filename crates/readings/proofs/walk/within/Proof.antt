@@ -32,7 +32,8 @@ exact : (c : tie.After-struct-told2) → Exact binary32 (c .before .before .args
 exact c = let s = c .before .before in good-exact (s .args .x) (subst T (sym (s .good .1 .0 .1)) tt) (s .pre .2)
 
 -- The tests, at the numbers themselves
-low-is : (c : tie.After-struct-told2) → leZ (pos 0) (toZ w32 (ofZ w32 (c .before .before .args .m .least))) ≡ leZ (pos 0) (c .before .before .args .m .least)
+low-is : (c : tie.After-struct-told2) → let least = c .before .before .args .m .least in
+    leZ (pos 0) (toZ w32 (ofZ w32 least)) ≡ leZ (pos 0) least
 low-is c = rw (least-read c) refl
 
 low-true : (c : tie.Else1) → leZ (pos 0) (c .before .before .before .args .m .least) ≡ true
