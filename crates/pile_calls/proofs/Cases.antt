@@ -15,6 +15,7 @@ use Rattle.chart.specs.declared.Point.{Point}
 use Rattle.chart.specs.declared.Refusal.{Refusal}
 use Rattle.chart.specs.declared.Verdict.{Verdict}
 use Rattle.chart.specs.declared.Verdict.the-variants.{Taken, Refused}
+use Rattle.chart.specs.declared.Refusal.the-variants.{Cell, NothingAtWork, Section, Layer}
 use Rattle.verdict.specs.Verdict.{verdictOf}
 use Rattle.verdict.specs.Named.{CellNamed}
 use Rattle.verdict.proofs.Cells.{verdict-named}
@@ -25,7 +26,7 @@ use Rattle.sections.specs.Sections.{lastLayer}
 use Rattle.pile_sections.specs.Sections.{dentedColumn, dentedRow}
 use Rattle.pile_sections.proofs.RunLaws.{column-decided, row-decided}
 use Rattle.pile_replies.specs.declared.PileReply.{PileReply}
-use Rattle.pile_replies.specs.declared.PileReply.the-variants.{Done, Inside, Outside, Judged, Cell, NotPassed, Dented, Layer}
+use Rattle.pile_replies.specs.declared.PileReply.the-variants.{Done, Inside, Outside, Taken as WasTaken, Refused as WasRefused}
 use Rattle.pile_replies.specs.Replies.{pileFields}
 use Rattle.pile_model.specs.Calls.{Set, SetEmpty, Check}
 use Rattle.pile_sections.specs.Meaning.{CheckedRuns}
@@ -83,11 +84,11 @@ module _ (p : Pile) (l : ℕ) (o : Outline) where
   unfolding answerOf setOf pileFields
   sets-by x e = (e, rw e (go (ltb lastLayer l)))
     where
-      go : (b : Bool) → CellNamed o (pileFields (cond b (says Layer p) (setAs p l o (verdictOf o)) .reply))
+      go : (b : Bool) → CellNamed o (pileFields (cond b (says (WasRefused Layer) p) (setAs p l o (verdictOf o)) .reply))
       go true = record { anchor = λ e. absurd (omega arith); missing = λ e. absurd (omega arith) }
       go false = judged-named (verdictOf o) (verdict-named o)
 
-  pub set-high : lastLayer < l → Sets p l o (says Layer p)
+  pub set-high : lastLayer < l → Sets p l o (says (WasRefused Layer) p)
   unfolding answerOf setOf
   set-high h = sets-by _ (rw (lt-ltb lastLayer l h))
 
@@ -96,19 +97,19 @@ module _ (p : Pile) (l : ℕ) (o : Outline) where
     unfolding answerOf setOf
     set-as v g = rw (le-ltb lastLayer l h, sym e, g)
 
-    pub set-refused : (f : Refusal) → r ≡ Refused f → Sets p l o (says (Judged (Refused f)) p)
+    pub set-refused : (f : Refusal) → r ≡ Refused f → Sets p l o (says (WasRefused f) p)
     unfolding setAs
     set-refused f g = sets-by _ (set-as (Refused f) g)
 
     pub set-taken : (n : ℕ) (a : Point) → r ≡ Taken n a → (rows : List ℕ) → rows ≡ rowsPut (p .rows) l (spansOf o)
-        → (state : List ℕ) → state ≡ 0 ∷ 0 ∷ [] → Sets p l o (says (Judged (Taken n a)) (arrays rows state))
+        → (state : List ℕ) → state ≡ 0 ∷ 0 ∷ [] → Sets p l o (says (WasTaken n a) (arrays rows state))
     unfolding setAs
     set-taken n a g rows k state z = sets-by _ (rw (k, z) (set-as (Taken n a) g))
 
 -- ---- set empty
 
 module _ (p : Pile) (l : ℕ) where
-  pub empty-high : lastLayer < l → says Layer p ≡ answerOf p (SetEmpty l)
+  pub empty-high : lastLayer < l → says (WasRefused Layer) p ≡ answerOf p (SetEmpty l)
   unfolding answerOf emptyOf
   empty-high h = rw (lt-ltb lastLayer l h)
 
@@ -124,7 +125,7 @@ abbrev pub Checks : Pile → Piled → Type 0
 Checks p x = (x ≡ answerOf p Check) × CheckedRuns (layersIn p) (x .reply)
 
 module _ (p : Pile) (c : ℕ) (ec : c ≡ dentedColumn (layersIn p)) where
-  pub column-checks : c < side → (q : Pile) → q ≡ failing p → Checks p (says (Dented 0 c) q)
+  pub column-checks : c < side → (q : Pile) → q ≡ failing p → Checks p (says (WasRefused (Section 0 c)) q)
   unfolding answerOf checkOf
   column-checks h q k =
       let found : dentedColumn (layersIn p) < side = omega (arith, ec) in
@@ -137,7 +138,7 @@ module _ (p : Pile) (c : ℕ) (ec : c ≡ dentedColumn (layersIn p)) where
     none-column : side ≤ dentedColumn (layersIn p)
     none-column = omega (arith, ec)
 
-    pub row-checks : r < side → (q : Pile) → q ≡ failing p → Checks p (says (Dented 1 r) q)
+    pub row-checks : r < side → (q : Pile) → q ≡ failing p → Checks p (says (WasRefused (Section 1 r)) q)
     unfolding answerOf checkOf
     row-checks h q k =
         let found : dentedRow (layersIn p) < side = omega (arith, er) in
@@ -174,17 +175,17 @@ unfolding badCell
 good-row x e = leb-false side (x .row) (or-false-iff (leb side (x .col)) (leb side (x .row)) .0 e .1)
 
 module _ (p : Pile) (l : ℕ) (x : Point) where
-  pub query-high : lastLayer < l → Layer ≡ queryOf p l x
+  pub query-high : lastLayer < l → WasRefused Layer ≡ queryOf p l x
   unfolding queryOf
   query-high h = rw (lt-ltb lastLayer l h)
 
   module _ (h : l ≤ lastLayer) where
-    pub query-unpassed : (word p ≡ passedWord → ⊥) → NotPassed ≡ queryOf p l x
+    pub query-unpassed : (word p ≡ passedWord → ⊥) → WasRefused NothingAtWork ≡ queryOf p l x
     unfolding queryOf
     query-unpassed e = rw (le-ltb lastLayer l h, ne-eqb (word p) passedWord e)
 
     module _ (e : word p ≡ passedWord) where
-      pub query-bad : badCell x ≡ true → Cell ≡ queryOf p l x
+      pub query-bad : badCell x ≡ true → WasRefused Cell ≡ queryOf p l x
       unfolding queryOf
       query-bad b = rw (le-ltb lastLayer l h, eq-eqb (word p) passedWord e, b)
 

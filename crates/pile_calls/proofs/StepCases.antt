@@ -7,10 +7,11 @@ use mathlib.Core.List.{List, [], _∷_}
 use lib.Dec.{ltb, eqb}
 use borrow.Author.Tests.{lt-ltb, le-ltb, ltb-true, eq-eqb, ne-eqb, not-true, not-false}
 use Rattle.chart.specs.Limits.{side}
+use Rattle.chart.specs.declared.Refusal.the-variants.{Section}
 use Rattle.spans.specs.declared.Spans.{Spans}
 use Rattle.pile_sections.specs.Sections.{columnClear, rowClear}
 use Rattle.pile_replies.specs.declared.PileReply.{PileReply}
-use Rattle.pile_replies.specs.declared.PileReply.the-variants.{Done, Dented}
+use Rattle.pile_replies.specs.declared.PileReply.the-variants.{Done, Refused}
 use Rattle.pile_calls.specs.declared.Pile.{Pile}
 use Rattle.pile_calls.specs.declared.Stepped.{Stepped}
 use Rattle.pile_calls.specs.declared.Progress.{Progress}
@@ -29,11 +30,11 @@ module _ (k : ℕ) where
   unfolding testedAt
   tested-anew h = rw (le-ltb k sections h)
 
-  pub dent-column : k < side → Dented 0 k ≡ dentAt k
+  pub dent-column : k < side → Refused (Section 0 k) ≡ dentAt k
   unfolding dentAt
   dent-column h = rw (lt-ltb k side h)
 
-  pub dent-row : side ≤ k → Dented 1 (k - side) ≡ dentAt k
+  pub dent-row : side ≤ k → Refused (Section 1 (k - side)) ≡ dentAt k
   unfolding dentAt
   dent-row h = rw (le-ltb k side h)
 
@@ -114,7 +115,8 @@ column-still p q x e is h =
 
     said : Bool → Bool → Stepped
     said b d =
-        cond b (cond d (stepped More (arrays (p .rows) (word p ∷ (k + 1) ∷ []))) (stepped (Replied Done) (arrays (p .rows) (passedWord ∷ 0 ∷ []))))
+        cond b
+        (cond d (stepped More (arrays (p .rows) (word p ∷ (k + 1) ∷ []))) (stepped (Replied Done) (arrays (p .rows) (passedWord ∷ 0 ∷ []))))
         (stepped (Replied (dentAt k)) (ending p))
 
     isMore : Progress → Bool

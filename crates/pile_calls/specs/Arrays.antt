@@ -10,6 +10,7 @@ use Rattle.chart.specs.declared.Point.{Point}
 use Rattle.chart.specs.declared.Verdict.{Verdict}
 use Rattle.chart.specs.declared.Verdict.the-variants.{Taken, Refused}
 use Rattle.chart.specs.Outline.{Outline}
+use Rattle.chart.specs.declared.Refusal.the-variants.{Cell, NothingAtWork, Section, Layer}
 use Rattle.verdict.specs.Verdict.{verdictOf}
 use Rattle.polygon.specs.Loose.{badCell}
 use Rattle.spans.specs.declared.Spans.{Spans}
@@ -17,7 +18,7 @@ use Rattle.spans.specs.Spans.{noSpans, spansOf, inSpans}
 use Rattle.sections.specs.Sections.{lastLayer}
 use Rattle.pile_sections.specs.Sections.{dentedColumn, dentedRow}
 use Rattle.pile_replies.specs.declared.PileReply.{PileReply}
-use Rattle.pile_replies.specs.declared.PileReply.the-variants.{Done, Inside, Outside, Judged, Cell, NotPassed, Dented, Layer}
+use Rattle.pile_replies.specs.declared.PileReply.the-variants.{Done, Inside, Outside, Taken as WasTaken, Refused as WasRefused}
 use Rattle.pile_model.specs.Calls.{PileCall, Set, SetEmpty, Check, Query}
 use Rattle.span_list.specs.SpanList.{spansAt, rowsPut}
 use Rattle.live_sections.specs.Layers.{layerBytes, layersOf}
@@ -69,27 +70,28 @@ failing p = cond (passed p) (withState p 0 0) p
 
 -- A set, by the verdict of 1 to 9 on the outline
 unfoldable pub setAs : Pile → ℕ → Outline → Verdict → Piled
-setAs p l o (Refused f) = says (Judged (Refused f)) p
-setAs p l o (Taken n a) = says (Judged (Taken n a)) (layerPut p l (spansOf o))
+setAs p l o (Refused f) = says (WasRefused f) p
+setAs p l o (Taken n a) = says (WasTaken n a) (layerPut p l (spansOf o))
 
 unfoldable pub setOf : Pile → ℕ → Outline → Piled
-setOf p l o = cond (ltb lastLayer l) (says Layer p) (setAs p l o (verdictOf o))
+setOf p l o = cond (ltb lastLayer l) (says (WasRefused Layer) p) (setAs p l o (verdictOf o))
 
 unfoldable pub emptyOf : Pile → ℕ → Piled
-emptyOf p l = cond (ltb lastLayer l) (says Layer p) (says Done (layerPut p l noSpans))
+emptyOf p l = cond (ltb lastLayer l) (says (WasRefused Layer) p) (says Done (layerPut p l noSpans))
 
 -- 21 of a column, then of a row; otherwise the check passes
 unfoldable pub checkOf : Pile → Piled
 checkOf p =
-    cond (ltb (dentedColumn (layersIn p)) side) (says (Dented 0 (dentedColumn (layersIn p))) (failing p))
-    (cond (ltb (dentedRow (layersIn p)) side) (says (Dented 1 (dentedRow (layersIn p))) (failing p))
+    cond (ltb (dentedColumn (layersIn p)) side) (says (WasRefused (Section 0 (dentedColumn (layersIn p)))) (failing p))
+    (cond (ltb (dentedRow (layersIn p)) side) (says (WasRefused (Section 1 (dentedRow (layersIn p)))) (failing p))
     (says Done (passing p)))
 
 -- 22, 12 and 11, checked in this order
 unfoldable pub queryOf : Pile → ℕ → Point → PileReply
 queryOf p l x =
-    cond (ltb lastLayer l) Layer
-    (cond (passed p) (cond (badCell x) Cell (cond (inSpans (spansAt (p .rows) l) (x .col) (x .row)) Inside Outside)) NotPassed)
+    cond (ltb lastLayer l) (WasRefused Layer)
+    (cond (passed p) (cond (badCell x) (WasRefused Cell) (cond (inSpans (spansAt (p .rows) l) (x .col) (x .row)) Inside Outside))
+    (WasRefused NothingAtWork))
 
 unfoldable pub answerOf : Pile → PileCall → Piled
 answerOf p (Set l o) = setOf p l o

@@ -4,10 +4,11 @@ use mathlib.Core.Bool.{Bool, cond}
 use mathlib.Core.List.{List}
 use lib.Dec.{ltb}
 use Rattle.chart.specs.Limits.{side}
+use Rattle.chart.specs.declared.Refusal.the-variants.{Section}
 use Rattle.spans.specs.declared.Spans.{Spans}
 use Rattle.pile_sections.specs.Sections.{columnClear, rowClear}
 use Rattle.pile_replies.specs.declared.PileReply.{PileReply}
-use Rattle.pile_replies.specs.declared.PileReply.the-variants.{Done, Dented}
+use Rattle.pile_replies.specs.declared.PileReply.the-variants.{Done, Refused}
 use Rattle.pile_calls.specs.declared.Pile.{Pile}
 use Rattle.pile_calls.specs.declared.Progress.{Progress}
 use Rattle.pile_calls.specs.declared.Progress.the-variants.{More, Replied}
@@ -26,7 +27,7 @@ unfoldable pub clearAt : List Spans → ℕ → Bool
 clearAt ls k = cond (ltb k side) (columnClear ls k) (rowClear ls (k - side))
 
 unfoldable pub dentAt : ℕ → PileReply
-dentAt k = cond (ltb k side) (Dented 0 k) (Dented 1 (k - side))
+dentAt k = cond (ltb k side) (Refused (Section 0 k)) (Refused (Section 1 (k - side)))
 
 -- ---- a step
 

@@ -3,6 +3,7 @@
 // A query may interrupt any other call. So the word that says that the pile has passed goes before a byte of the rows is written, and comes
 // after every section was looked at: at each moment a query gets the reply from before the call, the one from after it, or 12.
 use chart::Point;
+use chart::Refusal;
 use chart::SIDE;
 use chart::Verdict;
 use judge::verdict_of;
@@ -186,15 +187,15 @@ pub fn set(
     ensures cell { λ r. ⌜ CellNamed (outline start (now (letters .entry))) (pileFields r) ⌝ }
 {
     if LAST_LAYER < layer {
-        return PileReply::Layer;
+        return PileReply::Refused(Refusal::Layer);
     }
     let verdict = verdict_of(start, letters);
     match verdict {
-        Verdict::Refused(why) => PileReply::Judged(Verdict::Refused(why)),
+        Verdict::Refused(why) => PileReply::Refused(why),
         Verdict::Taken { edges, anchor } => {
             unpass(&mut state[..]);
             write_outline(&mut rows[..], &state[..], layer as usize, start, letters);
-            PileReply::Judged(Verdict::Taken { edges, anchor })
+            PileReply::Taken { edges, anchor }
         }
     }
 }
@@ -209,7 +210,7 @@ pub fn set_empty(
         ≡ answerOf (arrays (now (rows .entry)) (now (state .entry))) (SetEmpty layer) ⌝ }
 {
     if LAST_LAYER < layer {
-        return PileReply::Layer;
+        return PileReply::Refused(Refusal::Layer);
     }
     unpass(&mut state[..]);
     write_none(&mut rows[..], &state[..], layer as usize);
@@ -234,12 +235,12 @@ pub fn check(rows: &[u8; ROW_BYTES], state: &mut [u16; STATE_NUMBERS]) -> PileRe
     let col = columns(all);
     if col < SIDE {
         fail(&mut state[..]);
-        return PileReply::Dented { kind: 0, at: col };
+        return PileReply::Refused(Refusal::Section { kind: 0, at: col });
     }
     let row = dented_row(all);
     if row < SIDE {
         fail(&mut state[..]);
-        return PileReply::Dented { kind: 1, at: row };
+        return PileReply::Refused(Refusal::Section { kind: 1, at: row });
     }
     pass(&mut state[..], all);
     PileReply::Done
@@ -284,12 +285,12 @@ fn dent_at(k: u16) -> PileReply
     ensures { λ r. ⌜ r ≡ dentAt k ⌝ }
 {
     if k < SIDE {
-        PileReply::Dented { kind: 0, at: k }
+        PileReply::Refused(Refusal::Section { kind: 0, at: k })
     } else {
-        PileReply::Dented {
+        PileReply::Refused(Refusal::Section {
             kind: 1,
             at: k - SIDE,
-        }
+        })
     }
 }
 
@@ -343,13 +344,13 @@ pub fn query<'a>(
     ensures { λ r. ⌜ r ≡ queryOf (arrays (now (rows .entry)) (now (state .entry))) layer cell ⌝ }
 {
     if LAST_LAYER < layer {
-        return PileReply::Layer;
+        return PileReply::Refused(Refusal::Layer);
     }
     if state[WORD] != PASSED {
-        return PileReply::NotPassed;
+        return PileReply::Refused(Refusal::NothingAtWork);
     }
     if bad_cell(cell) {
-        return PileReply::Cell;
+        return PileReply::Refused(Refusal::Cell);
     }
     if within(&rows[..], layer as usize, cell) {
         PileReply::Inside

@@ -5,9 +5,10 @@ use native.Mathlib.Omega.{arith}
 use mathlib.Core.Path.{_≡_, refl, sym, ap, _∙_}
 use mathlib.Core.Bool.{Bool}
 use mathlib.Core.List.{List, [], _∷_}
+use Rattle.chart.specs.declared.Refusal.the-variants.{Section}
 use Rattle.lattice.specs.Hull.{Convex}
 use Rattle.pile_replies.specs.declared.PileReply.{PileReply}
-use Rattle.pile_replies.specs.declared.PileReply.the-variants.{Dented}
+use Rattle.pile_replies.specs.declared.PileReply.the-variants.{Refused}
 use Rattle.pile_sections.specs.Runs.{HasDent}
 use Rattle.pile_sections.specs.Meaning.{passes, column, row}
 use Rattle.pile_model.specs.Calls.{PileCall, Set, SetEmpty, Check, Query}
@@ -31,12 +32,14 @@ module _ (ls : Layers) where
   checked-once r s (passes cs rs) (row i h cs′ d f) = absurd (no-dent (rs i h) d)
   checked-once r s (column c h d f) (passes cs rs) = absurd (no-dent (cs c h) d)
   checked-once r s (column c h d f) (column c′ h′ d′ f′) =
-      ap (Dented 0) (least (λ k. HasDent (columnMarks ls k)) (λ k. Convex (columnMarks ls k)) (λ k. no-dent) c c′ d f d′ f′)
+      ap (λ (k : ℕ). Refused (Section 0 k))
+      (least (λ k. HasDent (columnMarks ls k)) (λ k. Convex (columnMarks ls k)) (λ k. no-dent) c c′ d f d′ f′)
   checked-once r s (column c h d f) (row i h′ cs d′ f′) = absurd (no-dent (cs c h) d)
   checked-once r s (row i h cs d f) (passes cs′ rs) = absurd (no-dent (rs i h) d)
   checked-once r s (row i h cs d f) (column c h′ d′ f′) = absurd (no-dent (cs c h′) d′)
   checked-once r s (row i h cs d f) (row i′ h′ cs′ d′ f′) =
-      ap (Dented 1) (least (λ k. HasDent (rowMarks ls k)) (λ k. Convex (rowMarks ls k)) (λ k. no-dent) i i′ d f d′ f′)
+      ap (λ (k : ℕ). Refused (Section 1 k))
+      (least (λ k. HasDent (rowMarks ls k)) (λ k. Convex (rowMarks ls k)) (λ k. no-dent) i i′ d f d′ f′)
 
 pub answer-once : (b : PileBook) (c : PileCall) (r s : PileReply) → Answers b c r → Answers b c s → r ≡ s
 unfolding Answers

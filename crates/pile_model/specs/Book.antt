@@ -12,12 +12,14 @@ use Rattle.chart.specs.declared.Point.{Point}
 use Rattle.chart.specs.declared.Verdict.{Verdict}
 use Rattle.chart.specs.declared.Verdict.the-variants.{Taken, Refused}
 use Rattle.chart.specs.Outline.{Outline}
+use Rattle.chart.specs.declared.Refusal.the-variants.{Cell, NothingAtWork, Layer}
 use Rattle.convexity.specs.Clockwise.{block}
 use Rattle.verdict.specs.Verdict.{verdictOf}
 use Rattle.polygon.specs.Loose.{badCell}
 use Rattle.sections.specs.Sections.{lastLayer}
 use Rattle.pile_replies.specs.declared.PileReply.{PileReply}
-use Rattle.pile_replies.specs.declared.PileReply.the-variants.{Done, Inside, Outside, Judged, Cell, NotPassed, Dented, Layer}
+use Rattle.pile_replies.specs.declared.PileReply.the-variants.{Done, Inside, Outside, Taken as WasTaken, Refused as WasRefused}
+use Rattle.pile_replies.specs.Replies.{setReply}
 use Rattle.pile_model.specs.Calls.{PileCall, Set, SetEmpty, Check, Query}
 use Rattle.pile_sections.specs.Meaning.{AllConvex, CheckedBy}
 
@@ -70,12 +72,14 @@ located v x = cond (marks v (x .col) (x .row)) Inside Outside
 
 -- 22, 12 and 11, checked in this order
 unfoldable pub queried : PileBook → ℕ → Point → PileReply
-queried b l x = cond (ltb lastLayer l) Layer (cond (b .passed) (cond (badCell x) Cell (located (b .layers l) x)) NotPassed)
+queried b l x =
+    cond (ltb lastLayer l) (WasRefused Layer)
+    (cond (b .passed) (cond (badCell x) (WasRefused Cell) (located (b .layers l) x)) (WasRefused NothingAtWork))
 
 -- The reply is the model's
 unfoldable pub Answers : PileBook → PileCall → PileReply → Type 0
-Answers b (Set l o) r = r ≡ cond (ltb lastLayer l) Layer (Judged (verdictOf o))
-Answers b (SetEmpty l) r = r ≡ cond (ltb lastLayer l) Layer Done
+Answers b (Set l o) r = r ≡ cond (ltb lastLayer l) (WasRefused Layer) (setReply (verdictOf o))
+Answers b (SetEmpty l) r = r ≡ cond (ltb lastLayer l) (WasRefused Layer) Done
 Answers b Check r = Checked (b .layers) r
 Answers b (Query l x) r = r ≡ queried b l x
 
@@ -91,11 +95,8 @@ unfoldable pub isDone : PileReply → Bool
 isDone Done = true
 isDone Inside = false
 isDone Outside = false
-isDone (Judged v) = false
-isDone Cell = false
-isDone NotPassed = false
-isDone (Dented k p) = false
-isDone Layer = false
+isDone (WasTaken n a) = false
+isDone (WasRefused f) = false
 
 unfoldable pub next : PileBook → PileCall → PileReply → PileBook
 next b (Set l o) r = cond (ltb lastLayer l) b (setBook b l o (verdictOf o))

@@ -19,6 +19,7 @@ use Rattle.chart.specs.declared.Verdict.{Verdict}
 use Rattle.chart.specs.declared.Verdict.the-variants.{Taken, Refused}
 use Rattle.chart.specs.Outline.{Outline}
 use Rattle.chart.specs.Fields.{verdictFields}
+use Rattle.chart.specs.declared.Refusal.the-variants.{Cell, NothingAtWork, Section}
 use Rattle.rows.specs.parts.Rows.{rows}
 use Rattle.verdict.specs.Verdict.{verdictOf}
 use Rattle.verdict.proofs.VerdictLaws.{TakenFacts, taken-facts}
@@ -35,7 +36,8 @@ use Rattle.sections.specs.Sections.{layers, lastLayer}
 use Rattle.pile_sections.specs.Sections.{columnClear, rowClear, dentedColumn, dentedRow}
 use Rattle.pile_sections.proofs.RunLaws.{Decided}
 use Rattle.pile_replies.specs.declared.PileReply.{PileReply}
-use Rattle.pile_replies.specs.declared.PileReply.the-variants.{Done, Inside, Outside, Judged, Cell, NotPassed, Dented, Layer}
+use Rattle.pile_replies.specs.declared.PileReply.the-variants.{Done, Inside, Outside, Refused as WasRefused}
+use Rattle.pile_replies.specs.Replies.{setReply}
 use Rattle.pile_model.specs.Calls.{PileCall, Set, SetEmpty, Check, Query}
 use Rattle.pile_sections.specs.Meaning.{AllConvex, CheckedBy, passes, column, row}
 use Rattle.pile_sections.proofs.CheckLaws.{column-said, row-said, none-said}
@@ -148,8 +150,8 @@ check-keeps p = go (ltb (dentedColumn (layersIn p)) side) (ltb (dentedRow (layer
   where
     replied : Bool → Bool → Piled
     replied b d =
-        cond b (says (Dented 0 (dentedColumn (layersIn p))) (failing p))
-        (cond d (says (Dented 1 (dentedRow (layersIn p))) (failing p)) (says Done (passing p)))
+        cond b (says (WasRefused (Section 0 (dentedColumn (layersIn p)))) (failing p))
+        (cond d (says (WasRefused (Section 1 (dentedRow (layersIn p)))) (failing p)) (says Done (passing p)))
 
     go : (b d : Bool) → (replied b d .pile .rows ≡ p .rows) × (passed (replied b d .pile) ≡ isDone (replied b d .reply))
     go true d = fail-state p
@@ -220,8 +222,8 @@ module _ (b : PileBook) (p : Pile) (t : InStep b p) where
   -- ---- the calls
 
   set-verdict : (l : ℕ) (o : Outline) → l ≤ lastLayer → (v : Verdict) → verdictOf o ≡ v
-      → (setAs p l o v .reply ≡ Judged v) × InStep (setBook b l o v) (setAs p l o v .pile)
-  unfolding setAs setBook
+      → (setAs p l o v .reply ≡ setReply v) × InStep (setBook b l o v) (setAs p l o v .pile)
+  unfolding setAs setBook setReply
   set-verdict l o h (Refused f) e = (refl, t)
   set-verdict l o h (Taken n a) e = (refl, step-put l (some o) (spansOf o) h (outline-whole o) (kept-some o n a e))
 
@@ -268,7 +270,7 @@ module _ (b : PileBook) (p : Pile) (t : InStep b p) where
         | yes h ↦ rw (lt-ltb lastLayer l h)
         | no h ↦
             rw (t .same, le-ltb lastLayer l (omega arith), ← layer-read (p .rows) l (omega arith))
-            (ap (λ (v : Bool). cond (b .passed) (cond (badCell x) Cell (cond v Inside Outside)) NotPassed)
+            (ap (λ (v : Bool). cond (b .passed) (cond (badCell x) (WasRefused Cell) (cond v Inside Outside)) (WasRefused NothingAtWork))
             (t .kept l .exact (x .col) (x .row)))
       ]
 

@@ -16,6 +16,7 @@ use Rattle.chart.specs.Outline.{Outline}
 use Rattle.chart.specs.declared.Point.{Point}
 use Rattle.chart.specs.declared.Verdict.{Verdict}
 use Rattle.chart.specs.declared.Verdict.the-variants.{Taken, Refused}
+use Rattle.chart.specs.declared.Refusal.the-variants.{Section}
 use Rattle.verdict.specs.Verdict.{verdictOf}
 use Rattle.spans.specs.declared.Spans.{Spans}
 use Rattle.spans.specs.Spans.{noSpans, spansOf}
@@ -23,7 +24,7 @@ use Rattle.span_list.specs.SpanList.{slotBytes}
 use Rattle.span_list.proofs.SlotLaws.{Whole, outline-whole, none-whole}
 use Rattle.sections.specs.Sections.{layers, lastLayer}
 use Rattle.pile_sections.specs.Sections.{dentedColumn, dentedRow}
-use Rattle.pile_replies.specs.declared.PileReply.the-variants.{Done, Dented}
+use Rattle.pile_replies.specs.declared.PileReply.the-variants.{Done, Refused as WasRefused}
 use Rattle.pile_model.specs.Calls.{PileCall, Set, SetEmpty, Check, Query}
 use Rattle.pile_calls.specs.declared.Pile.{Pile}
 use Rattle.pile_calls.specs.declared.Piled.{Piled}
@@ -207,8 +208,8 @@ module _ (p : Pile) (f : Fits p) where
   -- The pile after a check, by its two tests
   abbrev checked : Bool → Bool → Piled
   checked b d =
-      cond b (says (Dented 0 (dentedColumn (layersIn p))) (failing p))
-      (cond d (says (Dented 1 (dentedRow (layersIn p))) (failing p)) (says Done (passing p)))
+      cond b (says (WasRefused (Section 0 (dentedColumn (layersIn p)))) (failing p))
+      (cond d (says (WasRefused (Section 1 (dentedRow (layersIn p)))) (failing p)) (says Done (passing p)))
 
   check-leaves : storedAll p (storesOf p Check) ≡ answerOf p Check .pile
   unfolding storesOf answerOf checkOf

@@ -12,6 +12,7 @@ use Rattle.chart.specs.Outline.{Outline}
 use Rattle.chart.specs.declared.Point.{Point}
 use Rattle.chart.specs.declared.Verdict.{Verdict}
 use Rattle.chart.specs.declared.Verdict.the-variants.{Taken, Refused}
+use Rattle.chart.specs.declared.Refusal.the-variants.{NothingAtWork, Layer}
 use Rattle.verdict.specs.Verdict.{verdictOf}
 use Rattle.spans.specs.declared.Spans.{Spans}
 use Rattle.spans.specs.Spans.{noSpans, spansOf}
@@ -19,7 +20,7 @@ use Rattle.span_list.specs.SpanList.{slotBytes}
 use Rattle.sections.specs.Sections.{lastLayer}
 use Rattle.pile_sections.specs.Sections.{dentedColumn, dentedRow}
 use Rattle.pile_replies.specs.declared.PileReply.{PileReply}
-use Rattle.pile_replies.specs.declared.PileReply.the-variants.{NotPassed, Layer}
+use Rattle.pile_replies.specs.declared.PileReply.the-variants.{Refused as WasRefused}
 use Rattle.pile_model.specs.Calls.{PileCall, Set, SetEmpty, Check, Query}
 use Rattle.pile_calls.specs.declared.Pile.{Pile}
 use Rattle.pile_calls.specs.Arrays.{arrays, layersIn, passedWord, passed, position as positionOf, queryOf}
@@ -88,7 +89,7 @@ Throughout P p (s ∷ ss) = P p × Throughout P (stored p s) ss
 
 -- What a query replies of a pile that has not passed: 22, or 12
 abbrev pub notYet : ℕ → PileReply
-notYet l = cond (ltb lastLayer l) Layer NotPassed
+notYet l = cond (ltb lastLayer l) (WasRefused Layer) (WasRefused NothingAtWork)
 
 -- At x every query gets the reply that it gets of p, or 12, or the reply that it gets of q
 abbrev pub Between : Pile → Pile → Pile → Type 0

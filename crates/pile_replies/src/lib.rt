@@ -1,7 +1,7 @@
 // The reply of a call on a pile, and its number, word and fields (contract 4 and 12).
 use chart::Fields;
-use chart::Verdict;
-use chart::refusals;
+use chart::Point;
+use chart::Refusal;
 use chart::reply;
 ghost use mathlib.Core.Path.{_≡_};
 ghost use Rattle.pile_replies.specs.Replies.{pileFields};
@@ -12,16 +12,9 @@ pub enum PileReply {
     Done,
     Inside,
     Outside,
-    // The verdict of a set on its outline: 1 to 9, or taken.
-    Judged(Verdict),
-    // 11. A cell number above 254.
-    Cell,
-    // 12. The pile is unchecked, or did not pass.
-    NotPassed,
-    // 21. The first dented section: kind 0 is a column and 1 a row, `at` is its number.
-    Dented { kind: u16, at: u16 },
-    // 22. A layer above 15.
-    Layer,
+    // A set: the outline is taken. The count of edges, and the anchor.
+    Taken { edges: u16, anchor: Point },
+    Refused(Refusal),
 }
 
 // Its fields.
@@ -32,18 +25,7 @@ pub fn of_reply(r: PileReply) -> Fields
         PileReply::Done => reply::worded(reply::NO_WORD),
         PileReply::Inside => reply::worded(reply::INSIDE),
         PileReply::Outside => reply::worded(reply::OUTSIDE),
-        PileReply::Judged(verdict) => reply::of_verdict(verdict),
-        PileReply::Cell => reply::numbered(refusals::CELL),
-        PileReply::NotPassed => reply::numbered(refusals::NOTHING_AT_WORK),
-        PileReply::Dented { kind, at } => Fields {
-            number: refusals::SECTION,
-            word: reply::NO_WORD,
-            place: at,
-            piece: kind,
-            length: 0,
-            col: 0,
-            row: 0,
-        },
-        PileReply::Layer => reply::numbered(refusals::LAYER),
+        PileReply::Taken { edges, anchor } => reply::accepted(reply::NO_WORD, edges, anchor),
+        PileReply::Refused(why) => reply::of_refusal(why),
     }
 }

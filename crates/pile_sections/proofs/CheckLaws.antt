@@ -8,9 +8,10 @@ use mathlib.Core.List.{List}
 use borrow.Author.Tests.{not-true, not-false}
 use Rattle.base.proofs.BelowLaws.{first-found, first-before}
 use Rattle.chart.specs.Limits.{side}
+use Rattle.chart.specs.declared.Refusal.the-variants.{Section}
 use Rattle.spans.specs.declared.Spans.{Spans}
 use Rattle.pile_replies.specs.declared.PileReply.{PileReply}
-use Rattle.pile_replies.specs.declared.PileReply.the-variants.{Done, Dented}
+use Rattle.pile_replies.specs.declared.PileReply.the-variants.{Done, Refused}
 use Rattle.pile_replies.specs.Replies.{pileFields}
 use Rattle.pile_sections.specs.Sections.{columnClear, rowClear, dentedColumn, dentedRow}
 use Rattle.pile_sections.specs.Meaning.{ConvexBefore, AllConvex, CheckedBy, passes, column, row}
@@ -23,7 +24,7 @@ module _ (columns rows : ℕ → ℕ → ℕ → Bool) (ls : List Spans) (by-col
   unfolding dentedColumn
   columns-convex n s h c l = by-column c (omega arith) .full (not-false _ (first-before (λ k. not (columnClear ls k)) side c (omega arith)))
 
-  pub column-said : dentedColumn ls < side → CheckedBy columns rows (Dented 0 (dentedColumn ls))
+  pub column-said : dentedColumn ls < side → CheckedBy columns rows (Refused (Section 0 (dentedColumn ls)))
   unfolding dentedColumn
   column-said h =
       column (dentedColumn ls) h (by-column (dentedColumn ls) h .dent (not-true _ (first-found (λ k. not (columnClear ls k)) side h)))
@@ -36,7 +37,7 @@ module _ (columns rows : ℕ → ℕ → ℕ → Bool) (ls : List Spans) (by-col
     rows-convex n s h r l =
         by-row r (omega arith) (omega arith) .full (not-false _ (first-before (λ k. not (rowClear ls k)) side r (omega arith)))
 
-    pub row-said : dentedRow ls < side → CheckedBy columns rows (Dented 1 (dentedRow ls))
+    pub row-said : dentedRow ls < side → CheckedBy columns rows (Refused (Section 1 (dentedRow ls)))
     unfolding dentedRow
     row-said h =
         row (dentedRow ls) h (columns-convex side (omega arith) clear)

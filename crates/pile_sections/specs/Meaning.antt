@@ -3,11 +3,12 @@ use Prim.Native.Nat.{ℕ, _<_}
 use mathlib.Core.Bool.{Bool}
 use mathlib.Core.List.{List}
 use Rattle.chart.specs.Limits.{side}
+use Rattle.chart.specs.declared.Refusal.the-variants.{Section}
 use Rattle.lattice.specs.Hull.{Convex}
 use Rattle.spans.specs.declared.Spans.{Spans}
 use Rattle.pile_sections.specs.Runs.{HasDent, columnRuns, rowRuns}
 use Rattle.pile_replies.specs.declared.PileReply.{PileReply}
-use Rattle.pile_replies.specs.declared.PileReply.the-variants.{Done, Dented}
+use Rattle.pile_replies.specs.declared.PileReply.the-variants.{Done, Refused}
 
 -- ---- sections by their marked cells: `columns c` are those of the section at column c, `rows r` those of the section at row r
 
@@ -23,8 +24,9 @@ pub record AllConvex (columns rows : ℕ → ℕ → ℕ → Bool) : Type 0 wher
 -- The reply of a check: done if no section is dented, otherwise the first dented one, columns before rows
 pub data CheckedBy (columns rows : ℕ → ℕ → ℕ → Bool) : PileReply → Type 0 where
   passes : ConvexBefore columns side → ConvexBefore rows side → CheckedBy columns rows Done
-  column : (c : ℕ) → c < side → HasDent (columns c) → ConvexBefore columns c → CheckedBy columns rows (Dented 0 c)
-  row : (r : ℕ) → r < side → ConvexBefore columns side → HasDent (rows r) → ConvexBefore rows r → CheckedBy columns rows (Dented 1 r)
+  column : (c : ℕ) → c < side → HasDent (columns c) → ConvexBefore columns c → CheckedBy columns rows (Refused (Section 0 c))
+  row : (r : ℕ) → r < side → ConvexBefore columns side → HasDent (rows r) → ConvexBefore rows r
+      → CheckedBy columns rows (Refused (Section 1 r))
 
 -- ---- layers as they are kept, whatever they hold
 

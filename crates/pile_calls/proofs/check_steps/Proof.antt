@@ -15,7 +15,8 @@ use Rattle.pile_calls.proofs.check_steps.Tie as tie
 
 abbrev Inv-loop : tie.InvT-loop
 Inv-loop rows state₀ count reach left₀ state left =
-    (stepsOf left (arrays rows state) ≡ stepsOf count (arrays rows state₀)) × (testedAt (getD state 1 0) < side → reach ≡ reachOf (layersOf rows))
+    (stepsOf left (arrays rows state) ≡ stepsOf count (arrays rows state₀))
+    × (testedAt (getD state 1 0) < side → reach ≡ reachOf (layersOf rows))
 
 abbrev μ-loop : tie.MeasureT-loop
 μ-loop rows state₀ count reach left₀ state left = left
