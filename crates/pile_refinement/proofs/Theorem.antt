@@ -209,6 +209,25 @@ module _ (ms : List Move) where
       (λ (is, e). absurd (r (rw (is, passed-again e) refl)))
       (refused-unaltered (pileOf ms) c r)
 
+  refused-anew : (pileFields (checkOf (anew (pileOf ms)) .reply) .number ≡ 0 → ⊥) → checkOf (anew (pileOf ms)) .pile ≡ anew (pileOf ms)
+  unfolding answerOf pileFields
+  refused-anew r =
+      ⊎-elim (λ e. e)
+      (λ (is, e). absurd (r (rw (done-checked (checkOf (anew (pileOf ms)) .reply) (said _ _ (still _ _ in-step 0)) (passed-whole e)) refl)))
+      (refused-unaltered (anew (pileOf ms)) Check r)
+
+  -- A refused step of a check leaves the rows and the word, and the next step begins anew
+  pub refused-steps-kept : (n : ℕ) → (progressFields (stepsOf n (pileOf ms) .progress) .number ≡ 0 → ⊥)
+      → stepsOf n (pileOf ms) .pile ≡ withState (pileOf ms) (word (pileOf ms)) 0
+  unfolding whole answerOf progressFields
+  refused-steps-kept n r = go (stepsOf n (pileOf ms)) (steps-do n (pileOf ms) under) r
+    where
+      go : (s : Stepped) → Do (pileOf ms) (position (pileOf ms) + n) s → (progressFields (s .progress) .number ≡ 0 → ⊥)
+          → s .pile ≡ withState (pileOf ms) (word (pileOf ms)) 0
+      go s (ends e) r =
+          ap (λ (x : Stepped). x .pile) e ∙ refused-anew (λ z. r (ap (λ (x : Stepped). progressFields (x .progress) .number) e ∙ z))
+      go s (rests e near before) r = absurd (r (ap (λ (x : Stepped). progressFields (x .progress) .number) e))
+
   -- The plane of a section has 16 by 255 cells, and the hull of its marked cells stays within it
   pub column-on-plane : (k : ℕ) (x : Point) → InHull (columnMarks (bookOf ms .layers) k) x → (x .col < layers) × (x .row < side)
   column-on-plane k x = column-plane (bookOf ms .layers) (layersIn (pileOf ms)) (layers-size (pileOf ms .rows)) (in-step .kept) k x

@@ -1,5 +1,6 @@
 -- A refused call leaves every number of the arrays, whatever they held, unless it is a check of memory that says that the pile has passed.
-use Prim.Native.Nat.{ℕ}
+-- A refused step of a check sets the position to 0 besides.
+use Prim.Native.Nat.{ℕ, zero, suc, _+_}
 use mathlib.Core.Path.{_≡_, refl}
 use mathlib.Core.Bool.{Bool, true, false, cond}
 use mathlib.Core.Logic.{_⊎_, inl, inr}
@@ -11,11 +12,16 @@ use Rattle.chart.specs.declared.Verdict.the-variants.{Taken, Refused}
 use Rattle.verdict.specs.Verdict.{verdictOf}
 use Rattle.sections.specs.Sections.{lastLayer}
 use Rattle.pile_sections.specs.Sections.{dentedColumn, dentedRow}
+use Rattle.pile_replies.specs.declared.PileReply.the-variants.{Done}
 use Rattle.pile_replies.specs.Replies.{pileFields}
 use Rattle.pile_model.specs.Calls.{PileCall, Set, SetEmpty, Check, Query}
 use Rattle.pile_calls.specs.declared.Pile.{Pile}
 use Rattle.pile_calls.specs.declared.Piled.{Piled}
-use Rattle.pile_calls.specs.Arrays.{layersIn, passed, withState, failing, setAs, setOf, emptyOf, checkOf, answerOf}
+use Rattle.pile_calls.specs.declared.Progress.the-variants.{More, Replied}
+use Rattle.pile_calls.specs.declared.Stepped.{Stepped}
+use Rattle.pile_calls.specs.Arrays.{layersIn, word, passed, position, withState, passing, failing, setAs, setOf, emptyOf, checkOf, answerOf}
+use Rattle.pile_calls.specs.Steps.{stepped, clearAt, dentAt, testedAt, ending, stepAt, stepOf, onward, stepsOf}
+use Rattle.pile_written.specs.Written.{progressFields}
 
 -- If the reply has a number other than 0, P holds of what is left
 abbrev IfRefused : (Pile → Type 0) → Piled → Type 0
@@ -51,3 +57,26 @@ refused-unaltered p Check =
     either (Kept p Check) (ltb (dentedColumn (layersIn p)) side) _ _ (λ r. fail-kept p)
     (either (Kept p Check) (ltb (dentedRow (layersIn p)) side) _ _ (λ r. fail-kept p) (λ r. absurd (r refl)))
 refused-unaltered p (Query l x) = λ r. inl refl
+
+-- Some sections of a check, refused by 21: the rows stay, the position is 0, and a word that says that the pile has passed goes
+pub refused-steps : (n : ℕ) (p : Pile) → (progressFields (stepsOf n p .progress) .number ≡ 0 → ⊥) → stepsOf n p .pile ≡ ending p
+unfolding stepsOf stepOf stepAt onward ending progressFields pileFields
+refused-steps zero p r = absurd (r refl)
+refused-steps (suc n) p r = go (clearAt (layersIn p) k) (ltb k 509) (refused-steps n (withState p (word p) (k + 1))) r
+  where
+    k : ℕ
+    k = testedAt (position p)
+
+    said : Bool → Bool → Stepped
+    said b d =
+        cond b (cond d (stepped More (withState p (word p) (k + 1))) (stepped (Replied Done) (passing p)))
+        (stepped (Replied (dentAt k)) (ending p))
+
+    after : Bool → Bool → Stepped
+    after b d = onward (stepsOf n) (said b d .progress) (said b d .pile)
+
+    go : (b d : Bool) → ((progressFields (after true true .progress) .number ≡ 0 → ⊥) → after true true .pile ≡ ending p)
+        → (progressFields (after b d .progress) .number ≡ 0 → ⊥) → after b d .pile ≡ ending p
+    go true true further r = further r
+    go true false further r = absurd (r refl)
+    go false d further r = refl
