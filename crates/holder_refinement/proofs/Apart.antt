@@ -20,8 +20,8 @@ use Rattle.holder_memory.specs.Layout.{Holder, own, placeWord, spot, slotHead, 
 use Rattle.holder_memory.specs.Words.{slotOf}
 use Rattle.holder_answers.specs.Arrays.{slotIn, workIn, answerOf}
 use Rattle.holder_memory.proofs.Free.{slot-own}
-use Rattle.holder_refinement.proofs.Keeps.{Store, stored, storedAll}
-use Rattle.holder_refinement.proofs.Keeps.Store.{letter, row, number, head}
+use Rattle.holder_refinement.specs.Stores.{Store, stored, storedAll}
+use Rattle.holder_refinement.specs.Stores.Store.{letter, row, number, head}
 
 -- The draft and the four works of party q are the same
 pub record SameParty (h h′ : Holder) (q : ℕ) : Type 0 where

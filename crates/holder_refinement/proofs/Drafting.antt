@@ -20,13 +20,13 @@ use Rattle.holder_refinement.proofs.Turns.{draftAt}
 use Rattle.holder_refinement.specs.Told.{told}
 use Rattle.holder_model.specs.Book.{fresh, bookAfter}
 use Rattle.holder_refinement.proofs.Drafts.{IsDraft}
-use Rattle.holder_memory.specs.Layout.{Holder}
+use Rattle.holder_memory.specs.Layout.{Holder, draftHead}
 use Rattle.holder_answers.specs.declared.Drafting.{Drafting}
 use Rattle.holder_answers.specs.declared.Drafting.the-variants.{Open}
 use Rattle.holder_answers.specs.Arrays.{begun, count, draftIn, opened, lengthened, draftOf}
 use Rattle.holder_answers.specs.Run.{freshHolder, holderAfter}
-use Rattle.holder_refinement.proofs.Keeps.{Store, stored, storedAll}
-use Rattle.holder_refinement.proofs.Keeps.Store.{letter, head}
+use Rattle.holder_refinement.specs.Stores.{Store, stored, storedAll}
+use Rattle.holder_refinement.specs.Stores.Store.{letter, head}
 use Rattle.holder_refinement.proofs.ListTheorem.{represents-after}
 
 -- ---- the question
@@ -43,7 +43,7 @@ module _ (h : Holder) (p : ℕ) (there : p < parties) where
   unfolding draftAt
   counted = refl
 
-  started : outlineOf d .start ≡ at (getD (h .heads) (4 * p + 1) 0) (getD (h .heads) (4 * p + 2) 0)
+  started : outlineOf d .start ≡ at (getD (h .heads) (draftHead p + 1) 0) (getD (h .heads) (draftHead p + 2) 0)
   unfolding outlineOf draftAt
   started = refl
 
@@ -68,19 +68,19 @@ draft-theorem cs p there =
 
 module _ (h : Holder) (p : ℕ) (s : Point) where
   abbrev flagIn : Holder → ℕ
-  flagIn n = getD (n .heads) (4 * p) 0
+  flagIn n = getD (n .heads) (draftHead p) 0
 
   abbrev first : Store
-  first = head (4 * p + 1) (s .col)
+  first = head (draftHead p + 1) (s .col)
 
   abbrev second : Store
-  second = head (4 * p + 2) (s .row)
+  second = head (draftHead p + 2) (s .row)
 
   abbrev third : Store
-  third = head (4 * p + 3) 0
+  third = head (draftHead p + 3) 0
 
   abbrev last : Store
-  last = head (4 * p) 1
+  last = head (draftHead p) 1
 
   -- The four stores of a begin, in their order. Before the last, the flag is as it was
   pub begin-cut : (flagIn (storedAll h (first ∷ [])) ≡ flagIn h) × ((flagIn (storedAll h (first ∷ second ∷ [])) ≡ flagIn h)
@@ -88,12 +88,13 @@ module _ (h : Holder) (p : ℕ) (s : Point) where
       × (storedAll h (first ∷ second ∷ third ∷ last ∷ []) ≡ opened h p s)))
   unfolding storedAll stored
   begin-cut =
-      let one : flagIn (storedAll h (first ∷ [])) ≡ flagIn h = getD-set-other (h .heads) (4 * p + 1) (4 * p) (s .col) 0
+      let one : flagIn (storedAll h (first ∷ [])) ≡ flagIn h = getD-set-other (h .heads) (draftHead p + 1) (draftHead p) (s .col) 0
       (λ q. omega arith) in
       let two : flagIn (storedAll h (first ∷ second ∷ [])) ≡ flagIn h =
-      getD-set-other (set (h .heads) (4 * p + 1) (s .col)) (4 * p + 2) (4 * p) (s .row) 0 (λ q. omega arith) ∙ one in
+      getD-set-other (set (h .heads) (draftHead p + 1) (s .col)) (draftHead p + 2) (draftHead p) (s .row) 0 (λ q. omega arith) ∙ one in
       let three : flagIn (storedAll h (first ∷ second ∷ third ∷ [])) ≡ flagIn h =
-      getD-set-other (set (set (h .heads) (4 * p + 1) (s .col)) (4 * p + 2) (s .row)) (4 * p + 3) (4 * p) 0 0 (λ q. omega arith) ∙ two in
+      getD-set-other (set (set (h .heads) (draftHead p + 1) (s .col)) (draftHead p + 2) (s .row)) (draftHead p + 3) (draftHead p) 0 0
+      (λ q. omega arith) ∙ two in
       (one, (two, (three, refl)))
 
 -- ---- add, cut short
@@ -103,7 +104,7 @@ module _ (h : Holder) (p a : ℕ) (room : count h p < longest) where
   written = letter (longest * p + count h p) a
 
   abbrev counted-up : Store
-  counted-up = head (4 * p + 3) (count h p + 1)
+  counted-up = head (draftHead p + 3) (count h p + 1)
 
   -- The two stores of an add, in their order. Before the last, the draft is as it was
   pub add-cut : (draftIn (storedAll h (written ∷ [])) p ≡ draftIn h p) × (storedAll h (written ∷ counted-up ∷ []) ≡ lengthened h p a)

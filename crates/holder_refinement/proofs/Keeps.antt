@@ -26,11 +26,13 @@ use Rattle.windows.proofs.Slots.{window-before, window-after, window-paste-befo
 use Rattle.span_list.specs.SpanList.{slotBytes, spansAt, SpansPut, rowsPut}
 use Rattle.span_list.proofs.SlotLaws.{copies-put}
 use Rattle.holder_memory.specs.Words.{slotOf, freeSlot}
-use Rattle.holder_memory.specs.Layout.{placeWord, Holder, arrays, spot, slotHead, workAt, numbersPut, slotHeadPut, headNumbers}
-use Rattle.holder_memory.specs.Layout.{Fits}
+use Rattle.holder_memory.specs.Layout.{placeWord, Holder, arrays, spot, slotHead, workAt, numbersPut, slotHeadPut, headNumbers, draftHead}
+use Rattle.holder_memory.specs.Layout.{Fits, placeWords, slotNumbers}
 use Rattle.holder_answers.specs.Arrays.{Preparation, begun, slotIn, workIn, withHeads, ended, worded, filled, preparedBy, preparedOf}
 use Rattle.holder_answers.specs.Arrays.{prepareOf, commitOf, closeOf, actOf, answerOf}
 use Rattle.holder_memory.proofs.Free.{free-below, free-apart}
+use Rattle.holder_refinement.specs.Stores.{Store, stored, storedAll, Within, AllWithin, SameWorks}
+use Rattle.holder_refinement.specs.Stores.Store.{letter, row, number, head}
 use Rattle.holder_refinement.proofs.Sizes.{judged-size, first-size, past-size}
 
 -- ---- the second holder differs from the first at most in its drafts and in slot t
@@ -39,7 +41,7 @@ pub record Beside (h h′ : Holder) (t : ℕ) : Type 0 where
   pub spans : (u : ℕ) → (u ≡ t → ⊥) → spansAt (h′ .rows) u ≡ spansAt (h .rows) u
   pub numbers : (u : ℕ) → (u ≡ t → ⊥)
       → window (mostNumbers * u) mostNumbers (h′ .numbers) ≡ window (mostNumbers * u) mostNumbers (h .numbers)
-  pub heads : (i : ℕ) → 8 ≤ i → (i < slotHead t) ⊎ (slotHead t + 3 ≤ i) → getD (h′ .heads) i 0 ≡ getD (h .heads) i 0
+  pub heads : (i : ℕ) → placeWords ≤ i → (i < slotHead t) ⊎ (slotHead t + slotNumbers ≤ i) → getD (h′ .heads) i 0 ≡ getD (h .heads) i 0
 
 pub beside-self : (h : Holder) (t : ℕ) → Beside h h t
 beside-self h t = record { spans = λ u d. refl; numbers = λ u d. refl; heads = λ i b o. refl }
@@ -80,10 +82,6 @@ module _ (h h′ : Holder) (t : ℕ) (b : Beside h h′ t) where
   pub work-beside : (q j : ℕ) → q < parties → j < places → (slotIn h q j ≡ t → ⊥) → workIn h′ q j ≡ workIn h q j
   work-beside q j l m d = rw (word-beside q j l m) (slot-beside (slotIn h q j) d)
 
--- Every place of both parties has the same outline at work
-abbrev pub SameWorks : Holder → Holder → Type 0
-SameWorks h h′ = (q j : ℕ) → q < parties → j < places → workIn h′ q j ≡ workIn h q j
-
 -- For any content: if only drafts and a slot that no place names differ, every place has the same outline at work
 pub keeps : (h h′ : Holder) (p : ℕ) → p < parties → Beside h h′ (freeSlot (h .heads) p) → SameWorks h h′
 keeps h h′ p there b q j l m = work-beside h h′ (freeSlot (h .heads) p) b q j l m (free-apart (h .heads) p there q j l m)
@@ -101,35 +99,9 @@ asks-same h h′ same p k q = go (badParty p) (badPlace k) refl refl
 
 -- ---- any store into the slot or into a draft
 
-pub data Store : Type 0 where
-  letter : ℕ → ℕ → Store
-  row : ℕ → ℕ → Store
-  number : ℕ → ℤ → Store
-  head : ℕ → ℕ → Store
-
-unfoldable pub stored : Holder → Store → Holder
-stored h (letter i v) = arrays (set (h .letters) i v) (h .rows) (h .numbers) (h .heads)
-stored h (row i v) = arrays (h .letters) (set (h .rows) i v) (h .numbers) (h .heads)
-stored h (number i v) = arrays (h .letters) (h .rows) (set (h .numbers) i v) (h .heads)
-stored h (head i v) = arrays (h .letters) (h .rows) (h .numbers) (set (h .heads) i v)
-
-unfoldable pub Within : ℕ → Store → Type 0
-Within t (letter i v) = Unit {0}
-Within t (row i v) = (slotBytes * t ≤ i) × (i < slotBytes * t + slotBytes)
-Within t (number i v) = (mostNumbers * t ≤ i) × (i < mostNumbers * t + mostNumbers)
-Within t (head i v) = (i < 8) ⊎ ((slotHead t ≤ i) × (i < slotHead t + 3))
-
-unfoldable pub storedAll : Holder → List Store → Holder
-storedAll h [] = h
-storedAll h (x ∷ xs) = storedAll (stored h x) xs
-
-unfoldable pub AllWithin : ℕ → List Store → Type 0
-AllWithin t [] = Unit {0}
-AllWithin t (x ∷ xs) = Within t x × AllWithin t xs
-
 -- Two of the heads are apart
-heads-set : (heads : List ℕ) (t i v : ℕ) → (i < 8) ⊎ ((slotHead t ≤ i) × (i < slotHead t + 3)) → (j : ℕ) → 8 ≤ j
-    → (j < slotHead t) ⊎ (slotHead t + 3 ≤ j) → getD (set heads i v) j 0 ≡ getD heads j 0
+heads-set : (heads : List ℕ) (t i v : ℕ) → (i < placeWords) ⊎ ((slotHead t ≤ i) × (i < slotHead t + slotNumbers)) → (j : ℕ) → placeWords ≤ j
+    → (j < slotHead t) ⊎ (slotHead t + slotNumbers ≤ j) → getD (set heads i v) j 0 ≡ getD heads j 0
 heads-set heads t i v w j b o =
     getD-set-other heads i j v 0 (λ q. ⊎-elim (λ x. omega arith) (λ x. ⊎-elim (λ y. omega (arith, x .0)) (λ y. omega (arith, x .1)) o) w)
 
@@ -212,7 +184,8 @@ module _ (h : Holder) (t : ℕ) where
       }
 
   pub ended-beside : (p : ℕ) → p < parties → Beside h (ended h p) t
-  ended-beside p l = record { spans = λ u d. refl; numbers = λ u d. refl; heads = heads-set (h .heads) t (4 * p) 0 (inl (omega arith)) }
+  ended-beside p l =
+      record { spans = λ u d. refl; numbers = λ u d. refl; heads = heads-set (h .heads) t (draftHead p) 0 (inl (omega arith)) }
 
 -- ---- prepare
 
@@ -262,7 +235,7 @@ prepare-asks h fit p k = asks-same h (prepareOf h p k .holder) (prepare-keeps h 
 
 -- ---- one store of a word, as clear and commit make it
 
-module _ (h : Holder) (z w : ℕ) (l : z < 8) where
+module _ (h : Holder) (z w : ℕ) (l : z < parties * places) where
   slot-kept : (u : ℕ) → workAt (h .rows) (h .numbers) (set (h .heads) (placeWord z) w) u ≡ workAt (h .rows) (h .numbers) (h .heads) u
   unfolding workAt
   slot-kept u =
@@ -285,12 +258,12 @@ module _ (h : Holder) (z w : ℕ) (l : z < 8) where
 
 -- A commit writes nothing, or one number
 pub commit-one : (heads : List ℕ) (p k w : ℕ)
-    → (commitOf heads p k w ≡ heads) ⊎ ((spot p k < 8) × (commitOf heads p k w ≡ set heads (placeWord (spot p k)) w))
+    → (commitOf heads p k w ≡ heads) ⊎ ((spot p k < parties * places) × (commitOf heads p k w ≡ set heads (placeWord (spot p k)) w))
 unfolding commitOf
 commit-one heads p k w = go (badParty p) (badPlace k) (eqb w 0) refl refl refl
   where
     go : (t u v : Bool) → badParty p ≡ t → badPlace k ≡ u → eqb w 0 ≡ v
-        → (commitOf heads p k w ≡ heads) ⊎ ((spot p k < 8) × (commitOf heads p k w ≡ set heads (placeWord (spot p k)) w))
+        → (commitOf heads p k w ≡ heads) ⊎ ((spot p k < parties * places) × (commitOf heads p k w ≡ set heads (placeWord (spot p k)) w))
     go true u v e f g = inl (rw e)
     go false true v e f g = inl (rw (e, f))
     go false false true e f g = inl (rw (e, f, g))

@@ -25,7 +25,7 @@ use Rattle.calls.specs.declared.Action.the-variants.{Begin, Add, Drop, Clear, C
 use Rattle.windows.specs.Windows.{window}
 use Rattle.windows.proofs.Slots.{window-paste-before, window-paste-after}
 use Rattle.span_list.specs.SpanList.{slotBytes}
-use Rattle.holder_memory.specs.Layout.{Holder, own, spot, placeWord, slotHead, slotHeadPut, Fits}
+use Rattle.holder_memory.specs.Layout.{Holder, own, spot, placeWord, slotHead, slotHeadPut, Fits, draftHead, slotNumbers}
 use Rattle.holder_memory.specs.Words.{freeSlot}
 use Rattle.holder_memory.proofs.Free.{tag-below}
 use Rattle.holder_answers.specs.Arrays.{Answered, Preparation, begun, count, withHeads, ended, worded, filled, lengthened, opened, beginOf}
@@ -88,18 +88,18 @@ module _ (h : Holder) (p : ℕ) (l : p < parties) where
 
   opened-kept : (s : Point) → OthersKept h (opened h p s) p
   opened-kept s =
-      let h₁ : Holder = withHeads h (set (h .heads) (4 * p + 1) (s .col)) in
-      let h₂ : Holder = withHeads h (set (h₁ .heads) (4 * p + 2) (s .row)) in
-      let h₃ : Holder = withHeads h (set (h₂ .heads) (4 * p + 3) 0) in
+      let h₁ : Holder = withHeads h (set (h .heads) (draftHead p + 1) (s .col)) in
+      let h₂ : Holder = withHeads h (set (h₁ .heads) (draftHead p + 2) (s .row)) in
+      let h₃ : Holder = withHeads h (set (h₂ .heads) (draftHead p + 3) 0) in
       kept-next h h₃ _ p
       (kept-next h h₂ h₃ p
-      (kept-next h h₁ h₂ p (head-kept h p (4 * p + 1) (s .col) (inl (omega arith, omega arith)))
-      (head-kept h₁ p (4 * p + 2) (s .row) (inl (omega arith, omega arith))))
-      (head-kept h₂ p (4 * p + 3) 0 (inl (omega arith, omega arith))))
-      (head-kept h₃ p (4 * p) 1 (inl (omega arith, omega arith)))
+      (kept-next h h₁ h₂ p (head-kept h p (draftHead p + 1) (s .col) (inl (omega arith, omega arith)))
+      (head-kept h₁ p (draftHead p + 2) (s .row) (inl (omega arith, omega arith))))
+      (head-kept h₂ p (draftHead p + 3) 0 (inl (omega arith, omega arith))))
+      (head-kept h₃ p (draftHead p) 1 (inl (omega arith, omega arith)))
 
   ended-kept : OthersKept h (ended h p) p
-  ended-kept = head-kept h p (4 * p) 0 (inl (omega arith, omega arith))
+  ended-kept = head-kept h p (draftHead p) 0 (inl (omega arith, omega arith))
 
   more-kept : (a : ℕ) → count h p < longest → OthersKept h (lengthened h p a) p
   more-kept a room =
@@ -108,7 +108,7 @@ module _ (h : Holder) (p : ℕ) (l : p < parties) where
             getD-set-other (h .letters) (longest * p + count h p) i a 0 (λ e. ⊎-elim (λ b. omega arith) (λ b. omega arith) o);
         rows = λ i o. refl;
         numbers = λ i o. refl;
-        heads = head-kept h p (4 * p + 3) (count h p + 1) (inl (omega arith, omega arith)) .heads;
+        heads = head-kept h p (draftHead p + 3) (count h p + 1) (inl (omega arith, omega arith)) .heads;
       }
 
   -- ---- places
@@ -134,7 +134,7 @@ module _ (h : Holder) (fit : Fits h) (p : ℕ) (l : p < parties) where
   abbrev t : ℕ
   t = freeSlot (h .heads) p
 
-  slot-head : (i : ℕ) → slotHead t ≤ i → i < slotHead t + 3 → HeadOf p i
+  slot-head : (i : ℕ) → slotHead t ≤ i → i < slotHead t + slotNumbers → HeadOf p i
   slot-head i b c = inr (inr (omega (arith, tag-below (h .heads) p), omega (arith, tag-below (h .heads) p)))
 
   slot-kept : (a : Point) (n : ℕ) → OthersKept h (withHeads h (slotHeadPut (h .heads) t a n)) p

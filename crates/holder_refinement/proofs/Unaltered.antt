@@ -1,5 +1,5 @@
 -- A refused call leaves every number of the arrays, whatever they held; a refused close may end its draft.
-use Prim.Native.Nat.{ℕ, _*_}
+use Prim.Native.Nat.{ℕ}
 use mathlib.Core.Path.{_≡_, refl}
 use mathlib.Core.Bool.{Bool, true, false, cond, true≢false}
 use mathlib.Core.Logic.{_⊎_, inl, inr}
@@ -18,7 +18,7 @@ use Rattle.calls.specs.declared.Action.{Action}
 use Rattle.calls.specs.declared.Action.the-variants.{Begin, Add, Drop, Clear, Close, Ask}
 use Rattle.calls.specs.declared.Reply.the-variants.{Taken as WasTaken, Same}
 use Rattle.holder_records.specs.Work.{listed, hasEdges}
-use Rattle.holder_memory.specs.Layout.{Holder}
+use Rattle.holder_memory.specs.Layout.{Holder, draftHead}
 use Rattle.holder_answers.specs.Arrays.{Answered, begun, count, workIn, ended, beginOf, addOf, dropOf, clearOf, Preparation, preparedBy}
 use Rattle.holder_answers.specs.Arrays.{preparedOf, prepareOf, committed, closeOf, actOf, answerOf}
 use Rattle.holder_refinement.proofs.Turns.{commit-zero}
@@ -73,13 +73,13 @@ module _ (h : Holder) (p : ℕ) where
 
   closed-same : (k : ℕ) (o : Outline) (j : Judged) (v : Verdict) → Refuses k (preparedBy h p k o j v)
   unfolding preparedBy
-  closed-same k o j (Refused f) r = inr (rw (commit-zero (set (h .heads) (4 * p) 0) p k))
+  closed-same k o j (Refused f) r = inr (rw (commit-zero (set (h .heads) (draftHead p) 0) p k))
   closed-same k o j (Taken n a) r = absurd (r (accepted (hasEdges (workIn h p k) a (listed (j .numbers) n)) n a))
 
   close-same : (k : ℕ) → IfRefused Ended (closeOf h p k)
   unfolding closeOf preparedOf
   close-same k =
-      each k (badPlace k) _ _ (λ r. inr (rw (commit-zero (set (h .heads) (4 * p) 0) p k)))
+      each k (badPlace k) _ _ (λ r. inr (rw (commit-zero (set (h .heads) (draftHead p) 0) p k)))
       (each k (begun h p) _ _ (closed-same k _ _ _) (λ r. inl (rw (commit-zero (h .heads) p k))))
 
   -- ---- prepare

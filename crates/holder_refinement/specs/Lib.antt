@@ -1,2 +1,3 @@
--- What the plain book says of a draft.
+-- What the plain book says of a draft; stores into the arrays.
 pub mod Told
+pub mod Stores
