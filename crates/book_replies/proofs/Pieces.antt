@@ -10,6 +10,7 @@ use lib.ListN.{length, drop, getD, List·getD-append, length-append, length-map}
 use lib.IntN.{ℤ, pos}
 use Rattle.chart.specs.Outline.{Outline}
 use Rattle.chart.specs.declared.Point.{Point}
+use Rattle.chart.specs.declared.Refusal.the-variants.{NothingAtWork}
 use Rattle.convexity.specs.Clockwise.{border, block}
 use Rattle.convexity.specs.Pieces.{edges}
 use Rattle.calls.specs.Calls.{parties, places, by}
@@ -18,7 +19,7 @@ use Rattle.calls.specs.declared.Action.the-variants.{Ask}
 use Rattle.calls.specs.declared.Question.the-variants.{Piece as OfPiece}
 use Rattle.calls.specs.declared.Piece.the-variants.{Move as MoveTo, Line as LineTo, Close as Closed, None as NoPiece}
 use Rattle.calls.specs.declared.Reply.{Reply}
-use Rattle.calls.specs.declared.Reply.the-variants.{Drawn, NothingAtWork}
+use Rattle.calls.specs.declared.Reply.the-variants.{Drawn, Refused as WasRefused}
 use Rattle.drawing.specs.declared.Stroke.{Stroke}
 use Rattle.drawing.specs.declared.Stroke.the-variants.{Move, Line, Close, None}
 use Rattle.convexity.specs.Edges.{pairs}
@@ -44,7 +45,7 @@ module _ (p k : ℕ) (there : p < parties) (inside : k < places) (cs : List Call
   abbrev reply : ℕ → Reply
   reply n = replyTo cs (by p (Ask k (OfPiece n)))
 
-  pub piece-nothing : (n : ℕ) → lastTaken p k cs ≡ none → reply n ≡ NothingAtWork
+  pub piece-nothing : (n : ℕ) → lastTaken p k cs ≡ none → reply n ≡ WasRefused NothingAtWork
   unfolding asks askedPiece
   piece-nothing n last = ask-reply p k there inside cs (OfPiece n) ∙ ap (askedPiece n) last
 

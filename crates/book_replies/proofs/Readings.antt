@@ -15,7 +15,7 @@ use Rattle.rounding.specs.Units.{value}
 use Rattle.chart.specs.Limits.{side}
 use Rattle.chart.specs.Outline.{Outline}
 use Rattle.chart.specs.declared.Point.{Point}
-use Rattle.chart.specs.declared.Refusal.the-variants.{Cell}
+use Rattle.chart.specs.declared.Refusal.the-variants.{Cell, NothingAtWork}
 use Rattle.convexity.specs.Clockwise.{border, block}
 use Rattle.convexity.specs.Pieces.{edges}
 use Rattle.convexity.proofs.AsSent.{block-from-w, clear-of}
@@ -25,7 +25,7 @@ use Rattle.calls.specs.declared.Action.the-variants.{Ask}
 use Rattle.calls.specs.declared.Question.the-variants.{Reading as OfReading}
 use Rattle.calls.specs.declared.Reading.{Reading}
 use Rattle.calls.specs.declared.Reply.{Reply}
-use Rattle.calls.specs.declared.Reply.the-variants.{Inside, Outside, Undecided, Refused as WasRefused, NothingAtWork}
+use Rattle.calls.specs.declared.Reply.the-variants.{Inside, Outside, Undecided, Refused as WasRefused}
 use Rattle.readings.specs.declared.Located.{Located}
 use Rattle.readings.specs.declared.Located.the-variants.{Inside as IsInside, Outside as IsOutside, Undecided as IsUndecided}
 use Rattle.readings.specs.declared.Located.the-variants.{Refused as IsRefused}
@@ -67,7 +67,7 @@ module _ (p k : ℕ) (there : p < parties) (inside : k < places) (cs : List Call
   asking = by p (Ask k (OfReading x))
 
   -- 12 is checked before 11 (contract 7.10)
-  pub reading-nothing : lastTaken p k cs ≡ none → replyTo cs asking ≡ NothingAtWork
+  pub reading-nothing : lastTaken p k cs ≡ none → replyTo cs asking ≡ WasRefused NothingAtWork
   unfolding asks askedReading
   reading-nothing last = ask-reply p k there inside cs (OfReading x) ∙ ap (askedReading x) last
 

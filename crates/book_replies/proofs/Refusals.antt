@@ -14,7 +14,7 @@ use Rattle.chart.specs.Limits.{side, longest}
 use Rattle.chart.specs.Outline.{Outline}
 use Rattle.chart.specs.Fields.{verdictFields}
 use Rattle.chart.specs.declared.Point.{Point}
-use Rattle.chart.specs.declared.Refusal.the-variants.{Cell}
+use Rattle.chart.specs.declared.Refusal.the-variants.{Cell, Place}
 use Rattle.chart.specs.declared.Verdict.{Verdict}
 use Rattle.chart.specs.declared.Verdict.the-variants.{Taken, Refused}
 use Rattle.lattice.specs.Refusals.{badStart}
@@ -44,7 +44,7 @@ use Rattle.calls.specs.declared.Action.the-variants.{Begin, Add, Drop, Clear, C
 use Rattle.calls.specs.declared.Question.{Question}
 use Rattle.calls.specs.declared.Question.the-variants.{Cell as OfCell, Row as OfRow, Reading as OfReading, Piece as OfPiece}
 use Rattle.calls.specs.declared.Reply.{Reply}
-use Rattle.calls.specs.declared.Reply.the-variants.{Inside, Outside, Refused as WasRefused, NoPlace}
+use Rattle.calls.specs.declared.Reply.the-variants.{Inside, Outside, Refused as WasRefused}
 use Rattle.holder_model.specs.Book.{PartyModel, OnDraft, OnParty, fresh, begins, adds, drops, equalsWork, closedReply, closes}
 use Rattle.holder_model.specs.Book.{asked, askedRow, askedReading, askedPiece, asks, acts, answer, bookAfter}
 use Rattle.holder_model.specs.LastTaken.{lastTaken}
@@ -170,11 +170,11 @@ record Placed (a : Action) (r : Reply) : Type 0 where
 small : (a : Action) (r : Reply) → noSuchPlace a ≡ false → number r ≤ 16 → Placed a r
 small a r e s = record { low = λ f. s; high = λ f. absurd (true≢false (sym f ∙ e)) }
 
-twenty : (a : Action) → noSuchPlace a ≡ true → Placed a NoPlace
+twenty : (a : Action) → noSuchPlace a ≡ true → Placed a (WasRefused Place)
 unfolding replyFields
 twenty a e = record { low = λ f. absurd (true≢false (sym e ∙ f)); high = λ f. refl }
 
-by-place : (a : Action) (t : Bool) → noSuchPlace a ≡ t → (x y : OnParty) → x .reply ≡ NoPlace → number (y .reply) ≤ 16
+by-place : (a : Action) (t : Bool) → noSuchPlace a ≡ t → (x y : OnParty) → x .reply ≡ WasRefused Place → number (y .reply) ≤ 16
     → Placed a (cond t x y .reply)
 by-place a true e x y n s = rw n (twenty a e)
 by-place a false e x y n s = small a (y .reply) e s
@@ -188,7 +188,7 @@ acts-placed g (Clear k) = by-place (Clear k) (badPlace k) refl _ _ refl (unfold 
 acts-placed g (Close k) = by-place (Close k) (badPlace k) refl _ _ refl (closes-small (g .draft) (g .works k))
 acts-placed g (Ask k q) = go (badPlace k) refl
   where
-    go : (t : Bool) → badPlace k ≡ t → Placed (Ask k q) (cond t NoPlace (asks q (g .works k)))
+    go : (t : Bool) → badPlace k ≡ t → Placed (Ask k q) (cond t (WasRefused Place) (asks q (g .works k)))
     go true e = twenty (Ask k q) e
     go false e = small (Ask k q) _ e (asks-small q (g .works k))
 

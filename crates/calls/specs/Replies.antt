@@ -1,14 +1,12 @@
 -- Every case of `Reply` in seven fields: number, word and the rest (contract 4 and 5).
 use Rattle.chart.specs.declared.Fields.{Fields}
-use Rattle.chart.specs.Fields.{numbered, worded, accepted, refusalFields, no-word, inside, outside, undecided, taken, same}
-use Rattle.chart.specs.Refusals as refusals
+use Rattle.chart.specs.Fields.{worded, accepted, refusalFields, no-word, inside, outside, undecided, taken, same}
 pub use Rattle.chart.specs.Fields.{none, columns, move, line, close}
 use Rattle.chart.specs.declared.Point.{Point}
 use Rattle.calls.specs.declared.Piece.{Piece}
 use Rattle.calls.specs.declared.Piece.the-variants.{Move, Line, Close, None as NoPiece}
 use Rattle.calls.specs.declared.Reply.{Reply}
 use Rattle.calls.specs.declared.Reply.the-variants.{Done, Inside, Outside, Undecided, Columns, None, Drawn, Taken, Same, Refused}
-use Rattle.calls.specs.declared.Reply.the-variants.{NothingAtWork, NoDraft, DraftOpen, DraftFull, NoParty, NoPlace}
 
 -- A piece in seven numbers: its word and, for a move or a line, the cell whose centre is the point (contract 7.11)
 unfoldable pub pieceFields : Piece → Point → Fields
@@ -29,12 +27,6 @@ replyFields (Drawn p c) = pieceFields p c
 replyFields (Taken n a) = accepted taken n a
 replyFields (Same n a) = accepted same n a
 replyFields (Refused f) = refusalFields f
-replyFields NothingAtWork = numbered refusals.nothing-at-work
-replyFields NoDraft = numbered refusals.no-draft
-replyFields DraftOpen = numbered refusals.draft-open
-replyFields DraftFull = numbered refusals.draft-full
-replyFields NoParty = numbered refusals.party
-replyFields NoPlace = numbered refusals.place
 
 -- The piece in a reply to a piece call. Any other reply has none
 unfoldable pub pieceIn : Reply → Piece
@@ -48,9 +40,3 @@ pieceIn None = NoPiece
 pieceIn (Taken n a) = NoPiece
 pieceIn (Same n a) = NoPiece
 pieceIn (Refused f) = NoPiece
-pieceIn NothingAtWork = NoPiece
-pieceIn NoDraft = NoPiece
-pieceIn DraftOpen = NoPiece
-pieceIn DraftFull = NoPiece
-pieceIn NoParty = NoPiece
-pieceIn NoPlace = NoPiece

@@ -69,18 +69,5 @@ pub enum Reply {
     // Close: the draft is taken. The count of edges, and the anchor.
     Taken { edges: u16, anchor: Point },
     Same { edges: u16, anchor: Point },
-    // Refusals 1 to 11.
     Refused(Refusal),
-    // 12. Nothing is at work at the place.
-    NothingAtWork,
-    // 13. There is no draft to add to, to close or to drop.
-    NoDraft,
-    // 14. A draft is open already.
-    DraftOpen,
-    // 15. The draft has 612 letters already.
-    DraftFull,
-    // 19. The party is above 1.
-    NoParty,
-    // 20. The place is above 3.
-    NoPlace,
 }

@@ -3,7 +3,6 @@ use crate::Piece;
 use crate::Reply;
 use chart::Fields;
 use chart::Point;
-use chart::refusals;
 use chart::reply;
 use chart::reply::NUMBERS;
 ghost use mathlib.Core.Path.{_≡_};
@@ -54,12 +53,6 @@ pub fn of_reply(r: Reply) -> Fields
         Reply::Taken { edges, anchor } => reply::accepted(reply::TAKEN, edges, anchor),
         Reply::Same { edges, anchor } => reply::accepted(reply::SAME, edges, anchor),
         Reply::Refused(why) => reply::of_refusal(why),
-        Reply::NothingAtWork => reply::numbered(refusals::NOTHING_AT_WORK),
-        Reply::NoDraft => reply::numbered(refusals::NO_DRAFT),
-        Reply::DraftOpen => reply::numbered(refusals::DRAFT_OPEN),
-        Reply::DraftFull => reply::numbered(refusals::DRAFT_FULL),
-        Reply::NoParty => reply::numbered(refusals::PARTY),
-        Reply::NoPlace => reply::numbered(refusals::PLACE),
     }
 }
 

@@ -14,7 +14,7 @@ use Rattle.chart.specs.Limits.{longest}
 use Rattle.chart.specs.Outline.{Outline, at, outline}
 use Rattle.chart.specs.declared.Point.{Point}
 use Rattle.chart.specs.declared.Refusal.{Refusal}
-use Rattle.chart.specs.declared.Refusal.the-variants.{Start, Letter}
+use Rattle.chart.specs.declared.Refusal.the-variants.{Start, Letter, NoDraft, DraftOpen, DraftFull, Party, Place}
 use Rattle.chart.specs.declared.Verdict.the-variants.{Taken, Refused}
 use Rattle.judge.specs.declared.Judged.{Judged}
 use Rattle.judge.specs.Judged.{judgedOf}
@@ -24,8 +24,7 @@ use Rattle.calls.specs.Calls.{parties, places, by}
 use Rattle.calls.specs.declared.Call.{Call}
 use Rattle.calls.specs.declared.Action.the-variants.{Begin, Add, Drop, Clear, Close}
 use Rattle.calls.specs.declared.Reply.{Reply}
-use Rattle.calls.specs.declared.Reply.the-variants.{Done, Taken as WasTaken, Same, Refused as WasRefused, NoDraft, DraftOpen, DraftFull}
-use Rattle.calls.specs.declared.Reply.the-variants.{NoPlace, NoParty}
+use Rattle.calls.specs.declared.Reply.the-variants.{Done, Taken as WasTaken, Same, Refused as WasRefused}
 use Rattle.lattice.specs.Refusals.{badStart}
 use Rattle.holder_records.specs.Work.{listed, hasEdges}
 use Rattle.windows.specs.Windows.{window}
@@ -34,10 +33,10 @@ use Rattle.holder_memory.specs.Layout.{Holder, own, placeWord, arrays, spot, wo
 use Rattle.holder_answers.specs.Arrays.{Preparation, preparation, reply, begun, count, draftIn, slotIn, withHeads, ended, worded}
 use Rattle.holder_answers.specs.Arrays.{filled, beginOf, addOf, dropOf, clearOf, preparedBy, preparedOf, prepareOf, commitOf, closeOf}
 use Rattle.holder_answers.specs.Arrays.{actOf, answerOf, draftOf}
-use Rattle.holder_answers.specs.declared.Drafting.the-variants.{Unknown, Closed, Open}
+use Rattle.holder_answers.specs.declared.Drafting.the-variants.{Refused as Undrafted, Open}
 use Rattle.holder_memory.specs.Words.{wordOf, freeTag}
 
-pub no-party : (h : Holder) (c : Call) → parties ≤ c .party → reply NoParty h ≡ answerOf h c
+pub no-party : (h : Holder) (c : Call) → parties ≤ c .party → reply (WasRefused Party) h ≡ answerOf h c
 unfolding answerOf
 no-party h c b = rw (le-leb parties (c .party) b)
 
@@ -65,12 +64,12 @@ module _ (h : Holder) (p : ℕ) (there : p < parties) where
   -- ---- add
 
   module _ (a : ℕ) where
-    pub add-none : getD (h .heads) (4 * p) 0 ≡ 0 → reply NoDraft h ≡ answerOf h (by p (Add a))
+    pub add-none : getD (h .heads) (4 * p) 0 ≡ 0 → reply (WasRefused NoDraft) h ≡ answerOf h (by p (Add a))
     unfolding answerOf actOf addOf
     add-none e = rw (lt-leb parties p there, none-begun h p e)
 
     module _ (one : getD (h .heads) (4 * p) 0 ≡ 0 → ⊥) where
-      pub add-full : longest ≤ count h p → reply DraftFull h ≡ answerOf h (by p (Add a))
+      pub add-full : longest ≤ count h p → reply (WasRefused DraftFull) h ≡ answerOf h (by p (Add a))
       unfolding answerOf actOf addOf
       add-full f = rw (lt-leb parties p there, one-begun h p one, le-leb longest (count h p) f)
 
@@ -87,7 +86,7 @@ module _ (h : Holder) (p : ℕ) (there : p < parties) where
 
   -- ---- begin, drop and clear
 
-  pub begin-open : (s : Point) → (getD (h .heads) (4 * p) 0 ≡ 0 → ⊥) → reply DraftOpen h ≡ answerOf h (by p (Begin s))
+  pub begin-open : (s : Point) → (getD (h .heads) (4 * p) 0 ≡ 0 → ⊥) → reply (WasRefused DraftOpen) h ≡ answerOf h (by p (Begin s))
   unfolding answerOf actOf beginOf
   begin-open s e = rw (lt-leb parties p there, one-begun h p e)
 
@@ -101,7 +100,7 @@ module _ (h : Holder) (p : ℕ) (there : p < parties) where
   unfolding answerOf actOf beginOf
   begin-done s e b heads put = rw (lt-leb parties p there, none-begun h p e, b, put)
 
-  pub drop-none : getD (h .heads) (4 * p) 0 ≡ 0 → reply NoDraft h ≡ answerOf h (by p Drop)
+  pub drop-none : getD (h .heads) (4 * p) 0 ≡ 0 → reply (WasRefused NoDraft) h ≡ answerOf h (by p Drop)
   unfolding answerOf actOf dropOf
   drop-none e = rw (lt-leb parties p there, none-begun h p e)
 
@@ -109,7 +108,7 @@ module _ (h : Holder) (p : ℕ) (there : p < parties) where
   unfolding answerOf actOf dropOf
   drop-done e = rw (lt-leb parties p there, one-begun h p e)
 
-  pub clear-no-place : (k : ℕ) → places ≤ k → reply NoPlace h ≡ answerOf h (by p (Clear k))
+  pub clear-no-place : (k : ℕ) → places ≤ k → reply (WasRefused Place) h ≡ answerOf h (by p (Clear k))
   unfolding answerOf actOf clearOf
   clear-no-place k b = rw (lt-leb parties p there, le-leb places k b)
 
@@ -119,7 +118,7 @@ module _ (h : Holder) (p : ℕ) (there : p < parties) where
 
   -- ---- what is drafted
 
-  pub draft-closed : getD (h .heads) (4 * p) 0 ≡ 0 → Closed ≡ draftOf h p
+  pub draft-closed : getD (h .heads) (4 * p) 0 ≡ 0 → Undrafted NoDraft ≡ draftOf h p
   unfolding draftOf
   draft-closed e = rw (lt-leb parties p there, none-begun h p e)
 
@@ -131,12 +130,12 @@ module _ (h : Holder) (p : ℕ) (there : p < parties) where
   -- ---- prepare
 
   module _ (k : ℕ) where
-    pub prepare-no-place : places ≤ k → preparation NoPlace 0 (ended h p) ≡ prepareOf h p k
+    pub prepare-no-place : places ≤ k → preparation (WasRefused Place) 0 (ended h p) ≡ prepareOf h p k
     unfolding prepareOf preparedOf
     prepare-no-place b = rw (lt-leb parties p there, le-leb places k b)
 
     module _ (m : k < places) where
-      pub prepare-none : getD (h .heads) (4 * p) 0 ≡ 0 → preparation NoDraft 0 h ≡ prepareOf h p k
+      pub prepare-none : getD (h .heads) (4 * p) 0 ≡ 0 → preparation (WasRefused NoDraft) 0 h ≡ prepareOf h p k
       unfolding prepareOf preparedOf
       prepare-none e = rw (lt-leb parties p there, lt-leb places k m, none-begun h p e)
 
@@ -157,11 +156,11 @@ module _ (h : Holder) (p : ℕ) (there : p < parties) where
         unfolding preparedBy
         prepare-taken n a v u at-u same e r is t free w word g put = sym (prepares ∙ rw (v, is, e, put, word, free, at-u))
 
-pub draft-unknown : (h : Holder) (p : ℕ) → parties ≤ p → Unknown ≡ draftOf h p
+pub draft-unknown : (h : Holder) (p : ℕ) → parties ≤ p → Undrafted Party ≡ draftOf h p
 unfolding draftOf
 draft-unknown h p b = rw (le-leb parties p b)
 
-pub prepare-no-party : (h : Holder) (p k : ℕ) → parties ≤ p → preparation NoParty 0 h ≡ prepareOf h p k
+pub prepare-no-party : (h : Holder) (p k : ℕ) → parties ≤ p → preparation (WasRefused Party) 0 h ≡ prepareOf h p k
 unfolding prepareOf
 prepare-no-party h p k b = rw (le-leb parties p b)
 
@@ -195,7 +194,7 @@ close-made h n p k r w e heads c = go (leb parties p) refl
 
     go : (t : Bool) → leb parties p ≡ t → reply r (withHeads n heads) ≡ answerOf h (by p (Close k))
     go true b =
-        let q : preparation r w n ≡ preparation NoParty 0 h = e ∙ rw b in
+        let q : preparation r w n ≡ preparation (WasRefused Party) 0 h = e ∙ rw b in
         let u : n .heads ≡ commitOf (n .heads) p k w = commit-no-party (n .heads) p k w (leb-true parties p b) in
         all ∙ rw (sym u, b) (ap (λ (x : Preparation). reply (x .reply) (x .holder)) q)
     go false b =

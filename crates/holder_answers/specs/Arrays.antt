@@ -8,7 +8,7 @@ use lib.Dec.{leb, ltb, eqb}
 use Rattle.chart.specs.Limits.{longest}
 use Rattle.chart.specs.Outline.{Outline, at, outline}
 use Rattle.chart.specs.declared.Point.{Point}
-use Rattle.chart.specs.declared.Refusal.the-variants.{Start, Letter}
+use Rattle.chart.specs.declared.Refusal.the-variants.{Start, Letter, NoDraft, DraftOpen, DraftFull, Party, Place}
 use Rattle.chart.specs.declared.Verdict.{Verdict}
 use Rattle.chart.specs.declared.Verdict.the-variants.{Taken, Refused}
 use Rattle.lattice.specs.Refusals.{badStart}
@@ -21,15 +21,14 @@ use Rattle.calls.specs.declared.Call.{Call}
 use Rattle.calls.specs.declared.Action.{Action}
 use Rattle.calls.specs.declared.Action.the-variants.{Begin, Add, Drop, Clear, Close, Ask}
 use Rattle.calls.specs.declared.Reply.{Reply}
-use Rattle.calls.specs.declared.Reply.the-variants.{Done, Taken as WasTaken, Same, Refused as WasRefused, NoDraft, DraftOpen, DraftFull}
-use Rattle.calls.specs.declared.Reply.the-variants.{NoPlace, NoParty}
+use Rattle.calls.specs.declared.Reply.the-variants.{Done, Taken as WasTaken, Same, Refused as WasRefused}
 use Rattle.holder_records.specs.Work.{Work, listed, hasEdges, answered}
 use Rattle.windows.specs.Windows.{window}
 use Rattle.span_list.specs.SpanList.{rowsPut}
 use Rattle.holder_memory.specs.Layout.{draftHead, placeWord, Holder, arrays, numbersPut, openPut, slotHeadPut, spot, workAt}
 use Rattle.holder_memory.specs.Words.{wordOf, slotOf, freeTag, freeSlot}
 use Rattle.holder_answers.specs.declared.Drafting.{Drafting}
-use Rattle.holder_answers.specs.declared.Drafting.the-variants.{Unknown, Closed, Open}
+use Rattle.holder_answers.specs.declared.Drafting.the-variants.{Refused as Undrafted, Open}
 
 -- A reply, and the next holder
 pub record Answered : Type 0 where
@@ -97,23 +96,23 @@ filled h t a es n x = arrays (h .letters) (rowsPut (h .rows) t x) (numbersPut (h
 
 unfoldable pub beginOf : Holder → ℕ → Point → Answered
 beginOf h p s =
-    cond (begun h p) (reply DraftOpen h)
+    cond (begun h p) (reply (WasRefused DraftOpen) h)
     (cond (badStart s) (reply (WasRefused Start) h)
     (reply Done (opened h p s)))
 
 unfoldable pub addOf : Holder → ℕ → ℕ → Answered
 addOf h p a =
     cond (begun h p)
-    (cond (leb longest (count h p)) (reply DraftFull h)
+    (cond (leb longest (count h p)) (reply (WasRefused DraftFull) h)
     (cond (ltb 3 a) (reply (WasRefused (Letter (count h p))) h)
     (reply Done (lengthened h p a))))
-    (reply NoDraft h)
+    (reply (WasRefused NoDraft) h)
 
 unfoldable pub dropOf : Holder → ℕ → Answered
-dropOf h p = cond (begun h p) (reply Done (ended h p)) (reply NoDraft h)
+dropOf h p = cond (begun h p) (reply Done (ended h p)) (reply (WasRefused NoDraft) h)
 
 unfoldable pub clearOf : Holder → ℕ → ℕ → Answered
-clearOf h p k = cond (badPlace k) (reply NoPlace h) (reply Done (worded h (spot p k) 0))
+clearOf h p k = cond (badPlace k) (reply (WasRefused Place) h) (reply Done (worded h (spot p k) 0))
 
 -- Close is prepare and commit. Prepare replies, ends the draft and fills the party's slot that no place names; its word is 0 if it refuses
 unfoldable pub preparedBy : Holder → ℕ → ℕ → Outline → Judged → Verdict → Preparation
@@ -124,12 +123,12 @@ preparedBy h p k o j (Taken n a) =
 
 unfoldable pub preparedOf : Holder → ℕ → ℕ → Preparation
 preparedOf h p k =
-    cond (badPlace k) (preparation NoPlace 0 (ended h p))
+    cond (badPlace k) (preparation (WasRefused Place) 0 (ended h p))
     (cond (begun h p) (preparedBy h p k (draftIn h p) (judgedOf (draftIn h p)) (judgedOf (draftIn h p) .verdict))
-    (preparation NoDraft 0 h))
+    (preparation (WasRefused NoDraft) 0 h))
 
 unfoldable pub prepareOf : Holder → ℕ → ℕ → Preparation
-prepareOf h p k = cond (badParty p) (preparation NoParty 0 h) (preparedOf h p k)
+prepareOf h p k = cond (badParty p) (preparation (WasRefused Party) 0 h) (preparedOf h p k)
 
 -- Commit writes a word that is not 0 at the spot, and nothing else
 unfoldable pub commitOf : List ℕ → ℕ → ℕ → ℕ → List ℕ
@@ -148,13 +147,14 @@ actOf h p (Add a) = addOf h p a
 actOf h p Drop = dropOf h p
 actOf h p (Clear k) = clearOf h p k
 actOf h p (Close k) = closeOf h p k
-actOf h p (Ask k q) = reply (cond (badPlace k) NoPlace (answered (workIn h p k) q)) h
+actOf h p (Ask k q) = reply (cond (badPlace k) (WasRefused Place) (answered (workIn h p k) q)) h
 
 unfoldable pub answerOf : Holder → Call → Answered
-answerOf h c = cond (badParty (c .party)) (reply NoParty h) (actOf h (c .party) (c .action))
+answerOf h c = cond (badParty (c .party)) (reply (WasRefused Party) h) (actOf h (c .party) (c .action))
 
 -- Whether party p has a draft, its start and its count
 unfoldable pub draftOf : Holder → ℕ → Drafting
 draftOf h p =
-    cond (badParty p) Unknown
-    (cond (begun h p) (Open (at (getD (h .heads) (draftHead p + 1) 0) (getD (h .heads) (draftHead p + 2) 0)) (count h p)) Closed)
+    cond (badParty p) (Undrafted Party)
+    (cond (begun h p) (Open (at (getD (h .heads) (draftHead p + 1) 0) (getD (h .heads) (draftHead p + 2) 0)) (count h p))
+    (Undrafted NoDraft))

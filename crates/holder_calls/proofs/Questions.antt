@@ -5,6 +5,7 @@ use mathlib.Core.Bool.{Bool, true, false}
 use mathlib.Core.List.{List}
 use lib.ListN.{getD}
 use borrow.Author.Tests.{le-leb, lt-leb}
+use Rattle.chart.specs.declared.Refusal.the-variants.{Party, Place}
 use Rattle.calls.specs.Calls.{parties, places, badParty, badPlace, by}
 use Rattle.calls.specs.declared.Action.the-variants.{Ask}
 use Rattle.calls.specs.declared.Question.{Question}
@@ -15,15 +16,15 @@ use Rattle.holder_answers.specs.Arrays.{reply}
 use Rattle.holder_answers.specs.Arrays.{actOf, answerOf}
 use Rattle.holder_memory.specs.Words.{slotOf}
 use Rattle.holder_calls.specs.declared.Asked.{Asked}
-use Rattle.holder_calls.specs.declared.Asked.the-variants.{NoParty as Unasked, NoPlace as Unplaced, Slot}
+use Rattle.holder_calls.specs.declared.Asked.the-variants.{Refused, Slot}
 use Rattle.holder_calls.specs.parts.Asked.{askedAt, askedReply}
 
 module _ (heads : List ℕ) (p k : ℕ) where
-  pub asked-no-party : parties ≤ p → Unasked ≡ askedAt heads p k
+  pub asked-no-party : parties ≤ p → Refused Party ≡ askedAt heads p k
   unfolding askedAt
   asked-no-party b = rw (le-leb parties p b)
 
-  pub asked-no-place : p < parties → places ≤ k → Unplaced ≡ askedAt heads p k
+  pub asked-no-place : p < parties → places ≤ k → Refused Place ≡ askedAt heads p k
   unfolding askedAt
   asked-no-place l b = rw (lt-leb parties p l, le-leb places k b)
 

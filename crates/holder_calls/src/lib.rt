@@ -31,8 +31,7 @@ ghost use Rattle.holder_calls.specs.parts.Asked.{askedAt};
 
 // Where a question looks: 19, 20, or the slot that the place names, 10 for none.
 enum Asked {
-    NoParty,
-    NoPlace,
+    Refused(Refusal),
     Slot(usize),
 }
 
@@ -44,16 +43,16 @@ pub fn add(letters: &mut [u8; LETTERS], heads: &mut [u16; HEADS], party: u8, let
 {
     let p = party as usize;
     if PARTIES <= p {
-        return Reply::NoParty;
+        return Reply::Refused(Refusal::Party);
     }
     let at = DRAFT_NUMBERS * p;
     if heads[at] == 0 {
-        return Reply::NoDraft;
+        return Reply::Refused(Refusal::NoDraft);
     }
     let count = heads[at + 3];
     let n = wide(count);
     if LONGEST <= n {
-        return Reply::DraftFull;
+        return Reply::Refused(Refusal::DraftFull);
     }
     if 3 < letter {
         return Reply::Refused(Refusal::Letter { place: count });
@@ -86,11 +85,11 @@ pub fn begin(heads: &mut [u16; HEADS], party: u8, start: Point) -> Reply
 {
     let p = party as usize;
     if PARTIES <= p {
-        return Reply::NoParty;
+        return Reply::Refused(Refusal::Party);
     }
     let at = DRAFT_NUMBERS * p;
     if heads[at] != 0 {
-        return Reply::DraftOpen;
+        return Reply::Refused(Refusal::DraftOpen);
     }
     if bad_start(start) {
         return Reply::Refused(Refusal::Start);
@@ -107,11 +106,11 @@ pub fn drop(heads: &mut [u16; HEADS], party: u8) -> Reply
 {
     let p = party as usize;
     if PARTIES <= p {
-        return Reply::NoParty;
+        return Reply::Refused(Refusal::Party);
     }
     let at = DRAFT_NUMBERS * p;
     if heads[at] == 0 {
-        return Reply::NoDraft;
+        return Reply::Refused(Refusal::NoDraft);
     }
     heads[at] = 0;
     Reply::Done
@@ -125,11 +124,11 @@ pub fn clear(heads: &mut [u16; HEADS], party: u8, place: u8) -> Reply
 {
     let p = party as usize;
     if PARTIES <= p {
-        return Reply::NoParty;
+        return Reply::Refused(Refusal::Party);
     }
     let k = place as usize;
     if PLACES <= k {
-        return Reply::NoPlace;
+        return Reply::Refused(Refusal::Place);
     }
     heads[PLACE_WORDS + (PLACES * p + k)] = 0;
     Reply::Done
@@ -141,11 +140,11 @@ fn slot_at(heads: &[u16; HEADS], party: u8, place: u8) -> Asked
 {
     let p = party as usize;
     if PARTIES <= p {
-        return Asked::NoParty;
+        return Asked::Refused(Refusal::Party);
     }
     let k = place as usize;
     if PLACES <= k {
-        return Asked::NoPlace;
+        return Asked::Refused(Refusal::Place);
     }
     Asked::Slot(slot_of(p, heads[PLACE_WORDS + (PLACES * p + k)]))
 }
@@ -164,8 +163,7 @@ pub fn query<'a>(
         (by party (Action.Ask place (Question.Cell cell)))) ⌝ }
 {
     match slot_at(heads, party, place) {
-        Asked::NoParty => Reply::NoParty,
-        Asked::NoPlace => Reply::NoPlace,
+        Asked::Refused(why) => Reply::Refused(why),
         Asked::Slot(slot) => holder_works::query(&rows[..], slot, cell),
     }
 }
@@ -184,8 +182,7 @@ pub fn row<'a>(
         (by party (Action.Ask place (Question.Row row)))) ⌝ }
 {
     match slot_at(heads, party, place) {
-        Asked::NoParty => Reply::NoParty,
-        Asked::NoPlace => Reply::NoPlace,
+        Asked::Refused(why) => Reply::Refused(why),
         Asked::Slot(slot) => holder_works::row(&rows[..], slot, row),
     }
 }
@@ -204,8 +201,7 @@ pub fn reading<'a>(
         (by party (Action.Ask place (Question.Reading reading)))) ⌝ }
 {
     match slot_at(heads, party, place) {
-        Asked::NoParty => Reply::NoParty,
-        Asked::NoPlace => Reply::NoPlace,
+        Asked::Refused(why) => Reply::Refused(why),
         Asked::Slot(slot) => holder_works::reading(&numbers[..], &heads[..], slot, reading),
     }
 }
@@ -224,8 +220,7 @@ pub fn piece<'a>(
         (by party (Action.Ask place (Question.Piece position)))) ⌝ }
 {
     match slot_at(heads, party, place) {
-        Asked::NoParty => Reply::NoParty,
-        Asked::NoPlace => Reply::NoPlace,
+        Asked::Refused(why) => Reply::Refused(why),
         Asked::Slot(slot) => holder_works::piece(&numbers[..], &heads[..], slot, position),
     }
 }
@@ -236,11 +231,11 @@ pub fn draft(heads: &[u16; HEADS], party: u8) -> Drafting
 {
     let p = party as usize;
     if PARTIES <= p {
-        return Drafting::Unknown;
+        return Drafting::Refused(Refusal::Party);
     }
     let at = DRAFT_NUMBERS * p;
     if heads[at] == 0 {
-        return Drafting::Closed;
+        return Drafting::Refused(Refusal::NoDraft);
     }
     Drafting::Open {
         start: Point {

@@ -6,6 +6,7 @@ use calls::PLACES;
 use calls::Reply;
 use chart::MOST_NUMBERS;
 use chart::Point;
+use chart::Refusal;
 use chart::Verdict;
 use holder_memory::DRAFT_NUMBERS;
 use holder_memory::HEADS;
@@ -88,7 +89,7 @@ pub fn prepare(
     let p = party as usize;
     if PARTIES <= p {
         return Prepared {
-            reply: Reply::NoParty,
+            reply: Reply::Refused(Refusal::Party),
             word: 0,
         };
     }
@@ -97,13 +98,13 @@ pub fn prepare(
     if PLACES <= k {
         heads[at] = 0;
         return Prepared {
-            reply: Reply::NoPlace,
+            reply: Reply::Refused(Refusal::Place),
             word: 0,
         };
     }
     if heads[at] == 0 {
         return Prepared {
-            reply: Reply::NoDraft,
+            reply: Reply::Refused(Refusal::NoDraft),
             word: 0,
         };
     }

@@ -10,14 +10,15 @@ use Rattle.calls.specs.Calls.{badParty, by}
 use Rattle.calls.specs.declared.Call.{Call}
 use Rattle.calls.specs.declared.Action.{Action}
 use Rattle.calls.specs.declared.Reply.{Reply}
-use Rattle.calls.specs.declared.Reply.the-variants.{NoParty}
+use Rattle.chart.specs.declared.Refusal.the-variants.{Party}
+use Rattle.calls.specs.declared.Reply.the-variants.{Refused as WasRefused}
 use Rattle.holder_model.specs.Book.{Book, PartyModel, fresh, acts, answer, repliesFrom, replies}
 use Rattle.holder_model.specs.Parties.{callsOf, repliesTo, actsFrom}
 
 module _ (p : ℕ) where
   -- The reply to a call of party p, and the state of p after any call, from the state of p before
   repliedTo : PartyModel → Action → Reply
-  repliedTo g a = cond (badParty p) NoParty (acts g a .reply)
+  repliedTo g a = cond (badParty p) (WasRefused Party) (acts g a .reply)
 
   turned : PartyModel → Call → PartyModel
   turned g c = cond (badParty (c .party)) g (cond (eqb p (c .party)) (acts g (c .action) .page) g)

@@ -10,7 +10,7 @@ use Rattle.base.specs.Put.{put}
 use Rattle.chart.specs.Limits.{side, longest}
 use Rattle.chart.specs.Outline.{Outline}
 use Rattle.chart.specs.declared.Point.{Point}
-use Rattle.chart.specs.declared.Refusal.the-variants.{Start, Letter, Cell}
+use Rattle.chart.specs.declared.Refusal.the-variants.{Start, Letter, Cell, NothingAtWork, NoDraft, DraftOpen, DraftFull, Party, Place}
 use Rattle.chart.specs.declared.Verdict.{Verdict}
 use Rattle.chart.specs.declared.Verdict.the-variants.{Taken, Refused}
 use Rattle.lattice.specs.Refusals.{badStart}
@@ -31,8 +31,7 @@ use Rattle.calls.specs.declared.Question.{Question}
 use Rattle.calls.specs.declared.Question.the-variants.{Cell as OfCell, Row as OfRow, Reading as OfReading, Piece as OfPiece}
 use Rattle.calls.specs.declared.Reading.{Reading}
 use Rattle.calls.specs.declared.Reply.{Reply}
-use Rattle.calls.specs.declared.Reply.the-variants.{Done, Inside, Outside, Taken as WasTaken, Same, Refused as WasRefused, NothingAtWork}
-use Rattle.calls.specs.declared.Reply.the-variants.{NoDraft, DraftOpen, DraftFull, NoParty, NoPlace}
+use Rattle.calls.specs.declared.Reply.the-variants.{Done, Inside, Outside, Taken as WasTaken, Same, Refused as WasRefused}
 
 -- ---- the state
 
@@ -69,22 +68,22 @@ pub record OnDraft : Type 0 where
 
 -- Begin (contract 7.3). Checks 14 and then 2. The opened draft has no letters yet
 unfoldable pub begins : Point → Option Outline → OnDraft
-begins s (some d) = record { reply = DraftOpen; draft = some d }
+begins s (some d) = record { reply = WasRefused DraftOpen; draft = some d }
 begins s none =
     cond (badStart s) (record { reply = WasRefused Start; draft = none })
     (record { reply = Done; draft = some (record { start = s; letters = [] }) })
 
 -- Add (contract 7.4). Checks 13, 15 and then 3. The place of 3 is where the letter would have stood
 unfoldable pub adds : ℕ → Option Outline → OnDraft
-adds a none = record { reply = NoDraft; draft = none }
+adds a none = record { reply = WasRefused NoDraft; draft = none }
 adds a (some d) =
-    cond (leb longest (length (d .letters))) (record { reply = DraftFull; draft = some d })
+    cond (leb longest (length (d .letters))) (record { reply = WasRefused DraftFull; draft = some d })
     (cond (ltb 3 a) (record { reply = WasRefused (Letter (length (d .letters))); draft = some d })
     (record { reply = Done; draft = some (record { start = d .start; letters = d .letters ++ (a ∷ []) }) }))
 
 -- Drop (contract 7.5)
 unfoldable pub drops : Option Outline → OnDraft
-drops none = record { reply = NoDraft; draft = none }
+drops none = record { reply = WasRefused NoDraft; draft = none }
 drops (some d) = record { reply = Done; draft = none }
 
 -- ---- what a close does to a work: its reply, and the work afterwards. The draft ends in any case
@@ -114,29 +113,29 @@ workAfter w d (Taken n a) = some d
 
 -- Close (contract 7.7). The verdict of 1 to 9 on the draft decides
 unfoldable pub closes : Option Outline → Option Outline → OnWork
-closes none w = record { reply = NoDraft; work = w }
+closes none w = record { reply = WasRefused NoDraft; work = w }
 closes (some d) w = record { reply = closedReply (equalsWork d w) (verdictOf d); work = workAfter w d (verdictOf d) }
 
 -- ---- questions about a work
 
 -- Query (contract 7.8). Checks 12 and then 11. Then the enclosed cells decide
 unfoldable pub asked : Point → Option Outline → Reply
-asked x none = NothingAtWork
+asked x none = WasRefused NothingAtWork
 asked x (some o) = cond (badCell x) (WasRefused Cell) (cond (block o (x .col) (x .row)) Inside Outside)
 
 -- Row (contract 7.9). Checks 12 and then 11. Then the first and the last enclosed column, found cell by cell
 unfoldable pub askedRow : ℕ → Option Outline → Reply
-askedRow r none = NothingAtWork
+askedRow r none = WasRefused NothingAtWork
 askedRow r (some o) = cond (leb side r) (WasRefused Cell) (spanReply (rowSpan (block o) r))
 
 -- Reading (contract 7.10). Checks 12. Then the outline's anchor and edges answer, including 11
 unfoldable pub askedReading : Reading → Option Outline → Reply
-askedReading x none = NothingAtWork
+askedReading x none = WasRefused NothingAtWork
 askedReading x (some o) = locatedReply (locatedOf (border o .start) (edges (border o)) x)
 
 -- Piece (contract 7.11). Checks 12. Then it takes the path command from the drawing of the outline's anchor and edges
 unfoldable pub askedPiece : ℕ → Option Outline → Reply
-askedPiece n none = NothingAtWork
+askedPiece n none = WasRefused NothingAtWork
 askedPiece n (some o) = drawnReply (strokeAt (border o .start) (edges (border o)) n)
 
 unfoldable pub asks : Question → Option Outline → Reply
@@ -163,9 +162,10 @@ unfoldable pub acts : PartyModel → Action → OnParty
 acts g (Begin s) = drafting g (begins s (g .draft))
 acts g (Add a) = drafting g (adds a (g .draft))
 acts g Drop = drafting g (drops (g .draft))
-acts g (Clear k) = cond (badPlace k) (record { reply = NoPlace; page = g }) (record { reply = Done; page = putWork g k none })
-acts g (Close k) = cond (badPlace k) (record { reply = NoPlace; page = putDraft g none }) (closing g k (closes (g .draft) (g .works k)))
-acts g (Ask k q) = record { reply = cond (badPlace k) NoPlace (asks q (g .works k)); page = g }
+acts g (Clear k) = cond (badPlace k) (record { reply = WasRefused Place; page = g }) (record { reply = Done; page = putWork g k none })
+acts g (Close k) =
+    cond (badPlace k) (record { reply = WasRefused Place; page = putDraft g none }) (closing g k (closes (g .draft) (g .works k)))
+acts g (Ask k q) = record { reply = cond (badPlace k) (WasRefused Place) (asks q (g .works k)); page = g }
 
 -- ---- the calls
 
@@ -177,7 +177,7 @@ pub record Answer : Type 0 where
 -- 19 is checked first (contract 7.2). Otherwise the call reads and changes its own party's state only
 unfoldable pub answer : Book → Call → Answer
 answer b c =
-    cond (badParty (c .party)) (record { reply = NoParty; next = b })
+    cond (badParty (c .party)) (record { reply = WasRefused Party; next = b })
     (record { reply = acts (b (c .party)) (c .action) .reply; next = put b (c .party) (acts (b (c .party)) (c .action) .page) })
 
 -- The replies to a list of calls, each made on the model that the one before it left, and the model after all of them

@@ -5,6 +5,7 @@ use mathlib.Core.List.{List}
 use lib.IntN.{ℤ}
 use Rattle.chart.specs.declared.Verdict.{Verdict}
 use Rattle.chart.specs.declared.Verdict.the-variants.{Taken, Refused}
+use Rattle.chart.specs.declared.Refusal.the-variants.{NoDraft, Place}
 use Rattle.judge.specs.declared.Judged.{Judged}
 use Rattle.judge.specs.Judged.{judgedOf}
 use Rattle.spans.specs.Spans.{spansOf}
@@ -13,7 +14,7 @@ use Rattle.calls.specs.declared.Action.{Action}
 use Rattle.calls.specs.declared.Action.the-variants.{Begin, Add, Drop, Clear, Close, Ask}
 use Rattle.calls.specs.declared.Question.{Question}
 use Rattle.calls.specs.declared.Reply.{Reply}
-use Rattle.calls.specs.declared.Reply.the-variants.{Done, Taken as WasTaken, Same, Refused as WasRefused, NoDraft, NoPlace}
+use Rattle.calls.specs.declared.Reply.the-variants.{Done, Taken as WasTaken, Same, Refused as WasRefused}
 use Rattle.holder_records.specs.Draft.{Draft, Drafted, outlineOf, endOf, beginOf, addOf, dropOf}
 use Rattle.holder_records.specs.Work.{Work, listed, replaced, removed, hasEdges, answered}
 
@@ -34,7 +35,7 @@ redrafted a w = acted (a .reply) (a .draft) w
 -- ---- clear
 
 unfoldable pub clearOf : Draft → Work → ℕ → Acted
-clearOf d w k = cond (badPlace k) (acted NoPlace d w) (acted Done d (removed w))
+clearOf d w k = cond (badPlace k) (acted (WasRefused Place) d w) (acted Done d (removed w))
 
 -- ---- close
 
@@ -54,12 +55,14 @@ closedBy d w j = acted (closedReply w (j .numbers) (j .verdict)) (endOf d) (clos
 
 -- A close refused by 20 ends the draft too
 unfoldable pub closeOf : Draft → Work → ℕ → Acted
-closeOf d w k = cond (badPlace k) (acted NoPlace (endOf d) w) (cond (d .begun) (closedBy d w (judgedOf (outlineOf d))) (acted NoDraft d w))
+closeOf d w k =
+    cond (badPlace k) (acted (WasRefused Place) (endOf d) w)
+    (cond (d .begun) (closedBy d w (judgedOf (outlineOf d))) (acted (WasRefused NoDraft) d w))
 
 -- ---- questions about the work
 
 unfoldable pub askOf : Draft → Work → ℕ → Question → Acted
-askOf d w k q = acted (cond (badPlace k) NoPlace (answered w q)) d w
+askOf d w k q = acted (cond (badPlace k) (WasRefused Place) (answered w q)) d w
 
 -- ---- every action
 

@@ -7,10 +7,10 @@ use lib.Dec.{leb, ltb}
 use Rattle.chart.specs.Limits.{longest}
 use Rattle.chart.specs.Outline.{Outline}
 use Rattle.chart.specs.declared.Point.{Point}
-use Rattle.chart.specs.declared.Refusal.the-variants.{Start, Letter}
+use Rattle.chart.specs.declared.Refusal.the-variants.{Start, Letter, NoDraft, DraftOpen, DraftFull}
 use Rattle.lattice.specs.Refusals.{badStart}
 use Rattle.calls.specs.declared.Reply.{Reply}
-use Rattle.calls.specs.declared.Reply.the-variants.{Done, Refused, NoDraft, DraftOpen, DraftFull}
+use Rattle.calls.specs.declared.Reply.the-variants.{Done, Refused}
 
 -- Whether a draft is begun, its start, the space for its letters, and their count
 pub record Draft : Type 0 where
@@ -42,17 +42,17 @@ lengthened d a = record { begun = d .begun; start = d .start; letters = set (d .
 
 unfoldable pub beginOf : Draft → Point → Drafted
 beginOf d s =
-    cond (d .begun) (record { reply = DraftOpen; draft = d })
+    cond (d .begun) (record { reply = Refused DraftOpen; draft = d })
     (cond (badStart s) (record { reply = Refused Start; draft = d })
     (record { reply = Done; draft = begunAt d s }))
 
 unfoldable pub addOf : Draft → ℕ → Drafted
 addOf d a =
     cond (d .begun)
-    (cond (leb longest (d .count)) (record { reply = DraftFull; draft = d })
+    (cond (leb longest (d .count)) (record { reply = Refused DraftFull; draft = d })
     (cond (ltb 3 a) (record { reply = Refused (Letter (d .count)); draft = d })
     (record { reply = Done; draft = lengthened d a })))
-    (record { reply = NoDraft; draft = d })
+    (record { reply = Refused NoDraft; draft = d })
 
 unfoldable pub dropOf : Draft → Drafted
-dropOf d = cond (d .begun) (record { reply = Done; draft = endOf d }) (record { reply = NoDraft; draft = d })
+dropOf d = cond (d .begun) (record { reply = Done; draft = endOf d }) (record { reply = Refused NoDraft; draft = d })

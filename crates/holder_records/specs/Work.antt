@@ -8,7 +8,7 @@ use lib.Dec.{leb}
 use Rattle.base.specs.Same.{sameℤs}
 use Rattle.chart.specs.Limits.{side, mostNumbers}
 use Rattle.chart.specs.declared.Point.{Point}
-use Rattle.chart.specs.declared.Refusal.the-variants.{Cell}
+use Rattle.chart.specs.declared.Refusal.the-variants.{Cell, NothingAtWork}
 use Rattle.lattice.specs.Chart.{samePoint}
 use Rattle.polygon.specs.Loose.{badCell}
 use Rattle.spans.specs.declared.Spans.{Spans}
@@ -21,7 +21,7 @@ use Rattle.calls.specs.declared.Reading.{Reading}
 use Rattle.calls.specs.declared.Question.{Question}
 use Rattle.calls.specs.declared.Question.the-variants.{Cell as OfCell, Row as OfRow, Reading as OfReading, Piece as OfPiece}
 use Rattle.calls.specs.declared.Reply.{Reply}
-use Rattle.calls.specs.declared.Reply.the-variants.{Inside, Outside, Refused, NothingAtWork}
+use Rattle.calls.specs.declared.Reply.the-variants.{Inside, Outside, Refused}
 
 -- Whether an outline is at work, its anchor, the space for the numbers of its edges, the count of edges, and its rows
 pub record Work : Type 0 where
@@ -54,19 +54,19 @@ hasEdges w a es = w .taken && (samePoint (w .anchor) a && sameℤs (workEdges w)
 unfoldable pub located : Work → Point → Reply
 located w x =
     cond (w .taken)
-    (cond (badCell x) (Refused Cell) (cond (inSpans (w .spans) (x .col) (x .row)) Inside Outside)) NothingAtWork
+    (cond (badCell x) (Refused Cell) (cond (inSpans (w .spans) (x .col) (x .row)) Inside Outside)) (Refused NothingAtWork)
 
 -- 12, 11, or the columns of the row (contract 7.9)
 unfoldable pub spanned : Work → ℕ → Reply
-spanned w r = cond (w .taken) (cond (leb side r) (Refused Cell) (spanReply (spanAt (w .spans) r))) NothingAtWork
+spanned w r = cond (w .taken) (cond (leb side r) (Refused Cell) (spanReply (spanAt (w .spans) r))) (Refused NothingAtWork)
 
 -- 12, 11, or where the reading lies among the edges at work (contract 7.10)
 unfoldable pub readAt : Work → Reading → Reply
-readAt w x = cond (w .taken) (locatedReply (locatedOf (w .anchor) (workEdges w) x)) NothingAtWork
+readAt w x = cond (w .taken) (locatedReply (locatedOf (w .anchor) (workEdges w) x)) (Refused NothingAtWork)
 
 -- 12, or the path command (contract 7.11)
 unfoldable pub drawnAt : Work → ℕ → Reply
-drawnAt w n = cond (w .taken) (drawnReply (strokeAt (w .anchor) (workEdges w) n)) NothingAtWork
+drawnAt w n = cond (w .taken) (drawnReply (strokeAt (w .anchor) (workEdges w) n)) (Refused NothingAtWork)
 
 -- The reply to a question
 unfoldable pub answered : Work → Question → Reply

@@ -8,6 +8,7 @@ use Rattle.base.proofs.PutLaws.{put-here, put-elsewhere}
 use Rattle.chart.specs.Outline.{Outline}
 use Rattle.chart.specs.declared.Verdict.{Verdict}
 use Rattle.chart.specs.declared.Verdict.the-variants.{Taken, Refused}
+use Rattle.chart.specs.declared.Refusal.the-variants.{NoDraft, Place}
 use Rattle.verdict.specs.Verdict.{verdictOf}
 use Rattle.judge.specs.Judged.{judgedOf}
 use Rattle.judge.proofs.JudgedLaws.{judged-verdict, judged-numbers}
@@ -16,7 +17,7 @@ use Rattle.calls.specs.declared.Action.{Action}
 use Rattle.calls.specs.declared.Action.the-variants.{Begin, Add, Drop, Clear, Close, Ask}
 use Rattle.calls.specs.declared.Question.{Question}
 use Rattle.calls.specs.declared.Reply.{Reply}
-use Rattle.calls.specs.declared.Reply.the-variants.{Done, NoDraft, NoPlace}
+use Rattle.calls.specs.declared.Reply.the-variants.{Done, Refused as WasRefused}
 use Rattle.holder_model.specs.Book.{PartyModel, putDraft, putWork, OnDraft, OnParty, workAfter, closes, asks, drafting, closing, acts}
 use Rattle.holder_records.specs.Draft.{Draft, Drafted, outlineOf, endOf}
 use Rattle.holder_records.specs.Work.{Work, removed, answered}
@@ -46,8 +47,8 @@ module _ (g : PartyModel) (d : Draft) (w : Work) (draft : IsDraft d (g .draft)) 
   clear-agrees k work = go (badPlace k) work
     where
       go : (t : Bool) → IsWork w (g .works (cond t 0 k))
-          → AgreesParty g (cond t 0 k) (cond t (acted NoPlace d w) (acted Done d (removed w)))
-          (cond t (record { reply = NoPlace; page = g }) (record { reply = Done; page = putWork g k none }))
+          → AgreesParty g (cond t 0 k) (cond t (acted (WasRefused Place) d w) (acted Done d (removed w)))
+          (cond t (record { reply = WasRefused Place; page = g }) (record { reply = Done; page = putWork g k none }))
       go true work = record { reply = refl; draft = draft; work = work; others = λ j e. refl }
       go false work =
           record {
@@ -78,9 +79,11 @@ module _ (g : PartyModel) (d : Draft) (w : Work) (draft : IsDraft d (g .draft)) 
   flagged b k x y n e = subst (λ (t : Bool). AgreesParty g k (cond t x y) n) (sym e)
 
   judged-agrees : (k : ℕ) → IsWork w (g .works k) → (o : Option Outline) → IsDraft d o
-      → AgreesParty g k (cond (d .begun) (closedBy d w (judgedOf (outlineOf d))) (acted NoDraft d w)) (closing g k (closes o (g .works k)))
+      → AgreesParty g k (cond (d .begun) (closedBy d w (judgedOf (outlineOf d))) (acted (WasRefused NoDraft) d w))
+      (closing g k (closes o (g .works k)))
   unfolding closedBy closes
-  judged-agrees k work none is = flagged false k _ _ _ (is .stands) (leaves k (acted NoDraft d w) NoDraft (g .works k) refl is work)
+  judged-agrees k work none is =
+      flagged false k _ _ _ (is .stands) (leaves k (acted (WasRefused NoDraft) d w) (WasRefused NoDraft) (g .works k) refl is work)
   judged-agrees k work (some o) is =
       let own : outlineOf d ≡ o = is .stands .outline in
       flagged true k _ _ _ (is .stands .begun)
@@ -95,8 +98,9 @@ module _ (g : PartyModel) (d : Draft) (w : Work) (draft : IsDraft d (g .draft)) 
     where
       go : (t : Bool) → IsWork w (g .works (cond t 0 k))
           → AgreesParty g (cond t 0 k)
-          (cond t (acted NoPlace (endOf d) w) (cond (d .begun) (closedBy d w (judgedOf (outlineOf d))) (acted NoDraft d w)))
-          (cond t (record { reply = NoPlace; page = putDraft g none }) (closing g k (closes (g .draft) (g .works k))))
+          (cond t (acted (WasRefused Place) (endOf d) w)
+          (cond (d .begun) (closedBy d w (judgedOf (outlineOf d))) (acted (WasRefused NoDraft) d w)))
+          (cond t (record { reply = WasRefused Place; page = putDraft g none }) (closing g k (closes (g .draft) (g .works k))))
       go true work = record { reply = refl; draft = ended-stands draft; work = work; others = λ j e. refl }
       go false work = judged-agrees k work (g .draft) draft
 
@@ -106,7 +110,8 @@ module _ (g : PartyModel) (d : Draft) (w : Work) (draft : IsDraft d (g .draft)) 
   unfolding keptPlace askOf acts
   ask-agrees k q work = record { reply = asked (badPlace k) work; draft = draft; work = work; others = λ j e. refl }
     where
-      asked : (t : Bool) → IsWork w (g .works (cond t 0 k)) → cond t NoPlace (answered w q) ≡ cond t NoPlace (asks q (g .works k))
+      asked : (t : Bool) → IsWork w (g .works (cond t 0 k))
+          → cond t (WasRefused Place) (answered w q) ≡ cond t (WasRefused Place) (asks q (g .works k))
       asked true work = refl
       asked false work = answered-asked w q (g .works k) work
 

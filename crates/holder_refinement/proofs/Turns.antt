@@ -24,8 +24,8 @@ use Rattle.calls.specs.declared.Question.{Question}
 use Rattle.calls.specs.declared.Action.{Action}
 use Rattle.calls.specs.declared.Action.the-variants.{Begin, Add, Drop, Clear, Close, Ask}
 use Rattle.calls.specs.declared.Reply.{Reply}
-use Rattle.calls.specs.declared.Reply.the-variants.{Done, Refused as WasRefused, NoDraft, DraftOpen, DraftFull, NoPlace}
-use Rattle.chart.specs.declared.Refusal.the-variants.{Start, Letter}
+use Rattle.calls.specs.declared.Reply.the-variants.{Done, Refused as WasRefused}
+use Rattle.chart.specs.declared.Refusal.the-variants.{Start, Letter, NoDraft, DraftOpen, DraftFull, Place}
 use lib.Dec.{leb, ltb}
 use Rattle.holder_records.specs.Draft.{Draft, Drafted, outlineOf, endOf, begunAt, lengthened, beginOf as beginsDraft, addOf as addsDraft}
 use Rattle.holder_records.specs.Draft.{dropOf as dropsDraft}
@@ -194,8 +194,8 @@ module _ (h : Holder) (fit : Fits h) (p : ℕ) (l : p < parties) where
     adds : (a : ℕ) → Turned h p k (addOf h p a) (redrafted (addsDraft d a) w)
     unfolding addOf addsDraft draftAt
     adds a =
-        red (begun h p) _ _ _ (on NoDraft d)
-        (λ e. red (leb longest (count h p)) _ _ (on DraftFull d) _ (λ f. kept _)
+        red (begun h p) _ _ _ (on (WasRefused NoDraft) d)
+        (λ e. red (leb longest (count h p)) _ _ (on (WasRefused DraftFull) d) _ (λ f. kept _)
         (λ f. red (ltb 3 a) _ _ (on (WasRefused (Letter (count h p))) d) (on Done (lengthened d a)) (λ g. kept _)
         (λ g. let room : count h p < longest = leb-false longest (count h p) f in
         drafted Done (set (h .letters) (longest * p + count h p) a) (set (h .heads) (4 * p + 3) (count h p + 1)) (lengthened d a)
@@ -206,7 +206,7 @@ module _ (h : Holder) (fit : Fits h) (p : ℕ) (l : p < parties) where
 
     drops : Turned h p k (dropOf h p) (redrafted (dropsDraft d) w)
     unfolding dropOf dropsDraft draftAt
-    drops = red (begun h p) _ _ (on Done (endOf d)) (on NoDraft d) (λ e. ended _) (λ e. kept _)
+    drops = red (begun h p) _ _ (on Done (endOf d)) (on (WasRefused NoDraft) d) (λ e. ended _) (λ e. kept _)
 
     -- ---- begin
 
@@ -239,7 +239,7 @@ module _ (h : Holder) (fit : Fits h) (p : ℕ) (l : p < parties) where
     begins : (s : Point) → Turned h p k (beginOf h p s) (redrafted (beginsDraft d s) w)
     unfolding beginOf beginsDraft draftAt
     begins s =
-        red (begun h p) _ _ (on DraftOpen d) _ (λ e. kept _)
+        red (begun h p) _ _ (on (WasRefused DraftOpen) d) _ (λ e. kept _)
         (λ e. red (badStart s) _ _ (on (WasRefused Start) d) (on Done (begunAt d s)) (λ b. kept _)
         (λ b. drafted Done (h .letters) (openPut (h .heads) (4 * p) s) (begunAt d s) refl (simp length-set)
         (opened-else s) (λ q e. refl) (opened-here s)))
@@ -406,11 +406,11 @@ module _ (h : Holder) (fit : Fits h) (p : ℕ) (l : p < parties) where
     where
       go : (t : Bool) → badPlace k ≡ t
           → Turned h p (keptPlace k) (closeOf h p k) (closesSlot (draftOf h p) (workIn h p (keptPlace k)) k)
-      go true b = rw (b, commit-zero (set (h .heads) (4 * p) 0) p k) (ended h fit p l 0 (omega arith) NoPlace)
+      go true b = rw (b, commit-zero (set (h .heads) (4 * p) 0) p k) (ended h fit p l 0 (omega arith) (WasRefused Place))
       go false b =
           let m : k < places = leb-false places k b in
           rw (b, sym mine) (either-closed k (begun h p) _ _ _ _ (λ e. closed k m _ refl)
-          (λ e. rw (commit-zero (h .heads) p k) (kept h fit p l k m NoDraft)))
+          (λ e. rw (commit-zero (h .heads) p k) (kept h fit p l k m (WasRefused NoDraft))))
 
   clears : (k : ℕ) → Turned h p (keptPlace k) (clearOf h p k) (clearsSlot (draftOf h p) (workIn h p (keptPlace k)) k)
   unfolding keptPlace clearOf clearsSlot
@@ -418,7 +418,7 @@ module _ (h : Holder) (fit : Fits h) (p : ℕ) (l : p < parties) where
     where
       go : (t : Bool) → badPlace k ≡ t
           → Turned h p (keptPlace k) (clearOf h p k) (clearsSlot (draftOf h p) (workIn h p (keptPlace k)) k)
-      go true b = rw b (kept h fit p l 0 (omega arith) NoPlace)
+      go true b = rw b (kept h fit p l 0 (omega arith) (WasRefused Place))
       go false b = rw b (cleared h fit p l k (leb-false places k b))
 
   asks : (k : ℕ) (q : Question) → Turned h p (keptPlace k) (actOf h p (Ask k q)) (askOf (draftOf h p) (workIn h p (keptPlace k)) k q)
@@ -427,7 +427,7 @@ module _ (h : Holder) (fit : Fits h) (p : ℕ) (l : p < parties) where
     where
       go : (t : Bool) → badPlace k ≡ t
           → Turned h p (keptPlace k) (actOf h p (Ask k q)) (askOf (draftOf h p) (workIn h p (keptPlace k)) k q)
-      go true b = rw b (kept h fit p l 0 (omega arith) NoPlace)
+      go true b = rw b (kept h fit p l 0 (omega arith) (WasRefused Place))
       go false b = rw b (kept h fit p l k (leb-false places k b) _)
 
   pub turns : (a : Action) → Turned h p (reachedBy a) (actOf h p a) (actedOf (draftOf h p) (workIn h p (reachedBy a)) a)

@@ -130,7 +130,8 @@ module _ (cs : List Call) (p k : ℕ) (there : p < parties) (place : k < places)
 
   -- A draft refused by 8 has a missing cell too
   pub close-eight : g .number ≡ 8 → (x : Point) × Missing (block o) x
-  close-eight e = Closes.close-eight-missing p k there place cs o draft (sym (ap (λ (f : Fields). f .number) (replied-by-book cs _ g replied)) ∙ e)
+  close-eight e =
+      Closes.close-eight-missing p k there place cs o draft (sym (ap (λ (f : Fields). f .number) (replied-by-book cs _ g replied)) ∙ e)
 
   -- If the draft passes 1 to 6, 0 exactly if no cell is missing (contract 8.5)
   pub close-taken : Simple o → (g .number ≡ 0) ↔ Convex (block o)

@@ -3,6 +3,7 @@ use Prim.Native.Nat.{ℕ}
 use mathlib.Core.Bool.{cond}
 use mathlib.Core.List.{List, [], _∷_, _++_}
 use Rattle.chart.specs.Fields.{numbersOf}
+use Rattle.chart.specs.declared.Refusal.the-variants.{Party}
 use Rattle.calls.specs.Calls.{badParty, by}
 use Rattle.calls.specs.Replies.{replyFields, pieceIn}
 use Rattle.calls.specs.declared.Call.{Call}
@@ -15,7 +16,7 @@ use Rattle.wire.specs.declared.Decoded.the-variants.{Call as OfCall, Nothing}
 use Rattle.wire.specs.Wire.{decoded}
 use Rattle.holder_refinement.specs.Told.{told}
 use Rattle.holder_answers.specs.declared.Drafting.{Drafting}
-use Rattle.holder_answers.specs.declared.Drafting.the-variants.{Unknown}
+use Rattle.holder_answers.specs.declared.Drafting.the-variants.{Refused}
 use Rattle.holder_written.specs.Written.{draftFields}
 use Rattle.holder_bytes.specs.Responded.{isCall}
 use Rattle.holder_session.specs.Session.{Event, Fresh, Called, Drew, Sent, Drafted, Began, Ended, Cut, pieceCall}
@@ -36,7 +37,7 @@ more (Between cs p k) ds = Between (cs ++ ds) p k
 -- ---- what is drafted
 
 unfoldable pub toldBy : Book → ℕ → Drafting
-toldBy b p = cond (badParty p) Unknown (told (b p .draft))
+toldBy b p = cond (badParty p) (Refused Party) (told (b p .draft))
 
 -- The first half of a close has ended its draft, as a drop does
 unfoldable pub drafting : State → ℕ → Drafting

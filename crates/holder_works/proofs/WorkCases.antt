@@ -12,7 +12,7 @@ use borrow.Author.Tests.{le-leb, lt-leb, leb-false, lt-ltb, le-ltb}
 use Rattle.chart.specs.Limits.{side, mostNumbers}
 use Rattle.chart.specs.Outline.{at}
 use Rattle.chart.specs.declared.Point.{Point}
-use Rattle.chart.specs.declared.Refusal.the-variants.{Cell}
+use Rattle.chart.specs.declared.Refusal.the-variants.{Cell, NothingAtWork}
 use Rattle.base.specs.Same.{sameℤs}
 use Rattle.base.proofs.BelowLaws.{or-false-iff}
 use Rattle.lattice.specs.Chart.{samePoint}
@@ -24,7 +24,7 @@ use Rattle.readings.specs.Replies.{locatedReply}
 use Rattle.drawing.specs.Drawing.{strokeAt}
 use Rattle.drawing.specs.Points.{drawnReply}
 use Rattle.calls.specs.declared.Reading.{Reading}
-use Rattle.calls.specs.declared.Reply.the-variants.{Inside, Outside, Refused, NothingAtWork}
+use Rattle.calls.specs.declared.Reply.the-variants.{Inside, Outside, Refused}
 use Rattle.holder_records.specs.Work.{Work, listed, workEdges, hasEdges, located, spanned, readAt, drawnAt}
 use Rattle.windows.specs.Windows.{window}
 use Rattle.span_list.specs.SpanList.{spansAt}
@@ -50,7 +50,7 @@ module _ (rows : List ℕ) (numbers : List ℤ) (heads : List ℕ) (s : ℕ) whe
 -- ---- the definitions
 
 module _ (w : Work) where
-  located-none : (x : Point) → w .taken ≡ false → located w x ≡ NothingAtWork
+  located-none : (x : Point) → w .taken ≡ false → located w x ≡ Refused NothingAtWork
   unfolding located
   located-none x e = cond-no _ _ e
 
@@ -77,7 +77,7 @@ module _ (rows : List ℕ) (numbers : List ℤ) (heads : List ℕ) (s : ℕ) whe
   unfolding workAt
   spans-are = refl
 
-  pub query-none : (x : Point) → slots ≤ s → NothingAtWork ≡ located (workAt rows numbers heads s) x
+  pub query-none : (x : Point) → slots ≤ s → Refused NothingAtWork ≡ located (workAt rows numbers heads s) x
   query-none x e = sym (located-none _ x (idle rows numbers heads s e))
 
   module _ (x : Point) (e : s < slots) where
@@ -91,7 +91,7 @@ module _ (rows : List ℕ) (numbers : List ℤ) (heads : List ℕ) (s : ℕ) whe
       pub query-out : inSpans (spansAt rows s) (x .col) (x .row) ≡ false → Outside ≡ located (workAt rows numbers heads s) x
       query-out i = sym (located-out _ x (busy rows numbers heads s e) b (rw spans-are i))
 
-  pub row-none : (r : ℕ) → slots ≤ s → NothingAtWork ≡ spanned (workAt rows numbers heads s) r
+  pub row-none : (r : ℕ) → slots ≤ s → Refused NothingAtWork ≡ spanned (workAt rows numbers heads s) r
   unfolding spanned
   row-none r e = sym (cond-no _ _ (idle rows numbers heads s e))
 
@@ -119,11 +119,11 @@ module _ (rows : List ℕ) (numbers : List ℤ) (heads : List ℕ) (s : ℕ) whe
   unfolding workEdges workAt
   edges-are = refl
 
-  pub reading-none : (x : Reading) → slots ≤ s → NothingAtWork ≡ readAt work x
+  pub reading-none : (x : Reading) → slots ≤ s → Refused NothingAtWork ≡ readAt work x
   unfolding readAt
   reading-none x e = sym (cond-no _ _ (idle rows numbers heads s e))
 
-  pub piece-none : (n : ℕ) → slots ≤ s → NothingAtWork ≡ drawnAt work n
+  pub piece-none : (n : ℕ) → slots ≤ s → Refused NothingAtWork ≡ drawnAt work n
   unfolding drawnAt
   piece-none n e = sym (cond-no _ _ (idle rows numbers heads s e))
 

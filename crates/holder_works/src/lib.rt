@@ -64,7 +64,7 @@ pub fn query(rows: &[u8], slot: usize, cell: Point) -> Reply
     ensures { λ r. ⌜ ((numbers : List ℤ) (heads : List ℕ) → r ≡ located (workAt (now (rows .entry)) numbers heads slot) cell) ⌝ }
 {
     if SLOTS <= slot {
-        return Reply::NothingAtWork;
+        return Reply::Refused(Refusal::NothingAtWork);
     }
     if bad_cell(cell) {
         return Reply::Refused(Refusal::Cell);
@@ -82,7 +82,7 @@ pub fn row(rows: &[u8], slot: usize, row: u16) -> Reply
     ensures { λ r. ⌜ ((numbers : List ℤ) (heads : List ℕ) → r ≡ spanned (workAt (now (rows .entry)) numbers heads slot) row) ⌝ }
 {
     if SLOTS <= slot {
-        return Reply::NothingAtWork;
+        return Reply::Refused(Refusal::NothingAtWork);
     }
     if SIDE <= row {
         return Reply::Refused(Refusal::Cell);
@@ -96,7 +96,7 @@ pub fn reading(numbers: &[i16], heads: &[u16], slot: usize, reading: Reading) ->
     ensures { λ r. ⌜ ((rows : List ℕ) → r ≡ readAt (workAt rows (now (numbers .entry)) (now (heads .entry)) slot) reading) ⌝ }
 {
     if SLOTS <= slot {
-        return Reply::NothingAtWork;
+        return Reply::Refused(Refusal::NothingAtWork);
     }
     let anchor = anchor_at(heads, slot);
     let list = edges_at(numbers, heads, slot);
@@ -109,7 +109,7 @@ pub fn piece(numbers: &[i16], heads: &[u16], slot: usize, position: u16) -> Repl
     ensures { λ r. ⌜ ((rows : List ℕ) → r ≡ drawnAt (workAt rows (now (numbers .entry)) (now (heads .entry)) slot) position) ⌝ }
 {
     if SLOTS <= slot {
-        return Reply::NothingAtWork;
+        return Reply::Refused(Refusal::NothingAtWork);
     }
     let anchor = anchor_at(heads, slot);
     let list = edges_at(numbers, heads, slot);

@@ -2,14 +2,13 @@
 use Prim.Native.Nat.{ℕ}
 use mathlib.Core.Path.{_≡_}
 use mathlib.Core.List.{List}
-use Rattle.chart.specs.Fields.{numbersOf, numbered, accepted, no-word}
-use Rattle.chart.specs.Refusals as refusals
+use Rattle.chart.specs.Fields.{numbersOf, accepted, no-word, refusalFields}
 use Rattle.chart.specs.declared.Fields.{Fields}
 use Rattle.calls.specs.Replies.{replyFields}
 use Rattle.calls.specs.declared.Call.{Call}
 use Rattle.holder_memory.specs.Layout.{Holder}
 use Rattle.holder_answers.specs.declared.Drafting.{Drafting}
-use Rattle.holder_answers.specs.declared.Drafting.the-variants.{Unknown, Closed, Open}
+use Rattle.holder_answers.specs.declared.Drafting.the-variants.{Refused, Open}
 use Rattle.holder_answers.specs.Arrays.{answerOf, prepareOf}
 
 -- From arrays h to arrays n, with this reply of seven numbers
@@ -25,6 +24,5 @@ pub record Prepared (h n : Holder) (p k w : ℕ) (numbers : List ℕ) : Type 0 w
 
 -- What is drafted: 19, 13, or the count in the third field and the start in the last two
 unfoldable pub draftFields : Drafting → Fields
-draftFields Unknown = numbered refusals.party
-draftFields Closed = numbered refusals.no-draft
+draftFields (Refused f) = refusalFields f
 draftFields (Open s n) = accepted no-word n s

@@ -8,7 +8,6 @@ use calls::written::put_columns;
 use calls::written::put_word;
 use chart::Fields;
 use chart::Point;
-use chart::refusals;
 use chart::reply;
 use chart::reply::NUMBERS as REPLY;
 use drawing::write_point;
@@ -176,8 +175,7 @@ fn of_draft(d: Drafting) -> Fields
     ensures { λ f. ⌜ f ≡ draftFields d ⌝ }
 {
     match d {
-        Drafting::Unknown => reply::numbered(refusals::PARTY),
-        Drafting::Closed => reply::numbered(refusals::NO_DRAFT),
+        Drafting::Refused(why) => reply::of_refusal(why),
         Drafting::Open { start, count } => reply::accepted(reply::NO_WORD, count, start),
     }
 }

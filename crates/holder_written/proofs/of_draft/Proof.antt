@@ -7,18 +7,13 @@ use Rattle.holder_written.proofs.of_draft.Tie as tie
 
 returns : tie.Need-returns
 unfolding draftFields
-returns c = c .numbered .ensures ∙ rw (c .before .enum-told .given .1)
+returns c = c .of-refusal .ensures ∙ rw (c .before .before .d .given .1)
 
 returns-2 : tie.Need-returns-2
 unfolding draftFields
-returns-2 c = c .numbered2 .ensures ∙ rw (c .before .enum-told2 .given .1)
-
-returns-3 : tie.Need-returns-3
-unfolding draftFields
-returns-3 c = c .accepted .ensures ∙ rw (c .before .before .d .given .1)
+returns-2 c = c .accepted .ensures ∙ rw (c .before .before .d2 .given .1)
 
 pub of-draft-spec : {M : Type 1} → statement M
 of-draft-spec =
     tie.close
-    (tie.spec (λ c. search needs) (λ c κs. search needs) (λ c. search needs) (λ c κs. search needs) (λ c. search needs)
-    (λ c κs. search needs) returns returns-2 returns-3)
+    (tie.spec (λ c. search needs) (λ c κs. search needs) (λ c. search needs) (λ c κs. search needs) returns returns-2)

@@ -50,37 +50,11 @@ returns-10 : tie.Need-returns-10
 unfolding replyFields
 returns-10 c = shown (c .before .before .r5 .given .1) (c .of-refusal .ensures)
 
-returns-11 : tie.Need-returns-11
-unfolding replyFields
-returns-11 c = shown (c .before .enum-told6 .given .1) (c .numbered .ensures)
-
-returns-12 : tie.Need-returns-12
-unfolding replyFields
-returns-12 c = shown (c .before .enum-told7 .given .1) (c .numbered2 .ensures)
-
-returns-13 : tie.Need-returns-13
-unfolding replyFields
-returns-13 c = shown (c .before .enum-told8 .given .1) (c .numbered3 .ensures)
-
-returns-14 : tie.Need-returns-14
-unfolding replyFields
-returns-14 c = shown (c .before .enum-told9 .given .1) (c .numbered4 .ensures)
-
-returns-15 : tie.Need-returns-15
-unfolding replyFields
-returns-15 c = shown (c .before .enum-told10 .given .1) (c .numbered5 .ensures)
-
-returns-16 : tie.Need-returns-16
-unfolding replyFields
-returns-16 c = shown (c .before .enum-told11 .given .1) (c .numbered6 .ensures)
-
 pub of-reply-spec : {M : Type 1} → statement M
 of-reply-spec =
     tie.close
     (tie.spec (λ c. search needs) (λ c κs. search needs) (λ c. search needs) (λ c κs. search needs) (λ c. search needs)
     (λ c κs. search needs) (λ c. search needs) (λ c κs. search needs) (λ c. search needs) (λ c κs. search needs) (λ c. search needs)
     (λ c κs. search needs) (λ c. search needs) (λ c κs. search needs) (λ c. search needs) (λ c κs. search needs) (λ c. search needs)
-    (λ c κs. search needs) (λ c. search needs) (λ c κs. search needs) (λ c. search needs) (λ c κs. search needs) (λ c. search needs)
-    (λ c κs. search needs) (λ c. search needs) (λ c κs. search needs) (λ c. search needs) (λ c κs. search needs) (λ c. search needs)
     (λ c κs. search needs) (λ c. search needs) (λ c κs. search needs) returns returns-2 returns-3 returns-4 returns-5 returns-6 returns-7
-    returns-8 returns-9 returns-10 returns-11 returns-12 returns-13 returns-14 returns-15 returns-16)
+    returns-8 returns-9 returns-10)

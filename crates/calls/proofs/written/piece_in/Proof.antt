@@ -7,7 +7,6 @@ use denote.Enum.Declared.{tagOf}
 use Rattle.calls.specs.declared.Piece.the-variants.{None as NoPiece}
 use Rattle.calls.specs.declared.Reply.{Reply}
 use Rattle.calls.specs.declared.Reply.the-variants.{Done, Inside, Outside, Undecided, Columns, None, Drawn, Taken, Same, Refused}
-use Rattle.calls.specs.declared.Reply.the-variants.{NothingAtWork, NoDraft, DraftOpen, DraftFull, NoParty, NoPlace}
 use Rattle.calls.specs.Replies.{pieceIn}
 use Rattle.calls.proofs.Reply as R
 use borrow.Author.Needs.{needs}
@@ -16,7 +15,7 @@ use Rattle.calls.proofs.written.piece_in.Tie as tie
 
 -- The numbers of all replies except a drawn piece
 abbrev others : List ℕ
-others = 0 ∷ 1 ∷ 2 ∷ 3 ∷ 4 ∷ 5 ∷ 7 ∷ 8 ∷ 9 ∷ 10 ∷ 11 ∷ 12 ∷ 13 ∷ 14 ∷ 15 ∷ []
+others = 0 ∷ 1 ∷ 2 ∷ 3 ∷ 4 ∷ 5 ∷ 7 ∷ 8 ∷ 9 ∷ []
 
 no-piece : (r : Reply) → OneOf others (tagOf R.the-type r) → NoPiece ≡ pieceIn r
 unfolding pieceIn
@@ -30,12 +29,6 @@ no-piece None h = refl
 no-piece (Taken n a) h = refl
 no-piece (Same n a) h = refl
 no-piece (Refused f) h = refl
-no-piece NothingAtWork h = refl
-no-piece NoDraft h = refl
-no-piece DraftOpen h = refl
-no-piece DraftFull h = refl
-no-piece NoParty h = refl
-no-piece NoPlace h = refl
 
 returns : tie.Need-returns
 unfolding pieceIn
