@@ -29,7 +29,9 @@ use Rattle.convexity.specs.SameBlock.{SameCells}
 use Rattle.convexity.specs.FromEdges.{lettersFrom}
 use Rattle.convexity.specs.Pieces.{edges}
 use Rattle.convexity.proofs.SameBlock.{same-from-w-iff}
-use Rattle.verdict.specs.Verdict.{afterSurvey as verdictAfter, verdictOf, testOf, testFields}
+use Rattle.verdict.specs.Verdict.{verdictOf, testOf, testFields}
+use Rattle.verdict.specs.parts.Chain.{afterSurvey as verdictAfter}
+use Rattle.verdict.proofs.Chain.{verdict-chain}
 use Rattle.verdict.proofs.VerdictLaws.{test-taken, taken-fits, refused-number}
 use Rattle.border_model.specs.Named.{BorderOf}
 use Rattle.border_model.proofs.Outlines.{taken-has, outlined-iff, outlined-border}
@@ -45,18 +47,18 @@ use Rattle.completion_call.proofs.HullEnds.{HullOf}
 
 -- The number of a refusal of 1 to 6
 pub stopped-number : (o : Outline) {f : Refusal} → surveyOf o ≡ Stopped f → (0 < refusalFields f .number) × (refusalFields f .number < 18)
-unfolding verdictOf verdictAfter
-stopped-number o {f} e = (refusal-number f, omega (arith, refused-number o {f = f} (rw e)))
+unfolding verdictAfter
+stopped-number o {f} e = (refusal-number f, omega (arith, refused-number o {f = f} (verdict-chain o ∙ rw e)))
 
 -- ---- the cases
 
-letters-short : (n : ℕ) (v : Outline) → n < size v → lettersIn n v ≡ Refused (LetterBuffer 0)
+letters-short : (n : ℕ) (v : Outline) → n < size v → lettersIn n v ≡ Refused LetterBuffer
 unfolding lettersIn
-letters-short n v l = ap (λ (b : Bool). cond b (Refused (LetterBuffer 0)) (Written (size v) (v .start))) (lt-ltb n (size v) l)
+letters-short n v l = ap (λ (b : Bool). cond b (Refused LetterBuffer) (Written (size v) (v .start))) (lt-ltb n (size v) l)
 
 letters-written : (n : ℕ) (v : Outline) → size v ≤ n → lettersIn n v ≡ Written (size v) (v .start)
 unfolding lettersIn
-letters-written n v l = ap (λ (b : Bool). cond b (Refused (LetterBuffer 0)) (Written (size v) (v .start))) (le-ltb n (size v) l)
+letters-written n v l = ap (λ (b : Bool). cond b (Refused LetterBuffer) (Written (size v) (v .start))) (le-ltb n (size v) l)
 
 module _ (o : Outline) (n : ℕ) where
   pub completed-stopped : {f : Refusal} → surveyOf o ≡ Stopped f → completedOf o n ≡ Refused f
@@ -67,7 +69,7 @@ module _ (o : Outline) (n : ℕ) where
   unfolding completedOf afterSurvey
   past-survey h = ap (λ (s : Surveyed). afterSurvey s (lettersIn n (border (completionOf o)))) (sym (survey-passed o h))
 
-  pub completed-short : Simple o → n < size (border (completionOf o)) → completedOf o n ≡ Refused (LetterBuffer 0)
+  pub completed-short : Simple o → n < size (border (completionOf o)) → completedOf o n ≡ Refused LetterBuffer
   completed-short h l = past-survey h ∙ letters-short n (border (completionOf o)) l
 
   pub completed-written : Simple o → size (border (completionOf o)) ≤ n
@@ -133,7 +135,7 @@ module _ (o : Outline) (buffer : List ℕ) where
         named = record { drawn = λ q. absurd (omega arith); completes = λ q. absurd (omega arith); short = λ q. absurd (omega arith) };
       }
 
-  pub short-answers : Simple o → length buffer < size (border (completionOf o)) → Answers o buffer buffer (Refused (LetterBuffer 0))
+  pub short-answers : Simple o → length buffer < size (border (completionOf o)) → Answers o buffer buffer (Refused LetterBuffer)
   unfolding completionAfter writtenAfter completedFields
   short-answers h l =
       let said = completed-short o (length buffer) h l in
@@ -168,7 +170,7 @@ module _ (o : Outline) (buffer : List ℕ) where
       }
 
   module _ (h : Simple o) {begins ends : List ℕ} {b t m n : ℕ} (f : HullOf o begins ends b t m n) where
-    pub hull-short : length buffer < n → Answers o buffer buffer (Refused (LetterBuffer 0))
+    pub hull-short : length buffer < n → Answers o buffer buffer (Refused LetterBuffer)
     hull-short l = short-answers h (omega (arith, f .count))
 
     pub hull-room : n ≤ length buffer → length (writtenFrom (rows begins) (rows ends) b t m) ≤ length buffer

@@ -1,6 +1,6 @@
 -- The numbers that the code finds are the ends of the hull's rows, so the letters written round them are the completion's border.
-use Prim.Native.Nat.{ℕ, zero, suc, pred, _+_, _-_, _*_, _≤_, _<_}
-use mathlib.Core.Path.{_≡_, refl, sym, ap, _∙_}
+use Prim.Native.Nat.{ℕ, suc, _+_, _-_, _*_, _≤_, _<_}
+use mathlib.Core.Path.{_≡_, sym, ap, _∙_}
 use mathlib.Core.List.{List}
 use native.Mathlib.Decide.{decLt}
 use native.Mathlib.Omega.{arith}
@@ -12,10 +12,11 @@ use Rattle.lattice.proofs.WalkLaws.{walked}
 use Rattle.rows.specs.parts.Rows.{rows}
 use Rattle.rows.proofs.Rows.{Rows}
 use Rattle.convexity.specs.Clockwise.{border, block}
-use Rattle.completion.specs.parts.Written.{ascent, descent, toRow, writtenFrom}
+use Rattle.completion.specs.parts.Written.{writtenFrom}
 use Rattle.completion.specs.HullRows.{hullLeft, hullRight}
 use Rattle.completion.specs.Complete.{firstCell, pastCell, firstRow, pastRow, hullOutline, complete}
 use Rattle.completion.proofs.Count.{Least}
+use Rattle.completion.proofs.Written.{written-same}
 use Rattle.completion.proofs.LeftSide.{lowest-row}
 use Rattle.completion.proofs.HullRows.{hull-rows}
 use Rattle.completion.proofs.BlockEnds.{block-joined, rows-fit, ends as block-ends}
@@ -43,54 +44,6 @@ hull-same f g b t same r h l =
       | no one ↦ let e : r ≡ b = omega arith in
           rw e (lowest-row f b t (omega arith) ∙ same b (omega arith) ∙ sym (lowest-row g b t (omega arith)))
     ]
-
--- ---- the letters round rows with the same ends
-
-ascent-same : (f g : ℕ → ℕ) (y k : ℕ) → ((r : ℕ) → y ≤ r → r ≤ y + k → f r ≡ g r) → ascent f y k ≡ ascent g y k
-unfolding ascent
-ascent-same f g y zero same = refl
-ascent-same f g y (suc k) same =
-    rw (
-      same y (omega arith) (omega arith),
-      same (suc y) (omega arith) (omega arith),
-      ascent-same f g (suc y) k (λ r h l. same r (omega arith) (omega arith)),
-    ) refl
-
-descent-same : (f g : ℕ → ℕ) (y k : ℕ) → ((r : ℕ) → y ≤ r → r ≤ y + k → f r ≡ g r) → descent f y k ≡ descent g y k
-unfolding descent
-descent-same f g y zero same = refl
-descent-same f g y (suc k) same =
-    rw (
-      same y (omega arith) (omega arith),
-      same (suc y) (omega arith) (omega arith),
-      descent-same f g (suc y) k (λ r h l. same r (omega arith) (omega arith)),
-    ) refl
-
-rise-same : (f g : ℕ → ℕ) (y k : ℕ) → ((r : ℕ) → y ≤ r → r ≤ y + k → f r ≡ g r) → toRow f y k ≡ toRow g y k
-unfolding toRow
-rise-same f g y zero same = refl
-rise-same f g y (suc k) same =
-    rw (
-      same y (omega arith) (omega arith),
-      same (suc y) (omega arith) (omega arith),
-      rise-same f g (suc y) k (λ r h l. same r (omega arith) (omega arith)),
-    ) refl
-
-written-same :
-    (lo lo′ hi hi′ : ℕ → ℕ) (b t m : ℕ) → b ≤ m → m < t → ((r : ℕ) → b ≤ r → r < t → lo r ≡ lo′ r)
-    → ((r : ℕ) → b ≤ r → r < t → hi r ≡ hi′ r)
-    → writtenFrom lo hi b t m ≡ writtenFrom lo′ hi′ b t m
-unfolding writtenFrom
-written-same lo lo′ hi hi′ b t m h l p q =
-    rw (
-      ascent-same lo lo′ m (t - suc m) (λ r u v. p r (omega arith) (omega arith)),
-      p (pred t) (omega arith) (omega arith),
-      q (pred t) (omega arith) (omega arith),
-      descent-same hi hi′ b (t - suc b) (λ r u v. q r (omega arith) (omega arith)),
-      q b (omega arith) (omega arith),
-      p b (omega arith) (omega arith),
-      rise-same lo lo′ b (m - b) (λ r u v. p r (omega arith) (omega arith)),
-    ) refl
 
 -- ---- an outline
 

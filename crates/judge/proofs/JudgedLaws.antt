@@ -29,7 +29,9 @@ use Rattle.convexity.specs.Pieces.{edges}
 use Rattle.convexity.proofs.Clockwise.{west-first, west-place-first, west-place-later, form-clockwise, form-backward, length-form}
 use Rattle.convexity.proofs.Clockwise.{simple-form, clockwise-form, from-w-form}
 use Rattle.convexity.proofs.Corners.{corner-form}
-use Rattle.verdict.specs.Verdict.{roundVerdict, borderVerdict, afterSurvey, verdictOf, withRoom, testOf, bufferAfter, edgesAfter}
+use Rattle.verdict.specs.Verdict.{verdictOf, withRoom, testOf, bufferAfter, edgesAfter}
+use Rattle.verdict.specs.parts.Chain.{roundVerdict, borderVerdict, afterSurvey}
+use Rattle.verdict.proofs.Chain.{verdict-chain}
 use Rattle.verdict.proofs.VerdictLaws.{taken-fits}
 use Rattle.cut_places.specs.declared.Cuts.{Cuts}
 use Rattle.cut_places.specs.parts.Cuts.{CutsOf}
@@ -173,13 +175,13 @@ OutcomeOf o = Outcome (verdictOf o) (edges (border o))
 
 module _ (o : Outline) where
   pub stopped-outcome : {f : Refusal} → surveyOf o ≡ Stopped f → (before : List ℤ) → OutcomeOf o before before (Refused f)
-  unfolding verdictOf afterSurvey
-  stopped-outcome h before = outcome-refused (edges (border o)) before (rw h refl)
+  unfolding afterSurvey
+  stopped-outcome h before = outcome-refused (edges (border o)) before (rw (verdict-chain o, h) refl)
 
   pub passed-outcome : {c : Corners} → surveyOf o ≡ Passed c → {before after : List ℤ} {r : Verdict} → OutcomeOfBorder o before after r
       → OutcomeOf o before after r
-  unfolding verdictOf afterSurvey
-  passed-outcome h e = rw h e
+  unfolding afterSurvey
+  passed-outcome h e = rw (verdict-chain o, h) e
 
   pub outcome-edges : {before after : List ℤ} {r : Verdict} → OutcomeOf o before after r → after ≡ edgesAfter o before
   unfolding edgesAfter testOf

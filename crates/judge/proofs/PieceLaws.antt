@@ -35,7 +35,8 @@ use Rattle.convexity.proofs.Shape.{straight-of, shape}
 use Rattle.convexity.proofs.Clockwise.{simple-form}
 use Rattle.convexity.proofs.Bounds.{edges-length}
 use Rattle.convexity.proofs.EdgeBound.{edges-at-most-100}
-use Rattle.verdict.specs.Verdict.{backStepIn, cellFound, dentIn, roundVerdict, withRoom, bufferAfter}
+use Rattle.verdict.specs.Verdict.{backStepIn, cellFound, dentIn, withRoom, bufferAfter}
+use Rattle.verdict.specs.parts.Chain.{roundVerdict}
 use Rattle.judge.specs.declared.Round.{Round}
 use Rattle.pieces.specs.parts.Pieces.{Laid}
 use Rattle.clockwise_copy.specs.parts.ClockwiseCopy.{SentTo}

@@ -11,7 +11,8 @@ use Rattle.chart.specs.Outline.{Outline}
 use Rattle.lattice.specs.Chart.{size}
 use Rattle.convexity.specs.Clockwise.{border, sentFrom}
 use Rattle.convexity.specs.Pieces.{edges}
-use Rattle.verdict.specs.Verdict.{roundVerdict, borderVerdict, verdictOf, withRoom, bufferAfter}
+use Rattle.verdict.specs.Verdict.{verdictOf, withRoom, bufferAfter}
+use Rattle.verdict.specs.parts.Chain.{roundVerdict, borderVerdict}
 use Rattle.judge.specs.declared.Judged.{Judged}
 
 -- The numbers es, n of them, are written to the front of a buffer with room for them; any other buffer is as it was

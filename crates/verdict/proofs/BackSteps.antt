@@ -2,17 +2,16 @@
 -- first letter that is neither of its piece's two.
 use Prim.Native.Nat.{ℕ, suc, _+_, _%_, _≤_, _<_}
 use native.Mathlib.Nat.{mod-lt}
-use native.Mathlib.Numerals.{add-one}
 use native.Mathlib.Omega.{arith}
 use native.Mathlib.Decide.{decLt}
 use mathlib.Core.Path.{_≡_, refl, sym, ap, _∙_, subst}
 use mathlib.Core.Logic.{_↔_, _⊎_, inl, inr, ⊎-elim}
-use mathlib.Core.Bool.{Bool, true, false, cond, not, _||_, true≢false}
+use mathlib.Core.Bool.{Bool, true, false, not, _||_, true≢false}
 use mathlib.Core.List.{List}
-use lib.ListN.{length, getD}
+use lib.ListN.{length}
 use lib.Dec.{ltb, eqb}
 use borrow.Author.Tests.{lt-ltb, le-ltb, ltb-true, ltb-false, eqb-true, eq-eqb}
-use Rattle.base.proofs.BelowLaws.{first-le, first-found, first-before, first-none, first-none-at, first-is, not-held}
+use Rattle.base.proofs.BelowLaws.{first-le, first-found, first-before, first-none, first-none-at, first-is}
 use Rattle.chart.specs.declared.Refusal.{Refusal}
 use Rattle.chart.specs.declared.Refusal.the-variants.{BackStep}
 use Rattle.chart.specs.declared.Verdict.the-variants.{Refused}
@@ -25,9 +24,11 @@ use Rattle.convexity.specs.Frame.{frameOf}
 use Rattle.convexity.specs.Clockwise.{border, placeSent}
 use Rattle.convexity.specs.Pieces.{piece, isBackStep, backStepAt, backStepPiece, Reaches}
 use Rattle.convexity.proofs.Places.{place-round, place-read}
-use Rattle.verdict.specs.Verdict.{backStepIn, dentIn, roundVerdict, borderVerdict, afterSurvey, verdictOf}
+use Rattle.verdict.specs.Verdict.{backStepIn, dentIn, verdictOf}
+use Rattle.verdict.specs.parts.Chain.{roundVerdict, borderVerdict, afterSurvey}
 use Rattle.verdict.specs.Dents.{dentOf}
 use Rattle.verdict.specs.Rule.{pieceCut, pieceLetters, pieceLetter, Own, SentAs, FirstBackStep}
+use Rattle.verdict.proofs.Chain.{verdict-chain}
 use Rattle.verdict.proofs.VerdictLaws.{dented-or-not, verdict-dented, verdict-taken}
 
 -- Every place on the border is one in the list as sent
@@ -88,15 +89,16 @@ module _ (o : Outline) where
   module _ (h : Simple o) where
     -- After 1 to 6 the back-steps decide
     verdict-eight : backStepPiece t < 4 → verdictOf o ≡ Refused (backStepIn (placeSent o) t (backStepPiece t))
-    unfolding verdictOf borderVerdict roundVerdict afterSurvey
-    verdict-eight l = rw (← survey-passed o h, lt-ltb (backStepPiece t) 4 l)
+    unfolding borderVerdict roundVerdict afterSurvey
+    verdict-eight l = rw (verdict-chain o, ← survey-passed o h, lt-ltb (backStepPiece t) 4 l)
 
     eight-of-first : (p i : ℕ) → FirstBackStep o p i → verdictOf o ≡ Refused (BackStep p i)
     unfolding backStepPiece backStepIn backStepAt
     eight-of-first p i f =
         let k : ℕ = f .k in
         let at : backStepAt t k ≡ f .at =
-        first-is (back k) (length (pieceLetters o k)) (f .at) (f .within) (λ n l. not-back k n (f .before n l)) (is-back k (f .at) (f .back))
+        first-is (back k) (length (pieceLetters o k)) (f .at) (f .within) (λ n l. not-back k n (f .before n l))
+        (is-back k (f .at) (f .back))
         in
         let first : backStepPiece t ≡ k =
         first-is backIn 4 k (f .below) (λ j l. no-back-in j (f .earlier j l))

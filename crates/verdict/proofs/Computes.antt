@@ -25,6 +25,6 @@ unfolding Below.every Below.first Below.further Below.some Word.wordOf Word.earl
     Clockwise.opposite Clockwise.backward Clockwise.clockwiseForm Clockwise.readFrom Clockwise.sentFrom Clockwise.placeSent Cut.ahead
     Cut.cutCorner Cut.cut Pieces.rounds Pieces.piece Pieces.isBackStep Pieces.backStepAt Pieces.backStepPiece Pieces.word Pieces.factors
     Pieces.dentAt Pieces.dentLength Pieces.dentPiece Pieces.edgesOf Pieces.edges Pieces.edgeCount Survey.surveyOf Verdict.backStepIn
-    Verdict.cellFound Verdict.dentIn Verdict.roundVerdict Verdict.borderVerdict Verdict.afterSurvey Verdict.verdictOf Verdict.withRoom
+    Verdict.cellFound Verdict.dentIn Verdict.firstOf Verdict.checks Verdict.verdictOf Verdict.withRoom
     Verdict.testOf Verdict.testFields Verdict.bufferAfter Verdict.edgesAfter
 computes = true

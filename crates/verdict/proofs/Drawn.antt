@@ -16,8 +16,10 @@ use Rattle.convexity.specs.Pieces.{backStepPiece, dentPiece, edgeCount}
 use Rattle.convexity.specs.SameBlock.{SameCells}
 use Rattle.convexity.proofs.Clockwise.{simple-backward, form-of-backward}
 use Rattle.convexity.proofs.SameBlock.{same-from-w-iff}
-use Rattle.verdict.specs.Verdict.{backStepIn, dentIn, roundVerdict, borderVerdict, afterSurvey, verdictOf}
+use Rattle.verdict.specs.Verdict.{backStepIn, dentIn, verdictOf}
+use Rattle.verdict.specs.parts.Chain.{roundVerdict, borderVerdict, afterSurvey}
 use Rattle.verdict.specs.Drawn.{SameButPlace}
+use Rattle.verdict.proofs.Chain.{verdict-chain}
 
 -- Only the places depend on the list as sent
 said-alike : (p q : ℕ → ℕ) (t : Outline) → SameButPlace (verdictFields (roundVerdict p t)) (verdictFields (roundVerdict q t))
@@ -39,8 +41,8 @@ said-alike p q t = go (ltb (backStepPiece t) 4) (ltb (dentPiece t) 4)
 
 -- After 1 to 6 the border decides
 verdict-border : (o : Outline) → Simple o → verdictOf o ≡ roundVerdict (placeSent o) (border o)
-unfolding verdictOf afterSurvey borderVerdict
-verdict-border o h = rw (← survey-passed o h)
+unfolding afterSurvey borderVerdict
+verdict-border o h = rw (verdict-chain o, ← survey-passed o h)
 
 same-border-verdict : (o v : Outline) → Simple o → Simple v → border o ≡ border v
     → SameButPlace (verdictFields (verdictOf o)) (verdictFields (verdictOf v))

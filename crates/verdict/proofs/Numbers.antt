@@ -1,11 +1,11 @@
--- The test is a chain of refusals, so its number is one of theirs or 0. With room for every taken outline it is not 10.
+-- The test is a list of refusals, so its number is one of theirs or 0. With room for every taken outline it is not 10.
 use Prim.Native.Nat.{ℕ, _-_, _*_}
 use mathlib.Core.Path.{_≡_, refl}
 use mathlib.Core.Bool.{Bool, true, false, cond}
 use lib.Dec.{ltb, eqb}
 use borrow.Author.Tests.{le-ltb, eqb-false}
 use Rattle.chart.specs.declared.Refusal.{Refusal}
-use Rattle.chart.specs.declared.Refusal.the-variants.{Length, Start, Letter, OffChart, NotClosed, Touches}
+use Rattle.chart.specs.declared.Refusal.the-variants.{Length, Start, Letter, OffChart, NotClosed, Touches, EdgeList}
 use Rattle.chart.specs.declared.Verdict.{Verdict}
 use Rattle.chart.specs.declared.Verdict.the-variants.{Taken, Refused}
 use Rattle.chart.specs.Limits.{mostNumbers}
@@ -13,26 +13,17 @@ use Rattle.chart.specs.Outline.{Outline}
 use Rattle.chart.specs.Fields.{refusalFields, verdictFields}
 use Rattle.lattice.specs.Chart.{size}
 use Rattle.lattice.specs.Refusals.{badCount, badStart, letterPlace, leavingPlace, unclosed, touchingPlace}
-use Rattle.survey.specs.declared.Surveyed.{Surveyed}
-use Rattle.survey.specs.declared.Surveyed.the-variants.{Refused as Stopped}
-use Rattle.survey.specs.Survey.{surveyOf}
 use Rattle.convexity.specs.Clockwise.{border}
 use Rattle.convexity.specs.Pieces.{backStepPiece, dentPiece}
-use Rattle.verdict.specs.Verdict.{backStepIn, dentIn, roundVerdict, borderVerdict, afterSurvey, verdictOf, withRoom, testOf, testFields}
+use Rattle.verdict.specs.Verdict.{backStepIn, dentIn, firstOf, checks, verdictOf, withRoom, testOf, testFields}
 use Rattle.verdict.proofs.VerdictLaws.{taken-fits}
 
 module _ (P : ℕ → Type 0) where
-  -- One refusal of the chain: it applies, or the rest of the chain decides
-  link : (b : Bool) (f : Refusal) (v : Verdict) → P (refusalFields f .number) → P (verdictFields v .number)
+  -- One refusal of the list: it applies, or the rest of the list decides
+  link : (b : Bool) (f : Refusal) (v : Verdict) → (b ≡ true → P (refusalFields f .number)) → P (verdictFields v .number)
       → P (verdictFields (cond b (Refused f) v) .number)
-  link true f v p q = p
+  link true f v p q = p refl
   link false f v p q = q
-
-  survey-link : (b : Bool) (f : Refusal) (c : Surveyed) (v : Verdict) → (b ≡ true → P (refusalFields f .number))
-      → P (verdictFields (afterSurvey c v) .number) → P (verdictFields (afterSurvey (cond b (Stopped f) c) v) .number)
-  unfolding afterSurvey
-  survey-link true f c v p q = p refl
-  survey-link false f c v p q = q
 
   room-link : (o : Outline) (v : Verdict) → verdictOf o ≡ v → P (verdictFields v .number)
       → P (verdictFields (withRoom mostNumbers v) .number)
@@ -40,19 +31,18 @@ module _ (P : ℕ → Type 0) where
   room-link o (Refused f) e p = p
   room-link o (Taken n a) e p = rw (le-ltb mostNumbers (2 * n) (taken-fits o n a e)) p
 
-  -- What holds for 0, for 1 to 6 and for 8 and 9 holds for a test's number. 2 needs a start off the chart
-  pub tested-number : (o : Outline) → P 0 → P 1 → (badStart (o .start) ≡ true → P 2) → P 3 → P 4 → P 5 → P 6 → P 8 → P 9
-      → P (testFields o mostNumbers .number)
-  unfolding testFields testOf verdictOf surveyOf afterSurvey borderVerdict roundVerdict backStepIn dentIn
-  tested-number o p₀ p₁ p₂ p₃ p₄ p₅ p₆ p₈ p₉ =
-      room-link o (verdictOf o) refl
-      (survey-link (badCount (o .letters)) Length _ _ (λ e. p₁)
-      (survey-link (badStart (o .start)) Start _ _ p₂
-      (survey-link (ltb (letterPlace (o .letters)) (size o)) (Letter (letterPlace (o .letters))) _ _ (λ e. p₃)
-      (survey-link (ltb (leavingPlace o) (size o)) (OffChart (leavingPlace o)) _ _ (λ e. p₄)
-      (survey-link (unclosed o) NotClosed _ _ (λ e. p₅)
-      (survey-link (ltb (touchingPlace o) (size o - 1)) (Touches (touchingPlace o)) _ _ (λ e. p₆)
-      (link (ltb (backStepPiece (border o)) 4) _ _ p₈ (link (ltb (dentPiece (border o)) 4) _ _ p₉ p₀)))))))
+  -- What holds for 0, for 1 to 6 and for 8 and 9 holds for the number of a verdict. 2 needs a start off the chart
+  pub verdict-number : (o : Outline) → P 0 → P 1 → (badStart (o .start) ≡ true → P 2) → P 3 → P 4 → P 5 → P 6 → P 8 → P 9
+      → P (verdictFields (verdictOf o) .number)
+  unfolding verdictOf firstOf checks backStepIn dentIn
+  verdict-number o p₀ p₁ p₂ p₃ p₄ p₅ p₆ p₈ p₉ =
+      link (badCount (o .letters)) Length _ (λ e. p₁)
+      (link (badStart (o .start)) Start _ p₂
+      (link (ltb (letterPlace (o .letters)) (size o)) (Letter (letterPlace (o .letters))) _ (λ e. p₃)
+      (link (ltb (leavingPlace o) (size o)) (OffChart (leavingPlace o)) _ (λ e. p₄)
+      (link (unclosed o) NotClosed _ (λ e. p₅)
+      (link (ltb (touchingPlace o) (size o - 1)) (Touches (touchingPlace o)) _ (λ e. p₆)
+      (link (ltb (backStepPiece (border o)) 4) _ _ (λ e. p₈) (link (ltb (dentPiece (border o)) 4) _ _ (λ e. p₉) p₀)))))))
 
   -- The same for the number of a test with room for every taken outline; with less room, for what holds for 10 as well
   pub tested-number : (o : Outline) → P 0 → P 1 → (badStart (o .start) ≡ true → P 2) → P 3 → P 4 → P 5 → P 6 → P 8 → P 9
@@ -67,7 +57,7 @@ module _ (P : ℕ → Type 0) where
     where
       short : (v : Verdict) → P (verdictFields v .number) → P (verdictFields (withRoom room v) .number)
       short (Refused f) r = r
-      short (Taken n a) r = link (ltb room (2 * n)) (Room n) (Taken n a) q r
+      short (Taken n a) r = link (ltb room (2 * n)) (EdgeList n) (Taken n a) (λ e. q) r
 
 -- 7 is no test's number (contract 5.4)
 pub seven-never : (o : Outline) (room : ℕ) → testFields o room .number ≡ 7 → ⊥

@@ -31,9 +31,10 @@ use Rattle.convexity.specs.Clockwise.{border, placeSent}
 use Rattle.convexity.specs.Pieces.{backStepPiece, factors, dentLength, dentPiece, edges, edgeCount, Reaches}
 use Rattle.convexity.proofs.Bounds.{edges-length}
 use Rattle.convexity.proofs.EdgeBound.{edges-fit}
-use Rattle.verdict.specs.Verdict.{backStepIn, dentIn, roundVerdict, borderVerdict, afterSurvey, verdictOf, withRoom, testOf}
-use Rattle.verdict.specs.Verdict.{bufferAfter, edgesAfter}
+use Rattle.verdict.specs.Verdict.{backStepIn, dentIn, verdictOf, withRoom, testOf, bufferAfter, edgesAfter}
+use Rattle.verdict.specs.parts.Chain.{roundVerdict, borderVerdict, afterSurvey}
 use Rattle.verdict.specs.Dents.{Dented, dentOf}
+use Rattle.verdict.proofs.Chain.{verdict-chain}
 
 -- ---- refusals 1 to 8
 
@@ -86,26 +87,27 @@ module _ (o : Outline) where
 
   -- None of 1 to 6 applies, or one of them is the answer
   pub simple-or-early : Simple o ⊎ Early 6 (verdictOf o)
-  unfolding verdictOf surveyOf afterSurvey
+  unfolding surveyOf afterSurvey
   simple-or-early =
-      survey-link (badCount (o .letters)) Length _ _ (lit< tt) (lit≤ tt) λ counted.
+      rw (verdict-chain o)
+      (survey-link (badCount (o .letters)) Length _ _ (lit< tt) (lit≤ tt) λ counted.
       survey-link (badStart (o .start)) Start _ _ (lit< tt) (lit≤ tt) λ started.
       survey-link (ltb (letterPlace (o .letters)) (size o)) (Letter (letterPlace (o .letters))) _ _ (lit< tt) (lit≤ tt) λ lettered.
       survey-link (ltb (leavingPlace o) (size o)) (OffChart (leavingPlace o)) _ _ (lit< tt) (lit≤ tt) λ stays.
       survey-link (unclosed o) NotClosed _ _ (lit< tt) (lit≤ tt) λ closed.
       survey-link (ltb (touchingPlace o) (size o - 1)) (Touches (touchingPlace o)) _ _ (lit< tt) (lit≤ tt) λ simple.
-      inl (record { counted = counted; started = started; lettered = lettered; stays = stays; closed = closed; simple = simple })
+      inl (record { counted = counted; started = started; lettered = lettered; stays = stays; closed = closed; simple = simple }))
 
   -- None of 1 to 8 applies, or one of them is the answer
   pub reaches-or-early : Reaches o ⊎ Early 8 (verdictOf o)
-  unfolding verdictOf borderVerdict roundVerdict backStepIn afterSurvey
+  unfolding borderVerdict roundVerdict backStepIn afterSurvey
   reaches-or-early =
       ⊎-elim straight (λ e. inr (record { refusal = e .refusal; some = e .some; early = omega (arith, e .early); answer = e .answer }))
       simple-or-early
     where
       straight : Simple o → Reaches o ⊎ Early 8 (verdictOf o)
       straight h =
-          rw (← survey-passed o h)
+          rw (verdict-chain o, ← survey-passed o h)
           (link (ltb (backStepPiece (border o)) 4) (backStepIn (placeSent o) (border o) (backStepPiece (border o))) _ (lit< tt) (lit≤ tt)
           λ s.
           inl (record { simple = h; straight = s }))
@@ -124,8 +126,8 @@ module _ (o : Outline) where
 
   -- After 1 to 8 the dents decide
   verdict-past-eight : Reaches o → verdictOf o ≡ cond (ltb dent 4) (Refused (dentOf o)) (Taken count (border o .start))
-  unfolding verdictOf borderVerdict roundVerdict dentOf afterSurvey
-  verdict-past-eight r = rw (← survey-passed o (r .simple), r .straight)
+  unfolding borderVerdict roundVerdict dentOf afterSurvey
+  verdict-past-eight r = rw (verdict-chain o, ← survey-passed o (r .simple), r .straight)
 
   pub verdict-dented : Dented o → verdictOf o ≡ Refused (dentOf o)
   verdict-dented d = verdict-past-eight (d .reaches) ∙ rw (lt-ltb dent 4 (d .dented))

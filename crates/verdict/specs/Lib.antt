@@ -5,3 +5,4 @@ pub mod Named
 pub mod Drawn
 pub mod Rule
 pub mod Specimens
+pub mod parts

@@ -1,23 +1,21 @@
 -- The verdict on an outline: the first of refusals 1 to 9 that applies, or taken
 -- (contract 5). A test checks for room as well (contract 6.1).
-use Prim.Native.Nat.{ℕ, suc, _+_, _*_}
-use mathlib.Core.Bool.{cond}
-use mathlib.Core.List.{List, _++_}
+use Prim.Native.Nat.{ℕ, suc, _+_, _-_, _*_}
+use mathlib.Core.Bool.{Bool, cond}
+use mathlib.Core.List.{List, [], _∷_, _++_}
 use lib.ListN.{length, drop}
 use lib.Dec.{ltb}
 use lib.IntN.{ℤ}
 use Rattle.chart.specs.declared.Point.{Point}
 use Rattle.chart.specs.declared.Fields.{Fields}
 use Rattle.chart.specs.declared.Refusal.{Refusal}
-use Rattle.chart.specs.declared.Refusal.the-variants.{BackStep, Dent, EdgeList}
+use Rattle.chart.specs.declared.Refusal.the-variants.{Length, Start, Letter, OffChart, NotClosed, Touches, BackStep, Dent, EdgeList}
 use Rattle.chart.specs.declared.Verdict.{Verdict}
 use Rattle.chart.specs.declared.Verdict.the-variants.{Taken, Refused}
 use Rattle.chart.specs.Outline.{Outline}
 use Rattle.chart.specs.Fields.{verdictFields}
-use Rattle.lattice.specs.Chart.{cornerAt}
-use Rattle.survey.specs.declared.Surveyed.{Surveyed}
-use Rattle.survey.specs.declared.Surveyed.the-variants.{Passed, Refused as Stopped}
-use Rattle.survey.specs.Survey.{surveyOf}
+use Rattle.lattice.specs.Chart.{cornerAt, size}
+use Rattle.lattice.specs.Refusals.{badCount, badStart, letterPlace, leavingPlace, unclosed, touchingPlace}
 use Rattle.rows.specs.Search.{missingCell}
 use Rattle.convexity.specs.Cut.{cornerPlace, cut}
 use Rattle.convexity.specs.Clockwise.{border, placeSent}
@@ -35,24 +33,28 @@ cellFound t = missingCell t (cornerAt t (cornerPlace t 3) .row) (cornerAt t (cor
 unfoldable pub dentIn : (ℕ → ℕ) → Outline → ℕ → Refusal
 dentIn place t k = Dent (suc k) (place (cut t k + 1 + dentAt (factors t k))) (dentLength (factors t k)) (cellFound t)
 
--- 8 and 9 of a border; or taken, with the count of edges and the anchor, which is the cell at W
-unfoldable pub roundVerdict : (ℕ → ℕ) → Outline → Verdict
-roundVerdict place t =
-    cond (ltb (backStepPiece t) 4) (Refused (backStepIn place t (backStepPiece t)))
-    (cond (ltb (dentPiece t) 4) (Refused (dentIn place t (dentPiece t))) (Taken (edgeCount t) (t .start)))
+-- The first refusal of a list that applies, or the given verdict. Each stands with the test whether it applies
+unfoldable pub firstOf : List (Bool × Refusal) → Verdict → Verdict
+firstOf [] v = v
+firstOf ((b, f) ∷ cs) v = cond b (Refused f) (firstOf cs v)
 
--- 8 and 9 of an outline, or taken: those of its border, with places in the list as sent
-unfoldable pub borderVerdict : Outline → Verdict
-borderVerdict o = roundVerdict (placeSent o) (border o)
+-- 1 to 9 of an outline, in this order. 8 and 9 go by its border, with places in the list as sent
+unfoldable pub checks : Outline → List (Bool × Refusal)
+checks o =
+    (badCount (o .letters), Length) ∷
+    (badStart (o .start), Start) ∷
+    (ltb (letterPlace (o .letters)) (size o), Letter (letterPlace (o .letters))) ∷
+    (ltb (leavingPlace o) (size o), OffChart (leavingPlace o)) ∷
+    (unclosed o, NotClosed) ∷
+    (ltb (touchingPlace o) (size o - 1), Touches (touchingPlace o)) ∷
+    (ltb (backStepPiece (border o)) 4, backStepIn (placeSent o) (border o) (backStepPiece (border o))) ∷
+    (ltb (dentPiece (border o)) 4, dentIn (placeSent o) (border o) (dentPiece (border o))) ∷ []
 
--- The refusal of 1 to 6 if there is one, otherwise the given verdict
-unfoldable pub afterSurvey : Surveyed → Verdict → Verdict
-afterSurvey (Passed c) v = v
-afterSurvey (Stopped f) v = Refused f
-
--- 1 to 9, or taken: what a close checks, in the holder and in the plain book
+-- The first of 1 to 9 that applies, otherwise taken, with the count of edges and the anchor, which is the cell at W: what a close checks,
+-- in
+-- the holder and in the plain book
 unfoldable pub verdictOf : Outline → Verdict
-verdictOf o = afterSurvey (surveyOf o) (borderVerdict o)
+verdictOf o = firstOf (checks o) (Taken (edgeCount (border o)) (border o .start))
 
 -- 10: a taken outline needs two numbers for each edge in a buffer of m
 unfoldable pub withRoom : ℕ → Verdict → Verdict
