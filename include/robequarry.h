@@ -50,10 +50,10 @@
  *    reset.
  *  - D6. The stack has the bytes that are stated below.
  *  - D7. One holder or pile has one writer at a time. An interrupt routine may ask during any call, and alters nothing during one (see
- *    WHO OWNS WHAT).
+ *    WHO OWNS WHAT). Only rq_pile_save must not interrupt a call that alters the pile.
  *
  * Nothing else is asked for the replies to be as described. Counts, letters, numbers of edges, parties, places and floats may be
- * anything. D8 to D17 are what a device owes besides: what to do with a reply, records, damaged memory, time, and how to build.
+ * anything. D8 to D19 are what a device owes besides: what to do with a reply, records, damaged memory, time, and how to build.
  *
  *
  * STACK
@@ -62,12 +62,14 @@
  * holds it. The second is for x86-64, and host/checks/tests/stack.rs holds it.
  *
  *                                                     Cortex-M    x86-64
- *     rq_test, rq_pile_set                               8,700     8,600
- *     rq_close                                           9,300     9,200
- *     a close by rq_call                                 9,600     9,300
+ *     rq_test                                            8,700     8,600
+ *     rq_pile_set, rq_pile_restore                       9,200     9,200
+ *     rq_close, rq_restore                               9,800     9,700
+ *     a close by rq_call                                 9,900     9,800
  *     rq_border                                          9,900     9,700
+ *     rq_check, rq_save, rq_pile_save                   11,300    11,200
  *     rq_witness, rq_complete                           12,700    13,000
- *     rq_replay                                         20,200    20,000
+ *     rq_replay                                         20,400    20,300
  *     rq_pile_check, rq_pile_check_step                    600       600
  *     rq_compare                                         1,500     1,700
  *     any other call by rq_call                            600       300
@@ -100,6 +102,7 @@ enum {
     RQ_PLACES = 4,          /* places of a party, from 0 */
     RQ_LAYERS = 16,         /* layers of a pile, from 0 */
     RQ_CALL_BYTES = 11,     /* bytes of a call, for rq_call and rq_replay */
+    RQ_IMAGE_BYTES = 622,   /* bytes of an image, for rq_save and rq_restore */
     RQ_REPLY_NUMBERS = 7    /* numbers of a reply */
 };
 
@@ -159,12 +162,14 @@ enum {
     RQ_REFUSED_DIRECTIONS = 16,      /* an edge is zero, or the edges do not sum to zero, or their directions do not increase strictly
                                         clockwise from up, which is the first. compare, place: which list */
     RQ_REFUSED_NO_OUTLINE = 17,      /* border: the test takes no outline with this anchor and these edges */
-    RQ_REFUSED_LETTER_BUFFER = 18,   /* border, complete: the buffer is too short for the letters */
+    RQ_REFUSED_LETTER_BUFFER = 18,   /* border, complete: the buffer is too short for the letters; save: for an image */
     RQ_REFUSED_PARTY = 19,           /* the party is above 1 */
     RQ_REFUSED_PLACE = 20,           /* the place is above 3 */
     RQ_REFUSED_SECTION = 21,         /* pile check: a section is dented. piece: 0 at a column, 1 at a row. place: that column or row.
                                         The first one, columns before rows */
-    RQ_REFUSED_LAYER = 22            /* pile: the layer is above 15 */
+    RQ_REFUSED_LAYER = 22,           /* pile: the layer is above 15 */
+    RQ_REFUSED_IMAGE = 26,           /* restore: the bytes are not an image */
+    RQ_REFUSED_DAMAGED = 27          /* check, save: what is at work is what no taking leaves */
 };
 
 /* Words. */
@@ -248,6 +253,9 @@ void rq_witness(uint16_t col, uint16_t row, const uint8_t *letters, uint64_t n, 
  */
 void rq_complete(uint16_t col, uint16_t row, const uint8_t *letters, uint64_t n, uint8_t *out, uint64_t m, rq_reply *reply);
 
+/* The CRC-32C of n bytes, which an image ends with, lowest byte first. */
+uint32_t rq_checksum(const uint8_t *bytes, uint64_t n);
+
 /*
  * A holder keeps outlines for two parties. Each party has a draft, or none, which is drawn letter by letter; and four places, each
  * with an outline at work or nothing. Replies to a party depend only on that party's calls. Memory of zeros is a fresh holder too.
@@ -291,6 +299,26 @@ static inline void rq_clear(rq_holder *holder, uint8_t party, uint8_t place, rq_
  * names; every question about a place still has its old answer. The second puts that slot to work, by one store.
  */
 static inline void rq_close(rq_holder *holder, uint8_t party, uint8_t place, rq_reply *reply);
+
+/*
+ * Checks a place. Number 0 if nothing is at work there, or what the taking of some outline leaves: its anchor, its edges and its rows.
+ * Else 27, also where the place's number is not 0 and names no slot; a question about the place is then refused by 12. Refused by 19, 20
+ * and 27.
+ */
+static inline void rq_check(const rq_holder *holder, uint8_t party, uint8_t place, rq_reply *reply);
+
+/*
+ * Saves a place: writes an image of RQ_IMAGE_BYTES bytes to the front of the buffer `image`, which has m bytes. It is the image of the
+ * border of the outline at work, or of an empty place. The same outline has the same bytes on every target. Refused by 19, 20, 27, and
+ * by 18 if m is below RQ_IMAGE_BYTES.
+ */
+static inline void rq_save(const rq_holder *holder, uint8_t party, uint8_t place, uint8_t *image, uint64_t m, rq_reply *reply);
+
+/*
+ * Restores a place from n bytes, which have to be an image: as a close of its outline, or as a clear if it is the image of an empty place.
+ * The draft stays. It has the two halves of a close. Refused by 19, 20, 26 and 1 to 9; what is at work stays then.
+ */
+static inline void rq_restore(rq_holder *holder, uint8_t party, uint8_t place, const uint8_t *image, uint64_t n, rq_reply *reply);
 
 /* RQ_WORD_INSIDE if the outline at work at the place has the cell (col, row), else RQ_WORD_OUTSIDE. Refused by 19, 20, 12 and 11. */
 static inline void rq_query(const rq_holder *holder, uint8_t party, uint8_t place, uint16_t col, uint16_t row, rq_reply *reply);
@@ -378,8 +406,22 @@ static inline void rq_pile_check_step(rq_pile *pile, uint16_t sections, rq_reply
 static inline void rq_pile_query(const rq_pile *pile, uint8_t layer, uint16_t col, uint16_t row, rq_reply *reply);
 
 /*
+ * Saves a layer: writes an image of 622 bytes to the front of the buffer `image`, which has m bytes. It is the image of the border of the
+ * layer's outline, from W, or of an empty layer. Refused by 22, by 27 if the layer's rows are what no set leaves, and by 18 if m is below
+ * 622. A refused save leaves the buffer. It must not interrupt a set, an empty or a restore of the same pile: rows may be half written.
+ */
+static inline void rq_pile_save(const rq_pile *pile, uint8_t layer, uint8_t *image, uint64_t m, rq_reply *reply);
+
+/*
+ * Restores a layer from n bytes: as rq_pile_set of the outline whose image they are, or rq_pile_empty if it has no letters. Refused by 22,
+ * by 26 if they are no image, and by 1 to 9. A refused restore changes nothing.
+ */
+static inline void rq_pile_restore(rq_pile *pile, uint8_t layer, const uint8_t *image, uint64_t n, rq_reply *reply);
+
+/*
  * What follows is how the calls above reach the library, which takes the arrays of a holder or a pile one by one. Whoever calls these makes
- * rq_commit_parts the next call that alters after rq_prepare_parts, with the same party and place and with the word that it returned.
+ * rq_commit_parts the next call that alters after rq_prepare_parts or rq_prepare_image_parts, with the same party and place and with the
+ * word that it returned.
  */
 void rq_fresh_parts(uint8_t letters[RQ_HOLDER_LETTERS], uint8_t rows[RQ_HOLDER_ROWS], int16_t numbers[RQ_HOLDER_NUMBERS],
                     uint16_t heads[RQ_HOLDER_HEADS]);
@@ -391,6 +433,12 @@ void rq_clear_parts(uint16_t heads[RQ_HOLDER_HEADS], uint8_t party, uint8_t plac
 uint16_t rq_prepare_parts(const uint8_t letters[RQ_HOLDER_LETTERS], uint8_t rows[RQ_HOLDER_ROWS], int16_t numbers[RQ_HOLDER_NUMBERS],
                           uint16_t heads[RQ_HOLDER_HEADS], uint8_t party, uint8_t place, rq_reply *reply);
 void rq_commit_parts(uint16_t heads[RQ_HOLDER_HEADS], uint8_t party, uint8_t place, uint16_t word);
+void rq_check_parts(const uint8_t rows[RQ_HOLDER_ROWS], const int16_t numbers[RQ_HOLDER_NUMBERS], const uint16_t heads[RQ_HOLDER_HEADS],
+                    uint8_t party, uint8_t place, rq_reply *reply);
+void rq_save_parts(const uint8_t rows[RQ_HOLDER_ROWS], const int16_t numbers[RQ_HOLDER_NUMBERS], const uint16_t heads[RQ_HOLDER_HEADS],
+                   uint8_t party, uint8_t place, uint8_t *image, uint64_t m, rq_reply *reply);
+uint16_t rq_prepare_image_parts(uint8_t rows[RQ_HOLDER_ROWS], int16_t numbers[RQ_HOLDER_NUMBERS], uint16_t heads[RQ_HOLDER_HEADS],
+                                uint8_t party, uint8_t place, const uint8_t *image, uint64_t n, rq_reply *reply);
 void rq_query_parts(const uint8_t rows[RQ_HOLDER_ROWS], const uint16_t heads[RQ_HOLDER_HEADS], uint8_t party, uint8_t place, uint16_t col,
                     uint16_t row, rq_reply *reply);
 void rq_row_parts(const uint8_t rows[RQ_HOLDER_ROWS], const uint16_t heads[RQ_HOLDER_HEADS], uint8_t party, uint8_t place, uint16_t row,
@@ -410,6 +458,9 @@ void rq_pile_check_parts(const uint8_t rows[RQ_PILE_ROWS], uint16_t state[RQ_PIL
 void rq_pile_check_step_parts(const uint8_t rows[RQ_PILE_ROWS], uint16_t state[RQ_PILE_STATE], uint16_t sections, rq_reply *reply);
 void rq_pile_query_parts(const uint8_t rows[RQ_PILE_ROWS], const uint16_t state[RQ_PILE_STATE], uint8_t layer, uint16_t col, uint16_t row,
                          rq_reply *reply);
+void rq_pile_save_parts(const uint8_t rows[RQ_PILE_ROWS], uint8_t layer, uint8_t *image, uint64_t m, rq_reply *reply);
+void rq_pile_restore_parts(uint8_t rows[RQ_PILE_ROWS], uint16_t state[RQ_PILE_STATE], uint8_t layer, const uint8_t *image, uint64_t n,
+                           rq_reply *reply);
 
 static inline void rq_fresh(rq_holder *holder) {
     rq_reply reply = RQ_REPLY_INIT;
@@ -442,6 +493,19 @@ static inline void rq_clear(rq_holder *holder, uint8_t party, uint8_t place, rq_
 
 static inline void rq_close(rq_holder *holder, uint8_t party, uint8_t place, rq_reply *reply) {
     const uint16_t word = rq_prepare_parts(holder->letters, holder->rows, holder->numbers, holder->heads, party, place, reply);
+    rq_commit_parts(holder->heads, party, place, word);
+}
+
+static inline void rq_check(const rq_holder *holder, uint8_t party, uint8_t place, rq_reply *reply) {
+    rq_check_parts(holder->rows, holder->numbers, holder->heads, party, place, reply);
+}
+
+static inline void rq_save(const rq_holder *holder, uint8_t party, uint8_t place, uint8_t *image, uint64_t m, rq_reply *reply) {
+    rq_save_parts(holder->rows, holder->numbers, holder->heads, party, place, image, m, reply);
+}
+
+static inline void rq_restore(rq_holder *holder, uint8_t party, uint8_t place, const uint8_t *image, uint64_t n, rq_reply *reply) {
+    const uint16_t word = rq_prepare_image_parts(holder->rows, holder->numbers, holder->heads, party, place, image, n, reply);
     rq_commit_parts(holder->heads, party, place, word);
 }
 
@@ -493,6 +557,14 @@ static inline void rq_pile_check_step(rq_pile *pile, uint16_t sections, rq_reply
 
 static inline void rq_pile_query(const rq_pile *pile, uint8_t layer, uint16_t col, uint16_t row, rq_reply *reply) {
     rq_pile_query_parts(pile->rows, pile->state, layer, col, row, reply);
+}
+
+static inline void rq_pile_save(const rq_pile *pile, uint8_t layer, uint8_t *image, uint64_t m, rq_reply *reply) {
+    rq_pile_save_parts(pile->rows, layer, image, m, reply);
+}
+
+static inline void rq_pile_restore(rq_pile *pile, uint8_t layer, const uint8_t *image, uint64_t n, rq_reply *reply) {
+    rq_pile_restore_parts(pile->rows, pile->state, layer, image, n, reply);
 }
 
 /* The structs have no padding. */

@@ -29,7 +29,7 @@ use Rattle.calls.specs.declared.Call.{Call}
 use Rattle.calls.specs.declared.Action.the-variants.{Close}
 use Rattle.calls.specs.declared.Reply.{Reply}
 use Rattle.calls.specs.declared.Reply.the-variants.{Same, Refused as WasRefused}
-use Rattle.holder_model.specs.Book.{drafted, atWork, fresh, equalsWork, closedReply, closes, acts, answer, bookAfter}
+use Rattle.holder_model.specs.Book.{Entry, drafted, atWork, fresh, equalsWork, closedReply, closes, acts, answer, bookAfter}
 use Rattle.holder_model.specs.LastTaken.{lastTaken}
 use Rattle.holder_model.proofs.LastTaken.{work-last-taken}
 use Rattle.holder_model.proofs.SameBlock.{same-block-iff}
@@ -57,7 +57,7 @@ closed-same true (Taken m b) n a = (λ e. (cc, refl), λ e. let z = e .0 in cc)
 closed-same false (Taken m b) n a = (λ e. (cc, cc), λ e. let z = e .1 in cc)
 
 -- A close by party p at place k after a list of calls, with the draft o
-module _ (p k : ℕ) (there : p < parties) (inside : k < places) (cs : List Call) (o : Outline)
+module _ (p k : ℕ) (there : p < parties) (inside : k < places) (cs : List Entry) (o : Outline)
     (draft : drafted (bookAfter fresh cs) p ≡ some o) where
   -- The reply of a close is the draft's verdict, and its word depends on the outline last taken
   pub close-reply : replyTo cs (by p (Close k)) ≡ closedReply (equalsWork o (lastTaken p k cs)) (verdictOf o)

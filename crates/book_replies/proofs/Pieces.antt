@@ -28,7 +28,7 @@ use Rattle.drawing.specs.Points.{half, pieceOf, cellIn, drawnReply}
 use Rattle.drawing.specs.Claims.{Draws}
 use Rattle.drawing.proofs.Positions.{lines-length, position-move, position-close, position-none}
 use Rattle.drawing.proofs.Outlines.{outline-draws}
-use Rattle.holder_model.specs.Book.{askedPiece, asks}
+use Rattle.holder_model.specs.Book.{Entry, askedPiece, asks}
 use Rattle.holder_model.specs.LastTaken.{lastTaken}
 use Rattle.book_replies.specs.After.{replyTo}
 use Rattle.book_replies.proofs.Taken.{last-working}
@@ -41,7 +41,7 @@ line-at (x ∷ ps) zero h a = refl
 line-at (x ∷ ps) (suc n) h a = line-at ps n (omega arith) a
 
 -- The path command at position n of party p's place k, after a list of calls
-module _ (p k : ℕ) (there : p < parties) (inside : k < places) (cs : List Call) where
+module _ (p k : ℕ) (there : p < parties) (inside : k < places) (cs : List Entry) where
   abbrev reply : ℕ → Reply
   reply n = replyTo cs (by p (Ask k (OfPiece n)))
 

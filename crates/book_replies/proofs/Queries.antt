@@ -20,7 +20,7 @@ use Rattle.calls.specs.declared.Action.the-variants.{Ask}
 use Rattle.calls.specs.declared.Question.{Question}
 use Rattle.calls.specs.declared.Question.the-variants.{Cell as OfCell}
 use Rattle.calls.specs.declared.Reply.the-variants.{Inside, Outside, Refused as WasRefused}
-use Rattle.holder_model.specs.Book.{asked, asks, acts, answer}
+use Rattle.holder_model.specs.Book.{Entry, asked, asks, acts, answer}
 use Rattle.holder_model.specs.LastTaken.{lastTaken}
 use Rattle.holder_model.proofs.LastTaken.{work-last-taken}
 use Rattle.book_replies.specs.After.{replyTo}
@@ -50,14 +50,14 @@ asked-nothing x (some o) = go (badCell x) (block o (x .col) (x .row))
     go false false = (λ e. absurd (omega (arith, e)), λ e. cc)
 
 -- A question about party p's place k, after a list of calls
-module _ (p k : ℕ) (there : p < parties) (inside : k < places) (cs : List Call) where
+module _ (p k : ℕ) (there : p < parties) (inside : k < places) (cs : List Entry) where
   -- The reply depends on the outline last taken there
   pub ask-reply : (q : Question) → replyTo cs (by p (Ask k q)) ≡ asks q (lastTaken p k cs)
   unfolding answer acts
   ask-reply q = reply-after cs (by p (Ask k q)) ∙ rw (lt-leb parties p there, lt-leb places k inside) (ap (asks q) (work-last-taken p k cs))
 
 -- A query
-module _ (p k : ℕ) (there : p < parties) (inside : k < places) (cs : List Call) (x : Point) where
+module _ (p k : ℕ) (there : p < parties) (inside : k < places) (cs : List Entry) (x : Point) where
   abbrev query : Call
   query = by p (Ask k (OfCell x))
 

@@ -35,7 +35,7 @@ use Rattle.readings.specs.Claims.{Open, Answers, Centred}
 use Rattle.readings.specs.Replies.{locatedReply}
 use Rattle.readings.proofs.Agreement.{refused-iff}
 use Rattle.readings.proofs.Outlines.{outline-answers, centre-enclosed, centre-open}
-use Rattle.holder_model.specs.Book.{askedReading, asks}
+use Rattle.holder_model.specs.Book.{Entry, askedReading, asks}
 use Rattle.holder_model.specs.LastTaken.{lastTaken}
 use Rattle.book_replies.specs.After.{replyTo}
 use Rattle.book_replies.proofs.Taken.{Working, last-working}
@@ -62,7 +62,7 @@ found IsRefused IsUndecided e = cc
 found IsRefused IsRefused e = refl
 
 -- A reading of party p's place k, after a list of calls
-module _ (p k : ℕ) (there : p < parties) (inside : k < places) (cs : List Call) (x : Reading) where
+module _ (p k : ℕ) (there : p < parties) (inside : k < places) (cs : List Entry) (x : Reading) where
   abbrev asking : Call
   asking = by p (Ask k (OfReading x))
 

@@ -45,7 +45,7 @@ use Rattle.calls.specs.declared.Question.{Question}
 use Rattle.calls.specs.declared.Question.the-variants.{Cell as OfCell, Row as OfRow, Reading as OfReading, Piece as OfPiece}
 use Rattle.calls.specs.declared.Reply.{Reply}
 use Rattle.calls.specs.declared.Reply.the-variants.{Inside, Outside, Refused as WasRefused}
-use Rattle.holder_model.specs.Book.{PartyModel, OnDraft, OnParty, fresh, begins, adds, drops, equalsWork, closedReply, closes}
+use Rattle.holder_model.specs.Book.{Entry, PartyModel, OnDraft, OnParty, fresh, begins, adds, drops, equalsWork, closedReply, closes}
 use Rattle.holder_model.specs.Book.{asked, askedRow, askedReading, askedPiece, asks, acts, answer, bookAfter}
 use Rattle.holder_model.specs.LastTaken.{lastTaken}
 use Rattle.book_replies.specs.After.{replyTo}
@@ -208,7 +208,7 @@ never-party a r p e = go (noSuchPlace a) refl
 
 -- ---- after a list of calls
 
-module _ (cs : List Call) where
+module _ (cs : List Entry) where
   -- 19 exactly if the party is above 1 (contract 7.2)
   pub party-refused : (c : Call) → (number (replyTo cs c) ≡ 19) ↔ (parties ≤ c .party)
   unfolding answer replyFields

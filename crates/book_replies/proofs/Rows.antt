@@ -20,7 +20,7 @@ use Rattle.calls.specs.declared.Call.{Call}
 use Rattle.calls.specs.declared.Action.the-variants.{Ask}
 use Rattle.calls.specs.declared.Question.the-variants.{Row as OfRow}
 use Rattle.calls.specs.declared.Reply.the-variants.{Columns, None}
-use Rattle.holder_model.specs.Book.{askedRow, asks}
+use Rattle.holder_model.specs.Book.{Entry, askedRow, asks}
 use Rattle.holder_model.specs.LastTaken.{lastTaken}
 use Rattle.book_replies.specs.After.{replyTo}
 use Rattle.book_replies.proofs.Taken.{last-working}
@@ -40,7 +40,7 @@ module _ (marked : ℕ → ℕ → Bool) (r : ℕ) where
   none-said (Run u v) exact e c = let z : _≡_ {A = ℕ} 0 1 = cc in absurd (omega arith)
 
 -- Row r at party p's place k, after a list of calls, with o as the outline last taken
-module _ (p k : ℕ) (there : p < parties) (inside : k < places) (cs : List Call) (r : ℕ) (o : Outline) (last : lastTaken p k cs ≡ some o)
+module _ (p k : ℕ) (there : p < parties) (inside : k < places) (cs : List Entry) (r : ℕ) (o : Outline) (last : lastTaken p k cs ≡ some o)
     (row : r < side) where
   abbrev asking : Call
   asking = by p (Ask k (OfRow r))

@@ -1,4 +1,4 @@
--- The outline last taken at a place passed the test, because only a close puts an outline to work, and only by its verdict.
+-- The outline last taken at a place passed the test, because only a close and a restore put an outline to work, and only by its verdict.
 use Prim.Native.Nat.{ℕ}
 use native.Mathlib.Omega.{arith}
 use mathlib.Core.Path.{_≡_, refl, sym, _∙_}
@@ -19,13 +19,15 @@ use Rattle.calls.specs.Calls.{badParty, badPlace}
 use Rattle.calls.specs.declared.Call.{Call}
 use Rattle.calls.specs.declared.Action.{Action}
 use Rattle.calls.specs.declared.Action.the-variants.{Begin, Add, Drop, Clear, Close, Ask}
-use Rattle.holder_model.specs.Book.{Book, PartyModel, OnParty, Answer, fresh, workAfter, closes, acts, answer, bookAfter}
+use Rattle.images.specs.Image.{isImage, heldIn}
+use Rattle.holder_model.specs.Book.{Book, PartyModel, OnParty, Answer, Entry, Entered, Restored, fresh, workAfter, closes, acts}
+use Rattle.holder_model.specs.Book.{restores, putsBack, answerBy, answer, restored, entered, bookAfter}
 use Rattle.holder_model.specs.LastTaken.{lastTaken}
 use Rattle.holder_model.proofs.LastTaken.{work-last-taken}
 use Rattle.book_replies.specs.After.{replyTo}
 
 -- The reply is that of the book after these calls
-pub reply-after : (cs : List Call) (c : Call) → replyTo cs c ≡ answer (bookAfter fresh cs) c .reply
+pub reply-after : (cs : List Entry) (c : Call) → replyTo cs c ≡ answer (bookAfter fresh cs) c .reply
 unfolding replyTo
 reply-after cs c = refl
 
@@ -76,6 +78,20 @@ acted-known g was (Clear j) = either (badPlace j) _ _ was (put-known (g .works) 
 acted-known g was (Close j) =
     either (badPlace j) _ _ was (put-known (g .works) was j _ (closed-known (g .draft) (g .works j) (was j)))
 
+-- A restore leaves what was at work, or nothing, or the outline that it took
+brought-known : (o : Outline) (l : List ℕ) (w : Option Outline) → ((v : Outline) → w ≡ some v → WasTaken v) → (v : Outline)
+    → restores o l w .work ≡ some v → WasTaken v
+unfolding restores
+brought-known o [] w was v e = nothing e
+brought-known o (a ∷ l) w was v e = closed-known (some o) w was v e
+
+restored-known : (k : ℕ) (bytes : List ℕ) (g : PartyModel) → Known (g .works) → Known (putsBack k bytes g .page .works)
+unfolding putsBack
+restored-known k bytes g was =
+    either (badPlace k) _ _ was
+    (either (isImage bytes) _ _
+    (put-known (g .works) was k _ (brought-known (heldIn bytes) (heldIn bytes .letters) (g .works k) (was k))) was)
+
 abbrev AllKnown : Book → Type 0
 AllKnown b = (p : ℕ) → Known (b p .works)
 
@@ -91,19 +107,22 @@ turned-known b was p g k q = go (eqb q p)
     go true = k
     go false = was q
 
-answered-known : (b : Book) → AllKnown b → (c : Call) → AllKnown (answer b c .next)
-unfolding answer
-answered-known b was c =
-    next-known (badParty (c .party)) _ _ was
-    (turned-known b was (c .party) _ (acted-known (b (c .party)) (was (c .party)) (c .action)))
+by-known : (b : Book) → AllKnown b → (p : ℕ) (f : PartyModel → OnParty) → ((g : PartyModel) → Known (g .works) → Known (f g .page .works))
+    → AllKnown (answerBy b p f .next)
+by-known b was p f keeps = next-known (badParty p) _ _ was (turned-known b was p _ (keeps (b p) (was p)))
 
-after-known : (b : Book) → AllKnown b → (cs : List Call) → AllKnown (bookAfter b cs)
+entered-known : (b : Book) → AllKnown b → (x : Entry) → AllKnown (entered b x .next)
+unfolding answer restored
+entered-known b was (Entered c) = by-known b was (c .party) (λ g. acts g (c .action)) (λ g known. acted-known g known (c .action))
+entered-known b was (Restored p k bytes) = by-known b was p (putsBack k bytes) (restored-known k bytes)
+
+after-known : (b : Book) → AllKnown b → (cs : List Entry) → AllKnown (bookAfter b cs)
 unfolding bookAfter
 after-known b was [] = was
-after-known b was (c ∷ cs) = after-known (answer b c .next) (answered-known b was c) cs
+after-known b was (x ∷ xs) = after-known (entered b x .next) (entered-known b was x) xs
 
 -- The outline last taken at a party's place was taken
-pub last-was-taken : (p k : ℕ) (cs : List Call) (o : Outline) → lastTaken p k cs ≡ some o → WasTaken o
+pub last-was-taken : (p k : ℕ) (cs : List Entry) (o : Outline) → lastTaken p k cs ≡ some o → WasTaken o
 unfolding fresh
 last-was-taken p k cs o last = after-known fresh (λ p k o. nothing) cs p k o (work-last-taken p k cs ∙ last)
 
@@ -112,7 +131,7 @@ pub record Working (o : Outline) : Type 0 where
   pub reaches : Reaches o
   pub undented : dentPiece (border o) ≡ 4
 
-pub last-working : (p k : ℕ) (cs : List Call) (o : Outline) → lastTaken p k cs ≡ some o → Working o
+pub last-working : (p k : ℕ) (cs : List Entry) (o : Outline) → lastTaken p k cs ≡ some o → Working o
 last-working p k cs o last =
     let t = last-was-taken p k cs o last in
     let f = taken-facts o (t .edges) (t .anchor) (t .verdict) in

@@ -1,5 +1,5 @@
 -- Quadrants, absolute values and runs by the machine's tests: each pair of signs is a clause of the definition.
-use Prim.Native.Nat.{ℕ, zero, suc, _≤_, _%_}
+use Prim.Native.Nat.{ℕ, zero, suc, _%_}
 use native.Mathlib.Omega.{arith}
 use mathlib.Core.Path.{_≡_, refl, subst}
 use mathlib.Core.Bool.{true, false, cond}
@@ -9,7 +9,6 @@ use lib.Signed.{nonNeg, ltZ}
 use mir.Syntax.{w16, w64}
 use mir.Val.{Fits, SFits}
 use borrow.Author.Tests.{ltb-true, le-ltb}
-use Rattle.convexity.specs.Frame.{frameOf}
 use Rattle.convexity.specs.FromEdges.{quadrantOf, runIn}
 use Rattle.directions.specs.Round.{positive}
 

@@ -59,7 +59,7 @@ module _ (a : Point) (es : List ℤ) where
       untaken-none h = traced-none a es buffer listed anchored turned (sym tested ∙ h)
 
       module _ (h : takenAs (outline a (take n list)) a es ≡ true) where
-        pub short-none : length buffer < n → Answers a es buffer buffer (Refused (LetterBuffer 0))
+        pub short-none : length buffer < n → Answers a es buffer buffer (Refused LetterBuffer)
         short-none l = traced-short a es buffer listed anchored turned (sym tested ∙ h) (omega (arith, count-is))
 
         pub copied : {after : List ℕ} → n ≤ length buffer → after ≡ take n list ++ drop n buffer → Answers a es buffer after (Written n)

@@ -89,7 +89,7 @@ fn trace(anchor: Point, edges: &[i16], letters: &mut [u8]) -> Traced
         return Traced::Refused(Refusal::NoOutline);
     }
     if letters.len() < n {
-        return Traced::Refused(Refusal::LetterBuffer { letters: 0 });
+        return Traced::Refused(Refusal::LetterBuffer);
     }
     copy(&list, n, letters);
     Traced::Written { letters: n as u16 }

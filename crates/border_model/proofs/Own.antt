@@ -71,7 +71,7 @@ module _ {o : Outline} {a : Point} {es : List ℤ} (t : TakenAs o a es) where
 
   -- With a buffer that is too short the reply is 18, and the buffer is unchanged
   pub own-short : (buffer : List ℕ) → length buffer < size o
-      → (tracedOf a es (length buffer) ≡ Refused (LetterBuffer 0)) × (lettersAfter a es buffer ≡ buffer)
+      → (tracedOf a es (length buffer) ≡ Refused LetterBuffer) × (lettersAfter a es buffer ≡ buffer)
   own-short buffer short =
       let w =
       traced-short a es buffer (taken-listed (taken-has t)) (taken-anchored (taken-has t)) turned (outlined-iff a es .1 (o, t))

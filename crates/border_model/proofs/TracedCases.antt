@@ -40,7 +40,7 @@ module _ (a : Point) (es : List ℤ) where
         written = λ p. absurd (omega arith);
       }
 
-  short : (after : List ℕ) → outlined a es ≡ true → BorderNamed a es (tracedFields (Refused (LetterBuffer 0))) after
+  short : (after : List ℕ) → outlined a es ≡ true → BorderNamed a es (tracedFields (Refused LetterBuffer)) after
   unfolding tracedFields
   short after e = record { none = λ p. absurd (omega arith); some = λ p. outlined-iff a es .0 e; written = λ p. absurd (omega arith) }
 
@@ -84,10 +84,10 @@ module _ (a : Point) (es : List ℤ) (buffer : List ℕ) where
         traced-none e = left (Refused NoOutline) (rw (listed, anchored, turned, e)) refl (unoutlined a es buffer e)
 
         module _ (some : outlined a es ≡ true) where
-          pub traced-short : length buffer < length (lettersFrom es) → Answers a es buffer buffer (Refused (LetterBuffer 0))
+          pub traced-short : length buffer < length (lettersFrom es) → Answers a es buffer buffer (Refused LetterBuffer)
           unfolding tracedOf lettersIn writtenAfter
           traced-short h =
-              left (Refused (LetterBuffer 0)) (rw (listed, anchored, turned, some, lt-ltb (length buffer) (length (lettersFrom es)) h)) refl
+              left (Refused LetterBuffer) (rw (listed, anchored, turned, some, lt-ltb (length buffer) (length (lettersFrom es)) h)) refl
               (short a es buffer some)
 
           written : length (lettersFrom es) ≤ length buffer → Written (length (lettersFrom es)) ≡ tracedOf a es (length buffer)

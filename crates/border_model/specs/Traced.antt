@@ -18,7 +18,7 @@ use Rattle.border_model.specs.Outlined.{outlined}
 
 -- 18, or the count of letters, with a buffer of n
 unfoldable pub lettersIn : ℕ → List ℕ → Traced
-lettersIn n w = cond (ltb n (length w)) (Refused (LetterBuffer 0)) (Written (length w))
+lettersIn n w = cond (ltb n (length w)) (Refused LetterBuffer) (Written (length w))
 
 unfoldable pub tracedOf : Point → List ℤ → ℕ → Traced
 tracedOf a es n =

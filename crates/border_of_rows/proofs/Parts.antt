@@ -76,6 +76,17 @@ module _ (lo : ℕ → ℕ) where
       let f : suc i ≡ i + 1 = omega arith in
       ap (toRow lo y) d ∙ rise-next y (i - y) ∙ rw (e, f) (sym (append-assoc (toRow lo y (i - y)) (1 ∷ []) (across (lo i) (lo (i + 1)))))
 
+  pub rise-length : (y i : ℕ) → y ≤ i
+      → length (toRow lo y (i + 1 - y)) ≡ length (toRow lo y (i - y)) + suc (length (across (lo i) (lo (i + 1))))
+  rise-length y i h =
+      let w = toRow lo y (i - y) in
+      omega (
+        arith,
+        ap length (rise-more y i h),
+        length-append (w ++ (1 ∷ [])) (across (lo i) (lo (i + 1))),
+        length-append w (1 ∷ []),
+      )
+
   rise-longer : (y n d : ℕ) → length (toRow lo y n) ≤ length (toRow lo y (n + d))
   rise-longer y n zero = let e : n + 0 ≡ n = omega arith in rw e (omega arith)
   rise-longer y n (suc d) =
@@ -87,16 +98,7 @@ module _ (lo : ℕ → ℕ) where
       → length (toRow lo y (i - y)) + suc (length (across (lo i) (lo (i + 1)))) ≤ length (toRow lo y (e - y))
   rise-fits y i e h l =
       let d : e - y ≡ (i + 1 - y) + (e - (i + 1)) = omega arith in
-      let w = toRow lo y (i - y) in
-      let a = across (lo i) (lo (i + 1)) in
-      rw d
-      (omega (
-        arith,
-        rise-longer y (i + 1 - y) (e - (i + 1)),
-        ap length (rise-more y i h),
-        length-append (w ++ (1 ∷ [])) a,
-        length-append w (1 ∷ []),
-      ))
+      rw d (omega (arith, rise-longer y (i + 1 - y) (e - (i + 1)), rise-length y i h))
 
   pub rise-ascent : (y k : ℕ) → ascent lo y k ≡ toRow lo y k ++ (1 ∷ [])
   unfolding ascent toRow
@@ -160,6 +162,23 @@ module _ (hi : ℕ → ℕ) where
   fall-some y (suc k) =
       let w = across (hi (suc y)) (hi y) in
       omega (arith, length-append (descent hi (suc y) k) (w ++ (3 ∷ [])), length-append w (3 ∷ []))
+
+  -- As many letters as up the same ends, and one
+  pub fall-length : (y k : ℕ) → length (descent hi y k) ≡ suc (length (toRow hi y k))
+  unfolding descent toRow
+  fall-length y zero = refl
+  fall-length y (suc k) =
+      let a = across (hi y) (hi (suc y)) in
+      let z = across (hi (suc y)) (hi y) in
+      omega (
+        arith,
+        fall-length (suc y) k,
+        length-append (descent hi (suc y) k) (z ++ (3 ∷ [])),
+        length-append z (3 ∷ []),
+        length-append a (toRow hi (suc y) k),
+        length-across (hi y) (hi (suc y)),
+        length-across (hi (suc y)) (hi y),
+      )
 
 -- ---- round
 

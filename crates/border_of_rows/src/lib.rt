@@ -1,6 +1,6 @@
 // Writes the letters round a block of rows, clockwise from the left end of one row.
 use chart::CORNERS;
-ghost use Prim.Native.Nat.{_+_, _-_, _≤_, _<_};
+ghost use Prim.Native.Nat.{_+_, _-_, _*_, _≤_, _<_};
 ghost use mathlib.Core.Path.{_≡_};
 ghost use mathlib.Core.List.{_++_};
 ghost use lib.ListN.{length, drop};
@@ -9,6 +9,44 @@ ghost use Rattle.rows.specs.parts.Rows.{rows};
 ghost use Rattle.completion.specs.RowsOutline.{across as acrossOf};
 ghost use Rattle.completion.specs.parts.Written.{toRow, descent, writtenFrom};
 ghost use Rattle.border_of_rows.specs.parts.Wrote.{Wrote};
+
+// How many letters lead from column `a` to column `b`.
+fn apart(a: u16, b: u16) -> usize
+    ensures { λ r. ⌜ (r ≡ length (acrossOf a b)) × (r < 65536) ⌝ }
+{
+    if a < b {
+        (b - a) as usize
+    } else {
+        (a - b) as usize
+    }
+}
+
+// How many letters lead along the ends of rows from row `y` up to row `e`, or down again.
+fn steps(ends: &[u16; CORNERS], y: usize, e: usize) -> usize
+    requires { ⌜ (y ≤ e) × (e < corners) ⌝ }
+    ensures { λ r. ⌜ (r ≡ length (toRow (rows (now (ends .entry))) y (e - y))) × (r ≤ 65536 * (e - y)) ⌝ }
+{
+    let mut n = 0;
+    let mut i = y;
+    while i < e {
+        n += 1 + apart(ends[i], ends[i + 1]);
+        i += 1;
+    }
+    n
+}
+
+// How many letters lead round rows `b` to `t - 1`, whatever their ends are.
+pub fn count(lo: &[u16; CORNERS], hi: &[u16; CORNERS], b: usize, t: usize, m: usize) -> usize
+    requires { ⌜ (b ≤ m) × (m < t) × (t ≤ side) ⌝ }
+    ensures { λ r. ⌜ r ≡ length (writtenFrom (rows (now (lo .entry))) (rows (now (hi .entry))) b t m) ⌝ }
+{
+    let top = t - 1;
+    let left = steps(lo, m, top) + steps(lo, b, m);
+    let right = steps(hi, b, top);
+    let over = apart(lo[top], hi[top]);
+    let back = apart(hi[b], lo[b]);
+    left + right + over + back + 2
+}
 
 // Writes the rights or the lefts from column `a` to column `b`, usually one letter, and returns where they end.
 fn across(out: &mut [u8], at: usize, a: u16, b: u16) -> usize

@@ -59,8 +59,8 @@ pub enum Refusal {
         length: u16,
         cell: Point,
     },
-    // 10. Of a test: the buffer has fewer than two numbers for each edge; `edges` is their count. Of a list of edges, whose count of numbers
-    // is odd or too large, and of a witness's buffer: 0.
+    // 10. Of a test: the buffer has fewer than two numbers for each edge; `edges` is their count. Of a list of edges, whose count of
+    // numbers is odd or too large, and of a witness's buffer: 0.
     EdgeList {
         edges: u16,
     },
@@ -78,11 +78,8 @@ pub enum Refusal {
     Directions,
     // 17. No outline is taken with this anchor and these edges.
     NoOutline,
-    // 18. The buffer for letters is too short. `letters` is the count that it needs, if the call names it; a border and a completion
-    // name none, 0.
-    LetterBuffer {
-        letters: u16,
-    },
+    // 18. The buffer for letters, or for an image, is too short.
+    LetterBuffer,
     // 19. The party is above 1.
     Party,
     // 20. The place is above 3.

@@ -11,7 +11,8 @@ ghost use mathlib.Core.Path.{_≡_};
 ghost use lib.ListN.{length};
 ghost use lib.Dec.{leb};
 ghost use Rattle.chart.specs.Fields.{numbered as numberedOf, placed as placedOf, worded as wordedOf, accepted as acceptedOf};
-ghost use Rattle.chart.specs.Fields.{pieced as piecedOf, refusalFields, verdictFields, positionFields, handing as handingOf, nestingFields};
+ghost use Rattle.chart.specs.Fields.{pieced as piecedOf, refusalFields, verdictFields, positionFields, handing as handingOf};
+ghost use Rattle.chart.specs.Fields.{nestingFields};
 ghost use Rattle.chart.specs.Fields.{comparisonFields, replyWidth, replyAfter, numbersOf};
 
 // The count of numbers in a reply.
@@ -145,7 +146,7 @@ pub fn of_refusal(f: Refusal) -> Fields
         Refusal::DraftFull => numbered(refusals::DRAFT_FULL),
         Refusal::Directions => numbered(refusals::DIRECTIONS),
         Refusal::NoOutline => numbered(refusals::NO_OUTLINE),
-        Refusal::LetterBuffer { letters } => placed(refusals::LETTER_BUFFER, letters),
+        Refusal::LetterBuffer => numbered(refusals::LETTER_BUFFER),
         Refusal::Party => numbered(refusals::PARTY),
         Refusal::Place => numbered(refusals::PLACE),
         Refusal::Section { kind, at } => pieced(refusals::SECTION, kind, at),

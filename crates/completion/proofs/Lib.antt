@@ -20,4 +20,5 @@ pub mod Extent
 pub mod Columns
 pub mod Theorem
 pub mod Answers
+pub mod OwnRows
 pub mod Specimens

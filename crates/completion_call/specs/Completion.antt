@@ -19,7 +19,7 @@ use Rattle.completion_call.specs.declared.Completed.the-variants.{Writte
 
 -- 18, or the count of letters of v and the corner where they start, with a buffer of n
 unfoldable pub lettersIn : ℕ → Outline → Completed
-lettersIn n v = cond (ltb n (size v)) (Refused (LetterBuffer 0)) (Written (size v) (v .start))
+lettersIn n v = cond (ltb n (size v)) (Refused LetterBuffer) (Written (size v) (v .start))
 
 -- The refusal of 1 to 6, or the given result
 unfoldable pub afterSurvey : Surveyed → Completed → Completed

@@ -52,7 +52,7 @@ fn write_letters(start: Point, letters: &[u8], out: &mut [u8]) -> Completed
     let columns = wide(ends[east] - begins[west]);
     let count = 2 * (t - b) + 2 * columns;
     if out.len() < count {
-        return Completed::Refused(Refusal::LetterBuffer { letters: 0 });
+        return Completed::Refused(Refusal::LetterBuffer);
     }
     round(&begins, &ends, b, t, west, out);
     let corner = Point {

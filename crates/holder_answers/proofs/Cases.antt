@@ -31,8 +31,8 @@ use Rattle.windows.specs.Windows.{window}
 use Rattle.span_list.specs.SpanList.{rowsPut}
 use Rattle.holder_memory.specs.Layout.{Holder, own, placeWord, arrays, spot, workAt, numbersPut, slotHeadPut, openPut}
 use Rattle.holder_answers.specs.Arrays.{Preparation, preparation, reply, begun, count, draftIn, slotIn, withHeads, ended, worded}
-use Rattle.holder_answers.specs.Arrays.{filled, beginOf, addOf, dropOf, clearOf, preparedBy, preparedOf, prepareOf, commitOf, closeOf}
-use Rattle.holder_answers.specs.Arrays.{actOf, answerOf, draftOf}
+use Rattle.holder_answers.specs.Arrays.{filled, beginOf, addOf, dropOf, clearOf, draftEnded, preparedOf, prepareOf, commitOf, closeOf}
+use Rattle.holder_answers.specs.Arrays.{outlinePreparedBy, outlinePrepared, actOf, answerOf, draftOf}
 use Rattle.holder_answers.specs.declared.Drafting.the-variants.{Refused as Undrafted, Open}
 use Rattle.holder_memory.specs.Words.{wordOf, freeTag}
 
@@ -139,22 +139,13 @@ module _ (h : Holder) (p : ℕ) (there : p < parties) where
       unfolding prepareOf preparedOf
       prepare-none e = rw (lt-leb parties p there, lt-leb places k m, none-begun h p e)
 
-      module _ (one : getD (h .heads) (4 * p) 0 ≡ 0 → ⊥) (o : Outline) (mine : o ≡ draftIn h p) (j : Judged) (judged : j ≡ judgedOf o) where
-        prepares : prepareOf h p k ≡ preparedBy h p k o j (j .verdict)
-        unfolding prepareOf preparedOf
-        prepares = rw (lt-leb parties p there, lt-leb places k m, one-begun h p one, judged, mine)
-
-        pub prepare-refused : (f : Refusal) → j .verdict ≡ Refused f → preparation (WasRefused f) 0 (ended h p) ≡ prepareOf h p k
-        unfolding preparedBy
-        prepare-refused f v = sym (prepares ∙ rw v)
-
-        pub prepare-taken : (n : ℕ) (a : Point) → j .verdict ≡ Taken n a → (u : ℕ) → u ≡ slotIn h p k → (same : Bool)
-            → same ≡ hasEdges (workAt (h .rows) (h .numbers) (h .heads) u) a (listed (j .numbers) n) → (r : Reply) → r ≡ cond same
-            (Same n a) (WasTaken n a)
-            → (t : ℕ) → t ≡ freeTag (h .heads) p → (w : ℕ) → w ≡ wordOf t
-            → (g : Holder) → g ≡ filled h (own * p + t) a (j .numbers) n (spansOf o) → preparation r w (ended g p) ≡ prepareOf h p k
-        unfolding preparedBy
-        prepare-taken n a v u at-u same e r is t free w word g put = sym (prepares ∙ rw (v, is, e, put, word, free, at-u))
+      -- What is prepared of the draft's outline, with the draft ended
+      pub prepare-draft : (getD (h .heads) (4 * p) 0 ≡ 0 → ⊥) → (o : Outline) → o ≡ draftIn h p → (r : Reply) (w : ℕ) (n : Holder)
+          → preparation r w n ≡ outlinePrepared h p k o → preparation r w (ended n p) ≡ prepareOf h p k
+      unfolding prepareOf preparedOf
+      prepare-draft one o mine r w n e =
+          ap (draftEnded p) e ∙ ap (λ (x : Outline). draftEnded p (outlinePrepared h p k x)) mine
+          ∙ sym (rw (lt-leb parties p there, lt-leb places k m, one-begun h p one) refl)
 
 pub draft-unknown : (h : Holder) (p : ℕ) → parties ≤ p → Undrafted Party ≡ draftOf h p
 unfolding draftOf
@@ -163,6 +154,23 @@ draft-unknown h p b = rw (le-leb parties p b)
 pub prepare-no-party : (h : Holder) (p k : ℕ) → parties ≤ p → preparation (WasRefused Party) 0 h ≡ prepareOf h p k
 unfolding prepareOf
 prepare-no-party h p k b = rw (le-leb parties p b)
+
+-- ---- an outline prepared
+
+module _ (h : Holder) (p k : ℕ) (o : Outline) (j : Judged) (judged : j ≡ judgedOf o) where
+  prepares : outlinePrepared h p k o ≡ outlinePreparedBy h p k o j (j .verdict)
+  prepares = rw judged refl
+
+  pub outline-refused : (f : Refusal) → j .verdict ≡ Refused f → preparation (WasRefused f) 0 h ≡ outlinePrepared h p k o
+  unfolding outlinePreparedBy
+  outline-refused f v = sym (prepares ∙ rw v)
+
+  pub outline-taken : (n : ℕ) (a : Point) → j .verdict ≡ Taken n a → (u : ℕ) → u ≡ slotIn h p k → (same : Bool)
+      → same ≡ hasEdges (workAt (h .rows) (h .numbers) (h .heads) u) a (listed (j .numbers) n) → (r : Reply)
+      → r ≡ cond same (Same n a) (WasTaken n a) → (t : ℕ) → t ≡ freeTag (h .heads) p → (w : ℕ) → w ≡ wordOf t
+      → (g : Holder) → g ≡ filled h (own * p + t) a (j .numbers) n (spansOf o) → preparation r w g ≡ outlinePrepared h p k o
+  unfolding outlinePreparedBy
+  outline-taken n a v u at-u same e r is t free w word g put = sym (prepares ∙ rw (v, is, e, put, word, free, at-u))
 
 -- ---- commit
 

@@ -19,12 +19,12 @@ use Rattle.calls.specs.declared.Reply.{Reply}
 use Rattle.calls.specs.declared.Reply.the-variants.{Taken as WasTaken, Same}
 use Rattle.holder_records.specs.Work.{listed, hasEdges}
 use Rattle.holder_memory.specs.Layout.{Holder}
-use Rattle.holder_answers.specs.Arrays.{Answered, reply, Preparation, begun, draftIn, workIn, preparedBy, preparedOf, closeOf, actOf}
-use Rattle.holder_answers.specs.Arrays.{answerOf}
+use Rattle.holder_answers.specs.Arrays.{Answered, reply, Preparation, begun, draftIn, workIn, outlinePreparedBy, preparedOf}
+use Rattle.holder_answers.specs.Arrays.{closeOf, actOf, answerOf}
 
 closed-named : (h : Holder) (p k : ℕ) (o : Outline) (j : Judged) (v : Verdict) → CellNamed o (verdictFields v)
-    → CellNamed o (replyFields (preparedBy h p k o j v .reply))
-unfolding preparedBy replyFields
+    → CellNamed o (replyFields (outlinePreparedBy h p k o j v .reply))
+unfolding outlinePreparedBy replyFields
 closed-named h p k o j (Refused f) c = c
 closed-named h p k o j (Taken n a) c = go (hasEdges (workIn h p k) a (listed (j .numbers) n))
   where

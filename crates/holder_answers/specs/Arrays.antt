@@ -114,17 +114,25 @@ dropOf h p = cond (begun h p) (reply Done (ended h p)) (reply (WasRefused NoDraf
 unfoldable pub clearOf : Holder → ℕ → ℕ → Answered
 clearOf h p k = cond (badPlace k) (reply (WasRefused Place) h) (reply Done (worded h (spot p k) 0))
 
--- Close is prepare and commit. Prepare replies, ends the draft and fills the party's slot that no place names; its word is 0 if it refuses
-unfoldable pub preparedBy : Holder → ℕ → ℕ → Outline → Judged → Verdict → Preparation
-preparedBy h p k o j (Refused f) = preparation (WasRefused f) 0 (ended h p)
-preparedBy h p k o j (Taken n a) =
+-- An outline is prepared for place k: the reply, the word for commit, and the party's slot that no place names is filled. If it is refused
+-- the word is 0, and nothing changes
+unfoldable pub outlinePreparedBy : Holder → ℕ → ℕ → Outline → Judged → Verdict → Preparation
+outlinePreparedBy h p k o j (Refused f) = preparation (WasRefused f) 0 h
+outlinePreparedBy h p k o j (Taken n a) =
     preparation (cond (hasEdges (workIn h p k) a (listed (j .numbers) n)) (Same n a) (WasTaken n a)) (wordOf (freeTag (h .heads) p))
-    (ended (filled h (freeSlot (h .heads) p) a (j .numbers) n (spansOf o)) p)
+    (filled h (freeSlot (h .heads) p) a (j .numbers) n (spansOf o))
+
+abbrev pub outlinePrepared : Holder → ℕ → ℕ → Outline → Preparation
+outlinePrepared h p k o = outlinePreparedBy h p k o (judgedOf o) (judgedOf o .verdict)
+
+-- Close is prepare and commit. Prepare prepares the draft's outline and ends the draft; its word is 0 if it refuses
+abbrev pub draftEnded : ℕ → Preparation → Preparation
+draftEnded p q = preparation (q .reply) (q .word) (ended (q .holder) p)
 
 unfoldable pub preparedOf : Holder → ℕ → ℕ → Preparation
 preparedOf h p k =
     cond (badPlace k) (preparation (WasRefused Place) 0 (ended h p))
-    (cond (begun h p) (preparedBy h p k (draftIn h p) (judgedOf (draftIn h p)) (judgedOf (draftIn h p) .verdict))
+    (cond (begun h p) (draftEnded p (outlinePrepared h p k (draftIn h p)))
     (preparation (WasRefused NoDraft) 0 h))
 
 unfoldable pub prepareOf : Holder → ℕ → ℕ → Preparation

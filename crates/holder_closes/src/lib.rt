@@ -30,9 +30,9 @@ ghost use mathlib.Core.List.{List};
 ghost use Prim.Native.Nat.{ℕ, _<_};
 ghost use Rattle.chart.specs.Outline.{outline};
 ghost use Rattle.spans.specs.Spans.{spansOf};
-ghost use Rattle.calls.specs.Calls.{by};
+ghost use Rattle.calls.specs.Calls.{parties, places, by};
 ghost use Rattle.holder_memory.specs.Layout.{slots, arrays};
-ghost use Rattle.holder_answers.specs.Arrays.{preparation, reply, prepareOf, commitOf, answerOf, filled};
+ghost use Rattle.holder_answers.specs.Arrays.{preparation, reply, outlinePrepared, prepareOf, commitOf, answerOf, filled};
 
 // What a prepare replies, and the word for the place: 0 if it refuses.
 pub struct Prepared {
@@ -70,6 +70,52 @@ fn taken_reply(same: bool, edges: u16, anchor: Point) -> Reply
         Reply::Same { edges, anchor }
     } else {
         Reply::Taken { edges, anchor }
+    }
+}
+
+// An outline for a place: by its verdict. It writes the slot of the party that no place names.
+pub fn prepare_outline(
+    rows: &mut [u8; ROW_BYTES],
+    numbers: &mut [i16; NUMBERS],
+    heads: &mut [u16; HEADS],
+    p: usize,
+    k: usize,
+    start: Point,
+    letters: &[u8],
+) -> Prepared
+    requires { ⌜ (p < parties) × (k < places) ⌝ }
+    ensures { λ r. ⌜ ((own : List ℕ)
+        → preparation (r .reply) (r .word) (arrays own (now (rows .exit)) (now (numbers .exit)) (now (heads .exit)))
+        ≡ outlinePrepared (arrays own (now (rows .entry)) (now (numbers .entry)) (now (heads .entry))) p k
+        (outline start (now (letters .entry)))) ⌝ }
+{
+    let mut list = [0i16; MOST_NUMBERS];
+    let verdict = judge::judge(start, letters, &mut list);
+    match verdict {
+        Verdict::Refused(why) => Prepared {
+            reply: Reply::Refused(why),
+            word: 0,
+        },
+        Verdict::Taken { edges, anchor } => {
+            let own = slot_of(p, heads[PLACE_WORDS + (PLACES * p + k)]);
+            let same = has(&numbers[..], &heads[..], own, anchor, &list, edges);
+            let tag = free_tag(heads, p);
+            let slot = OWN * p + tag;
+            fill(
+                rows,
+                numbers,
+                heads,
+                slot,
+                start,
+                letters,
+                anchor,
+                &list,
+                edges,
+            );
+            let reply = taken_reply(same, edges, anchor);
+            let word = word_of(tag);
+            Prepared { reply, word }
+        }
     }
 }
 
@@ -114,38 +160,9 @@ pub fn prepare(
     };
     let count = wide(heads[at + 3]);
     let outline = sent(&letters[..], p, count);
-    let mut list = [0i16; MOST_NUMBERS];
-    let verdict = judge::judge(start, outline, &mut list);
-    match verdict {
-        Verdict::Refused(why) => {
-            heads[at] = 0;
-            Prepared {
-                reply: Reply::Refused(why),
-                word: 0,
-            }
-        }
-        Verdict::Taken { edges, anchor } => {
-            let own = slot_of(p, heads[PLACE_WORDS + (PLACES * p + k)]);
-            let same = has(&numbers[..], &heads[..], own, anchor, &list, edges);
-            let tag = free_tag(heads, p);
-            let slot = OWN * p + tag;
-            fill(
-                rows,
-                numbers,
-                heads,
-                slot,
-                start,
-                outline,
-                anchor,
-                &list,
-                edges,
-            );
-            heads[at] = 0;
-            let reply = taken_reply(same, edges, anchor);
-            let word = word_of(tag);
-            Prepared { reply, word }
-        }
-    }
+    let prepared = prepare_outline(rows, numbers, heads, p, k, start, outline);
+    heads[at] = 0;
+    prepared
 }
 
 // The second half of a close: one store, of a word that is not 0.

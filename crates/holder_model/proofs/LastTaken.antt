@@ -1,8 +1,8 @@
--- The outline last taken is at work, because what is at work at a place changes exactly if a call puts something there.
+-- The outline last taken is at work, because what is at work at a place changes exactly if a call or a restore puts something there.
 use Prim.Native.Nat.{ℕ}
 use native.Mathlib.Omega.{arith}
 use mathlib.Core.Path.{_≡_, refl, sym, ap, _∙_}
-use mathlib.Core.Bool.{Bool, true, false, cond}
+use mathlib.Core.Bool.{Bool, true, false, cond, _&&_}
 use mathlib.Core.Option.{Option, none, some}
 use mathlib.Core.List.{List, [], _∷_, _++_, append-assoc, append-nil}
 use lib.Dec.{eqb}
@@ -15,12 +15,13 @@ use Rattle.chart.specs.declared.Refusal.{Refusal}
 use Rattle.chart.specs.declared.Verdict.{Verdict}
 use Rattle.chart.specs.declared.Verdict.the-variants.{Taken, Refused}
 use Rattle.verdict.specs.Verdict.{verdictOf}
-use Rattle.holder_model.specs.Book.{Book, PartyModel, atWork, fresh, equalsWork, closedReply, workAfter, closes, acts, answer}
-use Rattle.holder_model.specs.Book.{bookAfter}
-use Rattle.holder_model.specs.LastTaken.{left, mark, marks, lastOr, lastTaken}
+use Rattle.images.specs.Image.{isImage, heldIn}
+use Rattle.holder_model.specs.Book.{Book, PartyModel, OnParty, Entry, Entered, Restored, atWork, drafted, fresh}
+use Rattle.holder_model.specs.Book.{equalsWork, closedReply, workAfter, closes, acts, restores, putsBack, answerBy, answer}
+use Rattle.holder_model.specs.Book.{restored, entered, bookAfter}
+use Rattle.holder_model.specs.LastTaken.{left, putBack, leftBy, mark, marks, lastOr, lastTaken}
 use Rattle.calls.specs.Calls.{badParty, badPlace}
 use Rattle.calls.specs.Replies.{replyFields}
-use Rattle.calls.specs.declared.Call.{Call}
 use Rattle.calls.specs.declared.Reply.{Reply}
 use Rattle.calls.specs.declared.Action.{Action}
 use Rattle.calls.specs.declared.Action.the-variants.{Begin, Add, Drop, Clear, Close, Ask}
@@ -82,51 +83,84 @@ module _ (k : ℕ) (g : PartyModel) (ms : List (Option Outline)) where
       go false true p q = rw (p, q, eqb-true k j q) (close-work (g .draft) (g .works j) ms)
       go false false p q = rw (p, q) (nothing (closes (g .draft) (g .works j) .reply) (g .works k))
 
--- ---- a list of calls
+  -- The restore of an outline
+  restores-work : (o : Outline) (l : List ℕ) (w : Option Outline)
+      → lastOr w (cond (clean (restores o l w .reply)) (putBack o l ∷ []) [] ++ ms) ≡ lastOr (restores o l w .work) ms
+  unfolding restores putBack
+  restores-work o [] w = unfold replyFields lastOr in refl
+  restores-work o (a ∷ l) w = close-work (some o) w ms
+
+  restore-work : (j : ℕ) (bytes : List ℕ)
+      → lastOr (g .works k)
+      (cond (clean (putsBack j bytes g .reply)) (cond (eqb k j) (putBack (heldIn bytes) (heldIn bytes .letters) ∷ []) []) [] ++ ms)
+      ≡ lastOr (putsBack j bytes g .page .works k) ms
+  unfolding putsBack put
+  restore-work j bytes = go (badPlace j) (isImage bytes) (eqb k j) refl refl refl
+    where
+      go : (b i e : Bool) → badPlace j ≡ b → isImage bytes ≡ i → eqb k j ≡ e
+          → lastOr (g .works k)
+          (cond (clean (putsBack j bytes g .reply)) (cond (eqb k j) (putBack (heldIn bytes) (heldIn bytes .letters) ∷ []) []) [] ++ ms)
+          ≡ lastOr (putsBack j bytes g .page .works k) ms
+      go true i e p h q = rw p (unfold replyFields in refl)
+      go false false e p h q = rw (p, h) (unfold replyFields in refl)
+      go false true true p h q = rw (p, h, q, eqb-true k j q) (restores-work (heldIn bytes) (heldIn bytes .letters) (g .works j))
+      go false true false p h q = rw (p, h, q) (nothing (restores (heldIn bytes) (heldIn bytes .letters) (g .works j) .reply) (g .works k))
+
+-- ---- a list of calls and restores
 
 module _ (p k : ℕ) where
-  -- One call: the last of what it and the later calls put there
-  mark-work : (b : Book) (c : Call) (ms : List (Option Outline))
-      → lastOr (atWork b p k) (mark p k b c ++ ms) ≡ lastOr (atWork (answer b c .next) p k) ms
-  unfolding mark answer put
-  mark-work b c ms = go (badParty (c .party)) (eqb p (c .party)) refl refl
+  -- What a call or a restore puts there, from what it puts into its party's state
+  put-work : (b : Book) (q : ℕ) (f : PartyModel → OnParty) (l ms : List (Option Outline))
+      → lastOr (b p .works k) (cond (clean (f (b p) .reply)) l [] ++ ms) ≡ lastOr (f (b p) .page .works k) ms
+      → lastOr (atWork b p k) (cond (eqb p q && clean (answerBy b q f .reply)) l [] ++ ms) ≡ lastOr (atWork (answerBy b q f .next) p k) ms
+  unfolding put
+  put-work b q f l ms own = go (badParty q) (eqb p q) refl refl
     where
-      go : (t e : Bool) → badParty (c .party) ≡ t → eqb p (c .party) ≡ e
-          → lastOr (atWork b p k) (mark p k b c ++ ms) ≡ lastOr (atWork (answer b c .next) p k) ms
+      go : (t e : Bool) → badParty q ≡ t → eqb p q ≡ e
+          → lastOr (atWork b p k) (cond (eqb p q && clean (answerBy b q f .reply)) l [] ++ ms)
+          ≡ lastOr (atWork (answerBy b q f .next) p k) ms
       go true false h e = rw (h, e)
       go false false h e = rw (h, e) (rw (e, atWork))
       go true true h e = rw (h, e) (unfold replyFields in refl)
-      go false true h e = rw (h, e) (rw (e, atWork) (rw (eqb-true p (c .party) e) (act-work k (b (c .party)) ms (c .action))))
+      go false true h e = rw (h, e) (rw (e, atWork) (rw (sym (eqb-true p q e)) own))
 
-  from-book : (b : Book) (cs : List Call) → atWork (bookAfter b cs) p k ≡ lastOr (atWork b p k) (marks p k b cs)
+  -- One of them: the last of what it and the later ones put there
+  mark-work : (b : Book) (x : Entry) (ms : List (Option Outline))
+      → lastOr (atWork b p k) (mark p k b x ++ ms) ≡ lastOr (atWork (entered b x .next) p k) ms
+  unfolding mark leftBy answer restored
+  mark-work b (Entered c) ms =
+      put-work b (c .party) (λ g. acts g (c .action)) (left k (drafted b p) (c .action)) ms (act-work k (b p) ms (c .action))
+  mark-work b (Restored q j bytes) ms = put-work b q (putsBack j bytes) _ ms (restore-work k (b p) ms j bytes)
+
+  from-book : (b : Book) (xs : List Entry) → atWork (bookAfter b xs) p k ≡ lastOr (atWork b p k) (marks p k b xs)
   unfolding bookAfter marks lastOr
   from-book b [] = refl
-  from-book b (c ∷ cs) = from-book (answer b c .next) cs ∙ sym (mark-work b c (marks p k (answer b c .next) cs))
+  from-book b (x ∷ xs) = from-book (entered b x .next) xs ∙ sym (mark-work b x (marks p k (entered b x .next) xs))
 
-  -- One more call at the end
-  marks-next : (b : Book) (cs : List Call) (c : Call) → marks p k b (cs ++ (c ∷ [])) ≡ marks p k b cs ++ mark p k (bookAfter b cs) c
+  -- One more at the end
+  marks-next : (b : Book) (xs : List Entry) (x : Entry) → marks p k b (xs ++ (x ∷ [])) ≡ marks p k b xs ++ mark p k (bookAfter b xs) x
   unfolding marks bookAfter
-  marks-next b [] c = append-nil (mark p k b c)
-  marks-next b (d ∷ cs) c =
-      rw (marks-next (answer b d .next) cs c)
-      (sym (append-assoc (mark p k b d) (marks p k (answer b d .next) cs) (mark p k (bookAfter (answer b d .next) cs) c)))
+  marks-next b [] x = append-nil (mark p k b x)
+  marks-next b (y ∷ xs) x =
+      rw (marks-next (entered b y .next) xs x)
+      (sym (append-assoc (mark p k b y) (marks p k (entered b y .next) xs) (mark p k (bookAfter (entered b y .next) xs) x)))
 
 last-append : (was : Option Outline) (ms ns : List (Option Outline)) → lastOr was (ms ++ ns) ≡ lastOr (lastOr was ms) ns
 unfolding lastOr
 last-append was [] ns = refl
 last-append was (m ∷ ms) ns = last-append m ms ns
 
--- The outline last taken after one more call: what that call puts there, or the one before
-pub last-taken-next : (p k : ℕ) (cs : List Call) (c : Call)
-    → lastTaken p k (cs ++ (c ∷ [])) ≡ lastOr (lastTaken p k cs) (mark p k (bookAfter fresh cs) c)
+-- The outline last taken after one more call or restore: what that puts there, or the one before
+pub last-taken-next : (p k : ℕ) (xs : List Entry) (x : Entry)
+    → lastTaken p k (xs ++ (x ∷ [])) ≡ lastOr (lastTaken p k xs) (mark p k (bookAfter fresh xs) x)
 unfolding lastTaken
-last-taken-next p k cs c = ap (lastOr none) (marks-next p k fresh cs c)
-    ∙ last-append none (marks p k fresh cs) (mark p k (bookAfter fresh cs) c)
+last-taken-next p k xs x = ap (lastOr none) (marks-next p k fresh xs x)
+    ∙ last-append none (marks p k fresh xs) (mark p k (bookAfter fresh xs) x)
 
 -- ---- the theorem
 
--- After any list of calls on a fresh model the outline last taken at a party's place is at
+-- After any list of calls and restores on a fresh model the outline last taken at a party's place is at
 -- work there: none before the first taking, and none from a clear to the next taking
-pub work-last-taken : (p k : ℕ) (cs : List Call) → atWork (bookAfter fresh cs) p k ≡ lastTaken p k cs
+pub work-last-taken : (p k : ℕ) (xs : List Entry) → atWork (bookAfter fresh xs) p k ≡ lastTaken p k xs
 unfolding lastTaken fresh
-work-last-taken p k cs = from-book p k fresh cs
+work-last-taken p k xs = from-book p k fresh xs

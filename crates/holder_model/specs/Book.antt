@@ -1,4 +1,4 @@
--- The model of the holder, which the contract calls the plain book: it sees the calls and keeps outlines (contract 8).
+-- The model of the holder, which the contract calls the plain book: it sees calls and restores and keeps outlines (contract 8 and 13.7).
 use Prim.Native.Nat.{ℕ}
 use mathlib.Core.Bool.{Bool, false, cond, Bool·beq}
 use mathlib.Core.Option.{Option, none, some}
@@ -11,6 +11,7 @@ use Rattle.chart.specs.Limits.{side, longest}
 use Rattle.chart.specs.Outline.{Outline}
 use Rattle.chart.specs.declared.Point.{Point}
 use Rattle.chart.specs.declared.Refusal.the-variants.{Start, Letter, Cell, NothingAtWork, NoDraft, DraftOpen, DraftFull, Party, Place}
+use Rattle.chart.specs.declared.Refusal.the-variants.{Image}
 use Rattle.chart.specs.declared.Verdict.{Verdict}
 use Rattle.chart.specs.declared.Verdict.the-variants.{Taken, Refused}
 use Rattle.lattice.specs.Refusals.{badStart}
@@ -23,6 +24,7 @@ use Rattle.readings.specs.Located.{locatedOf}
 use Rattle.readings.specs.Replies.{locatedReply}
 use Rattle.drawing.specs.Drawing.{strokeAt}
 use Rattle.drawing.specs.Points.{drawnReply}
+use Rattle.images.specs.Image.{isImage, heldIn}
 use Rattle.calls.specs.Calls.{badParty, badPlace}
 use Rattle.calls.specs.declared.Call.{Call}
 use Rattle.calls.specs.declared.Action.{Action}
@@ -167,6 +169,27 @@ acts g (Close k) =
     cond (badPlace k) (record { reply = WasRefused Place; page = putDraft g none }) (closing g k (closes (g .draft) (g .works k)))
 acts g (Ask k q) = record { reply = cond (badPlace k) (WasRefused Place) (asks q (g .works k)); page = g }
 
+-- ---- restores
+
+-- 26 (contract 5)
+abbrev pub notImage : Reply
+notImage = WasRefused Image
+
+-- What the restore of an outline with these letters does to a work: without letters as a clear, and otherwise as a close of that outline
+unfoldable pub restores : Outline → List ℕ → Option Outline → OnWork
+restores o [] w = record { reply = Done; work = none }
+restores o (a ∷ l) w = closes (some o) w
+
+abbrev pub restoring : PartyModel → ℕ → OnWork → OnParty
+restoring g k a = record { reply = a .reply; page = putWork g k (a .work) }
+
+-- Restore (contract 13.6). Checks 20 and 26. Then the outline whose image the bytes are decides. The draft stays
+unfoldable pub putsBack : ℕ → List ℕ → PartyModel → OnParty
+putsBack k bytes g =
+    cond (badPlace k) (record { reply = WasRefused Place; page = g })
+    (cond (isImage bytes) (restoring g k (restores (heldIn bytes) (heldIn bytes .letters) (g .works k)))
+    (record { reply = notImage; page = g }))
+
 -- ---- the calls
 
 -- The reply of a call, and the model after it
@@ -175,12 +198,31 @@ pub record Answer : Type 0 where
   pub next : Book
 
 -- 19 is checked first (contract 7.2). Otherwise the call reads and changes its own party's state only
-unfoldable pub answer : Book → Call → Answer
-answer b c =
-    cond (badParty (c .party)) (record { reply = WasRefused Party; next = b })
-    (record { reply = acts (b (c .party)) (c .action) .reply; next = put b (c .party) (acts (b (c .party)) (c .action) .page) })
+abbrev pub answerBy : Book → ℕ → (PartyModel → OnParty) → Answer
+answerBy b p f =
+    cond (badParty p) (record { reply = WasRefused Party; next = b })
+    (record { reply = f (b p) .reply; next = put b p (f (b p) .page) })
 
--- The replies to a list of calls, each made on the model that the one before it left, and the model after all of them
+unfoldable pub answer : Book → Call → Answer
+answer b c = answerBy b (c .party) (λ g. acts g (c .action))
+
+unfoldable pub restored : Book → ℕ → ℕ → List ℕ → Answer
+restored b p k bytes = answerBy b p (putsBack k bytes)
+
+-- What the book sees: a call, or a restore of bytes to a party's place
+pub data Entry : Type 0 where
+  Entered : Call → Entry
+  Restored : ℕ → ℕ → List ℕ → Entry
+
+abbrev pub partyOf : Entry → ℕ
+partyOf (Entered c) = c .party
+partyOf (Restored p k bytes) = p
+
+abbrev pub entered : Book → Entry → Answer
+entered b (Entered c) = answer b c
+entered b (Restored p k bytes) = restored b p k bytes
+
+-- The replies to a list of calls, each made on the model that the one before it left
 unfoldable pub repliesFrom : Book → List Call → List Reply
 repliesFrom b [] = []
 repliesFrom b (c ∷ cs) = answer b c .reply ∷ repliesFrom (answer b c .next) cs
@@ -188,6 +230,7 @@ repliesFrom b (c ∷ cs) = answer b c .reply ∷ repliesFrom (answer b c .next) 
 unfoldable pub replies : List Call → List Reply
 replies cs = repliesFrom fresh cs
 
-unfoldable pub bookAfter : Book → List Call → Book
+-- The model after a list of calls and restores
+unfoldable pub bookAfter : Book → List Entry → Book
 bookAfter b [] = b
-bookAfter b (c ∷ cs) = bookAfter (answer b c .next) cs
+bookAfter b (x ∷ xs) = bookAfter (entered b x .next) xs

@@ -1,4 +1,4 @@
--- The calls of one party in a list of calls, and the replies to them (contract 8.6).
+-- The calls of one party in a list of calls, and the replies to them; its calls and restores (contract 8.6 and 13.7).
 use Prim.Native.Nat.{ℕ}
 use mathlib.Core.Bool.{cond}
 use mathlib.Core.List.{List, [], _∷_}
@@ -6,12 +6,17 @@ use lib.Dec.{eqb}
 use Rattle.calls.specs.declared.Call.{Call}
 use Rattle.calls.specs.declared.Action.{Action}
 use Rattle.calls.specs.declared.Reply.{Reply}
-use Rattle.holder_model.specs.Book.{PartyModel, acts}
+use Rattle.holder_model.specs.Book.{PartyModel, Entry, partyOf, acts}
 
 -- The calls of party p, in their order
 unfoldable pub callsOf : ℕ → List Call → List Call
 callsOf p [] = []
 callsOf p (c ∷ cs) = cond (eqb p (c .party)) (c ∷ callsOf p cs) (callsOf p cs)
+
+-- Its calls and restores
+unfoldable pub entriesOf : ℕ → List Entry → List Entry
+entriesOf p [] = []
+entriesOf p (x ∷ xs) = cond (eqb p (partyOf x)) (x ∷ entriesOf p xs) (entriesOf p xs)
 
 -- Among the replies to a list of calls, those to party p
 unfoldable pub repliesTo : ℕ → List Call → List Reply → List Reply

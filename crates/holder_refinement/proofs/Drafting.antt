@@ -3,7 +3,7 @@
 use Prim.Native.Nat.{ℕ, _+_, _*_, _≤_, _<_, min}
 use native.Mathlib.Omega.{arith}
 use mathlib.Core.Path.{_≡_, refl, sym, ap, ap₂, _∙_}
-use mathlib.Core.List.{List, [], _∷_}
+use mathlib.Core.List.{List, [], _∷_, map}
 use mathlib.Core.Option.{Option, none, some}
 use lib.ListN.{length, getD, set, length-take}
 use lib.Seq.{getD-set-other, take-set-le}
@@ -18,7 +18,7 @@ use Rattle.calls.specs.declared.Call.{Call}
 use Rattle.holder_records.specs.Draft.{Draft, outlineOf}
 use Rattle.holder_refinement.proofs.Turns.{draftAt}
 use Rattle.holder_refinement.specs.Told.{told}
-use Rattle.holder_model.specs.Book.{fresh, bookAfter}
+use Rattle.holder_model.specs.Book.{Entered, fresh, bookAfter}
 use Rattle.holder_refinement.proofs.Drafts.{IsDraft}
 use Rattle.holder_memory.specs.Layout.{Holder, draftHead}
 use Rattle.holder_answers.specs.declared.Drafting.{Drafting}
@@ -60,7 +60,8 @@ module _ (h : Holder) (p : ℕ) (there : p < parties) where
       (sym counted ∙ sym (kept-length d (k .space) (k .stands .fits)) ∙ ap (λ (x : Outline). length (x .letters)) (k .stands .outline)))
 
 -- After every list of calls from a fresh holder, whatever their arguments
-pub draft-theorem : (cs : List Call) (p : ℕ) → p < parties → draftOf (holderAfter freshHolder cs) p ≡ told (bookAfter fresh cs p .draft)
+pub draft-theorem : (cs : List Call) (p : ℕ) → p < parties → draftOf (holderAfter freshHolder cs) p ≡ told
+    (bookAfter fresh (map Entered cs) p .draft)
 draft-theorem cs p there =
     draft-told (holderAfter freshHolder cs) p there _ (represents-after cs .pages p there .draft)
 

@@ -28,8 +28,8 @@ use Rattle.span_list.proofs.SlotLaws.{copies-put}
 use Rattle.holder_memory.specs.Words.{slotOf, freeSlot}
 use Rattle.holder_memory.specs.Layout.{placeWord, Holder, arrays, spot, slotHead, workAt, numbersPut, slotHeadPut, headNumbers, draftHead}
 use Rattle.holder_memory.specs.Layout.{Fits, placeWords, slotNumbers}
-use Rattle.holder_answers.specs.Arrays.{Preparation, begun, slotIn, workIn, withHeads, ended, worded, filled, preparedBy, preparedOf}
-use Rattle.holder_answers.specs.Arrays.{prepareOf, commitOf, closeOf, actOf, answerOf}
+use Rattle.holder_answers.specs.Arrays.{Preparation, begun, slotIn, workIn, withHeads, ended, worded, filled, draftEnded}
+use Rattle.holder_answers.specs.Arrays.{outlinePreparedBy, preparedOf, prepareOf, commitOf, closeOf, actOf, answerOf}
 use Rattle.holder_memory.proofs.Free.{free-below, free-apart}
 use Rattle.holder_refinement.specs.Stores.{Store, stored, storedAll, Within, AllWithin, SameWorks}
 use Rattle.holder_refinement.specs.Stores.Store.{letter, row, number, head}
@@ -203,8 +203,8 @@ module _ (h : Holder) (fit : Fits h) (p : ℕ) (l : p < parties) where
       (beside-next h₁ h₂ _ free (numbers-beside h₁ free es (omega (arith, fit .numbers, free-below (h .heads) p l)) all)
       (head-beside h₂ free a n))
 
-  by-verdict : (k : ℕ) (o : Outline) (v : Verdict) → Beside h (preparedBy h p k o (judgedOf o) v .holder) free
-  unfolding preparedBy
+  by-verdict : (k : ℕ) (o : Outline) (v : Verdict) → Beside h (draftEnded p (outlinePreparedBy h p k o (judgedOf o) v) .holder) free
+  unfolding outlinePreparedBy
   by-verdict k o (Refused f) = ended-beside h free p l
   by-verdict k o (Taken n a) =
       beside-next h (filled h free a (judgedOf o .numbers) n (spansOf o)) _ free

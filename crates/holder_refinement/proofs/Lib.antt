@@ -7,6 +7,7 @@ pub mod Sizes
 pub mod Keeps
 pub mod Turns
 pub mod ListTheorem
+pub mod Restores
 pub mod Parties
 pub mod Drafting
 pub mod Unaltered

@@ -4,7 +4,7 @@ use Prim.Native.Nat.{ℕ, _*_, _<_}
 use native.Mathlib.Omega.{arith}
 use mathlib.Core.Path.{_≡_, refl, sym, ap₂, _∙_, subst}
 use mathlib.Core.Bool.{Bool, true, false, true≢false}
-use mathlib.Core.List.{List, [], _∷_}
+use mathlib.Core.List.{List, [], _∷_, map}
 use lib.ListN.{length, replicate, length-replicate, getD-replicate}
 use lib.IntN.{pos}
 use borrow.Author.Tests.{leb-false, eqb-true, eq-eqb}
@@ -12,7 +12,7 @@ use Rattle.chart.specs.Limits.{longest}
 use Rattle.calls.specs.Calls.{parties, places, badParty}
 use Rattle.base.specs.Put.{put}
 use Rattle.base.proofs.PutLaws.{put-here, put-elsewhere}
-use Rattle.holder_model.specs.Book.{Book, PartyModel, OnParty, fresh, answer, repliesFrom, replies, bookAfter}
+use Rattle.holder_model.specs.Book.{Book, PartyModel, OnParty, Entered, fresh, answer, repliesFrom, replies, bookAfter}
 use Rattle.holder_model.specs.LastTaken.{lastTaken}
 use Rattle.holder_model.proofs.LastTaken.{work-last-taken}
 use Rattle.holder_records.proofs.Places.{reached-below}
@@ -56,7 +56,7 @@ module _ (h : Holder) (p k : ℕ) (there : p < parties) (inside : k < places) (x
               let apart : j ≡ k → ⊥ = differ j k e in
               rw (t .works p j there m (λ z. apart (omega (arith, z))), a .others j apart) (was .works j m)
 
-  next-book : (b : Book) (n : OnParty) → Represents h b → AgreesParty (b p) k y n → Represents (x .holder) (put b p (n .page))
+  pub next-book : (b : Book) (n : OnParty) → Represents h b → AgreesParty (b p) k y n → Represents (x .holder) (put b p (n .page))
   next-book b n r a = record { fits = t .fits; pages = pages }
     where
       pages : (q : ℕ) → q < parties → HasParty (x .holder) q (put b p (n .page) q)
@@ -128,21 +128,22 @@ list-theorem cs = handled-from freshHolder fresh represents-fresh cs
 
 -- ---- after a list of calls
 
-represents-from : (h : Holder) (b : Book) → Represents h b → (cs : List Call) → Represents (holderAfter h cs) (bookAfter b cs)
+represents-from : (h : Holder) (b : Book) → Represents h b → (cs : List Call) → Represents (holderAfter h cs) (bookAfter b (map Entered cs))
 unfolding holderAfter bookAfter
 represents-from h b k [] = k
 represents-from h b k (c ∷ cs) = represents-from _ _ (call-agrees h b k c .1) cs
 
-pub represents-after : (cs : List Call) → Represents (holderAfter freshHolder cs) (bookAfter fresh cs)
+pub represents-after : (cs : List Call) → Represents (holderAfter freshHolder cs) (bookAfter fresh (map Entered cs))
 represents-after cs = represents-from freshHolder fresh represents-fresh cs
 
 -- The reply of one more call
-pub reply-after : (cs : List Call) (c : Call) → replyAfter cs c ≡ answer (bookAfter fresh cs) c .reply
+pub reply-after : (cs : List Call) (c : Call) → replyAfter cs c ≡ answer (bookAfter fresh (map Entered cs)) c .reply
 unfolding replyAfter
 reply-after cs c = call-agrees _ _ (represents-after cs) c .0
 
 -- So at each place of each party the arrays keep the anchor and the edges of the outline last taken there (contract 8.3)
 pub holder-last-taken : (p k : ℕ) → p < parties → k < places → (cs : List Call)
-    → IsWork (workIn (holderAfter freshHolder cs) p k) (lastTaken p k cs)
+    → IsWork (workIn (holderAfter freshHolder cs) p k) (lastTaken p k (map Entered cs))
 holder-last-taken p k there inside cs =
-    subst (IsWork (workIn (holderAfter freshHolder cs) p k)) (work-last-taken p k cs) (represents-after cs .pages p there .works k inside)
+    subst (IsWork (workIn (holderAfter freshHolder cs) p k)) (work-last-taken p k (map Entered cs))
+    (represents-after cs .pages p there .works k inside)

@@ -29,7 +29,8 @@ use Rattle.holder_memory.specs.Layout.{Holder, own, spot, placeWord, slotHead, 
 use Rattle.holder_memory.specs.Words.{freeSlot}
 use Rattle.holder_memory.proofs.Free.{tag-below}
 use Rattle.holder_answers.specs.Arrays.{Answered, Preparation, begun, count, withHeads, ended, worded, filled, lengthened, opened, beginOf}
-use Rattle.holder_answers.specs.Arrays.{addOf, dropOf, clearOf, preparedBy, preparedOf, commitOf, closeOf, actOf, answerOf}
+use Rattle.holder_answers.specs.Arrays.{addOf, dropOf, clearOf, draftEnded, outlinePreparedBy, preparedOf, commitOf, closeOf, actOf}
+use Rattle.holder_answers.specs.Arrays.{answerOf}
 use Rattle.holder_refinement.proofs.Sizes.{judged-size, first-size, past-size}
 use Rattle.holder_refinement.proofs.Apart.{HeadOf, NoHeadOf, differ}
 
@@ -182,8 +183,8 @@ module _ (h : Holder) (fit : Fits h) (p : ℕ) (l : p < parties) where
   either true x y a b = a
   either false x y a b = b
 
-  by-verdict : (k : ℕ) (o : Outline) (v : Verdict) → OthersKept h (preparedBy h p k o (judgedOf o) v .holder) p
-  unfolding preparedBy
+  by-verdict : (k : ℕ) (o : Outline) (v : Verdict) → OthersKept h (draftEnded p (outlinePreparedBy h p k o (judgedOf o) v) .holder) p
+  unfolding outlinePreparedBy
   by-verdict k o (Refused f) = ended-kept h p l
   by-verdict k o (Taken n a) =
       kept-next h (filled h t a (judgedOf o .numbers) n (spansOf o)) _ p (filled-kept a (judgedOf o .numbers) n o (judged-size o))

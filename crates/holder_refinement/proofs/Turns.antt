@@ -39,7 +39,8 @@ use Rattle.span_list.proofs.SlotLaws.{copies-put}
 use Rattle.holder_memory.specs.Layout.{Holder, slots, placeWord, arrays, spot, slotHead, workAt, startPut, openPut, headNumbers, Fits}
 use Rattle.holder_memory.specs.Layout.{draftHead}
 use Rattle.holder_answers.specs.Arrays.{Answered, reply, begun, count, draftIn, workIn, ended as endedIn, worded, filled, beginOf, addOf}
-use Rattle.holder_answers.specs.Arrays.{dropOf, clearOf, Preparation, preparedBy, preparedOf, commitOf, committed, closeOf, actOf}
+use Rattle.holder_answers.specs.Arrays.{dropOf, clearOf, Preparation, draftEnded, outlinePreparedBy, preparedOf, commitOf, committed}
+use Rattle.holder_answers.specs.Arrays.{closeOf, actOf}
 use Rattle.holder_memory.specs.Words.{wordOf, tagOf, slotOf, freeTag, freeSlot}
 use Rattle.holder_memory.proofs.Free.{tag-below, free-below, word-names, word-not-zero}
 use Rattle.holder_refinement.proofs.Sizes.{judged-size, first-size, past-size}
@@ -122,7 +123,7 @@ module _ (h : Holder) (fit : Fits h) (p : ℕ) (l : p < parties) where
     abbrev w : Work
     w = workIn h p k
 
-    kept : (r : Reply) → Turned h p k (reply r h) (acted r d w)
+    pub kept : (r : Reply) → Turned h p k (reply r h) (acted r d w)
     kept r = record { reply = refl; fits = fit; draft = refl; work = λ o i. i; drafts = λ q b e. refl; works = λ q j b i e. refl }
 
     -- The draft's head and letters are written
@@ -251,7 +252,7 @@ module _ (h : Holder) (fit : Fits h) (p : ℕ) (l : p < parties) where
     none-left none i = ap (λ (x : Work). x .taken) (worded-here h (spot p k) 0 (omega arith) p k refl (fit .heads)) ∙ refl
     none-left (some o) i = absurd (true≢false (sym (i .taken)))
 
-    cleared : Turned h p k (reply Done (worded h (spot p k) 0)) (acted Done d (removed w))
+    pub cleared : Turned h p k (reply Done (worded h (spot p k) 0)) (acted Done d (removed w))
     cleared =
         record {
           reply = refl;
@@ -364,6 +365,41 @@ module _ (h : Holder) (fit : Fits h) (p : ℕ) (l : p < parties) where
       filled-draft : (q : ℕ) → q < parties → draftOf h₁ q ≡ draftOf h q
       filled-draft q b = draft-below _ _ _ q b heads-filled
 
+      -- Filled alone, and then named by the place: the draft stays
+      pub brought : (r : Reply) → Turned h p k (reply r h₁) (acted r (draftOf h p) (workIn h p k))
+      brought r =
+          record {
+            reply = refl;
+            fits = fit₁;
+            draft = filled-draft p l;
+            work = λ x i. rw (keeps h h₁ p l (filled-beside h fit p l a es n o all) p k l m) i;
+            drafts = λ q b d. filled-draft q b;
+            works = λ q j b i d. keeps h h₁ p l (filled-beside h fit p l a es n o all) q j b i;
+          }
+
+      pub restored : (r : Reply) → Turned h p k (reply r (worded h₁ (spot p k) word)) (acted r (draftOf h p) (replaced a es n (spansOf o)))
+      restored r =
+          record {
+            reply = refl;
+            fits = record { letters = fit .letters; rows = fit₁ .rows; numbers = fit₁ .numbers; heads = simp length-set (fit .heads) };
+            draft = named p l;
+            work = λ x i. rw here i;
+            drafts = λ q b d. named q b;
+            works = λ q j b i d.
+                worded-else h₁ (spot p k) word (omega arith) q j d ∙ keeps h h₁ p l (filled-beside h fit p l a es n o all) q j b i;
+          }
+        where
+          here : workIn (worded h₁ (spot p k) word) p k ≡ replaced a es n (spansOf o)
+          here =
+              worded-here h₁ (spot p k) word (omega arith) p k refl size₁
+              ∙ ap (λ (u : ℕ). workAt (h₁ .rows) (h₁ .numbers) (h₁ .heads) u) (word-names p (freeTag (h .heads) p) (tag-below (h .heads) p))
+              ∙ filled-here
+
+          named : (q : ℕ) → q < parties → draftOf (worded h₁ (spot p k) word) q ≡ draftOf h q
+          named q b =
+              draft-below _ _ _ q b (λ i c. getD-set-other (h₁ .heads) (placeWord (spot p k)) i word 0 (λ z. omega arith))
+              ∙ filled-draft q b
+
       taken : (r : Reply) → Turned h p k (reply r (worded h₂ (spot p k) word)) (acted r (endOf (draftOf h p)) (replaced a es n (spansOf o)))
       taken r =
           let e : Turned h₁ p k (reply r h₂) (acted r (endOf (draftOf h₁ p)) (workIn h₁ p k)) = ended h₁ fit₁ p l k m r in
@@ -379,9 +415,9 @@ module _ (h : Holder) (fit : Fits h) (p : ℕ) (l : p < parties) where
           }
 
     closed : (v : Verdict) → judgedOf (draftIn h p) .verdict ≡ v
-        → Turned h p k (committed p k (preparedBy h p k (draftIn h p) (judgedOf (draftIn h p)) v))
+        → Turned h p k (committed p k (draftEnded p (outlinePreparedBy h p k (draftIn h p) (judgedOf (draftIn h p)) v)))
         (closedSlot (draftOf h p) (workIn h p k) (judgedOf (draftIn h p)))
-    unfolding preparedBy closedSlot closedReply closedWork
+    unfolding outlinePreparedBy closedSlot closedReply closedWork
     closed (Refused f) e = rw (e, commit-zero (set (h .heads) (4 * p) 0) p k) (ended h fit p l k m (WasRefused f))
     closed (Taken n a) e =
         let o : Outline = draftIn h p in

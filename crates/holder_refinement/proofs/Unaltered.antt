@@ -19,8 +19,8 @@ use Rattle.calls.specs.declared.Action.the-variants.{Begin, Add, Drop, Clear, C
 use Rattle.calls.specs.declared.Reply.the-variants.{Taken as WasTaken, Same}
 use Rattle.holder_records.specs.Work.{listed, hasEdges}
 use Rattle.holder_memory.specs.Layout.{Holder, draftHead}
-use Rattle.holder_answers.specs.Arrays.{Answered, begun, count, workIn, ended, beginOf, addOf, dropOf, clearOf, Preparation, preparedBy}
-use Rattle.holder_answers.specs.Arrays.{preparedOf, prepareOf, committed, closeOf, actOf, answerOf}
+use Rattle.holder_answers.specs.Arrays.{Answered, begun, count, workIn, ended, beginOf, addOf, dropOf, clearOf, Preparation, draftEnded}
+use Rattle.holder_answers.specs.Arrays.{outlinePreparedBy, preparedOf, prepareOf, committed, closeOf, actOf, answerOf}
 use Rattle.holder_refinement.proofs.Turns.{commit-zero}
 
 -- If the reply has a number other than 0, P holds of what is left
@@ -71,8 +71,8 @@ module _ (h : Holder) (p : ℕ) where
   each k true x y f g = f
   each k false x y f g = g
 
-  closed-same : (k : ℕ) (o : Outline) (j : Judged) (v : Verdict) → Refuses k (preparedBy h p k o j v)
-  unfolding preparedBy
+  closed-same : (k : ℕ) (o : Outline) (j : Judged) (v : Verdict) → Refuses k (draftEnded p (outlinePreparedBy h p k o j v))
+  unfolding outlinePreparedBy
   closed-same k o j (Refused f) r = inr (rw (commit-zero (set (h .heads) (draftHead p) 0) p k))
   closed-same k o j (Taken n a) r = absurd (r (accepted (hasEdges (workIn h p k) a (listed (j .numbers) n)) n a))
 
@@ -91,8 +91,8 @@ module _ (h : Holder) (p : ℕ) where
   every true x y f g = f
   every false x y f g = g
 
-  judged-same : (k : ℕ) (o : Outline) (j : Judged) (v : Verdict) → PrepareRefuses (preparedBy h p k o j v)
-  unfolding preparedBy
+  judged-same : (k : ℕ) (o : Outline) (j : Judged) (v : Verdict) → PrepareRefuses (draftEnded p (outlinePreparedBy h p k o j v))
+  unfolding outlinePreparedBy
   judged-same k o j (Refused f) r = (refl, inr refl)
   judged-same k o j (Taken n a) r = absurd (r (accepted (hasEdges (workIn h p k) a (listed (j .numbers) n)) n a))
 

@@ -46,7 +46,7 @@ use Rattle.calls.specs.declared.Action.the-variants.{Close, Ask}
 use Rattle.calls.specs.declared.Question.the-variants.{Cell as OfCell, Row as OfRow, Reading as OfReading, Piece as OfPiece}
 use Rattle.drawing.specs.Drawing.{strokeAt}
 use Rattle.drawing.specs.Points.{pieceOf, drawnReply, pointAfter}
-use Rattle.holder_model.specs.Book.{drafted, fresh, equalsWork, closedReply, bookAfter}
+use Rattle.holder_model.specs.Book.{Entry, drafted, fresh, equalsWork, closedReply, bookAfter}
 use Rattle.holder_model.specs.LastTaken.{lastTaken}
 use Rattle.book_replies.specs.After.{replyTo}
 use Rattle.book_replies.proofs.Queries as Queries
@@ -74,7 +74,7 @@ unfolding replyFields
 word-outside true = (λ e. absurd (omega (arith, e)), λ e. cc)
 word-outside false = (λ e. refl, λ e. refl)
 
-module _ (cs : List Call) (p k : ℕ) (there : p < parties) (place : k < places) (x : Point) (g : Fields)
+module _ (cs : List Entry) (p k : ℕ) (there : p < parties) (place : k < places) (x : Point) (g : Fields)
     (replied : Replied cs (by p (Ask k (OfCell x))) g) where
   -- 12 exactly if nothing was taken at the party's place since the last clear
   pub query-nothing : (g .number ≡ 12) ↔ (lastTaken p k cs ≡ none)
@@ -114,7 +114,7 @@ never-same (Refused f) e = omega (arith, e, refusal-wordless f)
 never-same (Taken n a) e = omega (arith, e)
 
 -- A close by party p at place k with the draft o
-module _ (cs : List Call) (p k : ℕ) (there : p < parties) (place : k < places) (o : Outline)
+module _ (cs : List Entry) (p k : ℕ) (there : p < parties) (place : k < places) (o : Outline)
     (draft : drafted (bookAfter fresh cs) p ≡ some o) (g : Fields)
     (replied : Replied cs (by p (Close k)) g) where
   closed : g ≡ replyFields (closedReply (equalsWork o (lastTaken p k cs)) (verdictOf o))
@@ -184,7 +184,7 @@ unfolding spanReply replyFields
 either-word Empty = inr refl
 either-word (Across a b) = inl refl
 
-module _ (cs : List Call) (p k : ℕ) (there : p < parties) (place : k < places) (r : ℕ) (row : r < side) (o : Outline)
+module _ (cs : List Entry) (p k : ℕ) (there : p < parties) (place : k < places) (r : ℕ) (row : r < side) (o : Outline)
     (last : lastTaken p k cs ≡ some o) (g : Fields)
     (replied : Replied cs (by p (Ask k (OfRow r))) g) where
   spanned : g ≡ replyFields (spanReply (rowSpan (block o) r))
@@ -224,7 +224,7 @@ word-of IsRefused = (
   (λ e. absurd (omega (arith, e)), λ e. differ cc),
 )
 
-module _ (cs : List Call) (p k : ℕ) (there : p < parties) (place : k < places) (x : Reading) (held : Held x) (good : badReading x ≡ false)
+module _ (cs : List Entry) (p k : ℕ) (there : p < parties) (place : k < places) (x : Reading) (held : Held x) (good : badReading x ≡ false)
     (o : Outline) (last : lastTaken p k cs ≡ some o)
     (g : Fields) (replied : Replied cs (by p (Ask k (OfReading x))) g) where
   abbrev found : Located
@@ -279,7 +279,7 @@ module _ (cs : List Call) (p k : ℕ) (there : p < parties) (place : k < places)
 
 -- ---- a path command
 
-module _ (cs : List Call) (p k : ℕ) (there : p < parties) (place : k < places) (n : ℕ) (o : Outline) (last : lastTaken p k cs ≡ some o)
+module _ (cs : List Entry) (p k : ℕ) (there : p < parties) (place : k < places) (n : ℕ) (o : Outline) (last : lastTaken p k cs ≡ some o)
   where
     -- The path command at position n of the drawing of the outline last taken: its word, and its point's cell (contract 7.11)
     pub piece-fields : (g : Fields) → Replied cs (by p (Ask k (OfPiece n))) g

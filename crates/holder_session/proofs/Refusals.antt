@@ -12,6 +12,7 @@ use Rattle.calls.specs.declared.Call.{Call}
 use Rattle.calls.specs.declared.Action.{Action}
 use Rattle.calls.specs.declared.Action.the-variants.{Ask}
 use Rattle.calls.specs.declared.Question.{Question}
+use Rattle.holder_model.specs.Book.{Entry}
 use Rattle.holder_model.specs.LastTaken.{lastTaken}
 use Rattle.book_replies.specs.Refused.{noSuchPlace, offChart}
 use Rattle.book_replies.proofs.Refusals as Refusals
@@ -19,16 +20,16 @@ use Rattle.holder_session.specs.Replied.{Replied}
 use Rattle.holder_session.proofs.Entries.{replied-by-book}
 
 -- 19 exactly if the party is above 1, whatever is called (contract 7.2)
-pub party-refused : (cs : List Call) (c : Call) (g : Fields) → Replied cs c g → (g .number ≡ 19) ↔ (parties ≤ c .party)
+pub party-refused : (cs : List Entry) (c : Call) (g : Fields) → Replied cs c g → (g .number ≡ 19) ↔ (parties ≤ c .party)
 party-refused cs c g replied = rw (replied-by-book cs c g replied) (Refusals.party-refused cs c)
 
 -- 20 exactly if a party's call names a place above 3 (contract 7.2)
-pub place-refused : (cs : List Call) (p : ℕ) → p < parties → (a : Action) (g : Fields) → Replied cs (by p a) g
+pub place-refused : (cs : List Entry) (p : ℕ) → p < parties → (a : Action) (g : Fields) → Replied cs (by p a) g
     → (g .number ≡ 20) ↔ (noSuchPlace a ≡ true)
 place-refused cs p there a g replied = rw (replied-by-book cs (by p a) g replied) (Refusals.place-refused cs p there a)
 
 -- A query, a row, a reading or a piece at a place
-module _ (cs : List Call) (p k : ℕ) (there : p < parties) (place : k < places) (q : Question) (g : Fields)
+module _ (cs : List Entry) (p k : ℕ) (there : p < parties) (place : k < places) (q : Question) (g : Fields)
     (replied : Replied cs (by p (Ask k q)) g) where
   -- 12 exactly if nothing was taken there since the last clear
   pub ask-nothing : (g .number ≡ 12) ↔ (lastTaken p k cs ≡ none)

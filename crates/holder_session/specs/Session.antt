@@ -1,4 +1,4 @@
--- Exported calls on one memory, in any mixture, each with exactly the promise of its function (contract 7 and 10.4).
+-- Exported calls on one memory, in any mixture, each with exactly the promise of its function (contract 7, 10.4 and 13).
 use Prim.Native.Nat.{ℕ}
 use mathlib.Core.Path.{_≡_}
 use mathlib.Core.Bool.{Bool, true, false}
@@ -19,6 +19,7 @@ use Rattle.holder_memory.specs.Layout.{Holder}
 use Rattle.holder_answers.specs.Arrays.{withHeads, answerOf, commitOf, draftOf}
 use Rattle.holder_answers.specs.Run.{freshHolder}
 use Rattle.holder_written.specs.Written.{Done, Prepared, draftFields}
+use Rattle.holder_image_calls.specs.Written.{ImagePrepared}
 use Rattle.holder_bytes.specs.Responded.{Responded}
 
 -- What was called, with what it was given and what it gave back. A reply is seven numbers
@@ -35,7 +36,9 @@ pub data Event : Type 0 where
   Drafted : ℕ → List ℕ → Event
   -- rq_prepare, the first half of a close: party, place and reply
   Began : ℕ → ℕ → List ℕ → Event
-  -- rq_commit, the second half: party and place
+  -- rq_prepare_image, the first half of a restore: party, place, bytes and reply
+  RestoreBegan : ℕ → ℕ → List ℕ → List ℕ → Event
+  -- rq_commit, the second half of either: party and place
   Ended : ℕ → ℕ → Event
   -- No call: the second half never comes, because the machine was reset. Party and place of the first half
   Cut : ℕ → ℕ → Event
@@ -53,7 +56,7 @@ pub data Made : Holder → Event → Holder → Type 0 where
       → Made h (Sent bytes reply reply′ r) n
   drafted : {h : Holder} {p : ℕ} {reply : List ℕ} → reply ≡ numbersOf (draftFields (draftOf h p)) → Made h (Drafted p reply) h
 
--- ---- the two halves of a close
+-- ---- the two halves of a close, and of a restore
 
 -- Between them an interrupt may ask: about an outline at work, by arguments or by bytes, or about a draft. Bytes that are not a call
 -- change nothing
@@ -76,10 +79,11 @@ asking (Sent bytes reply reply′ r) = asksOnly (decoded bytes)
 asking (Drafted p reply) = true
 asking Fresh = false
 asking (Began p k reply) = false
+asking (RestoreBegan p k bytes reply) = false
 asking (Ended p k) = false
 asking (Cut p k) = false
 
--- No close is under way, or its first half was made: its party, its place, and the word that it returned
+-- Neither is under way, or a first half was made: its party, its place, and the word that it returned
 pub data Stage : Type 0 where
   Idle : Stage
   Closing : ℕ → ℕ → ℕ → Stage
@@ -97,6 +101,8 @@ pub data Session : Stage → Holder → List Event → Holder → Type 0 where
       → Session s h (x ∷ es) n
   begin : {h m n : Holder} {p k w : ℕ} {reply : List ℕ} {es : List Event} → Prepared h m p k w reply → Session (Closing p k w) m es n
       → Session Idle h (Began p k reply ∷ es) n
+  bring : {h m n : Holder} {p k w : ℕ} {bytes reply : List ℕ} {es : List Event} → ImagePrepared h m p k bytes w reply
+      → Session (Closing p k w) m es n → Session Idle h (RestoreBegan p k bytes reply ∷ es) n
   commit : {h n : Holder} {p k w : ℕ} {heads : List ℕ} {es : List Event} → heads ≡ commitOf (h .heads) p k w
       → Session Idle (withHeads h heads) es n → Session (Closing p k w) h (Ended p k ∷ es) n
   reset : {h n : Holder} {p k w : ℕ} {es : List Event} → Session Idle h es n → Session (Closing p k w) h (Cut p k ∷ es) n

@@ -35,7 +35,7 @@ fn number_count(edges: usize) -> usize
 }
 
 // The anchor in a slot.
-fn anchor_at(heads: &[u16], slot: usize) -> Point
+pub fn anchor_at(heads: &[u16], slot: usize) -> Point
     requires { ⌜ (slot < slots) × (length (now heads) ≡ headNumbers) ⌝ }
     ensures { λ r. ⌜ ((rows : List ℕ) (numbers : List ℤ) → r ≡ workAt rows numbers (now (heads .entry)) slot .anchor) ⌝ }
 {
@@ -47,7 +47,7 @@ fn anchor_at(heads: &[u16], slot: usize) -> Point
 }
 
 // The numbers of the edges in a slot.
-fn edges_at<'a>(numbers: &'a [i16], heads: &[u16], slot: usize) -> &'a [i16]
+pub fn edges_at<'a>(numbers: &'a [i16], heads: &[u16], slot: usize) -> &'a [i16]
     requires { ⌜ (slot < slots) × (length (now numbers) ≡ edgeNumbers) × (length (now heads) ≡ headNumbers) ⌝ }
     ensures { λ r. ⌜ ((rows : List ℕ) → now r ≡ workEdges (workAt rows (now (numbers .entry)) (now (heads .entry)) slot)) ⌝ }
 {

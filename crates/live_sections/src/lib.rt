@@ -23,7 +23,7 @@ const END: u8 = SIDE as u8;
 const COUNT: u32 = SIDE as u32;
 
 // The 255 numbers from an index on.
-fn part(rows: &[u8], from: usize) -> &[u8]
+pub fn part(rows: &[u8], from: usize) -> &[u8]
     requires { ⌜ (from ≤ 16384) × (from + side ≤ length (now rows)) ⌝ }
     ensures { λ r. ⌜ (now r ≡ window from side (now (rows .entry))) × (length (now r) ≡ side) ⌝ }
 {
@@ -48,7 +48,7 @@ fn has_cell(first: &[u8], past: &[u8], r: usize) -> bool
 }
 
 // The lowest row with a cell, or 255.
-fn bottom(first: &[u8], past: &[u8]) -> u8
+pub fn bottom(first: &[u8], past: &[u8]) -> u8
     requires { ⌜ (length (now first) ≡ side) × (length (now past) ≡ side) ⌝ }
     ensures { λ b. ⌜ b ≡ firstOf (λ r. hasCell (now (first .entry)) (now (past .entry)) r) side ⌝ }
 {
@@ -63,7 +63,7 @@ fn bottom(first: &[u8], past: &[u8]) -> u8
 }
 
 // The row past the highest with a cell, or 0. `low` is the lowest with a cell: a layer without cells is not searched again.
-fn top(first: &[u8], past: &[u8], low: u8) -> u8
+pub fn top(first: &[u8], past: &[u8], low: u8) -> u8
     requires { ⌜ (length (now first) ≡ side) × (length (now past) ≡ side)
         × (low ≡ firstOf (λ r. hasCell (now first) (now past) r) side) ⌝ }
     ensures { λ b. ⌜ b ≡ side - firstOf (λ k. hasCell (now (first .entry)) (now (past .entry)) (side - 1 - k)) side ⌝ }

@@ -1,4 +1,4 @@
--- A pile is two arrays. What each call leaves in them and replies: an equation for every content (contract 12).
+-- A pile is two arrays. What each call leaves in them and replies: an equation for every content (contract 12 and 13.11).
 use Prim.Native.Nat.{ℕ}
 use mathlib.Core.Path.{_≡_}
 use mathlib.Core.Bool.{Bool, cond}
@@ -10,16 +10,17 @@ use Rattle.chart.specs.declared.Point.{Point}
 use Rattle.chart.specs.declared.Verdict.{Verdict}
 use Rattle.chart.specs.declared.Verdict.the-variants.{Taken, Refused}
 use Rattle.chart.specs.Outline.{Outline}
-use Rattle.chart.specs.declared.Refusal.the-variants.{Cell, NothingAtWork, Section, Layer}
+use Rattle.chart.specs.declared.Refusal.the-variants.{Cell, NothingAtWork, Section, Layer, Image}
 use Rattle.verdict.specs.Verdict.{verdictOf}
 use Rattle.polygon.specs.Loose.{badCell}
+use Rattle.images.specs.Image.{isImage, heldIn}
 use Rattle.spans.specs.declared.Spans.{Spans}
 use Rattle.spans.specs.Spans.{noSpans, spansOf, inSpans}
 use Rattle.sections.specs.Sections.{lastLayer}
 use Rattle.pile_sections.specs.Sections.{dentedColumn, dentedRow}
 use Rattle.pile_replies.specs.declared.PileReply.{PileReply}
 use Rattle.pile_replies.specs.declared.PileReply.the-variants.{Done, Inside, Outside, Taken as WasTaken, Refused as WasRefused}
-use Rattle.pile_model.specs.Calls.{PileCall, Set, SetEmpty, Check, Query}
+use Rattle.pile_model.specs.Calls.{PileCall, Set, SetEmpty, Check, Query, Restore}
 use Rattle.span_list.specs.SpanList.{spansAt, rowsPut}
 use Rattle.live_sections.specs.Layers.{layerBytes, layersOf}
 use Rattle.pile_calls.specs.declared.Pile.{Pile}
@@ -93,11 +94,23 @@ queryOf p l x =
     (cond (passed p) (cond (badCell x) (WasRefused Cell) (cond (inSpans (spansAt (p .rows) l) (x .col) (x .row)) Inside Outside))
     (WasRefused NothingAtWork))
 
+-- A restore of an outline with these letters: without letters a set empty, and otherwise a set
+unfoldable pub restoredAs : Pile → ℕ → Outline → List ℕ → Piled
+restoredAs p l o [] = says Done (layerPut p l noSpans)
+restoredAs p l o (a ∷ w) = setAs p l o (verdictOf o)
+
+-- 22 and 26, checked in this order. Then the outline whose image the bytes are decides
+unfoldable pub restoreOf : Pile → ℕ → List ℕ → Piled
+restoreOf p l bytes =
+    cond (ltb lastLayer l) (says (WasRefused Layer) p)
+    (cond (isImage bytes) (restoredAs p l (heldIn bytes) (heldIn bytes .letters)) (says (WasRefused Image) p))
+
 unfoldable pub answerOf : Pile → PileCall → Piled
 answerOf p (Set l o) = setOf p l o
 answerOf p (SetEmpty l) = emptyOf p l
 answerOf p Check = checkOf p
 answerOf p (Query l x) = says (queryOf p l x) p
+answerOf p (Restore l bytes) = restoreOf p l bytes
 
 -- ---- a fresh pile
 

@@ -11,7 +11,7 @@ use Rattle.pile_replies.specs.declared.PileReply.{PileReply}
 use Rattle.pile_replies.specs.declared.PileReply.the-variants.{Refused}
 use Rattle.pile_sections.specs.Runs.{HasDent}
 use Rattle.pile_sections.specs.Meaning.{passes, column, row}
-use Rattle.pile_model.specs.Calls.{PileCall, Set, SetEmpty, Check, Query}
+use Rattle.pile_model.specs.Calls.{PileCall, Set, SetEmpty, Check, Query, Restore}
 use Rattle.pile_model.specs.Book.{Layers, PileBook, columnMarks, rowMarks, Checked, Answers, next, AllAnswer}
 
 -- Two first numbers with a property are equal
@@ -47,6 +47,7 @@ answer-once b (Set l o) r s e f = e ∙ sym f
 answer-once b (SetEmpty l) r s e f = e ∙ sym f
 answer-once b Check r s e f = checked-once (b .layers) r s e f
 answer-once b (Query l x) r s e f = e ∙ sym f
+answer-once b (Restore l bytes) r s e f = e ∙ sym f
 
 -- Two lists of replies that are the model's are equal
 pub replies-once : (cs : List PileCall) (b : PileBook) (rs ss : List PileReply) → AllAnswer b cs rs → AllAnswer b cs ss → rs ≡ ss

@@ -1,4 +1,4 @@
--- The model of a pile, which the contract calls the plain book (contract 12). It sees the calls and keeps
+-- The model of a pile, which the contract calls the plain book (contract 12 and 13.11). It sees the calls and keeps
 -- sixteen layers, each none or an outline, and whether the last check passed and nothing was set since. A
 -- check is stated by hulls: no section has a missing cell, or the first that has one.
 use Prim.Native.Nat.{ℕ}
@@ -12,15 +12,16 @@ use Rattle.chart.specs.declared.Point.{Point}
 use Rattle.chart.specs.declared.Verdict.{Verdict}
 use Rattle.chart.specs.declared.Verdict.the-variants.{Taken, Refused}
 use Rattle.chart.specs.Outline.{Outline}
-use Rattle.chart.specs.declared.Refusal.the-variants.{Cell, NothingAtWork, Layer}
+use Rattle.chart.specs.declared.Refusal.the-variants.{Cell, NothingAtWork, Layer, Image}
 use Rattle.convexity.specs.Clockwise.{block}
 use Rattle.verdict.specs.Verdict.{verdictOf}
 use Rattle.polygon.specs.Loose.{badCell}
+use Rattle.images.specs.Image.{isImage, heldIn}
 use Rattle.sections.specs.Sections.{lastLayer}
 use Rattle.pile_replies.specs.declared.PileReply.{PileReply}
 use Rattle.pile_replies.specs.declared.PileReply.the-variants.{Done, Inside, Outside, Taken as WasTaken, Refused as WasRefused}
 use Rattle.pile_replies.specs.Replies.{setReply}
-use Rattle.pile_model.specs.Calls.{PileCall, Set, SetEmpty, Check, Query}
+use Rattle.pile_model.specs.Calls.{PileCall, Set, SetEmpty, Check, Query, Restore}
 use Rattle.pile_sections.specs.Meaning.{AllConvex, CheckedBy}
 
 -- ---- the state
@@ -76,12 +77,24 @@ queried b l x =
     cond (ltb lastLayer l) (WasRefused Layer)
     (cond (b .passed) (cond (badCell x) (WasRefused Cell) (located (b .layers l) x)) (WasRefused NothingAtWork))
 
+-- The restore of an outline with these letters: without letters a set empty, and otherwise a set
+unfoldable pub restoredReply : Outline → List ℕ → PileReply
+restoredReply o [] = Done
+restoredReply o (a ∷ w) = setReply (verdictOf o)
+
+-- 22 and 26, checked in this order. Then the outline whose image the bytes are decides
+unfoldable pub restored : ℕ → List ℕ → PileReply
+restored l bytes =
+    cond (ltb lastLayer l) (WasRefused Layer)
+    (cond (isImage bytes) (restoredReply (heldIn bytes) (heldIn bytes .letters)) (WasRefused Image))
+
 -- The reply is the model's
 unfoldable pub Answers : PileBook → PileCall → PileReply → Type 0
 Answers b (Set l o) r = r ≡ cond (ltb lastLayer l) (WasRefused Layer) (setReply (verdictOf o))
 Answers b (SetEmpty l) r = r ≡ cond (ltb lastLayer l) (WasRefused Layer) Done
 Answers b Check r = Checked (b .layers) r
 Answers b (Query l x) r = r ≡ queried b l x
+Answers b (Restore l bytes) r = r ≡ restored l bytes
 
 -- ---- the model after a call
 
@@ -89,6 +102,10 @@ Answers b (Query l x) r = r ≡ queried b l x
 unfoldable pub setBook : PileBook → ℕ → Outline → Verdict → PileBook
 setBook b l o (Refused f) = b
 setBook b l o (Taken n a) = putLayer b l (some o)
+
+unfoldable pub restoredBook : PileBook → ℕ → Outline → List ℕ → PileBook
+restoredBook b l o [] = putLayer b l none
+restoredBook b l o (a ∷ w) = setBook b l o (verdictOf o)
 
 -- A check that passes replies done
 unfoldable pub isDone : PileReply → Bool
@@ -103,6 +120,7 @@ next b (Set l o) r = cond (ltb lastLayer l) b (setBook b l o (verdictOf o))
 next b (SetEmpty l) r = cond (ltb lastLayer l) b (putLayer b l none)
 next b Check r = record { layers = b .layers; passed = isDone r }
 next b (Query l x) r = b
+next b (Restore l bytes) r = cond (ltb lastLayer l) b (cond (isImage bytes) (restoredBook b l (heldIn bytes) (heldIn bytes .letters)) b)
 
 -- Every reply to a list of calls is the model's, each call made on the model that the one before it left
 unfoldable pub AllAnswer : PileBook → List PileCall → List PileReply → Type 0

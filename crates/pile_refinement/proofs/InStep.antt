@@ -6,7 +6,7 @@ use native.Mathlib.Omega.{arith}
 use mathlib.Core.Path.{_≡_, refl, sym, ap, _∙_}
 use mathlib.Core.Bool.{Bool, true, false, true≢false, cond}
 use mathlib.Core.Option.{Option, none, some}
-use mathlib.Core.List.{List, []}
+use mathlib.Core.List.{List, [], _∷_}
 use lib.ListN.{length, getD, set, replicate, length-replicate, getD-replicate, List·getD-eq-default}
 use lib.Seq.{getD-set-same, getD-set-other}
 use lib.Dec.{leb, ltb}
@@ -19,12 +19,13 @@ use Rattle.chart.specs.declared.Verdict.{Verdict}
 use Rattle.chart.specs.declared.Verdict.the-variants.{Taken, Refused}
 use Rattle.chart.specs.Outline.{Outline}
 use Rattle.chart.specs.Fields.{verdictFields}
-use Rattle.chart.specs.declared.Refusal.the-variants.{Cell, NothingAtWork, Section}
+use Rattle.chart.specs.declared.Refusal.the-variants.{Cell, NothingAtWork, Section, Image}
 use Rattle.rows.specs.parts.Rows.{rows}
 use Rattle.verdict.specs.Verdict.{verdictOf}
 use Rattle.verdict.proofs.VerdictLaws.{TakenFacts, taken-facts}
 use Rattle.verdict.proofs.Convex.{taken-iff-convex}
 use Rattle.polygon.specs.Loose.{badCell}
+use Rattle.images.specs.Image.{isImage, heldIn}
 use Rattle.spans.specs.declared.Spans.{Spans}
 use Rattle.spans.specs.Spans.{noSpans, spansOf, inSpans}
 use Rattle.spans.proofs.Exact.{spans-exact, past-le}
@@ -38,18 +39,18 @@ use Rattle.pile_sections.proofs.RunLaws.{Decided}
 use Rattle.pile_replies.specs.declared.PileReply.{PileReply}
 use Rattle.pile_replies.specs.declared.PileReply.the-variants.{Done, Inside, Outside, Refused as WasRefused}
 use Rattle.pile_replies.specs.Replies.{setReply}
-use Rattle.pile_model.specs.Calls.{PileCall, Set, SetEmpty, Check, Query}
+use Rattle.pile_model.specs.Calls.{PileCall, Set, SetEmpty, Check, Query, Restore}
 use Rattle.pile_sections.specs.Meaning.{AllConvex, CheckedBy, passes, column, row}
 use Rattle.pile_sections.proofs.CheckLaws.{column-said, row-said, none-said}
 use Rattle.pile_model.specs.Book.{Layers, PileBook, fresh, putLayer, marks, columnMarks, rowMarks, Checked, NoneDented}
-use Rattle.pile_model.specs.Book.{located, queried, Answers, setBook, isDone, next}
+use Rattle.pile_model.specs.Book.{located, queried, restoredReply, restored, Answers, setBook, restoredBook, isDone, next}
 use Rattle.pile_model.proofs.Sections.{KeptAs, AllKept, column-decided, row-decided}
 use Rattle.live_sections.specs.Layers.{layerBytes, layersOf}
 use Rattle.live_sections.proofs.LayerLaws.{layer-read}
 use Rattle.pile_calls.specs.declared.Pile.{Pile}
 use Rattle.pile_calls.specs.declared.Piled.{Piled}
 use Rattle.pile_calls.specs.Arrays.{says, layersIn, passed, withState, layerPut, passing, failing}
-use Rattle.pile_calls.specs.Arrays.{setAs, setOf, emptyOf, checkOf, queryOf, answerOf, freshPile}
+use Rattle.pile_calls.specs.Arrays.{setAs, setOf, emptyOf, checkOf, queryOf, restoredAs, restoreOf, answerOf, freshPile}
 
 -- ---- how a layer is kept
 
@@ -144,7 +145,7 @@ fail-state p = go (passed p) refl
     go true e = (refl, refl)
     go false e = (refl, e)
 
-check-keeps : (p : Pile) → (checkOf p .pile .rows ≡ p .rows) × (passed (checkOf p .pile) ≡ isDone (checkOf p .reply))
+pub check-keeps : (p : Pile) → (checkOf p .pile .rows ≡ p .rows) × (passed (checkOf p .pile) ≡ isDone (checkOf p .reply))
 unfolding checkOf isDone
 check-keeps p = go (ltb (dentedColumn (layersIn p)) side) (ltb (dentedRow (layersIn p)) side)
   where
@@ -244,6 +245,29 @@ module _ (b : PileBook) (p : Pile) (t : InStep b p) where
         | no h ↦ rw (le-ltb lastLayer l (omega arith)) (refl, step-put l none noSpans (omega arith) none-whole kept-none)
       ]
 
+  restore-letters : (l : ℕ) (o : Outline) → l ≤ lastLayer → (w : List ℕ)
+      → (restoredAs p l o w .reply ≡ restoredReply o w) × InStep (restoredBook b l o w) (restoredAs p l o w .pile)
+  unfolding restoredAs restoredReply restoredBook
+  restore-letters l o h [] = (refl, step-put l none noSpans h none-whole kept-none)
+  restore-letters l o h (a ∷ w) = set-verdict l o h (verdictOf o) refl
+
+  step-restore : (l : ℕ) (bytes : List ℕ)
+      → Answers b (Restore l bytes) (restoreOf p l bytes .reply)
+      × InStep (next b (Restore l bytes) (restoreOf p l bytes .reply)) (restoreOf p l bytes .pile)
+  unfolding Answers next restored restoreOf
+  step-restore l bytes =
+      elim (decLt lastLayer l) [
+        | yes h ↦ rw (lt-ltb lastLayer l h) (refl, t)
+        | no h ↦ rw (le-ltb lastLayer l (omega arith))
+            (go (isImage bytes) (restore-letters l (heldIn bytes) (omega arith) (heldIn bytes .letters)))
+      ]
+    where
+      go : (i : Bool) {x : Piled} {r : PileReply} {c : PileBook} → (x .reply ≡ r) × InStep c (x .pile)
+          → (cond i x (says (WasRefused Image) p) .reply ≡ cond i r (WasRefused Image)) × InStep (cond i c b)
+          (cond i x (says (WasRefused Image) p) .pile)
+      go true s = s
+      go false s = (refl, t)
+
   pub said : Checked (b .layers) (checkOf p .reply)
   said =
       check-said (columnMarks (b .layers)) (rowMarks (b .layers)) p
@@ -282,3 +306,4 @@ call-agrees b p t (Set l o) = step-set b p t l o
 call-agrees b p t (SetEmpty l) = step-empty b p t l
 call-agrees b p t Check = step-check b p t
 call-agrees b p t (Query l x) = (step-query b p t l x, t)
+call-agrees b p t (Restore l bytes) = step-restore b p t l bytes

@@ -16,8 +16,9 @@ use Rattle.chart.specs.Outline.{Outline}
 use Rattle.chart.specs.declared.Point.{Point}
 use Rattle.chart.specs.declared.Verdict.{Verdict}
 use Rattle.chart.specs.declared.Verdict.the-variants.{Taken, Refused}
-use Rattle.chart.specs.declared.Refusal.the-variants.{Section}
+use Rattle.chart.specs.declared.Refusal.the-variants.{Section, Image}
 use Rattle.verdict.specs.Verdict.{verdictOf}
+use Rattle.images.specs.Image.{isImage, heldIn}
 use Rattle.spans.specs.declared.Spans.{Spans}
 use Rattle.spans.specs.Spans.{noSpans, spansOf}
 use Rattle.span_list.specs.SpanList.{slotBytes}
@@ -25,18 +26,18 @@ use Rattle.span_list.proofs.SlotLaws.{Whole, outline-whole, none-whole}
 use Rattle.sections.specs.Sections.{layers, lastLayer}
 use Rattle.pile_sections.specs.Sections.{dentedColumn, dentedRow}
 use Rattle.pile_replies.specs.declared.PileReply.the-variants.{Done, Refused as WasRefused}
-use Rattle.pile_model.specs.Calls.{PileCall, Set, SetEmpty, Check, Query}
+use Rattle.pile_model.specs.Calls.{PileCall, Set, SetEmpty, Check, Query, Restore}
 use Rattle.pile_calls.specs.declared.Pile.{Pile}
 use Rattle.pile_calls.specs.declared.Piled.{Piled}
 use Rattle.pile_calls.specs.declared.Progress.the-variants.{More, Replied}
 use Rattle.pile_calls.specs.declared.Stepped.{Stepped}
 use Rattle.pile_calls.specs.Arrays.{arrays, says, layersIn, passedWord, word as wordOf, passed, position as positionOf, withState, layerPut}
-use Rattle.pile_calls.specs.Arrays.{passing, failing, setAs, setOf, emptyOf, checkOf, queryOf, answerOf, Fits}
+use Rattle.pile_calls.specs.Arrays.{passing, failing, setAs, setOf, emptyOf, checkOf, queryOf, restoredAs, restoreOf, answerOf, Fits}
 use Rattle.pile_calls.specs.Steps.{stepped, clearAt, dentAt, testedAt, ending, stepAt, stepOf}
 use Rattle.pile_calls.proofs.Cases.{word-then-position, position-then-word, position-alone}
 use Rattle.pile_refinement.specs.Moves.{Move}
 use Rattle.pile_refinement.specs.Stores.{Store, word, position, byte, stored, storedAll, unpasses, passes, bytes, puts, setStores}
-use Rattle.pile_refinement.specs.Stores.{failStores, storesOf, stepStoresAt, stepStores, Throughout, notYet, Between}
+use Rattle.pile_refinement.specs.Stores.{restoreStores, failStores, storesOf, stepStoresAt, stepStores, Throughout, notYet, Between}
 use Rattle.pile_refinement.proofs.Theorem.{pileOf, pile-fits}
 
 -- ---- a pile that has not passed
@@ -189,6 +190,16 @@ module _ (p : Pile) (f : Fits p) where
   set-between l o (Refused g) = here p p
   set-between l o (Taken n a) = puts-between p _ l (spansOf o)
 
+  restore-leaves : (l : ℕ) (o : Outline) → l < layers → (w : List ℕ) → storedAll p (restoreStores l o w) ≡ restoredAs p l o w .pile
+  unfolding restoreStores restoredAs
+  restore-leaves l o h [] = puts-leave p f l h noSpans none-whole
+  restore-leaves l o h (a ∷ w) = set-leaves l o h (verdictOf o)
+
+  restore-between : (l : ℕ) (o : Outline) (w : List ℕ) → Throughout (Between p (restoredAs p l o w .pile)) p (restoreStores l o w)
+  unfolding restoreStores restoredAs
+  restore-between l o [] = puts-between p _ l noSpans
+  restore-between l o (a ∷ w) = set-between l o (verdictOf o)
+
   fail-leaves : storedAll p (failStores p) ≡ failing p
   unfolding failStores failing storedAll
   fail-leaves = go (passed p)
@@ -231,7 +242,7 @@ module _ (p : Pile) (f : Fits p) where
 
   -- The stores of a call leave the arrays that the call leaves
   pub stores-leave : (c : PileCall) → storedAll p (storesOf p c) ≡ answerOf p c .pile
-  unfolding storesOf answerOf setOf emptyOf storedAll
+  unfolding storesOf answerOf setOf emptyOf restoreOf storedAll
   stores-leave (Set l o) =
       elim (decLt lastLayer l) [
         | yes h ↦ rw (lt-ltb lastLayer l h)
@@ -244,10 +255,20 @@ module _ (p : Pile) (f : Fits p) where
       ]
   stores-leave Check = check-leaves
   stores-leave (Query l x) = refl
+  stores-leave (Restore l i) =
+      elim (decLt lastLayer l) [
+        | yes h ↦ rw (lt-ltb lastLayer l h)
+        | no h ↦ rw (le-ltb lastLayer l (omega arith)) (go (isImage i) _ _ (restore-leaves l (heldIn i) (omega arith) (heldIn i .letters)))
+      ]
+    where
+      go : (t : Bool) (ss : List Store) (x : Piled) → storedAll p ss ≡ x .pile → storedAll p (cond t ss []) ≡ cond t x
+          (says (WasRefused Image) p) .pile
+      go true ss x e = e
+      go false ss x e = refl
 
   -- At each moment of a call every query gets the reply from before it, 12, or the reply from after it
   pub at-each-moment : (c : PileCall) → Throughout (Between p (answerOf p c .pile)) p (storesOf p c)
-  unfolding storesOf answerOf setOf emptyOf Throughout
+  unfolding storesOf answerOf setOf emptyOf restoreOf Throughout
   at-each-moment (Set l o) =
       elim (decLt lastLayer l) [
         | yes h ↦ rw (lt-ltb lastLayer l h) (here p p)
@@ -260,6 +281,16 @@ module _ (p : Pile) (f : Fits p) where
       ]
   at-each-moment Check = check-between
   at-each-moment (Query l x) = here p p
+  at-each-moment (Restore l i) =
+      elim (decLt lastLayer l) [
+        | yes h ↦ rw (lt-ltb lastLayer l h) (here p p)
+        | no h ↦ rw (le-ltb lastLayer l (omega arith)) (go (isImage i) _ _ (restore-between l (heldIn i) (heldIn i .letters)))
+      ]
+    where
+      go : (t : Bool) (ss : List Store) (x : Piled) → Throughout (Between p (x .pile)) p ss
+          → Throughout (Between p (cond t x (says (WasRefused Image) p) .pile)) p (cond t ss [])
+      go true ss x e = e
+      go false ss x e = here p p
 
   -- ---- a section of a check in steps
 

@@ -19,14 +19,15 @@ use Rattle.sections.specs.Sections.{lastLayer}
 use Rattle.pile_sections.specs.Sections.{columnClear, rowClear, dentedColumn, dentedRow}
 use Rattle.pile_replies.specs.declared.PileReply.{PileReply}
 use Rattle.pile_replies.specs.declared.PileReply.the-variants.{Done}
-use Rattle.pile_model.specs.Calls.{PileCall, Set, SetEmpty, Check, Query}
+use Rattle.images.specs.Image.{isImage, heldIn}
+use Rattle.pile_model.specs.Calls.{PileCall, Set, SetEmpty, Check, Query, Restore}
 use Rattle.pile_calls.specs.declared.Pile.{Pile}
 use Rattle.pile_calls.specs.declared.Piled.{Piled}
 use Rattle.pile_calls.specs.declared.Progress.{Progress}
 use Rattle.pile_calls.specs.declared.Progress.the-variants.{More, Replied}
 use Rattle.pile_calls.specs.declared.Stepped.{Stepped}
 use Rattle.pile_calls.specs.Arrays.{arrays, says, layersIn, word, passed, position, withState, passing, failing}
-use Rattle.pile_calls.specs.Arrays.{setAs, setOf, emptyOf, checkOf, answerOf, freshPile}
+use Rattle.pile_calls.specs.Arrays.{setAs, setOf, emptyOf, checkOf, restoredAs, restoreOf, answerOf, freshPile}
 use Rattle.pile_calls.specs.Steps.{stepped, sections, clearAt, dentAt, testedAt, ending, stepAt, stepOf, onward, stepsOf}
 use Rattle.pile_refinement.specs.Moves.{whole, Move, renew, call, steps, moved}
 use Rattle.pile_calls.proofs.StepCases.{tested-here, dent-column, dent-row, clear-column, clear-row, step-dent, step-more, step-last}
@@ -218,14 +219,21 @@ unfolding setAs
 under-set p u l o (Refused f) = u
 under-set p u l o (Taken n a) = under-zero _ 0
 
+under-restore : (p : Pile) → Under p → (l : ℕ) (o : Outline) (w : List ℕ) → Under (restoredAs p l o w .pile)
+unfolding restoredAs
+under-restore p u l o [] = under-zero _ 0
+under-restore p u l o (a ∷ w) = under-set p u l o (verdictOf o)
+
 under-call : (p : Pile) → Under p → (c : PileCall) → Under (answerOf p c .pile)
-unfolding answerOf setOf emptyOf checkOf
+unfolding answerOf setOf emptyOf checkOf restoreOf
 under-call p u (Set l o) = either (ltb lastLayer l) _ _ u (under-set p u l o (verdictOf o))
 under-call p u (SetEmpty l) = either (ltb lastLayer l) _ _ u (under-zero _ 0)
 under-call p u Check =
     either (ltb (dentedColumn (layersIn p)) side) _ _ (under-fail p u)
     (either (ltb (dentedRow (layersIn p)) side) _ _ (under-fail p u) (under-zero _ _))
 under-call p u (Query l x) = u
+under-call p u (Restore l i) =
+    either (ltb lastLayer l) _ _ u (either (isImage i) _ _ (under-restore p u l (heldIn i) (heldIn i .letters)) u)
 
 under-steps : (n : ℕ) (p : Pile) → Under p → Under (stepsOf n p .pile)
 unfolding whole answerOf

@@ -58,7 +58,7 @@ unfoldable pub StepAnswers : PileBook → Progress → Type 0
 StepAnswers b More = Unit {0}
 StepAnswers b (Replied r) = Answers b Check r
 
-steps-agree : (n : ℕ) (b : PileBook) (p : Pile) → InStep b p → Under p
+pub steps-agree : (n : ℕ) (b : PileBook) (p : Pile) → InStep b p → Under p
     → StepAnswers b (stepsOf n p .progress) × InStep (nextStep b (stepsOf n p .progress)) (stepsOf n p .pile)
 unfolding StepAnswers nextStep whole
 steps-agree n b p t u = go (stepsOf n p) (steps-do n p u)

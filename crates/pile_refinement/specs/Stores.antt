@@ -14,6 +14,7 @@ use Rattle.chart.specs.declared.Verdict.{Verdict}
 use Rattle.chart.specs.declared.Verdict.the-variants.{Taken, Refused}
 use Rattle.chart.specs.declared.Refusal.the-variants.{NothingAtWork, Layer}
 use Rattle.verdict.specs.Verdict.{verdictOf}
+use Rattle.images.specs.Image.{isImage, heldIn}
 use Rattle.spans.specs.declared.Spans.{Spans}
 use Rattle.spans.specs.Spans.{noSpans, spansOf}
 use Rattle.span_list.specs.SpanList.{slotBytes}
@@ -21,7 +22,7 @@ use Rattle.sections.specs.Sections.{lastLayer}
 use Rattle.pile_sections.specs.Sections.{dentedColumn, dentedRow}
 use Rattle.pile_replies.specs.declared.PileReply.{PileReply}
 use Rattle.pile_replies.specs.declared.PileReply.the-variants.{Refused as WasRefused}
-use Rattle.pile_model.specs.Calls.{PileCall, Set, SetEmpty, Check, Query}
+use Rattle.pile_model.specs.Calls.{PileCall, Set, SetEmpty, Check, Query, Restore}
 use Rattle.pile_calls.specs.declared.Pile.{Pile}
 use Rattle.pile_calls.specs.Arrays.{arrays, layersIn, passedWord, passed, position as positionOf, queryOf}
 use Rattle.pile_calls.specs.Steps.{clearAt, testedAt}
@@ -62,6 +63,11 @@ unfoldable pub setStores : ℕ → Outline → Verdict → List Store
 setStores l o (Refused f) = []
 setStores l o (Taken n a) = puts l (spansOf o)
 
+-- A restore makes the stores of the set or of the set empty that it is
+unfoldable pub restoreStores : ℕ → Outline → List ℕ → List Store
+restoreStores l o [] = puts l noSpans
+restoreStores l o (a ∷ w) = setStores l o (verdictOf o)
+
 unfoldable pub failStores : Pile → List Store
 failStores p = cond (passed p) unpasses []
 
@@ -71,6 +77,7 @@ storesOf p (SetEmpty l) = cond (ltb lastLayer l) [] (puts l noSpans)
 storesOf p Check =
     cond (ltb (dentedColumn (layersIn p)) side) (failStores p) (cond (ltb (dentedRow (layersIn p)) side) (failStores p) passes)
 storesOf p (Query l x) = []
+storesOf p (Restore l i) = cond (ltb lastLayer l) [] (cond (isImage i) (restoreStores l (heldIn i) (heldIn i .letters)) [])
 
 -- A section of a check in steps
 unfoldable pub stepStoresAt : Pile → ℕ → List Store

@@ -14,6 +14,7 @@ use Rattle.pile_calls.specs.declared.Progress.{Progress}
 use Rattle.pile_calls.specs.declared.Progress.the-variants.{More, Replied}
 use Rattle.pile_calls.specs.Arrays.{answerOf}
 use Rattle.pile_calls.specs.Steps.{stepsOf}
+use Rattle.pile_images.specs.Saved.{SavesAt}
 
 pub record Done (p q : Pile) (c : PileCall) (numbers : List ℕ) : Type 0 where
   pub pile : q ≡ answerOf p c .pile
@@ -35,3 +36,9 @@ pub record CheckWritten (Fact : PileReply → Type 0) (Clear : Type 0) (numbers 
   pub fact : Fact answer
   pub written : numbers ≡ numbersOf (pileFields answer)
   pub zero-iff : (fieldsOf numbers .number ≡ 0) ↔ Clear
+
+-- A save: a reply with what it leaves in the buffer
+pub record SaveWritten (rows : List ℕ) (l : ℕ) (before after numbers : List ℕ) : Type 0 where
+  pub answer : PileReply
+  pub saves : SavesAt rows l before after answer
+  pub written : numbers ≡ numbersOf (pileFields answer)

@@ -1,4 +1,4 @@
-// The calls on a pile as C makes them: each writes its reply as seven numbers (contract 4 and 12.8).
+// The calls on a pile as C makes them: each writes its reply as seven numbers (contract 4, 12.8 and 13.11).
 use chart::Fields;
 use chart::Point;
 use chart::reply;
@@ -12,10 +12,10 @@ ghost use Rattle.chart.specs.Outline.{outline};
 ghost use Rattle.chart.specs.Fields.{numbersOf, fieldsOf};
 ghost use Rattle.verdict.specs.Named.{CellNamed};
 ghost use Rattle.pile_sections.specs.Meaning.{CheckedRuns, NoDent};
-ghost use Rattle.pile_model.specs.Calls.{Set, SetEmpty, Check, Query};
+ghost use Rattle.pile_model.specs.Calls.{Set, SetEmpty, Check, Query, Restore};
 ghost use Rattle.live_sections.specs.Layers.{layersOf};
 ghost use Rattle.pile_calls.specs.Arrays.{arrays};
-ghost use Rattle.pile_written.specs.Written.{progressFields, Done, StepsDone, CheckWritten};
+ghost use Rattle.pile_written.specs.Written.{progressFields, Done, StepsDone, CheckWritten, SaveWritten};
 
 // The fields of what a step of a check replies.
 pub fn of_progress(p: Progress) -> Fields
@@ -104,4 +104,28 @@ pub fn query<'a>(
         (Query layer cell) (now (reply .exit)) ⌝ }
 {
     put(of_reply(pile_calls::query(rows, state, layer, cell)), reply);
+}
+
+// Writes the image of a layer.
+pub fn save(rows: &[u8; ROW_BYTES], layer: u8, image: &mut [u8], reply: &mut [u16; REPLY])
+    ensures { λ _. ⌜ SaveWritten (now (rows .entry)) layer (now (image .entry)) (now (image .exit)) (now (reply .exit)) ⌝ }
+{
+    put(of_reply(pile_images::save(rows, layer, image)), reply);
+}
+
+// Sets a layer to what an image holds.
+pub fn restore(
+    rows: &mut [u8; ROW_BYTES],
+    state: &mut [u16; STATE_NUMBERS],
+    layer: u8,
+    image: &[u8],
+    reply: &mut [u16; REPLY],
+)
+    ensures { λ _. ⌜ Done (arrays (now (rows .entry)) (now (state .entry))) (arrays (now (rows .exit)) (now (state .exit)))
+        (Restore layer (now (image .entry))) (now (reply .exit)) ⌝ }
+{
+    put(
+        of_reply(pile_images::restore(rows, state, layer, image)),
+        reply,
+    );
 }

@@ -35,10 +35,14 @@ module _ (a : Point) (es : List ℤ) (x : Point) where
       (l c t i : Bool) → badDirections es ≡ t → insideEdges a es x ≡ i
       → HullNamed a es x (positionFields
       (cond l (Refused (EdgeList 0)) (cond c (Refused Cell) (cond t (Refused Directions) (cond i Inside Outside)))))
-  named true c t i p q = unnamed (EdgeList 0) refl
-  named false true t i p q = unnamed Cell refl
-  named false false true i p q = unnamed Directions refl
-  named false false false true p q = record { within = λ w. inside-iff-hull a es x p .0 q; beyond = λ w. absurd (omega arith) }
+  named true c t i p q = unnamed (EdgeList 0) refl (lit< tt)
+  named false true t i p q = unnamed Cell refl (lit< tt)
+  named false false true i p q = unnamed Directions refl (lit< tt)
+  named false false false true p q =
+      record {
+        within = (λ w. (refl, inside-iff-hull a es x p .0 q), λ h. refl);
+        beyond = (λ w. absurd (omega arith), λ (z, h). absurd (h (inside-iff-hull a es x p .0 q)));
+      }
   named false false false false p q =
       record {
         within = (λ w. absurd (omega arith), λ (z, h). absurd (true≢false (sym (inside-iff-hull a es x p .1 h) ∙ q)));

@@ -25,6 +25,7 @@ ghost use Rattle.nesting.specs.Cells.{polygon};
 ghost use Rattle.comparison.specs.Compared.{comparisonOf, CellsNamed};
 ghost use Rattle.witness.specs.Witnessed.{witnessedOf, witnessedFields, cellsAfter};
 ghost use Rattle.witness.specs.Named.{WitnessNamed};
+ghost use Rattle.checksum.specs.Checksum.{checksum};
 ghost use Rattle.replay.specs.Script.{callsRead, repliesAfter};
 
 pub mod on_holder;
@@ -159,6 +160,14 @@ pub extern "C" fn rq_complete(
 {
     let completed = completion_call::complete(Point { col, row }, letters, out);
     put(of_completed(completed), reply);
+}
+
+// The checksum of a list of bytes (contract 13.2).
+#[no_mangle]
+pub extern "C" fn rq_checksum(bytes: &[u8]) -> u32
+    ensures { λ r. ⌜ r ≡ checksum (now (bytes .entry)) ⌝ }
+{
+    checksum::of(bytes)
 }
 
 // Runs a script of calls, eleven bytes each, on a fresh holder, writes a reply of seven numbers for each, and returns how many.

@@ -14,7 +14,7 @@ ghost use lib.IntN.{ℤ};
 ghost use Rattle.chart.specs.Fields.{numbersOf};
 ghost use Rattle.chart.specs.Outline.{at};
 ghost use Rattle.calls.specs.Calls.{by};
-ghost use Rattle.calls.specs.Replies.{pieceIn};
+ghost use Rattle.calls.specs.Replies.{pieceIn, replyFields};
 ghost use Rattle.calls.specs.declared.Action.{Action};
 ghost use Rattle.calls.specs.declared.Question.{Question};
 ghost use Rattle.drawing.specs.Points.{pointAfter};
@@ -23,6 +23,8 @@ ghost use Rattle.holder_memory.specs.Layout.{arrays};
 ghost use Rattle.holder_answers.specs.Arrays.{answerOf, commitOf, draftOf};
 ghost use Rattle.holder_answers.specs.Run.{freshHolder};
 ghost use Rattle.holder_written.specs.Written.{Done, Prepared, draftFields};
+ghost use Rattle.holder_images.specs.Arrays.{checkOf};
+ghost use Rattle.holder_image_calls.specs.Written.{IsSaved, ImagePrepared};
 ghost use Rattle.holder_bytes.specs.Responded.{Responded};
 
 // Makes the arrays a fresh holder, whatever they held.
@@ -206,6 +208,60 @@ pub extern "C" fn rq_draft_parts(heads: &[u16; HEADS], party: u8, reply: &mut [u
         ≡ numbersOf (draftFields (draftOf (arrays letters rows numbers (now (heads .entry))) party))) ⌝ }
 {
     holder_written::draft(heads, party, reply);
+}
+
+// Check (contract 13.4): 0 exactly when the place's word is 0 or names a slot that holds what a taking leaves; else 27.
+#[no_mangle]
+pub extern "C" fn rq_check_parts<'a>(
+    rows: &'a [u8; ROW_BYTES],
+    numbers: &'a [i16; NUMBERS],
+    heads: &'a [u16; HEADS],
+    party: u8,
+    place: u8,
+    reply: &mut [u16; REPLY],
+)
+    ensures { λ _. ⌜ ((letters : List ℕ) → now (reply .exit) ≡ numbersOf (replyFields
+        (checkOf (arrays letters (now (rows .entry)) (now (numbers .entry)) (now (heads .entry))) party place))) ⌝ }
+{
+    holder_image_calls::check(rows, numbers, heads, party, place, reply);
+}
+
+// Save (contract 13.5): the image of what is at work stands first in the buffer. A refused save leaves the buffer unaltered.
+#[no_mangle]
+pub extern "C" fn rq_save_parts<'a>(
+    rows: &'a [u8; ROW_BYTES],
+    numbers: &'a [i16; NUMBERS],
+    heads: &'a [u16; HEADS],
+    party: u8,
+    place: u8,
+    image: &mut [u8],
+    reply: &mut [u16; REPLY],
+)
+    ensures { λ _. ⌜ ((letters : List ℕ)
+        → IsSaved (arrays letters (now (rows .entry)) (now (numbers .entry)) (now (heads .entry))) party place (now (image .entry))
+        (now (image .exit)) (now (reply .exit))) ⌝ }
+{
+    holder_image_calls::save(rows, numbers, heads, party, place, image, reply);
+}
+
+// The first half of a restore (contract 13.6): replies, and fills a slot that no place names. Returns the word for the second half, which
+// is that of a close; 0 if the restore is refused, or is done already because the image is of an empty place.
+#[no_mangle]
+pub extern "C" fn rq_prepare_image_parts(
+    rows: &mut [u8; ROW_BYTES],
+    numbers: &mut [i16; NUMBERS],
+    heads: &mut [u16; HEADS],
+    party: u8,
+    place: u8,
+    image: &[u8],
+    reply: &mut [u16; REPLY],
+) -> u16
+    ensures { λ w. ⌜ ((letters : List ℕ)
+        → ImagePrepared (arrays letters (now (rows .entry)) (now (numbers .entry)) (now (heads .entry)))
+        (arrays letters (now (rows .exit)) (now (numbers .exit)) (now (heads .exit))) party place (now (image .entry)) w
+        (now (reply .exit))) ⌝ }
+{
+    holder_image_calls::prepare_image(rows, numbers, heads, party, place, image, reply)
 }
 
 // One call of eleven bytes. If the bytes are not a call, returns false and changes nothing.

@@ -1,5 +1,5 @@
-// The calls on a pile (contract 12.8). In C a pile is one struct of two arrays, and
-// each function here takes both. Their lengths are part of their types.
+// The calls on a pile (contract 12.8 and 13.11). In C a pile is one struct of two arrays, and each function here takes
+// both, or the rows only. Their lengths are part of their types.
 use chart::Point;
 use chart::reply::NUMBERS as REPLY;
 use pile_calls::ROW_BYTES;
@@ -9,10 +9,10 @@ ghost use Rattle.chart.specs.Outline.{at, outline};
 ghost use Rattle.chart.specs.Fields.{fieldsOf};
 ghost use Rattle.verdict.specs.Named.{CellNamed};
 ghost use Rattle.pile_sections.specs.Meaning.{CheckedRuns, NoDent};
-ghost use Rattle.pile_model.specs.Calls.{Set, SetEmpty, Check, Query};
+ghost use Rattle.pile_model.specs.Calls.{Set, SetEmpty, Check, Query, Restore};
 ghost use Rattle.live_sections.specs.Layers.{layersOf};
 ghost use Rattle.pile_calls.specs.Arrays.{arrays, freshPile};
-ghost use Rattle.pile_written.specs.Written.{Done, StepsDone, CheckWritten};
+ghost use Rattle.pile_written.specs.Written.{Done, StepsDone, CheckWritten, SaveWritten};
 
 // Makes the arrays a fresh pile, whatever they held.
 #[no_mangle]
@@ -97,4 +97,32 @@ pub extern "C" fn rq_pile_query_parts<'a>(
         (Query layer (at col row)) (now (reply .exit)) ⌝ }
 {
     pile_written::query(rows, state, layer, Point { col, row }, reply);
+}
+
+// Writes the image of a layer's outline, or of an empty layer, to the front of a buffer.
+#[no_mangle]
+pub extern "C" fn rq_pile_save_parts(
+    rows: &[u8; ROW_BYTES],
+    layer: u8,
+    image: &mut [u8],
+    reply: &mut [u16; REPLY],
+)
+    ensures { λ _. ⌜ SaveWritten (now (rows .entry)) layer (now (image .entry)) (now (image .exit)) (now (reply .exit)) ⌝ }
+{
+    pile_written::save(rows, layer, image, reply);
+}
+
+// Sets a layer to the outline of an image, or to empty.
+#[no_mangle]
+pub extern "C" fn rq_pile_restore_parts(
+    rows: &mut [u8; ROW_BYTES],
+    state: &mut [u16; STATE_NUMBERS],
+    layer: u8,
+    image: &[u8],
+    reply: &mut [u16; REPLY],
+)
+    ensures { λ _. ⌜ Done (arrays (now (rows .entry)) (now (state .entry))) (arrays (now (rows .exit)) (now (state .exit)))
+        (Restore layer (now (image .entry))) (now (reply .exit)) ⌝ }
+{
+    pile_written::restore(rows, state, layer, image, reply);
 }

@@ -4,9 +4,11 @@
 use Prim.Native.Nat.{ℕ, _-_, _≤_, _<_}
 use native.Mathlib.Decide.{decLe, decLt}
 use native.Mathlib.Omega.{arith}
-use mathlib.Core.Path.{_≡_, refl, sym, ap, subst, _∙_}
+use mathlib.Core.Path.{_≡_, refl, sym, ap, ap₂, subst, _∙_}
 use mathlib.Core.Logic.{_↔_, _⊎_, inl, inr, ⊎-elim}
 use mathlib.Core.Bool.{Bool, true, false, cond, _&&_}
+use mathlib.Core.List.{List}
+use lib.Seq.{ext-getD}
 use lib.Dec.{leb, ltb}
 use borrow.Author.Tests.{le-leb, lt-leb, lt-ltb, le-ltb}
 use Rattle.base.specs.Below.{first, some}
@@ -29,10 +31,10 @@ use Rattle.convexity.proofs.Levels.{ups-tally, downs-tally}
 use Rattle.convexity.proofs.Clockwise.{form-clockwise, form-backward, simple-form, ups-backward, downs-backward}
 use Rattle.convexity.proofs.RowEnds.{bottom, top, ups-row, downs-row, ups-off, downs-off, row-ends, row-convex, enclosed-row}
 use Rattle.convexity.proofs.RowEnds.{enclosed-on-chart}
-use Rattle.spans.specs.Spans.{lastBelow, rowSpan, lesser, greater, leftSide, rightSide, spansOf, inSpans, spanFrom, spanAt, SpanExact}
-use Rattle.spans.specs.Spans.{Describes}
+use Rattle.spans.specs.Spans.{lastBelow, rowSpan, lesser, greater, leftSide, rightSide, table, spansOf, inSpans, spanFrom, spanAt}
+use Rattle.spans.specs.Spans.{SpanExact, Describes}
 use Rattle.spans.specs.declared.Span.the-variants.{None, Columns}
-use Rattle.spans.proofs.Tables.{table-at, table-past, up-le, down-le}
+use Rattle.spans.proofs.Tables.{table-at, table-past, length-table, up-le, down-le}
 use Rattle.spans.proofs.Sides.{column-none, column-once}
 
 -- The ups along row r up to a column, and the downs
@@ -296,3 +298,47 @@ module _ (o : Outline) (h : Reaches o) where
 
   pub spans-describe : Describes (spansOf o) (block o)
   spans-describe = record { cells = spans-exact; exact = λ r. rw (spans-search r) (row-span-exact r) }
+
+-- ---- two outlines with one border have the same rows
+
+-- The two columns of a row come from the border alone
+abbrev SidesFrom : Outline → ℕ → Type 0
+SidesFrom t r = (m : ℕ) × (n : ℕ) × ((o : Outline) → Simple o → border o ≡ t → Between o r m n)
+
+sides-from : (t : Outline) → NoBackStep t → (r : ℕ) → SidesFrom t r
+sides-from t clear r =
+    elim (decLe (bottom t) r) [
+      | yes low ↦ elim (decLt r (top t)) [ yes high ↦ inside low high | no high ↦ outside (λ a b. high b) ]
+      | no low ↦ outside (λ a b. low a)
+    ]
+  where
+    inside : bottom t ≤ r → r < top t → SidesFrom t r
+    inside low high = (
+      _,
+      _,
+      λ o h e. between-once o h r _ _ (row-convex t clear r low high)
+          (rw e (record { up = ups-row t clear r low high; down = downs-row t clear r low high })),
+    )
+
+    outside : (bottom t ≤ r → r < top t → ⊥) → SidesFrom t r
+    outside off′ =
+        (0, 0, λ o h e. between-off o h r (rw e (record { up = ups-off t clear r off′; down = downs-off t clear r off′ })))
+
+same-table : (f g : ℕ → ℕ) → ((r : ℕ) → f r ≡ g r) → table f 0 side ≡ table g 0 side
+same-table f g e =
+    ext-getD 0 (table f 0 side) (table g 0 side) (length-table f 0 side ∙ sym (length-table g 0 side))
+    (λ i l. let j : i < side = omega (arith, length-table f 0 side) in table-at f 0 side i j ∙ e _ ∙ sym (table-at g 0 side i j))
+
+-- Also the rows without a cell
+pub same-border : (o v : Outline) → Reaches o → Reaches v → border o ≡ border v → spansOf o ≡ spansOf v
+unfolding spansOf
+same-border o v h k e =
+    ap₂ (λ (a b : List ℕ). record { first = a; past = b })
+    (same-table (leftSide o) (leftSide v) (λ r. sides r .0)) (same-table (rightSide o) (rightSide v) (λ r. sides r .1))
+  where
+    sides : (r : ℕ) → (leftSide o r ≡ leftSide v r) × (rightSide o r ≡ rightSide v r)
+    sides r =
+        let (m, n, between) = sides-from (border v) (clear-of v k) r in
+        let a = between o (h .simple) e in
+        let b = between v (k .simple) refl in
+        (a .left ∙ sym (b .left), a .right ∙ sym (b .right))

@@ -59,25 +59,25 @@ returns-16 : tie.Need-returns-16
 returns-16 c = shown (c .before .enum-told10 .given .1) (c .numbered10 .ensures)
 
 returns-17 : tie.Need-returns-17
-returns-17 c = shown (c .before .before .f7 .given .1) (c .placed5 .ensures)
+returns-17 c = shown (c .before .enum-told11 .given .1) (c .numbered11 .ensures)
 
 returns-18 : tie.Need-returns-18
-returns-18 c = shown (c .before .enum-told11 .given .1) (c .numbered11 .ensures)
+returns-18 c = shown (c .before .enum-told12 .given .1) (c .numbered12 .ensures)
 
 returns-19 : tie.Need-returns-19
-returns-19 c = shown (c .before .enum-told12 .given .1) (c .numbered12 .ensures)
+returns-19 c = shown (c .before .enum-told13 .given .1) (c .numbered13 .ensures)
 
 returns-20 : tie.Need-returns-20
-returns-20 c = shown (c .before .before .f8 .given .1) (c .pieced2 .ensures)
+returns-20 c = shown (c .before .before .f7 .given .1) (c .pieced2 .ensures)
 
 returns-21 : tie.Need-returns-21
-returns-21 c = shown (c .before .enum-told13 .given .1) (c .numbered13 .ensures)
+returns-21 c = shown (c .before .enum-told14 .given .1) (c .numbered14 .ensures)
 
 returns-22 : tie.Need-returns-22
-returns-22 c = shown (c .before .enum-told14 .given .1) (c .numbered14 .ensures)
+returns-22 c = shown (c .before .enum-told15 .given .1) (c .numbered15 .ensures)
 
 returns-23 : tie.Need-returns-23
-returns-23 c = shown (c .before .enum-told15 .given .1) (c .numbered15 .ensures)
+returns-23 c = shown (c .before .enum-told16 .given .1) (c .numbered16 .ensures)
 
 pub of-refusal-spec : {M : Type 1} → statement M
 of-refusal-spec =

@@ -1,0 +1,2 @@
+-- A call in place, and then its reply written.
+pub mod Written

@@ -1,0 +1,2 @@
+-- A save and the first half of a restore as C makes them.
+pub mod Written
