@@ -48,11 +48,13 @@ export type RefusalName =
   | 'party'
   | 'place'
   | 'section'
-  | 'layer';
+  | 'layer'
+  | 'image'
+  | 'damaged';
 
 /** A refusal has only the fields that its number names. */
 export interface Refusal {
-  /** 1 to 22; there is no 7. */
+  /** 1 to 22, 26 or 27; there is no 7. */
   number: number;
   name: RefusalName;
   /** Of a letter, counted from 0: `letter`, `offChart`, `touches`, `backStep`, `dent`. Of a section: its column or row. */
@@ -129,6 +131,11 @@ export interface Closed {
   edgeCount: number;
 }
 
+/** 622 bytes. */
+export interface Saved {
+  image: Uint8Array;
+}
+
 export type Columns = { word: 'columns'; first: number; last: number } | { word: 'none' };
 
 export type Piece =
@@ -155,6 +162,10 @@ export class Holder {
   row(party: number, place: number, row: number): Columns | Refused;
   reading(party: number, place: number, reading: Reading): Located | Refused;
   piece(party: number, place: number, position: number): Piece | Refused;
+  check(party: number, place: number): Done | Refused;
+  save(party: number, place: number): Saved | Refused;
+  /** Done: the image is that of an empty place. */
+  restore(party: number, place: number, image: Uint8Array | ArrayBuffer): Closed | Done | Refused;
   copy(): Holder;
   free(): void;
 }
@@ -167,6 +178,8 @@ export class Pile {
   check(): { passed: true } | ({ passed: false } & Refused);
   checkStep(sections: number): { passed: true } | ({ passed: false } & Refused) | undefined;
   query(layer: number, cell: Place): Position | Refused;
+  save(layer: number): Saved | Refused;
+  restore(layer: number, image: Uint8Array | ArrayBuffer): Done | Refused;
   copy(): Pile;
   free(): void;
 }
@@ -179,6 +192,7 @@ export interface Limits {
   readonly parties: number;
   readonly places: number;
   readonly layers: number;
+  readonly imageBytes: number;
 }
 
 /** Every method throws a TypeError for an argument that is none; refusals are values. */
@@ -193,6 +207,8 @@ export class Robequarry {
   compare(first: Hull, second: Hull): Compared | (Refused & { list: 1 | 2 });
   witness(outline: Outline): Witness | { none: true } | Refused;
   complete(outline: Outline): Written | Refused;
+  /** The CRC-32C of bytes. */
+  checksum(bytes: Uint8Array | ArrayBuffer): number;
   holder(): Holder;
   pile(): Pile;
 }

@@ -14,11 +14,13 @@ export const limits = Object.freeze({
   parties: 2, // of a holder: 0 the knee, 1 the ankle
   places: 4, // of a party, from 0
   layers: 16, // of a pile, from 0
+  imageBytes: 622, // of an image of an outline
 });
 
 const NAMES = [
   null, 'length', 'start', 'letter', 'offChart', 'notClosed', 'touches', null, 'backStep', 'dent', 'edgeList', 'cell', 'nothingAtWork',
-  'noDraft', 'draftOpen', 'draftFull', 'directions', 'noOutline', 'letterBuffer', 'party', 'place', 'section', 'layer',
+  'noDraft', 'draftOpen', 'draftFull', 'directions', 'noOutline', 'letterBuffer', 'party', 'place', 'section', 'layer', null, null, null,
+  'image', 'damaged',
 ];
 
 // The fields that a refusal has, by its name. Where a comparison refuses, `place` is which list, and `compare` says so.
@@ -103,6 +105,13 @@ function edgesOf(value, name) {
     numbers[2 * place + 1] = i16(edge.dy, `${name}[${place}].dy`);
   }
   return numbers;
+}
+
+// The bytes of an image, of any length.
+function imageOf(value, name) {
+  if (value instanceof Uint8Array) return value;
+  if (value instanceof ArrayBuffer) return new Uint8Array(value);
+  throw new TypeError(`${name} must be a Uint8Array or an ArrayBuffer, not ${shown(value)}`);
 }
 
 function outlineOf(value, name) {
@@ -236,6 +245,17 @@ class Library {
       call(at, take);
       return this.memory.reply(at);
     });
+  }
+
+  // Runs a call that writes an image: its bytes, or why it is refused.
+  image(call) {
+    let image;
+    const reply = this.reply((at, take) => {
+      const list = this.list(take, new Uint8Array(limits.imageBytes));
+      call(list, at);
+      image = this.memory.u8(list[0], limits.imageBytes).slice();
+    });
+    return reply.number !== 0 ? refused(reply) : { image };
   }
 
   // A list in memory: its address and its count, as the library takes them.
@@ -398,6 +418,36 @@ export class Holder extends Owner {
     return said.word === 'move' || said.word === 'line' ? { ...said, cell: cellOf(reply), point: { x, y } } : said;
   }
 
+  /** Whether memory is sound at a place: done, or refused as damaged. */
+  check(party, place) {
+    u8(party, 'party');
+    u8(place, 'place');
+    return done(this.#reply((calls, at) => calls.rq_check_parts(this.#rows(), this.#numbers(), this.#heads(), party, place, at)));
+  }
+
+  /** The image of what is at work at a place, or of an empty place. */
+  save(party, place) {
+    u8(party, 'party');
+    u8(place, 'place');
+    const library = this._library();
+    return library.image((list, at) =>
+      library.calls.rq_save_parts(this.#rows(), this.#numbers(), this.#heads(), party, place, ...list, at));
+  }
+
+  /** Puts the outline of an image to work at a place, as a close does; the image of an empty place clears it. The draft stays. */
+  restore(party, place, image) {
+    u8(party, 'party');
+    u8(place, 'place');
+    const bytes = imageOf(image, 'image');
+    const reply = this.#reply((calls, at, take) => {
+      const list = this._library().list(take, bytes);
+      const word = calls.rq_prepare_image_parts(this.#rows(), this.#numbers(), this.#heads(), party, place, ...list, at);
+      calls.rq_commit_parts(this.#heads(), party, place, word);
+    });
+    if (reply.number !== 0 || reply.word === 0) return done(reply);
+    return { word: WORDS[reply.word], anchor: cellOf(reply), edgeCount: reply.place };
+  }
+
   /** A holder of its own, with the same drafts and the same outlines at work. */
   copy() {
     return new Holder(this._library())._copyFrom(this);
@@ -455,6 +505,21 @@ export class Pile extends Owner {
     u8(layer, 'layer');
     const [col, row] = pair(cell, 'cell');
     return word(this.#reply((calls, at) => calls.rq_pile_query_parts(this.#rows(), this.#state(), layer, col, row, at)));
+  }
+
+  /** The image of a layer. */
+  save(layer) {
+    u8(layer, 'layer');
+    const library = this._library();
+    return library.image((list, at) => library.calls.rq_pile_save_parts(this.#rows(), layer, ...list, at));
+  }
+
+  /** Sets a layer to the outline of an image, or to empty. */
+  restore(layer, image) {
+    u8(layer, 'layer');
+    const bytes = imageOf(image, 'image');
+    return done(this.#reply((calls, at, take) =>
+      calls.rq_pile_restore_parts(this.#rows(), this.#state(), layer, ...this._library().list(take, bytes), at)));
   }
 
   /** A pile of its own, with the same layers. */
@@ -549,6 +614,13 @@ export class Robequarry {
     if (reply.number !== 0) return refused(reply);
     if (WORDS[reply.word] === 'none') return { none: true };
     return { missing: cellOf(reply), cells: [0, 2, 4].map((place) => ({ col: cells[place], row: cells[place + 1] })) };
+  }
+
+  /** The CRC-32C of bytes, which an image ends with, lowest byte first. */
+  checksum(bytes) {
+    const list = imageOf(bytes, 'bytes');
+    const library = this.#library;
+    return library.memory.during((take) => library.calls.rq_checksum(...library.list(take, list)) >>> 0);
   }
 
   holder() {

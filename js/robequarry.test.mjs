@@ -32,7 +32,8 @@ test('versions and limits are the header’s', () => {
   assert.equal(version, /RQ_VERSION "(.*)"/.exec(header)[1]);
   assert.equal(rq.version, version);
   const limit = (name) => Number(new RegExp(`${name} = (\\d+)`).exec(header)[1]);
-  const expected = ['SIDE', 'LETTERS', 'MOST_EDGES', 'LIST_NUMBERS', 'PARTIES', 'PLACES', 'LAYERS'].map((name) => limit(`RQ_${name}`));
+  const names = ['SIDE', 'LETTERS', 'MOST_EDGES', 'LIST_NUMBERS', 'PARTIES', 'PLACES', 'LAYERS', 'IMAGE_BYTES'];
+  const expected = names.map((name) => limit(`RQ_${name}`));
   assert.deepEqual(Object.values(limits), expected);
   assert.equal(rq.limits, limits);
 });
@@ -45,7 +46,7 @@ test('every refusal of the header has its name', () => {
     const name = upper.toLowerCase().replace(/_(.)/g, (_, letter) => letter.toUpperCase());
     assert.equal(names[number], name);
   }
-  assert.equal(numbers.length, 21);
+  assert.equal(numbers.length, 23);
 });
 
 test('the specimens', () => {
@@ -141,6 +142,46 @@ test('a holder', () => {
   assert.throws(() => copy.query(1, 3, cell(1, 2)), /freed/);
 });
 
+test('images of a place and of a layer', () => {
+  const holder = atWork(plus, 1, 3);
+  assert.deepEqual(holder.check(1, 3), { done: true });
+  assert.deepEqual(holder.check(2, 3), { refusal: refusal(19, 'party') });
+  const { image } = holder.save(1, 3);
+  assert.equal(image.length, limits.imageBytes);
+  assert.deepEqual([...image.slice(0, 18)], [0x4b, 0x4f, 0, 1, 12, 0, ...Uint8Array.from(plus.letters)]);
+  assert.deepEqual([...image.slice(616)], [0, 0, 0xfa, 0xe9, 0x68, 0xa0]);
+  assert.equal(rq.checksum(image.slice(0, 618)), 0xa068e9fa);
+  assert.equal(rq.checksum(new TextEncoder().encode('123456789')), 0xe3069283);
+
+  const other = rq.holder();
+  other.begin(0, cell(7, 8));
+  assert.deepEqual(other.restore(0, 2, image), { word: 'taken', anchor: cell(0, 1), edgeCount: 4 });
+  assert.deepEqual(other.restore(0, 2, image.buffer), { word: 'same', anchor: cell(0, 1), edgeCount: 4 });
+  assert.deepEqual(other.draft(0), { start: cell(7, 8), letterCount: 0 });
+  assert.deepEqual(other.query(0, 2, cell(1, 2)), { word: 'inside' });
+  for (let bit = 0; bit < 8 * image.length; bit += 7) {
+    const damaged = image.slice();
+    damaged[bit >> 3] ^= 1 << (bit & 7);
+    assert.deepEqual(other.restore(0, 2, damaged), { refusal: refusal(26, 'image') });
+  }
+  assert.deepEqual(other.restore(0, 2, image.slice(1)), { refusal: refusal(26, 'image') });
+  assert.deepEqual(other.save(0, 2), { image });
+  const empty = other.save(0, 3).image;
+  assert.deepEqual(other.restore(0, 2, empty), { done: true });
+  assert.deepEqual(other.query(0, 2, cell(1, 2)), { refusal: refusal(12, 'nothingAtWork') });
+
+  const pile = rq.pile();
+  assert.deepEqual(pile.restore(5, image), { done: true });
+  assert.deepEqual(pile.save(5), { image });
+  assert.deepEqual(pile.save(6), { image: empty });
+  assert.deepEqual(pile.save(16), { refusal: refusal(22, 'layer') });
+  assert.equal(pile.check().passed, true);
+  assert.deepEqual(pile.query(5, cell(1, 2)), { word: 'inside' });
+  assert.deepEqual(pile.restore(5, image.slice(1)), { refusal: refusal(26, 'image') });
+  assert.deepEqual(pile.restore(5, empty), { done: true });
+  assert.deepEqual(pile.save(5), { image: empty });
+});
+
 test('the same outline closed again is the same, and readings are located', () => {
   const holder = atWork(plus);
   holder.begin(0, plus.start);
@@ -201,6 +242,8 @@ test('an argument that is none throws a TypeError that names it', () => {
     [() => holder.reading(0, 0, { angle: '1', load: 1 }), 'reading.angle must be a number, not "1"'],
     [() => holder.piece(0, 0), 'position must be'],
     [() => pile.set('0', plus), 'layer must be'],
+    [() => holder.restore(0, 0, 'KO'), 'image must be a Uint8Array or an ArrayBuffer, not "KO"'],
+    [() => pile.restore(0, [1, 2]), 'image must be a Uint8Array or an ArrayBuffer, not an object'],
     [() => loadSync('bytes'), 'the module must be bytes'],
   ];
   for (const [call, message] of bad) {

@@ -29,13 +29,24 @@ function onHolder(rq: Robequarry): number {
   return 'point' in piece ? piece.point.x : columns.last - columns.first;
 }
 
+function moved(rq: Robequarry): string {
+  const holder = rq.holder();
+  if ('refusal' in holder.check(0, 0)) return 'damaged';
+  const saved = holder.save(0, 0);
+  if ('refusal' in saved) return saved.refusal.name;
+  const restored = holder.restore(1, 3, saved.image);
+  if ('refusal' in restored) return restored.refusal.name;
+  const layer = rq.pile().save(0);
+  return 'done' in restored ? `empty ${'image' in layer ? layer.image.length : 0}` : `${restored.word} ${rq.checksum(saved.image)}`;
+}
+
 export async function all(bytes: Uint8Array): Promise<unknown[]> {
   const rq = await load(new URL('https://example.org/robequarry.wasm'));
   const plus: Outline = { start: { col: 0, row: 1 }, letters: '101030323212' };
   const hull: Hull = { anchor: { col: 0, row: 0 }, edges: new Int16Array(0) };
   const loose = loadSync(bytes).looseQuery({ ...hull, cell: { col: 0, row: 0 } });
   const inside: boolean = 'refusal' in loose ? false : loose.inside;
-  return [edgesOf(rq, plus), wordOf(rq, hull, hull), help(rq, plus), onHolder(rq), inside, limits.letters, version];
+  return [edgesOf(rq, plus), wordOf(rq, hull, hull), help(rq, plus), onHolder(rq), moved(rq), inside, limits.letters, version];
 }
 
 // @ts-expect-error: a cell has a column and a row

@@ -17,11 +17,13 @@ FNR == NR {
 FNR == 1 { next }
 
 function row_of(call) {
-    if (call ~ /^(test|pile set)/) return "rq_test, rq_pile_set"
+    if (call ~ /^test/) return "rq_test"
+    if (call ~ /^pile (set|restore)/) return "rq_pile_set, rq_pile_restore"
     if (call ~ /^close by/) return "a close by rq_call"
-    if (call ~ /^close/) return "rq_close"
+    if (call ~ /^(close|restore)/) return "rq_close, rq_restore"
     if (call ~ /^replay/) return "rq_replay"
     if (call ~ /^border/) return "rq_border"
+    if (call ~ /^(check|save|pile save)$/) return "rq_check, rq_save, rq_pile_save"
     if (call ~ /^(witness|completion)/) return "rq_witness, rq_complete"
     if (call ~ /^pile check/) return "rq_pile_check, rq_pile_check_step"
     if (call ~ /^compare/) return "rq_compare"

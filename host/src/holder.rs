@@ -1,12 +1,12 @@
 use crate::codec::{Action, Call, Fields, CLOSE, COLUMNS, INSIDE, LINE, MOVE, NONE, OUTSIDE, SAME, TAKEN, UNDECIDED};
-use crate::limits::REPLY;
+use crate::limits::{IMAGE, REPLY};
 use crate::raw::{self, HolderMemory};
-use crate::{Cell, Corner, Refusal, Taken};
+use crate::{Cell, Corner, Image, Refusal, Taken};
 
 /// What a call that is not refused answers.
 #[derive(Clone, Copy, Debug, PartialEq, Eq, Hash)]
 pub enum Answer {
-    /// Begin, add, drop or clear was done.
+    /// Begin, add, drop or clear was done; a restore cleared the place.
     Done,
     /// The outline at work encloses the cell; the reading lies inside its edges.
     Inside,
@@ -24,9 +24,9 @@ pub enum Answer {
     Line(Cell),
     /// It is closed.
     Close,
-    /// The draft is now at work.
+    /// The draft, or the outline of an image, is now at work.
     Taken(Taken),
-    /// The draft is now at work, and encloses the cells that were enclosed before.
+    /// It is now at work, and encloses the cells that were enclosed before.
     Same(Taken),
 }
 
@@ -81,6 +81,9 @@ pub type Reply = Result<Answer, Refusal>;
 /// assert_eq!(holder.piece(knee, 3, 2)?, Piece::Close);
 /// assert_eq!(holder.piece(knee, 3, 3)?, Piece::None);
 /// assert_eq!(holder.drop_draft(knee), Err(Refusal::NoDraft));
+/// holder.check(knee, 3)?;
+/// let image = holder.save(knee, 3)?;
+/// assert!(matches!(Holder::new().restore(1, 0, &image.bytes())?, Answer::Taken(_)));
 /// assert_eq!(holder.query(1, 3, Cell::new(2, 0)), Err(Refusal::NothingAtWork));
 /// # Ok::<(), Refusal>(())
 /// ```
@@ -209,6 +212,31 @@ impl Holder {
             CLOSE => Piece::Close,
             _ => Piece::None,
         })
+    }
+
+    /// Whether memory is sound at a place: nothing is at work there, or what a taking leaves. Else it is [`Refusal::Damaged`].
+    pub fn check(&self, party: u8, place: u8) -> Result<(), Refusal> {
+        let mut reply = [0; REPLY];
+        self.memory.check(party, place, &mut reply);
+        Refusal::check(&reply)
+    }
+
+    /// The image of what is at work at a place, or of an empty place. A place whose memory is damaged has none: [`Refusal::Damaged`].
+    pub fn save(&self, party: u8, place: u8) -> Result<Image, Refusal> {
+        let (mut reply, mut image) = ([0; REPLY], [0; IMAGE]);
+        self.memory.save(party, place, &mut image, &mut reply);
+        Refusal::check(&reply)?;
+        Ok(Image::try_from(&image[..]).expect("a save writes an image"))
+    }
+
+    /// Puts the outline of an image to work at a place, as a close does: [`Answer::Taken`] or [`Answer::Same`]; an image without letters
+    /// clears the place: [`Answer::Done`]. Bytes that are no image are refused by [`Refusal::Image`], and an outline that no test takes
+    /// as a test refuses it; nothing is altered then. The draft stays.
+    pub fn restore(&mut self, party: u8, place: u8, image: &[u8]) -> Reply {
+        let mut reply = [0; REPLY];
+        self.memory.restore(party, place, image, &mut reply);
+        Refusal::check(&reply)?;
+        Ok(answer(reply))
     }
 
     /// Makes one call, as bytes.

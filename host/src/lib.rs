@@ -55,6 +55,7 @@ pub use chart::{Cell, Corner, Reading};
 pub use codec::{Action, Call};
 pub use comparison::{Comparison, Nesting, RefusedList};
 pub use holder::{Answer, Holder, Located, Piece, Reply};
+pub use image::Image;
 pub use outline::{Edges, Outline, Taken, Verdict};
 pub use pile::{Pile, PileCall};
 pub use refusal::{Refusal, SectionKind};

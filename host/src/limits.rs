@@ -30,14 +30,17 @@ pub const LONGEST_LIST: usize = 2032;
 /// A witness has three cells, of two numbers each (contract 6.5).
 pub const WITNESS_NUMBERS: usize = 6;
 
-/// The refusals are numbered from 1 to 22 (contract 5.2); 7 is not used. The faults of a fitting file have the numbers after that.
-pub const LAST_REFUSAL: u16 = 22;
+/// The refusals are numbered from 1 to 22, and 26 and 27 (contract 5.2); 7 is not used, and 23 to 25 are faults of a fitting file.
+pub const LAST_REFUSAL: u16 = 27;
 
 /// A reply has this many numbers (contract 4.1).
 pub const REPLY: usize = 7;
 
 /// A call has this many bytes (contract 10.3).
 pub const CALL: usize = 11;
+
+/// An image of an outline has this many bytes (contract 13.1).
+pub const IMAGE: usize = 622;
 
 /// There are this many parties (contract 7.1).
 pub const PARTIES: u8 = 2;

@@ -1,7 +1,7 @@
 use crate::codec::{Fields, INSIDE, MORE};
-use crate::limits::REPLY;
+use crate::limits::{IMAGE, REPLY};
 use crate::raw::PileMemory;
-use crate::{Cell, Outline, Refusal, Taken};
+use crate::{Cell, Image, Outline, Refusal, Taken};
 
 /// A call on a pile, as a value: what lists of calls are made of.
 #[derive(Clone, Debug, PartialEq, Eq)]
@@ -14,6 +14,8 @@ pub enum PileCall {
     Check,
     /// Asks whether a layer encloses a cell.
     Query(u8, Cell),
+    /// Sets a layer to the outline of these bytes, or to empty.
+    Restore(u8, Vec<u8>),
 }
 
 /// Sixteen layers, each empty or one taken outline (contract 12).
@@ -106,6 +108,22 @@ impl Pile {
         Ok(word == INSIDE)
     }
 
+    /// The image of a layer. A layer whose memory is damaged has none: [`Refusal::Damaged`].
+    pub fn save(&self, layer: u8) -> Result<Image, Refusal> {
+        let (mut reply, mut image) = ([0; REPLY], [0; IMAGE]);
+        self.memory.save(layer, &mut image, &mut reply);
+        Refusal::check_pile(&reply)?;
+        Ok(Image::try_from(&image[..]).expect("a save writes an image"))
+    }
+
+    /// Sets a layer to the outline of an image, or to empty where the image has no letters, and the pile is unchecked. Bytes that are no
+    /// image are refused by [`Refusal::Image`], and an outline as a set refuses it; nothing is altered then.
+    pub fn restore(&mut self, layer: u8, image: &[u8]) -> Result<(), Refusal> {
+        let mut reply = [0; REPLY];
+        self.memory.restore(layer, image, &mut reply);
+        Refusal::check_pile(&reply)
+    }
+
     /// Makes a call, and gives its reply as it is.
     pub fn call(&mut self, call: &PileCall) -> Fields {
         let mut reply = [0; REPLY];
@@ -116,6 +134,7 @@ impl Pile {
             PileCall::SetEmpty(layer) => self.memory.empty(*layer, &mut reply),
             PileCall::Check => self.memory.check(&mut reply),
             PileCall::Query(layer, cell) => self.memory.query(*layer, cell.col, cell.row, &mut reply),
+            PileCall::Restore(layer, image) => self.memory.restore(*layer, image, &mut reply),
         }
         reply.into()
     }

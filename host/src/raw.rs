@@ -151,6 +151,37 @@ mod library {
             reply: &mut Reply,
         );
 
+        pub safe fn rq_check_parts(
+            rows: &[u8; ROWS],
+            numbers: &[i16; NUMBERS],
+            heads: &[u16; HEADS],
+            party: u8,
+            place: u8,
+            reply: &mut Reply,
+        );
+
+        pub fn rq_save_parts(
+            rows: &[u8; ROWS],
+            numbers: &[i16; NUMBERS],
+            heads: &[u16; HEADS],
+            party: u8,
+            place: u8,
+            image: *mut u8,
+            m: u64,
+            reply: &mut Reply,
+        );
+
+        pub fn rq_prepare_image_parts(
+            rows: &mut [u8; ROWS],
+            numbers: &mut [i16; NUMBERS],
+            heads: &mut [u16; HEADS],
+            party: u8,
+            place: u8,
+            image: *const u8,
+            n: u64,
+            reply: &mut Reply,
+        ) -> u16;
+
         pub fn rq_call_parts(
             letters: &mut [u8; LETTERS],
             rows: &mut [u8; ROWS],
@@ -193,6 +224,19 @@ mod library {
             row: u16,
             reply: &mut Reply,
         );
+
+        pub fn rq_pile_save_parts(rows: &[u8; LAYER_ROWS], layer: u8, image: *mut u8, m: u64, reply: &mut Reply);
+
+        pub fn rq_pile_restore_parts(
+            rows: &mut [u8; LAYER_ROWS],
+            state: &mut [u16; 2],
+            layer: u8,
+            image: *const u8,
+            n: u64,
+            reply: &mut Reply,
+        );
+
+        pub fn rq_checksum(bytes: *const u8, n: u64) -> u32;
     }
 }
 
@@ -254,6 +298,13 @@ pub fn complete(col: u16, row: u16, letters: &[u8], out: &mut [u8], reply: &mut 
 pub fn replay(script: &[u8], replies: &mut [u16]) -> usize {
     // SAFETY: each pointer comes with the count of its own slice. What is written overlaps nothing else.
     unsafe { library::rq_replay_numbers(script.as_ptr(), count(script), replies.as_mut_ptr(), count(replies)) as usize }
+}
+
+/// The CRC-32C of bytes, which an image has at its end.
+#[inline]
+pub fn checksum(bytes: &[u8]) -> u32 {
+    // SAFETY: the pointer comes with the count of its slice.
+    unsafe { library::rq_checksum(bytes.as_ptr(), count(bytes)) }
 }
 
 /// The memory of a holder, 10,416 bytes without padding.
@@ -363,6 +414,37 @@ impl HolderMemory {
         library::rq_piece_parts(&self.numbers, &self.heads, party, place, position, point, reply);
     }
 
+    /// Says whether what stands at a place is what a taking leaves, or nothing.
+    #[inline]
+    pub fn check(&self, party: u8, place: u8, reply: &mut Reply) {
+        library::rq_check_parts(&self.rows, &self.numbers, &self.heads, party, place, reply);
+    }
+
+    /// Writes the image of what is at work at a place to the front of `image`.
+    #[inline]
+    pub fn save(&self, party: u8, place: u8, image: &mut [u8], reply: &mut Reply) {
+        let (written, m) = (image.as_mut_ptr(), count(image));
+        // SAFETY: the pointer comes with the count of its slice. What is written overlaps nothing else.
+        unsafe { library::rq_save_parts(&self.rows, &self.numbers, &self.heads, party, place, written, m, reply) }
+    }
+
+    /// Puts the outline of an image to work at a place, as a close does; an image without letters clears the place.
+    #[inline]
+    pub fn restore(&mut self, party: u8, place: u8, image: &[u8], reply: &mut Reply) {
+        let word = self.prepare_image(party, place, image, reply);
+        self.commit(party, place, word);
+    }
+
+    /// The first half of a restore: replies, and fills a slot that no place names, or clears the place. Returns the word for
+    /// [`commit`](Self::commit).
+    #[inline]
+    pub fn prepare_image(&mut self, party: u8, place: u8, image: &[u8], reply: &mut Reply) -> u16 {
+        let HolderMemory { rows, numbers, heads, .. } = self;
+        let (bytes, n) = (image.as_ptr(), count(image));
+        // SAFETY: the pointer comes with the count of its slice. What is written overlaps nothing else.
+        unsafe { library::rq_prepare_image_parts(rows, numbers, heads, party, place, bytes, n, reply) }
+    }
+
     /// Makes the call that stands in these bytes. Returns false, with nothing altered, where they are no call.
     #[inline]
     pub fn call(&mut self, call: &[u8], reply: &mut Reply) -> bool {
@@ -436,6 +518,21 @@ impl PileMemory {
     #[inline]
     pub fn query(&self, layer: u8, col: u16, row: u16, reply: &mut Reply) {
         library::rq_pile_query_parts(&self.rows, &self.state, layer, col, row, reply);
+    }
+
+    /// Writes the image of a layer to the front of `image`.
+    #[inline]
+    pub fn save(&self, layer: u8, image: &mut [u8], reply: &mut Reply) {
+        // SAFETY: the pointer comes with the count of its slice. What is written overlaps nothing else.
+        unsafe { library::rq_pile_save_parts(&self.rows, layer, image.as_mut_ptr(), count(image), reply) }
+    }
+
+    /// Sets a layer to the outline of an image, or to empty.
+    #[inline]
+    pub fn restore(&mut self, layer: u8, image: &[u8], reply: &mut Reply) {
+        let (bytes, n) = (image.as_ptr(), count(image));
+        // SAFETY: the pointer comes with the count of its slice. What is written overlaps nothing else.
+        unsafe { library::rq_pile_restore_parts(&mut self.rows, &mut self.state, layer, bytes, n, reply) }
     }
 }
 

@@ -9,7 +9,7 @@ use crate::raw::Reply;
 use crate::Cell;
 
 /// Why a call was refused, in the order of the numbers. A place counts the letters before it in the list as sent; pieces are numbered 1
-/// to 4. There is no refusal 7.
+/// to 4. There is no refusal 7, and 23 to 25 are the [faults](crate::fitting::Fault) of a fitting file.
 ///
 /// Later versions may add refusals, so a match needs an arm for others.
 #[derive(Clone, Copy, Debug, PartialEq, Eq, Hash)]
@@ -53,7 +53,7 @@ pub enum Refusal {
     Turning,
     /// 17: the test takes no outline with this anchor and these edges.
     NoOutline,
-    /// 18: the buffer has no space for the letters.
+    /// 18: the buffer has no space for the letters, or for an image.
     LetterRoom,
     /// 19: there is no such party.
     Party,
@@ -63,6 +63,10 @@ pub enum Refusal {
     Section { kind: SectionKind, at: u16 },
     /// 22: there is no such layer.
     Layer,
+    /// 26: the bytes are no image.
+    Image,
+    /// 27: what is at work, or in a layer, is what no taking leaves: memory is damaged.
+    Damaged,
 }
 
 /// Whether a section of a pile is at a column or at a row.
@@ -97,6 +101,8 @@ impl Refusal {
             Refusal::Place => 20,
             Refusal::Section { .. } => 21,
             Refusal::Layer => 22,
+            Refusal::Image => 26,
+            Refusal::Damaged => 27,
         }
     }
 
@@ -170,7 +176,9 @@ impl Refusal {
                 Refusal::Section { kind, at: fields.place }
             }
             22 => Refusal::Layer,
-            other => unreachable!("the library's last refusal is {LAST_REFUSAL}, and there is no 7: {other}"),
+            26 => Refusal::Image,
+            27 => Refusal::Damaged,
+            other => unreachable!("the library's last refusal is {LAST_REFUSAL}, and there is no 7, 23, 24 or 25: {other}"),
         }
     }
 }
@@ -207,6 +215,8 @@ impl fmt::Display for Refusal {
             Refusal::Section { kind: SectionKind::Column, at } => write!(f, "the section at column {at} is dented"),
             Refusal::Section { kind: SectionKind::Row, at } => write!(f, "the section at row {at} is dented"),
             Refusal::Layer => write!(f, "the layer is none of the {LAYERS}"),
+            Refusal::Image => write!(f, "the bytes are no image"),
+            Refusal::Damaged => write!(f, "memory is damaged: no taking leaves what stands there"),
         }
     }
 }

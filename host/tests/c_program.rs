@@ -7,7 +7,7 @@ use std::path::{Path, PathBuf};
 use std::process::{Command, Stdio};
 
 use robequarry::limits::{
-    CALL, LAYERS, LONGEST, LONGEST_LIST, MOST_EDGES, MOST_NUMBERS, PARTIES, PLACES, REPLY, SIDE, WITNESS_NUMBERS,
+    CALL, IMAGE, LAYERS, LONGEST, LONGEST_LIST, MOST_EDGES, MOST_NUMBERS, PARTIES, PLACES, REPLY, SIDE, WITNESS_NUMBERS,
 };
 use robequarry::raw::{HolderMemory, PileMemory};
 use robequarry::{codec, Action, Cell, Corner, Reading, Refusal, SectionKind};
@@ -104,6 +104,7 @@ fn facts() -> Vec<(&'static str, usize)> {
         ("RQ_PLACES", PLACES.into()),
         ("RQ_LAYERS", LAYERS.into()),
         ("RQ_CALL_BYTES", CALL),
+        ("RQ_IMAGE_BYTES", IMAGE),
         ("RQ_REPLY_NUMBERS", REPLY),
         ("RQ_SLOTS", usize::from(PARTIES) * (usize::from(PLACES) + 1)),
         ("RQ_HOLDER_LETTERS", holder.letters.len()),
@@ -140,6 +141,8 @@ fn facts() -> Vec<(&'static str, usize)> {
         ("RQ_REFUSED_PLACE", refused(Refusal::Place)),
         ("RQ_REFUSED_SECTION", refused(Refusal::Section { kind: SectionKind::Row, at: 0 })),
         ("RQ_REFUSED_LAYER", refused(Refusal::Layer)),
+        ("RQ_REFUSED_IMAGE", refused(Refusal::Image)),
+        ("RQ_REFUSED_DAMAGED", refused(Refusal::Damaged)),
         ("RQ_NO_WORD", codec::NO_WORD.into()),
         ("RQ_WORD_INSIDE", codec::INSIDE.into()),
         ("RQ_WORD_OUTSIDE", codec::OUTSIDE.into()),

@@ -4,8 +4,8 @@ use robequarry::codec::{INSIDE, TAKEN};
 use robequarry::limits::{CALL, LAST_CORNER, LAST_REFUSAL, LAYERS, LONGEST, LONGEST_LIST, PARTIES, PLACES, REPLY};
 use robequarry::raw::{self, HolderMemory, PileMemory};
 use robequarry::{
-    Action, Answer, Cell, Comparison, Corner, Edges, Holder, Located, Nesting, Outline, Piece, Pile, PileCall, Reading,
-    Refusal, RefusedList, SectionKind, Taken, Witness,
+    Action, Answer, Cell, Comparison, Corner, Edges, Holder, Image, Located, Nesting, Outline, Piece, Pile, PileCall,
+    Reading, Refusal, RefusedList, SectionKind, Taken, Witness,
 };
 
 const BAR: [u8; 8] = [1, 0, 0, 0, 3, 2, 2, 2];
@@ -484,9 +484,53 @@ fn refusals_in_words() {
     assert_eq!((Refusal::List.number(), Refusal::Turning.number()), (10, 16));
     assert_eq!((Refusal::NothingAtWork.number(), Refusal::NotPassed.number()), (12, 12));
     assert_eq!((Refusal::Party.number(), Refusal::Place.number()), (19, 20));
-    assert_eq!((section.number(), Refusal::Layer.number()), (21, LAST_REFUSAL));
+    assert_eq!((section.number(), Refusal::Layer.number()), (21, 22));
+    assert_eq!((Refusal::Image.number(), Refusal::Damaged.number()), (26, LAST_REFUSAL));
     let error: Box<dyn std::error::Error> = Box::new(Refusal::NoDraft);
     assert_eq!(error.to_string(), "there is no draft");
+}
+
+/// What is saved at one place is restored at another, and one bit of damage is noticed, in an image and in memory.
+#[test]
+fn images_of_a_place() {
+    let mut holder = Holder::new();
+    assert!(matches!(draw(&mut holder, 2, (5, 6), &BAR), Ok(Answer::Taken(_))));
+    holder.check(KNEE, 2).unwrap();
+    assert_eq!(holder.check(2, 2), Err(Refusal::Party));
+    assert_eq!(holder.save(KNEE, 4), Err(Refusal::Place));
+    let image = holder.save(KNEE, 2).unwrap();
+    assert_eq!(image, Image::of(&Outline::new(Corner::new(5, 6), BAR)).unwrap());
+    assert_eq!(holder.save(ANKLE, 2).unwrap(), Image::empty());
+
+    let mut other = Holder::new();
+    other.begin(ANKLE, Corner::new(1, 1)).unwrap();
+    assert!(matches!(other.restore(ANKLE, 0, &image.bytes()), Ok(Answer::Taken(_))));
+    assert!(matches!(other.restore(ANKLE, 0, &image.bytes()), Ok(Answer::Same(_))));
+    assert_eq!(other.row(ANKLE, 0, 6), Ok(Some((5, 7))));
+    assert_eq!(other.draft(ANKLE), Ok((Corner::new(1, 1), 0)));
+    let before = other.clone();
+    let mut bytes = image.bytes();
+    bytes[9] ^= 4;
+    assert_eq!(other.restore(ANKLE, 0, &bytes), Err(Refusal::Image));
+    assert_eq!(other.restore(ANKLE, 0, &bytes[1..]), Err(Refusal::Image));
+    let dented = Image::of(&Outline::new(Corner::new(0, 0), DENTED)).unwrap();
+    assert!(matches!(other.restore(ANKLE, 0, &dented.bytes()), Err(Refusal::Dent { .. })));
+    assert_eq!(other, before);
+    assert_eq!(other.restore(ANKLE, 0, &Image::empty().bytes()), Ok(Answer::Done));
+    assert_eq!(other.row(ANKLE, 0, 6), Err(Refusal::NothingAtWork));
+
+    // In memory: a row of what is at work, and the word of a place.
+    let mut memory = holder.memory().clone();
+    let mut reply = [0; REPLY];
+    memory.rows[6] ^= 1;
+    memory.check(KNEE, 2, &mut reply);
+    assert_eq!(reply, [27, 0, 0, 0, 0, 0, 0]);
+    memory.rows[6] ^= 1;
+    memory.heads[8 + 2] ^= 1;
+    memory.check(KNEE, 2, &mut reply);
+    assert_eq!(reply, [27, 0, 0, 0, 0, 0, 0]);
+    memory.query(KNEE, 2, 5, 6, &mut reply);
+    assert_eq!(reply, [12, 0, 0, 0, 0, 0, 0]);
 }
 
 /// Readings are floats, and equal by their bits.

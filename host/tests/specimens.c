@@ -509,6 +509,81 @@ static bool on_a_pile(const struct specimen *specimen, uint8_t layer) {
     return true;
 }
 
+/* A specimen as an image, where it has one: restored, checked, and saved again, at a place of a holder and in a layer of a pile. */
+static bool as_image(const struct specimen *specimen, uint8_t party, uint8_t place) {
+    static rq_holder h, before;
+    static rq_pile pile, pile_before;
+    const struct list letters = letters_of(specimen);
+    uint8_t image[RQ_IMAGE_BYTES + 1], saved[RQ_IMAGE_BYTES + 1];
+    rq_reply reply = blank, expected = specimen->reply;
+    if (specimen->col > 255 || specimen->row > 255 || letters.count > RQ_LETTERS) return true;
+    memset(image, 0, sizeof image);
+    image[0] = 0x4b;
+    image[1] = 0x4f;
+    image[2] = (uint8_t)specimen->col;
+    image[3] = (uint8_t)specimen->row;
+    image[4] = (uint8_t)(letters.count % 256);
+    image[5] = (uint8_t)(letters.count / 256);
+    memcpy(image + 6, letters.bytes, letters.count);
+    const uint32_t sum = rq_checksum(image, RQ_IMAGE_BYTES - 4);
+    for (int i = 0; i < 4; i++) image[RQ_IMAGE_BYTES - 4 + i] = (uint8_t)(sum >> 8 * i);
+
+    rq_fresh(&h);
+    rq_begin(&h, party, 7, 8, &reply);
+    before = h;
+    image[9] ^= 1;
+    rq_restore(&h, party, place, image, RQ_IMAGE_BYTES, &reply);
+    EXPECT(plain(&reply, RQ_REFUSED_IMAGE, RQ_NO_WORD) && memcmp(&h, &before, sizeof h) == 0);
+    image[9] ^= 1;
+    rq_restore(&h, party, place, image, RQ_IMAGE_BYTES + 1, &reply);
+    EXPECT(plain(&reply, RQ_REFUSED_IMAGE, RQ_NO_WORD) && memcmp(&h, &before, sizeof h) == 0);
+    rq_restore(&h, party, RQ_PLACES, image, RQ_IMAGE_BYTES, &reply);
+    EXPECT(plain(&reply, RQ_REFUSED_PLACE, RQ_NO_WORD) && memcmp(&h, &before, sizeof h) == 0);
+    rq_restore(&h, party, place, image, RQ_IMAGE_BYTES, &reply);
+    expected.word = expected.number == 0 ? RQ_WORD_TAKEN : RQ_NO_WORD;
+    EXPECT(same(&reply, &expected));
+    EXPECT((memcmp(&h, &before, sizeof h) == 0) == (expected.number != 0));
+    rq_check(&h, party, place, &reply);
+    EXPECT(plain(&reply, 0, RQ_NO_WORD));
+    memset(saved, 77, sizeof saved);
+    rq_save(&h, party, place, saved, RQ_IMAGE_BYTES - 1, &reply);
+    EXPECT(reply.number == RQ_REFUSED_LETTER_BUFFER && saved[0] == 77);
+    rq_save(&h, party, place, saved, RQ_IMAGE_BYTES, &reply);
+    EXPECT(plain(&reply, 0, RQ_NO_WORD) && saved[RQ_IMAGE_BYTES] == 77 && saved[0] == 0x4b);
+    EXPECT((saved[4] + 256 * saved[5] == 0) == (expected.number != 0));
+    rq_draft(&h, party, &reply);
+    EXPECT(reply.number == 0 && reply.col == 7 && reply.row == 8);
+
+    /* A pile keeps what a holder does. */
+    rq_pile_fresh(&pile);
+    rq_pile_check(&pile, &reply);
+    pile_before = pile;
+    rq_pile_restore(&pile, 5, image, RQ_IMAGE_BYTES, &reply);
+    EXPECT(same(&reply, &specimen->reply));
+    EXPECT((memcmp(&pile, &pile_before, sizeof pile) == 0) == (expected.number != 0));
+    rq_pile_save(&pile, 5, image, RQ_IMAGE_BYTES, &reply);
+    EXPECT(plain(&reply, 0, RQ_NO_WORD) && memcmp(image, saved, RQ_IMAGE_BYTES) == 0);
+    rq_pile_save(&pile, RQ_LAYERS, image, RQ_IMAGE_BYTES, &reply);
+    EXPECT(plain(&reply, RQ_REFUSED_LAYER, RQ_NO_WORD));
+    pile.rows[5 * 2 * RQ_SIDE + 200] ^= 1;
+    rq_pile_save(&pile, 5, image, RQ_IMAGE_BYTES, &reply);
+    EXPECT(plain(&reply, RQ_REFUSED_DAMAGED, RQ_NO_WORD));
+    if (expected.number != 0) return true;
+
+    /* One bit of what is at work. */
+    before = h;
+    h.rows[2 * RQ_SIDE * (RQ_SLOTS / RQ_PARTIES) * party + 200] ^= 1;
+    rq_check(&h, party, place, &reply);
+    EXPECT(plain(&reply, RQ_REFUSED_DAMAGED, RQ_NO_WORD));
+    rq_save(&h, party, place, image, RQ_IMAGE_BYTES, &reply);
+    EXPECT(plain(&reply, RQ_REFUSED_DAMAGED, RQ_NO_WORD));
+    rq_restore(&h, party, place, saved, RQ_IMAGE_BYTES, &reply);
+    EXPECT(reply.number == 0 && reply.word == RQ_WORD_SAME);
+    rq_check(&h, party, place, &reply);
+    EXPECT(plain(&reply, 0, RQ_NO_WORD));
+    return true;
+}
+
 /* One cell in each of three layers: the middle one lies beside the hull of the others, first in a column and then in a row. */
 static bool sections(void) {
     static rq_pile pile;
@@ -554,7 +629,8 @@ static bool long_lists(void) {
 int main(void) {
     for (uint8_t i = 0; i < COUNT; i++) {
         const bool passed = without_a_holder(&specimens[i]) && help(&specimens[i]) &&
-                            on_a_holder(&specimens[i], i % RQ_PARTIES, i / 2 % RQ_PLACES) && on_a_pile(&specimens[i], i % RQ_LAYERS);
+                            on_a_holder(&specimens[i], i % RQ_PARTIES, i / 2 % RQ_PLACES) && on_a_pile(&specimens[i], i % RQ_LAYERS) &&
+                            as_image(&specimens[i], i % RQ_PARTIES, i % RQ_PLACES);
         if (!passed) {
             fprintf(stderr, "specimen %d: %s\n", i, specimens[i].letters);
             return 1;

@@ -623,6 +623,196 @@ static void run_piles(uint32_t number) {
     }
 }
 
+/* Images: what is at work saved, damaged or not, and restored at any place; the same of layers. */
+static uint8_t image[RQ_IMAGE_BYTES + 2];
+
+static void check_place(uint8_t party, uint8_t place) {
+    rq_reply reply = blank;
+    new_input();
+    SAY("party and place", party, place);
+    rq_check(&holder, party, place, &reply);
+    told("check", &reply);
+}
+
+static void save_place(uint8_t party, uint8_t place) {
+    rq_reply reply = blank;
+    const uint32_t m = room(RQ_IMAGE_BYTES);
+    new_input();
+    SAY("party, place and buffer", party, place, (int32_t)m);
+    rq_save(&holder, party, place, image, m, &reply);
+    hash_bytes(image, sizeof image);
+    told("save", &reply);
+}
+
+static void save_layer(uint8_t layer) {
+    rq_reply reply = blank;
+    const uint32_t m = room(RQ_IMAGE_BYTES);
+    new_input();
+    SAY("layer and buffer", layer, (int32_t)m);
+    rq_pile_save(&pile, layer, image, m, &reply);
+    hash_bytes(image, sizeof image);
+    told("pile save", &reply);
+}
+
+static uint32_t image_bytes(void) {
+    return once_in(16) ? below(sizeof image + 1) : RQ_IMAGE_BYTES;
+}
+
+static void restore_place(uint8_t party, uint8_t place) {
+    rq_reply reply = blank;
+    const uint32_t n = image_bytes();
+    new_input();
+    SAY("party, place and bytes", party, place, (int32_t)n);
+    rq_restore(&holder, party, place, image, n, &reply);
+    hash_bytes(&holder, sizeof holder);
+    told("restore", &reply);
+}
+
+static void restore_layer(uint8_t layer) {
+    rq_reply reply = blank;
+    const uint32_t n = image_bytes();
+    new_input();
+    SAY("layer and bytes", layer, (int32_t)n);
+    rq_pile_restore(&pile, layer, image, n, &reply);
+    hash_bytes(&pile, sizeof pile);
+    told("pile restore", &reply);
+}
+
+static void sum_image(void) {
+    const uint32_t sum = rq_checksum(image, RQ_IMAGE_BYTES - 4);
+    put_word(image + RQ_IMAGE_BYTES - 4, sum);
+    hash(sum);
+}
+
+/* The image of an outline, as far as it has one, taken or not. */
+static void image_of(const struct outline *o) {
+    memset(image, 0, sizeof image);
+    image[0] = 0x4b;
+    image[1] = 0x4f;
+    image[2] = (uint8_t)o->col;
+    image[3] = (uint8_t)o->row;
+    image[4] = (uint8_t)o->n;
+    image[5] = (uint8_t)(o->n >> 8);
+    memcpy(image + 6, o->letters, o->n < RQ_LETTERS ? o->n : RQ_LETTERS);
+    sum_image();
+}
+
+/* Some bits, or a byte that is then summed again. */
+static void damage_image(void) {
+    for (uint32_t i = below(3); i > 0; i--) image[below(RQ_IMAGE_BYTES)] ^= (uint8_t)(1u << below(8));
+    if (once_in(4)) {
+        image[once_in(2) ? below(6) : below(RQ_IMAGE_BYTES - 4)] = (uint8_t)bits();
+        sum_image();
+    }
+}
+
+static void any_image(void) {
+    switch (below(4)) {
+        case 0: save_place(any_party(), any_place()); break;
+        case 1: save_layer((uint8_t)below(RQ_LAYERS)); break;
+        case 2:
+            draw_dented(&outline);
+            image_of(&outline);
+            break;
+        default:
+            if (once_in(3)) garbage(&outline);
+            else draw_convex(&outline);
+            image_of(&outline);
+    }
+    if (once_in(3)) damage_image();
+}
+
+static void image_calls(void) {
+    any_image();
+    const uint8_t party = any_party(), place = any_place(), layer = (uint8_t)(once_in(16) ? bits() : below(RQ_LAYERS));
+    restore_place(party, place);
+    check_place(party, place);
+    save_place(party, place);
+    restore_layer(layer);
+    save_layer(layer);
+}
+
+static void run_images(uint32_t number) {
+    (void)number;
+    fresh();
+    rq_pile_fresh(&pile);
+    memset(image, 77, sizeof image);
+    for (uint32_t i = 0; i < 200; i++) image_calls();
+    check_pile();
+}
+
+/* Memory of any content: any numbers, or an outline's with some of them altered. */
+static void any_bytes(void *memory, uint32_t count) {
+    for (uint32_t i = 0; i < count; i++) ((uint8_t *)memory)[i] = (uint8_t)bits();
+}
+
+static uint16_t any_head(void) {
+    static const uint16_t telling[] = {0, 1, 99, 100, 101, 254, 255, 256, 611, 612, 613, 65535, 0x5555, 0x3333, 0x6666, 0x0f0f, 0x5a5a};
+    return (uint16_t)(once_in(4) ? bits() : telling[below(sizeof telling / sizeof telling[0])]);
+}
+
+static void any_words(void) {
+    static const uint16_t words[] = {0x5555, 0x3333, 0x6666, 0x0f0f, 0x5a5a, 0};
+    for (uint32_t i = 0; i < RQ_PARTIES * RQ_PLACES; i++) holder.heads[4 * RQ_PARTIES + i] = words[below(6)];
+}
+
+static void alter_holder(void) {
+    switch (below(6)) {
+        case 0: holder.rows[below(RQ_HOLDER_ROWS)] ^= (uint8_t)(1u << below(8)); break;
+        case 1: holder.numbers[below(RQ_HOLDER_NUMBERS)] = any_number(); break;
+        case 2: holder.heads[below(RQ_HOLDER_HEADS)] = any_head(); break;
+        case 3: holder.heads[below(RQ_HOLDER_HEADS)] ^= (uint16_t)(1u << below(16)); break;
+        case 4: holder.letters[below(RQ_HOLDER_LETTERS)] = (uint8_t)bits(); break;
+        default: memcpy(&holder.rows[510 * below(RQ_SLOTS)], &by_bytes.rows[510 * below(RQ_SLOTS)], 510);
+    }
+}
+
+static void any_memory(void) {
+    if (once_in(3)) {
+        any_bytes(&holder, sizeof holder);
+        any_words();
+    } else {
+        fresh();
+        for (uint32_t i = between(1, 4); i > 0; i--) {
+            draw_convex(&outline);
+            image_of(&outline);
+            restore_place((uint8_t)below(RQ_PARTIES), (uint8_t)below(RQ_PLACES));
+        }
+    }
+    by_bytes = holder;
+    for (uint32_t i = below(6); i > 0; i--) alter_holder();
+    by_bytes = holder;
+    calls = 0;
+}
+
+static void any_pile_memory(void) {
+    if (once_in(3)) any_bytes(&pile, sizeof pile);
+    for (uint32_t i = below(6); i > 0; i--) pile.rows[below(RQ_PILE_ROWS)] = (uint8_t)bits();
+    pile.state[0] = (uint16_t)(once_in(2) ? 0x5aa5 : bits());
+    pile.state[1] = (uint16_t)(once_in(2) ? bits() : below(2 * RQ_SIDE + 2));
+}
+
+static void run_memory(uint32_t number) {
+    (void)number;
+    rq_pile_fresh(&pile);
+    memset(image, 77, sizeof image);
+    for (uint32_t times = 0; times < 24; times++) {
+        any_memory();
+        for (uint32_t i = 0; i < 40; i++) {
+            if (once_in(3)) image_calls(), by_bytes = holder;
+            else any_call();
+        }
+        hash_bytes(&holder, sizeof holder);
+        hash_bytes(&by_bytes, sizeof by_bytes);
+        any_pile_memory();
+        const uint8_t layer = (uint8_t)below(RQ_LAYERS);
+        query_pile(layer);
+        save_layer(layer);
+        check_pile();
+        check_pile_in_steps();
+    }
+}
+
 static const struct family {
     const char *name;
     uint32_t blocks;
@@ -630,7 +820,7 @@ static const struct family {
 } families[] = {
     {"specimens", 1, run_specimens}, {"corner", 25, run_corner}, {"drawings", 100, run_drawings},       {"dents", 140, run_dents},
     {"garbage", 60, run_garbage},    {"lists", 40, run_lists},   {"comparisons", 40, run_comparisons}, {"scripts", 60, run_scripts},
-    {"readings", 60, run_readings},  {"piles", 24, run_piles},
+    {"readings", 60, run_readings},  {"piles", 24, run_piles},   {"images", 24, run_images},           {"memory", 40, run_memory},
 };
 
 static void put_hash(void) {

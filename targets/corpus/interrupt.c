@@ -93,6 +93,28 @@ static void ask_place(uint8_t whose, uint8_t at) {
     wrong += !so_far.with_old && !so_far.with_new;
 }
 
+/* Whether memory is sound, and what a save writes: a longer question, so on a controller it is asked less often. */
+struct saved {
+    rq_reply checked, reply;
+    uint8_t image[RQ_IMAGE_BYTES];
+};
+
+static void save(const rq_holder *h, uint8_t whose, uint8_t at, struct saved *s) {
+    memset(s, 0, sizeof *s);
+    rq_check(h, whose, at, &s->checked);
+    rq_save(h, whose, at, s->image, sizeof s->image, &s->reply);
+}
+
+static void ask_image(uint8_t whose, uint8_t at) {
+    static struct saved now, old, new;
+    struct agreement so_far = {true, true};
+    save(&holder, whose, at, &now);
+    save(&old_holder, whose, at, &old);
+    save(&new_holder, whose, at, &new);
+    agree(&so_far, &now, &old, &new, sizeof now);
+    wrong += !so_far.with_old && !so_far.with_new;
+}
+
 static void ask_draft(uint8_t whose) {
     struct agreement so_far = {true, true};
     rq_reply now = RQ_REPLY_INIT, old = RQ_REPLY_INIT, new = RQ_REPLY_INIT;
@@ -107,6 +129,7 @@ static void ask_draft(uint8_t whose) {
 static bool ask_drafts;
 
 static void ask_holder(void) {
+    if (once_in(cells == 0 ? 2 : 32)) ask_image(party, place < RQ_PLACES ? place : 0);
     for (uint8_t whose = 0; whose < RQ_PARTIES; whose++) {
         if (ask_drafts) ask_draft(whose);
         for (uint8_t at = 0; at < RQ_PLACES; at++) ask_place(whose, at);
@@ -194,6 +217,23 @@ static void make_clear(void) { rq_clear(&holder, party, place, &reply); }
 static void make_close(void) { rq_close(&holder, party, place, &reply); }
 static void make_fresh(void) { rq_fresh(&holder); }
 
+/* An image of the shape, or of an empty place. */
+static uint8_t image[RQ_IMAGE_BYTES];
+static void make_restore(void) { rq_restore(&holder, party, place, image, sizeof image, &reply); }
+
+static void image_of(const struct outline *o) {
+    memset(image, 0, sizeof image);
+    image[0] = 0x4b;
+    image[1] = 0x4f;
+    image[2] = (uint8_t)o->col;
+    image[3] = (uint8_t)o->row;
+    image[4] = (uint8_t)o->n;
+    image[5] = (uint8_t)(o->n >> 8);
+    for (uint32_t i = 0; i < o->n; i++) image[6 + i] = o->letters[i];
+    const uint32_t sum = rq_checksum(image, sizeof image - 4);
+    for (uint32_t i = 0; i < 4; i++) image[sizeof image - 4 + i] = (uint8_t)(sum >> 8 * i);
+}
+
 static uint8_t bytes[RQ_CALL_BYTES];
 static void make_bytes(void) { rq_call(&holder, bytes, sizeof bytes, &reply); }
 
@@ -258,6 +298,25 @@ static void step_closes(uint32_t least, uint32_t most) {
     step_close("close", make_close);
 }
 
+/* Over what is at work, the same again, refused by 9 and by 26, an empty place, and over nothing. */
+static void step_restores(uint32_t least, uint32_t most) {
+    convex(least, most);
+    image_of(&shape);
+    step_through("restore", shape.n, make_restore);
+    step_through("restore, the same", shape.n, make_restore);
+    dented(least, most);
+    image_of(&shape);
+    step_through("restore", shape.n, make_restore);
+    image[7] ^= 1;
+    step_through("restore", shape.n, make_restore);
+    shape.n = 0;
+    image_of(&shape);
+    step_through("restore of an empty place", 0, make_restore);
+    convex(least, most);
+    image_of(&shape);
+    step_through("restore over nothing", shape.n, make_restore);
+}
+
 static void step_holder(void) {
     subject.now = &holder;
     subject.seen = &seen_holder;
@@ -282,6 +341,8 @@ static void step_holder(void) {
         step_through("begin as bytes", 0, make_bytes);
         step_closes(40, 120);
         if (cells == 0) step_closes(400, RQ_LETTERS);
+        draw(&shape);
+        step_restores(40, 120);
         as_bytes(RQ_CALL_CLEAR);
         step_through("clear as bytes", 0, make_bytes);
         place = RQ_PLACES;
@@ -300,6 +361,7 @@ static void make_check(void) { rq_pile_check(&pile, &reply); }
 static void make_step(void) { rq_pile_check_step(&pile, 60, &reply); }
 static void make_last_step(void) { rq_pile_check_step(&pile, 2 * RQ_SIDE, &reply); }
 static void make_pile_fresh(void) { rq_pile_fresh(&pile); }
+static void make_pile_restore(void) { rq_pile_restore(&pile, place, image, sizeof image, &reply); }
 
 static void square(void) {
     shape.col = shape.row = 100;
@@ -333,6 +395,11 @@ static void step_pile(void) {
     step_through("pile check, a step", 0, make_last_step);
     make_set();
     make_check();
+    image_of(&shape);
+    step_through("pile restore", shape.n, make_pile_restore);
+    make_check();
+    image[7] ^= 1;
+    step_through("pile restore", shape.n, make_pile_restore);
     step_through("pile fresh", 0, make_pile_fresh);
 }
 

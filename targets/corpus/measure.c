@@ -79,6 +79,20 @@ static void replay_line(void) {
     line("replay of a drawing", calls, nothing, call_replay, 8);
 }
 
+/* What is at work checked, saved and restored; a layer saved and restored; and an image that is refused. */
+static void image_lines(void) {
+    put_at_work();
+    call_pile_set();
+    line("check", shape.n, nothing, call_check, 40);
+    line("save", shape.n, nothing, call_save, 40);
+    line("restore", shape.n, nothing, call_restore, 40);
+    line("pile save", shape.n, nothing, call_pile_save, 40);
+    line("pile restore", shape.n, nothing, call_pile_restore, 40);
+    image[300] ^= 1;
+    line("restore, refusal 26", shape.n, nothing, call_restore, 40);
+    line("checksum", RQ_IMAGE_BYTES - 4, nothing, call_checksum, 40);
+}
+
 static void outline_lines(int32_t half) {
     circle(half);
     line("test, taken", shape.n, nothing, call_test, 40);
@@ -88,6 +102,7 @@ static void outline_lines(int32_t half) {
     set_call(RQ_CALL_CLOSE, 0);
     line("close by rq_call", shape.n, restore, call_bytes, 40);
     replay_line();
+    image_lines();
     take_edges(&one);
     line("border", shape.n, nothing, call_border, 40);
     line("completion of a taken outline", shape.n, nothing, call_complete, 40);

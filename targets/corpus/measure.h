@@ -82,6 +82,7 @@ static uint8_t letters[RQ_LETTERS];
 static uint16_t col, row;
 static float angle, load, point[2];
 static uint8_t bytes[RQ_CALL_BYTES];
+static uint8_t image[RQ_IMAGE_BYTES];
 
 static void call_test(void) { rq_test(shape.col, shape.row, shape.letters, shape.n, edges, RQ_EDGE_NUMBERS, &reply); }
 static void call_witness(void) { rq_witness(shape.col, shape.row, shape.letters, shape.n, cells, RQ_WITNESS_NUMBERS, &reply); }
@@ -102,10 +103,30 @@ static void call_query(void) { rq_query(&holder, 0, 0, col, row, &reply); }
 static void call_row(void) { rq_row(&holder, 0, 0, row, &reply); }
 static void call_reading(void) { rq_reading(&holder, 0, 0, angle, load, &reply); }
 static void call_piece(void) { rq_piece(&holder, 0, 0, col, point, &reply); }
+static void call_check(void) { rq_check(&holder, 0, 0, &reply); }
+static void call_save(void) { rq_save(&holder, 0, 0, image, RQ_IMAGE_BYTES, &reply); }
+static void call_restore(void) { rq_restore(&holder, 0, 0, image, RQ_IMAGE_BYTES, &reply); }
+/* The image of an outline, taken or not. */
+static void image_of(const struct outline *o) {
+    const uint32_t n = o->n < RQ_LETTERS ? o->n : RQ_LETTERS;
+    memset(image, 0, sizeof image);
+    image[0] = 0x4b;
+    image[1] = 0x4f;
+    image[2] = (uint8_t)o->col;
+    image[3] = (uint8_t)o->row;
+    image[4] = (uint8_t)n;
+    image[5] = (uint8_t)(n >> 8);
+    memcpy(image + 6, o->letters, n);
+    const uint32_t sum = rq_checksum(image, RQ_IMAGE_BYTES - 4);
+    for (uint32_t i = 0; i < 4; i++) image[RQ_IMAGE_BYTES - 4 + i] = (uint8_t)(sum >> 8 * i);
+}
+static void call_checksum(void) { rq_checksum(image, RQ_IMAGE_BYTES - 4); }
 static void call_bytes(void) { rq_call(&holder, bytes, RQ_CALL_BYTES, &reply); }
 static void call_pile_set(void) { rq_pile_set(&pile, 3, shape.col, shape.row, shape.letters, shape.n, &reply); }
 static void call_pile_check(void) { rq_pile_check(&pile, &reply); }
 static void call_pile_step(void) { rq_pile_check_step(&pile, 1, &reply); }
+static void call_pile_save(void) { rq_pile_save(&pile, 3, image, RQ_IMAGE_BYTES, &reply); }
+static void call_pile_restore(void) { rq_pile_restore(&pile, 3, image, RQ_IMAGE_BYTES, &reply); }
 static void call_pile_query(void) { rq_pile_query(&pile, 3, col, row, &reply); }
 
 /* A draft is one number of its party's head; letters that are already there may stay. */

@@ -101,6 +101,16 @@ static void give_work(void) {
     give_numbers();
 }
 
+static void give_image(void) {
+    give_outline();
+    image_of(&shape);
+}
+
+static void give_layer(void) {
+    give_outline();
+    call_pile_set();
+}
+
 static void give_position(void) {
     give_work();
     col = now.col % 128;
@@ -232,7 +242,12 @@ int program(uint32_t from, uint32_t longer) {
     search("row", give_work, call_row, 40, steps);
     search("reading", give_work, call_reading, 4, steps);
     search("piece", give_position, call_piece, 4, steps);
+    search("check", give_work, call_check, 1, steps);
+    search("save", give_work, call_save, 1, steps);
+    search("restore", give_image, call_restore, 1, steps);
     search("pile set", give_outline, call_pile_set, 1, steps);
+    search("pile save", give_layer, call_pile_save, 1, steps);
+    search("pile restore", give_image, call_pile_restore, 1, steps);
     search_pile(steps / 20);
     search("pile query", give_numbers, call_pile_query, 40, steps);
     return 0;

@@ -6,8 +6,8 @@
 //! - [`engine`] gives all of them, and the library, one face; [`case`] is one input for it, which can be written as a line. [`live`] has
 //!   holders of the library, called as bytes and by arguments, and [`typed`] the typed calls. Limits, and replies and calls as numbers,
 //!   are those of the crate `robequarry`.
-//! - [`walks`], [`draw`], [`polygons`], [`sensors`], [`garbage`], [`scripts`] and [`piles`] make the inputs, from the numbers of [`random`];
-//!   [`specimens`] has those of the contract.
+//! - [`walks`], [`draw`], [`polygons`], [`sensors`], [`garbage`], [`scripts`], [`piles`] and [`images`] make the inputs, from the numbers
+//!   of [`random`]; [`specimens`] has those of the contract. [`images`] also has calls on damaged memory.
 //! - [`timing`] and [`stack`] measure; [`report`] prints what was timed, and [`tally`] what was reached.
 
 pub mod case;
@@ -16,6 +16,7 @@ pub mod engine;
 pub mod garbage;
 pub mod grid;
 pub mod hull_and_count;
+pub mod images;
 pub mod live;
 pub mod piles;
 pub mod plain;

@@ -2,15 +2,15 @@
 //! piles of the library.
 
 use robequarry::codec::MORE;
-use robequarry::limits::{LAST_CELL, LAST_CORNER, LAYERS, REPLY};
+use robequarry::limits::{IMAGE, LAST_CELL, LAST_CORNER, LAYERS, REPLY};
 use robequarry::raw::{PileMemory, Reply};
-use robequarry::{Cell, Corner, Outline, Pile, PileCall};
+use robequarry::{Cell, Corner, Image, Outline, Pile, PileCall};
 
 use crate::case::Case;
 use crate::draw::Shape;
 use crate::live::FILLER;
 use crate::random::Random;
-use crate::{garbage, typed, Fields};
+use crate::{garbage, images, typed, Fields};
 
 /// A rectangle of cells.
 #[derive(Clone, Copy)]
@@ -87,8 +87,13 @@ pub fn calls(random: &mut Random) -> Vec<PileCall> {
 fn other_call(random: &mut Random, near: Block) -> PileCall {
     let end = if random.once_in(8) { 256 } else { usize::from(LAYERS) };
     let layer = random.below(end) as u8;
-    match random.below(9) {
+    match random.below(11) {
         0 => PileCall::SetEmpty(layer),
+        9 => PileCall::Restore(layer, images::bytes(random)),
+        10 => {
+            let moved = near.moved([0; 4].map(|_: i32| random.from_to(0, 2) as i32 - 1)).outline();
+            PileCall::Restore(layer, Image::of(&moved).expect("a block has few letters").bytes().to_vec())
+        }
         1 => {
             let drawn = Shape::ALL[random.below(Shape::ALL.len())].draw_in(random, 24);
             PileCall::Set(layer, Outline::new(drawn.start.into(), drawn.letters))
@@ -137,11 +142,23 @@ impl Mixed {
             PileCall::Check if self.random.once_in(2) => self.check_in_steps(&mut other),
             PileCall::Check => self.memory.check(&mut other),
             PileCall::Query(layer, cell) => self.memory.query(*layer, cell.col, cell.row, &mut other),
+            PileCall::Restore(layer, image) => self.memory.restore(*layer, image, &mut other),
         }
         assert_eq!(reply, other.into(), "{call:?}");
         assert!(*self.pile.memory() == *self.memory, "memory differs after {call:?}");
         reply
     }
+
+    /// The image of a layer of both, which is the same.
+    pub fn save(&self, layer: u8, image: &mut [u8; IMAGE]) -> Fields {
+        let (mut reply, mut other): (Reply, Reply) = ([u16::MAX; REPLY], [0; REPLY]);
+        self.memory.save(layer, image, &mut reply);
+        let mut again = *image;
+        self.pile.memory().save(layer, &mut again, &mut other);
+        assert_eq!((reply, *image), (other, again), "layer {layer}");
+        reply.into()
+    }
+
     /// Steps of any size, until the check has ended.
     fn check_in_steps(&mut self, reply: &mut Reply) {
         loop {

@@ -37,7 +37,7 @@ pub struct Replies {
 }
 
 impl Replies {
-    fn count(&mut self, reply: Fields) {
+    pub fn count(&mut self, reply: Fields) {
         self.numbers[usize::from(reply.number)] += 1;
         self.words[usize::from(reply.word)] += 1;
     }
@@ -54,6 +54,9 @@ pub struct Tally {
     pub calls: Replies,
     pub pieces: Replies,
     pub piles: Replies,
+    /// Lists of calls with checks, saves and restores; and the same on memory of any content.
+    pub images: Replies,
+    pub memories: Replies,
     /// Scripts that begin with no call, or without space for a reply.
     pub unanswered: u64,
     /// The most letters, and the most edges, of a taken test.
@@ -95,7 +98,7 @@ impl Tally {
     /// The table of numbers and words, and a complaint for each that some input reaches and none of these did.
     pub fn report(&self) -> Vec<String> {
         // What no input reaches: a test knows no state, a loose query no outline, and a holder and a pile have space for every edge.
-        let reached: [(&str, &Replies, &[usize], &[usize]); 9] = [
+        let reached: [(&str, &Replies, &[usize], &[usize]); 11] = [
             ("tests", &self.tests, &[0, 1, 2, 3, 4, 5, 6, 8, 9, 10], &[0]),
             ("loose queries", &self.loose_queries, &[0, 10, 11, 16], &[0, 1, 2]),
             ("borders", &self.borders, &[0, 10, 11, 16, 17, 18], &[0]),
@@ -109,13 +112,25 @@ impl Tally {
                 &[0, 1, 2, 3, 4, 5, 6, 7, 8, 9, 10],
             ),
             ("pieces", &self.pieces, &[0, 12, 19, 20], &[0, 5, 8, 9, 10]),
-            ("piles", &self.piles, &[0, 1, 2, 3, 4, 5, 6, 8, 9, 11, 12, 21, 22], &[0, 1, 2]),
+            ("piles", &self.piles, &[0, 1, 2, 3, 4, 5, 6, 8, 9, 11, 12, 21, 22, 26], &[0, 1, 2]),
+            (
+                "images",
+                &self.images,
+                &[0, 1, 2, 3, 4, 5, 6, 8, 9, 11, 12, 13, 14, 15, 18, 19, 20, 26],
+                &[0, 1, 2, 3, 4, 5, 6, 7, 8, 9, 10],
+            ),
+            (
+                "memories",
+                &self.memories,
+                &[0, 1, 2, 3, 4, 5, 6, 8, 9, 11, 12, 13, 14, 15, 18, 19, 20, 22, 26, 27],
+                &[0, 1, 2, 3, 4, 5, 6, 7, 8, 9, 10],
+            ),
         ];
-        let line = |name: &str, cells: [String; 9]| {
+        let line = |name: &str, cells: [String; 11]| {
             println!("{name:>16}{}", cells.iter().map(|cell| format!(" {cell:>14}")).collect::<String>());
         };
         line("number", reached.map(|(name, ..)| name.to_string()));
-        for number in 0..NUMBERS {
+        for number in (0..NUMBERS).filter(|number| !(23..26).contains(number)) {
             let counts = reached.map(|(_, replies, numbers, _)| cell(replies.numbers[number], numbers.contains(&number)));
             line(&number.to_string(), counts);
         }

@@ -2,7 +2,7 @@
 
 use robequarry::codec::{CLOSE, COLUMNS, INSIDE, LINE, MOVE, NONE, OUTSIDE, SAME, TAKEN, UNDECIDED};
 use robequarry::{
-    Action, Answer, Call, Cell, Holder, Located, Outline, Piece, Pile, PileCall, Refusal, Reply, SectionKind, Taken,
+    Action, Answer, Call, Cell, Holder, Image, Located, Outline, Piece, Pile, PileCall, Refusal, Reply, SectionKind, Taken,
 };
 
 use crate::reply::{self, numbered, placed, said};
@@ -78,6 +78,17 @@ pub fn pile_call(pile: &mut Pile, call: &PileCall) -> Fields {
         PileCall::SetEmpty(layer) => done(pile.empty(*layer)),
         PileCall::Check => done(pile.check()),
         PileCall::Query(layer, cell) => pile.query(*layer, *cell).map_or_else(refused, inside),
+        PileCall::Restore(layer, image) => restore(pile, *layer, image),
+    }
+}
+
+/// Its answer does not name the anchor and the edges, which a set of the same outline does.
+fn restore(pile: &mut Pile, layer: u8, image: &[u8]) -> Fields {
+    let outline = Image::try_from(image).ok().and_then(|image| image.outline().cloned());
+    match (pile.restore(layer, image), outline) {
+        (Err(refusal), _) => refused(refusal),
+        (Ok(()), None) => numbered(0),
+        (Ok(()), Some(outline)) => set(&mut Pile::new(), layer, &outline),
     }
 }
 

@@ -14,15 +14,20 @@ fn bound(function: &str) -> usize {
         "rq_compare" => 1_700,
         "rq_pile_check" | "rq_pile_check_step" => 600,
         // What tests an outline has one bit for each corner, 8,192 bytes.
-        "rq_test" | "rq_pile_set" => 8_600,
+        "rq_test" => 8_600,
+        // The rows of the outline come to that.
+        "rq_pile_set" | "rq_pile_restore" => 9_200,
         // A close has the edges of the outline as well, until it knows whether they are those at work.
-        "rq_close" => 9_200,
-        "rq_call, a close" => 9_300,
+        "rq_close" | "rq_restore" => 9_700,
+        "rq_call, a close" => 9_800,
         "rq_border" => 9_700,
         // The sides of every row and its hull, too, on either side of the block.
         "rq_witness" | "rq_complete" => 13_000,
+        // The border of what is at work is found and tested: its letters, and its rows.
+        "rq_check" | "rq_save" | "rq_pile_save" => 11_200,
+        "rq_checksum" => 200,
         // A replay has a holder of its own as well.
-        "rq_replay" => 20_000,
+        "rq_replay" => 20_300,
         _ => unreachable!("{function} has no bound"),
     }
 }

@@ -11,12 +11,13 @@ use std::process::exit;
 use std::time::Instant;
 
 use robequarry::codec::{INSIDE, OUTSIDE};
-use robequarry::limits::{LAST_CELL, LAST_CORNER, LONGEST, LONGEST_LIST, SIDE, WITNESS_NUMBERS};
+use robequarry::limits::{IMAGE, LAST_CELL, LAST_CORNER, LAYERS, LONGEST, LONGEST_LIST, SIDE, WITNESS_NUMBERS};
 use robequarry::{Action, PileCall, Reading};
 use robequarry_checks::case::{self, Case, Outcome};
 use robequarry_checks::draw::{any_taken, reversed, rotated, Shape};
 use robequarry_checks::engine::{Engine, Library, Live, Plain, Reference};
 use robequarry_checks::garbage;
+use robequarry_checks::images::{self, Alike, Move};
 use robequarry_checks::live::AtWork;
 use robequarry_checks::piles;
 use robequarry_checks::plain;
@@ -43,6 +44,9 @@ const READ: usize = 3_000;
 const PIECES: usize = 6_000;
 const SCRIPTS: usize = 24_000;
 const PILES: usize = 1_000;
+const IMAGE_LISTS: usize = 2_000;
+const MEMORIES: usize = 6_000;
+const PILE_MEMORIES: usize = 1_500;
 
 /// Those that are held to the reference. The calls of a script are also made one by one on a live holder, as bytes and by arguments.
 fn engines(case: &Case) -> &'static [&'static dyn Engine] {
@@ -106,6 +110,9 @@ fn run(seed: u64) {
     run.random_section(&format!("{PIECES} pieces of drawings"), seed + 700, pieces);
     run.random_section(&format!("{SCRIPTS} scripts of calls"), seed + 300, random_scripts);
     run.random_section(&format!("{PILES} lists of calls on a pile"), seed + 500, random_piles);
+    run.random_section(&format!("{IMAGE_LISTS} lists of calls with images"), seed + 800, image_lists);
+    run.random_section(&format!("{MEMORIES} holders of any content"), seed + 850, memories);
+    run.random_section(&format!("{PILE_MEMORIES} piles of any content"), seed + 900, pile_memories);
 
     let complaints = run.tally.report();
     complaints.iter().for_each(|complaint| println!("{complaint}"));
@@ -417,6 +424,13 @@ fn random_piles(run: &mut Run, random: &mut Random) {
             assert_eq!(library.call(&call), expected, "library: {call:?}");
             assert_eq!(plain.call(&call), expected, "plain: {call:?}");
             run.tally.count_pile(expected);
+            for layer in (0..LAYERS).filter(|_| random.once_in(40)) {
+                let (mut saved, mut other) = ([0; IMAGE], [0; IMAGE]);
+                assert_eq!((library.save(layer, &mut saved), plain.save(layer, &mut other)), Default::default(), "{call:?}");
+                let image = reference.image(layer).expect("there is such a layer");
+                assert_eq!((saved, other), (image, image), "layer {layer} after {call:?}");
+                run.compared += 1;
+            }
             passed += u64::from(call == PileCall::Check && expected.number == 0);
             failed += u64::from(expected.number == 21);
             run.compared += 1;
@@ -424,4 +438,42 @@ fn random_piles(run: &mut Run, random: &mut Random) {
     }
     println!("{passed:>9} checks passed, {failed} named a section");
     assert!(passed > failed / 3 && failed > passed / 3, "what the lists reach");
+}
+
+/// Lists of calls on a holder with checks, saves and restores among them, from fresh memory on.
+fn image_lists(run: &mut Run, random: &mut Random) {
+    for _ in 0..IMAGE_LISTS {
+        let mut alike = Alike::default();
+        for next in images::moves(random) {
+            let told = match &next {
+                Move::Step(step) => vec![alike.step(step)],
+                Move::Copy(from, to) => alike.copy(*from, *to).to_vec(),
+            };
+            told.iter().for_each(|told| run.tally.images.count(told.reply));
+            run.compared += told.len() as u64;
+        }
+    }
+}
+
+/// Every call on memory that holds anything: damaged outlines, counts above the space, words of any value.
+fn memories(run: &mut Run, random: &mut Random) {
+    for _ in 0..MEMORIES {
+        let mut memory = images::any_memory(random);
+        for _ in 0..30 {
+            let told = images::on_any(&mut memory, &images::any_step(random));
+            run.tally.memories.count(told.reply);
+            run.compared += 1;
+        }
+    }
+}
+
+fn pile_memories(run: &mut Run, random: &mut Random) {
+    for _ in 0..PILE_MEMORIES {
+        let mut pile = images::any_pile(random);
+        for _ in 0..30 {
+            let told = images::on_any_pile(&mut pile, &images::any_pile_step(random));
+            run.tally.memories.count(told.reply);
+            run.compared += 1;
+        }
+    }
 }

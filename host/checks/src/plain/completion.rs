@@ -41,7 +41,7 @@ fn left_ends(first: &Columns, bottom: usize, top: usize) -> Columns {
 }
 
 /// Writes the letters round rows, clockwise from the left end of row `west`.
-fn round(first: &Columns, last: &Columns, bottom: usize, top: usize, west: usize, buffer: &mut [u8]) {
+pub fn round(first: &Columns, last: &Columns, bottom: usize, top: usize, west: usize, buffer: &mut [u8]) {
     let mut pen = Pen { buffer, at: 0 };
     for row in west..top - 1 {
         pen.put(1);

@@ -1,14 +1,15 @@
-//! The holder: calls on it by their arguments and as bytes, and a script of calls. What it keeps is as large as the library's, 10,416
-//! bytes, with a spare slot for each party. The calls that are measured are no part of their caller, as the library's are none.
+//! The holder: calls on it by their arguments and as bytes, images of it, and a script of calls. What it keeps is as large as the
+//! library's, 10,416 bytes, with a spare slot for each party. The calls that are measured are no part of their caller, as the library's
+//! are none.
 
 use robequarry::codec::{COLUMNS, INSIDE, NONE, OUTSIDE, SAME, TAKEN};
-use robequarry::limits::{CALL, LAST_LETTER, LONGEST, MOST_NUMBERS, PARTIES, PLACES, REPLY, SIDE};
+use robequarry::limits::{CALL, IMAGE, LAST_LETTER, LONGEST, MOST_NUMBERS, PARTIES, PLACES, REPLY, SIDE};
 use robequarry::raw::Reply;
 use robequarry::{Action, Call, Reading};
 
 use super::spans::Spans;
 use super::test::{find_edges, Edges};
-use super::{chart, loose, pieces, readings};
+use super::{chart, images, loose, pieces, readings, tracing};
 use crate::reply::{numbered, placed, said, taken};
 use crate::{Fields, Point};
 
@@ -26,9 +27,13 @@ struct Work {
     spans: Spans,
 }
 
-/// A place names a slot by a code word; any other number names none.
 struct Party {
     draft: Draft,
+    works: Works,
+}
+
+/// A place names a slot by a code word; any other number names none.
+struct Works {
     words: [u16; PLACES as usize],
     slots: [Work; SLOTS],
 }
@@ -67,7 +72,7 @@ impl Holder {
 
     #[inline(never)]
     pub fn clear(&mut self, party: u8, place: u8) -> Fields {
-        self.act(party, |party| party.clear(place))
+        self.act(party, |party| party.works.clear(place))
     }
 
     #[inline(never)]
@@ -98,6 +103,52 @@ impl Holder {
         piece
     }
 
+    #[inline(never)]
+    pub fn check(&self, party: u8, place: u8) -> Fields {
+        match self.held(party, place, &mut [0; LONGEST]) {
+            Ok(_) => numbered(0),
+            Err(refusal) => refusal,
+        }
+    }
+
+    /// The image of what is at work is written to `buffer`.
+    #[inline(never)]
+    pub fn save(&self, party: u8, place: u8, buffer: &mut [u8]) -> Fields {
+        let mut letters = [0; LONGEST];
+        match self.held(party, place, &mut letters) {
+            Err(refusal) => refusal,
+            Ok(_) if buffer.len() < IMAGE => numbered(18),
+            Ok((start, count)) => {
+                images::write(start, &letters[..count], buffer);
+                numbered(0)
+            }
+        }
+    }
+
+    #[inline(never)]
+    pub fn restore(&mut self, party: u8, place: u8, bytes: &[u8]) -> Fields {
+        let Some(Party { works, .. }) = self.parties.get_mut(usize::from(party)) else {
+            return numbered(19);
+        };
+        if place >= PLACES {
+            return numbered(20);
+        }
+        match images::read(bytes) {
+            None => numbered(26),
+            Some((_, [])) => works.clear(place),
+            Some((start, letters)) => works.take(place, start, letters),
+        }
+    }
+
+    /// 19, 20, 27, or the start and the count of the letters of what is at work, which are written; a count of 0 if nothing is.
+    fn held(&self, party: u8, place: u8, letters: &mut [u8; LONGEST]) -> Result<(Point, usize), Fields> {
+        let party = self.parties.get(usize::from(party)).ok_or(numbered(19))?;
+        match *party.works.words.get(usize::from(place)).ok_or(numbered(20))? {
+            0 => Ok((Point::new(0, 0), 0)),
+            word => party.works.slot(word).and_then(|work| work.border(letters)).ok_or(numbered(27)),
+        }
+    }
+
     /// One call as bytes. False, with nothing altered, if it is none.
     #[inline(never)]
     pub fn call(&mut self, call: &[u8], reply: &mut Reply) -> bool {
@@ -108,7 +159,7 @@ impl Holder {
             Action::Begin(start) => self.act(party, |party| party.begin(start.into())),
             Action::Add(letter) => self.act(party, |party| party.add(letter)),
             Action::Drop => self.act(party, Party::drop_draft),
-            Action::Clear { place } => self.act(party, |party| party.clear(place)),
+            Action::Clear { place } => self.act(party, |party| party.works.clear(place)),
             Action::Close { place } => self.close(party, place),
             Action::Query { place, cell } => self.ask(party, place, |work| work.query(cell.into())),
             Action::Row { place, row } => self.ask(party, place, |work| work.row(row)),
@@ -144,9 +195,9 @@ impl Holder {
         let Some(party) = self.parties.get(usize::from(party)) else {
             return numbered(19);
         };
-        match party.words.get(usize::from(place)) {
+        match party.works.words.get(usize::from(place)) {
             None => numbered(20),
-            Some(&word) => party.slot(word).map_or(numbered(12), answer),
+            Some(&word) => party.works.slot(word).map_or(numbered(12), answer),
         }
     }
 }
@@ -156,27 +207,16 @@ impl Party {
         let nowhere = Point::new(0, 0);
         Party {
             draft: Draft { begun: false, start: nowhere, count: 0, letters: [0; LONGEST] },
-            words: [0; PLACES as usize],
-            slots: std::array::from_fn(|_| Work {
-                anchor: nowhere,
-                edges: 0,
-                numbers: [0; MOST_NUMBERS],
-                spans: Spans::NONE,
-            }),
+            works: Works {
+                words: [0; PLACES as usize],
+                slots: std::array::from_fn(|_| Work {
+                    anchor: nowhere,
+                    edges: 0,
+                    numbers: [0; MOST_NUMBERS],
+                    spans: Spans::NONE,
+                }),
+            },
         }
-    }
-
-    #[inline]
-    fn slot(&self, word: u16) -> Option<&Work> {
-        let tag = match word {
-            0x5555 => 0,
-            0x3333 => 1,
-            0x6666 => 2,
-            0x0f0f => 3,
-            0x5a5a => 4,
-            _ => return None,
-        };
-        Some(&self.slots[tag])
     }
 
     #[inline]
@@ -219,6 +259,33 @@ impl Party {
         numbered(0)
     }
 
+    fn close(&mut self, place: u8) -> Fields {
+        let begun = std::mem::replace(&mut self.draft.begun, false);
+        if place >= PLACES {
+            return numbered(20);
+        }
+        if !begun {
+            return numbered(13);
+        }
+        let draft = &self.draft;
+        self.works.take(place, draft.start, &draft.letters[..usize::from(draft.count)])
+    }
+}
+
+impl Works {
+    #[inline]
+    fn slot(&self, word: u16) -> Option<&Work> {
+        let tag = match word {
+            0x5555 => 0,
+            0x3333 => 1,
+            0x6666 => 2,
+            0x0f0f => 3,
+            0x5a5a => 4,
+            _ => return None,
+        };
+        Some(&self.slots[tag])
+    }
+
     #[inline]
     fn clear(&mut self, place: u8) -> Fields {
         let Some(word) = self.words.get_mut(usize::from(place)) else {
@@ -228,30 +295,23 @@ impl Party {
         numbered(0)
     }
 
-    /// Fills the slot that no place names, and then names it.
-    fn close(&mut self, place: u8) -> Fields {
-        let begun = std::mem::replace(&mut self.draft.begun, false);
-        let Some(&old) = self.words.get(usize::from(place)) else {
-            return numbered(20);
-        };
-        if !begun {
-            return numbered(13);
-        }
-        let draft = &self.draft;
-        let letters = &draft.letters[..usize::from(draft.count)];
+    /// Tests an outline. If it is taken, it fills the slot that no place names, and then the place names that.
+    #[inline]
+    fn take(&mut self, place: u8, start: Point, letters: &[u8]) -> Fields {
         let mut edges = Edges { numbers: [0; MOST_NUMBERS], count: 0 };
-        let anchor = match find_edges(draft.start, letters, &mut edges) {
+        let anchor = match find_edges(start, letters, &mut edges) {
             Ok(anchor) => anchor,
             Err(refusal) => return refusal,
         };
         let list = edges.list();
+        let old = self.words[usize::from(place)];
         let same = self.slot(old).is_some_and(|work| anchor == work.anchor && list == work.list());
         let free = WORDS.iter().position(|word| !self.words.contains(word)).expect("there are more slots than places");
         let work = &mut self.slots[free];
         work.anchor = anchor;
         work.edges = edges.count as u16;
         work.numbers[..list.len()].copy_from_slice(list);
-        work.spans.put(draft.start, letters);
+        work.spans.put(start, letters);
         self.words[usize::from(place)] = WORDS[free];
         Fields { word: if same { SAME } else { TAKEN }, ..taken(edges.count, anchor) }
     }
@@ -262,6 +322,16 @@ impl Work {
     #[inline]
     fn list(&self) -> &[i16] {
         &self.numbers[..2 * usize::from(self.edges)]
+    }
+
+    /// Writes the border of the outline that has these edges: its start and the count of its letters. None if no outline has them, or other
+    /// rows.
+    fn border(&self, letters: &mut [u8; LONGEST]) -> Option<(Point, usize)> {
+        let found = tracing::border(self.anchor, self.list(), letters);
+        let count = usize::from(found.place);
+        let mut spans = Spans::NONE;
+        (found.number == 0).then(|| spans.put(self.anchor, &letters[..count]))?;
+        (spans == self.spans).then_some((self.anchor, count))
     }
 
     #[inline]

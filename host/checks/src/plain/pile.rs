@@ -2,9 +2,13 @@
 //! is as large as the library's but for the place of a check in steps. The calls that are measured are no part of their caller.
 
 use robequarry::codec::{INSIDE, OUTSIDE};
-use robequarry::limits::{LAST_CELL, LAYERS, MOST_NUMBERS};
+use robequarry::limits::{IMAGE, LAST_CELL, LAYERS, LONGEST, MOST_NUMBERS};
 use robequarry::PileCall;
 
+use super::chart::WIDTH;
+use super::climb::Columns;
+use super::completion::round;
+use super::images;
 use super::spans::{Spans, ROWS};
 use super::test::{find_edges, Edges};
 use crate::reply::{numbered, said, taken};
@@ -30,6 +34,7 @@ impl Pile {
             PileCall::SetEmpty(layer) => self.empty(*layer),
             PileCall::Check => self.check(),
             PileCall::Query(layer, cell) => self.query(*layer, (*cell).into()),
+            PileCall::Restore(layer, image) => self.restore(*layer, image),
         }
     }
 
@@ -73,6 +78,35 @@ impl Pile {
         said(if spans.has(cell) { INSIDE } else { OUTSIDE })
     }
 
+    /// The image of a layer is written to `buffer`.
+    #[inline(never)]
+    pub fn save(&self, layer: u8, buffer: &mut [u8]) -> Fields {
+        let Some(spans) = self.layers.get(usize::from(layer)) else {
+            return numbered(22);
+        };
+        let mut letters = [0; LONGEST];
+        let Some((start, count)) = border(spans, &mut letters) else {
+            return numbered(27);
+        };
+        if buffer.len() < IMAGE {
+            return numbered(18);
+        }
+        images::write(start, &letters[..count], buffer);
+        numbered(0)
+    }
+
+    #[inline(never)]
+    pub fn restore(&mut self, layer: u8, bytes: &[u8]) -> Fields {
+        if layer >= LAYERS {
+            return numbered(22);
+        }
+        match images::read(bytes) {
+            None => numbered(26),
+            Some((_, [])) => self.empty(layer),
+            Some((start, letters)) => self.set(layer, start, letters),
+        }
+    }
+
     #[inline(never)]
     pub fn check(&mut self) -> Fields {
         let dented = |kind, at| Fields { number: 21, piece: kind, place: at as u16, ..Fields::default() };
@@ -114,6 +148,32 @@ impl Pile {
         }
         reach
     }
+}
+
+/// Writes the border of the outline whose rows these are: its start and the count of its letters, which is 0 for rows without cells. None if
+/// a test takes no outline with these rows.
+fn border(spans: &Spans, letters: &mut [u8; LONGEST]) -> Option<(Point, usize)> {
+    let has_cell = |row: &usize| spans.first[*row] < spans.past[*row];
+    let Some(bottom) = (0..ROWS).find(has_cell) else {
+        return (*spans == Spans::NONE).then_some((Point::new(0, 0), 0));
+    };
+    let top = (0..ROWS).rev().find(has_cell).map_or(bottom, |last| last) + 1;
+    let west = (bottom..top).min_by_key(|&row| spans.first[row])?;
+    let (mut first, mut last): (Columns, Columns) = ([0; WIDTH], [0; WIDTH]);
+    for row in bottom..top {
+        (first[row], last[row]) = (spans.first[row].into(), spans.past[row].into());
+    }
+    // The letters up and down, and those across from each row to the next.
+    let across = |ends: &Columns| (bottom + 1..top).map(|row| ends[row].abs_diff(ends[row - 1]) as usize).sum::<usize>();
+    let ends = [bottom, top - 1].map(|row| first[row].abs_diff(last[row]) as usize);
+    let count = 2 * (top - bottom) + across(&first) + across(&last) + ends[0] + ends[1];
+    let written = letters.get_mut(..count)?;
+    round(&first, &last, bottom, top, west, written);
+    let start = Point::new(spans.first[west].into(), west as u16);
+    find_edges(start, written, &mut Edges { numbers: [0; MOST_NUMBERS], count: 0 }).ok()?;
+    let mut own = Spans::NONE;
+    own.put(start, written);
+    (own == *spans).then_some((start, count))
 }
 
 /// Of each layer the first marked number, and the one after the last; the same where there is none.

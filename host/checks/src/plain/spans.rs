@@ -8,7 +8,7 @@ use crate::Point;
 pub const ROWS: usize = SIDE as usize;
 
 /// Of each row the first enclosed column, and the one after the last; the same where no cell of the row is enclosed.
-#[derive(Clone)]
+#[derive(Clone, PartialEq)]
 pub struct Spans {
     pub first: [u8; ROWS],
     pub past: [u8; ROWS],

@@ -1,14 +1,16 @@
 //! The plain book (contract 8.1), and a script of calls for it.
 
 use robequarry::codec::{COLUMNS, INSIDE, NONE, OUTSIDE, SAME, TAKEN};
-use robequarry::limits::{LONGEST, PARTIES, PLACES, REPLY, SIDE};
+use robequarry::limits::{IMAGE, LONGEST, PARTIES, PLACES, REPLY, SIDE};
 use robequarry::raw::Reply;
 use robequarry::{Action, Call};
 
 use super::calls;
 use super::cells::{encloses, Enclosed};
+use super::images::{image, outline_in};
 use super::pieces::piece;
 use super::readings::{located, Polygon};
+use super::tracing::border_of;
 use super::walk::{is_bad_start, is_no_letter};
 use crate::reply::{numbered, placed, said};
 use crate::{Fields, Outline, Point};
@@ -27,6 +29,29 @@ struct Page {
 }
 
 impl Book {
+    /// A restore: 19, 20, 26, or as a close of the image's outline, or as a clear. The draft stays.
+    pub fn restore(&mut self, party: u8, place: u8, bytes: &[u8]) -> Fields {
+        match self.pages.get_mut(usize::from(party)) {
+            None => numbered(19),
+            Some(page) => page.restore(place.into(), bytes),
+        }
+    }
+
+    /// The image that a save writes: of the border of the outline at work, or of an empty place. None if there is no such party or place.
+    pub fn image(&self, party: u8, place: u8) -> Option<[u8; IMAGE]> {
+        let work = self.pages.get(usize::from(party))?.works.get(usize::from(place))?;
+        Some(image(work.as_ref().map(border_of).as_ref()))
+    }
+
+    /// What is told of a party's draft (contract 7.12).
+    pub fn draft(&self, party: u8) -> Fields {
+        match self.pages.get(usize::from(party)).map(|page| &page.draft) {
+            None => numbered(19),
+            Some(None) => numbered(13),
+            Some(Some(Outline { start, letters })) => Fields { col: start.col, row: start.row, ..placed(0, letters.len()) },
+        }
+    }
+
     /// 19 comes first; else the party's page alone is read and written.
     pub fn answer(&mut self, call: Call) -> Fields {
         match self.pages.get_mut(usize::from(call.party)) {
@@ -113,15 +138,31 @@ impl Page {
         let Some(draft) = draft else {
             return numbered(13);
         };
-        let reply = calls::test(draft.start, &draft.letters).reply;
-        if reply.number != 0 {
-            return reply;
-        }
-        let same = work.as_ref().is_some_and(|work| encloses_the_same(work, &draft));
-        let word = if same { SAME } else { TAKEN };
-        *work = Some(draft);
-        Fields { word, ..reply }
+        take(work, draft)
     }
+
+    fn restore(&mut self, place: usize, bytes: &[u8]) -> Fields {
+        let Some(work) = self.works.get_mut(place) else {
+            return numbered(20);
+        };
+        match outline_in(bytes) {
+            None => numbered(26),
+            Some(outline) if outline.letters.is_empty() => self.clear(place),
+            Some(outline) => take(work, outline),
+        }
+    }
+}
+
+/// Tests an outline. If it is taken, it replaces what is at work.
+fn take(work: &mut Option<Outline>, outline: Outline) -> Fields {
+    let reply = calls::test(outline.start, &outline.letters).reply;
+    if reply.number != 0 {
+        return reply;
+    }
+    let same = work.as_ref().is_some_and(|work| encloses_the_same(work, &outline));
+    let word = if same { SAME } else { TAKEN };
+    *work = Some(outline);
+    Fields { word, ..reply }
 }
 
 /// Contract 7.8, by the cells that the work encloses.

@@ -10,6 +10,8 @@ pub mod compare;
 pub mod edges;
 pub mod files;
 pub mod help;
+pub mod images;
+pub mod memory;
 pub mod pieces;
 pub mod pile;
 pub mod readings;

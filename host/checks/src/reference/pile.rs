@@ -1,17 +1,25 @@
 //! A pile (contract 12): sixteen sets of cells, and each section's hull by the cells of all its layers.
 
 use robequarry::codec::{INSIDE, OUTSIDE};
-use robequarry::limits::{LAYERS, LONGEST_LIST, SIDE};
+use robequarry::limits::{IMAGE, LAYERS, LONGEST_LIST, SIDE};
 use robequarry::PileCall;
 
 use super::calls::{off_chart, test_into};
 use super::cells::{Enclosed, Hull};
+use super::images::{image, outline_in};
+use super::tracing::border_of;
 use crate::reply::{numbered, said};
-use crate::{Fields, Point};
+use crate::{Fields, Outline, Point};
 
 pub struct Pile {
-    layers: Vec<Option<Enclosed>>,
+    layers: Vec<Option<Layer>>,
     passed: bool,
+}
+
+/// An outline, and the cells that it encloses.
+struct Layer {
+    outline: Outline,
+    cells: Enclosed,
 }
 
 impl Default for Pile {
@@ -23,17 +31,26 @@ impl Default for Pile {
 impl Pile {
     pub fn call(&mut self, call: &PileCall) -> Fields {
         match call {
-            PileCall::Set(layer, _) | PileCall::SetEmpty(layer) | PileCall::Query(layer, _) if *layer >= LAYERS => {
+            PileCall::Set(layer, _)
+            | PileCall::SetEmpty(layer)
+            | PileCall::Query(layer, _)
+            | PileCall::Restore(layer, _)
+                if *layer >= LAYERS =>
+            {
                 numbered(22)
             }
             PileCall::Set(layer, outline) => {
-                let start = Point::from(outline.start);
-                let reply = test_into(start, &outline.letters, &mut [0; LONGEST_LIST]);
-                if reply.number == 0 {
-                    self.put(*layer, Some(Enclosed::of(start, &outline.letters)));
-                }
-                reply
+                let outline = Outline { start: outline.start.into(), letters: outline.letters.clone() };
+                self.set(*layer, outline)
             }
+            PileCall::Restore(layer, bytes) => match outline_in(bytes) {
+                None => numbered(26),
+                Some(outline) if outline.letters.is_empty() => {
+                    self.put(*layer, None);
+                    Fields::default()
+                }
+                Some(outline) => self.set(*layer, outline),
+            },
             PileCall::SetEmpty(layer) => {
                 self.put(*layer, None);
                 Fields::default()
@@ -52,13 +69,28 @@ impl Pile {
         }
     }
 
-    fn put(&mut self, layer: u8, cells: Option<Enclosed>) {
-        self.layers[usize::from(layer)] = cells;
+    /// The image of the border of what a layer holds, or of an empty layer. None if there is no such layer.
+    pub fn image(&self, layer: u8) -> Option<[u8; IMAGE]> {
+        let layer = self.layers.get(usize::from(layer))?;
+        Some(image(layer.as_ref().map(|layer| border_of(&layer.outline)).as_ref()))
+    }
+
+    fn set(&mut self, layer: u8, outline: Outline) -> Fields {
+        let reply = test_into(outline.start, &outline.letters, &mut [0; LONGEST_LIST]);
+        if reply.number == 0 {
+            let cells = Enclosed::of(outline.start, &outline.letters);
+            self.put(layer, Some(Layer { outline, cells }));
+        }
+        reply
+    }
+
+    fn put(&mut self, layer: u8, held: Option<Layer>) {
+        self.layers[usize::from(layer)] = held;
         self.passed = false;
     }
 
     fn has(&self, layer: usize, col: i32, row: i32) -> bool {
-        self.layers[layer].as_ref().is_some_and(|cells| cells.has((col, row)))
+        self.layers[layer].as_ref().is_some_and(|layer| layer.cells.has((col, row)))
     }
 
     /// Columns before rows, each from 0.

@@ -5,11 +5,13 @@
 
 use robequarry::limits::{LONGEST, LONGEST_LIST, SIDE};
 
+use super::border::reading;
 use super::calls::{off_chart, test};
 use super::cells::{Cell, Hull};
 use super::edges::{bad_turning, corner_cells, steps};
+use super::walk::corners;
 use crate::reply::{numbered, placed};
-use crate::{Fields, Point};
+use crate::{Fields, Outline, Point};
 
 /// The border, with a buffer for its letters.
 pub fn border(anchor: Point, edges: &[i16], buffer: &mut [u8]) -> Fields {
@@ -38,7 +40,7 @@ pub fn border(anchor: Point, edges: &[i16], buffer: &mut [u8]) -> Fields {
 }
 
 /// The letters, clockwise from W, of the taken outline that has this anchor and these edges.
-fn outline_with(anchor: Point, edges: &[i16]) -> Option<Vec<u8>> {
+pub fn outline_with(anchor: Point, edges: &[i16]) -> Option<Vec<u8>> {
     let cells = corner_cells(anchor, edges);
     let on_chart = |x: i32| (0..i32::from(SIDE)).contains(&x);
     if !cells.iter().all(|&(col, row)| on_chart(col) && on_chart(row)) {
@@ -51,6 +53,15 @@ fn outline_with(anchor: Point, edges: &[i16]) -> Option<Vec<u8>> {
         && (tested.reply.col, tested.reply.row) == (anchor.col, anchor.row)
         && tested.edges.iter().copied().eq(steps(edges));
     same.then_some(letters)
+}
+
+/// The border of an outline that is taken: the same walk, clockwise and from W on.
+pub fn border_of(outline: &Outline) -> Outline {
+    let letters = reading(outline.start, &outline.letters);
+    let corners = corners(outline.start, &letters);
+    let place = (0..letters.len()).min_by_key(|&place| corners[place]).expect("an outline has letters");
+    let start = Point::new(corners[place].0 as u16, corners[place].1 as u16);
+    Outline { start, letters: [&letters[place..], &letters[..place]].concat() }
 }
 
 /// The walk round the cells of a hull with the cells on its right hand, which leaves a cell's lower left corner upward; none if it is longer

@@ -1,15 +1,20 @@
 //! The inputs whose need of stack is measured, the same in each run.
 
 use robequarry::limits::{
-    CALL, LAST_CORNER, LAST_LETTER, LAYERS, LONGEST, LONGEST_LIST, PARTIES, PLACES, REPLY, SHORTEST, SIDE, WITNESS_NUMBERS,
+    CALL, IMAGE, LAST_CORNER, LAST_LETTER, LAYERS, LONGEST, LONGEST_LIST, PARTIES, PLACES, REPLY, SHORTEST, SIDE,
+    WITNESS_NUMBERS,
 };
+use robequarry::raw::{HolderMemory, PileMemory};
 use robequarry::{Action, Call, Cell, PileCall, Reading};
 
 use crate::case::{Asked, Case, Polygon};
 use crate::draw::{reversed, round_outline, whole_chart, with_a_cell_flipped, Shape};
+use crate::images::{PileStep, Step};
+use crate::live::fresh;
 use crate::random::Random;
 use crate::reference::calls;
-use crate::{garbage, piles, polygons, scripts, Outline, Point};
+use crate::reference::images::image;
+use crate::{garbage, images, piles, polygons, scripts, Outline, Point};
 
 const SEED: u64 = 1;
 
@@ -53,6 +58,45 @@ pub fn piles() -> Vec<Vec<PileCall>> {
     calls.extend([PileCall::Check, PileCall::Query(0, Cell::new(SIDE, 0)), PileCall::Query(0, Cell::new(0, 0))]);
     let drawn = (0..DRAWN / 4).map(|_| piles::calls(&mut random));
     std::iter::once(calls).chain(drawn).collect()
+}
+
+/// Memory and steps on it: every outline restored, checked and saved, on a fresh holder; and memory of any content.
+pub fn images() -> Vec<(Box<HolderMemory>, Vec<Step>)> {
+    let mut random = Random::new(SEED);
+    let (party, place) = (1, 2);
+    let each = |outline: &Outline| {
+        let bytes = image(Some(outline)).to_vec();
+        let (restore, save) = (Step::Restore { party, place, bytes }, Step::Save { party, place, space: IMAGE });
+        let anchor = calls::test(outline.start, &outline.letters).reply;
+        let reading = Action::Reading { place, reading: Reading::new(anchor.col.into(), anchor.row.into()) };
+        (fresh(), vec![restore.clone(), Step::Check(party, place), save, restore, Step::Call(reading.by(party))])
+    };
+    let mut inputs: Vec<_> = outlines(&mut random).iter().filter(|outline| has_image(outline)).map(each).collect();
+    for _ in 0..DRAWN {
+        let memory = images::any_memory(&mut random);
+        inputs.push((memory, (0..60).map(|_| images::any_step(&mut random)).collect()));
+    }
+    inputs
+}
+
+/// The same of piles.
+pub fn pile_images() -> Vec<(Box<PileMemory>, Vec<PileStep>)> {
+    let mut random = Random::new(SEED);
+    let each = |outline: &Outline| {
+        let restore = PileStep::Restore(3, image(Some(outline)).to_vec());
+        (Box::new(PileMemory::filled(0)), vec![restore, PileStep::Save(3, IMAGE)])
+    };
+    let mut inputs: Vec<_> = outlines(&mut random).iter().filter(|outline| has_image(outline)).map(each).collect();
+    for _ in 0..DRAWN / 4 {
+        let pile = images::any_pile(&mut random);
+        inputs.push((pile, (0..30).map(|_| images::any_pile_step(&mut random)).collect()));
+    }
+    inputs
+}
+
+/// Its letters and its start have space in an image.
+fn has_image(outline: &Outline) -> bool {
+    outline.letters.len() <= LONGEST && outline.start.col.max(outline.start.row) <= LAST_CORNER
 }
 
 /// Outlines that are taken, dented or have a back-step, as long as there are; and one for each refusal before those.
@@ -208,6 +252,17 @@ mod tests {
             let mut pile = plain::Pile::default();
             calls.iter().for_each(|call| tally.count_pile(pile.call(call)));
         }
-        assert_eq!(tally.report(), Vec::<String>::new());
+        for (mut memory, steps) in images() {
+            steps.iter().for_each(|step| tally.memories.count(step.on_arrays(&mut memory).reply));
+        }
+        for (mut pile, steps) in pile_images() {
+            steps.iter().for_each(|step| tally.memories.count(images::on_any_pile(&mut pile, step).reply));
+        }
+        // Sound memory is some of the memory of any content.
+        let unread = |complaint: &String| complaint.starts_with("images:");
+        assert_eq!(
+            tally.report().into_iter().filter(|complaint| !unread(complaint)).collect::<Vec<_>>(),
+            Vec::<String>::new()
+        );
     }
 }

@@ -11,8 +11,9 @@ use robequarry::raw::{self, HolderMemory, PileMemory, Reply};
 use robequarry::{Action, Call, PileCall, Reading};
 
 use crate::case::Case;
+use crate::images::{PileStep, Step};
 use crate::live::{self, after};
-use crate::Fields;
+use crate::{Fields, Outline};
 
 /// Bytes of a painted stack, many times what a call should need.
 const SIZE: usize = 1 << 18;
@@ -21,7 +22,7 @@ const SIZE: usize = 1 << 18;
 const PAINTS: [u8; 2] = [0xa5, 0x5a];
 
 /// The functions of include/robequarry.h, in its order. A close as bytes needs what a close needs, and every other call little.
-const FUNCTIONS: [&str; 26] = [
+const FUNCTIONS: [&str; 32] = [
     "rq_test",
     "rq_loose_query",
     "rq_border",
@@ -39,6 +40,9 @@ const FUNCTIONS: [&str; 26] = [
     "rq_row",
     "rq_reading",
     "rq_piece",
+    "rq_check",
+    "rq_save",
+    "rq_restore",
     "rq_call",
     "rq_call, a close",
     "rq_replay",
@@ -48,6 +52,9 @@ const FUNCTIONS: [&str; 26] = [
     "rq_pile_check",
     "rq_pile_check_step",
     "rq_pile_query",
+    "rq_pile_save",
+    "rq_pile_restore",
+    "rq_checksum",
 ];
 
 /// The most bytes of stack that each function needs for any of its inputs: the longest outlines, and every way through the test.
@@ -58,6 +65,12 @@ pub fn needs() -> [(&'static str, usize); FUNCTIONS.len()] {
     }
     for calls in inputs::piles() {
         stack.measure_pile(&calls);
+    }
+    for (memory, steps) in inputs::images() {
+        stack.measure_images(memory, &steps);
+    }
+    for (pile, steps) in inputs::pile_images() {
+        stack.measure_pile_images(pile, &steps);
     }
     FUNCTIONS.map(|function| (function, stack.needs[function]))
 }
@@ -161,6 +174,56 @@ impl Stack {
         }
     }
 
+    /// Measures checks, saves and restores in a list of steps on memory of any content: one of each call and reply. The other calls are made.
+    fn measure_images(&mut self, mut memory: Box<HolderMemory>, steps: &[Step]) {
+        let mut seen = HashSet::new();
+        for step in steps {
+            let before = memory.clone();
+            let Fields { number, word, .. } = step.on(&mut memory).reply;
+            if !seen.insert((std::mem::discriminant(step), number, word)) {
+                continue;
+            }
+            let mut reply = [0; REPLY];
+            match step {
+                Step::Call(_) | Step::Draft(_) => {}
+                Step::Check(party, place) => {
+                    self.note("rq_check", &mut || before.check(*party, *place, &mut reply));
+                }
+                Step::Save { party, place, space } => {
+                    let mut image = vec![0; *space];
+                    self.note("rq_save", &mut || before.save(*party, *place, &mut image, &mut reply));
+                }
+                Step::Restore { party, place, bytes } => {
+                    self.on_copies("rq_restore", &before, |holder| holder.restore(*party, *place, bytes, &mut reply));
+                    self.note("rq_checksum", &mut || {
+                        raw::checksum(bytes);
+                    });
+                }
+            }
+        }
+    }
+
+    /// The same of a pile's layers.
+    fn measure_pile_images(&mut self, mut pile: Box<PileMemory>, steps: &[PileStep]) {
+        let mut reply = [0; REPLY];
+        for step in steps {
+            match step {
+                PileStep::Set(layer, Outline { start, letters }) => {
+                    pile.set(*layer, start.col, start.row, letters, &mut reply);
+                }
+                PileStep::Empty(layer) => pile.empty(*layer, &mut reply),
+                PileStep::Query(..) => {}
+                PileStep::Save(layer, space) => {
+                    let mut image = vec![0; *space];
+                    self.note("rq_pile_save", &mut || pile.save(*layer, &mut image, &mut reply));
+                }
+                PileStep::Restore(layer, bytes) => {
+                    self.note("rq_pile_restore", &mut || pile.restore(*layer, bytes, &mut reply));
+                }
+            }
+        }
+    }
+
     /// Measures a list of calls on a pile.
     fn measure_pile(&mut self, calls: &[PileCall]) {
         let mut pile = Box::new(PileMemory::filled(live::FILLER));
@@ -180,6 +243,7 @@ impl Stack {
                 PileCall::Query(layer, cell) => {
                     self.note("rq_pile_query", &mut || pile.query(*layer, cell.col, cell.row, &mut reply));
                 }
+                PileCall::Restore(layer, image) => pile.restore(*layer, image, &mut reply),
             }
         }
     }

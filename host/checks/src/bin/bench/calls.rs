@@ -3,7 +3,7 @@
 use std::hint::black_box;
 
 use robequarry::codec::INSIDE;
-use robequarry::limits::{CALL, LAST_CELL, LONGEST, REPLY, SIDE};
+use robequarry::limits::{CALL, IMAGE, LAST_CELL, LONGEST, REPLY, SIDE};
 use robequarry::raw::{HolderMemory, Reply};
 use robequarry::{Action, Call, Edges, Holder, Reading};
 use robequarry_checks::engine::{Engine, Library, Plain};
@@ -44,9 +44,48 @@ pub fn all(bench: &mut Bench, random: &mut Random) {
     bench.add_call("begin, 600 adds, close", whole(&outline), Some(WHOLE));
     bench.add_call("the same as bytes", whole_as_bytes(&closed), Some(AS_BYTES));
     bench.add_call("the same in a replay", race_replays(&closed), None);
+    images(bench, &closed);
     let [contains, query] = through_the_wrapper(&outline, &cells);
     bench.report.add(Row { name: "Edges::contains", letters: DRAWN, nanoseconds: contains, ratio: None });
     bench.report.add(Row { name: "Holder::query", letters: DRAWN, nanoseconds: query, ratio: None });
+}
+
+/// What is at work checked, saved and restored.
+fn images(bench: &mut Bench, closed: &[u8]) {
+    let (party, place) = unknown();
+    let (mut library, mut plain) = holders(closed);
+    let (mut reply, mut image, mut other): (Reply, _, _) = ([0; REPLY], [0; IMAGE], [0; IMAGE]);
+    let checked = between(
+        &mut || {
+            library.check(party, place, &mut reply);
+            black_box(&reply);
+        },
+        &mut || {
+            black_box(plain.check(party, place));
+        },
+    );
+    bench.add_call("check", checked, None);
+    let saved = between(
+        &mut || {
+            library.save(party, place, &mut image, &mut reply);
+            black_box((&image, &reply));
+        },
+        &mut || {
+            black_box(plain.save(party, place, &mut other));
+        },
+    );
+    bench.add_call("save", saved, None);
+    assert_eq!(image, other, "both save the same");
+    let restored = between(
+        &mut || {
+            library.restore(party, place, &image, &mut reply);
+            black_box(&reply);
+        },
+        &mut || {
+            black_box(plain.restore(party, place, &other));
+        },
+    );
+    bench.add_call("restore", restored, None);
 }
 
 /// An octagon whose straight sides have so many cells, and whose slanting sides so many steps.
