@@ -28,7 +28,7 @@
  * memcmp. Calls may run in any thread. Calls that take a holder or a pile as const are questions.
  *
  * One holder or pile has one writer at a time, and nothing that alters it may interrupt another call on it. A question may interrupt any
- * call on the same holder or pile, on the same processor. Its answer is the one from before that call or the one from after it: a close
+ * call on the same holder or pile, on the same processor; only rq_pile_save may not. Its answer is the one from before that call or the one from after it: a close
  * fills a spare slot, and then one 16-bit store puts the slot to work. Only rq_draft, while rq_fresh is under way, may tell a draft that is
  * half cleared. A reset in the middle of a call leaves what is at work so, too.
  *
@@ -112,7 +112,11 @@ enum {
     RQ_HOLDER_LETTERS = 1224,  /* RQ_LETTERS for each party */
     RQ_HOLDER_ROWS = 5100,     /* 2 * RQ_SIDE for each slot */
     RQ_HOLDER_NUMBERS = 2000,  /* RQ_EDGE_NUMBERS for each slot */
-    RQ_HOLDER_HEADS = 46,      /* 4 for each draft, 1 for each place, 3 for each slot */
+    RQ_HOLDER_HEADS = 46,      /* RQ_DRAFT_NUMBERS for each draft, 1 for each place, RQ_SLOT_NUMBERS for each slot */
+    RQ_DRAFT_NUMBERS = 4,      /* of a draft: whether there is one, its start's column and row, its count of letters */
+    RQ_PLACE_WORDS = 8,        /* where the words of the places begin in heads, RQ_PLACES for each party */
+    RQ_SLOT_HEADS = 16,        /* where the slots begin in heads, RQ_SLOTS / RQ_PARTIES for each party */
+    RQ_SLOT_NUMBERS = 3,       /* of a slot: the anchor's column and row, the count of edges */
     RQ_PILE_ROWS = 8160,       /* 2 * RQ_SIDE for each layer */
     RQ_PILE_STATE = 2
 };
@@ -301,7 +305,7 @@ static inline void rq_clear(rq_holder *holder, uint8_t party, uint8_t place, rq_
 static inline void rq_close(rq_holder *holder, uint8_t party, uint8_t place, rq_reply *reply);
 
 /*
- * Checks a place. Number 0 if nothing is at work there, or what the taking of some outline leaves: its anchor, its edges and its rows.
+ * Checks a place. Number 0 if the place's number is 0, or names a slot with what the taking of some outline leaves: anchor, edges, rows.
  * Else 27, also where the place's number is not 0 and names no slot; a question about the place is then refused by 12. Refused by 19, 20
  * and 27.
  */

@@ -21,6 +21,9 @@ use crate::fitting::{self, Records, MARK};
 use crate::limits::LONGEST;
 use crate::{Corner, Outline};
 
+/// The CRC-32C of bytes: the library's own, with its theorem of what it notices.
+pub use crate::raw::checksum;
+
 /// An image has this many bytes.
 pub const BYTES: usize = 622;
 
@@ -117,29 +120,6 @@ impl TryFrom<&[u8]> for Image {
         }
     }
 }
-
-/// The CRC-32C of bytes (Castagnoli's polynomial, RFC 3720 B.4). The library's own checksum takes its place here.
-pub fn checksum(bytes: &[u8]) -> u32 {
-    !bytes.iter().fold(!0, |rest: u32, &byte| rest >> 8 ^ TABLE[usize::from(rest as u8 ^ byte)])
-}
-
-/// The polynomial, its bits in the order in which bytes are sent.
-const POLYNOMIAL: u32 = 0x82F6_3B78;
-
-const TABLE: [u32; 256] = {
-    let mut table = [0; 256];
-    let mut byte = 0;
-    while byte < 256 {
-        let (mut rest, mut bit) = (byte as u32, 0);
-        while bit < 8 {
-            rest = rest >> 1 ^ if rest & 1 == 1 { POLYNOMIAL } else { 0 };
-            bit += 1;
-        }
-        table[byte] = rest;
-        byte += 1;
-    }
-    table
-};
 
 #[cfg(test)]
 mod tests {

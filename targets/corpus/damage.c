@@ -21,7 +21,7 @@ static uint8_t image[RQ_IMAGE_BYTES], damaged[2 * RQ_IMAGE_BYTES];
 
 static uint32_t all_wrong;
 
-enum { SLOTS = RQ_SLOTS / RQ_PARTIES, ROWS = 2 * RQ_SIDE, WORDS = 4 * RQ_PARTIES, HEADS = WORDS + RQ_PARTIES * RQ_PLACES };
+enum { SLOTS = RQ_SLOTS / RQ_PARTIES, ROWS = 2 * RQ_SIDE };
 
 /* Four bytes at a time; both counts are multiples of four. */
 static bool same_bytes(const void *a, const void *b, uint32_t size) {
@@ -157,11 +157,11 @@ static void put_line(const char *what, uint32_t tried, const char *then, uint32_
 }
 
 static void damage_place(uint8_t party, uint8_t place) {
-    const uint16_t word = sound.heads[WORDS + RQ_PLACES * party + place];
+    const uint16_t word = sound.heads[RQ_PLACE_WORDS + RQ_PLACES * party + place];
     static const uint16_t words[SLOTS] = {0x5555, 0x3333, 0x6666, 0x0f0f, 0x5a5a};
     uint32_t slot = SLOTS * party;
     for (uint32_t tag = 0; tag < SLOTS; tag++) slot += words[tag] == word ? tag : 0;
-    const uint32_t edges = sound.heads[HEADS + 3 * slot + 2];
+    const uint32_t edges = sound.heads[RQ_SLOT_HEADS + RQ_SLOT_NUMBERS * slot + 2];
     for (uint32_t bit = 0; bit < 8 * ROWS; bit++) {
         flip(&holder.rows[ROWS * slot], bit);
         look_at(party, place, "a bit of the rows", bit);
@@ -184,7 +184,7 @@ static void damage_place(uint8_t party, uint8_t place) {
 
 /* A place that was cleared: whatever bit of its word flips, it has nothing at work, and a check notices. */
 static void damage_cleared(uint8_t party, uint8_t place) {
-    uint16_t *const word = &holder.heads[WORDS + RQ_PLACES * party + place];
+    uint16_t *const word = &holder.heads[RQ_PLACE_WORDS + RQ_PLACES * party + place];
     rq_clear(&holder, party, place, &reply);
     rq_check(&holder, party, place, &reply);
     if (!refused_by(0)) wrong("a check of a cleared place", place);
