@@ -2,14 +2,17 @@
 -- lie so far apart that up to seven changed bits of a place's word are noticed too.
 use Prim.Native.Nat.{ℕ, _<_, _≤_}
 use native.Mathlib.Omega.{arith}
-use mathlib.Core.Path.{_≡_, refl, sym, ap, ap₂, _∙_}
+use mathlib.Core.Path.{_≡_, refl, sym, ap, ap₂, subst, _∙_}
 use mathlib.Core.Logic.{_⊎_, ⊎-elim}
 use mathlib.Core.Bool.{true, false}
 use lib.Dec.{leb, eqb}
-use borrow.Author.Tests.{ne-eqb, leb-true}
+use borrow.Author.Tests.{ne-eqb, leb-true, lt-leb}
 use Rattle.base.specs.Below.{every}
 use Rattle.base.proofs.BelowLaws.{not-held, every-at}
 use Rattle.chart.specs.Outline.{Outline, outline}
+use Rattle.chart.specs.declared.Refusal.the-variants.{Damaged}
+use Rattle.calls.specs.Calls.{parties, places}
+use Rattle.calls.specs.declared.Reply.the-variants.{Refused}
 use Rattle.convexity.specs.FromEdges.{lettersFrom}
 use Rattle.convexity.specs.SameBlock.{SameCells}
 use Rattle.convexity.proofs.SameBlock.{same-cells-iff}
@@ -22,7 +25,9 @@ use Rattle.holder_memory.specs.Layout.{Holder, own, slots, workAt}
 use Rattle.holder_memory.specs.Words.{wordOf, tagOf, slotOf, distance, apart}
 use Rattle.holder_memory.proofs.Free.{slot-none}
 use Rattle.holder_memory.proofs.Distance.{flipped, names-word, cleared-flipped}
+use Rattle.holder_answers.specs.Arrays.{workIn}
 use Rattle.holder_images.specs.Whole.{ownBorder, whole, wordIn, wholeAt}
+use Rattle.holder_images.specs.Arrays.{checkOf}
 use Rattle.holder_images.proofs.WholeLaws.{own-work, whole-iff}
 
 module _ (w v : Work) (h : whole w ≡ true) where
@@ -85,3 +90,42 @@ word-noticed h p k t l other d =
           ap (λ (x : ℕ). apart x (wordOf t)) z,
           leb-true 8 (apart 0 (wordOf t)) (every-at (λ t. leb 8 (apart 0 (wordOf t))) own words-far t l),
         )
+
+-- ---- the reply of a check after the damage
+
+-- A place of h has an outline at work and is whole. Of g, the same holder after damage, a check says so
+module _ (h g : Holder) (p : ℕ) (there : p < parties) (k : ℕ) (inside : k < places) where
+  damaged : wholeAt g p k ≡ false → checkOf g p k ≡ Refused Damaged
+  unfolding checkOf
+  damaged e = rw (lt-leb parties p there, lt-leb places k inside, e) refl
+
+  module _ (one : wordIn h p k ≡ 0 → ⊥) (sound : wholeAt h p k ≡ true) where
+    work-whole : whole (workIn h p k) ≡ true
+    unfolding wholeAt
+    work-whole = rw (ne-eqb (wordIn h p k) 0 one) at sound
+
+    still : wordIn g p k ≡ wordIn h p k → whole (workIn g p k) ≡ false → wholeAt g p k ≡ false
+    unfolding wholeAt
+    still w e = rw (ne-eqb (wordIn g p k) 0 (λ z. one (sym w ∙ z)), e) refl
+
+    -- Any change of the rows; any change of the anchor and the counted edges
+    pub check-rows : wordIn g p k ≡ wordIn h p k → workIn g p k .anchor ≡ workIn h p k .anchor
+        → workEdges (workIn g p k) ≡ workEdges (workIn h p k) → (workIn g p k .spans ≡ workIn h p k .spans → ⊥)
+        → checkOf g p k ≡ Refused Damaged
+    check-rows w a e differ = damaged (still w (rows-noticed (workIn h p k) (workIn g p k) work-whole a e differ))
+
+    pub check-edges : wordIn g p k ≡ wordIn h p k → workIn g p k .spans ≡ workIn h p k .spans
+        → (workIn g p k .anchor ≡ workIn h p k .anchor → workEdges (workIn g p k) ≡ workEdges (workIn h p k) → ⊥)
+        → checkOf g p k ≡ Refused Damaged
+    check-edges w e differ = damaged (still w (edges-noticed (workIn h p k) (workIn g p k) work-whole e differ))
+
+  -- Up to seven bits of the word that names slot t, or of the word 0
+  pub check-word : (t : ℕ) → t < own → wordIn h p k ≡ wordOf t → (wordIn g p k ≡ wordIn h p k → ⊥)
+      → apart (wordIn g p k) (wordIn h p k) < 8 → checkOf g p k ≡ Refused Damaged
+  check-word t l w other d =
+      damaged (word-noticed g p k t l (λ e. other (e ∙ sym w)) (subst (λ (x : ℕ). apart (wordIn g p k) x < 8) w d))
+
+  pub check-cleared : wordIn h p k ≡ 0 → (wordIn g p k ≡ wordIn h p k → ⊥) → apart (wordIn g p k) (wordIn h p k) < 8
+      → checkOf g p k ≡ Refused Damaged
+  check-cleared w other d =
+      damaged (cleared-noticed g p k (λ e. other (e ∙ sym w)) (subst (λ (x : ℕ). apart (wordIn g p k) x < 8) w d))
