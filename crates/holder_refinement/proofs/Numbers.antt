@@ -47,10 +47,10 @@ pub record OthersKept (h h′ : Holder) (p : ℕ) : Type 0 where
       → getD (h′ .numbers) i (pos 0) ≡ getD (h .numbers) i (pos 0)
   pub heads : (i : ℕ) → NoHeadOf p i → getD (h′ .heads) i 0 ≡ getD (h .heads) i 0
 
-kept-self : (h : Holder) (p : ℕ) → OthersKept h h p
+pub kept-self : (h : Holder) (p : ℕ) → OthersKept h h p
 kept-self h p = record { letters = λ i o. refl; rows = λ i o. refl; numbers = λ i o. refl; heads = λ i o. refl }
 
-kept-next : (h h₁ h₂ : Holder) (p : ℕ) → OthersKept h h₁ p → OthersKept h₁ h₂ p → OthersKept h h₂ p
+pub kept-next : (h h₁ h₂ : Holder) (p : ℕ) → OthersKept h h₁ p → OthersKept h₁ h₂ p → OthersKept h h₂ p
 kept-next h h₁ h₂ p a b =
     record {
       letters = λ i o. b .letters i o ∙ a .letters i o;
@@ -114,10 +114,10 @@ module _ (h : Holder) (p : ℕ) (l : p < parties) where
 
   -- ---- places
 
-  worded-kept : (k w : ℕ) → k < places → OthersKept h (worded h (spot p k) w) p
+  pub worded-kept : (k w : ℕ) → k < places → OthersKept h (worded h (spot p k) w) p
   worded-kept k w m = head-kept h p (placeWord (spot p k)) w (inr (inl (omega arith, omega arith)))
 
-  commit-kept : (k w : ℕ) → OthersKept h (withHeads h (commitOf (h .heads) p k w)) p
+  pub commit-kept : (k w : ℕ) → OthersKept h (withHeads h (commitOf (h .heads) p k w)) p
   unfolding commitOf
   commit-kept k w = go (badParty p) (badPlace k) (eqb w 0) refl
     where
@@ -147,7 +147,7 @@ module _ (h : Holder) (fit : Fits h) (p : ℕ) (l : p < parties) where
       (head-kept h₁ p (slotHead t + 1) (a .row) (slot-head _ (omega arith) (omega arith))))
       (head-kept h₂ p (slotHead t + 2) n (slot-head _ (omega arith) (omega arith)))
 
-  filled-kept : (a : Point) (es : List ℤ) (n : ℕ) (o : Outline) → length es ≡ mostNumbers
+  pub filled-kept : (a : Point) (es : List ℤ) (n : ℕ) (o : Outline) → length es ≡ mostNumbers
       → OthersKept h (filled h t a es n (spansOf o)) p
   filled-kept a es n o all =
       record {
