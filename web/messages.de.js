@@ -387,7 +387,7 @@ export const MESSAGES = {
   "pile.blank": "Kein Tempo hat einen Block",
   "pile.blank.text": "Zeichnen Sie einen Block für ein Tempo, öffnen Sie eine Datei mit Tempi, oder nehmen Sie das Beispiel.",
   "pile.taken": "Ob diese Blöcke zu einem Menschen passen, entscheidet die Fachkraft.",
-  "pile.refused": "Was die Steuerung vorher in Kraft hatte, bleibt in Kraft.",
+  "pile.refused": "Nichts wurde gesendet. Tempi, die nicht angenommen sind, antworten nicht.",
   "pile.none": "Nichts wurde gesendet.",
   "where.unchecked": "{cell} Keine Antwort: die Tempi haben die Prüfung nicht bestanden.",
 

@@ -389,7 +389,7 @@ export const MESSAGES = {
   "pile.blank": "No speed has a block",
   "pile.blank.text": "Draw a block for a speed, open a file of speeds, or take the example.",
   "pile.taken": "Whether these blocks suit a person is the clinician's decision.",
-  "pile.refused": "What the controller had at work before stays at work.",
+  "pile.refused": "Nothing has been sent. Speeds that have not passed answer nothing.",
   "pile.none": "Nothing has been sent.",
   "where.unchecked": "{cell} No answer: the speeds have not passed the check.",
 

@@ -226,8 +226,8 @@ class Page {
     const { app } = this;
     if (app.state === this.completed) return app.undo();
     const { completion, added } = this.account(app.drawing).answer;
-    const next = () => this.complete(app.with(ofOutline({ ...completion, name: app.drawing.name })));
-    this.ask(text("ask.instead", { cells: count(added.count, "cell"), ...added.bounds() }), next);
+    const next = app.with(ofOutline({ ...completion, name: app.drawing.name }));
+    this.ask(text("ask.instead", { cells: count(added.count, "cell"), ...added.bounds() }), () => this.complete(next));
   }
 
   // Keeps the work for a reload: soon, and at the latest when the page goes.

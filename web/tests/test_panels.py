@@ -208,7 +208,7 @@ class Repair(PageTest):
         self.panel("speeds")
         self.press("pile-bad")
         self.headline("Refused, 21: a dent at column 63")
-        self.assertIn("What the controller had at work before stays at work.", self.text("meaning"))
+        self.assertIn("Nothing has been sent.", self.text("meaning"))
         self.assertEqual(self.text("lacks"), "Speed 9 lacks 2,644 cells in 188 sections")
         self.press("lacks-9")
         self.assertEqual(self.by("layer-9").get_attribute("aria-checked"), "true")
