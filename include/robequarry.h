@@ -58,8 +58,9 @@
  *
  * STACK
  *
- * At most so many bytes. The first column is for a Cortex-M4F and a Cortex-M0+, by the fast and by the small recipe, and `./test --targets`
- * holds it. The second is for x86-64, and host/checks/tests/stack.rs holds it.
+ * At most so many bytes, for every input: the deepest path of the compiled code's call graph is within them (docs/OBJECT.md). The first
+ * column is for a Cortex-M4F and a Cortex-M0+, by the fast and by the small recipe, the second for x86-64. `./test --targets` holds both,
+ * and what a painted stack shows on the controllers; `./test` holds what it shows on x86-64.
  *
  *                                                     Cortex-M    x86-64
  *     rq_test                                            8,700     8,600

@@ -813,6 +813,8 @@ static void run_memory(uint32_t number) {
     }
 }
 
+#include "rare.h"
+
 static const struct family {
     const char *name;
     uint32_t blocks;
@@ -821,6 +823,7 @@ static const struct family {
     {"specimens", 1, run_specimens}, {"corner", 25, run_corner}, {"drawings", 100, run_drawings},       {"dents", 140, run_dents},
     {"garbage", 60, run_garbage},    {"lists", 40, run_lists},   {"comparisons", 40, run_comparisons}, {"scripts", 60, run_scripts},
     {"readings", 60, run_readings},  {"piles", 24, run_piles},   {"images", 24, run_images},           {"memory", 40, run_memory},
+    {"rare", 24, run_rare},          {"damaged", 16, run_damaged},
 };
 
 static void put_hash(void) {

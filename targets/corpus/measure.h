@@ -157,37 +157,11 @@ static void octagon(int32_t side, int32_t corner) {
     border_of(&block, &shape);
 }
 
-static int32_t common_divisor(int32_t a, int32_t b) {
-    return b == 0 ? a : common_divisor(b, a % b);
-}
-
-/* Puts a direction in its order, clockwise from up, among `count` others of the quarter to the right of up. */
-static void insert_direction(int16_t quarter[][2], uint32_t count, int32_t x, int32_t y) {
-    uint32_t at = count;
-    for (; at > 0 && x * quarter[at - 1][1] < quarter[at - 1][0] * y; at--) {
-        quarter[at][0] = quarter[at - 1][0];
-        quarter[at][1] = quarter[at - 1][1];
-    }
-    quarter[at][0] = (int16_t)x;
-    quarter[at][1] = (int16_t)y;
-}
-
-/* A list of edges in as many directions as wanted, four times `most`: longer than any outline's. The shortest directions come first. */
 static void many_directions(struct hull *h, uint32_t most, uint16_t at_col, uint16_t at_row) {
-    static int16_t quarter[RQ_LIST_NUMBERS / 8][2];
-    uint32_t count = 0;
-    for (int32_t length = 1; count < most; length++) {
-        for (int32_t x = 0; x < length && count < most; x++) {
-            if (common_divisor(x, length - x) == 1) insert_direction(quarter, count++, x, length - x);
-        }
-    }
     h->col = at_col;
     h->row = at_row;
     h->m = (uint16_t)(8 * most);
-    for (uint32_t i = 0; i < most; i++) {
-        const int16_t x = quarter[i][0], y = quarter[i][1], turned[] = {x, y, y, (int16_t)-x, (int16_t)-x, (int16_t)-y, (int16_t)-y, x};
-        for (uint32_t turn = 0; turn < 4; turn++) memcpy(&h->edges[2 * (turn * most + i)], &turned[2 * turn], 2 * sizeof turned[0]);
-    }
+    put_directions(h->edges, most);
 }
 
 static void most_edges(void) {

@@ -245,4 +245,35 @@ static void garbage(struct outline *o) {
     if (kind == 3) closed_walk(o);
 }
 
+static int32_t common_divisor(int32_t a, int32_t b) {
+    return b == 0 ? a : common_divisor(b, a % b);
+}
+
+/* Puts a direction in its order, clockwise from up, among `count` others of the quarter to the right of up. */
+static void insert_direction(int16_t quarter[][2], uint32_t count, int32_t x, int32_t y) {
+    uint32_t at = count;
+    for (; at > 0 && x * quarter[at - 1][1] < quarter[at - 1][0] * y; at--) {
+        quarter[at][0] = quarter[at - 1][0];
+        quarter[at][1] = quarter[at - 1][1];
+    }
+    quarter[at][0] = (int16_t)x;
+    quarter[at][1] = (int16_t)y;
+}
+
+/* A list of edges in as many directions as wanted, four times `most`: longer than any outline's. The shortest directions come first. */
+static void put_directions(int16_t *edges, uint32_t most) {
+    static int16_t quarter[RQ_LIST_NUMBERS / 8][2];
+    uint32_t count = 0;
+    for (int32_t length = 1; count < most; length++) {
+        for (int32_t x = 0; x < length && count < most; x++) {
+            if (common_divisor(x, length - x) == 1) insert_direction(quarter, count++, x, length - x);
+        }
+    }
+    for (uint32_t i = 0; i < most; i++) {
+        const int16_t x = quarter[i][0], y = quarter[i][1];
+        const int16_t turned[] = {x, y, y, (int16_t)-x, (int16_t)-x, (int16_t)-y, (int16_t)-y, x};
+        for (uint32_t turn = 0; turn < 8; turn++) edges[2 * (turn / 2 * most + i) + turn % 2] = turned[turn];
+    }
+}
+
 #endif
