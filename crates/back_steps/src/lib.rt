@@ -1,5 +1,7 @@
 // The first back-step of the pieces (contract 3.5). `first` requires a list of at most 612 letters; the checker sees it met at the call in
 // `judge`.
+#![tactic(auto)]
+
 ghost use Rattle.std.specs.Prelude.{◌*◌, ◌≤◌, ◌<◌, ◌≡◌, false, length, get_or};
 ghost use Rattle.chart.specs.Limits.{longest};
 ghost use Rattle.convexity.specs.Pieces.{rounds};

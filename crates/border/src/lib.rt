@@ -1,4 +1,6 @@
 // Writes the border of an anchor and edges (contract 6.3). The letters are built in a local array, tested, and then copied to the buffer.
+#![tactic(auto)]
+
 ghost use Rattle.std.specs.Prelude.{◌+◌, ◌≤◌, ◌≡◌, false, ◌++◌, length, take, drop};
 ghost use Rattle.chart.specs.Limits.{longest_list};
 ghost use Rattle.chart.specs.Outline.{outline};

@@ -1,4 +1,6 @@
 // Writes the letters round a block of rows, clockwise from the left end of one row.
+#![tactic(auto)]
+
 ghost use Rattle.std.specs.Prelude.{◌+◌, ◌-◌, ◌*◌, ◌≤◌, ◌<◌, ◌≡◌, ◌++◌, length, drop};
 ghost use Rattle.chart.specs.Limits.{side, corners};
 ghost use Rattle.rows.specs.parts.Rows.{rows};

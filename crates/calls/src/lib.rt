@@ -1,4 +1,6 @@
 // The calls on a holder, and their answers.
+#![tactic(auto)]
+
 use chart::{Point, Refusal};
 
 pub mod written;

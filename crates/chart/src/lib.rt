@@ -1,4 +1,6 @@
 // The chart, its limits, and the answers of the calls.
+#![tactic(auto)]
+
 pub mod refusals;
 pub mod reply;
 

@@ -1,5 +1,7 @@
 // The border of an outline as a list: a copy of its letters from W on, clockwise; and its places as places of the list as sent (contract
 // 2.2, 3.2).
+#![tactic(auto)]
+
 ghost use Rattle.std.specs.Prelude.{◌+◌, ◌≤◌, ◌≡◌, length};
 ghost use Rattle.std.proofs.Math.Seq.{paste};
 ghost use Rattle.convexity.specs.Clockwise.{opposite as opposite_of, backward};

@@ -1,4 +1,6 @@
 // Compares the hulls of two anchors and two lists of edges (contract 6.4).
+#![tactic(auto)]
+
 ghost use Rattle.std.specs.Prelude.{◌≡◌, not, ◌&&◌, pos};
 ghost use Rattle.base.specs.Same.{sameℤs};
 ghost use Rattle.convexity.specs.Edges.{pairs};

@@ -1,4 +1,6 @@
 // The completion of an outline: the border of the smallest convex block around it (contract 6.6).
+#![tactic(auto)]
+
 ghost use Rattle.std.specs.Prelude.{◌<◌, ◌≡◌, length};
 ghost use Rattle.chart.specs.Outline.{outline};
 ghost use Rattle.lattice.specs.Refusals.{Simple};

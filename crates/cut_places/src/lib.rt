@@ -1,4 +1,6 @@
 // Which way the letters are read, and the five cut places of the border (contract 2.2 and 3.3), from the places of W, N, E and S.
+#![tactic(auto)]
+
 ghost use Rattle.std.specs.Prelude.{◌≤◌, ◌≡◌};
 ghost use Rattle.convexity.specs.Cut.{ahead as ahead_of};
 ghost use Rattle.cut_places.specs.parts.Cuts.{are_below, place_read, cut_places_of};

@@ -1,4 +1,6 @@
 // The factors of the pieces, read as edges up to the first dent (contract 3.9 to 3.12).
+#![tactic(auto)]
+
 ghost use Rattle.std.specs.Prelude.{◌≤◌, length};
 ghost use Rattle.chart.specs.Limits.{longest};
 ghost use Rattle.dents.specs.parts.Dents.{Put, WordRead, PieceRead, FactorsRead};

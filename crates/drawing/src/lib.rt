@@ -1,4 +1,6 @@
 // The drawing of a polygon of edges, one path command at a time, as the tablet's canvas takes it.
+#![tactic(auto)]
+
 ghost use Rattle.std.specs.Prelude.{◌≡◌};
 ghost use Rattle.drawing.specs.Drawing.{line_to, stroke_at};
 ghost use Rattle.drawing.specs.Points.{half as half_of, piece_of, cell_in, drawn_reply, pair_after, point_after};

@@ -1,4 +1,6 @@
 // Equality of points and of lists of numbers.
+#![tactic(auto)]
+
 ghost use Rattle.std.specs.Prelude.{◌≡◌};
 ghost use Rattle.base.specs.Same.{sameℤ, sameℤs};
 ghost use Rattle.lattice.specs.Chart.{same_point};

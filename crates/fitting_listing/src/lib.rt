@@ -1,4 +1,6 @@
 // The listing of a fitting file: the test's number and place for each record's outline, and the fault, if there is one (contract 11).
+#![tactic(auto)]
+
 ghost use Rattle.std.specs.Prelude.{◌≤◌, ◌≡◌, length};
 ghost use Rattle.chart.specs.Outline.{outline};
 ghost use Rattle.fitting_listing.specs.Lines.{most, line as line_of, tested_line, lines_at, lines_of};

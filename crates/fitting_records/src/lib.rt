@@ -1,4 +1,6 @@
 // The records of a fitting file, and a reader that steps from one to the next (contract 11).
+#![tactic(auto)]
+
 ghost use Rattle.std.specs.Prelude.{◌≡◌, ◌<◌, ◌≤◌, length, drop};
 ghost use Rattle.fitting_records.specs.Found.{wide as wide_of, marked as marked_of, after_mark, found_at, step_at};
 

@@ -1,5 +1,7 @@
 // Lists the fitting file on standard input, and writes the text to standard output (contract 11.5). A read or a write that fails is told
 // on standard error.
+#![tactic(auto)]
+
 use fitting_listing::{MOST, ROOM};
 use libc::{STDERR_FILENO, STDIN_FILENO, STDOUT_FILENO};
 

@@ -1,5 +1,7 @@
 // Sets of numbers below 65,536, one bit each: bit n / 2048 of word n % 2048 says whether n is in the set. Neighbouring numbers are in
 // different words, so that marking one does not wait until the word of the other is stored.
+#![tactic(auto)]
+
 ghost use Rattle.std.specs.Prelude.{◌≡◌};
 ghost use Rattle.flags.specs.parts.Flags.{no_numbers, is_set, with_number};
 

@@ -1,4 +1,6 @@
 // A frame carries a body of bytes over a line: a mark, the body's count, the body, and the checksum of all that (contract 14).
+#![tactic(auto)]
+
 ghost use Rattle.std.specs.Prelude.{◌≡◌, ◌++◌, ◌+◌, ◌*◌, ◌≤◌, length, take, drop};
 ghost use Rattle.std.proofs.Math.Seq.{paste};
 ghost use Rattle.chart.specs.Fields.{numbers_of};

@@ -1,4 +1,6 @@
 // What each call does to a holder in four arrays: definitions (contract 7.3 to 7.11, 10.4).
+#![tactic(auto)]
+
 use chart::{Point, Refusal};
 
 // What a party drafts.

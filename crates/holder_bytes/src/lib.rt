@@ -1,4 +1,6 @@
 // One call as bytes on a holder in the caller's arrays (contract 10.3 and 10.4).
+#![tactic(auto)]
+
 ghost use Rattle.wire.specs.Wire.{call_of, decoded};
 ghost use Rattle.holder_memory.specs.Layout.{arrays};
 ghost use Rattle.holder_bytes.specs.Responded.{Responded, BytesTold};

@@ -1,4 +1,6 @@
 // The calls on a holder in four arrays but close, each in place (contract 7.3 to 7.5, 7.8 to 7.11, 10.4).
+#![tactic(auto)]
+
 ghost use Rattle.std.specs.Prelude.{◌≡◌, List, ℕ, ℤ};
 ghost use Rattle.calls.specs.Calls.{by};
 ghost use Rattle.holder_memory.specs.Layout.{arrays};

@@ -1,5 +1,7 @@
 // A close in two halves: prepare writes a slot that no place names, and commit one number (contract 7.6, 7.7, 10.4). So no close writes an
 // outline that is at work.
+#![tactic(auto)]
+
 ghost use Rattle.std.specs.Prelude.{◌≡◌, cond, List, ℕ, ◌<◌};
 ghost use Rattle.chart.specs.Outline.{outline};
 ghost use Rattle.spans.specs.Spans.{spans_of};

@@ -1,4 +1,6 @@
 // Check, save and the first half of a restore, with the reply in seven numbers (contract 10.1 and 13.4 to 13.6).
+#![tactic(auto)]
+
 ghost use Rattle.std.specs.Prelude.{◌≡◌, List, ℕ};
 ghost use Rattle.chart.specs.Fields.{numbers_of};
 ghost use Rattle.calls.specs.Replies.{reply_fields};

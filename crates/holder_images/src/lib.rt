@@ -1,4 +1,6 @@
 // A place of a holder: whether it is whole, its image, and an outline from an image (contract 13.4 to 13.6).
+#![tactic(auto)]
+
 ghost use Rattle.std.specs.Prelude.{◌≡◌, ◌↔◌, true, List, ℕ, ◌+◌, ◌*◌, ◌<◌, ◌≤◌, length, ℤ, eqb};
 ghost use Rattle.chart.specs.Limits.{side, longest};
 ghost use Rattle.chart.specs.Outline.{outline};

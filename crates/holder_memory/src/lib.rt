@@ -1,4 +1,6 @@
 // A holder in four arrays (contract 10.4): how long they are, and where everything stands in them.
+#![tactic(auto)]
+
 ghost use Rattle.std.specs.Prelude.{◌≡◌};
 
 use calls::{PARTIES, PLACES};

@@ -1,1 +1,2 @@
 // The model of the holder. Definitions and theorems, no code.
+#![tactic(auto)]

@@ -1,4 +1,6 @@
 // A holder by value: each call hands back the next holder with its reply (contract 7.2). The calls are those in place, on its arrays.
+#![tactic(auto)]
+
 ghost use Rattle.std.specs.Prelude.{◌≡◌};
 ghost use Rattle.verdict.specs.Named.{CellNamed};
 ghost use Rattle.calls.specs.Calls.{by};

@@ -1,4 +1,6 @@
 // The outline in a slot: whether it has these edges, and the questions about it (contract 7.6 to 7.11).
+#![tactic(auto)]
+
 ghost use Rattle.std.specs.Prelude.{◌≡◌, List, ℕ, ◌+◌, ◌*◌, ◌<◌, min, length, ℤ};
 ghost use Rattle.chart.specs.Limits.{most_numbers};
 ghost use Rattle.holder_records.specs.Work.{listed, work_edges, has_edges, located, spanned, read_at, drawn_at};

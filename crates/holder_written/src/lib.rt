@@ -1,4 +1,6 @@
 // The calls on a holder in place, with the reply in seven numbers (contract 10.1 and 10.4).
+#![tactic(auto)]
+
 ghost use Rattle.std.specs.Prelude.{◌≡◌, List, ℕ, ℤ};
 ghost use Rattle.chart.specs.Fields.{numbers_of, fields_of};
 ghost use Rattle.calls.specs.Replies.{piece_in};

@@ -1,4 +1,6 @@
 // Finds the left ends of the rows of a hull in one pass up its left side.
+#![tactic(auto)]
+
 ghost use Rattle.std.specs.Prelude.{◌<◌, ◌≤◌, ◌≡◌, length};
 ghost use Rattle.chart.specs.Limits.{side};
 ghost use Rattle.rows.specs.parts.Rows.{rows};

@@ -1,4 +1,6 @@
 // The judgement of an outline: refusals 1 to 6 by the survey, then 8 and 9 on the four pieces of the border, or its edges.
+#![tactic(auto)]
+
 ghost use Rattle.std.specs.Prelude.{◌*◌, ◌≤◌, ◌<◌, ◌≡◌, false, ◌++◌, length, take, drop, ltb};
 ghost use Rattle.chart.specs.Limits.{longest};
 ghost use Rattle.chart.specs.Outline.{outline};

@@ -1,4 +1,6 @@
 // The version of the library, as one number.
+#![tactic(auto)]
+
 ghost use Rattle.std.specs.Prelude.{◌≡◌};
 ghost use Rattle.library_version.specs.Version.{version};
 

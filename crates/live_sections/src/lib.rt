@@ -1,4 +1,6 @@
 // The sections of a pile whose layers are in one list of bytes, by columns and by rows, and the first that is dented.
+#![tactic(auto)]
+
 ghost use Rattle.std.specs.Prelude.{◌+◌, ◌-◌, ◌≤◌, ◌<◌, ◌≡◌, true, length};
 ghost use Rattle.base.specs.Below.{first as first_of};
 ghost use Rattle.chart.specs.Limits.{side};

@@ -1,4 +1,6 @@
 // A reading against an anchor and a list of edges (contract 6.7).
+#![tactic(auto)]
+
 ghost use Rattle.std.specs.Prelude.{◌≡◌};
 ghost use Rattle.chart.specs.Fields.{numbers_of, fields_of};
 ghost use Rattle.calls.specs.Replies.{reply_fields};

@@ -1,4 +1,6 @@
 // The test: refusals 1 to 9, then room for the edges (contract 6.1).
+#![tactic(auto)]
+
 ghost use Rattle.std.specs.Prelude.{◌≡◌, length};
 ghost use Rattle.chart.specs.Outline.{outline};
 ghost use Rattle.chart.specs.Fields.{verdict_fields};

@@ -1,9 +1,12 @@
 // The ordered letters of the four pieces of a border, with the steps that they take (contract 3.4).
+#![tactic(auto)]
+
 ghost use Rattle.convexity.specs.Frame.{frame_of};
 ghost use Rattle.pieces.specs.parts.Pieces.{PairOf};
 
 // A piece's two letters, the earlier and the later, each with its step in columns and in rows.
 #[derive(Drop)]
+#[derive(Clone, Copy)]
 pub struct Pair {
     pub earlier: u8,
     pub later: u8,

@@ -2,6 +2,8 @@
 //
 // A query may interrupt any other call. So the word that says that the pile has passed goes before a byte of the rows is written, and comes
 // after every section was looked at: at each moment a query gets the reply from before the call, the one from after it, or 12.
+#![tactic(auto)]
+
 ghost use Rattle.std.specs.Prelude.{◌≡◌, true, List, [], ◌∷◌, ℕ, ◌≤◌, ◌<◌, length, get_or};
 ghost use Rattle.chart.specs.Limits.{side};
 ghost use Rattle.chart.specs.Outline.{outline};

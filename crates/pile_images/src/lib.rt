@@ -1,6 +1,8 @@
 // A pile's layer as an image, and a layer from an image (contract 13.11).
 //
 // A layer keeps rows only. The letters round them are written from W and tested as an outline, whose rows are compared with the layer's.
+#![tactic(auto)]
+
 ghost use Rattle.std.specs.Prelude.{ℕ, ◌≤◌, ◌<◌, ◌≡◌, ◌↔◌, true, length};
 ghost use Rattle.chart.specs.Limits.{side, longest};
 ghost use Rattle.chart.specs.Outline.{outline};

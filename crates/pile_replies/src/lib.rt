@@ -1,4 +1,6 @@
 // The reply of a call on a pile, and its number, word and fields (contract 4 and 12).
+#![tactic(auto)]
+
 ghost use Rattle.std.specs.Prelude.{◌≡◌};
 ghost use Rattle.pile_replies.specs.Replies.{pile_fields};
 

@@ -1,4 +1,6 @@
 // The calls on a pile as C makes them: each writes its reply as seven numbers (contract 4, 12.8 and 13.11).
+#![tactic(auto)]
+
 ghost use Rattle.std.specs.Prelude.{◌≡◌};
 ghost use Rattle.chart.specs.Outline.{outline};
 ghost use Rattle.chart.specs.Fields.{numbers_of, fields_of};

@@ -1,4 +1,6 @@
 // An anchor and a list of edges as a polygon: which cells are inside, and the loose query.
+#![tactic(auto)]
+
 ghost use Rattle.std.specs.Prelude.{◌≡◌, ◌+◌, ◌<◌, length, drop, pos, ◌-ℤ◌, ◌*ℤ◌};
 ghost use Rattle.chart.specs.Fields.{position_fields};
 ghost use Rattle.convexity.specs.Edges.{pairs};

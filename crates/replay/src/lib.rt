@@ -1,4 +1,6 @@
 // A list of calls as bytes, run on a fresh holder (contract 10.3).
+#![tactic(auto)]
+
 ghost use Rattle.std.specs.Prelude.{◌≡◌, ◌+◌, ◌/◌, ◌≤◌, min, length};
 ghost use Rattle.std.proofs.Math.Seq.{paste};
 ghost use Rattle.wire.specs.Wire.{call_width, reply_width};

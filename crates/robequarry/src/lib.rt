@@ -1,6 +1,8 @@
 // The calls for C (include/robequarry.h). A list is passed as a pointer and a length, an array as a pointer. A
 // reply is an array of seven numbers: number, word (contract 4.3), place, piece, length, column, row. A holder
 // and a pile are passed as their arrays, to the functions of `on_holder` and `on_pile`.
+#![tactic(auto)]
+
 ghost use Rattle.std.specs.Prelude.{◌≡◌, length};
 ghost use Rattle.chart.specs.Fields.{numbers_of, fields_of, position_fields, comparison_fields};
 ghost use Rattle.chart.specs.Outline.{at, outline};

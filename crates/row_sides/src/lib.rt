@@ -1,4 +1,6 @@
 // Finds the first, the second and the last side of each row of an outline in one pass over its letters. A side is a step up or down.
+#![tactic(auto)]
+
 ghost use Rattle.std.specs.Prelude.{◌≡◌, ◌<◌, min, max, length};
 ghost use Rattle.chart.specs.Limits.{corners};
 ghost use Rattle.chart.specs.Outline.{outline};

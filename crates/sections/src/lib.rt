@@ -1,4 +1,6 @@
 // Whether a section is convex. A section is a plane of layers, each with one interval of marked cells, or none.
+#![tactic(auto)]
+
 ghost use Rattle.std.specs.Prelude.{◌+◌, ◌-◌, ◌*◌, ◌≤◌, ◌<◌, min, max, ◌≡◌};
 ghost use Rattle.chart.specs.Limits.{side};
 ghost use Rattle.sections.specs.Sections.{layers, numbers, Bounded, ceiling, above, full as full_of, alone as alone_of};

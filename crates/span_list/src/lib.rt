@@ -1,4 +1,6 @@
 // The rows of several outlines side by side in one list of bytes, read and written in place.
+#![tactic(auto)]
+
 ghost use Rattle.std.specs.Prelude.{◌≡◌, ◌+◌, ◌*◌, ◌<◌, ◌≤◌, length, replicate};
 ghost use Rattle.std.proofs.Math.Seq.{paste};
 ghost use Rattle.chart.specs.Limits.{side};

@@ -1,4 +1,6 @@
 // Refusals 1 to 6: whether the letters are a simple closed walk on the chart; and its W, N, E and S.
+#![tactic(auto)]
+
 ghost use Rattle.std.specs.Prelude.{◌≡◌};
 ghost use Rattle.chart.specs.Outline.{outline};
 ghost use Rattle.survey.specs.Survey.{survey_of};

@@ -1,5 +1,7 @@
 // One walk along the letters as sent, for refusals 4, 5 and 6 and for W, N, E and S. The current corner is two numbers, by columns and by
 // rows, with its place in both. The corners met are a set of numbers. The least and the greatest number of either kind are kept.
+#![tactic(auto)]
+
 ghost use Rattle.std.specs.Prelude.{◌≡◌, ◌+◌, ◌*◌, ◌/◌, ◌%◌, ◌≤◌, not, ◌==◌};
 ghost use Rattle.chart.specs.Limits.{side};
 ghost use Rattle.chart.specs.declared.Point.{Point};

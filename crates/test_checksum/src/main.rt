@@ -1,5 +1,7 @@
 // Writes the checksums of the published examples: the digits 1 to 9, then RFC 3720, B.4 (zeros, ones, ascending, descending), a read
 // command of the same document, and whether bytes with their checksum after them pass, as they are and with a bit changed.
+#![tactic(auto)]
+
 use libc::STDOUT_FILENO;
 
 fn print(bytes: &[u8]) {

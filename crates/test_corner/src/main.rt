@@ -1,5 +1,7 @@
 // Runs every outline that fits into 4 by 4 cells, in both directions, through the engine. Compares the replies with a plain count of cells
 // and with each other, and writes counts.
+#![tactic(auto)]
+
 mod cells;
 mod compare;
 mod plain;

@@ -1,4 +1,6 @@
 // Finds the factors of a table of words over 0 and 1, says which are Christoffel words, and writes a line for each word.
+#![tactic(auto)]
+
 ghost use Rattle.std.specs.Prelude.{◌<◌, ◌≤◌, length};
 
 use libc::STDOUT_FILENO;

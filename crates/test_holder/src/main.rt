@@ -1,4 +1,6 @@
 // Replays a script of calls on a holder, and writes each reply as a line of seven numbers. The script is text on standard input.
+#![tactic(auto)]
+
 mod build;
 mod by_value;
 mod fields;

@@ -1,4 +1,6 @@
 // Makes a fixed list of calls on a pile, and writes each reply as a line of seven numbers.
+#![tactic(auto)]
+
 use chart::{Fields, Point};
 use libc::STDOUT_FILENO;
 use pile_calls::{Pile, Piled, fresh};

@@ -1,4 +1,6 @@
 // Runs every specimen through the test, makes loose queries and comparisons with some of them, and writes a line for each.
+#![tactic(auto)]
+
 ghost use Rattle.io.specs.Counts.{IsPrefixLen};
 
 use chart::reply::NUMBERS;

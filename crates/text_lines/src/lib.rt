@@ -1,4 +1,6 @@
 // Lines of three numbers as text, written to a buffer as far as it has room (contract 11.4).
+#![tactic(auto)]
+
 ghost use Rattle.std.specs.Prelude.{[], ◌∷◌};
 ghost use Rattle.text_lines.specs.Text.{decimal, field_text, line_text};
 ghost use Rattle.text_lines.specs.Written.{Wrote};

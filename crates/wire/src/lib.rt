@@ -1,4 +1,6 @@
 // One call as bytes (contract 10.3).
+#![tactic(auto)]
+
 ghost use Rattle.std.specs.Prelude.{◌≡◌};
 ghost use Rattle.wire.specs.Wire.{long as long_of, short_of, letter_of, point_of, call_of, decoded as decoded_of, received as received_of};
 

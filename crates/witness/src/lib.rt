@@ -1,4 +1,6 @@
 // The lowest missing cell of an outline, and three enclosed cells whose triangle has it: the result (contract 6.5) and theory.
+#![tactic(auto)]
+
 use chart::{Point, Refusal};
 
 pub mod written;

@@ -1,4 +1,6 @@
 // The witness call: refusals 1 to 6 and 10, then the lowest missing cell and three enclosed cells whose triangle has it (contract 6.5).
+#![tactic(auto)]
+
 ghost use Rattle.std.specs.Prelude.{◌≤◌, ◌≡◌, ◌++◌, length, drop};
 ghost use Rattle.chart.specs.Outline.{outline};
 ghost use Rattle.lattice.specs.Refusals.{Simple};

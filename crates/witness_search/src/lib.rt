@@ -1,4 +1,6 @@
 // Finds the lowest missing cell of an outline, and three cells whose triangle has it, in one pass over the rows. Rows may have gaps.
+#![tactic(auto)]
+
 ghost use Rattle.std.specs.Prelude.{ℕ, pred, ◌+◌, ◌-◌, ◌<◌, ◌≤◌, ◌≡◌, false, cond, ltb};
 ghost use Rattle.chart.specs.Limits.{side};
 ghost use Rattle.rows.specs.parts.Rows.{rows};

@@ -1,4 +1,6 @@
 // Words over two ordered letters: Lyndon words, their factorisation, and Christoffel words (contract 3.7 to 3.10).
+#![tactic(auto)]
+
 ghost use Rattle.std.specs.Prelude.{◌+◌, ◌%◌, ◌<◌, ◌≤◌, ◌≡◌, ◌&&◌, length, drop};
 ghost use Rattle.words.specs.Word.{word_of, laters};
 ghost use Rattle.words.specs.Lyndon.{factors_of};
