@@ -70,7 +70,7 @@ fn straight_for(letters: &[u8], from: usize, to: usize, k: usize) -> usize
     to - from
 }
 
-#[derive(Drop)]
+#[derive(Clone, Copy)]
 pub enum BackStep {
     None,
     // Letter `at` of the border, in a piece counted from 0.

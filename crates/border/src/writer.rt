@@ -51,7 +51,7 @@ fn begin_pieces(letters: &mut [u8], at: usize, from: usize, to: usize) -> usize
 }
 
 // Where the next letter goes, and the piece begun last.
-#[derive(Drop)]
+#[derive(Clone, Copy)]
 struct Writer {
     at: usize,
     piece: usize,

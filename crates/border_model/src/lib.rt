@@ -6,7 +6,7 @@ use chart::Refusal;
 pub mod written;
 
 // The result of a border call.
-#[derive(Drop)]
+#[derive(Clone, Copy)]
 pub enum Traced {
     // This many letters were written.
     Written { letters: u16 },

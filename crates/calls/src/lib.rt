@@ -11,14 +11,14 @@ pub const PARTIES: usize = 2;
 pub const PLACES: usize = 4;
 
 // A call: its party and its action.
-#[derive(Drop)]
+#[derive(Clone, Copy)]
 pub struct Call {
     pub party: u8,
     pub action: Action,
 }
 
 // What a call does, with its argument (contract 7).
-#[derive(Drop)]
+#[derive(Clone, Copy)]
 pub enum Action {
     Begin { start: Point },
     Add { letter: u8 },
@@ -29,7 +29,7 @@ pub enum Action {
 }
 
 // A question about the outline at work at a place.
-#[derive(Drop)]
+#[derive(Clone, Copy)]
 pub enum Question {
     // Query: does the outline enclose the cell?
     Cell(Point),
@@ -42,14 +42,14 @@ pub enum Question {
 }
 
 // An angle and a load in chart units: the centre of the cell (c, r) is at c and r.
-#[derive(Drop)]
+#[derive(Clone, Copy)]
 pub struct Reading {
     pub angle: f32,
     pub load: f32,
 }
 
 // One path command of a drawing (contract 3.22). Its point is a cell's column and row, each raised by one half.
-#[derive(Drop)]
+#[derive(Clone, Copy)]
 pub enum Piece {
     Move(f32, f32),
     Line(f32, f32),
@@ -59,7 +59,7 @@ pub enum Piece {
 }
 
 // The answer of a call.
-#[derive(Drop)]
+#[derive(Clone, Copy)]
 pub enum Reply {
     // Begin, add, drop or clear was done.
     Done,

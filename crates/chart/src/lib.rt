@@ -6,7 +6,7 @@ pub mod reply;
 
 // A corner of the chart, or the cell whose lower left corner it is.
 #[repr(C)]
-#[derive(Drop)]
+#[derive(Clone, Copy)]
 pub struct Point {
     pub col: u16,
     pub row: u16,
@@ -31,7 +31,7 @@ pub const LONGEST_LIST: usize = 2032;
 
 // Why a call is refused, with the fields that the refusal names (contract 5). The names are those of the C header. There is no 7, and 23
 // to 25 are faults of a file.
-#[derive(Drop)]
+#[derive(Clone, Copy)]
 pub enum Refusal {
     // 1. Fewer than 4 or more than 612 letters.
     Length,
@@ -104,7 +104,7 @@ pub enum Refusal {
 }
 
 // The verdict on an outline.
-#[derive(Drop)]
+#[derive(Clone, Copy)]
 pub enum Verdict {
     // The count of edges, and the anchor.
     Taken { edges: u16, anchor: Point },
@@ -112,7 +112,7 @@ pub enum Verdict {
 }
 
 // The answer of a loose query.
-#[derive(Drop)]
+#[derive(Clone, Copy)]
 pub enum Position {
     Inside,
     Outside,
@@ -120,7 +120,7 @@ pub enum Position {
 }
 
 // How the cells of two hulls lie (contract 6.4).
-#[derive(Drop)]
+#[derive(Clone, Copy)]
 pub enum Nesting {
     Equal,
     FirstWithin,
@@ -130,14 +130,14 @@ pub enum Nesting {
 }
 
 // The answer of a comparison. A refusal names its list, 1 or 2.
-#[derive(Drop)]
+#[derive(Clone, Copy)]
 pub enum Comparison {
     Found(Nesting),
     Refused { list: u16, refusal: Refusal },
 }
 
 // A reply in seven fields (contract 4.1). Words are those of contract 4.3; 0 is no word.
-#[derive(Drop)]
+#[derive(Clone, Copy)]
 pub struct Fields {
     pub number: u16,
     pub word: u16,

@@ -35,7 +35,7 @@ fn leaves_chart(anchor: Point, edges: &[i16]) -> bool
 }
 
 // A list's refusal, or none.
-#[derive(Drop)]
+#[derive(Clone, Copy)]
 pub enum Checked {
     Fit,
     Unfit(Refusal),
@@ -112,7 +112,7 @@ pub fn relate(anchor: Point, edges: &[i16], other: Point, others: &[i16]) -> Com
 }
 
 // Which list is returned.
-#[derive(Drop)]
+#[derive(Clone, Copy)]
 enum Returned {
     First,
     Second,

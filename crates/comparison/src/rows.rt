@@ -29,7 +29,7 @@ fn greater(a: u32, b: u32) -> u32
 }
 
 // An edge at a row: it goes from row y to row v, and its side value at column 0 is plus - minus.
-#[derive(Drop)]
+#[derive(Clone, Copy)]
 struct EdgeAtRow {
     y: u32,
     v: u32,
@@ -164,7 +164,7 @@ fn sweep(anchor: Point, edges: &[i16], first: &mut [u8; ROWS], end: &mut [u8; RO
 }
 
 // Every row of the first polygon lies within the second's; the other way round; no row has a common column.
-#[derive(Drop)]
+#[derive(Clone, Copy)]
 pub(crate) struct Tests {
     pub inward: bool,
     pub outward: bool,

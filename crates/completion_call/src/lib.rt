@@ -18,7 +18,7 @@ use survey::Surveyed;
 pub mod written;
 
 // The result of a completion.
-#[derive(Drop)]
+#[derive(Clone, Copy)]
 pub enum Completed {
     // This many letters were written. They start at this corner.
     Written { letters: u16, start: Point },

@@ -35,7 +35,7 @@ fn are_below(n: usize, found: Corners) -> bool
 }
 
 // Whether the letters are read forward, and the cut places of the border, the last of which is W's again.
-#[derive(Drop)]
+#[derive(Clone, Copy)]
 pub struct Cuts {
     pub forward: bool,
     pub at: [usize; 5],

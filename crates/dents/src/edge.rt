@@ -4,7 +4,7 @@ ghost use Rattle.chart.specs.Limits.{longest};
 ghost use Rattle.convexity.specs.Frame.{frame_of};
 ghost use Rattle.dents.specs.parts.Edge.{Steps, EdgeOf};
 
-#[derive(Drop)]
+#[derive(Clone, Copy)]
 pub(crate) struct Edge {
     pub(crate) dx: i16,
     pub(crate) dy: i16,

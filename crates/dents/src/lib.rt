@@ -24,7 +24,7 @@ fn put(list: &mut [i16], count: usize, dx: i16, dy: i16) -> usize
 }
 
 // The factors of one word.
-#[derive(Drop)]
+#[derive(Clone, Copy)]
 enum InWord {
     // All are Christoffel words. The list has this many edges now.
     Edges { edges: usize },
@@ -78,7 +78,7 @@ fn read_piece(
 }
 
 // The factors of the four pieces.
-#[derive(Drop)]
+#[derive(Clone, Copy)]
 pub enum Factored {
     // No dent, and this many edges.
     Edges {

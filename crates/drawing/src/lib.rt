@@ -10,7 +10,7 @@ use chart::Point;
 use edge_walk::Corner;
 
 // One path command, by the cell whose centre is its point.
-#[derive(Drop)]
+#[derive(Clone, Copy)]
 pub enum Stroke {
     Move(Point),
     Line(Point),

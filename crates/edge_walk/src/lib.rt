@@ -13,7 +13,7 @@ use chart::{Point, SIDE};
 const LAST: u16 = SIDE - 1;
 
 // A corner cell, on the chart or off it.
-#[derive(Drop)]
+#[derive(Clone, Copy)]
 pub struct Corner {
     pub col: i32,
     pub row: i32,

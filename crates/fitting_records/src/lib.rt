@@ -13,7 +13,7 @@ const SECOND: u8 = 0x4F;
 pub const HEADER: usize = 6;
 
 // What stands at a position of a file.
-#[derive(Drop)]
+#[derive(Clone, Copy)]
 pub enum Found {
     // Nothing is left.
     End,
@@ -26,14 +26,14 @@ pub enum Found {
 }
 
 // A step of a reader: what stands at its position, and where the next record begins.
-#[derive(Drop)]
+#[derive(Clone, Copy)]
 pub struct Step {
     pub found: Found,
     pub next: usize,
 }
 
 // A file, and the position up to which it has been read.
-#[derive(Drop)]
+#[derive(Clone, Copy)]
 pub struct Reader<'a> {
     pub file: &'a [u8],
     pub at: usize,

@@ -4,7 +4,7 @@
 use chart::{Point, Refusal};
 
 // What a party drafts.
-#[derive(Drop)]
+#[derive(Clone, Copy)]
 pub enum Drafting {
     // 19, or 13.
     Refused(Refusal),

@@ -17,7 +17,7 @@ use holder_memory::{DRAFT_NUMBERS, HEADS, LETTERS, NUMBERS, PLACE_WORDS, ROW_BYT
 use survey::checks::bad_start;
 
 // Where a question looks: 19, 20, or the slot that the place names, 10 for none.
-#[derive(Drop)]
+#[derive(Clone, Copy)]
 enum Asked {
     Refused(Refusal),
     Slot(usize),

@@ -19,7 +19,7 @@ use holder_works::has;
 use span_list::put_outline;
 
 // What a prepare replies, and the word for the place: 0 if it refuses.
-#[derive(Drop)]
+#[derive(Clone, Copy)]
 pub struct Prepared {
     pub reply: Reply,
     pub word: u16,

@@ -28,7 +28,7 @@ use spans::{ROWS, spans_of};
 
 // What a place holds: an outline, by its border's start and the count of its letters, none of them if the place is empty; or what no
 // taking leaves.
-#[derive(Drop)]
+#[derive(Clone, Copy)]
 enum Held {
     Whole { start: Point, count: usize },
     Damaged,

@@ -16,7 +16,7 @@ use holder_memory::{HEADS, LETTERS, NUMBERS, ROW_BYTES};
 
 // The letters of the drafts, the rows and the edges of the slots, and the heads.
 #[repr(C)]
-#[derive(Drop)]
+#[derive(Clone, Copy)]
 pub struct Holder {
     pub letters: [u8; LETTERS],
     pub rows: [u8; ROW_BYTES],
@@ -25,14 +25,14 @@ pub struct Holder {
 }
 
 // A reply, and the next holder.
-#[derive(Drop)]
+#[derive(Clone, Copy)]
 pub struct Answered {
     pub reply: Reply,
     pub holder: Holder,
 }
 
 // What a party drafts, and the holder.
-#[derive(Drop)]
+#[derive(Clone, Copy)]
 pub struct Drafted {
     pub drafting: Drafting,
     pub holder: Holder,

@@ -44,7 +44,7 @@ fn write_edges(list: &[i16], n: usize, buffer: &mut [i16])
 
 // A border: which way the outline is read and the cut places, the place of W's letter in the clockwise form, the corner W, the rows of S
 // and N.
-#[derive(Drop)]
+#[derive(Clone, Copy)]
 struct Round {
     cuts: Cuts,
     place: usize,
@@ -163,7 +163,7 @@ pub fn verdict_of(start: Point, letters: &[u8]) -> Verdict
 }
 
 // The verdict, and the edges, two numbers each, with zeros after them. They are all zeros if the outline is refused.
-#[derive(Drop)]
+#[derive(Clone, Copy)]
 pub struct Judged {
     pub verdict: Verdict,
     pub numbers: [i16; MOST_NUMBERS],

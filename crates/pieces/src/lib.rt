@@ -5,7 +5,6 @@ ghost use Rattle.convexity.specs.Frame.{frame_of};
 ghost use Rattle.pieces.specs.parts.Pieces.{PairOf};
 
 // A piece's two letters, the earlier and the later, each with its step in columns and in rows.
-#[derive(Drop)]
 #[derive(Clone, Copy)]
 pub struct Pair {
     pub earlier: u8,

@@ -45,28 +45,28 @@ pub const PASSED: u16 = 23205;
 const SECTIONS: u16 = 2 * SIDE;
 
 #[repr(C)]
-#[derive(Drop)]
+#[derive(Clone, Copy)]
 pub struct Pile {
     pub rows: [u8; ROW_BYTES],
     pub state: [u16; STATE_NUMBERS],
 }
 
 // A reply, and the next pile.
-#[derive(Drop)]
+#[derive(Clone, Copy)]
 pub struct Piled {
     pub reply: PileReply,
     pub pile: Pile,
 }
 
 // What a step of a check replies: more to come, or what the whole check replies.
-#[derive(Drop)]
+#[derive(Clone, Copy)]
 pub enum Progress {
     More,
     Replied(PileReply),
 }
 
 // That, and the next pile.
-#[derive(Drop)]
+#[derive(Clone, Copy)]
 pub struct Stepped {
     pub progress: Progress,
     pub pile: Pile,

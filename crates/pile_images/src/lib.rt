@@ -31,7 +31,7 @@ use spans::{ROWS, Spans, no_spans, spans_of};
 const END: u8 = SIDE as u8;
 
 // What rows are: those of an empty layer, those of an outline whose border has these letters, or what no set leaves.
-#[derive(Drop)]
+#[derive(Clone, Copy)]
 enum Held {
     Empty,
     Outline { start: Point, count: usize },
@@ -39,7 +39,7 @@ enum Held {
 }
 
 // The letters round rows, of which so many begin at a corner.
-#[derive(Drop)]
+#[derive(Clone, Copy)]
 struct Ring {
     start: Point,
     count: usize,

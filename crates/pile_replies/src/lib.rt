@@ -7,7 +7,7 @@ ghost use Rattle.pile_replies.specs.Replies.{pile_fields};
 use chart::{Fields, Point, Refusal, reply};
 
 // The reply of a call.
-#[derive(Drop)]
+#[derive(Clone, Copy)]
 pub enum PileReply {
     // A layer was set to empty, or a check passed.
     Done,

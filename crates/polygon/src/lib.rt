@@ -16,7 +16,7 @@ mod round;
 mod signed;
 
 // The lowest and the highest of some numbers.
-#[derive(Drop)]
+#[derive(Clone, Copy)]
 struct Span {
     low: i64,
     high: i64,

@@ -18,7 +18,7 @@ mod walk;
 const LAST: u16 = SIDE - 1;
 
 // Where a reading lies. 11 is its only refusal: `Refused` has no other to name, and `reply` says which it is.
-#[derive(Drop)]
+#[derive(Clone, Copy)]
 pub enum Located {
     Inside,
     Outside,

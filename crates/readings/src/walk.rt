@@ -14,14 +14,14 @@ use edge_walk::Corner;
 const SIXTY_FOURTH: f32 = 0.015625;
 
 // One coordinate of the corner cells met so far: the least and the greatest number.
-#[derive(Drop)]
+#[derive(Clone, Copy)]
 struct Met {
     least: i32,
     most: i32,
 }
 
 // The current corner cell, what the walk has met, and whether the reading was near an edge.
-#[derive(Drop)]
+#[derive(Clone, Copy)]
 pub(crate) struct Walk {
     at: Corner,
     cols: Met,
@@ -30,7 +30,7 @@ pub(crate) struct Walk {
 }
 
 // The walk after one more edge, or out: the reading is far outside that edge.
-#[derive(Drop)]
+#[derive(Clone, Copy)]
 pub(crate) enum Passed {
     Out,
     On(Walk),

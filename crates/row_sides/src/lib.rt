@@ -46,7 +46,7 @@ fn along(row: u16, letter: u8) -> usize
 }
 
 // The two smallest different columns met.
-#[derive(Drop)]
+#[derive(Clone, Copy)]
 struct Pair {
     one: u16,
     two: u16,
@@ -90,7 +90,7 @@ fn mark(
 }
 
 // What the pass keeps: the first, the second and the last side of each row, and the rows of the lowest and the highest corner.
-#[derive(Drop)]
+#[derive(Clone, Copy)]
 pub struct Sides {
     pub lo: [u16; CORNERS],
     pub en: [u16; CORNERS],

@@ -37,7 +37,7 @@ fn long(x: u16) -> u32
 }
 
 // The ends of the rows. Row `r` of an outline goes from column `lo[r]` up to but not including column `hi[r]`.
-#[derive(Drop)]
+#[derive(Clone, Copy)]
 pub struct Ends {
     pub lo: [u16; ROWS],
     pub hi: [u16; ROWS],

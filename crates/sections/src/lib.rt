@@ -21,14 +21,14 @@ pub const LAST_LAYER: u8 = 15;
 const END: u32 = SIDE as u32;
 
 // The marked cells of layer `l` are those from `lo[l]` up to but not including `past[l]`.
-#[derive(Drop)]
+#[derive(Clone, Copy)]
 pub struct Section {
     pub lo: [u8; LAYERS],
     pub past: [u8; LAYERS],
 }
 
 // The cells of a hull in one layer: from `low` up to but not including `high`.
-#[derive(Drop)]
+#[derive(Clone, Copy)]
 struct Reach {
     low: u32,
     high: u32,

@@ -69,7 +69,7 @@ pub fn put_none(rows: &mut [u8], slot: usize)
 }
 
 // The two bytes of a row: its first column, and the column past its last.
-#[derive(Drop)]
+#[derive(Clone, Copy)]
 struct Ends {
     first: u16,
     past: u16,

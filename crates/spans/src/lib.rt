@@ -14,7 +14,7 @@ use rows::row_ends;
 pub const ROWS: usize = SIDE as usize;
 
 // The enclosed columns of a row: every column from the first to the last and no other, or none.
-#[derive(Drop)]
+#[derive(Clone, Copy)]
 pub enum Span {
     None,
     Columns { first: u16, last: u16 },
@@ -23,7 +23,7 @@ pub enum Span {
 // The rows of an outline: row `r` goes from column `first[r]`, included, to column `past[r]`,
 // excluded, and is empty if they are equal. All zeros: no row has a cell.
 #[repr(C)]
-#[derive(Drop)]
+#[derive(Clone, Copy)]
 pub struct Spans {
     pub first: [u8; ROWS],
     pub past: [u8; ROWS],

@@ -12,7 +12,7 @@ use survey_walk::{Corners, Walk};
 pub mod checks;
 
 // The result of refusals 1 to 6.
-#[derive(Drop)]
+#[derive(Clone, Copy)]
 pub enum Surveyed {
     Passed(Corners),
     Refused(Refusal),

@@ -13,7 +13,7 @@ ghost use Rattle.survey_walk.specs.parts.Walks.{Begun, Out, RestOf, WalkedAs};
 use chart::{Point, SIDE};
 
 // The places of the letters that leave W, N, E and S, the corner W, and the rows of S and N.
-#[derive(Drop)]
+#[derive(Clone, Copy)]
 pub struct Corners {
     pub west: usize,
     pub north: usize,
@@ -135,7 +135,7 @@ fn corners_from(west: u32, north: u32, east: u32, south: u32) -> Corners
 }
 
 // How a walk ends.
-#[derive(Drop)]
+#[derive(Clone, Copy)]
 pub enum Walk {
     // The letter at this place leaves the chart.
     Leaves { place: usize },
@@ -185,7 +185,7 @@ pub fn along(s: Point, w: &[u8]) -> Walk
 }
 
 // The place of the first letter that leaves the chart, or the count of letters; and then the number of the last corner.
-#[derive(Drop)]
+#[derive(Clone, Copy)]
 pub struct Rest {
     pub leaves: usize,
     pub end: u32,

@@ -188,7 +188,7 @@ fn same_edges(a: &[i16; ROOM], b: &[i16; ROOM]) -> bool {
 }
 
 // The engine's reply to an outline, and whether it agrees with what was counted and with the reply to the outline drawn backward.
-#[derive(Drop)]
+#[derive(Clone, Copy)]
 pub(crate) struct Answer {
     pub(crate) number: u16,
     pub(crate) agrees: bool,

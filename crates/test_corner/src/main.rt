@@ -17,7 +17,7 @@ use walks::{CORNERS, OFF, Search};
 const MOST_STEPS: u64 = 1_000_000;
 
 // Counts so far: closed simple walks, outlines by the engine's reply, and those that do not agree.
-#[derive(Drop)]
+#[derive(Clone, Copy)]
 struct Tally {
     walks: u64,
     outlines: u64,

@@ -9,7 +9,7 @@ use crate::{cells, sets, walks};
 const TRIPLES: u16 = 4096;
 
 // What is counted: the number that the test must reply, the enclosed cells, and the missing cell or the anchor.
-#[derive(Drop)]
+#[derive(Clone, Copy)]
 pub(crate) struct Counted {
     pub(crate) number: u16,
     pub(crate) cells: u32,

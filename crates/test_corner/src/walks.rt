@@ -6,7 +6,7 @@ use crate::sets;
 pub(crate) const CORNERS: usize = 25;
 
 // A walk so far: its corners up to the one at `depth`, how many letters were tried from each, and the set of corners met.
-#[derive(Drop)]
+#[derive(Clone, Copy)]
 pub(crate) struct Search {
     pub(crate) corners: [u16; CORNERS],
     pub(crate) tried: [u16; CORNERS],

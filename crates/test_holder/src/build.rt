@@ -4,7 +4,7 @@ use libc::STDOUT_FILENO;
 pub(crate) const SIZE: usize = 45056;
 
 // Bytes past the end are 9, which is not a call. The next calls are of this party, at this place.
-#[derive(Drop)]
+#[derive(Clone, Copy)]
 pub(crate) struct Script {
     pub(crate) bytes: [u8; SIZE],
     pub(crate) end: usize,

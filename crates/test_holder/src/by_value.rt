@@ -10,7 +10,7 @@ use holder_values::Holder;
 use wire::{BYTES, Decoded, received};
 
 // The next holder, and whether its reply equals the one in the list.
-#[derive(Drop)]
+#[derive(Clone, Copy)]
 struct Step {
     holder: Holder,
     same: bool,

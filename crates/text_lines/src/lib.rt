@@ -12,7 +12,7 @@ const LINE_FEED: u8 = 10;
 const ZERO: u8 = 48;
 
 // A line of a listing: a record's number, the number of the test or the fault, and a place or a position.
-#[derive(Drop)]
+#[derive(Clone, Copy)]
 pub struct Line {
     pub number: usize,
     pub answer: usize,

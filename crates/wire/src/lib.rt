@@ -13,7 +13,7 @@ use readings::from_bits;
 pub const BYTES: usize = 11;
 
 // A decoded call.
-#[derive(Drop)]
+#[derive(Clone, Copy)]
 pub enum Decoded {
     Call(Call),
     // Not a call: the number is above 8, or there are not eleven bytes.

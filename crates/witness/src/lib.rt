@@ -6,7 +6,7 @@ use chart::{Point, Refusal};
 pub mod written;
 
 // The result of a witness call.
-#[derive(Drop)]
+#[derive(Clone, Copy)]
 pub enum Witnessed {
     // The lowest missing cell.
     Found { cell: Point },

@@ -27,7 +27,7 @@ fn prior(x: u16) -> u16
 }
 
 // Whether a cell is missing, the lowest such cell, and three cells whose triangle has it.
-#[derive(Drop)]
+#[derive(Clone, Copy)]
 pub struct Shown {
     pub found: bool,
     pub cell: Point,

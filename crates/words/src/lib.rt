@@ -8,7 +8,7 @@ ghost use Rattle.words.specs.Christoffel.{coprime, remainders, christoffel};
 ghost use Rattle.words.specs.parts.Search.{rank_of, first_of, judged};
 
 // The first factor of a word: the length of one copy, the number of repeats, and the later letters of one copy.
-#[derive(Drop)]
+#[derive(Clone, Copy)]
 pub struct Found {
     pub length: u32,
     pub times: u32,
@@ -118,7 +118,7 @@ fn is_christoffel(w: &[u8], k: u32, later: u8) -> bool
 }
 
 // A factor, the later letters of one copy, and whether it is a Christoffel word.
-#[derive(Drop)]
+#[derive(Clone, Copy)]
 pub struct JudgedFactor {
     pub length: u32,
     pub times: u32,
